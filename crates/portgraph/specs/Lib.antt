@@ -1,0 +1,51 @@
+-- The single-link graph: what it is, what its calls do, and the laws.
+--
+-- Where to begin. What a reader must believe stands in nine files, in this order:
+--   Limits, Entries, Tables     the numbers in the tables, and single steps on them
+--   Lookups, Calls, Resize      each call: answer, graph and move list as the contracts cite them
+--   Walks                       the steps of the cursors
+--   Model                       what the tables stand for (Model), what is always true of it (Good), and how they stand
+--                               for it (Holds); Wf is what a graph of these calls has
+--   Meaning                     what each call does to the model: links between places, node slots and blocks taken or given
+--
+-- The laws follow; the checker reads them.
+--   wf-new, wf-link, wf-unlink (LinkHolds), wf-add, wf-remove (SlotHolds), wf-set (ResizeLaws): every call keeps Wf
+--   link-law, unlink-law (LinkHolds), add-law, remove-law (SlotHolds), set-law (ResizeLaws): when each answer is given
+--   link-holds, unlink-holds, place-holds, free-holds, inside-holds, anew-holds: the tables after each call stand for the
+--   model that Meaning gives
+--   slot-found, block-found (SlotHolds, BlockHolds): the slot or block freed last is taken first, else the end
+--   told-length, told-first, moves-kept, kept-link (ResizeLaws): the move list, and that a kept port keeps its link
+--   walk-gives-all-nodes, walk-gives-all-ports, walk-gives-all-offsets (WalkLaws)
+pub mod Limits
+pub mod Entries
+pub mod Tables
+pub mod Lookups
+pub mod Calls
+pub mod Resize
+pub mod Walks
+pub mod Model
+pub mod Meaning
+-- steps that the functions' proofs cite
+pub mod TableSteps
+pub mod LookupSteps
+pub mod SlotSteps
+pub mod ResizeSteps
+pub mod WfFacts
+-- single changes; tables, sums and chains; links under any numbering of places; the model stays good
+pub mod Joins
+pub mod TableLaws
+pub mod Chains
+pub mod Sums
+pub mod LinkLaws
+pub mod GoodSlots
+pub mod GoodLaws
+-- tables against model
+pub mod PlaceLaws
+pub mod LinkHolds
+pub mod BlockHolds
+pub mod SlotHolds
+pub mod DropHolds
+pub mod InsideHolds
+pub mod AnewHolds
+pub mod ResizeLaws
+pub mod WalkLaws

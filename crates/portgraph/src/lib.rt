@@ -1,0 +1,11 @@
+// A port graph: nodes with incoming and outgoing ports, each port linked to at most one port of the other direction.
+// The modules follow the files of Quantinuum/portgraph.
+pub mod direction;
+pub mod index;
+pub mod iter;
+pub mod node_entry;
+pub mod port_entry;
+pub mod portgraph;
+pub mod resize;
+pub mod slots;
+pub mod tables;

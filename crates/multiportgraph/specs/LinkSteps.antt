@@ -1,0 +1,156 @@
+-- What the code's steps of a link amount to: the ends that are prepared, and each refusal.
+use mathlib.Core.Path.{_≡_, refl, sym, _∙_, ap, subst}
+use mathlib.Core.Bool.{Bool, true, false}
+use Prim.Native.Nat.{ℕ, _+_, _<_}
+use Rattle.portgraph.specs.Entries.{pick}
+use Rattle.portgraph.specs.Lookups.{port#}
+use Rattle.portgraph.specs.Meaning.{sameSide}
+use Rattle.portgraph.specs.Calls.{linkPorts}
+use Rattle.portgraph.specs.GoodSlots.{slot-in-block, zero-is-not-one}
+use Rattle.portgraph.specs.Model.{firstOf, sideStart, countOf}
+use Rattle.portgraph.specs.declared.direction.Direction.{Direction}
+use Rattle.portgraph.specs.declared.index.NodeIndex.{NodeIndex}
+use Rattle.portgraph.specs.declared.portgraph.PortsLinked as lower
+use Rattle.multiportgraph.specs.Reading.{Port, dead, hidden, visible, seen, subport#}
+use Rattle.multiportgraph.specs.Calls as calls
+use Rattle.multiportgraph.specs.Calls.{withGraph, prepare, linkRefused, linkPrepared, linkSecond, linkBoth, linkFirst, linkSeen, linkCall}
+use Rattle.multiportgraph.specs.Forms.{seenAs, preparedAs}
+use Rattle.multiportgraph.specs.Inner.{MultiWf}
+use Rattle.multiportgraph.specs.Ends.{BlockPort, block-seen, seen-block}
+use Rattle.multiportgraph.specs.PrepareLaws.{prepare-law}
+use Rattle.multiportgraph.specs.declared.multiportgraph.MultiPortGraph.{MultiPortGraph}
+use Rattle.multiportgraph.specs.declared.multiportgraph.Refusal.the-variants.{UnknownPort, HiddenPort, NoRoom, UnknownSecondPort, IncompatibleDirections}
+use Rattle.multiportgraph.specs.declared.multiportgraph.LinkAnswer.the-variants as link
+use Rattle.multiportgraph.specs.declared.multiportgraph.PortsLinked.{PortsLinked}
+use Rattle.multiportgraph.specs.declared.ends.SeenPort.{SeenPort}
+use Rattle.multiportgraph.specs.declared.ends.SeenPort.the-variants as seen-port
+use Rattle.multiportgraph.specs.declared.prepare.Prepared.{Prepared}
+
+-- a port of a block on this side, in a graph of the calls
+pub record OnBlock (m : MultiPortGraph) (p : ℕ) (d : Direction) : Type 0 where
+  pub wf : MultiWf m
+  pub node : ℕ
+  pub is : seen m p ≡ visible node d
+
+-- two ports of blocks
+pub record BothOnBlock (m : MultiPortGraph) (a : ℕ) (d : Direction) (b : ℕ) (e : Direction) : Type 0 where
+  pub first : OnBlock m a d
+  pub second : OnBlock m b e
+
+-- what a prepared end is
+pub is-ready : (m : MultiPortGraph) (p : calls.Prepared) (r : Prepared) → r ≡ preparedAs m p → r .ready ≡ true → p ≡ calls.ready (r .graph) (r .port) (r .offset)
+is-ready m (calls.ready k q o) r e t = ap (λ (s : Prepared). calls.ready (s .graph) (s .port) (s .offset)) (sym e)
+is-ready m calls.full r e t = absurd (zero-is-not-one (let h : r .ready ≡ false = ap (λ (s : Prepared). s .ready) e in cc))
+
+pub is-full : (m : MultiPortGraph) (p : calls.Prepared) (r : Prepared) → r ≡ preparedAs m p → r .ready ≡ false → p ≡ calls.full
+is-full m calls.full r e t = refl
+is-full m (calls.ready k q o) r e t = absurd (zero-is-not-one (let h : r .ready ≡ true = ap (λ (s : Prepared). s .ready) e in cc))
+
+-- what stays of other ports of blocks where an end is prepared
+module _ {m : MultiPortGraph} {p : ℕ} {d : Direction} (b : OnBlock m p d) (r : Prepared) (e : r ≡ preparedAs m (prepare m p d)) (t : r .ready ≡ true) where
+  pub others-stay : (q : ℕ) (s : Direction) → OnBlock m q s → OnBlock (r .graph) q s
+  others-stay q s c =
+      let f = b .wf .fine in
+      let x = block-seen f p (b .node) d (b .is) in
+      let l = prepare-law f (x .place) (x .isSeen) (r .graph) (r .port) (r .offset)
+      (ap (λ (u : ℕ). prepare m u (x .place .side)) (x .slot) ∙ (ap (prepare m p) (x .side) ∙ is-ready m (prepare m p d) r e t)) in
+      let y = block-seen f q (c .node) s (c .is) in
+      let k = slot-in-block (f .good) (y .place) (y .isSeen .0) in
+      let kept = l .1 .blocks .0 (y .place .node) (k .0) (y .isSeen .1, k .1) in
+      let same : l .0 .node (y .place .node) ≡ b .wf .model .node (y .place .node) = kept .1 ∙ sym (k .1) in
+      let place = y .place in
+      let at : seen (r .graph) q ≡ visible (place .node) (place .side) =
+      ap (seen (r .graph)) (sym (ap (λ w. firstOf w + (sideStart w (place .side) + place .pos)) same ∙ y .slot))
+      ∙ seen-block (l .1 .fine) place (subst (λ w. place .pos < countOf w (place .side)) (sym same) (y .isSeen .0), kept .0) in
+      record {
+        wf = record { model = l .0; fine = l .1 .fine };
+        node = place .node;
+        is = at ∙ ap (visible (place .node)) (y .side);
+      }
+
+  pub still-wf : MultiWf (r .graph)
+  still-wf = others-stay p d b .wf
+
+-- The second port is not live.
+
+pub first-ready : (m : MultiPortGraph) (a : ℕ) (d : Direction) (b : ℕ) (r : Prepared) {u : PortsLinked} → r ≡ preparedAs m (prepare m a d) → r .ready ≡ true →
+    u ≡ linkRefused (r .graph) (UnknownSecondPort (port# b)) → u ≡ linkFirst m b (prepare m a d)
+first-ready m a d b r e t h = h ∙ sym (ap (linkFirst m b) (is-ready m (prepare m a d) r e t))
+
+pub first-full : (m : MultiPortGraph) (a : ℕ) (d : Direction) (b : ℕ) (r : Prepared) {u : PortsLinked} → r ≡ preparedAs m (prepare m a d) → r .ready ≡ false →
+    u ≡ linkRefused m NoRoom → u ≡ linkFirst m b (prepare m a d)
+first-full m a d b r e t h = h ∙ sym (ap (linkFirst m b) (is-full m (prepare m a d) r e t))
+
+-- Both ports are live.
+
+module _ (m : MultiPortGraph) (a : ℕ) (d : Direction) (b : ℕ) (e : Direction) (r : Prepared) (h : r ≡ preparedAs m (prepare m a d)) where
+  pub both-full : {u : PortsLinked} → r .ready ≡ false → u ≡ linkRefused m NoRoom → u ≡ linkBoth m a d b e (prepare m a d)
+  both-full t g = g ∙ sym (ap (linkBoth m a d b e) (is-full m (prepare m a d) r h t))
+
+  module _ (t : r .ready ≡ true) (s : Prepared) (k : s ≡ preparedAs (r .graph) (prepare (r .graph) b e)) where
+    pub second-full : {u : PortsLinked} → s .ready ≡ false → u ≡ linkRefused m NoRoom → u ≡ linkBoth m a d b e (prepare m a d)
+    second-full v g =
+        g ∙ sym (ap (linkBoth m a d b e) (is-ready m (prepare m a d) r h t)
+        ∙ ap (linkSecond m a d (r .port) (r .offset) b e) (is-full (r .graph) (prepare (r .graph) b e) s k v))
+
+    both-ready : s .ready ≡ true → linkBoth m a d b e (prepare m a d) ≡ linkPrepared (s .graph) a d (r .port) (r .offset) b e (s .port) (s .offset)
+    both-ready v =
+        ap (linkBoth m a d b e) (is-ready m (prepare m a d) r h t)
+        ∙ ap (linkSecond m a d (r .port) (r .offset) b e) (is-ready (r .graph) (prepare (r .graph) b e) s k v)
+
+    pub one-side : {u : PortsLinked} → s .ready ≡ true → sameSide d e ≡ true →
+        u ≡ linkRefused (s .graph) (IncompatibleDirections (port# (r .port)) (port# (s .port)) d) → u ≡ linkBoth m a d b e (prepare m a d)
+    one-side v c g =
+        g ∙ sym (both-ready v
+        ∙ ap (λ (x : Bool). pick x (linkRefused (s .graph) (IncompatibleDirections (port# (r .port)) (port# (s .port)) d))
+        (record { graph = withGraph (s .graph) (linkPorts (s .graph .graph) (r .port) (s .port) .graph); answer = link.Linked (subport# a (r .offset)) (subport# b (s .offset)) })) c)
+
+    pub both-linked : (l : lower.PortsLinked) → s .ready ≡ true → sameSide d e ≡ false → l ≡ linkPorts (s .graph .graph) (r .port) (s .port) →
+        _≡_ {A = PortsLinked} (record { graph = withGraph (s .graph) (l .graph); answer = link.Linked (subport# a (r .offset)) (subport# b (s .offset)) })
+        (linkBoth m a d b e (prepare m a d))
+    both-linked l v c g =
+        ap (λ (x : lower.PortsLinked). record { graph = withGraph (s .graph) (x .graph); answer = link.Linked (subport# a (r .offset)) (subport# b (s .offset)) }) g
+        ∙ sym (both-ready v
+        ∙ ap (λ (x : Bool). pick x (linkRefused (s .graph) (IncompatibleDirections (port# (r .port)) (port# (s .port)) d))
+        (record { graph = withGraph (s .graph) (linkPorts (s .graph .graph) (r .port) (s .port) .graph); answer = link.Linked (subport# a (r .offset)) (subport# b (s .offset)) })) c)
+
+-- How the two ports are seen.
+
+abbrev seenBack : SeenPort → Port
+seenBack seen-port.Dead = dead
+seenBack seen-port.Hidden = hidden
+seenBack (seen-port.Visible n d) = visible (n .0) d
+
+back-is : (v : Port) → v ≡ seenBack (seenAs v)
+back-is dead = refl
+back-is hidden = refl
+back-is (visible n d) = refl
+
+told : (v : Port) {s w : SeenPort} → s ≡ seenAs v → s ≡ w → v ≡ seenBack w
+told v e t = back-is v ∙ ap seenBack (sym e ∙ t)
+
+pub on-block : {m : MultiPortGraph} {p : ℕ} {d : Direction} → MultiWf m → (s : SeenPort) (n : NodeIndex) → s ≡ seenAs (seen m p) → s ≡ seen-port.Visible n d → OnBlock m p d
+on-block {m} {p} {d} w s n e t = record { wf = w; node = n .0; is = told (seen m p) e t }
+
+module _ (m : MultiPortGraph) (a b : ℕ) {s t : SeenPort} (p : s ≡ seenAs (seen m a)) (q : t ≡ seenAs (seen m b)) where
+  pub call-dead : {r : PortsLinked} → s ≡ seen-port.Dead → r ≡ linkRefused m (UnknownPort (port# a)) → r ≡ linkCall m a b
+  unfolding linkCall
+  call-dead h e = e ∙ sym (ap (λ (v : Port). linkSeen m a b v (seen m b)) (told (seen m a) p h))
+
+  pub call-hidden : {r : PortsLinked} → s ≡ seen-port.Hidden → r ≡ linkRefused m (HiddenPort (port# a)) → r ≡ linkCall m a b
+  unfolding linkCall
+  call-hidden h e = e ∙ sym (ap (λ (v : Port). linkSeen m a b v (seen m b)) (told (seen m a) p h))
+
+  module _ (n : NodeIndex) (d : Direction) (h : s ≡ seen-port.Visible n d) where
+    call-by : (w : Port) → seen m b ≡ w → linkCall m a b ≡ linkSeen m a b (visible (n .0) d) w
+    unfolding linkCall
+    call-by w k = ap (λ (v : Port). linkSeen m a b v (seen m b)) (told (seen m a) p h) ∙ ap (linkSeen m a b (visible (n .0) d)) k
+
+    pub call-second-hidden : {r : PortsLinked} → t ≡ seen-port.Hidden → r ≡ linkRefused m (HiddenPort (port# b)) → r ≡ linkCall m a b
+    call-second-hidden k e = e ∙ sym (call-by hidden (told (seen m b) q k))
+
+    pub call-second-dead : {r : PortsLinked} → t ≡ seen-port.Dead → r ≡ linkFirst m b (prepare m a d) → r ≡ linkCall m a b
+    call-second-dead k e = e ∙ sym (call-by dead (told (seen m b) q k))
+
+    pub call-both : {r : PortsLinked} (l : NodeIndex) (f : Direction) → t ≡ seen-port.Visible l f → r ≡ linkBoth m a d b f (prepare m a d) → r ≡ linkCall m a b
+    call-both l f k e = e ∙ sym (call-by (visible (l .0) f) (told (seen m b) q k))

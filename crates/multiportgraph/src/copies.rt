@@ -1,0 +1,73 @@
+// Hidden nodes: one goes with its port, and a node whose ports move keeps its marks.
+use crate::ends::port_of;
+use crate::marks::lay_marks;
+use crate::marks::marked;
+use crate::marks::put_flag;
+use crate::marks::put_mark;
+use crate::marks::wide;
+use crate::multiportgraph::MultiPortGraph;
+use portgraph::index::NodeIndex;
+use portgraph::index::PortIndex;
+use portgraph::node_entry::MaybeNodeMeta;
+use portgraph::portgraph::PortGraph;
+ghost use mathlib.Core.Path.{_≡_};
+ghost use Prim.Native.Nat.{_-_};
+ghost use Rattle.portgraph.specs.Model.{Wf};
+ghost use Rattle.multiportgraph.specs.Calls.{removeCopy, unsplit, recounted};
+
+// The difference, 0 at the least.
+pub(crate) fn less(a: usize, b: usize) -> usize
+    ensures { λ r. ⌜ r ≡ a - b ⌝ }
+{
+    if a < b { 0 } else { a - b }
+}
+
+impl MultiPortGraph {
+    // The hidden node of a split port goes, with every link at it.
+    pub(crate) fn remove_copy(mut self, port: u32, node: u32) -> MultiPortGraph
+        requires { ⌜ Wf (self .graph) ⌝ }
+        ensures { λ r. ⌜ r ≡ removeCopy self port node ⌝ }
+    {
+        let graph = self.graph;
+        let side = self.copy_side(node);
+        let copy = port_of(graph, node, side, 0);
+        let count = graph.num_ports(NodeIndex(node), side.reverse());
+        let removed = graph.remove_node(NodeIndex(node));
+        let after = removed.graph;
+        self.graph = after;
+        put_mark(&mut self.multiport, wide(copy), false);
+        put_mark(&mut self.multiport, wide(port), false);
+        put_flag(&mut self.copy_node, wide(node), false);
+        self.copy_node_count = less(self.copy_node_count, 1);
+        self.subport_count = less(self.subport_count, count);
+        self
+    }
+
+    // A port of a block loses its hidden node, if it has one.
+    pub(crate) fn unsplit(self, port: u32) -> MultiPortGraph
+        requires { ⌜ Wf (self .graph) ⌝ }
+        ensures { λ r. ⌜ r ≡ unsplit self port ⌝ }
+    {
+        if marked(&self.multiport, wide(port)) {
+            return self.remove_copy(port, self.copy_node_of(port));
+        }
+        self
+    }
+
+    // The graph with another lower graph, in which a node has other counts: the marks move with its ports.
+    pub(crate) fn recounted(mut self, node: u32, graph: PortGraph) -> MultiPortGraph
+        requires { ⌜ Wf (self .graph) × Wf graph ⌝ }
+        ensures { λ r. ⌜ r ≡ recounted self node graph ⌝ }
+    {
+        let before = self.graph;
+        self.graph = graph;
+        let MaybeNodeMeta::Some(a) = before.node_meta_valid(NodeIndex(node)) else {
+            return self;
+        };
+        let MaybeNodeMeta::Some(b) = graph.node_meta_valid(NodeIndex(node)) else {
+            return self;
+        };
+        lay_marks(&mut self.multiport, a, b);
+        self
+    }
+}

@@ -1,0 +1,10 @@
+// A port graph in which several links may share a port, over the single-link graph.
+pub mod blocks;
+pub mod calls;
+pub mod copies;
+pub mod ends;
+pub mod iter;
+pub mod links;
+pub mod marks;
+pub mod multiportgraph;
+pub mod prepare;

@@ -1,0 +1,92 @@
+// Linking ports: each end is prepared, and the two inner ports are linked.
+use crate::calls::same_side;
+use crate::ends::SeenPort;
+use crate::multiportgraph::LinkAnswer;
+use crate::multiportgraph::MultiPortGraph;
+use crate::multiportgraph::PortsLinked;
+use crate::multiportgraph::Refusal;
+use crate::multiportgraph::SubportIndex;
+use portgraph::direction::Direction;
+use portgraph::index::PortIndex;
+ghost use mathlib.Core.Path.{_≡_};
+ghost use Rattle.multiportgraph.specs.Calls.{linkNumbers, linkCall, linkFirst, linkBoth, prepare};
+ghost use Rattle.multiportgraph.specs.Inner.{MultiWf};
+ghost use Rattle.multiportgraph.specs.LinkSteps.{BothOnBlock};
+
+impl MultiPortGraph {
+    // The second port is not live: the preparation of the first stays.
+    fn link_first(self, a: u32, d: Direction, b: PortIndex) -> PortsLinked
+        requires { ⌜ MultiWf self ⌝ }
+        ensures { λ r. ⌜ r ≡ linkFirst self (b .0) (prepare self a d) ⌝ }
+    {
+        let first = self.prepare(a, d);
+        let ready = first.ready;
+        if ready {
+            let after = first.graph;
+            return after.link_refused(Refusal::UnknownSecondPort(b));
+        }
+        self.link_refused(Refusal::NoRoom)
+    }
+
+    // Both ports are live: both ends are prepared.
+    fn link_both(self, a: u32, d: Direction, b: u32, e: Direction) -> PortsLinked
+        requires { ⌜ BothOnBlock self a d b e ⌝ }
+        ensures { λ r. ⌜ r ≡ linkBoth self a d b e (prepare self a d) ⌝ }
+    {
+        let first = self.prepare(a, d);
+        let ready = first.ready;
+        if ready {
+            let middle = first.graph;
+            let second = middle.prepare(b, e);
+            let both = second.ready;
+            if both {
+                let mut last = second.graph;
+                let x = first.port;
+                let y = second.port;
+                if same_side(d, e) {
+                    return last.link_refused(Refusal::IncompatibleDirections(
+                        PortIndex(x),
+                        PortIndex(y),
+                        d,
+                    ));
+                }
+                let graph = last.graph;
+                let linked = graph.link_ports(PortIndex(x), PortIndex(y));
+                let after = linked.graph;
+                last.graph = after;
+                return PortsLinked {
+                    graph: last,
+                    answer: LinkAnswer::Linked(
+                        SubportIndex {
+                            port: PortIndex(a),
+                            subport_offset: first.offset,
+                        },
+                        SubportIndex {
+                            port: PortIndex(b),
+                            subport_offset: second.offset,
+                        },
+                    ),
+                };
+            }
+        }
+        self.link_refused(Refusal::NoRoom)
+    }
+
+    // Links two ports; each end takes the lowest offset without a wire.
+    pub fn link_ports(self, port_a: PortIndex, port_b: PortIndex) -> PortsLinked
+        requires { ⌜ MultiWf self ⌝ }
+        ensures { λ r. ⌜ (r ≡ linkCall self («port_a» .0) («port_b» .0)) × (linkNumbers (r .answer) ≡ linkNumbers (linkCall self («port_a» .0) («port_b» .0) .answer)) ⌝ }
+    {
+        let first = self.seen(port_a.0);
+        let second = self.seen(port_b.0);
+        match first {
+            SeenPort::Dead => self.link_refused(Refusal::UnknownPort(port_a)),
+            SeenPort::Hidden => self.link_refused(Refusal::HiddenPort(port_a)),
+            SeenPort::Visible(_, d) => match second {
+                SeenPort::Hidden => self.link_refused(Refusal::HiddenPort(port_b)),
+                SeenPort::Dead => self.link_first(port_a.0, d, port_b),
+                SeenPort::Visible(_, e) => self.link_both(port_a.0, d, port_b.0, e),
+            },
+        }
+    }
+}

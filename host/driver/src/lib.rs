@@ -1,0 +1,29 @@
+//! Runs calls on the Rust original (`MultiPortGraph`) and gives its answers as records of five numbers.
+//!
+//! - [`Call`]: the nine calls, and their records.
+//! - [`Oracle`]: one graph of the original; [`Oracle::ask`] gives a call to it, or says why it is not given.
+//! - [`run_list`]: a list of request records, run from an empty graph.
+//! - The listings of [`Oracle`] (module `walk`): each walk, from the original's iterators.
+//!
+//! Everything here is decided from the original alone: from its inner graph before a call, or from the call on a clone.
+
+mod call;
+mod list;
+mod oracle;
+mod walk;
+
+pub use call::{Answer, Call, End};
+pub use list::{run_list, to_bytes};
+pub use oracle::{Asked, Event, Graph, Oracle, Reason};
+pub use walk::{Listing, Place, Side, Sides, Subport, Wire};
+
+/// Node slots of the port's table.
+pub const NODE_SLOTS: usize = 512;
+/// Port slots of the port's table.
+pub const PORT_SLOTS: usize = 2_048;
+/// The most ports that an add or a resize may name.
+pub const MOST_PORTS: u64 = 1_024;
+/// The last offset that a record may hold.
+pub const LAST_OFFSET: u32 = 65_534;
+/// 'None' in a move list.
+pub const NONE: u32 = u32::MAX;

@@ -13,7 +13,7 @@
 -- Then the theorems, each over every list of calls from the empty graph, refused ones included, with no other premise:
 --   wire-rule, cut-restores, links-in-either-order (Theorems), bench-table (Bench)
 -- and the laws that a reviewer looks for:
---   visible-nodes, visible-ports, visible-links, split-one-copy, copy-one-split, no-wire-at-hidden (CountLaws)
+--   visible-nodes, visible-ports, visible-links, split-one-copy, copy-one-split, no-wire-at-hidden (CountLaws), visible-links-of-history (HistoryCounts)
 --   each refusal under its condition and no other, and what a refused call leaves (RefusalLaws)
 --   the work of a call is what it takes and gives back, and 10 is given exactly if a table would grow past its limit (SpaceLaws)
 -- The rest are the proofs of what Inner says, call by call.
@@ -44,6 +44,7 @@ pub mod BookLaws
 pub mod WireRule
 pub mod Theorems
 pub mod CountLaws
+pub mod HistoryCounts
 pub mod RefusalLaws
 pub mod SpaceLaws
 -- steps that the functions' proofs cite

@@ -8,14 +8,17 @@ use lib.Dec.{eqb, leb, ltb}
 use Rattle.portgraph.specs.Limits.{nodeSlots}
 use Rattle.portgraph.specs.Entries.{pick}
 use Rattle.portgraph.specs.Meaning.{sameSide}
-use Rattle.portgraph.specs.Lookups.{node#, port#}
+use Rattle.portgraph.specs.Lookups.{node#, port#, containsNode}
 use Rattle.portgraph.specs.declared.direction.Direction.{Direction}
 use Rattle.portgraph.specs.declared.direction.Direction.the-variants.{Incoming, Outgoing}
 use Rattle.portgraph.specs.declared.iter.Sides.{Sides}
 use Rattle.portgraph.specs.declared.iter.Sides.the-variants.{One, Both}
-use Rattle.multiportgraph.specs.Reading.{ownerOf, isSplit, Port, dead, hidden, visible, seen, subports}
+use Rattle.multiportgraph.specs.Reading.{ownerOf, isHidden, isSplit, Port, dead, hidden, visible, seen, subports}
 use Rattle.multiportgraph.specs.Wires.{gather, those, each, isBlock, blocks, portsOfSide, subportsOfSide, subportsOfPort, sideLinks, wireOf, isBeyond}
+use Rattle.multiportgraph.specs.Calls.{refusalNumbers}
 use Rattle.multiportgraph.specs.declared.multiportgraph.MultiPortGraph.{MultiPortGraph}
+use Rattle.multiportgraph.specs.declared.multiportgraph.Refusal.{Refusal}
+use Rattle.multiportgraph.specs.declared.multiportgraph.Refusal.the-variants.{UnknownNode, HiddenNode, UnknownPort, HiddenPort}
 use Rattle.multiportgraph.specs.declared.multiportgraph.SubportIndex.{SubportIndex}
 use Rattle.multiportgraph.specs.declared.multiportgraph.SubportLink.{SubportLink}
 use Rattle.multiportgraph.specs.declared.iter.Nodes.{Nodes}
@@ -48,6 +51,38 @@ sumOf f (x ∷ l) = f x + sumOf f l
 
 unfoldable pub blockFanOut : MultiPortGraph → ℕ → ℕ
 blockFanOut m n = sumOf (λ p. fanOut m p Outgoing) (portsOfSide m Outgoing n)
+
+-- Starting a walk is a call.
+
+pub data Start : Type 0 where
+  started : Start
+  refused : Refusal → Start
+
+-- a start answers no value, or its refusal
+abbrev pub startNumbers : Start → List ℕ
+startNumbers started = 0 ∷ []
+startNumbers (refused r) = refusalNumbers r
+
+-- over the blocks or all wires: never refused. At a node: 4, 5
+unfoldable pub startAtNode : MultiPortGraph → ℕ → Start
+startAtNode m n =
+    pick (containsNode (m .graph) n) (pick (isHidden m n) (refused HiddenNode) started) (refused UnknownNode)
+
+-- from one node to another: 4 for either, then 5 for either
+unfoldable pub startBetween : MultiPortGraph → ℕ → ℕ → Start
+startBetween m n k =
+    pick (containsNode (m .graph) n)
+    (pick (containsNode (m .graph) k) (pick (isHidden m n) (refused HiddenNode) (startAtNode m k)) (refused UnknownNode))
+    (refused UnknownNode)
+
+abbrev pub startSeen : ℕ → Port → Start
+startSeen p dead = refused (UnknownPort (port# p))
+startSeen p hidden = refused (HiddenPort (port# p))
+startSeen p (visible n d) = started
+
+-- at a port: 7, 8
+unfoldable pub startAtPort : MultiPortGraph → ℕ → Start
+startAtPort m p = startSeen p (seen m p)
 
 -- What a cursor holds is still there.
 

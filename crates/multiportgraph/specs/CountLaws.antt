@@ -21,7 +21,7 @@ use Rattle.portgraph.specs.declared.node_entry.NodeMeta.{NodeMeta}
 use Rattle.multiportgraph.specs.Reading.{portOf, isHidden, isSplit, copySide}
 use Rattle.multiportgraph.specs.Calls.{visibleNodes, visiblePorts, visibleLinks}
 use Rattle.multiportgraph.specs.Wires.{range, gather, those, each, isBlock, blocks, portsOfSide, allWires, Place, Wire, wirePlaces}
-use Rattle.multiportgraph.specs.Walks.{allPorts}
+use Rattle.multiportgraph.specs.Walks.{portsByBlock}
 use Rattle.multiportgraph.specs.History.{Once}
 use Rattle.multiportgraph.specs.Inner.{copyPlace, flag, subportsIn, Fine, Seen, outer, IsEnd, WireIn}
 use Rattle.multiportgraph.specs.Ends.{split-has-copy, one-copy, unsplit-no-copy, copy-or-end, outer-seen, outer-apart, ends-join-ends, main-seen, main-side, main-back, count-of, wires-by-out}
@@ -267,8 +267,8 @@ module _ {m : MultiPortGraph} {M : Model} (f : Fine m M) where
       go false (live k) h e = rw (ap isSome (meta-of-node (f .good) (f .holds) n k e)) (omega arith)
 
   -- the number of visible ports is that of the blocks' ports listed
-  pub visible-ports : visiblePorts m ≡ length (allPorts m)
-  unfolding visiblePorts allPorts blocks
+  pub visible-ports : visiblePorts m ≡ length (portsByBlock m)
+  unfolding visiblePorts portsByBlock blocks
   visible-ports =
       let a = f .holds .portCount in
       let b = f .copies in

@@ -1,10 +1,11 @@
 -- The multiport graph: several links share a port through hidden copy nodes.
 --
--- Where to begin. What a reader must believe stands in eight files, in this order (over the lower crate's):
+-- Where to begin. What a reader must believe stands in nine files, in this order (over the lower crate's):
 --   Reading     how a port number is read: live, hidden, split; ends and subports
 --   Calls       each call: answer and graph, with the refusals in document 01's order
 --   Wires       the list of all wires and the cursor that walks it; places
 --   Walks       the other walks, and fan-out
+--   Lookups     lookups on blocks and ports
 --   Book        the wire book, with no graph in its types
 --   History     lists of calls from the empty graph with the book beside them; what the wire rule says
 --   Space       refusal 10 by the work of a call
@@ -21,6 +22,8 @@ pub mod Reading
 pub mod Calls
 pub mod Wires
 pub mod Walks
+pub mod WalkNumbers
+pub mod Lookups
 pub mod Book
 pub mod History
 pub mod Space

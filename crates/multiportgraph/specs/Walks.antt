@@ -5,17 +5,18 @@ use mathlib.Core.Bool.{Bool, true, false}
 use mathlib.Core.List.{List, [], _∷_, _++_}
 use Prim.Native.Nat.{ℕ, zero, suc, _+_, _-_}
 use lib.Dec.{eqb, leb, ltb}
-use Rattle.portgraph.specs.Limits.{nodeSlots}
+use Rattle.portgraph.specs.Limits.{portSlots}
 use Rattle.portgraph.specs.Entries.{pick}
 use Rattle.portgraph.specs.Meaning.{sameSide}
 use Rattle.portgraph.specs.Lookups.{node#, port#, containsNode}
+use Rattle.portgraph.specs.declared.index.NodeIndex.{NodeIndex}
+use Rattle.portgraph.specs.declared.index.PortIndex.{PortIndex}
 use Rattle.portgraph.specs.declared.direction.Direction.{Direction}
 use Rattle.portgraph.specs.declared.direction.Direction.the-variants.{Incoming, Outgoing}
 use Rattle.portgraph.specs.declared.iter.Sides.{Sides}
 use Rattle.portgraph.specs.declared.iter.Sides.the-variants.{One, Both}
 use Rattle.multiportgraph.specs.Reading.{ownerOf, isHidden, isSplit, Port, dead, hidden, visible, seen, subports}
-use Rattle.multiportgraph.specs.Wires.{gather, those, each, isBlock, blocks, portsOfSide, subportsOfSide, subportsOfPort, sideLinks, wireOf, isBeyond}
-use Rattle.multiportgraph.specs.Calls.{refusalNumbers}
+use Rattle.multiportgraph.specs.Wires.{range, gather, those, each, isBlock, blocks, portsOfSide, subportsOfSide, subportsOfPort, sideLinks, wireOf, isBeyond}
 use Rattle.multiportgraph.specs.declared.multiportgraph.MultiPortGraph.{MultiPortGraph}
 use Rattle.multiportgraph.specs.declared.multiportgraph.Refusal.{Refusal}
 use Rattle.multiportgraph.specs.declared.multiportgraph.Refusal.the-variants.{UnknownNode, HiddenNode, UnknownPort, HiddenPort}
@@ -24,21 +25,39 @@ use Rattle.multiportgraph.specs.declared.multiportgraph.SubportLink.{Sub
 use Rattle.multiportgraph.specs.declared.iter.Nodes.{Nodes}
 use Rattle.multiportgraph.specs.declared.iter.NodesStep.{NodesStep}
 use Rattle.multiportgraph.specs.declared.iter.NodesStep.the-variants as nodes-step
+use Rattle.multiportgraph.specs.declared.iter.Ports.{Ports}
+use Rattle.multiportgraph.specs.declared.iter.PortsStep.{PortsStep}
+use Rattle.multiportgraph.specs.declared.iter.PortsStep.the-variants as ports-step
+use Rattle.multiportgraph.specs.declared.iter.NodePorts.{NodePorts}
+use Rattle.multiportgraph.specs.declared.iter.NodePortsStep.{NodePortsStep}
+use Rattle.multiportgraph.specs.declared.iter.NodePortsStep.the-variants as node-ports-step
+use Rattle.multiportgraph.specs.declared.iter.NodePortsStart.{NodePortsStart}
+use Rattle.multiportgraph.specs.declared.iter.NodePortsStart.the-variants as node-ports-start
 use Rattle.multiportgraph.specs.declared.iter.NodeSubports.{NodeSubports}
 use Rattle.multiportgraph.specs.declared.iter.NodeSubportsStep.{NodeSubportsStep}
 use Rattle.multiportgraph.specs.declared.iter.NodeSubportsStep.the-variants as subports-step
+use Rattle.multiportgraph.specs.declared.iter.NodeSubportsStart.{NodeSubportsStart}
+use Rattle.multiportgraph.specs.declared.iter.NodeSubportsStart.the-variants as subports-start
 use Rattle.multiportgraph.specs.declared.iter.PortLinks.{PortLinks}
 use Rattle.multiportgraph.specs.declared.iter.PortLinksStep.{PortLinksStep}
 use Rattle.multiportgraph.specs.declared.iter.PortLinksStep.the-variants as port-step
+use Rattle.multiportgraph.specs.declared.iter.PortLinksStart.{PortLinksStart}
+use Rattle.multiportgraph.specs.declared.iter.PortLinksStart.the-variants as port-start
 use Rattle.multiportgraph.specs.declared.iter.NodeLinks.{NodeLinks}
 use Rattle.multiportgraph.specs.declared.iter.NodeLinksStep.{NodeLinksStep}
 use Rattle.multiportgraph.specs.declared.iter.NodeLinksStep.the-variants as links-step
+use Rattle.multiportgraph.specs.declared.iter.NodeLinksStart.{NodeLinksStart}
+use Rattle.multiportgraph.specs.declared.iter.NodeLinksStart.the-variants as links-start
 use Rattle.multiportgraph.specs.declared.iter.Neighbours.{Neighbours}
 use Rattle.multiportgraph.specs.declared.iter.NeighboursStep.{NeighboursStep}
 use Rattle.multiportgraph.specs.declared.iter.NeighboursStep.the-variants as neighbours-step
+use Rattle.multiportgraph.specs.declared.iter.NeighboursStart.{NeighboursStart}
+use Rattle.multiportgraph.specs.declared.iter.NeighboursStart.the-variants as neighbours-start
 use Rattle.multiportgraph.specs.declared.iter.NodeConnections.{NodeConnections}
 use Rattle.multiportgraph.specs.declared.iter.NodeConnectionsStep.{NodeConnectionsStep}
 use Rattle.multiportgraph.specs.declared.iter.NodeConnectionsStep.the-variants as connections-step
+use Rattle.multiportgraph.specs.declared.iter.NodeConnectionsStart.{NodeConnectionsStart}
+use Rattle.multiportgraph.specs.declared.iter.NodeConnectionsStart.the-variants as connections-start
 
 -- Fan-out: the number of subports, an unsplit port counting as 1; a block's is the sum over its outgoing ports.
 
@@ -57,11 +76,6 @@ blockFanOut m n = sumOf (λ p. fanOut m p Outgoing) (portsOfSide m Outgoing n)
 pub data Start : Type 0 where
   started : Start
   refused : Refusal → Start
-
--- a start answers no value, or its refusal
-abbrev pub startNumbers : Start → List ℕ
-startNumbers started = 0 ∷ []
-startNumbers (refused r) = refusalNumbers r
 
 -- over the blocks or all wires: never refused. At a node: 4, 5
 unfoldable pub startAtNode : MultiPortGraph → ℕ → Start
@@ -97,28 +111,72 @@ heldSeen m held = pick (eqb held 0) true (isSeen (seen m (held - 1)))
 abbrev pub bothSeen : MultiPortGraph → ℕ → ℕ → Bool
 bothSeen m n held = pick (isBlock m n) (heldSeen m held) false
 
--- Blocks.
+-- The first and the last of a list, as a step has them.
+
+unfoldable pub firstOf {ℓ κ} : {A : Type ℓ} {B : Type κ} → B → (A → B) → List A → B
+firstOf end f [] = end
+firstOf end f (x ∷ l) = f x
+
+unfoldable pub lastOf {ℓ κ} : {A : Type ℓ} {B : Type κ} → B → (A → B) → List A → B
+lastOf end f [] = end
+lastOf end f (x ∷ l) = lastOf (f x) f l
+
+-- strictly between what was given last from the front and from the back, each one higher and 0 for none
+unfoldable pub between : ℕ → ℕ → ℕ → Bool
+between front back x = pick (leb front x) (pick (eqb back 0) true (ltb (suc x) back)) false
+
+-- Blocks, from either end.
 
 unfoldable pub nodeHeld : MultiPortGraph → ℕ → Bool
 nodeHeld m held = pick (eqb held 0) true (isBlock m (held - 1))
 
-abbrev pub firstBlock : List ℕ → NodesStep
-firstBlock [] = nodes-step.End
-firstBlock (n ∷ l) = nodes-step.Item (node# n) (record { held = suc n })
+-- the blocks that a cursor has left; none where a block that it holds is gone or hidden
+unfoldable pub blocksLeft : MultiPortGraph → Nodes → List ℕ
+blocksLeft m c =
+    pick (nodeHeld m (c .front)) (pick (nodeHeld m (c .back)) (those (between (c .front) (c .back)) (blocks m)) []) []
 
--- the number held is one higher than the block given last, so what is left are the blocks from it on
-unfoldable pub stepNodes : MultiPortGraph → ℕ → NodesStep
-stepNodes m held = pick (nodeHeld m held) (firstBlock (those (leb held) (blocks m))) nodes-step.End
+unfoldable pub stepNodes : MultiPortGraph → Nodes → NodesStep
+stepNodes m c = firstOf nodes-step.End (λ n. nodes-step.Item (node# n) (record { front = suc n; back = c .back })) (blocksLeft m c)
 
--- all ports of blocks, by ascending block, incoming first
+unfoldable pub stepNodesBack : MultiPortGraph → Nodes → NodesStep
+stepNodesBack m c = lastOf nodes-step.End (λ n. nodes-step.Item (node# n) (record { front = c .front; back = suc n })) (blocksLeft m c)
+
+-- All ports of blocks, by ascending number, from either end.
+
 unfoldable pub allPorts : MultiPortGraph → List ℕ
-allPorts m = gather (λ n. portsOfSide m Incoming n ++ portsOfSide m Outgoing n) (blocks m)
+allPorts m = those (λ p. isSeen (seen m p)) (range 0 portSlots)
 
--- Subports of a block, on one side or both.
+unfoldable pub portsLeft : MultiPortGraph → Ports → List ℕ
+portsLeft m c =
+    pick (heldSeen m (c .front)) (pick (heldSeen m (c .back)) (those (between (c .front) (c .back)) (allPorts m)) []) []
+
+unfoldable pub stepAllPorts : MultiPortGraph → Ports → PortsStep
+stepAllPorts m c = firstOf ports-step.End (λ p. ports-step.Item (port# p) (record { front = suc p; back = c .back })) (portsLeft m c)
+
+unfoldable pub stepAllPortsBack : MultiPortGraph → Ports → PortsStep
+stepAllPortsBack m c = lastOf ports-step.End (λ p. ports-step.Item (port# p) (record { front = c .front; back = suc p })) (portsLeft m c)
+
+-- the same ports by ascending block, incoming first: what the count of ports counts
+unfoldable pub portsByBlock : MultiPortGraph → List ℕ
+portsByBlock m = gather (λ n. portsOfSide m Incoming n ++ portsOfSide m Outgoing n) (blocks m)
+
+-- Ports of a block, on one side or both.
 
 abbrev pub bySides {ℓ} : {A : Type ℓ} → (Direction → List A) → Sides → List A
 bySides f (One d) = f d
 bySides f Both = f Incoming ++ f Outgoing
+
+unfoldable pub portsOfNode : MultiPortGraph → ℕ → Sides → List ℕ
+portsOfNode m n sides = bySides (λ d. portsOfSide m d n) sides
+
+unfoldable pub stepNodePorts : MultiPortGraph → NodePorts → NodePortsStep
+stepNodePorts m c =
+    pick (bothSeen m (c .node .0) (c .held))
+    (firstOf node-ports-step.End (λ p. node-ports-step.Item (port# p) (record { node = c .node; sides = c .sides; held = suc p }))
+    (those (leb (c .held)) (portsOfNode m (c .node .0) (c .sides))))
+    node-ports-step.End
+
+-- Subports of a block, on one side or both.
 
 unfoldable pub subportsOf : MultiPortGraph → ℕ → Sides → List SubportIndex
 subportsOf m n sides = bySides (subportsOfSide m n) sides
@@ -127,15 +185,12 @@ unfoldable pub subportBeyond : ℕ → ℕ → SubportIndex → Bool
 subportBeyond held o s =
     pick (eqb held 0) true (pick (eqb (s .port .0) (held - 1)) (ltb o (s .«subport_offset»)) (ltb (held - 1) (s .port .0)))
 
-abbrev pub firstSubport : NodeSubports → List SubportIndex → NodeSubportsStep
-firstSubport c [] = subports-step.End
-firstSubport c (s ∷ l) =
-    subports-step.Item s (record { node = c .node; sides = c .sides; held = suc (s .port .0); offset = s .«subport_offset» })
-
 unfoldable pub stepSubports : MultiPortGraph → NodeSubports → NodeSubportsStep
 stepSubports m c =
     pick (bothSeen m (c .node .0) (c .held))
-    (firstSubport c (those (subportBeyond (c .held) (c .offset)) (subportsOf m (c .node .0) (c .sides))))
+    (firstOf subports-step.End
+    (λ s. subports-step.Item s (record { node = c .node; sides = c .sides; held = suc (s .port .0); offset = s .«subport_offset» }))
+    (those (subportBeyond (c .held) (c .offset)) (subportsOf m (c .node .0) (c .sides))))
     subports-step.End
 
 -- Links of a port, from either end.
@@ -148,29 +203,19 @@ portLinksSeen m p (visible n d) = gather (wireOf m d) (subportsOfPort m d p)
 unfoldable pub portLinks : MultiPortGraph → ℕ → List SubportLink
 portLinks m p = portLinksSeen m p (seen m p)
 
--- strictly between the offsets given from the front and from the back
-unfoldable pub isBetween : ℕ → ℕ → SubportLink → Bool
-isBetween front back w =
-    pick (leb front (w .from .«subport_offset»)) (pick (eqb back 0) true (ltb (suc (w .from .«subport_offset»)) back)) false
-
-abbrev pub frontItem : PortLinks → List SubportLink → PortLinksStep
-frontItem c [] = port-step.End
-frontItem c (w ∷ l) = port-step.Item w (record { port = c .port; front = suc (w .from .«subport_offset»); back = c .back })
+-- those strictly between the offsets given from the front and from the back
+unfoldable pub linksLeft : MultiPortGraph → PortLinks → List SubportLink
+linksLeft m c = those (λ w. between (c .front) (c .back) (w .from .«subport_offset»)) (portLinks m (c .port .0))
 
 unfoldable pub stepFront : MultiPortGraph → PortLinks → PortLinksStep
-stepFront m c = frontItem c (those (isBetween (c .front) (c .back)) (portLinks m (c .port .0)))
-
-abbrev pub backStep : PortLinks → SubportLink → PortLinksStep → PortLinksStep
-backStep c w port-step.End = port-step.Item w (record { port = c .port; front = c .front; back = suc (w .from .«subport_offset») })
-backStep c w (port-step.Item v n) = port-step.Item v n
-
--- the last item of a list
-unfoldable pub backItem : PortLinks → List SubportLink → PortLinksStep
-backItem c [] = port-step.End
-backItem c (w ∷ l) = backStep c w (backItem c l)
+stepFront m c =
+    firstOf port-step.End (λ w. port-step.Item w (record { port = c .port; front = suc (w .from .«subport_offset»); back = c .back }))
+    (linksLeft m c)
 
 unfoldable pub stepBack : MultiPortGraph → PortLinks → PortLinksStep
-stepBack m c = backItem c (those (isBetween (c .front) (c .back)) (portLinks m (c .port .0)))
+stepBack m c =
+    lastOf port-step.End (λ w. port-step.Item w (record { port = c .port; front = c .front; back = suc (w .from .«subport_offset») }))
+    (linksLeft m c)
 
 -- Links of a block, on one side or both, without those to a range of ports.
 
@@ -183,9 +228,8 @@ nodeLinks m n sides lo hi = those (notSkipped lo hi) (bySides (λ d. sideLinks m
 abbrev pub linkBeyond : ℕ → ℕ → SubportLink → Bool
 linkBeyond held o w = pick (eqb held 0) true (isBeyond (held - 1) o w)
 
-abbrev pub firstLink : NodeLinks → List SubportLink → NodeLinksStep
-firstLink c [] = links-step.End
-firstLink c (w ∷ l) =
+abbrev pub linksItem : NodeLinks → SubportLink → NodeLinksStep
+linksItem c w =
     links-step.Item w
     (record {
       node = c .node;
@@ -199,7 +243,8 @@ firstLink c (w ∷ l) =
 unfoldable pub stepLinks : MultiPortGraph → NodeLinks → NodeLinksStep
 stepLinks m c =
     pick (bothSeen m (c .node .0) (c .held))
-    (firstLink c (those (linkBeyond (c .held) (c .offset)) (nodeLinks m (c .node .0) (c .sides) (c .«skip_from») (c .«skip_to»))))
+    (firstOf links-step.End (linksItem c)
+    (those (linkBeyond (c .held) (c .offset)) (nodeLinks m (c .node .0) (c .sides) (c .«skip_from») (c .«skip_to»))))
     links-step.End
 
 -- Neighbours, one for each link.
@@ -219,9 +264,8 @@ neighbourLinks m n sides flag = those (notIgnored m n flag) (bySides (λ d. side
 unfoldable pub neighbours : MultiPortGraph → ℕ → Sides → Bool → List ℕ
 neighbours m n sides flag = each (λ (w : SubportLink). ownerOf (m .graph) (w .to .port .0)) (neighbourLinks m n sides flag)
 
-abbrev pub firstNeighbour : MultiPortGraph → Neighbours → List SubportLink → NeighboursStep
-firstNeighbour m c [] = neighbours-step.End
-firstNeighbour m c (w ∷ l) =
+abbrev pub neighboursItem : MultiPortGraph → Neighbours → SubportLink → NeighboursStep
+neighboursItem m c w =
     neighbours-step.Item (node# (ownerOf (m .graph) (w .to .port .0)))
     (record {
       node = c .node;
@@ -234,7 +278,8 @@ firstNeighbour m c (w ∷ l) =
 unfoldable pub stepNeighbours : MultiPortGraph → Neighbours → NeighboursStep
 stepNeighbours m c =
     pick (bothSeen m (c .node .0) (c .held))
-    (firstNeighbour m c (those (linkBeyond (c .held) (c .offset)) (neighbourLinks m (c .node .0) (c .sides) (c .«ignore_self»))))
+    (firstOf neighbours-step.End (neighboursItem m c)
+    (those (linkBeyond (c .held) (c .offset)) (neighbourLinks m (c .node .0) (c .sides) (c .«ignore_self»))))
     neighbours-step.End
 
 -- Connections from one block's outgoing side to another block, repeated per wire.
@@ -242,14 +287,63 @@ stepNeighbours m c =
 unfoldable pub connections : MultiPortGraph → ℕ → ℕ → List SubportLink
 connections m n k = those (λ (w : SubportLink). eqb (ownerOf (m .graph) (w .to .port .0)) k) (sideLinks m Outgoing n)
 
-abbrev pub firstConnection : NodeConnections → List SubportLink → NodeConnectionsStep
-firstConnection c [] = connections-step.End
-firstConnection c (w ∷ l) =
+abbrev pub connectionsItem : NodeConnections → SubportLink → NodeConnectionsStep
+connectionsItem c w =
     connections-step.Item w
     (record { node = c .node; target = c .target; held = suc (w .from .port .0); offset = w .from .«subport_offset» })
 
+-- both blocks are still there, and the port held
 unfoldable pub stepConnections : MultiPortGraph → NodeConnections → NodeConnectionsStep
 stepConnections m c =
-    pick (bothSeen m (c .node .0) (c .held))
-    (firstConnection c (those (linkBeyond (c .held) (c .offset)) (connections m (c .node .0) (c .target .0))))
+    pick (isBlock m (c .target .0))
+    (pick (bothSeen m (c .node .0) (c .held))
+    (firstOf connections-step.End (connectionsItem c)
+    (those (linkBeyond (c .held) (c .offset)) (connections m (c .node .0) (c .target .0))))
+    connections-step.End)
     connections-step.End
+
+-- Starts: 4 and 5 at a node, 7 and 8 at a port, else a cursor that holds nothing yet.
+
+abbrev pub nodePortsFrom : NodeIndex → Sides → Start → NodePortsStart
+nodePortsFrom n sides started = node-ports-start.Started (record { node = n; sides = sides; held = 0 })
+nodePortsFrom n sides (refused r) = node-ports-start.Refused r
+
+abbrev pub startNodePorts : MultiPortGraph → NodeIndex → Sides → NodePortsStart
+startNodePorts m n sides = nodePortsFrom n sides (startAtNode m (n .0))
+
+abbrev pub subportsFrom : NodeIndex → Sides → Start → NodeSubportsStart
+subportsFrom n sides started = subports-start.Started (record { node = n; sides = sides; held = 0; offset = 0 })
+subportsFrom n sides (refused r) = subports-start.Refused r
+
+abbrev pub startSubports : MultiPortGraph → NodeIndex → Sides → NodeSubportsStart
+startSubports m n sides = subportsFrom n sides (startAtNode m (n .0))
+
+abbrev pub portLinksFrom : PortIndex → Start → PortLinksStart
+portLinksFrom p started = port-start.Started (record { port = p; front = 0; back = 0 })
+portLinksFrom p (refused r) = port-start.Refused r
+
+abbrev pub startPortLinks : MultiPortGraph → PortIndex → PortLinksStart
+startPortLinks m p = portLinksFrom p (startAtPort m (p .0))
+
+abbrev pub linksFrom : NodeIndex → Sides → ℕ → ℕ → Start → NodeLinksStart
+linksFrom n sides lo hi started =
+    links-start.Started (record { node = n; sides = sides; «skip_from» = lo; «skip_to» = hi; held = 0; offset = 0 })
+linksFrom n sides lo hi (refused r) = links-start.Refused r
+
+abbrev pub startLinks : MultiPortGraph → NodeIndex → Sides → ℕ → ℕ → NodeLinksStart
+startLinks m n sides lo hi = linksFrom n sides lo hi (startAtNode m (n .0))
+
+abbrev pub neighboursFrom : NodeIndex → Sides → Bool → Start → NeighboursStart
+neighboursFrom n sides flag started =
+    neighbours-start.Started (record { node = n; sides = sides; «ignore_self» = flag; held = 0; offset = 0 })
+neighboursFrom n sides flag (refused r) = neighbours-start.Refused r
+
+abbrev pub startNeighbours : MultiPortGraph → NodeIndex → Sides → Bool → NeighboursStart
+startNeighbours m n sides flag = neighboursFrom n sides flag (startAtNode m (n .0))
+
+abbrev pub connectionsFrom : NodeIndex → NodeIndex → Start → NodeConnectionsStart
+connectionsFrom n k started = connections-start.Started (record { node = n; target = k; held = 0; offset = 0 })
+connectionsFrom n k (refused r) = connections-start.Refused r
+
+abbrev pub startConnections : MultiPortGraph → NodeIndex → NodeIndex → NodeConnectionsStart
+startConnections m n k = connectionsFrom n k (startBetween m (n .0) (k .0))

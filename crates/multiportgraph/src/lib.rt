@@ -5,6 +5,7 @@ pub mod copies;
 pub mod ends;
 pub mod iter;
 pub mod links;
+pub mod lookups;
 pub mod marks;
 pub mod multiportgraph;
 pub mod prepare;

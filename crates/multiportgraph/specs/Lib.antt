@@ -48,6 +48,7 @@ pub mod WireRule
 pub mod Theorems
 pub mod CountLaws
 pub mod HistoryCounts
+pub mod Kept
 pub mod RefusalLaws
 pub mod SpaceLaws
 -- steps that the functions' proofs cite

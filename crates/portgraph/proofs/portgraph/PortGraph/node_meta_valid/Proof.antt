@@ -2,13 +2,14 @@
 use mathlib.Core.Path.{_≡_}
 use lib.ListN.{length}
 use borrow.Author.Needs.{needs}
+use Rattle.portgraph.specs.Limits.{nodeSlots}
 use Rattle.portgraph.specs.Lookups.{metaNumbers}
 use Rattle.portgraph.specs.LookupSteps.{with-numbers, length-of-map, node-outside, node-read}
 use Rattle.portgraph.proofs.portgraph.PortGraph.node_meta_valid.Statement.{statement}
 use Rattle.portgraph.proofs.portgraph.PortGraph.node_meta_valid.Tie as tie
 
 -- the node table has all its slots
-long : (c : tie.Start) → length (c .args .t1 .«node_meta») ≡ 512
+long : (c : tie.Start) → length (c .args .t1 .«node_meta») ≡ nodeSlots
 long c = search (needs, length-of-map)
 
 wide-requires : tie.Need-wide-requires

@@ -144,9 +144,9 @@ module _ {g : PortGraph} {M : Model} (good : Good M) (holds : Holds g M) (n i o 
       away : i + o ≤ nodePorts → (a : NodeMeta) → M .node n ≡ live a → blockRoom M (roundUp (i + o)) ≡ true
           → SomeRecount (resizeAnew g n a i o (nextBlock M (roundUp (i + o))) (roundUp (i + o))) M n i o
       away h a here q =
-          let fit = round-up-reaches (i + o) h in
+          let fit = round-up-reaches (i + o) in
           let some = round-up-positive (i + o) in
-          let small = round-up-fits (i + o) in
+          let small = round-up-fits (i + o) h in
           let free = leb-true (M .portLen + growth (roundUp (i + o)) (M .freeBlocks (roundUp (i + o)))) portSlots q in
           record {
             model′ = moveModel M n a i o (roundUp (i + o));

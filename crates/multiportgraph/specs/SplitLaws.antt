@@ -836,13 +836,10 @@ pub data NoSpace (m : MultiPortGraph) (M : Model) (x : model.Place) : Type 0 whe
   -- for a split: a slot, a block of 3
   no-slot : (y : model.Place) → isSplit m (slotOf (M .node) x) ≡ false → M .join x ≡ to y → nodeSlots < M .nodeLen + growth 1 (M .freeNodes) → NoSpace m M x
   no-block : (y : model.Place) → isSplit m (slotOf (M .node) x) ≡ false → M .join x ≡ to y → portSlots < M .portLen + growth 3 (M .freeBlocks 3) → NoSpace m M x
-  -- for one more subport: a larger block
+  -- for one more subport: a larger block; none is large enough for more ports than a node may have
   no-subport : (c : ℕ) (k : NodeMeta) → isHidden m c ≡ true → M .join x ≡ to (copyPlace m c) → AllLinked M c (x .side) → M .node c ≡ live k
-      → k .capacity ≤ suc (k .incoming + k .outgoing) → suc (k .incoming + k .outgoing) ≤ nodePorts
+      → k .capacity ≤ suc (k .incoming + k .outgoing)
       → portSlots < M .portLen + growth (roundUp (suc (k .incoming + k .outgoing))) (M .freeBlocks (roundUp (suc (k .incoming + k .outgoing)))) → NoSpace m M x
-  -- a node of 1,024 ports would want a block of 2,048
-  no-larger : (c : ℕ) (k : NodeMeta) → isHidden m c ≡ true → M .join x ≡ to (copyPlace m c) → AllLinked M c (x .side) → M .node c ≡ live k
-      → k .incoming + k .outgoing ≡ 1024 → portSlots < M .portLen + growth 2048 (M .freeBlocks 2048) → NoSpace m M x
 
 -- What a preparation of an end of the port at x says.
 abbrev pub PreparedSays : MultiPortGraph → Model → model.Place → Prepared → Type 0

@@ -8,6 +8,7 @@ use crate::marks::put_mark;
 use crate::marks::wide;
 use crate::multiportgraph::MultiPortGraph;
 use portgraph::direction::Direction;
+use portgraph::index::NODE_PORTS;
 use portgraph::index::NodeIndex;
 use portgraph::index::PORT_SLOTS;
 use portgraph::index::PortIndex;
@@ -22,6 +23,9 @@ ghost use Rattle.portgraph.specs.Entries.{sideNumber};
 ghost use Rattle.multiportgraph.specs.Calls.{split, grow, prepare, copyIn, copyOut, moreIn, moreOut};
 ghost use Rattle.multiportgraph.specs.Inner.{MultiWf};
 ghost use Rattle.multiportgraph.specs.Forms.{preparedAs, lowestUnlinked};
+
+// A move list that is long enough for every node.
+const MOVES: usize = 3 * NODE_PORTS;
 
 // A prepared end: the graph, the inner port and its offset; or, where there is no room, the graph as it was.
 pub struct Prepared {
@@ -117,7 +121,7 @@ impl MultiPortGraph {
         let outgoing = graph.num_ports(NodeIndex(node), Direction::Outgoing);
         let more_in = incoming + 1 - direction_step(direction);
         let more_out = outgoing + direction_step(direction);
-        let mut moves = [0u32; 3072];
+        let mut moves = [0u32; MOVES];
         let sized = graph.set_num_ports(NodeIndex(node), more_in, more_out, &mut moves);
         let answer = sized.answer;
         let LowerSet::Set(_) = answer else {

@@ -90,7 +90,7 @@ add-self-2 c = let h = few-subs (c .before .before .before .before .before .befo
 returns-2 : tie.Need-returns-2
 returns-2 c =
     split-done (c .before .before .before .before .before .before .before .before .before .before .before .before .before .before .before .before .before .before .before .before .before .before .before .before .before .before .before .before .args .t1) (c .before .before .before .before .before .before .before .before .before .before .before .before .before .before .before .before .before .before .before .before .before .before .before .before .before .before .before .before .args .port) (c .before .before .before .before .before .before .before .before .before .before .before .before .before .before .before .before .before .before .before .before .before .before .before .before .before .before .before .before .args .direction) (c .before .before .before .before .before .before .before .before .before .before .before .before .before .before .before .before .before .before .before .before .before .before .before .before .before .before .copy-in .ensures) (c .before .before .before .before .before .before .before .before .before .before .before .before .before .before .before .before .before .before .before .before .before .before .before .before .before .copy-out .ensures) (c .before .before .before .before .before .before .before .before .before .before .before .before .before .before .before .before .before .before .before .before .before .before .before .before .add-node .ensures .0)
-    (c .before .before .before .before .before .before .before .before .before .before .before .before .before .before .before .before .before .before .before .before .before .before .before .before .before .before .before .before .pre .fine .marksLong) (c .before .before .before .before .before .before .before .before .before .before .before .before .before .before .before .before .before .before .before .before .before .before .before .before .before .before .before .before .pre .fine .flagsLong) (c .before .before .before .before .before .before .before .before .before .before .before .before .before .before .before .before .before .before .before .before .before .before .answer .given .1) (c .before .before .before .before .before .before .before .before .before .before .before .before .before .before .before .before .before .before .before .reverse .ensures) (c .before .before .before .before .before .before .before .before .before .before .before .before .before .before .before .before .before .before .port-of .ensures) (c .before .before .before .before .before .before .before .before .before .before .before .before .before .before .before .before .before .port-of2 .ensures) (c .before .before .before .before .before .before .before .before .before .before .before .before .before .before .before .before .port-of3 .ensures)
+    (c .before .before .before .before .before .before .before .before .before .before .before .before .before .before .before .before .before .before .before .before .before .before .before .before .before .before .before .before .pre .fine .marksLong) (c .before .before .before .before .before .before .before .before .before .before .before .before .before .before .before .before .before .before .before .before .before .before .before .before .before .before .before .before .pre .fine .flagsLong) (c .before .before .before .before .before .before .before .before .before .before .before .before .before .before .before .before .before .before .before .before .before .before .answer .given .1) (c .before .before .before .before .before .before .before .before .before .before .before .before .before .before .before .before .before .before .before .reverse .ensures .0) (c .before .before .before .before .before .before .before .before .before .before .before .before .before .before .before .before .before .before .port-of .ensures) (c .before .before .before .before .before .before .before .before .before .before .before .before .before .before .before .before .before .port-of2 .ensures) (c .before .before .before .before .before .before .before .before .before .before .before .before .before .before .before .before .port-of3 .ensures)
     (c .before .before .before .before .before .before .before .before .before .before .before .before .before .before .before .far-port .ensures) (c .before .before .before .before .before .before .before .before .before .before .before .before .before .before .unlink-port .ensures .0) (c .before .before .before .before .before .before .before .before .before .before .before .before .link-ports .ensures .0) (c .before .before .before .before .before .before .before .before .before .before .link-ports2 .ensures .0)
     (c .before .before .before .before .before .before .before .wide .ensures) (c .before .before .before .before .before .before .put-mark .ensures) (c .before .before .before .before .wide2 .ensures) (c .before .before .before .put-mark2 .ensures) (c .before .wide3 .ensures) (c .put-flag .ensures)
 

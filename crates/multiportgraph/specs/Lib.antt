@@ -47,6 +47,7 @@ pub mod BookLaws
 pub mod WireRule
 pub mod Theorems
 pub mod CountLaws
+pub mod PortListing
 pub mod HistoryCounts
 pub mod RefusalLaws
 pub mod SpaceLaws

@@ -50,6 +50,7 @@ pub mod CountLaws
 pub mod PortListing
 pub mod HistoryCounts
 pub mod RefusalLaws
+pub mod StartLaws
 pub mod SpaceLaws
 -- steps that the functions' proofs cite
 pub mod FormSteps

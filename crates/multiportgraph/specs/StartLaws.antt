@@ -130,3 +130,106 @@ module _ {m : MultiPortGraph} {M : Model} (f : Fine m M) where
       go (no-node h) e = let z = start-unknown n h in absurd (zero-is-not-one (cc))
       go (hidden-node h) e = let z = start-hidden n h in absurd (zero-is-not-one (cc))
       go (block-node k b) e = (k, b)
+
+  -- From one node to another.
+
+  not-contained : (n : ℕ) → M .node n ≡ gone → containsNode (m .graph) n ≡ false
+  not-contained n e = ap isSome (gone-has-no-meta (f .good) (f .holds) n e)
+
+  contained : (n : ℕ) → (M .node n ≡ gone → ⊥) → containsNode (m .graph) n ≡ true
+  contained n h = go (M .node n) refl
+    where
+      go : (v : Slots) → M .node n ≡ v → containsNode (m .graph) n ≡ true
+      go gone e = absurd (h e)
+      go (live k) e = ap isSome (meta-of-node (f .good) (f .holds) n k e)
+
+  block-live : (n : ℕ) (k : NodeMeta) → BlockIs m M n k → M .node n ≡ gone → ⊥
+  block-live n k b e = gone-not-live e (b .1)
+
+  between-live : (n k : ℕ) → (M .node n ≡ gone → ⊥) → (M .node k ≡ gone → ⊥) → startBetween m n k ≡ pick (isHidden m n) (refused HiddenNode) (startAtNode m k)
+  unfolding startBetween
+  between-live n k h j = rw (contained n h, contained k j)
+
+  pub start-between-refuses : (n k : ℕ) (r : Refusal) → BetweenRefused m M n k r → startBetween m n k ≡ refused r
+  unfolding startBetween
+  start-between-refuses n k r (between-unknown (inl e)) = rw (not-contained n e)
+  start-between-refuses n k r (between-unknown (inr e)) = go (containsNode (m .graph) n)
+    where
+      go : (b : Bool) →
+          pick b (pick (containsNode (m .graph) k) (pick (isHidden m n) (refused HiddenNode) (startAtNode m k)) (refused UnknownNode)) (refused UnknownNode)
+          ≡ refused UnknownNode
+      go true = rw (not-contained k e)
+      go false = refl
+  start-between-refuses n k r (between-hidden h j (inl t)) = between-live n k h j ∙ rw t
+  start-between-refuses n k r (between-hidden h j (inr t)) = between-live n k h j ∙ go (isHidden m n)
+    where
+      go : (b : Bool) → pick b (refused HiddenNode) (startAtNode m k) ≡ refused HiddenNode
+      go true = refl
+      go false = start-hidden k t
+
+  -- both are blocks, or the start is refused with its condition
+  data BetweenIs (n k : ℕ) : Type 0 where
+    refused-so : (r : Refusal) → BetweenRefused m M n k r → BetweenIs n k
+    both-blocks : (a b : NodeMeta) → BlockIs m M n a → BlockIs m M k b → BetweenIs n k
+
+  between-is : (n k : ℕ) → BetweenIs n k
+  between-is n k = go (node-is n) (node-is k)
+    where
+      go : NodeIs m M n → NodeIs m M k → BetweenIs n k
+      go (no-node e) j = refused-so UnknownNode (between-unknown (inl e))
+      go (hidden-node h) (no-node e) = refused-so UnknownNode (between-unknown (inr e))
+      go (hidden-node h) (hidden-node t) = refused-so HiddenNode (between-hidden (hidden-live n h) (hidden-live k t) (inl h))
+      go (hidden-node h) (block-node b t) = refused-so HiddenNode (between-hidden (hidden-live n h) (block-live k b t) (inl h))
+      go (block-node a h) (no-node e) = refused-so UnknownNode (between-unknown (inr e))
+      go (block-node a h) (hidden-node t) = refused-so HiddenNode (between-hidden (block-live n a h) (hidden-live k t) (inr t))
+      go (block-node a h) (block-node b t) = both-blocks a b h t
+
+  start-blocks : (n k : ℕ) (a b : NodeMeta) → BlockIs m M n a → BlockIs m M k b → startBetween m n k ≡ started
+  start-blocks n k a b h t = between-live n k (block-live n a h) (block-live k b t) ∙ rw (h .0) (start-block k b t)
+
+  pub start-between-refused : (n k : ℕ) (r : Refusal) → (startBetween m n k ≡ refused r) ↔ BetweenRefused m M n k r
+  start-between-refused n k r = (go (between-is n k), start-between-refuses n k r)
+    where
+      go : BetweenIs n k → startBetween m n k ≡ refused r → BetweenRefused m M n k r
+      go (refused-so s c) e = let q : s ≡ r = let z = start-between-refuses n k s c in cc in subst (BetweenRefused m M n k) q c
+      go (both-blocks a b h t) e = let z = start-blocks n k a b h t in absurd (zero-is-not-one (cc))
+
+  pub start-between-starts : (n k : ℕ) → (startBetween m n k ≡ started) ↔ ((a : NodeMeta) × (b : NodeMeta) × BlockIs m M n a × BlockIs m M k b)
+  start-between-starts n k = (go (between-is n k), (λ b. start-blocks n k (b .0) (b .1) (b .2) (b .3)))
+    where
+      go : BetweenIs n k → startBetween m n k ≡ started → (a : NodeMeta) × (b : NodeMeta) × BlockIs m M n a × BlockIs m M k b
+      go (refused-so s c) e = let z = start-between-refuses n k s c in absurd (zero-is-not-one (cc))
+      go (both-blocks a b h t) e = (a, b, h, t)
+
+  -- At a port.
+
+  block-port-seen : (p : ℕ) (x : model.Place) → OfBlock m M p x → seen m p ≡ visible (x .node) (x .side)
+  block-port-seen p x b = ap (seen m) (sym (b .1)) ∙ ends.seen-block f x (b .0)
+
+  -- what answers by the cases of a port number refuses with 7 and 8 alone
+  module _ {A : Type 0} (no : Refusal → A) (one : (r s : Refusal) → no r ≡ no s → r ≡ s) (p : ℕ) (answer : Port → A) (on-dead : answer dead ≡ no (UnknownPort (port# p)))
+      (on-hidden : answer hidden ≡ no (HiddenPort (port# p))) (given : (n : ℕ) (d : Direction) (r : Refusal) → answer (visible n d) ≡ no r → ⊥) where
+    port-refuses : (r : Refusal) → PortRefused m M p r → answer (seen m p) ≡ no r
+    port-refuses r (cut-dead d) = ap answer (ends.seen-dead f p d) ∙ on-dead
+    port-refuses r (cut-hidden h) = ap answer (ap (seen m) (sym (h .1 .1)) ∙ ends.seen-hidden f (h .0) (h .1 .0) (h .2)) ∙ on-hidden
+
+    by-port : (r : Refusal) → (answer (seen m p) ≡ no r) ↔ PortRefused m M p r
+    by-port r = (go (port-is f p), port-refuses r)
+      where
+        go : PortIs m M p → answer (seen m p) ≡ no r → PortRefused m M p r
+        go (no-port d) e = subst (PortRefused m M p) (one _ r (sym (port-refuses _ (cut-dead d)) ∙ e)) (cut-dead d)
+        go (hidden-port h) e = subst (PortRefused m M p) (one _ r (sym (port-refuses _ (cut-hidden h)) ∙ e)) (cut-hidden h)
+        go (block-port x b) e = absurd (given (x .node) (x .side) r (ap answer (sym (block-port-seen p x b)) ∙ e))
+
+  pub start-at-port-refused : (p : ℕ) (r : Refusal) → (startAtPort m p ≡ refused r) ↔ PortRefused m M p r
+  unfolding startAtPort
+  start-at-port-refused p r = by-port refused (λ r s e. cc) p (startSeen p) refl refl (λ n d r e. zero-is-not-one (cc)) r
+
+  pub start-at-port-starts : (p : ℕ) → (startAtPort m p ≡ started) ↔ ((x : model.Place) × OfBlock m M p x)
+  unfolding startAtPort
+  start-at-port-starts p = (go (port-is f p), (λ x. ap (startSeen p) (block-port-seen p (x .0) (x .1))))
+    where
+      go : PortIs m M p → startAtPort m p ≡ started → (x : model.Place) × OfBlock m M p x
+      go (no-port d) e = let z = start-at-port-refused p _ .1 (cut-dead d) in absurd (zero-is-not-one (cc))
+      go (hidden-port h) e = let z = start-at-port-refused p _ .1 (cut-hidden h) in absurd (zero-is-not-one (cc))
+      go (block-port x b) e = (x, b)

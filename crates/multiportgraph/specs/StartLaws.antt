@@ -35,6 +35,7 @@ use Rattle.multiportgraph.specs.Inner.{Fine, BlockIs, Seen}
 use Rattle.multiportgraph.specs.Ends as ends
 use Rattle.multiportgraph.specs.Listing.{length-each}
 use Rattle.multiportgraph.specs.CountLaws.{length-range}
+use Rattle.multiportgraph.specs.WireRule.{seen-live}
 use Rattle.multiportgraph.specs.RefusalLaws.{OfBlock, PortIs, no-port, hidden-port, block-port, port-is, RemoveRefused, remove-unknown, remove-hidden, CutRefused, cut-dead, cut-hidden}
 use Rattle.multiportgraph.specs.declared.multiportgraph.MultiPortGraph.{MultiPortGraph}
 use Rattle.multiportgraph.specs.declared.multiportgraph.Refusal.{Refusal}
@@ -233,3 +234,160 @@ module _ {m : MultiPortGraph} {M : Model} (f : Fine m M) where
       go (no-port d) e = let z = start-at-port-refused p _ .1 (cut-dead d) in absurd (zero-is-not-one (cc))
       go (hidden-port h) e = let z = start-at-port-refused p _ .1 (cut-hidden h) in absurd (zero-is-not-one (cc))
       go (block-port x b) e = (x, b)
+
+  -- The walks.
+
+  pub node-ports-refused : (n : NodeIndex) (sides : Sides) (r : Refusal) → (startNodePorts m n sides ≡ node-ports-start.Refused r) ↔ NodeRefused m M (n .0) r
+  node-ports-refused n sides r =
+      by-start node-ports-start.Refused (λ r s e. cc) (nodePortsFrom n sides) (λ r. refl) (λ r e. zero-is-not-one (cc)) (startAtNode m (n .0)) r _ (start-at-node-refused (n .0) r)
+
+  pub subports-refused : (n : NodeIndex) (sides : Sides) (r : Refusal) → (startSubports m n sides ≡ subports-start.Refused r) ↔ NodeRefused m M (n .0) r
+  subports-refused n sides r =
+      by-start subports-start.Refused (λ r s e. cc) (subportsFrom n sides) (λ r. refl) (λ r e. zero-is-not-one (cc)) (startAtNode m (n .0)) r _ (start-at-node-refused (n .0) r)
+
+  pub port-links-refused : (p : PortIndex) (r : Refusal) → (startPortLinks m p ≡ port-start.Refused r) ↔ PortRefused m M (p .0) r
+  port-links-refused p r =
+      by-start port-start.Refused (λ r s e. cc) (portLinksFrom p) (λ r. refl) (λ r e. zero-is-not-one (cc)) (startAtPort m (p .0)) r _ (start-at-port-refused (p .0) r)
+
+  pub node-links-refused : (n : NodeIndex) (sides : Sides) (lo hi : ℕ) (r : Refusal) → (startLinks m n sides lo hi ≡ links-start.Refused r) ↔ NodeRefused m M (n .0) r
+  node-links-refused n sides lo hi r =
+      by-start links-start.Refused (λ r s e. cc) (linksFrom n sides lo hi) (λ r. refl) (λ r e. zero-is-not-one (cc)) (startAtNode m (n .0)) r _ (start-at-node-refused (n .0) r)
+
+  pub neighbours-refused : (n : NodeIndex) (sides : Sides) (flag : Bool) (r : Refusal) → (startNeighbours m n sides flag ≡ neighbours-start.Refused r) ↔ NodeRefused m M (n .0) r
+  neighbours-refused n sides flag r =
+      by-start neighbours-start.Refused (λ r s e. cc) (neighboursFrom n sides flag) (λ r. refl) (λ r e. zero-is-not-one (cc)) (startAtNode m (n .0)) r _ (start-at-node-refused (n .0) r)
+
+  pub connections-refused : (n k : NodeIndex) (r : Refusal) → (startConnections m n k ≡ connections-start.Refused r) ↔ BetweenRefused m M (n .0) (k .0) r
+  connections-refused n k r =
+      by-start connections-start.Refused (λ r s e. cc) (connectionsFrom n k) (λ r. refl) (λ r e. zero-is-not-one (cc)) (startBetween m (n .0) (k .0)) r _ (start-between-refused (n .0) (k .0) r)
+
+  -- Lookups at a port.
+
+  pub direction-refused : (p : ℕ) (r : Refusal) → (directionOf m p ≡ direction-of.Refused r) ↔ PortRefused m M p r
+  unfolding directionOf
+  direction-refused p r = by-port direction-of.Refused (λ r s e. cc) p (directionSeen p) refl refl (λ n d r e. zero-is-not-one (cc)) r
+
+  pub direction-found : (p : ℕ) (x : model.Place) → OfBlock m M p x → directionOf m p ≡ direction-of.Found (x .side)
+  unfolding directionOf
+  direction-found p x b = ap (directionSeen p) (block-port-seen p x b)
+
+  pub node-refused : (p : ℕ) (r : Refusal) → (nodeOf m p ≡ node-of.Refused r) ↔ PortRefused m M p r
+  unfolding nodeOf
+  node-refused p r = by-port node-of.Refused (λ r s e. cc) p (nodeSeen p) refl refl (λ n d r e. zero-is-not-one (cc)) r
+
+  pub node-found : (p : ℕ) (x : model.Place) → OfBlock m M p x → nodeOf m p ≡ node-of.Found (node# (x .node))
+  unfolding nodeOf
+  node-found p x b = ap (nodeSeen p) (block-port-seen p x b)
+
+  pub offset-refused : (p : ℕ) (r : Refusal) → (offsetOf m p ≡ offset-of.Refused r) ↔ PortRefused m M p r
+  unfolding offsetOf
+  offset-refused p r = by-port offset-of.Refused (λ r s e. cc) p (offsetSeen m p) refl refl (λ n d r e. zero-is-not-one (cc)) r
+
+  pub offset-found : (p : ℕ) (x : model.Place) → OfBlock m M p x → offsetOf m p ≡ offset-of.Found (offsetOfPlace x)
+  unfolding offsetOf
+  offset-found p x b =
+      ap (offsetSeen m p) (block-port-seen p x b)
+      ∙ ap (λ (i : ℕ). offset-of.Found (record { direction = x .side; index = i })) (ap (positionOf (m .graph)) (sym (b .1)) ∙ ends.position-of f x (b .0 .0))
+
+  pub port-fan-out-refused : (p : ℕ) (r : Refusal) → (portFanOut m p ≡ count-of.Refused r) ↔ PortRefused m M p r
+  unfolding portFanOut
+  port-fan-out-refused p r = by-port count-of.Refused (λ r s e. cc) p (fanOutSeen m p) refl refl (λ n d r e. zero-is-not-one (cc)) r
+
+  pub contains-port-is : (p : ℕ) → (containsPortOf m p ≡ true) ↔ ((x : model.Place) × OfBlock m M p x)
+  unfolding containsPortOf
+  contains-port-is p = (go (seen m p) refl, (λ x. ap isSeen (block-port-seen p (x .0) (x .1))))
+    where
+      go : (v : Port) → seen m p ≡ v → isSeen (seen m p) ≡ true → (x : model.Place) × OfBlock m M p x
+      go dead e t = let z = ap isSeen e in absurd (zero-is-not-one (cc))
+      go hidden e t = let z = ap isSeen e in absurd (zero-is-not-one (cc))
+      go (visible n d) e t = let b = ends.block-seen f p n d e in (b .place, (b .isSeen, b .slot))
+
+  -- Lookups at a node.
+
+  count-refused : (n k : ℕ) (r : Refusal) → (counted (startAtNode m n) k ≡ count-of.Refused r) ↔ NodeRefused m M n r
+  count-refused n k r =
+      by-start count-of.Refused (λ r s e. cc) (λ v. counted v k) (λ r. refl) (λ r e. zero-is-not-one (cc)) (startAtNode m n) r _ (start-at-node-refused n r)
+
+  count-found : (n c : ℕ) (k : NodeMeta) → BlockIs m M n k → counted (startAtNode m n) c ≡ count-of.Count c
+  count-found n c k b = ap (λ (v : Start). counted v c) (start-block n k b)
+
+  pub num-ports-refused : (n : ℕ) (d : Direction) (r : Refusal) → (numPortsOf m n d ≡ count-of.Refused r) ↔ NodeRefused m M n r
+  unfolding numPortsOf
+  num-ports-refused n d r = count-refused n (numPorts (m .graph) n d) r
+
+  pub num-ports-found : (n : ℕ) (d : Direction) (k : NodeMeta) → BlockIs m M n k → numPortsOf m n d ≡ count-of.Count (portsOn k d)
+  unfolding numPortsOf
+  num-ports-found n d k b =
+      count-found n (numPorts (m .graph) n d) k b ∙ ap (λ (v : MaybeNodeMeta). count-of.Count (countIn v d)) (meta-of-node (f .good) (f .holds) n k (b .1))
+
+  pub capacity-refused : (n : ℕ) (r : Refusal) → (capacityOf m n ≡ count-of.Refused r) ↔ NodeRefused m M n r
+  unfolding capacityOf
+  capacity-refused n r = count-refused n (nodePortCapacity (m .graph) n) r
+
+  pub capacity-found : (n : ℕ) (k : NodeMeta) → BlockIs m M n k → capacityOf m n ≡ count-of.Count (k .capacity)
+  unfolding capacityOf
+  capacity-found n k b =
+      count-found n (nodePortCapacity (m .graph) n) k b ∙ ap (λ (v : MaybeNodeMeta). count-of.Count (capacityIn v)) (meta-of-node (f .good) (f .holds) n k (b .1))
+
+  pub node-fan-out-refused : (n : ℕ) (r : Refusal) → (nodeFanOut m n ≡ count-of.Refused r) ↔ NodeRefused m M n r
+  unfolding nodeFanOut
+  node-fan-out-refused n r = count-refused n (blockFanOut m n) r
+
+  pub port-index-refused : (n : ℕ) (o : PortOffset) (r : Refusal) → (portIndexOf m n o ≡ port-of.Refused r) ↔ NodeRefused m M n r
+  unfolding portIndexOf
+  port-index-refused n o r =
+      by-start port-of.Refused (λ r s e. cc) (λ v. portFound v (portIndex (m .graph) n o)) (λ r. refl) (never (portIndex (m .graph) n o)) (startAtNode m n) r _ (start-at-node-refused n r)
+    where
+      never : (v : MaybePortIndex) (r : Refusal) → portFound started v ≡ port-of.Refused r → ⊥
+      never (maybe-port.Some p) r e = zero-is-not-one (cc)
+      never maybe-port.None r e = zero-is-not-one (cc)
+
+  -- the port at a place; nothing where the block's side has no such position
+  pub port-index-found : (x : model.Place) → Seen m M x → portIndexOf m (x .node) (offsetOfPlace x) ≡ port-of.Found (port# (slotOf (M .node) x))
+  unfolding portIndexOf
+  port-index-found x s =
+      let b = seen-live f x s in
+      ap (λ (v : Start). portFound v (portIndex (m .graph) (x .node) (offsetOfPlace x))) (start-block (x .node) (b .0) (b .1))
+      ∙ ap (portFound started) (port-index-is (f .good) (f .holds) x (s .0))
+
+  pub port-index-nothing : (n : ℕ) (o : PortOffset) (k : NodeMeta) → BlockIs m M n k → portsOn k (o .direction) ≤ o .index → portIndexOf m n o ≡ port-of.Nothing
+  unfolding portIndexOf
+  port-index-nothing n o k b l =
+      let e : portIndex (m .graph) n o ≡ maybe-port.None =
+      ap (λ (v : MaybeNodeMeta). portIn v o) (meta-of-node (f .good) (f .holds) n k (b .1)) ∙ rw (le-ltb (o .index) (portsOn k (o .direction)) l) in
+      ap (λ (v : Start). portFound v (portIndex (m .graph) n o)) (start-block n k b) ∙ ap (portFound started) e
+
+-- Fan-out.
+
+-- a port's is the number of its subports in the listing
+pub fan-out-listed : (m : MultiPortGraph) (p : ℕ) (d : Direction) → fanOut m p d ≡ length (subportsOfPort m d p)
+unfolding fanOut subportsOfPort
+fan-out-listed m p d = go (isSplit m p)
+  where
+    go : (b : Bool) → pick b (subports m p d) 1 ≡ length (pick b (each (subport# p) (range 0 (subports m p d))) (subport# p 0 ∷ []))
+    go true = sym (length-each (subport# p) (range 0 (subports m p d)) ∙ length-range 0 (subports m p d))
+    go false = refl
+
+sum-listed : (m : MultiPortGraph) (d : Direction) (l : List ℕ) → sumOf (λ p. fanOut m p d) l ≡ length (gather (subportsOfPort m d) l)
+unfolding sumOf gather
+sum-listed m d [] = refl
+sum-listed m d (p ∷ l) =
+    let a = fan-out-listed m p d in
+    let b = sum-listed m d l in
+    let c = length-append (subportsOfPort m d p) (gather (subportsOfPort m d) l) in
+    omega arith
+
+-- a block's is the number of subports that its outgoing side lists
+pub block-fan-out-listed : (m : MultiPortGraph) (n : ℕ) → blockFanOut m n ≡ length (subportsOfSide m n Outgoing)
+unfolding blockFanOut subportsOfSide
+block-fan-out-listed m n = sum-listed m Outgoing (portsOfSide m Outgoing n)
+
+module _ {m : MultiPortGraph} {M : Model} (f : Fine m M) where
+  -- the calls answer so
+  pub port-fan-out-found : (p : ℕ) (x : model.Place) → OfBlock m M p x → portFanOut m p ≡ count-of.Count (length (subportsOfPort m (x .side) p))
+  unfolding portFanOut
+  port-fan-out-found p x b = ap (fanOutSeen m p) (block-port-seen f p x b) ∙ ap count-of.Count (fan-out-listed m p (x .side))
+
+  pub node-fan-out-found : (n : ℕ) (k : NodeMeta) → BlockIs m M n k → nodeFanOut m n ≡ count-of.Count (length (subportsOfSide m n Outgoing))
+  unfolding nodeFanOut
+  node-fan-out-found n k b = count-found f n (blockFanOut m n) k b ∙ ap count-of.Count (block-fan-out-listed m n)

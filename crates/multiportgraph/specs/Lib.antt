@@ -49,6 +49,7 @@ pub mod Theorems
 pub mod CountLaws
 pub mod PortListing
 pub mod HistoryCounts
+pub mod Kept
 pub mod RefusalLaws
 pub mod StartLaws
 pub mod SpaceLaws

@@ -1,10 +1,10 @@
 -- The counts of the graph against the book: after every list of calls the visible nodes, ports and links are as many as the
 -- blocks, their ports and the wires that the history made and has not undone.
 use mathlib.Core.Path.{_≡_, refl, sym, ap, _∙_, subst}
-use mathlib.Core.Bool.{Bool, true, false}
+use mathlib.Core.Bool.{Bool, true}
 use mathlib.Core.List.{List, [], _∷_, _++_}
 use mathlib.Core.Logic.{inl, inr}
-use Prim.Native.Nat.{ℕ, suc, _+_}
+use Prim.Native.Nat.{ℕ, _+_}
 use native.Mathlib.Omega.{arith}
 use lib.ListN.{length}
 use Rattle.portgraph.specs.Model.{Model}
@@ -13,7 +13,7 @@ use Rattle.portgraph.specs.declared.node_entry.NodeMeta.{NodeMeta}
 use Rattle.multiportgraph.specs.Calls.{visibleNodes, visiblePorts, visibleLinks}
 use Rattle.multiportgraph.specs.Wires.{range, gather, each, Wire, Walked, wirePlaces, walked, wiresWalked, allWires, portsOfSide}
 use Rattle.multiportgraph.specs.Book.{Call, Block, Book}
-use Rattle.multiportgraph.specs.History.{State, run, Once}
+use Rattle.multiportgraph.specs.History.{State, run}
 use Rattle.multiportgraph.specs.BookLaws.{count, same-count}
 use Rattle.multiportgraph.specs.Listing.{Member, Apart, member-each, each-member, rising-each, length-each}
 use Rattle.multiportgraph.specs.WalkRule.{walk-is-listing, walked-is-wires, walked-once}

@@ -3,8 +3,8 @@
 use mathlib.Core.Path.{_≡_, refl, sym, _∙_, ap, subst}
 use mathlib.Core.Bool.{Bool, true, false}
 use mathlib.Core.List.{List, [], _∷_, _++_}
-use mathlib.Core.Logic.{_⊎_, inl, inr, ⊎-elim}
-use Prim.Native.Nat.{ℕ, _+_, _≤_, _<_}
+use mathlib.Core.Logic.{⊎-elim}
+use Prim.Native.Nat.{ℕ, _+_, _<_}
 use native.Mathlib.Omega.{arith}
 use lib.ListN.{length}
 use Rattle.portgraph.specs.Limits.{nodeSlots, portSlots}
@@ -19,7 +19,7 @@ use Rattle.portgraph.specs.declared.direction.Direction.the-variants.{Incoming,
 use Rattle.portgraph.specs.declared.node_entry.NodeMeta.{NodeMeta}
 use Rattle.multiportgraph.specs.Reading.{portOf, isHidden, Port, dead, hidden, visible, seen}
 use Rattle.multiportgraph.specs.Calls.{visiblePorts}
-use Rattle.multiportgraph.specs.Wires.{range, gather, those, each, isBlock, blocks, portsOfSide}
+use Rattle.multiportgraph.specs.Wires.{range, gather, those, isBlock, blocks, portsOfSide}
 use Rattle.multiportgraph.specs.Walks.{isSeen, allPorts, portsByBlock}
 use Rattle.multiportgraph.specs.Inner.{inner#, Fine, BlockIs, Seen}
 use Rattle.multiportgraph.specs.Ends as ends
@@ -67,7 +67,7 @@ blocks-as-many {a = a} {b = b} r s =
 abbrev pub bothSides : MultiPortGraph → ℕ → List ℕ
 bothSides m n = portsOfSide m Incoming n ++ portsOfSide m Outgoing n
 
--- a number is the port of a place, if a walk shows it
+-- a port number that walks show
 abbrev shown : MultiPortGraph → ℕ → Bool
 shown m p = isSeen (seen m p)
 

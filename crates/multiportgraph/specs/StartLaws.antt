@@ -3,21 +3,20 @@
 -- lookup answers what the graph has; fan-out is the number of subports listed.
 use mathlib.Core.Path.{_≡_, refl, sym, _∙_, ap, subst}
 use mathlib.Core.Bool.{Bool, true, false}
-use mathlib.Core.List.{List, [], _∷_, _++_}
-use mathlib.Core.Logic.{_⊎_, inl, inr, ⊎-elim, _↔_}
-use Prim.Native.Nat.{ℕ, zero, suc, _+_, _≤_, _<_}
+use mathlib.Core.List.{List, [], _∷_}
+use mathlib.Core.Logic.{_⊎_, inl, inr, _↔_}
+use Prim.Native.Nat.{ℕ, _≤_}
 use native.Mathlib.Omega.{arith}
-use lib.Dec.{ltb}
 use lib.ListN.{length, length-append}
 use borrow.Author.Tests.{le-ltb}
 use Rattle.portgraph.specs.Entries.{pick, portsOn}
-use Rattle.portgraph.specs.Lookups.{node#, port#, containsNode, isSome, metaAt, numPorts, countIn, capacityIn, nodePortCapacity, portIndex, portIn}
+use Rattle.portgraph.specs.Lookups.{node#, port#, containsNode, isSome, numPorts, countIn, capacityIn, nodePortCapacity, portIndex, portIn}
 use Rattle.portgraph.specs.Model as model
-use Rattle.portgraph.specs.Model.{Model, Slots, gone, live, Valid, slotOf}
+use Rattle.portgraph.specs.Model.{Model, Slots, gone, live, slotOf}
 use Rattle.portgraph.specs.GoodSlots.{zero-is-not-one, gone-not-live}
 use Rattle.portgraph.specs.PlaceLaws.{offsetOfPlace, meta-of-node, gone-has-no-meta, port-index-is}
 use Rattle.portgraph.specs.declared.direction.Direction.{Direction}
-use Rattle.portgraph.specs.declared.direction.Direction.the-variants.{Incoming, Outgoing}
+use Rattle.portgraph.specs.declared.direction.Direction.the-variants.{Outgoing}
 use Rattle.portgraph.specs.declared.index.NodeIndex.{NodeIndex}
 use Rattle.portgraph.specs.declared.index.PortIndex.{PortIndex}
 use Rattle.portgraph.specs.declared.index.PortOffset.{PortOffset}
@@ -26,7 +25,6 @@ use Rattle.portgraph.specs.declared.index.MaybePortIndex.the-variants as maybe-
 use Rattle.portgraph.specs.declared.iter.Sides.{Sides}
 use Rattle.portgraph.specs.declared.node_entry.NodeMeta.{NodeMeta}
 use Rattle.portgraph.specs.declared.node_entry.MaybeNodeMeta.{MaybeNodeMeta}
-use Rattle.portgraph.specs.declared.node_entry.MaybeNodeMeta.the-variants as maybe-meta
 use Rattle.multiportgraph.specs.Reading.{isHidden, isSplit, subports, positionOf, subport#, Port, dead, hidden, visible, seen}
 use Rattle.multiportgraph.specs.Wires.{range, gather, each, portsOfSide, subportsOfPort, subportsOfSide}
 use Rattle.multiportgraph.specs.Walks.{fanOut, sumOf, blockFanOut, Start, started, refused, startAtNode, startBetween, startSeen, startAtPort, isSeen, nodePortsFrom, startNodePorts, subportsFrom, startSubports, portLinksFrom, startPortLinks, linksFrom, startLinks, neighboursFrom, startNeighbours, connectionsFrom, startConnections}
@@ -40,7 +38,6 @@ use Rattle.multiportgraph.specs.RefusalLaws.{OfBlock, PortIs, no-port, h
 use Rattle.multiportgraph.specs.declared.multiportgraph.MultiPortGraph.{MultiPortGraph}
 use Rattle.multiportgraph.specs.declared.multiportgraph.Refusal.{Refusal}
 use Rattle.multiportgraph.specs.declared.multiportgraph.Refusal.the-variants.{UnknownNode, HiddenNode, UnknownPort, HiddenPort}
-use Rattle.multiportgraph.specs.declared.multiportgraph.SubportIndex.{SubportIndex}
 use Rattle.multiportgraph.specs.declared.iter.NodePortsStart.the-variants as node-ports-start
 use Rattle.multiportgraph.specs.declared.iter.NodeSubportsStart.the-variants as subports-start
 use Rattle.multiportgraph.specs.declared.iter.PortLinksStart.the-variants as port-start
@@ -50,9 +47,7 @@ use Rattle.multiportgraph.specs.declared.iter.NodeConnectionsStart.the-v
 use Rattle.multiportgraph.specs.declared.lookups.DirectionAnswer.the-variants as direction-of
 use Rattle.multiportgraph.specs.declared.lookups.NodeAnswer.the-variants as node-of
 use Rattle.multiportgraph.specs.declared.lookups.OffsetAnswer.the-variants as offset-of
-use Rattle.multiportgraph.specs.declared.lookups.PortAnswer.{PortAnswer}
 use Rattle.multiportgraph.specs.declared.lookups.PortAnswer.the-variants as port-of
-use Rattle.multiportgraph.specs.declared.lookups.CountAnswer.{CountAnswer}
 use Rattle.multiportgraph.specs.declared.lookups.CountAnswer.the-variants as count-of
 
 -- Conditions.

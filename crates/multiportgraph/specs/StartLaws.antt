@@ -7,12 +7,15 @@ use mathlib.Core.List.{List, [], _∷_}
 use mathlib.Core.Logic.{_⊎_, inl, inr, _↔_}
 use Prim.Native.Nat.{ℕ, _≤_}
 use native.Mathlib.Omega.{arith}
+use lib.Dec.{eqb}
 use lib.ListN.{length, length-append}
-use borrow.Author.Tests.{le-ltb}
+use borrow.Author.Tests.{le-ltb, eqb-true, eq-eqb}
+use Rattle.portgraph.specs.Limits.{nodeSlots}
 use Rattle.portgraph.specs.Entries.{pick, portsOn}
 use Rattle.portgraph.specs.Lookups.{node#, port#, containsNode, isSome, numPorts, countIn, capacityIn, nodePortCapacity, portIndex, portIn}
 use Rattle.portgraph.specs.Model as model
-use Rattle.portgraph.specs.Model.{Model, Slots, gone, live, slotOf}
+use Rattle.portgraph.specs.Model.{Model, Slots, gone, live, slotOf, isLive, portsOf}
+use Rattle.portgraph.specs.Sums.{total-same}
 use Rattle.portgraph.specs.GoodSlots.{zero-is-not-one, gone-not-live}
 use Rattle.portgraph.specs.PlaceLaws.{offsetOfPlace, meta-of-node, gone-has-no-meta, port-index-is}
 use Rattle.portgraph.specs.declared.direction.Direction.{Direction}
@@ -26,13 +29,16 @@ use Rattle.portgraph.specs.declared.iter.Sides.{Sides}
 use Rattle.portgraph.specs.declared.node_entry.NodeMeta.{NodeMeta}
 use Rattle.portgraph.specs.declared.node_entry.MaybeNodeMeta.{MaybeNodeMeta}
 use Rattle.multiportgraph.specs.Reading.{isHidden, isSplit, subports, positionOf, subport#, Port, dead, hidden, visible, seen}
-use Rattle.multiportgraph.specs.Wires.{range, gather, each, portsOfSide, subportsOfPort, subportsOfSide}
+use Rattle.multiportgraph.specs.Calls.{visibleNodes}
+use Rattle.multiportgraph.specs.Wires.{range, gather, each, blocks, portsOfSide, subportsOfPort, subportsOfSide}
 use Rattle.multiportgraph.specs.Walks.{fanOut, sumOf, blockFanOut, Start, started, refused, startAtNode, startBetween, startSeen, startAtPort, isSeen, nodePortsFrom, startNodePorts, subportsFrom, startSubports, portLinksFrom, startPortLinks, linksFrom, startLinks, neighboursFrom, startNeighbours, connectionsFrom, startConnections}
-use Rattle.multiportgraph.specs.Lookups.{directionSeen, directionOf, nodeSeen, nodeOf, offsetSeen, offsetOf, fanOutSeen, portFanOut, containsPortOf, counted, numPortsOf, capacityOf, nodeFanOut, portFound, portIndexOf}
+use Rattle.multiportgraph.specs.Lookups.{directionSeen, directionOf, nodeSeen, nodeOf, offsetSeen, offsetOf, fanOutSeen, portFanOut, containsPortOf, counted, numPortsOf, capacityOf, nodeFanOut, portFound, portIndexOf, emptyOf}
 use Rattle.multiportgraph.specs.Inner.{Fine, BlockIs, Seen}
 use Rattle.multiportgraph.specs.Ends as ends
-use Rattle.multiportgraph.specs.Listing.{length-each}
-use Rattle.multiportgraph.specs.CountLaws.{length-range}
+use Rattle.multiportgraph.specs.Listing.{Member, length-each}
+use Rattle.multiportgraph.specs.BookLaws.{total-zeros}
+use Rattle.multiportgraph.specs.CountLaws.{length-range, visible-nodes}
+use Rattle.multiportgraph.specs.PortListing.{blocks-list}
 use Rattle.multiportgraph.specs.WireRule.{seen-live}
 use Rattle.multiportgraph.specs.RefusalLaws.{OfBlock, PortIs, no-port, hidden-port, block-port, port-is, RemoveRefused, remove-unknown, remove-hidden, CutRefused, cut-dead, cut-hidden}
 use Rattle.multiportgraph.specs.declared.multiportgraph.MultiPortGraph.{MultiPortGraph}
@@ -386,3 +392,39 @@ module _ {m : MultiPortGraph} {M : Model} (f : Fine m M) where
   pub node-fan-out-found : (n : ℕ) (k : NodeMeta) → BlockIs m M n k → nodeFanOut m n ≡ count-of.Count (length (subportsOfSide m n Outgoing))
   unfolding nodeFanOut
   node-fan-out-found n k b = count-found f n (blockFanOut m n) k b ∙ ap count-of.Count (block-fan-out-listed m n)
+
+-- Empty: no blocks.
+
+nothing-listed : {A : Type 0} (l : List A) → length l ≡ 0 → l ≡ []
+nothing-listed [] e = refl
+nothing-listed (x ∷ l) e = absurd (omega arith)
+
+module _ {m : MultiPortGraph} {M : Model} (f : Fine m M) where
+  -- where there are no blocks there are no hidden nodes either
+  all-gone : blocks m ≡ [] → (n : ℕ) → M .node n ≡ gone
+  all-gone e n = go (node-is f n)
+    where
+      no-block : (n : ℕ) (k : NodeMeta) → BlockIs m M n k → ⊥
+      no-block n k b = subst (Member n) e (blocks-list f .all n k b)
+
+      go : NodeIs m M n → M .node n ≡ gone
+      go (no-node h) = h
+      go (hidden-node h) = let k = f .copy n h in let b = seen-live f (k .main) (ends.main-seen f n (k .main) h (k .joined)) in absurd (no-block (k .main .node) (b .0) (b .1))
+      go (block-node k b) = absurd (no-block n k b)
+
+  pub empty-is : (emptyOf m ≡ true) ↔ (blocks m ≡ [])
+  unfolding emptyOf visibleNodes
+  empty-is = (there (eqb (m .graph .«node_count») 0) refl, back)
+    where
+      there : (b : Bool) → eqb (m .graph .«node_count») 0 ≡ b → pick b (eqb (m .graph .«port_count») 0) false ≡ true → blocks m ≡ []
+      there true e t =
+          let z : m .graph .«node_count» ≡ 0 = eqb-true _ _ e in
+          let v = visible-nodes f in
+          nothing-listed (blocks m) (omega arith)
+      there false e t = absurd (zero-is-not-one (cc))
+
+      back : blocks m ≡ [] → pick (eqb (m .graph .«node_count») 0) (eqb (m .graph .«port_count») 0) false ≡ true
+      back e =
+          let n : m .graph .«node_count» ≡ 0 = f .holds .nodeCount ∙ (total-same nodeSlots (λ n. isLive (M .node n)) (λ n. 0) (λ n l. ap isLive (all-gone e n)) ∙ total-zeros nodeSlots) in
+          let p : m .graph .«port_count» ≡ 0 = f .holds .portCount ∙ (total-same nodeSlots (λ n. portsOf (M .node n)) (λ n. 0) (λ n l. ap portsOf (all-gone e n)) ∙ total-zeros nodeSlots) in
+          rw (eq-eqb _ _ n, eq-eqb _ _ p)

@@ -34,6 +34,7 @@ pub mod Ends
 pub mod Listing
 pub mod WalkRule
 pub mod ScanLaws
+pub mod Cursors
 pub mod Frame
 pub mod PlainLaws
 pub mod CopyLaws

@@ -35,6 +35,7 @@ pub mod Listing
 pub mod WalkRule
 pub mod ScanLaws
 pub mod Cursors
+pub mod WalkStepLaws
 pub mod Frame
 pub mod PlainLaws
 pub mod CopyLaws

@@ -3,17 +3,17 @@
 use mathlib.Core.Path.{_≡_, refl, sym, _∙_, ap, subst}
 use mathlib.Core.Bool.{Bool, true, false}
 use mathlib.Core.List.{List, [], _∷_, _++_, append-assoc, append-nil}
-use mathlib.Core.Logic.{_⊎_, inl, inr, ⊎-elim}
-use Prim.Native.Nat.{ℕ, zero, suc, _+_, _-_, _≤_, _<_}
+use mathlib.Core.Logic.{inl, inr}
+use Prim.Native.Nat.{ℕ, zero, suc, _-_, _≤_, _<_}
 use native.Mathlib.Omega.{arith}
-use lib.ListN.{length, length-append}
+use lib.ListN.{length}
 use Rattle.portgraph.specs.Entries.{pick}
 use Rattle.portgraph.specs.GoodSlots.{zero-is-not-one}
 use Rattle.portgraph.specs.WalkLaws.{Walked, whole, unfinished, more}
 use Rattle.multiportgraph.specs.Wires.{those, each}
 use Rattle.multiportgraph.specs.Walks.{firstOf, lastOf}
 use Rattle.multiportgraph.specs.Ends.{each-append}
-use Rattle.multiportgraph.specs.Listing.{Member, Rising, Apart, member-left, member-right, member-append, member-those, those-all, those-append, rising-those, length-each}
+use Rattle.multiportgraph.specs.Listing.{Member, Rising, Apart, member-left, member-right, member-those, those-all, those-append, rising-those}
 
 -- What a step answers: an item with the cursor moved, or the end.
 pub data Stepped (B C : Type 0) : Type 0 where
@@ -259,6 +259,37 @@ module _ {B : Type 0} where
         s,
       )
 
+-- The first and the last of a list, read in another form.
+
+module _ {S T : Type 0} (g : S → T) where
+  pub first-map : {A : Type 0} (e : S) (f : A → S) (l : List A) → g (firstOf e f l) ≡ firstOf (g e) (λ x. g (f x)) l
+  unfolding firstOf
+  first-map e f [] = refl
+  first-map e f (x ∷ l) = refl
+
+  pub last-map : {A : Type 0} (e : S) (f : A → S) (l : List A) → g (lastOf e f l) ≡ lastOf (g e) (λ x. g (f x)) l
+  unfolding lastOf
+  last-map e f [] = refl
+  last-map e f (x ∷ l) = last-map (f x) f l
+
+  -- where a step ends unless a test holds
+  pub first-if : {A : Type 0} (b : Bool) (e : S) (f : A → S) (l : List A) → g (pick b (firstOf e f l) e) ≡ firstOf (g e) (λ x. g (f x)) (pick b l [])
+  unfolding firstOf
+  first-if true e f l = first-map e f l
+  first-if false e f l = refl
+
+pub each-same : {A : Type 0} (l : List A) → each (λ x. x) l ≡ l
+unfolding each
+each-same [] = refl
+each-same {A} (x ∷ l) = ap (λ (r : List A). x ∷ r) (each-same l)
+
+pub rising-as : {A : Type 0} (R S : A → A → Type 0) (l : List A) → ((x y : A) → Member x l → Member y l → R x y → S x y) → Rising R l → Rising S l
+rising-as R S [] h r = tt
+rising-as R S (x ∷ l) h r = ((λ y i. h x y (inl refl) (inr i) (r .0 y i)), rising-as R S l (λ y z i j. h y z (inr i) (inr j)) (r .1))
+
+pub rising-apart : {A : Type 0} (R : A → A → Type 0) (l : List A) → ((x : A) → R x x → ⊥) → Rising R l → Rising Apart l
+rising-apart R l h r = rising-as R Apart l (λ x y i j q e. h x (subst (R x) (sym e) q)) r
+
 -- A list that ascends, and what a cursor at a position leaves of it.
 
 pub record Listed (A B K C : Type 0) : Type 1 where
@@ -419,3 +450,17 @@ module _ {A B K C : Type 0} (l : Listed A B K C) where
             turn choices k (withoutLast x r) (lastIn x r) t s
             (go choices (b .next k (lastIn x r)) (withoutLast x r) (back-stays b k (lastIn x r) (withoutLast x r) t s) (back-left b k (lastIn x r) (withoutLast x r) s))
             ∙ ap (λ (v : List A). takeEnds (back ∷ choices) (each (l .out) v)) (sym (last-splits x r))
+
+-- a cursor at which both steps answer the end gives nothing, however often it is asked
+pub walk-nothing : {B C : Type 0} (step : C → Stepped B C) (fuel : ℕ) (c : C) → 0 < fuel → step c ≡ end → walk step fuel c ≡ whole []
+unfolding walk
+walk-nothing step zero c h e = absurd (omega arith)
+walk-nothing step (suc fuel) c h e = ap (onward (walk step fuel)) e
+
+pub ends-nothing : {B C : Type 0} (step stepBack : C → Stepped B C) (choices : List From) (c : C) → step c ≡ end → stepBack c ≡ end → walkEnds step stepBack choices c ≡ takeEnds choices []
+unfolding walkEnds takeEnds
+ends-nothing step stepBack [] c e d = refl
+ends-nothing {B} step stepBack (front ∷ choices) c e d =
+    ap (answered c (walkEnds step stepBack choices)) e ∙ ap (λ (r : List (Answer B)). none ∷ r) (ends-nothing step stepBack choices c e d)
+ends-nothing {B} step stepBack (back ∷ choices) c e d =
+    ap (answered c (walkEnds step stepBack choices)) d ∙ ap (λ (r : List (Answer B)). none ∷ r) (ends-nothing step stepBack choices c e d)

@@ -36,6 +36,7 @@ pub mod WalkRule
 pub mod ScanLaws
 pub mod Cursors
 pub mod WalkStepLaws
+pub mod BlockWalkLaws
 pub mod Frame
 pub mod PlainLaws
 pub mod CopyLaws

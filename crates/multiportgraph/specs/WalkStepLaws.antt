@@ -1,33 +1,27 @@
 -- Every walk of 01 gives its listing whole, in order, and then the end; from any cursor it gives what the cursor leaves of the
 -- listing. Walks with two ends do so from the back too, and by turns in any order no item comes twice.
-use mathlib.Core.Path.{_≡_, refl, sym, _∙_, ap, subst}
+use mathlib.Core.Path.{_≡_, refl, sym, _∙_, ap}
 use mathlib.Core.Bool.{Bool, true, false}
-use mathlib.Core.List.{List, [], _∷_, _++_}
-use mathlib.Core.Logic.{_⊎_, inl, inr, ⊎-elim}
-use Prim.Native.Nat.{ℕ, zero, suc, _+_, _-_, _≤_, _<_}
+use mathlib.Core.List.{List, [], _∷_}
+use Prim.Native.Nat.{ℕ, suc, _-_, _≤_, _<_}
 use native.Mathlib.Omega.{arith}
 use lib.Dec.{eqb, leb, ltb}
 use lib.ListN.{length}
-use borrow.Author.Tests.{lt-ltb, le-ltb, le-leb, lt-leb, eq-eqb, ne-eqb, ltb-true, leb-true, eqb-true, eqb-false}
+use borrow.Author.Tests.{lt-ltb, le-ltb, le-leb, lt-leb, ne-eqb, ltb-true, leb-true, eqb-true, eqb-false}
 use Rattle.portgraph.specs.Limits.{portSlots, nodeSlots}
 use Rattle.portgraph.specs.Entries.{pick}
-use Rattle.portgraph.specs.Lookups.{node#, port#, containsNode}
+use Rattle.portgraph.specs.Lookups.{node#, port#}
 use Rattle.portgraph.specs.GoodSlots.{zero-is-not-one}
-use Rattle.portgraph.specs.WalkLaws.{Walked, whole, unfinished, more}
-use Rattle.portgraph.specs.declared.index.NodeIndex.{NodeIndex}
+use Rattle.portgraph.specs.WalkLaws.{whole}
 use Rattle.portgraph.specs.declared.index.PortIndex.{PortIndex}
 use Rattle.portgraph.specs.declared.direction.Direction.{Direction}
-use Rattle.portgraph.specs.declared.direction.Direction.the-variants.{Incoming, Outgoing}
-use Rattle.portgraph.specs.declared.iter.Sides.{Sides}
-use Rattle.portgraph.specs.declared.iter.Sides.the-variants.{One, Both}
-use Rattle.multiportgraph.specs.Reading.{ownerOf, isHidden, isSplit, Port, dead, hidden, visible, seen, subports, endAt, subport#}
+use Rattle.multiportgraph.specs.Reading.{isSplit, Port, dead, hidden, visible, seen, subports, endAt, subport#}
 use Rattle.multiportgraph.specs.Calls.{linkOfEnd}
-use Rattle.multiportgraph.specs.Wires.{range, gather, those, each, isBlock, blocks, subportsOfPort, wireTo, wireOf, sideLinks, isBeyond}
-use Rattle.multiportgraph.specs.Walks.{Start, started, refused, startAtNode, startBetween, isSeen, heldSeen, bothSeen, firstOf, lastOf, between, nodeHeld, blocksLeft, stepNodes, stepNodesBack, allPorts, portsLeft, stepAllPorts, stepAllPortsBack, bySides, portsOfNode, stepNodePorts, subportsOf, subportBeyond, stepSubports, portLinksSeen, portLinks, linksLeft, stepFront, stepBack, notSkipped, nodeLinks, linkBeyond, linksItem, stepLinks, notIgnored, neighbourLinks, neighbours, neighboursItem, stepNeighbours, connections, connectionsItem, stepConnections, nodePortsFrom, startNodePorts, subportsFrom, startSubports, startAtPort, portLinksFrom, startPortLinks, linksFrom, startLinks, neighboursFrom, startNeighbours, connectionsFrom, startConnections}
-use Rattle.multiportgraph.specs.Inner.{MultiWf}
-use Rattle.multiportgraph.specs.Listing.{Member, Rising, Apart, member-gather, member-range, member-those, those-all, rising-those, rising-gather, rising-each, range-rises}
-use Rattle.multiportgraph.specs.ScanLaws.{isPast, past-later, past-here, past-earlier, linksFromTo, subportsFromTo, subportsSeen, subportsAt, wire-stands, subport-stands, link-at-port, subport-at-port, links-in-row, subports-in-row, ports-in-row, block-not-hidden, block-has-meta, port-seen-there}
-use Rattle.multiportgraph.specs.Cursors.{Stepped, item, end, walk, onward, From, front, back, Answer, none, answered, chosen, walkEnds, takeEnds, backwards, Listed, leftOf, Fronts, Backs, walk-front, walk-back, walk-ends}
+use Rattle.multiportgraph.specs.Wires.{range, those, each, isBlock, blocks, subportsOfPort, wireTo, wireOf}
+use Rattle.multiportgraph.specs.Walks.{Start, started, refused, isSeen, heldSeen, firstOf, lastOf, between, nodeHeld, blocksLeft, stepNodes, stepNodesBack, allPorts, portsLeft, stepAllPorts, stepAllPortsBack, portLinksSeen, portLinks, linksLeft, stepFront, stepBack, startAtPort, portLinksFrom, startPortLinks}
+use Rattle.multiportgraph.specs.Listing.{Member, Rising, member-those, those-all, rising-those, rising-gather, rising-each, range-rises}
+use Rattle.multiportgraph.specs.ScanLaws.{wire-stands}
+use Rattle.multiportgraph.specs.Cursors.{Stepped, item, end, walk, From, front, back, walkEnds, takeEnds, backwards, Listed, Fronts, Backs, walk-front, walk-back, walk-ends, first-map, last-map, each-same, walk-nothing, ends-nothing}
 use Rattle.multiportgraph.specs.declared.multiportgraph.MultiPortGraph.{MultiPortGraph}
 use Rattle.multiportgraph.specs.declared.multiportgraph.SubportIndex.{SubportIndex}
 use Rattle.multiportgraph.specs.declared.multiportgraph.SubportLink.{SubportLink}
@@ -39,30 +33,10 @@ use Rattle.multiportgraph.specs.declared.iter.NodesStep.the-variants as 
 use Rattle.multiportgraph.specs.declared.iter.Ports.{Ports}
 use Rattle.multiportgraph.specs.declared.iter.PortsStep.{PortsStep}
 use Rattle.multiportgraph.specs.declared.iter.PortsStep.the-variants as ports-step
-use Rattle.multiportgraph.specs.declared.iter.NodePorts.{NodePorts}
-use Rattle.multiportgraph.specs.declared.iter.NodePortsStep.{NodePortsStep}
-use Rattle.multiportgraph.specs.declared.iter.NodePortsStep.the-variants as node-ports-step
-use Rattle.multiportgraph.specs.declared.iter.NodePortsStart.the-variants as node-ports-start
-use Rattle.multiportgraph.specs.declared.iter.NodeSubports.{NodeSubports}
-use Rattle.multiportgraph.specs.declared.iter.NodeSubportsStep.{NodeSubportsStep}
-use Rattle.multiportgraph.specs.declared.iter.NodeSubportsStep.the-variants as subports-step
-use Rattle.multiportgraph.specs.declared.iter.NodeSubportsStart.the-variants as subports-start
 use Rattle.multiportgraph.specs.declared.iter.PortLinks.{PortLinks}
 use Rattle.multiportgraph.specs.declared.iter.PortLinksStep.{PortLinksStep}
 use Rattle.multiportgraph.specs.declared.iter.PortLinksStep.the-variants as port-step
 use Rattle.multiportgraph.specs.declared.iter.PortLinksStart.the-variants as port-start
-use Rattle.multiportgraph.specs.declared.iter.NodeLinks.{NodeLinks}
-use Rattle.multiportgraph.specs.declared.iter.NodeLinksStep.{NodeLinksStep}
-use Rattle.multiportgraph.specs.declared.iter.NodeLinksStep.the-variants as links-step
-use Rattle.multiportgraph.specs.declared.iter.NodeLinksStart.the-variants as links-start
-use Rattle.multiportgraph.specs.declared.iter.Neighbours.{Neighbours}
-use Rattle.multiportgraph.specs.declared.iter.NeighboursStep.{NeighboursStep}
-use Rattle.multiportgraph.specs.declared.iter.NeighboursStep.the-variants as neighbours-step
-use Rattle.multiportgraph.specs.declared.iter.NeighboursStart.the-variants as neighbours-start
-use Rattle.multiportgraph.specs.declared.iter.NodeConnections.{NodeConnections}
-use Rattle.multiportgraph.specs.declared.iter.NodeConnectionsStep.{NodeConnectionsStep}
-use Rattle.multiportgraph.specs.declared.iter.NodeConnectionsStep.the-variants as connections-step
-use Rattle.multiportgraph.specs.declared.iter.NodeConnectionsStart.the-variants as connections-start
 
 -- The steps, in one form.
 
@@ -74,29 +48,9 @@ abbrev portsGiven : PortsStep → Stepped ℕ Ports
 portsGiven (ports-step.Item p c) = item (p .0) c
 portsGiven ports-step.End = end
 
-abbrev nodePortsGiven : NodePortsStep → Stepped ℕ NodePorts
-nodePortsGiven (node-ports-step.Item p c) = item (p .0) c
-nodePortsGiven node-ports-step.End = end
-
-abbrev subportsGiven : NodeSubportsStep → Stepped SubportIndex NodeSubports
-subportsGiven (subports-step.Item s c) = item s c
-subportsGiven subports-step.End = end
-
 abbrev portLinksGiven : PortLinksStep → Stepped SubportLink PortLinks
 portLinksGiven (port-step.Item w c) = item w c
 portLinksGiven port-step.End = end
-
-abbrev linksGiven : NodeLinksStep → Stepped SubportLink NodeLinks
-linksGiven (links-step.Item w c) = item w c
-linksGiven links-step.End = end
-
-abbrev neighboursGiven : NeighboursStep → Stepped ℕ Neighbours
-neighboursGiven (neighbours-step.Item n c) = item (n .0) c
-neighboursGiven neighbours-step.End = end
-
-abbrev connectionsGiven : NodeConnectionsStep → Stepped SubportLink NodeConnections
-connectionsGiven (connections-step.Item w c) = item w c
-connectionsGiven connections-step.End = end
 
 abbrev pub byNodes : MultiPortGraph → Nodes → Stepped ℕ Nodes
 byNodes m c = nodesGiven (stepNodes m c)
@@ -110,93 +64,11 @@ byAllPorts m c = portsGiven (stepAllPorts m c)
 abbrev pub byAllPortsBack : MultiPortGraph → Ports → Stepped ℕ Ports
 byAllPortsBack m c = portsGiven (stepAllPortsBack m c)
 
-abbrev pub byNodePorts : MultiPortGraph → NodePorts → Stepped ℕ NodePorts
-byNodePorts m c = nodePortsGiven (stepNodePorts m c)
-
-abbrev pub bySubports : MultiPortGraph → NodeSubports → Stepped SubportIndex NodeSubports
-bySubports m c = subportsGiven (stepSubports m c)
-
 abbrev pub byFront : MultiPortGraph → PortLinks → Stepped SubportLink PortLinks
 byFront m c = portLinksGiven (stepFront m c)
 
 abbrev pub byBack : MultiPortGraph → PortLinks → Stepped SubportLink PortLinks
 byBack m c = portLinksGiven (stepBack m c)
-
-abbrev pub byLinks : MultiPortGraph → NodeLinks → Stepped SubportLink NodeLinks
-byLinks m c = linksGiven (stepLinks m c)
-
-abbrev pub byNeighbours : MultiPortGraph → Neighbours → Stepped ℕ Neighbours
-byNeighbours m c = neighboursGiven (stepNeighbours m c)
-
-abbrev pub byConnections : MultiPortGraph → NodeConnections → Stepped SubportLink NodeConnections
-byConnections m c = connectionsGiven (stepConnections m c)
-
--- What a cursor leaves of its listing; nothing where what it walks or holds is gone or hidden.
-
-unfoldable pub nodePortsLeft : MultiPortGraph → NodePorts → List ℕ
-nodePortsLeft m c = pick (bothSeen m (c .node .0) (c .held)) (those (leb (c .held)) (portsOfNode m (c .node .0) (c .sides))) []
-
-unfoldable pub subportsLeft : MultiPortGraph → NodeSubports → List SubportIndex
-subportsLeft m c =
-    pick (bothSeen m (c .node .0) (c .held)) (those (subportBeyond (c .held) (c .offset)) (subportsOf m (c .node .0) (c .sides))) []
-
-unfoldable pub nodeLinksLeft : MultiPortGraph → NodeLinks → List SubportLink
-nodeLinksLeft m c =
-    pick (bothSeen m (c .node .0) (c .held))
-    (those (linkBeyond (c .held) (c .offset)) (nodeLinks m (c .node .0) (c .sides) (c .«skip_from») (c .«skip_to»)))
-    []
-
--- the links that lead to the neighbours left
-unfoldable pub neighboursLeft : MultiPortGraph → Neighbours → List SubportLink
-neighboursLeft m c =
-    pick (bothSeen m (c .node .0) (c .held))
-    (those (linkBeyond (c .held) (c .offset)) (neighbourLinks m (c .node .0) (c .sides) (c .«ignore_self»)))
-    []
-
-unfoldable pub connectionsLeft : MultiPortGraph → NodeConnections → List SubportLink
-connectionsLeft m c =
-    pick (isBlock m (c .target .0))
-    (pick (bothSeen m (c .node .0) (c .held)) (those (linkBeyond (c .held) (c .offset)) (connections m (c .node .0) (c .target .0))) [])
-    []
-
--- Lists.
-
-module _ {S T : Type 0} (g : S → T) where
-  pub first-map : {A : Type 0} (e : S) (f : A → S) (l : List A) → g (firstOf e f l) ≡ firstOf (g e) (λ x. g (f x)) l
-  unfolding firstOf
-  first-map e f [] = refl
-  first-map e f (x ∷ l) = refl
-
-  pub last-map : {A : Type 0} (e : S) (f : A → S) (l : List A) → g (lastOf e f l) ≡ lastOf (g e) (λ x. g (f x)) l
-  unfolding lastOf
-  last-map e f [] = refl
-  last-map e f (x ∷ l) = last-map (f x) f l
-
-pub each-same : {A : Type 0} (l : List A) → each (λ x. x) l ≡ l
-unfolding each
-each-same [] = refl
-each-same {A} (x ∷ l) = ap (λ (r : List A). x ∷ r) (each-same l)
-
-rising-as : {A : Type 0} (R S : A → A → Type 0) (l : List A) → ((x y : A) → Member x l → Member y l → R x y → S x y) → Rising R l → Rising S l
-rising-as R S [] h r = tt
-rising-as R S (x ∷ l) h r = ((λ y i. h x y (inl refl) (inr i) (r .0 y i)), rising-as R S l (λ y z i j. h y z (inr i) (inr j)) (r .1))
-
-pub rising-apart : {A : Type 0} (R : A → A → Type 0) (l : List A) → ((x : A) → R x x → ⊥) → Rising R l → Rising Apart l
-rising-apart R l h r = rising-as R Apart l (λ x y i j q e. h x (subst (R x) (sym e) q)) r
-
--- a cursor at which both steps answer the end gives nothing, however often it is asked
-walk-nothing : {B C : Type 0} (step : C → Stepped B C) (fuel : ℕ) (c : C) → 0 < fuel → step c ≡ end → walk step fuel c ≡ whole []
-unfolding walk
-walk-nothing step zero c h e = absurd (omega arith)
-walk-nothing step (suc fuel) c h e = ap (onward (walk step fuel)) e
-
-ends-nothing : {B C : Type 0} (step stepBack : C → Stepped B C) (choices : List From) (c : C) → step c ≡ end → stepBack c ≡ end → walkEnds step stepBack choices c ≡ takeEnds choices []
-unfolding walkEnds takeEnds
-ends-nothing step stepBack [] c e d = refl
-ends-nothing {B} step stepBack (front ∷ choices) c e d =
-    ap (answered c (walkEnds step stepBack choices)) e ∙ ap (λ (r : List (Answer B)). none ∷ r) (ends-nothing step stepBack choices c e d)
-ends-nothing {B} step stepBack (back ∷ choices) c e d =
-    ap (answered c (walkEnds step stepBack choices)) d ∙ ap (λ (r : List (Answer B)). none ∷ r) (ends-nothing step stepBack choices c e d)
 
 -- Between what was given from the front and from the back.
 
@@ -265,9 +137,9 @@ module _ {A C : Type 0} {key : A → ℕ} {l : List A} {held : ℕ → Bool} {cu
         itself = λ k x. below-front (suc (key x)) (k .1) (key x) (omega arith);
         later = λ k x y h q. true-between (suc (key x)) (k .1) (key y) (omega arith) (between-true (k .0) (k .1) (key y) h .1);
         fewer = λ k x y h q.
-          let a = between-true (k .0) (k .1) (key x) h in
-          let c = between-true (suc (key x)) (k .1) (key y) q in
-          true-between (k .0) (k .1) (key y) (omega arith) (c .1);
+            let a = between-true (k .0) (k .1) (key x) h in
+            let c = between-true (suc (key x)) (k .1) (key y) q in
+            true-between (k .0) (k .1) (key y) (omega arith) (c .1);
       }
 
   backs : Backs byNumber stepBack
@@ -279,10 +151,10 @@ module _ {A C : Type 0} {key : A → ℕ} {l : List A} {held : ℕ → Bool} {cu
         itself = λ k x. above-back (k .0) (suc (key x)) (key x) (omega arith) (omega arith);
         earlier = λ k x y h q. true-between (k .0) (suc (key x)) (key y) (between-true (k .0) (k .1) (key y) h .0) (λ z. omega arith);
         fewer = λ k x y h q.
-          let a = between-true (k .0) (k .1) (key x) h in
-          let c = between-true (k .0) (suc (key x)) (key y) q in
-          let s = c .1 (λ z. omega arith) in
-          true-between (k .0) (k .1) (key y) (c .0) (λ z. let u = a .1 z in omega arith);
+            let a = between-true (k .0) (k .1) (key x) h in
+            let c = between-true (k .0) (suc (key x)) (key y) q in
+            let s = c .1 (λ z. omega arith) in
+            true-between (k .0) (k .1) (key y) (c .0) (λ z. let u = a .1 z in omega arith);
       }
 
   -- by cases: both ends are still there, or nothing is left
@@ -325,7 +197,7 @@ module _ {A C : Type 0} {key : A → ℕ} {l : List A} {held : ℕ → Bool} {cu
 between-all : {A : Type 0} (key : A → ℕ) (l : List A) → those (λ x. between 0 0 (key x)) l ≡ l
 between-all key l = those-all (λ x. between 0 0 (key x)) l (λ x i. true-between 0 0 (key x) (omega arith) (λ z. absurd (z refl)))
 
-less : (n : ℕ) → suc n - 1 ≡ n
+pub less : (n : ℕ) → suc n - 1 ≡ n
 less n = omega arith
 
 -- The blocks of any graph.
@@ -382,7 +254,7 @@ portsAt f b = record { front = f; back = b }
 abbrev pub startPorts : Ports
 startPorts = portsAt 0 0
 
-seen-stays : (m : MultiPortGraph) (p : ℕ) → isSeen (seen m p) ≡ true → heldSeen m (suc p) ≡ true
+pub seen-stays : (m : MultiPortGraph) (p : ℕ) → isSeen (seen m p) ≡ true → heldSeen m (suc p) ≡ true
 seen-stays m p h = rw (ne-eqb (suc p) 0 (λ e. omega arith), less p) h
 
 module _ (m : MultiPortGraph) where
@@ -432,13 +304,13 @@ wire-rises R m d s = go (linkOfEnd m (s .port .0) (endAt m (s .port .0) d (s .«
     go cutting.Nothing = tt
     go (cutting.Refused r) = tt
 
-abbrev subportOffset : SubportIndex → ℕ
+abbrev pub subportOffset : SubportIndex → ℕ
 subportOffset s = s .«subport_offset»
 
-abbrev linkOffset : SubportLink → ℕ
+abbrev pub linkOffset : SubportLink → ℕ
 linkOffset w = w .from .«subport_offset»
 
-subports-of-port-rise : (m : MultiPortGraph) (d : Direction) (p : ℕ) → Rising (λ s t. subportOffset s < subportOffset t) (subportsOfPort m d p)
+pub subports-of-port-rise : (m : MultiPortGraph) (d : Direction) (p : ℕ) → Rising (λ s t. subportOffset s < subportOffset t) (subportsOfPort m d p)
 unfolding subportsOfPort
 subports-of-port-rise m d p = go (isSplit m p)
   where

@@ -259,6 +259,31 @@ module _ {B : Type 0} where
         s,
       )
 
+-- What holds of the answers of a walk that takes from both ends of a list, whatever the choices.
+pub record Turns {B : Type 0} (l : List B) (answers : List From → List (Answer B)) : Type 0 where
+  -- what is left between the items given from the front, in order, and those given from the back, in reverse order
+  pub left : List From → List B
+  pub split : (choices : List From) → l ≡ givenFrom front choices (answers choices) ++ (left choices ++ backwards (givenFrom back choices (answers choices)))
+  pub leftLong : (choices : List From) → length (left choices) ≡ length l - length choices
+  -- each item given is listed, and none comes twice
+  pub listed : (choices : List From) (x : B) → Member x (itemsIn (answers choices)) → Member x l
+  pub apart : (choices : List From) → Rising Apart (itemsIn (answers choices))
+  -- once as many steps were made as the list is long, every item was given and further steps answer the end
+  pub allGiven : (choices : List From) → length l ≤ length choices → l ≡ givenFrom front choices (answers choices) ++ backwards (givenFrom back choices (answers choices))
+  pub ended : (choices others : List From) → length l ≤ length choices → answers (choices ++ others) ≡ answers choices ++ each (λ c. none) others
+
+pub turns : {B : Type 0} {l : List B} {answers : List From → List (Answer B)} → Rising Apart l → ((choices : List From) → answers choices ≡ takeEnds choices l) → Turns l answers
+turns {B} {l} {answers} r e =
+    record {
+      left = λ choices. leftAfter choices l;
+      split = λ choices. rw (e choices) (ends-split choices l);
+      leftLong = λ choices. left-length choices l;
+      listed = λ choices x i. taken-member choices x l (rw (e choices) at i);
+      apart = λ choices. rw (e choices) (taken-apart choices l r);
+      allGiven = λ choices h. rw (e choices) (all-given choices l h);
+      ended = λ choices others h. rw (e choices, e (choices ++ others)) (then-ends choices others l h);
+    }
+
 -- The first and the last of a list, read in another form.
 
 module _ {S T : Type 0} (g : S → T) where

@@ -16,6 +16,9 @@
 -- and the laws that a reviewer looks for:
 --   visible-nodes, visible-ports, visible-links, split-one-copy, copy-one-split, no-wire-at-hidden (CountLaws), visible-links-of-history (HistoryCounts)
 --   each refusal under its condition and no other, and what a refused call leaves (RefusalLaws)
+--   each walk gives its listing whole, in order, and then the end (WalkStepLaws, BlockWalkLaws: the laws named -whole); by turns from
+--   both ends no item comes twice (nodes-turns, ports-turns, port-links-turns); a cursor whose node or port is gone or hidden ends, and
+--   a step gives only what is listed beyond what its cursor holds (WalkHeldLaws)
 --   the work of a call is what it takes and gives back, and 10 is given exactly if a table would grow past its limit (SpaceLaws)
 -- The rest are the proofs of what Inner says, call by call.
 pub mod Reading
@@ -37,6 +40,7 @@ pub mod ScanLaws
 pub mod Cursors
 pub mod WalkStepLaws
 pub mod BlockWalkLaws
+pub mod WalkHeldLaws
 pub mod Frame
 pub mod PlainLaws
 pub mod CopyLaws

@@ -19,9 +19,9 @@ use Rattle.multiportgraph.specs.Reading.{isSplit, Port, dead, hidden, vi
 use Rattle.multiportgraph.specs.Calls.{linkOfEnd}
 use Rattle.multiportgraph.specs.Wires.{range, those, each, isBlock, blocks, subportsOfPort, wireTo, wireOf}
 use Rattle.multiportgraph.specs.Walks.{Start, started, refused, isSeen, heldSeen, firstOf, lastOf, between, nodeHeld, blocksLeft, stepNodes, stepNodesBack, allPorts, portsLeft, stepAllPorts, stepAllPortsBack, portLinksSeen, portLinks, linksLeft, stepFront, stepBack, startAtPort, portLinksFrom, startPortLinks}
-use Rattle.multiportgraph.specs.Listing.{Member, Rising, member-those, those-all, rising-those, rising-gather, rising-each, range-rises}
+use Rattle.multiportgraph.specs.Listing.{Member, Rising, Apart, member-those, those-all, rising-those, rising-gather, rising-each, range-rises}
 use Rattle.multiportgraph.specs.ScanLaws.{wire-stands}
-use Rattle.multiportgraph.specs.Cursors.{Stepped, item, end, walk, From, front, back, walkEnds, takeEnds, backwards, Listed, Fronts, Backs, walk-front, walk-back, walk-ends, first-map, last-map, each-same, walk-nothing, ends-nothing}
+use Rattle.multiportgraph.specs.Cursors.{Turns, turns, rising-apart, Stepped, item, end, walk, From, front, back, walkEnds, takeEnds, backwards, Listed, Fronts, Backs, walk-front, walk-back, walk-ends, first-map, last-map, each-same, walk-nothing, ends-nothing}
 use Rattle.multiportgraph.specs.declared.multiportgraph.MultiPortGraph.{MultiPortGraph}
 use Rattle.multiportgraph.specs.declared.multiportgraph.SubportIndex.{SubportIndex}
 use Rattle.multiportgraph.specs.declared.multiportgraph.SubportLink.{SubportLink}
@@ -366,3 +366,40 @@ module _ (m : MultiPortGraph) where
           let q : portLinksAt p 0 0 ≡ c = cc in
           ap (linksLeft m) (sym q) ∙ between-all linkOffset (portLinks m (p .0))
       go (refused r) e = absurd (zero-is-not-one (cc))
+
+-- So from its start each of these walks gives its listing whole and in order, from the back in reverse order, and then the end;
+-- by turns each item comes once, the first ones from the front and the last ones from the back.
+
+rises-apart : {A : Type 0} (key : A → ℕ) (l : List A) → Rising (λ x y. key x < key y) l → Rising Apart l
+rises-apart key l r = rising-apart (λ x y. key x < key y) l (λ x h. omega arith) r
+
+module _ (m : MultiPortGraph) where
+  pub nodes-whole : (fuel : ℕ) → length (blocks m) < fuel → walk (byNodes m) fuel startNodes ≡ whole (blocks m)
+  nodes-whole fuel h = let q = nodes-at-start m in rw q at (nodes-forward m startNodes fuel (rw q h))
+
+  pub nodes-whole-back : (fuel : ℕ) → length (blocks m) < fuel → walk (byNodesBack m) fuel startNodes ≡ whole (backwards (blocks m))
+  nodes-whole-back fuel h = let q = nodes-at-start m in rw q at (nodes-backward m startNodes fuel (rw q h))
+
+  pub nodes-turns : Turns (blocks m) (λ choices. walkEnds (byNodes m) (byNodesBack m) choices startNodes)
+  nodes-turns = turns (rises-apart (λ n. n) (blocks m) (nodes-rise m)) (λ choices. nodes-by-turns m choices startNodes ∙ ap (takeEnds choices) (nodes-at-start m))
+
+  pub ports-whole : (fuel : ℕ) → length (allPorts m) < fuel → walk (byAllPorts m) fuel startPorts ≡ whole (allPorts m)
+  ports-whole fuel h = let q = ports-at-start m in rw q at (ports-forward m startPorts fuel (rw q h))
+
+  pub ports-whole-back : (fuel : ℕ) → length (allPorts m) < fuel → walk (byAllPortsBack m) fuel startPorts ≡ whole (backwards (allPorts m))
+  ports-whole-back fuel h = let q = ports-at-start m in rw q at (ports-backward m startPorts fuel (rw q h))
+
+  pub ports-turns : Turns (allPorts m) (λ choices. walkEnds (byAllPorts m) (byAllPortsBack m) choices startPorts)
+  ports-turns = turns (rises-apart (λ p. p) (allPorts m) (ports-rise m)) (λ choices. ports-by-turns m choices startPorts ∙ ap (takeEnds choices) (ports-at-start m))
+
+  module _ (p : PortIndex) (c : PortLinks) (e : startPortLinks m p ≡ port-start.Started c) where
+    pub port-links-whole : (fuel : ℕ) → length (portLinks m (p .0)) < fuel → walk (byFront m) fuel c ≡ whole (portLinks m (p .0))
+    port-links-whole fuel h = let q = port-links-at-start m p c e in rw q at (port-links-forward m c fuel (rw q h))
+
+    pub port-links-whole-back : (fuel : ℕ) → length (portLinks m (p .0)) < fuel → walk (byBack m) fuel c ≡ whole (backwards (portLinks m (p .0)))
+    port-links-whole-back fuel h = let q = port-links-at-start m p c e in rw q at (port-links-backward m c fuel (rw q h))
+
+    pub port-links-turns : Turns (portLinks m (p .0)) (λ choices. walkEnds (byFront m) (byBack m) choices c)
+    port-links-turns =
+        turns (rises-apart linkOffset (portLinks m (p .0)) (port-links-rise m (p .0)))
+        (λ choices. port-links-by-turns m choices c ∙ ap (takeEnds choices) (port-links-at-start m p c e))

@@ -21,6 +21,9 @@
 --   visible-nodes, visible-ports, visible-links, split-one-copy, copy-one-split, no-wire-at-hidden (CountLaws), visible-ports-ascending (PortListing)
 --   each refusal under its condition and no other, and what a refused call leaves (RefusalLaws); the same of starts of walks,
 --   lookups and fan-out, and that fan-out counts the subports listed (StartLaws)
+--   each walk gives its listing whole, in order, and then the end (WalkStepLaws, BlockWalkLaws: the laws named -whole); by turns from
+--   both ends no item comes twice (nodes-turns, ports-turns, port-links-turns); a cursor whose node or port is gone or hidden ends, and
+--   a step gives only what is listed beyond what its cursor holds (WalkHeldLaws)
 --   the work of a call is what it takes and gives back, and 10 is given exactly if a table would grow past its limit (SpaceLaws)
 -- These speak in the words of Model (a node is live, a port stands at a place) and, for 10, of Space (the work of a call).
 -- Forms has the enums and structs in which inner functions give what Reading and Calls say.
@@ -40,6 +43,11 @@ pub mod Forms
 pub mod Ends
 pub mod Listing
 pub mod WalkRule
+pub mod ScanLaws
+pub mod Cursors
+pub mod WalkStepLaws
+pub mod BlockWalkLaws
+pub mod WalkHeldLaws
 pub mod Frame
 pub mod PlainLaws
 pub mod CopyLaws

@@ -52,3 +52,4 @@ pub mod WalkLaws
 -- walks over links and over all ports, with their laws
 pub mod LinkWalks
 pub mod LinkWalkSteps
+pub mod LinkWalkLaws

@@ -113,7 +113,7 @@ first-of-those end item f p (suc k) n e = go (f p) (first-of-those end item f (s
     go false h = h
 
 -- what lies beyond the port held is the listing from there on
-all-beyond : (f : ℕ → Bool) (held p k : ℕ) → held ≤ p → those (leb held) (those f (numbersFrom p k)) ≡ those f (numbersFrom p k)
+pub all-beyond : (f : ℕ → Bool) (held p k : ℕ) → held ≤ p → those (leb held) (those f (numbersFrom p k)) ≡ those f (numbersFrom p k)
 unfolding those numbersFrom
 all-beyond f held p zero l = refl
 all-beyond f held p (suc k) l = go (f p) (all-beyond f held (suc p) k (omega arith))
@@ -303,7 +303,7 @@ module _ {A B : Type 0} (f : A → B) (x y : A) (r b s d : Bool) (first : r ≡ 
 -- Steps, from what the code has computed: the node's place w, whether the port held is there, the ports left l, and where the
 -- search stops, r.
 
-no-node-no-step {ℓ} : {A : Type ℓ} (end : A) (item : ℕ → A) (f : ℕ → Bool) (there : Bool) (held : ℕ) (sides : Sides) (m : MaybeNodeMeta) → maybe-meta.None ≡ m → end ≡ beyond there held end item (those f (portsIn m sides))
+pub no-node-no-step {ℓ} : {A : Type ℓ} (end : A) (item : ℕ → A) (f : ℕ → Bool) (there : Bool) (held : ℕ) (sides : Sides) (m : MaybeNodeMeta) → maybe-meta.None ≡ m → end ≡ beyond there held end item (those f (portsIn m sides))
 unfolding beyond firstOf those
 no-node-no-step end item f there held sides m e = rw (sym e) (go there)
   where

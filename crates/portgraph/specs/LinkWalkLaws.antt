@@ -3,27 +3,28 @@
 use mathlib.Core.Path.{_≡_, refl, sym, ap, _∙_}
 use mathlib.Core.Bool.{Bool, true, false}
 use mathlib.Core.List.{List, [], _∷_}
-use mathlib.Core.Logic.{_⊎_, inl, inr, ⊎-elim}
+use mathlib.Core.Logic.{_⊎_, inl, inr}
 use Prim.Native.Nat.{ℕ, zero, suc, _+_, _-_, _≤_, _<_, max}
 use native.Mathlib.Omega.{arith}
 use lib.Dec.{eqb, leb, ltb}
-use borrow.Author.Tests.{ne-eqb, eqb-true, eqb-false}
+use borrow.Author.Tests.{ne-eqb, eqb-true, ltb-true, ltb-false}
 use Rattle.portgraph.specs.Limits.{portSlots, nodePorts}
 use Rattle.portgraph.specs.Entries.{pick, portEntry}
 use Rattle.portgraph.specs.Tables.{at}
-use Rattle.portgraph.specs.Model.{Model, Good, Holds, Place, Far, to, Slots, gone, live, Valid, slotOf, farNumber, countOf, In, Uniq}
+use Rattle.portgraph.specs.Model.{Model, Good, Holds, Place, to, Slots, gone, live, Valid, slotOf, farNumber, countOf, sideStart, In, Uniq}
 use Rattle.portgraph.specs.Lookups.{node#, port#, metaAt, portAt, nodeOf, isSome, containsNode, isPort, containsPort}
 use Rattle.portgraph.specs.PlaceLaws.{metaOfPlace, meta-of-node, port-of-place, slot-cases}
 use Rattle.portgraph.specs.Walks.{portsFrom, portsTo}
 use Rattle.portgraph.specs.WalkLaws.{Walked, whole, unfinished, more, numbersFrom, portsOfNode, ports-alive, Ascending, ascending-once}
-use Rattle.portgraph.specs.LinkWalks.{those, each, firstOf, beyond, farIn, nodeNumber, ownerIn, isPortIn, heldIn, linkKept, isNodeOf, isOf, linkTo, portsIn, linkAt, linkedPorts, nodeLinks, linksItem, stepLinks, ownFrom, ownTo, neighbourPorts, neighbourAt, neighbours, neighboursItem, stepNeighbours, connectedPorts, connections, connectionsItem, stepConnections, allPorts, allPortsItem, stepAllPorts}
+use Rattle.portgraph.specs.LinkWalks.{those, each, firstOf, beyond, farIn, nodeNumber, ownerIn, isPortIn, heldIn, linkKept, isNodeOf, isOf, linkTo, portsIn, linkAt, nodeLinks, linksItem, stepLinks, ownFrom, ownTo, neighbourAt, neighbours, neighboursItem, stepNeighbours, connections, connectionsItem, stepConnections, allPorts, allPortsItem, stepAllPorts}
+use Rattle.portgraph.specs.TableSteps.{at-outside}
 use Rattle.portgraph.specs.LinkWalkSteps.{those-beyond, all-beyond, no-node-no-step}
+use Rattle.portgraph.specs.declared.direction.Direction.{Direction}
 use Rattle.portgraph.specs.declared.direction.Direction.the-variants.{Incoming, Outgoing}
 use Rattle.portgraph.specs.declared.index.NodeIndex.{NodeIndex}
-use Rattle.portgraph.specs.declared.port_entry.PortEntry.{PortEntry}
+use Rattle.portgraph.specs.declared.port_entry.PortMeta.{PortMeta}
 use Rattle.portgraph.specs.declared.port_entry.PortEntry.the-variants as port-variants
 use Rattle.portgraph.specs.declared.node_entry.NodeMeta.{NodeMeta}
-use Rattle.portgraph.specs.declared.node_entry.MaybeNodeMeta.{MaybeNodeMeta}
 use Rattle.portgraph.specs.declared.node_entry.MaybeNodeMeta.the-variants as maybe-meta
 use Rattle.portgraph.specs.declared.portgraph.PortGraph.{PortGraph}
 use Rattle.portgraph.specs.declared.iter.Sides.{Sides}
@@ -97,6 +98,16 @@ step-there there held end item l e = rw e
 step-gone {ℓ} : {A : Type ℓ} (there : Bool) (held : ℕ) (end : A) (item : ℕ → A) (l : List ℕ) → there ≡ false → beyond there held end item l ≡ end
 unfolding beyond
 step-gone there held end item l e = rw e
+
+nothing-beyond {ℓ} : {A : Type ℓ} (there : Bool) (held : ℕ) (end : A) (item : ℕ → A) → end ≡ beyond there held end item []
+unfolding beyond firstOf those
+nothing-beyond true held end item = refl
+nothing-beyond false held end item = refl
+
+none-of : (f : ℕ → Bool) (l : List ℕ) → ((p : ℕ) → f p ≡ false) → those f l ≡ []
+unfolding those
+none-of f [] h = refl
+none-of f (x ∷ l) h = rw (h x) (none-of f l h)
 
 -- what follows a step is what follows its item, or its end
 step-then {ℓ κ} : {A : Type ℓ} {B : Type κ} (f : A → B) (there : Bool) (held : ℕ) (end : A) (item : ℕ → A) (l : List ℕ) → f (beyond there held end item l) ≡ beyond there held (f end) (λ p. f (item p)) l
@@ -311,3 +322,202 @@ module _ (g : PortGraph) (M : Model) (good : Good M) (holds : Holds g M) where
         all-walked (linkAt g) (linkTo (g .«port_link») (g .«port_meta») k) (heldIn (g .«port_meta»)) (portsFrom m (One Outgoing)) (portsTo m (One Outgoing) - portsFrom m (One Outgoing)) (λ fuel held. walkConnections g fuel (connectionsCursor n k held)) (connections-on g n m meta k)
         (alive (One Outgoing) (linkTo (g .«port_link») (g .«port_meta») k)) (nodePorts + 1) (enough (One Outgoing)) (held-at-start (g .«port_meta»))
         ∙ ap whole (listed-connections g n m meta k)
+
+  -- What the items are, in the model.
+
+  -- a linked port's item is the link between the two places' ports, and its neighbour is the node at the far end
+  pub link-of-place : (x y : Place) → M .join x ≡ to y → linkAt g (slotOf (M .node) x) ≡ record { from = port# (slotOf (M .node) x); to = port# (slotOf (M .node) y) }
+  link-of-place x y e = let h = far-of-place x y e in ap (λ q. record { from = port# (slotOf (M .node) x); to = port# q }) h
+    where
+      far-of-place : (x y : Place) → M .join x ≡ to y → farIn (g .«port_link») (slotOf (M .node) x) ≡ slotOf (M .node) y
+      far-of-place x y e =
+          let h : at (g .«port_link») (slotOf (M .node) x) ≡ suc (slotOf (M .node) y) = holds .links x (good .joinValid x y e) ∙ ap (farNumber (M .node)) e in
+          omega arith
+
+  pub neighbour-of-place : (x y : Place) → M .join x ≡ to y → neighbourAt g (slotOf (M .node) x) ≡ node# (y .node)
+  unfolding ownerIn
+  neighbour-of-place x y e =
+      ap (λ q. node# (ownerIn (g .«port_meta») q)) (ap (λ (w : Link). w .to .0) (link-of-place x y e)) ∙
+      ap (λ k. node# (nodeNumber (nodeOf k))) (port-of-place good holds y (good .joinValid y x (good .joinBack x y e)))
+
+  -- the ports that the flag skips are exactly the outgoing ports of the node
+  module _ (n : ℕ) (m : NodeMeta) (node : M .node n ≡ live m) (q : ℕ) where
+    pub skipped-is-own-output : portsFrom m (One Outgoing) ≤ q → q < portsTo m (One Outgoing) → portAt g q ≡ port-variants.Port (record { node = node# n; direction = Outgoing })
+    skipped-is-own-output a b =
+        ap (portAt g) (go (M .node n) node) ∙ port-of-place good holds x (valid (M .node n) node)
+      where
+        x : Place
+        x = record { node = n; side = Outgoing; pos = q - (m .«first_port» .0 + m .incoming) }
+
+        go : (s : Slots) → s ≡ live m → q ≡ slotOf (λ k. s) x
+        go s e = rw e (omega arith)
+
+        valid : (s : Slots) → s ≡ live m → x .pos < countOf s Outgoing
+        valid s e = rw e (omega arith)
+
+    pub own-output-is-skipped : portAt g q ≡ port-variants.Port (record { node = node# n; direction = Outgoing }) → (portsFrom m (One Outgoing) ≤ q) × (q < portsTo m (One Outgoing))
+    own-output-is-skipped e = go (slot-cases good holds q)
+      where
+        at-place : (x : Place) → x .node ≡ n → x .side ≡ Outgoing → x .pos < countOf (live m) Outgoing → slotOf (λ k. live m) x ≡ q → (portsFrom m (One Outgoing) ≤ q) × (q < portsTo m (One Outgoing))
+        at-place x a b v s = by (x .side) b s
+          where
+            by : (d : Direction) → d ≡ Outgoing → m .«first_port» .0 + (sideStart (live m) d + x .pos) ≡ q → (portsFrom m (One Outgoing) ≤ q) × (q < portsTo m (One Outgoing))
+            by Incoming h t = let z : _≡_ {A = ℕ} 0 1 = cc in absurd (omega arith)
+            by Outgoing h t = (omega arith, omega arith)
+
+        go : ((x : Place) × Valid (M .node) x × (slotOf (M .node) x ≡ q)) ⊎ (portAt g q ≡ port-variants.Free) → (portsFrom m (One Outgoing) ≤ q) × (q < portsTo m (One Outgoing))
+        go (inl r) =
+            let x = r .0 in
+            let t : port-variants.Port (metaOfPlace x) ≡ port-variants.Port (record { node = node# n; direction = Outgoing }) = sym (port-of-place good holds x (r .1)) ∙ (ap (portAt g) (r .2) ∙ e) in
+            let u : _≡_ {A = PortMeta} (metaOfPlace x) (record { node = node# n; direction = Outgoing }) = cc in
+            let a : x .node ≡ n = ap (λ (k : PortMeta). k .node .0) u in
+            let b : x .side ≡ Outgoing = ap (λ (k : PortMeta). k .direction) u in
+            let s : M .node (x .node) ≡ live m = ap (M .node) a ∙ node in
+            let v : x .pos < countOf (live m) (x .side) = rw s at (r .1) in
+            let w : x .pos < countOf (live m) Outgoing = rw b at v in
+            at-place x a b w (rw s at (r .2))
+        go (inr f) = let z : _≡_ {A = ℕ} 0 1 = cc in absurd (omega arith)
+
+  -- a port that a node has shows that the node is live
+  owner-live : (k q : ℕ) → isOf k (at (g .«port_meta») q) ≡ true → containsNode g k ≡ true
+  unfolding isOf
+  owner-live k q e = go (slot-cases good holds q)
+    where
+      meta-of-slots : (j : ℕ) (s : Slots) (p : ℕ) (x : Place) → M .node j ≡ s → p < countOf s (x .side) → containsNode g j ≡ true
+      meta-of-slots j gone p x h l = absurd (omega arith)
+      meta-of-slots j (live m) p x h l = ap isSome (meta-of-node good holds j m h)
+
+      go : ((x : Place) × Valid (M .node) x × (slotOf (M .node) x ≡ q)) ⊎ (portAt g q ≡ port-variants.Free) → containsNode g k ≡ true
+      go (inl r) =
+          let x = r .0 in
+          let t : eqb (x .node) k ≡ true = ap (λ w. isNodeOf k (nodeOf w)) (sym (port-of-place good holds x (r .1)) ∙ ap (portAt g) (r .2)) ∙ e in
+          ap (containsNode g) (sym (eqb-true _ _ t)) ∙ meta-of-slots (x .node) (M .node (x .node)) (x .pos) x refl (r .1)
+      go (inr f) =
+          let t : false ≡ true = ap (λ w. isNodeOf k (nodeOf w)) (sym f) ∙ e in
+          let z : _≡_ {A = ℕ} 0 1 = cc in
+          absurd (omega arith)
+
+  -- no link leads to a node that is gone
+  pub gone-target-ends-connections : (c : NodeConnections) → containsNode g (c .target .0) ≡ false → stepConnections g c ≡ connections-step.End
+  unfolding stepConnections linkTo
+  gone-target-ends-connections c h = ap (beyond (heldIn (g .«port_meta») (c .held)) (c .held) connections-step.End (connectionsItem g c)) (none-of _ _ none) ∙ sym (nothing-beyond _ _ _ _)
+    where
+      none : (p : ℕ) → linkTo (g .«port_link») (g .«port_meta») (c .target .0) p ≡ false
+      none p = go (eqb (at (g .«port_link») p) 0) (isOf (c .target .0) (at (g .«port_meta») (farIn (g .«port_link») p))) refl
+        where
+          go : (z o : Bool) → isOf (c .target .0) (at (g .«port_meta») (farIn (g .«port_link») p)) ≡ o → pick z false o ≡ false
+          go true o e = refl
+          go false false e = refl
+          go false true e =
+              let t : true ≡ false = sym (owner-live (c .target .0) (farIn (g .«port_link») p) e) ∙ h in
+              let y : _≡_ {A = ℕ} 0 1 = cc in
+              absurd (omega arith)
+
+-- A cursor whose node or port is gone ends the walk.
+
+module _ (g : PortGraph) where
+  pub gone-port-ends-links : (c : NodeLinks) → heldIn (g .«port_meta») (c .held) ≡ false → stepLinks g c ≡ links-step.End
+  unfolding stepLinks
+  gone-port-ends-links c h = step-gone _ (c .held) _ _ _ h
+
+  pub gone-port-ends-neighbours : (c : Neighbours) → heldIn (g .«port_meta») (c .held) ≡ false → stepNeighbours g c ≡ neighbours-step.End
+  unfolding stepNeighbours
+  gone-port-ends-neighbours c h = step-gone _ (c .held) _ _ _ h
+
+  pub gone-port-ends-connections : (c : NodeConnections) → heldIn (g .«port_meta») (c .held) ≡ false → stepConnections g c ≡ connections-step.End
+  unfolding stepConnections
+  gone-port-ends-connections c h = step-gone _ (c .held) _ _ _ h
+
+  pub gone-port-ends-all-ports : (c : Ports) → heldIn (g .«port_meta») (c .held) ≡ false → stepAllPorts g c ≡ all-step.End
+  unfolding stepAllPorts
+  gone-port-ends-all-ports c h = step-gone _ (c .held) _ _ _ h
+
+  pub gone-node-ends-links : (c : NodeLinks) → metaAt g (c .node .0) ≡ maybe-meta.None → stepLinks g c ≡ links-step.End
+  unfolding stepLinks
+  gone-node-ends-links c h = sym (no-node-no-step _ _ _ _ (c .held) (c .sides) _ (sym h))
+
+  pub gone-node-ends-neighbours : (c : Neighbours) → metaAt g (c .node .0) ≡ maybe-meta.None → stepNeighbours g c ≡ neighbours-step.End
+  unfolding stepNeighbours
+  gone-node-ends-neighbours c h = sym (no-node-no-step _ _ _ _ (c .held) (c .sides) _ (sym h))
+
+  pub gone-node-ends-connections : (c : NodeConnections) → metaAt g (c .node .0) ≡ maybe-meta.None → stepConnections g c ≡ connections-step.End
+  unfolding stepConnections
+  gone-node-ends-connections c h = sym (no-node-no-step _ _ _ _ (c .held) (One Outgoing) _ (sym h))
+
+-- What the listings hold: exactly the slots for which the test holds, ascending, so that none comes twice.
+
+pub in-those : (f : ℕ → Bool) (x : ℕ) (l : List ℕ) → In x (those f l) → In x l × (f x ≡ true)
+unfolding those
+in-those f x [] i = absurd i
+in-those f x (y ∷ l) i = go (f y) refl (in-those f x l) i
+  where
+    go : (b : Bool) → f y ≡ b → (In x (those f l) → In x l × (f x ≡ true)) → In x (pick b (y ∷ those f l) (those f l)) → In x (y ∷ l) × (f x ≡ true)
+    go true e rest (inl h) = (inl h, ap f h ∙ e)
+    go true e rest (inr j) = let r = rest j in (inr (r .0), r .1)
+    go false e rest j = let r = rest j in (inr (r .0), r .1)
+
+pub those-in : (f : ℕ → Bool) (x : ℕ) (l : List ℕ) → In x l → f x ≡ true → In x (those f l)
+unfolding those
+those-in f x (y ∷ l) i h = go (f y) refl (λ j. those-in f x l j h) i
+  where
+    go : (b : Bool) → f y ≡ b → (In x l → In x (those f l)) → In x (y ∷ l) → In x (pick b (y ∷ those f l) (those f l))
+    go true e rest (inl p) = inl p
+    go true e rest (inr j) = inr (rest j)
+    go false e rest (inl p) =
+        let t : true ≡ false = sym h ∙ (ap f p ∙ e) in
+        let z : _≡_ {A = ℕ} 0 1 = cc in
+        absurd (omega arith)
+    go false e rest (inr j) = rest j
+
+pub in-numbers : (x p k : ℕ) → In x (numbersFrom p k) → (p ≤ x) × (x < p + k)
+unfolding numbersFrom
+in-numbers x p zero i = absurd i
+in-numbers x p (suc k) (inl e) = (omega arith, omega arith)
+in-numbers x p (suc k) (inr j) = let r = in-numbers x (suc p) k j in let a = r .0 in let b = r .1 in (omega arith, omega arith)
+
+pub numbers-in : (x p k : ℕ) → p ≤ x → x < p + k → In x (numbersFrom p k)
+unfolding numbersFrom
+numbers-in x p zero a b = absurd (omega arith)
+numbers-in x p (suc k) a b = go (ltb p x) refl (λ l. numbers-in x (suc p) k l (omega arith))
+  where
+    go : (c : Bool) → ltb p x ≡ c → (suc p ≤ x → In x (numbersFrom (suc p) k)) → (x ≡ p) ⊎ In x (numbersFrom (suc p) k)
+    go true e rest = let h : p < x = ltb-true _ _ e in inr (rest (omega arith))
+    go false e rest = let h : x ≤ p = ltb-false _ _ e in inl (omega arith)
+
+later-ascends : (n : ℕ) (l : List ℕ) → Ascending (suc n) l → Ascending n l
+later-ascends n [] a = a
+later-ascends n (x ∷ l) a = ((let b : suc n ≤ x = a .0 in omega arith), a .1)
+
+pub listing-ascends : (f : ℕ → Bool) (p k : ℕ) → Ascending p (those f (numbersFrom p k))
+unfolding those numbersFrom
+listing-ascends f p zero = tt
+listing-ascends f p (suc k) = go (f p) (listing-ascends f (suc p) k)
+  where
+    go : (b : Bool) → Ascending (suc p) (those f (numbersFrom (suc p) k)) → Ascending p (pick b (p ∷ those f (numbersFrom (suc p) k)) (those f (numbersFrom (suc p) k)))
+    go true a = (omega arith, a)
+    go false a = later-ascends p (those f (numbersFrom (suc p) k)) a
+
+pub no-link-twice : (m : NodeMeta) (sides : Sides) (f : ℕ → Bool) → Uniq (those f (portsOfNode m sides))
+no-link-twice m sides f = ascending-once (portsFrom m sides) (those f (portsOfNode m sides)) (listing-ascends f (portsFrom m sides) (portsTo m sides - portsFrom m sides))
+
+-- the walk over all ports gives exactly the live ports, each once
+module _ (g : PortGraph) where
+  pub no-live-port-twice : Uniq (allPorts g)
+  unfolding allPorts
+  no-live-port-twice = ascending-once 0 (allPorts g) (listing-ascends (isPortIn (g .«port_meta»)) 0 portSlots)
+
+  pub listed-port-is-live : (p : ℕ) → In p (allPorts g) → containsPort g p ≡ true
+  unfolding allPorts isPortIn
+  listed-port-is-live p i = in-those (isPortIn (g .«port_meta»)) p _ i .1
+
+  pub live-port-is-listed : (p : ℕ) → containsPort g p ≡ true → In p (allPorts g)
+  unfolding allPorts isPortIn portEntry
+  live-port-is-listed p h = those-in (isPortIn (g .«port_meta»)) p _ (numbers-in p 0 portSlots (omega arith) (inside (ltb p portSlots) refl)) h
+    where
+      inside : (b : Bool) → ltb p portSlots ≡ b → p < 0 + portSlots
+      inside true e = let l : p < portSlots = ltb-true _ _ e in omega arith
+      inside false e =
+          let l : portSlots ≤ p = ltb-false _ _ e in
+          let t : false ≡ true = ap (λ x. isPort (portEntry x)) (at-outside (g .«port_meta») p l) ∙ h in
+          let z : _≡_ {A = ℕ} 0 1 = cc in
+          absurd (omega arith)

@@ -1,28 +1,26 @@
 -- What the code of a step finds: a search over consecutive slots stops at the first port of the listing beyond the port held.
 use mathlib.Core.Path.{_≡_, refl, sym, ap, _∙_}
 use mathlib.Core.Bool.{Bool, true, false}
-use mathlib.Core.List.{List, [], _∷_}
+use mathlib.Core.List.{List, _∷_}
 use Prim.Native.Nat.{ℕ, zero, suc, _+_, _-_, _/_, _%_, _≤_, _<_, max}
 use native.Mathlib.Omega.{arith}
 use native.Mathlib.Numerals.{add-one}
 use lib.Dec.{eqb, leb, ltb}
-use lib.ListN.{length, getD, List·getD-eq-default}
-use borrow.Author.Tests.{lt-ltb, le-ltb, le-leb, lt-leb, eq-eqb, ne-eqb, ltb-true, ltb-false, leb-true, leb-false, eqb-true, eqb-false}
+use lib.ListN.{length}
+use borrow.Author.Tests.{lt-ltb, le-ltb, le-leb, lt-leb, eq-eqb, ne-eqb, leb-true, leb-false, eqb-true, eqb-false}
 use Rattle.portgraph.specs.Limits.{nodeSlots, portSlots}
-use Rattle.portgraph.specs.Entries.{pick, freshSlot, portEntry}
+use Rattle.portgraph.specs.Entries.{pick, portEntry}
 use Rattle.portgraph.specs.Tables.{at}
 use Rattle.portgraph.specs.Model.{Wf}
-use Rattle.portgraph.specs.Lookups.{node#, port#, entryAt, metaAt, metaOfEntry, nodeOf, isPort}
+use Rattle.portgraph.specs.Lookups.{node#, port#, entryAt, metaAt, metaOfEntry, isPort}
 use Rattle.portgraph.specs.LookupSteps.{node-outside}
 use Rattle.portgraph.specs.Walks.{portsFrom, portsTo}
 use Rattle.portgraph.specs.WalkLaws.{numbersFrom, portsOfNode, ports-end-inside}
-use Rattle.portgraph.specs.LinkWalks.{those, firstOf, beyond, farIn, ownerIn, isPortIn, heldIn, isKept, linkKept, isOf, linkTo, nodeNumber, isNodeOf, portsIn, ownFrom, ownTo, linkAt, linkedPorts, linksItem, stepLinks, neighbourAt, neighboursItem, stepNeighbours, connectionsItem, stepConnections, allPorts, allPortsItem, stepAllPorts}
+use Rattle.portgraph.specs.LinkWalks.{those, firstOf, beyond, farIn, ownerIn, isPortIn, heldIn, isKept, linkKept, isOf, linkTo, portsIn, ownFrom, ownTo, linksItem, stepLinks, neighboursItem, stepNeighbours, connectionsItem, stepConnections, allPorts, allPortsItem, stepAllPorts}
 use Rattle.portgraph.specs.declared.direction.Direction.the-variants.{Incoming, Outgoing}
-use Rattle.portgraph.specs.declared.index.MaybeNodeIndex.the-variants as maybe-node
 use Rattle.portgraph.specs.declared.node_entry.NodeMeta.{NodeMeta}
 use Rattle.portgraph.specs.declared.node_entry.FreeNodeEntry.{FreeNodeEntry}
 use Rattle.portgraph.specs.declared.port_entry.PortEntry.the-variants as port-variants
-use Rattle.portgraph.specs.declared.node_entry.NodeSlot.{NodeSlot}
 use Rattle.portgraph.specs.declared.node_entry.NodeEntry.{NodeEntry}
 use Rattle.portgraph.specs.declared.node_entry.NodeEntry.the-variants.{Free, Node}
 use Rattle.portgraph.specs.declared.node_entry.MaybeNodeMeta.{MaybeNodeMeta}
@@ -59,22 +57,22 @@ ownPorts e flag = span (ownFrom flag (metaOfEntry e)) (ownTo flag (metaOfEntry e
 
 -- A turn of a search.
 
-pub search-turn : (f : ℕ → Bool) (p end : ℕ) → p < end → f p ≡ false → firstWhere f (p + 1) (end - (p + 1)) ≡ firstWhere f p (end - p)
+pub search-turn : (f : ℕ → Bool) (p end : ℕ) (b : Bool) → p < end → b ≡ f p → b ≡ false → firstWhere f (p + 1) (end - (p + 1)) ≡ firstWhere f p (end - p)
 unfolding firstWhere
-search-turn f p end l e = go (end - p) (end - (p + 1)) (p + 1) (omega arith) (omega arith)
+search-turn f p end b l h e = go (end - p) (end - (p + 1)) (p + 1) (omega arith) (omega arith)
   where
     on : (j : ℕ) → firstWhere f (suc p) j ≡ firstWhere f p (suc j)
-    on j = rw e
+    on j = rw (sym h, e)
 
     go : (k j i : ℕ) → k ≡ suc j → i ≡ suc p → firstWhere f i j ≡ firstWhere f p k
     go k j i a b = rw (a, b) (on j)
 
-pub search-stops : (f : ℕ → Bool) (p end : ℕ) → p < end → f p ≡ true → p ≡ firstWhere f p (end - p)
+pub search-stops : (f : ℕ → Bool) (p end : ℕ) (b : Bool) → p < end → b ≡ f p → b ≡ true → p ≡ firstWhere f p (end - p)
 unfolding firstWhere
-search-stops f p end l e = go (end - p) (end - (p + 1)) (omega arith)
+search-stops f p end b l h e = go (end - p) (end - (p + 1)) (omega arith)
   where
     here : (j : ℕ) → p ≡ firstWhere f p (suc j)
-    here j = rw e
+    here j = rw (sym h, e)
 
     go : (k j : ℕ) → k ≡ suc j → p ≡ firstWhere f p k
     go k j a = rw a (here j)

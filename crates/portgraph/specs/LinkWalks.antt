@@ -2,7 +2,7 @@
 -- A step gives the next item of the present listing beyond the port held; a cursor whose node or port is gone ends the walk.
 use mathlib.Core.Bool.{Bool, true, false}
 use mathlib.Core.List.{List, [], _∷_}
-use Prim.Native.Nat.{ℕ, zero, suc, _+_, _-_, _/_}
+use Prim.Native.Nat.{ℕ, suc, _-_}
 use lib.Dec.{eqb, leb}
 use Rattle.portgraph.specs.Limits.{portSlots}
 use Rattle.portgraph.specs.Entries.{pick, portEntry}
@@ -18,7 +18,7 @@ use Rattle.portgraph.specs.declared.node_entry.MaybeNodeMeta.{MaybeNodeM
 use Rattle.portgraph.specs.declared.node_entry.MaybeNodeMeta.the-variants as maybe-meta
 use Rattle.portgraph.specs.declared.portgraph.PortGraph.{PortGraph}
 use Rattle.portgraph.specs.declared.iter.Sides.{Sides}
-use Rattle.portgraph.specs.declared.iter.Sides.the-variants.{One, Both}
+use Rattle.portgraph.specs.declared.iter.Sides.the-variants.{One}
 use Rattle.portgraph.specs.declared.link_iter.Link.{Link}
 use Rattle.portgraph.specs.declared.link_iter.NodeLinks.{NodeLinks}
 use Rattle.portgraph.specs.declared.link_iter.NodeLinksStep.{NodeLinksStep}

@@ -257,7 +257,13 @@ fn own_ports(slot: NodeSlot, flag: bool) -> Span
 
 impl PortGraph {
     // Starts a walk over the links of a node on one side or both, without those to a range of ports.
-    pub fn links(self, node: NodeIndex, sides: Sides, skip_from: u32, skip_to: u32) -> NodeLinksStart
+    pub fn links(
+        self,
+        node: NodeIndex,
+        sides: Sides,
+        skip_from: u32,
+        skip_to: u32,
+    ) -> NodeLinksStart
         ensures { λ r. ⌜ (r ≡ startLinks self node sides «skip_from» «skip_to») × (linksStartNumbers r ≡ linksStartNumbers (startLinks self node sides «skip_from» «skip_to»)) ⌝ }
     {
         if self.contains_node(node) {

@@ -1,6 +1,6 @@
 -- `portgraph::link_iter::next_port` meets its contract. Invariant: the search from `port` on finds what the search from
 -- the start finds. Measure: the slots that are left.
-use mathlib.Core.Path.{_≡_, refl, sym, _∙_}
+use mathlib.Core.Path.{_≡_, refl, _∙_}
 use Prim.Native.Nat.{_-_}
 use borrow.Author.Needs.{needs}
 use Rattle.portgraph.specs.Limits.{portSlots}
@@ -24,7 +24,7 @@ is-port-in-requires c κs = search needs
 returns : tie.Need-returns Inv-loop μ-loop
 returns c =
     let k = c .before .before .before in
-    search-stops _ (k .loop .port) _ (c .before .before .loop-test .taken) (sym (c .before .is-port-in .ensures) ∙ c .if1 .taken) ∙ k .loop .inv
+    search-stops _ (k .loop .port) _ _ (c .before .before .loop-test .taken) (c .before .is-port-in .ensures) (c .if1 .taken) ∙ k .loop .inv
 
 add-port : tie.Need-add-port Inv-loop μ-loop
 add-port c = search needs
@@ -35,7 +35,7 @@ loop-less c = search needs
 loop-again : tie.Need-loop-again Inv-loop μ-loop
 loop-again c =
     let k = c .before .before .before in
-    search-turn _ (k .loop .port) _ (c .before .before .loop-test .taken) (sym (c .before .is-port-in .ensures) ∙ c .if1 .left) ∙ k .loop .inv
+    search-turn _ (k .loop .port) _ _ (c .before .before .loop-test .taken) (c .before .is-port-in .ensures) (c .if1 .left) ∙ k .loop .inv
 
 returns-2 : tie.Need-returns-2 Inv-loop μ-loop
 returns-2 c = search-ends _ (c .before .loop .port) _ (c .loop-test .left) ∙ c .before .loop .inv

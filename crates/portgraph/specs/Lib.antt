@@ -53,3 +53,7 @@ pub mod InsideHolds
 pub mod AnewHolds
 pub mod ResizeLaws
 pub mod WalkLaws
+-- walks over links and over all ports, with their laws
+pub mod LinkWalks
+pub mod LinkWalkSteps
+pub mod LinkWalkLaws

@@ -82,7 +82,7 @@ fn ask_subport_link(p: u32, o: u32) -> Ask
 }
 
 // What a code asks of its four arguments.
-fn ask(code: u32, a: u32, b: u32, c: u32, d: u32) -> Ask
+fn ask_of(code: u32, a: u32, b: u32, c: u32, d: u32) -> Ask
     ensures { λ r. ⌜ meant r ≡ askedBy code a b c d ⌝ }
 {
     match code {
@@ -109,5 +109,5 @@ pub(crate) fn ask_at(requests: &[u8], at: usize) -> Ask
     let b = word_at(requests, at + 8);
     let c = word_at(requests, at + 12);
     let d = word_at(requests, at + 16);
-    ask(code, a, b, c, d)
+    ask_of(code, a, b, c, d)
 }

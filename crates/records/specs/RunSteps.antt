@@ -1,18 +1,29 @@
 -- What the run's functions cite: refusals of requests, the turn of the loop, and numbers that fit a word.
-use mathlib.Core.Path.{_≡_, refl, sym, ap, _∙_, subst}
+use mathlib.Core.Path.{_≡_, refl, sym, ap, _∙_}
 use mathlib.Core.Bool.{Bool, true, false}
 use mathlib.Core.List.{List, [], _∷_, _++_, append-nil}
-use Prim.Native.Nat.{ℕ, zero, suc, _+_, _-_, _*_, _/_, _%_, _≤_, _<_}
+use Prim.Native.Nat.{ℕ, suc, _+_, _-_, _*_, _/_, _%_, _≤_, _<_}
 use native.Mathlib.Omega.{arith}
 use borrow.Author.Tests.{eq-eqb, ne-eqb}
-use lib.ListN.{length, length-append, take, drop}
+use lib.ListN.{length}
 use lib.Seq.{sets, sets-eq, length-sets, drop-length}
-use Rattle.multiportgraph.specs.Calls.{emptyGraph}
+use Rattle.multiportgraph.specs.Reading.{subport#}
+use Rattle.multiportgraph.specs.Calls.{emptyGraph, addBlock, addNumbers, removeBlock, removeNumbers, setCounts, setNumbers, enough, linkCall, linkSub, linkNumbers, cutPort, cutSub, cutNumbers, subportLink}
 use Rattle.multiportgraph.specs.declared.multiportgraph.MultiPortGraph.{MultiPortGraph}
+use Rattle.multiportgraph.specs.declared.multiportgraph.SubportIndex.{SubportIndex}
+use Rattle.multiportgraph.specs.declared.multiportgraph.NodeAdded.{NodeAdded}
+use Rattle.multiportgraph.specs.declared.multiportgraph.NodeRemoved.{NodeRemoved}
+use Rattle.multiportgraph.specs.declared.multiportgraph.PortsSet.{PortsSet}
+use Rattle.multiportgraph.specs.declared.multiportgraph.PortsLinked.{PortsLinked}
+use Rattle.multiportgraph.specs.declared.multiportgraph.PortUnlinked.{PortUnlinked}
+use Rattle.multiportgraph.specs.declared.multiportgraph.CutAnswer.{CutAnswer}
 use Rattle.records.specs.Words.{bytesOf, Request, requestAt, requestsFrom, requestsOf}
-use Rattle.records.specs.Run.{Asked, asked, after, numbers, five, answersFrom, returned, written, listTaken}
+use Rattle.records.specs.Run.{Asked, counts, asked, after, numbers, five, answersFrom, returned, written, listTaken}
+use Rattle.records.specs.Forms.{meant}
 use Rattle.records.specs.RunLaws.{Kept, kept-empty, kept-after}
 use Rattle.records.specs.WordSteps.{bytes-append, bytes-long, sets-parts, requests-many}
+use Rattle.records.specs.declared.requests.Ask.{Ask}
+use Rattle.records.specs.declared.requests.Ask.the-variants as ask
 
 -- The loop: what is laid with the rest of the run is the whole.
 
@@ -93,3 +104,75 @@ unfolding requestsFrom answersFrom bytesOf
 run-ends requests answers m at r l =
     let n : (length requests - at) / 20 ≡ 0 = omega arith in
     rw n at (r .rest)
+
+pub run-fits : {requests answers : List ℕ} {m : MultiPortGraph} {at : ℕ} → Running requests answers m at → at < length requests → at + 20 ≤ length requests
+run-fits r l = let h = r .whole in omega arith
+
+-- One request: its five words, and the graph afterwards.
+pub record Done (m : MultiPortGraph) (a : Ask) (words : List ℕ) (m′ : MultiPortGraph) : Type 0 where
+  pub told : words ≡ five (numbers m (meant a))
+  pub graph : m′ ≡ after m (meant a)
+
+module _ (m : MultiPortGraph) (a : Ask) {ws : List ℕ} {m′ : MultiPortGraph} where
+  pub done-add : {i o : ℕ} {r : NodeAdded} → a ≡ ask.Add i o → r ≡ addBlock m i o → ws ≡ five (addNumbers (r .answer)) → m′ ≡ r .graph → Done m a ws m′
+  done-add e f g h = record { told = rw (e, ← f) g; graph = rw e (h ∙ ap (λ (k : NodeAdded). k .graph) f) }
+
+  pub done-remove : {n : ℕ} {r : NodeRemoved} → a ≡ ask.Remove n → r ≡ removeBlock m n → ws ≡ five (removeNumbers (r .answer)) → m′ ≡ r .graph → Done m a ws m′
+  done-remove e f g h = record { told = rw (e, ← f) g; graph = rw e (h ∙ ap (λ (k : NodeRemoved). k .graph) f) }
+
+  pub done-resize : {n i o room : ℕ} {r : PortsSet} → a ≡ ask.Resize n i o → r ≡ setCounts m n i o room → room ≡ enough → ws ≡ five (setNumbers (r .answer)) → m′ ≡ r .graph → Done m a ws m′
+  done-resize {n} {i} {o} e f q g h =
+      let z = f ∙ ap (setCounts m n i o) q in
+      record { told = rw (e, ← z) g; graph = rw e (h ∙ ap (λ (k : PortsSet). k .graph) z) }
+
+  pub done-link : {p q : ℕ} {r : PortsLinked} → a ≡ ask.Link p q → r ≡ linkCall m p q → ws ≡ five (linkNumbers (r .answer)) → m′ ≡ r .graph → Done m a ws m′
+  done-link e f g h = record { told = rw (e, ← f) g; graph = rw e (h ∙ ap (λ (k : PortsLinked). k .graph) f) }
+
+  pub done-unlink : {p : ℕ} {r : PortUnlinked} → a ≡ ask.Unlink p → r ≡ cutPort m p → ws ≡ five (cutNumbers (r .answer)) → m′ ≡ r .graph → Done m a ws m′
+  done-unlink e f g h = record { told = rw (e, ← f) g; graph = rw e (h ∙ ap (λ (k : PortUnlinked). k .graph) f) }
+
+  pub done-link-subports : {p o q u : ℕ} {s t : SubportIndex} {r : PortsLinked} → a ≡ ask.LinkSubports p o q u → s ≡ subport# p o → t ≡ subport# q u
+      → r ≡ linkSub m (s .port .0) (s .«subport_offset») (t .port .0) (t .«subport_offset») → ws ≡ five (linkNumbers (r .answer)) → m′ ≡ r .graph → Done m a ws m′
+  done-link-subports {p} {o} {q} {u} {s} {t} e x y f g h =
+      let z = f ∙ ap (λ (k : SubportIndex). linkSub m (k .port .0) (k .«subport_offset») (t .port .0) (t .«subport_offset»)) x ∙ ap (λ (k : SubportIndex). linkSub m p o (k .port .0) (k .«subport_offset»)) y in
+      record { told = rw (e, ← z) g; graph = rw e (h ∙ ap (λ (k : PortsLinked). k .graph) z) }
+
+  pub done-unlink-subport : {p o : ℕ} {s : SubportIndex} {r : PortUnlinked} → a ≡ ask.UnlinkSubport p o → s ≡ subport# p o
+      → r ≡ cutSub m (s .port .0) (s .«subport_offset») → ws ≡ five (cutNumbers (r .answer)) → m′ ≡ r .graph → Done m a ws m′
+  done-unlink-subport e x f g h =
+      let z = f ∙ ap (λ (k : SubportIndex). cutSub m (k .port .0) (k .«subport_offset»)) x in
+      record { told = rw (e, ← z) g; graph = rw e (h ∙ ap (λ (k : PortUnlinked). k .graph) z) }
+
+  pub done-subport-link : {p o : ℕ} {s : SubportIndex} {r : CutAnswer} → a ≡ ask.SubportLink p o → s ≡ subport# p o
+      → r ≡ subportLink m (s .port .0) (s .«subport_offset») → ws ≡ five (cutNumbers r) → m′ ≡ m → Done m a ws m′
+  done-subport-link e x f g h =
+      let z = f ∙ ap (λ (k : SubportIndex). subportLink m (k .port .0) (k .«subport_offset»)) x in
+      record { told = rw (e, ← z) g; graph = rw e h }
+
+  pub done-counts : a ≡ ask.Counts → ws ≡ five (numbers m counts) → m′ ≡ m → Done m a ws m′
+  done-counts e g h = record { told = rw e g; graph = rw e h }
+
+  pub done-refused : a ≡ ask.Refused → ws ≡ 2 ∷ 0 ∷ 0 ∷ 0 ∷ 0 ∷ [] → m′ ≡ m → Done m a ws m′
+  done-refused e g h = record { told = rw e g; graph = rw e h }
+
+-- Refusal 1.
+module _ (requests answers : List ℕ) where
+  pub other-length : (length requests ≡ length answers → ⊥) → listTaken requests answers ≡ false
+  unfolding listTaken
+  other-length h = rw (ne-eqb (length requests) (length answers) h)
+
+  pub odd-length : length requests ≡ length answers → (length requests % 20 ≡ 0 → ⊥) → listTaken requests answers ≡ false
+  unfolding listTaken
+  odd-length e h = rw (eq-eqb (length requests) (length answers) e, ne-eqb (length requests % 20) 0 h)
+
+  pub list-good : length requests ≡ length answers → length requests % 20 ≡ 0 → listTaken requests answers ≡ true
+  unfolding listTaken
+  list-good e h = rw (eq-eqb (length requests) (length answers) e, eq-eqb (length requests % 20) 0 h)
+
+  pub run-refused : listTaken requests answers ≡ false → (1 ≡ returned requests answers) × (answers ≡ written requests answers)
+  unfolding returned written
+  run-refused e = rw e (refl, refl)
+
+  pub run-taken : (answers′ : List ℕ) → listTaken requests answers ≡ true → answers′ ≡ wholeOf requests → (0 ≡ returned requests answers) × (answers′ ≡ written requests answers)
+  unfolding returned written
+  run-taken answers′ e h = rw e (refl, h)

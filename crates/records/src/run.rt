@@ -16,12 +16,13 @@ use portgraph::index::PortIndex;
 ghost use mathlib.Core.Path.{_≡_};
 ghost use Prim.Native.Nat.{_%_};
 ghost use lib.ListN.{length};
+ghost use Rattle.multiportgraph.specs.Reading.{subport#};
 ghost use Rattle.multiportgraph.specs.Calls.{emptyGraph};
 ghost use Rattle.records.specs.Words.{bytesOf, requestsOf};
 ghost use Rattle.records.specs.Run.{answersFrom, returned, written};
 
 fn subport(port: u32, offset: u16) -> SubportIndex
-    ensures { λ r. ⌜ (r .port .0 ≡ port) × (r .«subport_offset» ≡ offset) ⌝ }
+    ensures { λ r. ⌜ r ≡ subport# port offset ⌝ }
 {
     SubportIndex {
         port: PortIndex(port),

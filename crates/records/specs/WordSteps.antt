@@ -5,7 +5,7 @@ use Prim.Native.Nat.{ℕ, zero, suc, _+_, _*_, _/_, _%_, _<_}
 use native.Mathlib.Omega.{arith}
 use lib.ListN.{getD, set, length}
 use lib.Seq.{sets}
-use Rattle.records.specs.Words.{wordAt, bytesOf, Request, requestsFrom}
+use Rattle.records.specs.Words.{wordAt, bytesOf, requestsFrom}
 
 -- four stores lay a word
 pub four-bytes : (l : List ℕ) (i w : ℕ) →

@@ -26,7 +26,7 @@
 --   a step gives only what is listed beyond what its cursor holds (WalkHeldLaws)
 --   the work of a call is what it takes and gives back, and 10 is given exactly if a table would grow past its limit (SpaceLaws)
 -- These speak in the words of Model (a node is live, a port stands at a place) and, for 10, of Space (the work of a call).
--- Forms has the enums and structs in which inner functions give what Reading and Calls say.
+-- Forms has the enums and structs in which inner functions give what Reading and Calls say, Reads what the code reads off lent tables.
 pub mod Reading
 pub mod Calls
 pub mod Wires
@@ -40,6 +40,8 @@ pub mod Bench
 pub mod Inner
 pub mod Space
 pub mod Forms
+pub mod Reads
+pub mod Named
 pub mod Ends
 pub mod Listing
 pub mod WalkRule
@@ -61,6 +63,7 @@ pub mod LinkLaw
 pub mod BookLaws
 pub mod WireRule
 pub mod Theorems
+pub mod ReadLaws
 pub mod CountLaws
 pub mod PortListing
 pub mod HistoryCounts
@@ -70,8 +73,11 @@ pub mod StartLaws
 pub mod SpaceLaws
 -- steps that the functions' proofs cite
 pub mod FormSteps
+pub mod ReadSteps
 pub mod CopySteps
 pub mod PrepareSteps
 pub mod CallSteps
 pub mod LinkSteps
+pub mod NamedSteps
+pub mod NamedLaws
 pub mod BlockSteps

@@ -146,11 +146,17 @@ impl Shape {
         if random.one_in(self.wild) {
             return unheld(random).unwrap_or_else(|| any(random));
         }
-        let node = node.or_else(|| random.pick(&oracle.blocks())).unwrap_or(0);
-        let ports = oracle.ports(node, sides).unwrap_or_default();
-        // The first few ports of a block often, so that they get many wires.
-        let ports = if random.one_in(2) { &ports[..ports.len().min(3)] } else { &ports[..] };
-        random.pick(ports).unwrap_or_else(|| any(random))
+        // A few tries, since a block may have no port of these sides.
+        for _ in 0..5 {
+            let node = node.or_else(|| random.pick(&oracle.blocks())).unwrap_or(0);
+            let ports = oracle.ports(node, sides).unwrap_or_default();
+            // The first few ports of a block often, so that they get many wires.
+            let ports = if random.one_in(2) { &ports[..ports.len().min(3)] } else { &ports[..] };
+            if let Some(port) = random.pick(ports) {
+                return port;
+            }
+        }
+        any(random)
     }
 
     fn with_offset(&self, oracle: &Oracle, random: &mut Random, port: u32) -> End {
@@ -208,12 +214,14 @@ impl Shape {
             }
             None => true,
         });
-        let crowded = oracle.blocks().len() >= self.blocks;
-        match code.expect("a weight for each code") + 1 {
-            1 if crowded && !random.one_in(10) => Call::Remove { node: self.node(oracle, random) },
-            2 if !crowded && !random.one_in(3) => {
-                Call::Add { incoming: self.count(random), outgoing: self.count(random) }
-            }
+        let blocks = oracle.blocks().len();
+        let code = match code.expect("a weight for each code") + 1 {
+            1 if blocks >= self.blocks && !random.one_in(10) => 4,
+            2 if blocks < self.blocks && !random.one_in(3) => 1,
+            _ if blocks == 0 && !random.one_in(self.wild) => 1,
+            code => code,
+        };
+        match code {
             1 => Call::Add { incoming: self.count(random), outgoing: self.count(random) },
             2 => Call::Remove { node: self.node(oracle, random) },
             3 => {

@@ -262,7 +262,8 @@ pub fn run_bytes(requests: &[u8], answers: &mut [u8]) -> Result<(), Refusal> {
     // them, to end for every content, and to keep neither.
     match unsafe { run_records(requests.as_ptr(), requests.len(), answers.as_mut_ptr(), answers.len()) } {
         0 => Ok(()),
-        _ => Err(Refusal::Length),
+        1 => Err(Refusal::Length),
+        other => unreachable!("run_records returns 0 or 1, not {other}"),
     }
 }
 

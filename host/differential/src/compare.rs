@@ -43,7 +43,8 @@ fn first_difference(entry: &Entry, history: &History) -> Result<Option<(usize, A
         return Err(format!("the list is refused: {returned}"));
     }
     let word = |bytes: &[u8]| u32::from_le_bytes(bytes.try_into().expect("four bytes a word"));
-    let ours = answers.chunks_exact(20).map(|answer| std::array::from_fn(|place| word(&answer[4 * place..4 * place + 4])));
+    let ours =
+        answers.chunks_exact(20).map(|answer| std::array::from_fn(|place| word(&answer[4 * place..4 * place + 4])));
     let mut pairs = history.steps.iter().zip(ours).enumerate();
     Ok(pairs.find_map(|(place, (step, ours))| (step.expected != ours).then_some((place, ours))))
 }
@@ -62,7 +63,9 @@ pub fn compare(entry: &Entry, history: &History) -> Result<(), String> {
     for (place, step) in fewest.steps.iter().enumerate() {
         text += &format!("  {:?}: {:?}", step.record, step.expected);
         match difference {
-            Ok(Some((at, ours))) if at == place => text += &format!(" {}, and the port answers {ours:?}", says(step.by)),
+            Ok(Some((at, ours))) if at == place => {
+                text += &format!(" {}, and the port answers {ours:?}", says(step.by))
+            }
             _ => {}
         }
         text += "\n";

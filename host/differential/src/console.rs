@@ -32,8 +32,11 @@ pub enum Command {
     Nonsense(&'static str),
 }
 
-/// What the console must write for a command: items, then the last line.
-type Block = Vec<String>;
+/// What the console writes for a command: items, then the last line.
+pub type Block = Vec<String>;
+
+/// A console: what it writes for a script.
+pub type Console<'a> = dyn Fn(&[Command]) -> Result<Vec<Block>, String> + 'a;
 
 /// Where the program is: `KANHTREV_WIRING`, or where `rt check` writes it.
 pub fn program() -> Result<PathBuf, String> {
@@ -114,7 +117,7 @@ impl Command {
             Command::Connections(..) => "connections",
             Command::Wires => "wires",
             Command::Places => "places",
-            Command::Nonsense(text) => text,
+            Command::Nonsense(_) => "no command",
         }
     }
 
@@ -137,7 +140,8 @@ impl Command {
             Command::NodeLinks(node, sides, low, high) => vec![node, side_number(sides), low, high],
             Command::Neighbours(node, sides, flag) => vec![node, side_number(sides), u32::from(flag)],
             Command::Connections(from, to) => vec![from, to],
-            Command::Blocks | Command::Wires | Command::Places | Command::Nonsense(_) => Vec::new(),
+            Command::Blocks | Command::Wires | Command::Places => Vec::new(),
+            Command::Nonsense(text) => return text.into(),
         };
         format!("{}{}", self.name(), words(&arguments))
     }
@@ -215,11 +219,15 @@ fn expected(script: &[Command]) -> (History, Vec<Block>) {
     (history, blocks)
 }
 
-/// What the console writes for each line.
-fn written(program: &Path, script: &[Command]) -> Result<Vec<Block>, String> {
+/// A console that writes what it must.
+pub fn faultless(script: &[Command]) -> Result<Vec<Block>, String> {
+    Ok(expected(script).1)
+}
+
+/// The program as console.
+pub fn written(program: &Path, script: &[Command]) -> Result<Vec<Block>, String> {
     let failed = |error: std::io::Error| format!("{}: {error}", program.display());
-    let mut child =
-        Process::new(program).stdin(Stdio::piped()).stdout(Stdio::piped()).spawn().map_err(failed)?;
+    let mut child = Process::new(program).stdin(Stdio::piped()).stdout(Stdio::piped()).spawn().map_err(failed)?;
     let input: String = script.iter().map(|command| command.line() + "\n").collect();
     let mut stdin = child.stdin.take().expect("piped");
     // A program that ends early shows as missing lines.
@@ -240,13 +248,15 @@ fn written(program: &Path, script: &[Command]) -> Result<Vec<Block>, String> {
 }
 
 /// The first line answered otherwise, with both answers.
-fn first_difference(program: &Path, script: &[Command]) -> Result<Option<(usize, Block, Block)>, String> {
+fn first_difference(console: &Console, script: &[Command]) -> Result<Option<(usize, Block, Block)>, String> {
     let (_, expected) = expected(script);
-    let mut written = written(program, script)?;
+    let mut written = console(script)?;
     written.resize(written.len().max(expected.len()), Block::new());
-    Ok(expected.into_iter().zip(written).enumerate().find_map(|(line, (expected, written))| {
-        (expected != written).then_some((line, expected, written))
-    }))
+    Ok(expected
+        .into_iter()
+        .zip(written)
+        .enumerate()
+        .find_map(|(line, (expected, written))| (expected != written).then_some((line, expected, written))))
 }
 
 /// A script without what may not follow the resize set apart.
@@ -262,22 +272,22 @@ fn tidy(script: &[Command]) -> Vec<Command> {
     kept
 }
 
-fn compare(program: &Path, script: &[Command], tally: &mut Tally) -> Result<(), String> {
-    let Some((line, _, _)) = first_difference(program, script)? else {
+fn compare(console: &Console, script: &[Command], tally: &mut Tally) -> Result<(), String> {
+    let Some((line, _, _)) = first_difference(console, script)? else {
         let (history, blocks) = expected(script);
         tally.count(&history.steps);
         for (command, block) in script.iter().zip(blocks) {
             tally.items += block.len() as u64 - 1;
             if !matches!(command, Command::Call(_)) {
-                tally.note(command.name());
+                tally.list(command.name());
             }
         }
         return Ok(());
     };
-    let differs = |script: &[Command]| !matches!(first_difference(program, &tidy(script)), Ok(None));
+    let differs = |script: &[Command]| !matches!(first_difference(console, &tidy(script)), Ok(None));
     let fewest = tidy(&fewest(script[..=line].to_vec(), differs));
     let lines: String = fewest.iter().map(|command| format!("  {}\n", command.line())).collect();
-    let (_, expected, written) = first_difference(program, &fewest)?.ok_or("a difference that comes and goes")?;
+    let (_, expected, written) = first_difference(console, &fewest)?.ok_or("a difference that comes and goes")?;
     Err(format!(
         "after {} lines of the script; the fewest that show it:\n{lines}must be {expected:?}\nand is  {written:?}",
         line + 1
@@ -343,11 +353,11 @@ fn draw(shape: &Shape, seed: u64, lines: usize) -> Vec<Command> {
 }
 
 /// Runs random scripts.
-pub fn run(program: &Path, seeds: Range<u64>, tally: &mut Tally) -> Result<(), String> {
+pub fn run(console: &Console, seeds: Range<u64>, tally: &mut Tally) -> Result<(), String> {
     for seed in seeds {
         let shape = &Shape::ALL[seed as usize % Shape::ALL.len()];
         let script = draw(shape, seed, 150);
-        compare(program, &script, tally).map_err(|text| format!("console, {}, seed {seed}: {text}", shape.name))?;
+        compare(console, &script, tally).map_err(|text| format!("console, {}, seed {seed}: {text}", shape.name))?;
     }
     Ok(())
 }

@@ -118,7 +118,8 @@ impl History {
             Call::Resize { node, incoming, outgoing } => {
                 let present = |side| Some(self.oracle.ports(node, Sides::One(side)).ok()?.len() as u32);
                 let old = (present(Side::Incoming)?, present(Side::Outgoing)?);
-                let within = (1..self.oracle.capacity(node)? as u64).contains(&(u64::from(incoming) + u64::from(outgoing)));
+                let within =
+                    (1..self.oracle.capacity(node)? as u64).contains(&(u64::from(incoming) + u64::from(outgoing)));
                 Some(match (incoming.cmp(&old.0).is_ge(), outgoing.cmp(&old.1).is_ge()) {
                     _ if old == (incoming, outgoing) => "resize to equal counts",
                     _ if !within => "resize by a new block",

@@ -5,7 +5,7 @@
 //! - [`exhaustive`], [`damage`]: all short lists over a few calls; lists of wrong lengths and altered bytes.
 //! - [`console`]: listings and move lists, through the program `wiring`.
 //! - [`spoil`]: wrong answers put in by hand, to show that they are caught.
-//! - [`plain`]: the original without the driver's checks, for the benchmark.
+//! - [`lists`], [`plain`]: lists that the original answers itself, and the original without the driver, for the benchmark.
 //!
 //! What a call must answer, and whether it is compared at all, is decided by the driver on the original's side.
 
@@ -14,6 +14,7 @@ pub mod console;
 pub mod damage;
 pub mod exhaustive;
 pub mod history;
+pub mod lists;
 pub mod plain;
 pub mod runs;
 pub mod spoil;

@@ -1,13 +1,14 @@
 //! The differential run. `--records-only` leaves out the program `wiring`; `--seed N` and `--calls N` choose where the
-//! seeds begin and how many calls of random lists are compared at least; `--spoil K` puts in the wrong answer of kind K
-//! (from 0) and must be caught.
+//! seeds begin and how many calls of random lists are compared at least; `--spoil K` puts in the wrong answers of kind K
+//! (from 0), which must be caught.
 
 use std::env;
 use std::process::ExitCode;
 
 use differential::compare::{run_records, Entry};
+use differential::console::{Command, Console};
 use differential::runs::Plan;
-use differential::spoil::{spoiled, WRONG};
+use differential::spoil::{spoiled, spoiled_listing, KINDS};
 use differential::tally::Tally;
 use differential::{console, runs};
 
@@ -32,7 +33,7 @@ fn options() -> Result<Options, String> {
             "--records-only" => options.records_only = true,
             "--seed" => options.plan.seed = number()?,
             "--calls" => options.plan.calls = number()?,
-            "--spoil" => options.spoil = Some(number()? as usize % WRONG.len()),
+            "--spoil" => options.spoil = Some(number()? as usize % KINDS),
             _ => return Err(format!("unknown word {word}")),
         }
     }
@@ -56,8 +57,13 @@ fn run(options: &Options, total: &mut Tally) -> Result<(), String> {
         let mut scripts = Tally::default();
         let seeds = options.plan.script_seeds();
         println!("console: {} scripts, seeds {} to {}", options.plan.scripts, seeds.start, seeds.end - 1);
-        console::run(&program, seeds, &mut scripts)?;
-        println!("{scripts}items of listings and move lists: {}\n", scripts.items);
+        let written = |script: &[Command]| console::written(&program, script);
+        let console: &Console = &|script| match spoil {
+            Some(kind) => spoiled_listing(kind, &written, script),
+            None => written(script),
+        };
+        console::run(console, seeds, &mut scripts)?;
+        println!("{scripts}");
         total.add(&scripts);
     }
     if random.compared() < LEAST {
@@ -84,7 +90,8 @@ fn main() -> ExitCode {
     if let Err(message) = result {
         println!("FAILED: {message}");
     }
-    println!("{} calls compared with the Rust, {} expected by 01", total.compared(), total.expected());
-    println!("{} passed, {failed} failed", total.compared() + total.expected());
+    let (compared, expected, listings) = (total.compared(), total.expected(), total.listings());
+    println!("{compared} calls compared with the Rust, {expected} expected by 01, {listings} listings compared");
+    println!("{} passed, {failed} failed", compared + expected + listings);
     ExitCode::from(u8::from(failed > 0))
 }

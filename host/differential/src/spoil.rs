@@ -1,6 +1,7 @@
 //! Wrong answers put in by hand, one kind at a time, to show that each is caught.
 
 use crate::compare::run_records;
+use crate::console::{Block, Command, Console};
 
 type Words = [u32; 5];
 
@@ -60,6 +61,69 @@ pub const WRONG: [Wrong; 12] = [
     Wrong { name: "a list of wrong length clears the answer buffer", alter: |_, _| None },
 ];
 
+/// A kind of wrong listing, and how it alters what the console writes for a command, where it applies.
+pub struct WrongListing {
+    pub name: &'static str,
+    alter: fn(&mut Block) -> bool,
+}
+
+/// The kinds of wrong listings.
+pub const WRONG_LISTINGS: [WrongListing; 4] = [
+    WrongListing {
+        name: "a listing leaves out its first item",
+        alter: |block| {
+            let applies = block.len() > 1;
+            if applies {
+                block.remove(0);
+            }
+            applies
+        },
+    },
+    WrongListing {
+        name: "a listing has its first item twice",
+        alter: |block| {
+            let applies = block.len() > 1;
+            if applies {
+                block.insert(0, block[0].clone());
+            }
+            applies
+        },
+    },
+    WrongListing {
+        name: "a listing has its first two items the other way round",
+        alter: |block| {
+            let applies = block.len() > 2;
+            if applies {
+                block.swap(0, 1);
+            }
+            applies
+        },
+    },
+    WrongListing {
+        name: "a move list reports a moved port as removed",
+        alter: |block| {
+            let words: Vec<&str> = block[0].split_whitespace().collect();
+            let applies = block.len() > 1 && words.len() == 3 && words[1] == "0";
+            if applies {
+                block[0] = format!("  {} 1 {}", words[0], words[2]);
+            }
+            applies
+        },
+    },
+];
+
+/// All kinds: those of answers, then those of listings.
+pub const KINDS: usize = WRONG.len() + WRONG_LISTINGS.len();
+
+/// As a console, with one listing altered: the last of the script that the kind applies to.
+pub fn spoiled_listing(kind: usize, console: &Console, script: &[Command]) -> Result<Vec<Block>, String> {
+    let mut blocks = console(script)?;
+    if let Some(wrong) = kind.checked_sub(WRONG.len()) {
+        blocks.iter_mut().rev().filter(|block| !block.is_empty()).any(|block| (WRONG_LISTINGS[wrong].alter)(block));
+    }
+    Ok(blocks)
+}
+
 /// As the linked entry, with one answer altered: the last of the list that the kind applies to.
 pub fn spoiled(kind: usize, requests: &[u8], answers: &mut [u8]) -> u32 {
     let returned = run_records(requests, answers);
@@ -68,8 +132,8 @@ pub fn spoiled(kind: usize, requests: &[u8], answers: &mut [u8]) -> u32 {
         (1, 11) => answers.fill(0),
         _ => {}
     }
-    if returned == 1 {
-        return 1;
+    if returned == 1 || kind >= WRONG.len() {
+        return returned;
     }
     let read = |bytes: &[u8]| -> Words {
         std::array::from_fn(|place| u32::from_le_bytes(bytes[4 * place..4 * place + 4].try_into().expect("four bytes")))

@@ -5,14 +5,13 @@
 set -euo pipefail
 cd "$(dirname "$0")"
 bash setup.sh
-if [ -z "${KANHTREV_RECORDS:-}" ]; then
-  (cd .. && rt staticlib records >/dev/null)
-fi
-if [ -z "${KANHTREV_WIRING:-}" ] && [[ " $* " != *" --records-only "* ]]; then
-  (cd .. && rt check wiring >/dev/null)
-fi
 log=$(mktemp)
 trap 'rm -f "$log"' EXIT
+made() { # WORDS of rt: what it says is shown only if it fails
+  (cd .. && rt "$@") >"$log" 2>&1 || { tail -n 20 "$log"; echo "rt $* failed"; exit 1; }
+}
+[ -n "${KANHTREV_RECORDS:-}" ] || made staticlib records
+[ -n "${KANHTREV_WIRING:-}" ] || [[ " $* " == *" --records-only "* ]] || made check wiring
 status=0
 cargo test --offline --release --workspace 2>&1 | tee "$log" || status=1
 cargo run --offline --release -q -p differential -- "$@" | tee -a "$log" || status=1

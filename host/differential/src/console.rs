@@ -335,20 +335,23 @@ fn draw(shape: &Shape, seed: u64, lines: usize) -> Vec<Command> {
         script.push(Command::Call(call));
     }
     let lines = script.len() + lines;
-    while script.len() < lines {
+    while script.len() < lines && !history.ended {
         let call = shape.call(&history.oracle, &mut random);
         let apart = history.set_apart(call.to_record());
         let malformed = history.oracle.clone().ask(call).expected().is_some_and(|answer| answer[0] == 2);
         let command = match random.below(100) {
             0 => Command::Nonsense(random.pick(&NONSENSE).expect("some")),
             1..=49 => draw_listing(shape, &history, &mut random),
-            _ if history.ended || malformed || (apart && !random.one_in(6)) => Command::Places,
+            _ if malformed || (apart && !random.one_in(12)) => Command::Places,
             _ => Command::Call(call),
         };
         command.block(&mut history, 0);
         script.push(command);
     }
     script.extend([Command::Wires, Command::Places, Command::Blocks, Command::Call(Call::Counts)]);
+    for node in history.oracle.blocks().into_iter().take(8) {
+        script.extend([Command::Subports(node, Sides::Both), Command::NodeLinks(node, Sides::Both, 0, 0)]);
+    }
     script
 }
 

@@ -3,6 +3,7 @@ use mathlib.Core.Path.{_≡_, refl, sym, _∙_, ap, subst}
 use mathlib.Core.Bool.{Bool, true, false}
 use Prim.Native.Nat.{ℕ, _+_, _<_}
 use Rattle.portgraph.specs.Entries.{pick}
+use Rattle.portgraph.specs.Tables.{at}
 use Rattle.portgraph.specs.Lookups.{port#}
 use Rattle.portgraph.specs.Meaning.{sameSide}
 use Rattle.portgraph.specs.Calls.{linkPorts}
@@ -11,7 +12,7 @@ use Rattle.portgraph.specs.Model.{firstOf, sideStart, countOf}
 use Rattle.portgraph.specs.declared.direction.Direction.{Direction}
 use Rattle.portgraph.specs.declared.index.NodeIndex.{NodeIndex}
 use Rattle.portgraph.specs.declared.portgraph.PortsLinked as lower
-use Rattle.multiportgraph.specs.Reading.{Port, dead, hidden, visible, seen, subport#}
+use Rattle.multiportgraph.specs.Reading.{Port, dead, hidden, visible, seen, isSplit, subport#}
 use Rattle.multiportgraph.specs.Calls as calls
 use Rattle.multiportgraph.specs.Calls.{withGraph, prepare, linkRefused, linkPrepared, linkSecond, linkBoth, linkFirst, linkSeen, linkCall}
 use Rattle.multiportgraph.specs.Forms.{seenAs, preparedAs}
@@ -31,6 +32,16 @@ pub record OnBlock (m : MultiPortGraph) (p : ℕ) (d : Direction) : Type 0 where
   pub wf : MultiWf m
   pub node : ℕ
   pub is : seen m p ≡ visible node d
+
+-- one that is linked and not split, and one that is split
+pub record LinkedPort (m : MultiPortGraph) (p : ℕ) (d : Direction) : Type 0 where
+  pub block : OnBlock m p d
+  pub plain : isSplit m p ≡ false
+  pub linked : at (m .graph .«port_link») p ≡ 0 → ⊥
+
+pub record SplitPort (m : MultiPortGraph) (p : ℕ) (d : Direction) : Type 0 where
+  pub block : OnBlock m p d
+  pub split : isSplit m p ≡ true
 
 -- two ports of blocks
 pub record BothOnBlock (m : MultiPortGraph) (a : ℕ) (d : Direction) (b : ℕ) (e : Direction) : Type 0 where

@@ -198,7 +198,7 @@ module _ {m : MultiPortGraph} {M : Model} (f : Fine m M) where
       let n : countOf (M .node c) Incoming ≡ 1 = ap (countOf (M .node c)) (sym s) ∙ copy-count f c h in
       omega arith
 
-  far-is : (x y : model.Place) → M .join x ≡ to y → farIn (m .graph .«port_link») (slotOf (M .node) x) ≡ slotOf (M .node) y
+  pub far-is : (x y : model.Place) → M .join x ≡ to y → farIn (m .graph .«port_link») (slotOf (M .node) x) ≡ slotOf (M .node) y
   unfolding farIn
   far-is x y j = let e = link-to (f .good) (f .holds) x y (f .good .joinValid x y j) j in omega arith
 
@@ -222,7 +222,7 @@ module _ {m : MultiPortGraph} {M : Model} (f : Fine m M) where
 
   -- Subports and ends.
   module _ (x : model.Place) (k : Hangs m M x) where
-    copy-place : farIn (m .graph .«port_link») (slotOf (M .node) x) ≡ slotOf (M .node) (copyPlace m (k .copy))
+    pub copy-place : farIn (m .graph .«port_link») (slotOf (M .node) x) ≡ slotOf (M .node) (copyPlace m (k .copy))
     copy-place = far-is x (copyPlace m (k .copy)) (k .back)
 
     some : 0 < countOf (M .node (k .copy)) (x .side)
@@ -240,7 +240,7 @@ module _ {m : MultiPortGraph} {M : Model} (f : Fine m M) where
     unfolding subportsIn
     subports-there = row-count row (x .side) _ stands some ∙ sym (k .count)
 
-    first-there : firstIn (m .graph .«port_link») (m .graph .«port_meta») (slotOf (M .node) x) (x .side) ≡ subportAt m (slotOf (M .node) x) (x .side) 0
+    pub first-there : firstIn (m .graph .«port_link») (m .graph .«port_meta») (slotOf (M .node) x) (x .side) ≡ subportAt m (slotOf (M .node) x) (x .side) 0
     unfolding firstIn
     first-there = row-first row (x .side) _ stands some ∙ (omega arith ∙ sym (k .reads 0 some))
 

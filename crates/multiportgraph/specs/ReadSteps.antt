@@ -231,3 +231,9 @@ module _ (links owners : List ℕ) (flags : List Bool) (p w a : ℕ) (e : w ≡ 
   pub one-wire : (v q : ℕ) (s : SubportIndex) → (a ≡ 0 → ⊥) → v ≡ p → q ≡ farIn links v → s ≡ subportIn links owners flags q → cutting.Found s ≡ wireIn links owners flags p
   unfolding wireIn
   one-wire v q s z h g k = rw (ne-eqb (at links p) 0 (λ y. z (f ∙ ap (at links) e ∙ y)), k, g, h)
+
+pub subports-bound : (links owners : List ℕ) (p : ℕ) (d : Direction) → subportsIn links owners p d ≤ portSlots
+unfolding subportsIn countBeside
+subports-bound links owners p Incoming =
+    let h = down-bound owners (at owners (farIn links p - 1)) (farIn links p) in omega arith
+subports-bound links owners p Outgoing = up-bound owners (at owners (farIn links p + 1)) (farIn links p + 1)

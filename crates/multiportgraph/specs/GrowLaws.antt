@@ -1,9 +1,8 @@
 -- What one more subport does to the tables: the copy port's mark moves with it, and the new port follows the others.
-use mathlib.Core.Path.{_≡_, refl, sym, _∙_, ap, subst, transport}
+use mathlib.Core.Path.{_≡_, refl, sym, _∙_, ap, transport}
 use mathlib.Core.Bool.{Bool, true, false}
-use mathlib.Core.List.{List}
 use mathlib.Core.Logic.{⊎-elim}
-use Prim.Native.Nat.{ℕ, _+_, _-_, _≤_, _<_}
+use Prim.Native.Nat.{ℕ, _+_, _-_, _<_}
 use native.Mathlib.Omega.{arith}
 use lib.ListN.{length, getD, set, length-set}
 use lib.Seq.{getD-set-same, getD-set-other, ext-getD, lt-length-set}
@@ -11,8 +10,7 @@ use Rattle.portgraph.specs.Limits.{portSlots}
 use Rattle.portgraph.specs.Entries.{reversed, portsOn}
 use Rattle.portgraph.specs.Lookups.{numPorts}
 use Rattle.portgraph.specs.Model as model
-use Rattle.portgraph.specs.Model.{Model, to, Slots, live, Valid, slotOf, countOf}
-use Rattle.portgraph.specs.Resize.{setNumPorts}
+use Rattle.portgraph.specs.Model.{Model, to, Slots, Valid, slotOf, countOf}
 use Rattle.portgraph.specs.GoodSlots.{zero-is-not-one, slot-in-range, slots-apart, joined-is-valid}
 use Rattle.portgraph.specs.declared.direction.Direction.{Direction}
 use Rattle.portgraph.specs.declared.direction.Direction.the-variants.{Incoming, Outgoing}
@@ -24,9 +22,9 @@ use Rattle.multiportgraph.specs.Reading.{isHidden, isSplit, copySide, co
 use Rattle.multiportgraph.specs.Calls.{recounted, moreIn, moreOut, enough}
 use Rattle.multiportgraph.specs.Inner.{inner#, copyPlace, Fine, Marked, copy-port, main-port, Seen}
 use Rattle.multiportgraph.specs.Ends.{Hangs, hangs, copy-valid, copy-count, count-of, one-copy, main-seen, block-seen, split-has-copy}
-use Rattle.multiportgraph.specs.RecountLaws.{Recount, SomeRecount, WasMarked, number-cases, marked-place, marks-long, other-slot, recount-marks, marked-was, set-recounts, copy-place-same, grown, growth#, valid-kept, joins-same, ends-same, hidden-same, grown-fine, fresh, fresh-valid, fresh-slot, more-longer}
+use Rattle.multiportgraph.specs.RecountLaws.{Recount, WasMarked, number-cases, marked-place, marks-long, other-slot, recount-marks, marked-was, set-recounts, copy-place-same, grown, growth#, valid-kept, joins-same, ends-same, hidden-same, grown-fine, fresh, fresh-valid, fresh-slot, more-longer}
 use Rattle.multiportgraph.specs.Reads.{farIn, firstIn, grownIn, grownOut}
-use Rattle.multiportgraph.specs.ReadLaws.{copy-place, first-there, far-is}
+use Rattle.multiportgraph.specs.ReadLaws.{first-there, far-is}
 use Rattle.multiportgraph.specs.LinkSteps.{SplitPort}
 use Rattle.multiportgraph.specs.declared.multiportgraph.MultiPortGraph.{MultiPortGraph}
 

@@ -1,12 +1,11 @@
 -- What a call names by the tables is what it names by the graph, so that each call is what Named makes of it.
-use mathlib.Core.Path.{_≡_, refl, sym, _∙_, ap, subst}
+use mathlib.Core.Path.{_≡_, refl, sym, _∙_, ap}
 use mathlib.Core.Bool.{Bool, true, false}
 use mathlib.Core.List.{List}
-use mathlib.Core.Logic.{_⊎_, inl, inr}
-use Prim.Native.Nat.{ℕ, zero, suc, _+_, _-_, _≤_, _<_}
+use Prim.Native.Nat.{ℕ, _+_, _-_}
 use native.Mathlib.Omega.{arith}
 use lib.Dec.{eqb, leb, ltb}
-use borrow.Author.Tests.{eq-eqb, ne-eqb, eqb-true, eqb-false, le-leb, ltb-true}
+use borrow.Author.Tests.{eqb-true, eqb-false, le-leb, ltb-true}
 use Rattle.portgraph.specs.Limits.{nodeSlots, portSlots}
 use Rattle.portgraph.specs.Entries.{pick, reversed}
 use Rattle.portgraph.specs.Tables.{at, linkBoth, cut, linkCount}
@@ -15,7 +14,7 @@ use Rattle.portgraph.specs.Lookups.{port#, portAt, portLink, linkOf, numPorts}
 use Rattle.portgraph.specs.LookupSteps.{no-link, link-to, link-by-sides, link-first-taken, link-second-taken, link-made, unlink-live}
 use Rattle.portgraph.specs.Calls.{withLinks, linkPorts, unlinkPort, removeNode}
 use Rattle.portgraph.specs.Model as model
-use Rattle.portgraph.specs.Model.{Model, Far, nowhere, to, Valid, slotOf}
+use Rattle.portgraph.specs.Model.{Model, nowhere, to, Valid, slotOf}
 use Rattle.portgraph.specs.GoodSlots.{zero-is-not-one}
 use Rattle.portgraph.specs.PlaceLaws.{metaOfPlace, port-of-place, link-none}
 use Rattle.portgraph.specs.declared.direction.Direction.{Direction}
@@ -30,11 +29,11 @@ use Rattle.portgraph.specs.declared.portgraph.PortsLinked as lower-linked
 use Rattle.portgraph.specs.declared.portgraph.PortUnlinked as lower-unlinked
 use Rattle.portgraph.specs.declared.portgraph.LinkAnswer.the-variants as lower-link
 use Rattle.portgraph.specs.declared.slots.NodeRemoved.{NodeRemoved}
-use Rattle.multiportgraph.specs.Reading.{isLinked, hasLink, isSplit, Port, dead, hidden, visible, seen, seenEntry, copyNode, subports, subportAt, End, inner, lacking, endAt, portOf, subport#, asRead, copySide}
+use Rattle.multiportgraph.specs.Reading.{isLinked, hasLink, isSplit, Port, dead, hidden, visible, seen, copyNode, subports, subportAt, End, inner, lacking, endAt, portOf, subport#, asRead, copySide}
 use Rattle.multiportgraph.specs.Calls as calls
-use Rattle.multiportgraph.specs.Calls.{withGraph, goodOffset, unsplit, lowestFree, reuse, prepare, subportLink, linkOfSeen, linkOfEnd, farSubport, cutSub, cutSubSeen, cutEnd, cutPlain, cutPort, cutRefused, linkRefused, linkInner, linkEnds, linkSecondEnd, linkFirstEnd, linkSubSeen, linkSub, linkFirst, linkSecond, linkPrepared, linkCall}
+use Rattle.multiportgraph.specs.Calls.{withGraph, goodOffset, unsplit, lowestFree, reuse, prepare, subportLink, linkOfSeen, linkOfEnd, farSubport, cutSub, cutSubSeen, cutEnd, cutPlain, cutPort, cutRefused, linkRefused, linkInner, linkEnds, linkSecondEnd, linkFirstEnd, linkSubSeen, linkSub, linkFirst, linkSecond, linkCall}
 use Rattle.multiportgraph.specs.Forms.{preparedAs, seenAs, flagAt, putFlag, lowestUnlinked}
-use Rattle.multiportgraph.specs.Inner.{inner#, Fine, MultiWf}
+use Rattle.multiportgraph.specs.Inner.{Fine, MultiWf}
 use Rattle.multiportgraph.specs.Ends.{BlockPort, block-seen, port-of, count-of}
 use Rattle.multiportgraph.specs.CallSteps.{cut-port-plain}
 use Rattle.multiportgraph.specs.CopySteps.{copy-removed, unsplit-split}
@@ -42,9 +41,9 @@ use Rattle.multiportgraph.specs.SplitLaws.{PreparedEnd}
 use Rattle.multiportgraph.specs.PrepareLaws.{prepare-law}
 use Rattle.multiportgraph.specs.PrepareSteps.{lower-wf, first-fits, lowest-same}
 use Rattle.multiportgraph.specs.LinkSteps.{OnBlock, LinkedPort, SplitPort, BothOnBlock, is-ready, others-stay, both-linked}
-use Rattle.multiportgraph.specs.Reads.{farIn, ownerIn, seenIn, endIn, wireIn, subportsIn, firstIn}
+use Rattle.multiportgraph.specs.Reads.{farIn, ownerIn, seenIn, wireIn, subportsIn, firstIn}
 use Rattle.multiportgraph.specs.ReadLaws.{mark-told, seen-read, owner-read, copy-read, side-read, subports-read, first-read, end-read-off, wire-read, end-is-port}
-use Rattle.multiportgraph.specs.Named.{endOr, endSeen, endNamed, freeEnds, secondOr, secondSeen, secondEnd, firstOr, firstEnd, bothSeen, linkNamed, readIn, reuseAt, reuseIn, needIn, endsReady, secondReady, bothReady, firstReady, firstNeed, bothNeed, linkSeen, linkNeed, joinedAt, cutAt, readNamed, cutNamed, linkBy, preparedBy, linkedBy}
+use Rattle.multiportgraph.specs.Named.{endOr, endSeen, endNamed, freeEnds, secondOr, secondSeen, secondEnd, firstOr, firstEnd, bothSeen, linkNamed, readIn, reuseAt, reuseIn, needIn, secondReady, bothReady, firstReady, firstNeed, bothNeed, linkSeen, linkNeed, joinedAt, cutAt, readNamed, cutNamed, linkBy, preparedBy, linkedBy}
 use Rattle.multiportgraph.specs.declared.multiportgraph.MultiPortGraph.{MultiPortGraph}
 use Rattle.multiportgraph.specs.declared.multiportgraph.SubportIndex.{SubportIndex}
 use Rattle.multiportgraph.specs.declared.multiportgraph.Refusal.{Refusal}

@@ -19,12 +19,11 @@ use Rattle.portgraph.specs.declared.direction.Direction.the-variants.{Incoming,
 use Rattle.portgraph.specs.declared.port_entry.PortMeta.{PortMeta}
 use Rattle.portgraph.specs.declared.port_entry.PortEntry.{PortEntry}
 use Rattle.portgraph.specs.declared.port_entry.PortEntry.the-variants as port-variants
-use Rattle.portgraph.specs.declared.portgraph.PortLink.the-variants as link-variants
 use Rattle.multiportgraph.specs.Reading.{isHidden, isSplit, hidden, visible, seenEntry, seen, ownerOf, copyNode, copySide, subports, subportAt, inner, lacking, End, endAt, portOf, subport#, subportOf}
 use Rattle.multiportgraph.specs.Calls.{farSubport}
 use Rattle.multiportgraph.specs.Forms.{flagAt}
 use Rattle.multiportgraph.specs.FormSteps.{flag-is}
-use Rattle.multiportgraph.specs.Inner.{inner#, copyPlace, Fine, Seen, IsEnd}
+use Rattle.multiportgraph.specs.Inner.{inner#, copyPlace, Fine, IsEnd}
 use Rattle.multiportgraph.specs.Ends.{BlockPort, EndOf, block-seen, Hangs, split-has-copy, copy-count, copy-valid, port-of, owner-of, end-side, end-read, ends-join-ends, subport-of-hidden, subport-of-block}
 use Rattle.multiportgraph.specs.Reads.{farIn, ownerIn, seenOwner, seenIn, run, ownsUp, ownsDown, runUp, runDown, countBeside, firstBeside, endBeside, subportsIn, firstIn, endIn, copyBeside, subportOwned, subportIn, wireIn}
 use Rattle.multiportgraph.specs.declared.multiportgraph.MultiPortGraph.{MultiPortGraph}

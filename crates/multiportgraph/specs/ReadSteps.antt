@@ -1,10 +1,9 @@
 -- Steps of the leaves that read lent tables, over plain values.
-use mathlib.Core.Path.{_≡_, refl, sym, _∙_, ap}
+use mathlib.Core.Path.{_≡_, sym, _∙_, ap}
 use mathlib.Core.Bool.{Bool, true, false}
 use mathlib.Core.List.{List}
 use Prim.Native.Nat.{ℕ, zero, suc, _+_, _-_, _≤_, _<_, min}
 use native.Mathlib.Omega.{arith}
-use lib.Dec.{eqb, ltb}
 use borrow.Author.Tests.{eq-eqb, ne-eqb, lt-ltb, le-ltb}
 use Rattle.portgraph.specs.Limits.{nodeSlots, portSlots}
 use Rattle.portgraph.specs.Entries.{pick, portEntry}
@@ -20,7 +19,6 @@ use Rattle.multiportgraph.specs.declared.ends.SeenPort.the-variants as s
 use Rattle.multiportgraph.specs.declared.ends.EndFound.{EndFound}
 use Rattle.multiportgraph.specs.declared.ends.EndFound.the-variants as end-found
 use Rattle.multiportgraph.specs.declared.multiportgraph.SubportIndex.{SubportIndex}
-use Rattle.multiportgraph.specs.declared.multiportgraph.CutAnswer.{CutAnswer}
 use Rattle.multiportgraph.specs.declared.multiportgraph.CutAnswer.the-variants as cutting
 
 -- The loop of a run.

@@ -1,6 +1,6 @@
 -- What can be read off the tables alone: owners, links, marks and hidden flags, each of which can be lent.
 -- The ports of a hidden node lie in a row: the subports are the slots of one owner beside the copy port.
-use mathlib.Core.Bool.{Bool, true, false}
+use mathlib.Core.Bool.{Bool}
 use mathlib.Core.List.{List}
 use Prim.Native.Nat.{ℕ, zero, suc, _+_, _-_, min}
 use lib.Dec.{eqb, ltb}

@@ -3,7 +3,7 @@ use mathlib.Core.Path.{_≡_, refl, sym, _∙_, ap, transport}
 use mathlib.Core.Bool.{Bool, true, false}
 use mathlib.Core.List.{List}
 use mathlib.Core.Logic.{_⊎_, inl, inr}
-use Prim.Native.Nat.{ℕ, _+_, _-_, _≤_, _<_}
+use Prim.Native.Nat.{ℕ, _+_, _-_}
 use native.Mathlib.Omega.{arith}
 use lib.ListN.{set}
 use Rattle.portgraph.specs.Limits.{nodeSlots, portSlots}
@@ -17,13 +17,12 @@ use Rattle.portgraph.specs.PlaceLaws.{link-none}
 use Rattle.portgraph.specs.declared.direction.Direction.{Direction}
 use Rattle.portgraph.specs.declared.index.NodeIndex.{NodeIndex}
 use Rattle.portgraph.specs.declared.index.PortIndex.{PortIndex}
-use Rattle.portgraph.specs.declared.portgraph.PortGraph.{PortGraph}
 use Rattle.portgraph.specs.declared.slots.AddAnswer.the-variants as lower-add
 use Rattle.portgraph.specs.declared.slots.NodeAdded.{NodeAdded}
 use Rattle.portgraph.specs.declared.resize.SetAnswer.{SetAnswer}
 use Rattle.portgraph.specs.declared.resize.SetAnswer.the-variants as lower-set
 use Rattle.portgraph.specs.declared.resize.PortsSet.{PortsSet}
-use Rattle.multiportgraph.specs.Reading.{portOf, copyNode, isSplit, subports}
+use Rattle.multiportgraph.specs.Reading.{portOf, copyNode, subports}
 use Rattle.multiportgraph.specs.Calls.{copyIn, copyOut, splitGraph, splitPort, splitBy, split, recounted, more, enough, grownBy, grow}
 use Rattle.multiportgraph.specs.Ends.{block-seen}
 use Rattle.multiportgraph.specs.Forms.{putFlag, preparedAs}

@@ -78,6 +78,8 @@ pub mod CopySteps
 pub mod PrepareSteps
 pub mod CallSteps
 pub mod LinkSteps
+pub mod GrowLaws
+pub mod TableSteps
 pub mod NamedSteps
 pub mod NamedLaws
 pub mod BlockSteps

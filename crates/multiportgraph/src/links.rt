@@ -13,21 +13,27 @@ use portgraph::tables::link_both as join;
 ghost use mathlib.Core.Path.{_≡_};
 ghost use Rattle.multiportgraph.specs.Calls.{linkNumbers, linkCall, linkFirst, linkBoth, prepare};
 ghost use Rattle.multiportgraph.specs.Inner.{MultiWf};
-ghost use Rattle.multiportgraph.specs.LinkSteps.{BothOnBlock};
+ghost use Rattle.multiportgraph.specs.LinkSteps.{OnBlock, BothOnBlock};
 
 impl MultiPortGraph {
     // The second port is not live: the preparation of the first stays.
     fn link_first(self, a: u32, d: Direction, b: PortIndex) -> PortsLinked
-        requires { ⌜ MultiWf self ⌝ }
+        requires { ⌜ OnBlock self a d ⌝ }
         ensures { λ r. ⌜ r ≡ linkFirst self (b .0) (prepare self a d) ⌝ }
     {
         let first = self.prepare(a, d);
         let ready = first.ready;
         if ready {
             let after = first.graph;
-            return after.link_refused(Refusal::UnknownSecondPort(b));
+            return PortsLinked {
+                graph: after,
+                answer: LinkAnswer::Refused(Refusal::UnknownSecondPort(b)),
+            };
         }
-        self.link_refused(Refusal::NoRoom)
+        PortsLinked {
+            graph: self,
+            answer: LinkAnswer::Refused(Refusal::NoRoom),
+        }
     }
 
     // Both ports are live: both ends are prepared.
@@ -46,16 +52,17 @@ impl MultiPortGraph {
                 let x = first.port;
                 let y = second.port;
                 if same_side(d, e) {
-                    return last.link_refused(Refusal::IncompatibleDirections(
-                        PortIndex(x),
-                        PortIndex(y),
-                        d,
-                    ));
+                    return PortsLinked {
+                        graph: last,
+                        answer: LinkAnswer::Refused(Refusal::IncompatibleDirections(
+                            PortIndex(x),
+                            PortIndex(y),
+                            d,
+                        )),
+                    };
                 }
-                let graph = last.graph;
-                let linked = graph.link_ports(PortIndex(x), PortIndex(y));
-                let after = linked.graph;
-                last.graph = after;
+                join(&mut last.graph.port_link, x, y);
+                last.graph.link_count = last.graph.link_count + 1;
                 return PortsLinked {
                     graph: last,
                     answer: LinkAnswer::Linked(
@@ -71,7 +78,10 @@ impl MultiPortGraph {
                 };
             }
         }
-        self.link_refused(Refusal::NoRoom)
+        PortsLinked {
+            graph: self,
+            answer: LinkAnswer::Refused(Refusal::NoRoom),
+        }
     }
 
     // Links two ports; each end takes the lowest offset without a wire.

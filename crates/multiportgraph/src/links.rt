@@ -5,8 +5,11 @@ use crate::multiportgraph::MultiPortGraph;
 use crate::multiportgraph::PortsLinked;
 use crate::multiportgraph::Refusal;
 use crate::multiportgraph::SubportIndex;
+use crate::named::EndNeed;
 use crate::named::LinkNeed;
 use crate::named::link_need;
+use crate::named::need_in;
+use crate::prepare::Prepared;
 use portgraph::direction::Direction;
 use portgraph::index::PortIndex;
 use portgraph::tables::link_both as join;
@@ -41,11 +44,41 @@ impl MultiPortGraph {
         requires { ⌜ BothOnBlock self a d b e ⌝ }
         ensures { λ r. ⌜ r ≡ linkBoth self a d b e (prepare self a d) ⌝ }
     {
-        let first = self.prepare(a, d);
+        let first = match need_in(
+            &self.multiport,
+            &self.graph.port_link,
+            &self.graph.port_meta,
+            a,
+            d,
+        ) {
+            EndNeed::Ready(inner, offset) => Prepared {
+                graph: self,
+                port: inner,
+                offset: offset,
+                ready: true,
+            },
+            EndNeed::Grow => self.grow(a, d),
+            EndNeed::Split => self.split(a, d),
+        };
         let ready = first.ready;
         if ready {
             let middle = first.graph;
-            let second = middle.prepare(b, e);
+            let second = match need_in(
+                &middle.multiport,
+                &middle.graph.port_link,
+                &middle.graph.port_meta,
+                b,
+                e,
+            ) {
+                EndNeed::Ready(inner, offset) => Prepared {
+                    graph: middle,
+                    port: inner,
+                    offset: offset,
+                    ready: true,
+                },
+                EndNeed::Grow => middle.grow(b, e),
+                EndNeed::Split => middle.split(b, e),
+            };
             let both = second.ready;
             if both {
                 let mut last = second.graph;

@@ -57,3 +57,4 @@ pub mod PrepareSteps
 pub mod CallSteps
 pub mod LinkSteps
 pub mod BlockSteps
+pub mod LookupSteps

@@ -33,6 +33,7 @@ pub mod Forms
 pub mod Ends
 pub mod Listing
 pub mod WalkRule
+pub mod ScanLaws
 pub mod Frame
 pub mod PlainLaws
 pub mod CopyLaws

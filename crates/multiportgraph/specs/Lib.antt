@@ -10,7 +10,7 @@
 --   History     lists of calls from the empty graph with the book beside them; what the wire rule says
 --   Space       refusal 10 by the work of a call
 --   Inner       what holds of every graph of the calls (Fine, MultiWf), over the lower graph's model
--- Forms has the enums and structs in which the code gives what these say.
+-- Forms has the enums and structs in which the code gives what these say, Reads what the code reads off lent tables.
 -- Then the theorems, each over every list of calls from the empty graph, refused ones included, with no other premise:
 --   wire-rule, cut-restores, links-in-either-order (Theorems), bench-table (Bench)
 -- and the laws that a reviewer looks for:
@@ -30,6 +30,7 @@ pub mod Space
 pub mod Bench
 pub mod Inner
 pub mod Forms
+pub mod Reads
 pub mod Ends
 pub mod Listing
 pub mod WalkRule
@@ -53,6 +54,7 @@ pub mod RefusalLaws
 pub mod SpaceLaws
 -- steps that the functions' proofs cite
 pub mod FormSteps
+pub mod ReadSteps
 pub mod CopySteps
 pub mod PrepareSteps
 pub mod CallSteps

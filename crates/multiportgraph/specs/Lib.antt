@@ -61,3 +61,4 @@ pub mod CallSteps
 pub mod LinkSteps
 pub mod BlockSteps
 pub mod LookupSteps
+pub mod StartSteps

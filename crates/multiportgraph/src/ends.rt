@@ -119,7 +119,7 @@ impl MultiPortGraph {
     }
 
     // How many subports a split port has.
-    pub(crate) fn subports(self, port: u32, direction: Direction) -> usize
+    pub(crate) fn subports_of(self, port: u32, direction: Direction) -> usize
         ensures { λ r. ⌜ r ≡ subports self port direction ⌝ }
     {
         let graph = self.graph;
@@ -132,7 +132,7 @@ impl MultiPortGraph {
         ensures { λ r. ⌜ r ≡ endAs (endAt self port direction offset) ⌝ }
     {
         if marked(&self.multiport, wide(port)) {
-            if wide16(offset) < self.subports(port, direction) {
+            if wide16(offset) < self.subports_of(port, direction) {
                 let graph = self.graph;
                 return EndFound::At(port_of(graph, self.copy_node_of(port), direction, offset));
             }

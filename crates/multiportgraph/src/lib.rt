@@ -10,3 +10,4 @@ pub mod marks;
 pub mod multiportgraph;
 pub mod prepare;
 pub mod reads;
+pub mod starts;

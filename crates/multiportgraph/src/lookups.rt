@@ -193,7 +193,7 @@ impl MultiPortGraph {
             SeenPort::Hidden => CountAnswer::Refused(Refusal::HiddenPort(port)),
             SeenPort::Visible(_, direction) => {
                 if marked(&self.multiport, wide(port.0)) {
-                    return CountAnswer::Count(self.subports(port.0, direction));
+                    return CountAnswer::Count(self.subports_of(port.0, direction));
                 }
                 CountAnswer::Count(1)
             }

@@ -19,8 +19,8 @@ marked-requires c κs = search needs
 wide16-requires : tie.Need-wide16-requires
 wide16-requires c κs = search needs
 
-subports-requires : tie.Need-subports-requires
-subports-requires c κs = search needs
+subports-of-requires : tie.Need-subports-of-requires
+subports-of-requires c κs = search needs
 
 copy-node-of-requires : tie.Need-copy-node-of-requires
 copy-node-of-requires c κs = search needs
@@ -29,10 +29,10 @@ port-of-requires : tie.Need-port-of-requires
 port-of-requires c κs = search needs
 
 returns : tie.Need-returns
-returns c = end-split (c .before .before .before .before .before .before .before .before .before .before .before .args .t1) _ _ _ _ _ _ _ (marked-is (c .before .before .before .before .before .before .before) ∙ c .before .before .before .before .before .before .if1 .taken) (c .before .before .before .before .before .wide16 .ensures) (c .before .before .before .before .subports .ensures) (c .before .before .before .if2 .taken) (c .before .copy-node-of .ensures) (c .port-of .ensures)
+returns c = end-split (c .before .before .before .before .before .before .before .before .before .before .before .args .t1) _ _ _ _ _ _ _ (marked-is (c .before .before .before .before .before .before .before) ∙ c .before .before .before .before .before .before .if1 .taken) (c .before .before .before .before .before .wide16 .ensures) (c .before .before .before .before .subports-of .ensures) (c .before .before .before .if2 .taken) (c .before .copy-node-of .ensures) (c .port-of .ensures)
 
 returns-2 : tie.Need-returns-2
-returns-2 c = end-lacking (c .before .before .before .before .before .before .before .before .args .t1) _ _ _ _ _ (marked-is (c .before .before .before .before) ∙ c .before .before .before .if1 .taken) (c .before .before .wide16 .ensures) (c .before .subports .ensures) (c .if2 .left)
+returns-2 c = end-lacking (c .before .before .before .before .before .before .before .before .args .t1) _ _ _ _ _ (marked-is (c .before .before .before .before) ∙ c .before .before .before .if1 .taken) (c .before .before .wide16 .ensures) (c .before .subports-of .ensures) (c .if2 .left)
 
 returns-3 : tie.Need-returns-3
 returns-3 c = end-plain (c .before .before .before .before .before .args .t1) _ _ _ (marked-is (c .before) ∙ c .if1 .left)
@@ -44,7 +44,7 @@ end-at-spec =
     wide-requires
     marked-requires
     wide16-requires
-    subports-requires
+    subports-of-requires
     copy-node-of-requires
     port-of-requires
     returns

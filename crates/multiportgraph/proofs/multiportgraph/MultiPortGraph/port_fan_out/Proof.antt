@@ -31,11 +31,11 @@ wide-requires c κs = search needs
 marked-requires : tie.Need-marked-requires
 marked-requires c κs = search needs
 
-subports-requires : tie.Need-subports-requires
-subports-requires c κs = search needs
+subports-of-requires : tie.Need-subports-of-requires
+subports-of-requires c κs = search needs
 
 returns : tie.Need-returns
-returns c = with-numbers countNumbers (fan-out-split (c .before .before .before .before .before .before .before .before .before .before .args .t1) (c .before .before .before .before .before .before .before .before .before .before .args .port .0) _ _ _ (was-visible _ _ _ (sym (c .before .before .before .before .before .before .before .before .before .seen .ensures) ∙ c .before .before .before .before .before .before .before .seen2 .given .1)) (marked-is (c .before .before) ∙ c .before .if1 .taken) (c .subports .ensures))
+returns c = with-numbers countNumbers (fan-out-split (c .before .before .before .before .before .before .before .before .before .before .args .t1) (c .before .before .before .before .before .before .before .before .before .before .args .port .0) _ _ _ (was-visible _ _ _ (sym (c .before .before .before .before .before .before .before .before .before .seen .ensures) ∙ c .before .before .before .before .before .before .before .seen2 .given .1)) (marked-is (c .before .before) ∙ c .before .if1 .taken) (c .subports-of .ensures))
 
 returns-2 : tie.Need-returns-2
 returns-2 c = with-numbers countNumbers (fan-out-at (c .before .before .before .args .t1) (c .before .before .before .args .port .0) dead (was-dead _ (sym (c .before .before .seen .ensures) ∙ c .enum-told .given .1)))
@@ -56,7 +56,7 @@ port-fan-out-spec =
     enum-known-seen
     wide-requires
     marked-requires
-    subports-requires
+    subports-of-requires
     returns
     returns-2
     returns-3

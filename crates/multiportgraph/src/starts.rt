@@ -138,23 +138,22 @@ impl MultiPortGraph {
         ensures { λ r. ⌜ (r ≡ startConnections self from to) × (nodeConnectionsStartNumbers r ≡ nodeConnectionsStartNumbers (startConnections self from to)) ⌝ }
     {
         let graph = self.graph;
-        if !graph.contains_node(from) {
-            return NodeConnectionsStart::Refused(Refusal::UnknownNode);
+        if graph.contains_node(from) {
+            if graph.contains_node(to) {
+                if flagged(&self.copy_node, wide(from.0)) {
+                    return NodeConnectionsStart::Refused(Refusal::HiddenNode);
+                }
+                if flagged(&self.copy_node, wide(to.0)) {
+                    return NodeConnectionsStart::Refused(Refusal::HiddenNode);
+                }
+                return NodeConnectionsStart::Started(NodeConnections {
+                    node: from,
+                    target: to,
+                    held: 0,
+                    offset: 0,
+                });
+            }
         }
-        if !graph.contains_node(to) {
-            return NodeConnectionsStart::Refused(Refusal::UnknownNode);
-        }
-        if flagged(&self.copy_node, wide(from.0)) {
-            return NodeConnectionsStart::Refused(Refusal::HiddenNode);
-        }
-        if flagged(&self.copy_node, wide(to.0)) {
-            return NodeConnectionsStart::Refused(Refusal::HiddenNode);
-        }
-        NodeConnectionsStart::Started(NodeConnections {
-            node: from,
-            target: to,
-            held: 0,
-            offset: 0,
-        })
+        NodeConnectionsStart::Refused(Refusal::UnknownNode)
     }
 }

@@ -20,14 +20,8 @@ second-hidden c = hidden-told (c .before .before .before .before .before .before
 contains-node-requires : tie.Need-contains-node-requires
 contains-node-requires c κs = search needs
 
-returns : tie.Need-returns
-returns c = with-numbers nodeConnectionsStartNumbers (ap (connectionsFrom (c .before .before .before .args .from) (c .before .before .before .args .to)) (start-between (c .before .before .before .args .t1) (c .before .before .before .args .from .0) (c .before .before .before .args .to .0) _ _ _ _ (sym (c .before .contains-node .ensures) ∙ c .if1 .taken) refl refl refl))
-
 contains-node-requires-2 : tie.Need-contains-node-requires-2
 contains-node-requires-2 c κs = search needs
-
-returns-2 : tie.Need-returns-2
-returns-2 c = with-numbers nodeConnectionsStartNumbers (ap (connectionsFrom (c .before .before .before .before .before .args .from) (c .before .before .before .before .before .args .to)) (start-between (c .before .before .before .before .before .args .t1) (c .before .before .before .before .before .args .from .0) (c .before .before .before .before .before .args .to .0) _ _ _ _ (sym (c .before .before .before .contains-node .ensures) ∙ c .before .before .if1 .left) (sym (c .before .contains-node2 .ensures) ∙ c .if2 .taken) refl refl))
 
 wide-requires : tie.Need-wide-requires
 wide-requires c κs = search needs
@@ -35,33 +29,39 @@ wide-requires c κs = search needs
 flagged-requires : tie.Need-flagged-requires
 flagged-requires c κs = search needs
 
-returns-3 : tie.Need-returns-3
-returns-3 c = with-numbers nodeConnectionsStartNumbers (ap (connectionsFrom (c .before .before .before .before .before .before .before .before .before .before .args .from) (c .before .before .before .before .before .before .before .before .before .before .args .to)) (start-between (c .before .before .before .before .before .before .before .before .before .before .args .t1) (c .before .before .before .before .before .before .before .before .before .before .args .from .0) (c .before .before .before .before .before .before .before .before .before .before .args .to .0) _ _ _ _ (sym (c .before .before .before .before .before .before .before .before .contains-node .ensures) ∙ c .before .before .before .before .before .before .before .if1 .left) (sym (c .before .before .before .before .before .before .contains-node2 .ensures) ∙ c .before .before .before .before .before .if2 .left) (first-hidden (c .before) ∙ c .if3 .taken) refl))
-
 wide-requires-2 : tie.Need-wide-requires-2
 wide-requires-2 c κs = search needs
 
 flagged-requires-2 : tie.Need-flagged-requires-2
 flagged-requires-2 c κs = search needs
 
+returns : tie.Need-returns
+returns c = with-numbers nodeConnectionsStartNumbers (ap (connectionsFrom (c .before .before .before .before .before .before .before .before .before .before .args .from) (c .before .before .before .before .before .before .before .before .before .before .args .to)) (start-between (c .before .before .before .before .before .before .before .before .before .before .args .t1) (c .before .before .before .before .before .before .before .before .before .before .args .from .0) (c .before .before .before .before .before .before .before .before .before .before .args .to .0) _ _ _ _ (sym (c .before .before .before .before .before .before .before .before .contains-node .ensures) ∙ c .before .before .before .before .before .before .before .if1 .taken) (sym (c .before .before .before .before .before .before .contains-node2 .ensures) ∙ c .before .before .before .before .before .if2 .taken) (first-hidden (c .before) ∙ c .if3 .taken) refl))
+
+returns-2 : tie.Need-returns-2
+returns-2 c = with-numbers nodeConnectionsStartNumbers (ap (connectionsFrom (c .before .before .before .before .before .before .before .before .before .before .before .before .before .before .before .args .from) (c .before .before .before .before .before .before .before .before .before .before .before .before .before .before .before .args .to)) (start-between (c .before .before .before .before .before .before .before .before .before .before .before .before .before .before .before .args .t1) (c .before .before .before .before .before .before .before .before .before .before .before .before .before .before .before .args .from .0) (c .before .before .before .before .before .before .before .before .before .before .before .before .before .before .before .args .to .0) _ _ _ _ (sym (c .before .before .before .before .before .before .before .before .before .before .before .before .before .contains-node .ensures) ∙ c .before .before .before .before .before .before .before .before .before .before .before .before .if1 .taken) (sym (c .before .before .before .before .before .before .before .before .before .before .before .contains-node2 .ensures) ∙ c .before .before .before .before .before .before .before .before .before .before .if2 .taken) (first-hidden (c .before .before .before .before .before .before) ∙ c .before .before .before .before .before .if3 .left) (second-hidden (c .before) ∙ c .if4 .taken)))
+
+returns-3 : tie.Need-returns-3
+returns-3 c = with-numbers nodeConnectionsStartNumbers (ap (connectionsFrom (c .before .before .before .before .before .before .before .before .before .before .before .before .before .before .before .args .from) (c .before .before .before .before .before .before .before .before .before .before .before .before .before .before .before .args .to)) (start-between (c .before .before .before .before .before .before .before .before .before .before .before .before .before .before .before .args .t1) (c .before .before .before .before .before .before .before .before .before .before .before .before .before .before .before .args .from .0) (c .before .before .before .before .before .before .before .before .before .before .before .before .before .before .before .args .to .0) _ _ _ _ (sym (c .before .before .before .before .before .before .before .before .before .before .before .before .before .contains-node .ensures) ∙ c .before .before .before .before .before .before .before .before .before .before .before .before .if1 .taken) (sym (c .before .before .before .before .before .before .before .before .before .before .before .contains-node2 .ensures) ∙ c .before .before .before .before .before .before .before .before .before .before .if2 .taken) (first-hidden (c .before .before .before .before .before .before) ∙ c .before .before .before .before .before .if3 .left) (second-hidden (c .before) ∙ c .if4 .left)))
+
 returns-4 : tie.Need-returns-4
-returns-4 c = with-numbers nodeConnectionsStartNumbers (ap (connectionsFrom (c .before .before .before .before .before .before .before .before .before .before .before .before .before .before .before .args .from) (c .before .before .before .before .before .before .before .before .before .before .before .before .before .before .before .args .to)) (start-between (c .before .before .before .before .before .before .before .before .before .before .before .before .before .before .before .args .t1) (c .before .before .before .before .before .before .before .before .before .before .before .before .before .before .before .args .from .0) (c .before .before .before .before .before .before .before .before .before .before .before .before .before .before .before .args .to .0) _ _ _ _ (sym (c .before .before .before .before .before .before .before .before .before .before .before .before .before .contains-node .ensures) ∙ c .before .before .before .before .before .before .before .before .before .before .before .before .if1 .left) (sym (c .before .before .before .before .before .before .before .before .before .before .before .contains-node2 .ensures) ∙ c .before .before .before .before .before .before .before .before .before .before .if2 .left) (first-hidden (c .before .before .before .before .before .before) ∙ c .before .before .before .before .before .if3 .left) (second-hidden (c .before) ∙ c .if4 .taken)))
+returns-4 c = with-numbers nodeConnectionsStartNumbers (ap (connectionsFrom (c .before .before .before .before .before .args .from) (c .before .before .before .before .before .args .to)) (start-between (c .before .before .before .before .before .args .t1) (c .before .before .before .before .before .args .from .0) (c .before .before .before .before .before .args .to .0) _ _ _ _ (sym (c .before .before .before .contains-node .ensures) ∙ c .before .before .if1 .taken) (sym (c .before .contains-node2 .ensures) ∙ c .if2 .left) refl refl))
 
 returns-5 : tie.Need-returns-5
-returns-5 c = with-numbers nodeConnectionsStartNumbers (ap (connectionsFrom (c .before .before .before .before .before .before .before .before .before .before .before .before .before .before .before .args .from) (c .before .before .before .before .before .before .before .before .before .before .before .before .before .before .before .args .to)) (start-between (c .before .before .before .before .before .before .before .before .before .before .before .before .before .before .before .args .t1) (c .before .before .before .before .before .before .before .before .before .before .before .before .before .before .before .args .from .0) (c .before .before .before .before .before .before .before .before .before .before .before .before .before .before .before .args .to .0) _ _ _ _ (sym (c .before .before .before .before .before .before .before .before .before .before .before .before .before .contains-node .ensures) ∙ c .before .before .before .before .before .before .before .before .before .before .before .before .if1 .left) (sym (c .before .before .before .before .before .before .before .before .before .before .before .contains-node2 .ensures) ∙ c .before .before .before .before .before .before .before .before .before .before .if2 .left) (first-hidden (c .before .before .before .before .before .before) ∙ c .before .before .before .before .before .if3 .left) (second-hidden (c .before) ∙ c .if4 .left)))
+returns-5 c = with-numbers nodeConnectionsStartNumbers (ap (connectionsFrom (c .before .before .before .args .from) (c .before .before .before .args .to)) (start-between (c .before .before .before .args .t1) (c .before .before .before .args .from .0) (c .before .before .before .args .to .0) _ _ _ _ (sym (c .before .contains-node .ensures) ∙ c .if1 .left) refl refl refl))
 
 pub get-connections-spec : {M : Type 1} → statement M
 get-connections-spec =
     tie.close
     (tie.spec
     contains-node-requires
-    returns
     contains-node-requires-2
-    returns-2
     wide-requires
     flagged-requires
-    returns-3
+    returns
     wide-requires-2
     flagged-requires-2
+    returns-2
+    returns-3
     returns-4
     returns-5)

@@ -62,3 +62,5 @@ pub mod LinkSteps
 pub mod BlockSteps
 pub mod LookupSteps
 pub mod StartSteps
+pub mod Scans
+pub mod ScanSteps

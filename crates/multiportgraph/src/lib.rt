@@ -10,4 +10,5 @@ pub mod marks;
 pub mod multiportgraph;
 pub mod prepare;
 pub mod reads;
+pub mod scans;
 pub mod starts;

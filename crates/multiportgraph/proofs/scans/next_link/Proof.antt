@@ -36,7 +36,7 @@ returns : tie.Need-returns Inv-loop μ-loop
 returns c =
     let h = c .before .before .before .loop-test .taken in
     let e = c .before .before .before .before .before .capped .ensures in
-    (row-found (c .before .before .before .before .before .before .args .marks .now) (c .before .before .before .before .before .before .args .links .now) (c .before .before .before .before .before .before .args .owners .now) (c .before .before .before .before .before .before .args .flags .now) (λ w. passesIn (c .before .before .before .before .before .before .args .owners .now) (c .before .before .before .before .before .before .args .flags .now) (c .before .before .before .before .before .before .args .filter) (w .to .port .0)) (c .before .before .before .before .loop .port) (c .before .before .before .before .loop .first) (c .before .before .before .before .before .capped .result) _ _ h (c .before .before .port-link-from .ensures .0) (c .enum-told .given .1) ∙ c .before .before .before .before .loop .inv, port-below (c .before .before .before .before .loop .port) portSlots _ (c .before .before .port-link-from .ensures .1) (omega arith) (omega arith))
+    (row-found (c .before .before .before .before .before .before .args .marks .now) (c .before .before .before .before .before .before .args .links .now) (c .before .before .before .before .before .before .args .owners .now) (c .before .before .before .before .before .before .args .flags .now) (λ w. passesIn (c .before .before .before .before .before .before .args .owners .now) (c .before .before .before .before .before .before .args .flags .now) (c .before .before .before .before .before .before .args .filter) (w .to .port .0)) (c .before .before .before .before .loop .port) (c .before .before .before .before .loop .first) (c .before .before .before .before .before .capped .result) _ _ h (c .before .before .port-link-from .ensures .0) (c .enum-told .given .1) ∙ c .before .before .before .before .loop .inv, port-below (c .before .before .before .before .loop .port) portSlots (c .before .before .port-link-from .result) (c .before .before .port-link-from .ensures .1) (omega arith) (omega arith))
 
 enum-told-2 : tie.Need-enum-told-2 Inv-loop μ-loop
 enum-told-2 c = search needs

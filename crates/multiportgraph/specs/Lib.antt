@@ -48,6 +48,7 @@ pub mod LinkLaw
 pub mod BookLaws
 pub mod WireRule
 pub mod Theorems
+pub mod ReadLaws
 pub mod CountLaws
 pub mod HistoryCounts
 pub mod RefusalLaws

@@ -65,3 +65,4 @@ pub mod LookupSteps
 pub mod StartSteps
 pub mod Scans
 pub mod ScanSteps
+pub mod ScanReads

@@ -58,7 +58,7 @@ unfolding firstFound
 first-later [] b e = refl
 first-later (x ∷ a) b e = let z : _≡_ {A = ℕ} 0 1 = cc in absurd (omega arith)
 
-those-every : (l : List SubportLink) → those (λ w. true) l ≡ l
+pub those-every : (l : List SubportLink) → those (λ w. true) l ≡ l
 unfolding those
 those-every [] = refl
 those-every (w ∷ l) = ap (λ r. w ∷ r) (those-every l)

@@ -66,3 +66,5 @@ pub mod StartSteps
 pub mod Scans
 pub mod ScanSteps
 pub mod ScanReads
+pub mod WalkScans
+pub mod WireSteps

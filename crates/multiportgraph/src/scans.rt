@@ -84,7 +84,7 @@ pub(crate) fn span_count<'a>(
 }
 
 // The node that has a port; 0 for a port that is not live.
-fn owner_in(owners: &[u32; PORT_SLOTS], port: u32) -> u32
+pub(crate) fn owner_in(owners: &[u32; PORT_SLOTS], port: u32) -> u32
     ensures { λ r. ⌜ r ≡ ownerIn (now (owners .entry)) port ⌝ }
 {
     let PortEntry::Port(meta) = PortEntry::read(at(owners, wide(port))) else {
@@ -135,7 +135,7 @@ fn passes<'a>(
 }
 
 // The link of the end at a slot, if it has one that is given.
-fn link_at<'a>(
+pub(crate) fn link_at<'a>(
     links: &'a [u32; PORT_SLOTS],
     owners: &'a [u32; PORT_SLOTS],
     flags: &'a [bool; NODE_SLOTS],

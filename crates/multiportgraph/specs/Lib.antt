@@ -68,3 +68,5 @@ pub mod ScanSteps
 pub mod ScanReads
 pub mod WalkScans
 pub mod WireSteps
+pub mod WalkSteps
+pub mod LinkWalkSteps

@@ -2,7 +2,7 @@
 use mathlib.Core.Bool.{Bool, true, false}
 use mathlib.Core.List.{List, [], _∷_, _++_}
 use Prim.Native.Nat.{ℕ, zero, suc, _+_, _-_, min}
-use lib.Dec.{eqb}
+use lib.Dec.{eqb, leb}
 use Rattle.portgraph.specs.Limits.{portSlots}
 use Rattle.portgraph.specs.Entries.{pick, isNode}
 use Rattle.portgraph.specs.declared.direction.Direction.{Direction}
@@ -25,8 +25,8 @@ use Rattle.multiportgraph.specs.declared.scans.LinkFilter.{LinkFilter}
 use Rattle.multiportgraph.specs.declared.scans.LinkFilter.the-variants as filters
 use Rattle.multiportgraph.specs.declared.scans.LinkFound.{LinkFound}
 use Rattle.multiportgraph.specs.declared.scans.LinkFound.the-variants as found
-use Rattle.multiportgraph.specs.declared.walks.SubportFound.{SubportFound}
-use Rattle.multiportgraph.specs.declared.walks.SubportFound.the-variants as subport-found
+use Rattle.multiportgraph.specs.declared.subports.SubportFound.{SubportFound}
+use Rattle.multiportgraph.specs.declared.subports.SubportFound.the-variants as subport-found
 
 -- the port that a cursor holds is still there
 unfoldable pub heldIn : List ℕ → List Bool → ℕ → Bool
@@ -75,6 +75,11 @@ lastOr d l = lastOf d (λ x. x) l
 unfoldable pub firstSubport : List SubportIndex → SubportFound
 firstSubport l = firstOf subport-found.None subport-found.Subport l
 
+-- the port of a subport that was found, or a given number
+abbrev pub subportPort : ℕ → SubportFound → ℕ
+subportPort p (subport-found.Subport s) = s .port .0
+subportPort p subport-found.None = p
+
 abbrev pub portSubportsBy : List Bool → List ℕ → List ℕ → ℕ → ℕ → Port → List SubportIndex
 portSubportsBy marks links owners p o dead = []
 portSubportsBy marks links owners p o hidden = []
@@ -89,6 +94,13 @@ unfoldable pub subportsRest : List Bool → List ℕ → List ℕ → List Bool 
 subportsRest marks links owners flags p o zero = []
 subportsRest marks links owners flags p o (suc c) =
     portSubportsIn marks links owners flags p o ++ subportsRest marks links owners flags (suc p) 0 c
+
+-- the subports of the ports from `from` on and below `end` that lie beyond what a cursor holds
+unfoldable pub subportsBeyond : List Bool → List ℕ → List ℕ → List Bool → ℕ → ℕ → ℕ → ℕ → List SubportIndex
+subportsBeyond marks links owners flags from end held o =
+    pick (leb held from)
+    (subportsRest marks links owners flags from 0 (min end portSlots - from))
+    (subportsRest marks links owners flags (held - 1) (suc o) (min end portSlots - (held - 1)))
 
 -- Fan-out of so many outgoing ports from p on.
 unfoldable pub fanOutIn : List Bool → List ℕ → List ℕ → ℕ → ℕ → ℕ

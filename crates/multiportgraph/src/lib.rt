@@ -14,5 +14,6 @@ pub mod prepare;
 pub mod reads;
 pub mod scans;
 pub mod starts;
+pub mod subports;
 pub mod walks;
 pub mod wires;

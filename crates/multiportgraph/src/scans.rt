@@ -45,7 +45,7 @@ pub enum LinkFound {
 }
 
 // The smaller of a number and the table's size.
-fn capped(x: usize) -> usize
+pub(crate) fn capped(x: usize) -> usize
     ensures { λ r. ⌜ r ≡ min x portSlots ⌝ }
 {
     if x <= PORT_SLOTS { x } else { PORT_SLOTS }

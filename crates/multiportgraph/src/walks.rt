@@ -1,46 +1,32 @@
-// Walks over the blocks, over all ports, and over the ports and subports of a block.
+// Walks over the blocks, over all ports, and over the ports of a block.
 use crate::ends::SeenPort;
 use crate::iter::NodePorts;
 use crate::iter::NodePortsStep;
-use crate::iter::NodeSubports;
-use crate::iter::NodeSubportsStep;
 use crate::iter::Nodes;
 use crate::iter::NodesStep;
 use crate::iter::Ports;
 use crate::iter::PortsStep;
 use crate::lookups::BlockFound;
-use crate::lookups::CountAnswer;
 use crate::marks::flagged;
 use crate::marks::wide;
-use crate::marks::wide16;
 use crate::multiportgraph::MultiPortGraph;
-use crate::multiportgraph::SubportIndex;
 use crate::reads::seen_in;
-use crate::scans::span_count;
-use portgraph::direction::Direction;
 use portgraph::index::NODE_SLOTS;
 use portgraph::index::NodeIndex;
 use portgraph::index::PORT_SLOTS;
 use portgraph::index::PortIndex;
-use portgraph::iter::Sides;
 use portgraph::iter::larger;
 use portgraph::iter::ports_from;
 use portgraph::iter::ports_to;
 use portgraph::node_entry::NodeSlot;
 ghost use mathlib.Core.Path.{_≡_};
-ghost use Prim.Native.Nat.{_-_, _≤_, _<_, min};
-ghost use Rattle.portgraph.specs.Limits.{nodeSlots, portSlots};
-ghost use Rattle.multiportgraph.specs.Walks.{nodeHeld, stepNodes, stepNodesBack, stepAllPorts, stepAllPortsBack, stepNodePorts, stepSubports};
-ghost use Rattle.multiportgraph.specs.WalkNumbers.{nodesValues, portsValues, nodePortsValues, nodeSubportsValues};
-ghost use Rattle.multiportgraph.specs.Lookups.{nodeFanOut, countNumbers};
+ghost use Prim.Native.Nat.{_≤_};
+ghost use Rattle.portgraph.specs.Limits.{portSlots};
+ghost use Rattle.multiportgraph.specs.Walks.{nodeHeld, stepNodes, stepNodesBack, stepAllPorts, stepAllPortsBack, stepNodePorts};
+ghost use Rattle.multiportgraph.specs.WalkNumbers.{nodesValues, portsValues, nodePortsValues};
 ghost use Rattle.multiportgraph.specs.Inner.{MultiWf};
 ghost use Rattle.multiportgraph.specs.ScanLaws.{endBefore};
-ghost use Rattle.multiportgraph.specs.WalkScans.{heldIn, blockSlot, portsIn, firstOr, lastOr, firstSubport, portSubportsIn, subportsRest, fanOutIn};
-
-pub enum SubportFound {
-    Subport(SubportIndex),
-    None,
-}
+ghost use Rattle.multiportgraph.specs.WalkScans.{heldIn, blockSlot, portsIn, firstOr, lastOr};
 
 // Whether the port that a cursor holds is still there.
 pub(crate) fn held_seen<'a>(
@@ -280,32 +266,5 @@ impl NodePorts {
             }
         }
         NodePortsStep::End
-    }
-}
-
-// The subport of a port at an offset, if it has one.
-fn subport_from<'a>(
-    marks: &'a [bool; PORT_SLOTS],
-    links: &'a [u32; PORT_SLOTS],
-    owners: &'a [u32; PORT_SLOTS],
-    flags: &'a [bool; NODE_SLOTS],
-    port: u32,
-    offset: usize,
-) -> SubportFound
-    ensures { λ r. ⌜ r ≡ firstSubport (portSubportsIn (now (marks .entry)) (now (links .entry)) (now (owners .entry)) (now (flags .entry)) port offset) ⌝ }
-{
-    let seen = seen_in(owners, flags, port);
-    match seen {
-        SeenPort::Dead => SubportFound::None,
-        SeenPort::Hidden => SubportFound::None,
-        SeenPort::Visible(_, direction) => {
-            if offset < span_count(marks, links, owners, port, direction) {
-                return SubportFound::Subport(SubportIndex {
-                    port: PortIndex(port),
-                    subport_offset: offset as u16,
-                });
-            }
-            SubportFound::None
-        }
     }
 }

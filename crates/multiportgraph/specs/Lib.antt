@@ -83,3 +83,12 @@ pub mod TableSteps
 pub mod NamedSteps
 pub mod NamedLaws
 pub mod BlockSteps
+pub mod LookupSteps
+pub mod StartSteps
+pub mod Scans
+pub mod ScanSteps
+pub mod ScanReads
+pub mod WalkScans
+pub mod WireSteps
+pub mod WalkSteps
+pub mod LinkWalkSteps

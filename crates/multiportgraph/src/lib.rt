@@ -9,6 +9,7 @@ pub mod links;
 pub mod lookups;
 pub mod marks;
 pub mod multiportgraph;
+pub mod named;
 pub mod port_links;
 pub mod prepare;
 pub mod reads;

@@ -3,12 +3,12 @@ use mathlib.Core.Path.{_≡_, refl, sym, _∙_, ap}
 use mathlib.Core.Bool.{Bool, true, false}
 use mathlib.Core.List.{List, [], _∷_, _++_}
 use mathlib.Core.Logic.{inl, inr}
-use Prim.Native.Nat.{ℕ, zero, suc, _+_, _-_, _*_, _≤_, _<_, min}
+use Prim.Native.Nat.{ℕ, zero, suc, _+_, _-_, _≤_, _<_, min}
 use native.Mathlib.Omega.{arith}
 use lib.Dec.{leb, ltb}
 use borrow.Author.Tests.{le-leb, lt-leb, ltb-true, ltb-false, leb-true, leb-false}
 use Rattle.portgraph.specs.Limits.{portSlots}
-use Rattle.portgraph.specs.Entries.{pick, portsOn}
+use Rattle.portgraph.specs.Entries.{pick}
 use Rattle.portgraph.specs.Lookups.{metaAt}
 use Rattle.portgraph.specs.Walks.{portsFrom, portsTo}
 use Rattle.portgraph.specs.declared.direction.Direction.{Direction}
@@ -34,7 +34,6 @@ use Rattle.multiportgraph.specs.WalkSteps.{both-found}
 use Rattle.multiportgraph.specs.declared.multiportgraph.MultiPortGraph.{MultiPortGraph}
 use Rattle.multiportgraph.specs.declared.multiportgraph.Refusal.{Refusal}
 use Rattle.multiportgraph.specs.declared.multiportgraph.SubportIndex.{SubportIndex}
-use Rattle.multiportgraph.specs.declared.lookups.BlockFound.{BlockFound}
 use Rattle.multiportgraph.specs.declared.lookups.BlockFound.the-variants as block-found
 use Rattle.multiportgraph.specs.declared.lookups.CountAnswer.the-variants as count-of
 use Rattle.multiportgraph.specs.declared.iter.NodeSubports.{NodeSubports}

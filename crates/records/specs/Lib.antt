@@ -13,3 +13,4 @@ pub mod RunLaws
 pub mod WordSteps
 pub mod AnswerSteps
 pub mod RunSteps
+pub mod AskSteps

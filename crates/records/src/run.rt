@@ -21,7 +21,7 @@ ghost use Rattle.multiportgraph.specs.Calls.{emptyGraph};
 ghost use Rattle.records.specs.Words.{bytesOf, requestsOf};
 ghost use Rattle.records.specs.Run.{answersFrom, returned, written};
 
-fn subport(port: u32, offset: u16) -> SubportIndex
+pub(crate) fn subport(port: u32, offset: u16) -> SubportIndex
     ensures { λ r. ⌜ r ≡ subport# port offset ⌝ }
 {
     SubportIndex {

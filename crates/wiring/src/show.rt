@@ -45,10 +45,14 @@ impl Line {
     }
 
     // A blank, and the number in decimal digits.
-    pub fn number(self, value: u32) -> Self {
+    pub fn long(self, value: u64) -> Self {
         let mut digits = [0u8; 20];
-        let count = io::decimal(value as u64, &mut digits);
+        let count = io::decimal(value, &mut digits);
         self.byte(b' ').with(&digits[..count])
+    }
+
+    pub fn number(self, value: u32) -> Self {
+        self.long(value as u64)
     }
 
     // Writes the line with its newline.

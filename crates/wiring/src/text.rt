@@ -1,4 +1,5 @@
 // Lines, words and numbers of the console's input. Blanks and tabs stand between words.
+ghost use Prim.Native.Nat.{_≤_};
 
 // What a word is as a number.
 pub enum Number {
@@ -29,7 +30,9 @@ fn is_blank(byte: u8) -> bool {
 }
 
 // The place of the newline that ends the line, or the end of the text.
-pub fn line_end(text: &[u8], from: usize) -> usize {
+pub fn line_end(text: &[u8], from: usize) -> usize
+    ensures { λ r. ⌜ from ≤ r ⌝ }
+{
     let mut at = from;
     while at < text.len() {
         if text[at] == b'\n' {

@@ -1,11 +1,9 @@
+-- `wiring::text::is_word` meets its contract. The measure is what is left of the word. Assumes nothing.
 use borrow.Author.Needs.{needs}
 use Prim.Native.Nat.{_-_}
 use lib.ListN.{length}
 use Rattle.wiring.proofs.text.is_word.Statement.{statement}
 use Rattle.wiring.proofs.text.is_word.Tie as tie
-use Rattle.wiring.proofs.text.is_word.Reads as reads
-use Rattle.wiring.proofs.text.is_word.Lts as lts
-use Rattle.wiring.proofs.text.byte_at.Reads as byte-at-reads
 
 abbrev Inv-loop : tie.InvT-loop
 Inv-loop text from to word at₀ at = Unit {0}

@@ -1,12 +1,8 @@
+-- `wiring::text::number_of` meets its contract. The measure is what is left of the word. Assumes nothing.
 use borrow.Author.Needs.{needs}
 use Prim.Native.Nat.{_-_}
-use lib.ListN.{length}
 use Rattle.wiring.proofs.text.number_of.Statement.{statement}
 use Rattle.wiring.proofs.text.number_of.Tie as tie
-use Rattle.wiring.proofs.text.number_of.Reads as reads
-use Rattle.wiring.proofs.text.number_of.Lts as lts
-use Rattle.wiring.proofs.text.byte_at.Reads as byte-at-reads
-use Rattle.wiring.proofs.text.with_digit.Reads as with-digit-reads
 
 abbrev Inv-loop : tie.InvT-loop
 Inv-loop text from to value₀ at₀ value at = Unit {0}

@@ -1,16 +1,7 @@
+-- `wiring::text::numbers_of` meets its contract. The measure is how many words may still come. Assumes nothing.
 use borrow.Author.Needs.{needs}
-use Prim.Native.Nat.{_-_}
-use lib.ListN.{length}
 use Rattle.wiring.proofs.text.numbers_of.Statement.{statement}
 use Rattle.wiring.proofs.text.numbers_of.Tie as tie
-use Rattle.wiring.proofs.text.numbers_of.Reads as reads
-use Rattle.wiring.proofs.text.numbers_of.Lts as lts
-use Rattle.wiring.proofs.text.Numbers.none.Reads as none-reads
-use Rattle.wiring.proofs.text.Numbers.spoiled.Reads as spoiled-reads
-use Rattle.wiring.proofs.text.Numbers.with.Reads as with-reads
-use Rattle.wiring.proofs.text.number_of.Reads as number-of-reads
-use Rattle.wiring.proofs.text.word_end.Reads as word-end-reads
-use Rattle.wiring.proofs.text.word_start.Reads as word-start-reads
 
 abbrev Inv-loop : tie.InvT-loop
 Inv-loop text from to found₀ at₀ left₀ found at left = Unit {0}

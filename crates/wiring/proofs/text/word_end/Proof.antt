@@ -1,12 +1,8 @@
+-- `wiring::text::word_end` meets its contract. The measure is what is left of the line. Assumes nothing.
 use borrow.Author.Needs.{needs}
 use Prim.Native.Nat.{_-_}
-use lib.ListN.{length}
 use Rattle.wiring.proofs.text.word_end.Statement.{statement}
 use Rattle.wiring.proofs.text.word_end.Tie as tie
-use Rattle.wiring.proofs.text.word_end.Reads as reads
-use Rattle.wiring.proofs.text.word_end.Lts as lts
-use Rattle.wiring.proofs.text.byte_at.Reads as byte-at-reads
-use Rattle.wiring.proofs.text.is_blank.Reads as is-blank-reads
 
 abbrev Inv-loop : tie.InvT-loop
 Inv-loop text from to at₀ at = Unit {0}

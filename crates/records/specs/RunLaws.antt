@@ -1,7 +1,7 @@
 -- The record run is a history: its graphs are those of the list of its calls, with refused and reading requests left out,
 -- so that the wire rule speaks of them.
 use mathlib.Core.Path.{_≡_, refl, sym, ap, _∙_, subst}
-use mathlib.Core.List.{List, [], _∷_, _++_, append-assoc}
+use mathlib.Core.List.{List, [], _∷_, _++_}
 use Rattle.portgraph.specs.Model.{Model}
 use Rattle.multiportgraph.specs.Calls.{emptyGraph}
 use Rattle.multiportgraph.specs.Inner.{MultiWf}
@@ -10,7 +10,7 @@ use Rattle.multiportgraph.specs.History.{State, step, next, run, runFrom, WireR
 use Rattle.multiportgraph.specs.WireRule.{Rel, rel-start, rel-step}
 use Rattle.multiportgraph.specs.Theorems.{wire-rule}
 use Rattle.multiportgraph.specs.declared.multiportgraph.MultiPortGraph.{MultiPortGraph}
-use Rattle.records.specs.Words.{Request, requestsOf}
+use Rattle.records.specs.Words.{Request}
 use Rattle.records.specs.Run.{Asked, call, linkOf, counts, refused, asked, after, numbers, five, answersFrom, graphFrom}
 
 -- the calls that give back a graph

@@ -7,10 +7,10 @@ use lib.ListN.{getD, length}
 unfoldable pub wordAt : List ℕ → ℕ → ℕ
 wordAt bytes i = getD bytes i 0 + 256 * getD bytes (i + 1) 0 + 65536 * getD bytes (i + 2) 0 + 16777216 * getD bytes (i + 3) 0
 
--- the bytes of words
+-- the bytes of words; the last one takes what is left, so that a number beyond a word has no bytes
 unfoldable pub bytesOf : List ℕ → List ℕ
 bytesOf [] = []
-bytesOf (w ∷ l) = w % 256 ∷ w / 256 % 256 ∷ w / 65536 % 256 ∷ w / 16777216 % 256 ∷ bytesOf l
+bytesOf (w ∷ l) = w % 256 ∷ w / 256 % 256 ∷ w / 65536 % 256 ∷ w / 16777216 ∷ bytesOf l
 
 -- a code with its arguments
 pub record Request : Type 0 where

@@ -10,6 +10,7 @@ use crate::answers::remove_words;
 use crate::answers::set_words;
 use crate::requests::Ask;
 use crate::requests::ask_of;
+use crate::run::MOVES;
 use crate::run::subport;
 use multiportgraph::multiportgraph::MultiPortGraph;
 use multiportgraph::multiportgraph::PortsSet;
@@ -58,7 +59,7 @@ fn ask_resize(graph: MultiPortGraph, node: u32, incoming: u32, outgoing: u32) ->
     requires { ⌜ MultiWf graph ⌝ }
     ensures { λ r. ⌜ Answered graph (call (setCall node incoming outgoing enough)) (words5 (r .answer)) (r .graph) ⌝ }
 {
-    let mut moves = [0u32; 3072];
+    let mut moves = [0u32; MOVES];
     let sized = resize(graph, node, incoming, outgoing, &mut moves);
     let answer = sized.answer;
     let after = sized.graph;

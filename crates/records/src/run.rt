@@ -11,6 +11,7 @@ use crate::requests::Ask;
 use crate::requests::ask_at;
 use multiportgraph::multiportgraph::MultiPortGraph;
 use multiportgraph::multiportgraph::SubportIndex;
+use portgraph::index::NODE_PORTS;
 use portgraph::index::NodeIndex;
 use portgraph::index::PortIndex;
 ghost use mathlib.Core.Path.{_≡_};
@@ -20,6 +21,9 @@ ghost use Rattle.multiportgraph.specs.Reading.{subport#};
 ghost use Rattle.multiportgraph.specs.Calls.{emptyGraph};
 ghost use Rattle.records.specs.Words.{bytesOf, requestsOf};
 ghost use Rattle.records.specs.Run.{answersFrom, returned, written};
+
+// Numbers of the run's own move list: three for each port of the largest node.
+pub(crate) const MOVES: usize = 3 * NODE_PORTS;
 
 pub(crate) fn subport(port: u32, offset: u16) -> SubportIndex
     ensures { λ r. ⌜ r ≡ subport# port offset ⌝ }
@@ -36,7 +40,7 @@ fn run_all(requests: &[u8], answers: &mut [u8])
     ensures { λ _. ⌜ now (answers .exit) ≡ bytesOf (answersFrom emptyGraph (requestsOf (now (requests .entry)))) ⌝ }
 {
     let mut graph = MultiPortGraph::new();
-    let mut moves = [0u32; 3072];
+    let mut moves = [0u32; MOVES];
     let mut at: usize = 0;
     while at < requests.len() {
         let ask = ask_at(requests, at);

@@ -25,5 +25,5 @@ pub(crate) fn put_word(bytes: &mut [u8], i: usize, word: u32)
     bytes[i] = (word % 256) as u8;
     bytes[i + 1] = (word / 256 % 256) as u8;
     bytes[i + 2] = (word / 65536 % 256) as u8;
-    bytes[i + 3] = (word / 16777216 % 256) as u8;
+    bytes[i + 3] = (word / 16777216) as u8;
 }

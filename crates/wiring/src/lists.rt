@@ -1,4 +1,5 @@
 // Listings: each walks its cursor from the start to the end, writes an item a line after two blanks, and answers how many.
+// No listing has more items than there are port slots.
 use crate::show::Line;
 use multiportgraph::iter::NeighboursStart;
 use multiportgraph::iter::NeighboursStep;
@@ -19,16 +20,14 @@ use multiportgraph::multiportgraph::Refusal;
 use multiportgraph::multiportgraph::SubportIndex;
 use multiportgraph::multiportgraph::SubportLink;
 use portgraph::index::NodeIndex;
+use portgraph::index::PORT_SLOTS;
 use portgraph::index::PortIndex;
 use portgraph::iter::Sides;
 ghost use Rattle.multiportgraph.specs.Inner.{MultiWf};
 
-// More than a graph has ports or wires: a walk ends before it has so many items.
-const MOST: u32 = 4096;
-
 // What a listing comes to.
 pub enum Listed {
-    Items(u32),
+    Items(usize),
     Refused(Refusal),
 }
 
@@ -47,12 +46,12 @@ fn show_link(link: SubportLink) {
     with_subport(with_subport(Line::of(b" "), from), to).write();
 }
 
-pub fn blocks(graph: MultiPortGraph) -> u32
+pub fn blocks(graph: MultiPortGraph) -> usize
     requires { ⌜ MultiWf graph ⌝ }
 {
     let mut cursor = graph.nodes_iter();
-    let mut count: u32 = 0;
-    while count < MOST {
+    let mut count: usize = 0;
+    while count < PORT_SLOTS {
         let NodesStep::Item(node, next) = cursor.step(graph) else {
             return count;
         };
@@ -70,8 +69,8 @@ pub fn subports(graph: MultiPortGraph, node: u32, sides: Sides) -> Listed
         NodeSubportsStart::Refused(refusal) => Listed::Refused(refusal),
         NodeSubportsStart::Started(start) => {
             let mut cursor = start;
-            let mut count: u32 = 0;
-            while count < MOST {
+            let mut count: usize = 0;
+            while count < PORT_SLOTS {
                 let NodeSubportsStep::Item(subport, next) = cursor.step(graph) else {
                     return Listed::Items(count);
                 };
@@ -91,8 +90,8 @@ pub fn links(graph: MultiPortGraph, port: u32) -> Listed
         PortLinksStart::Refused(refusal) => Listed::Refused(refusal),
         PortLinksStart::Started(start) => {
             let mut cursor = start;
-            let mut count: u32 = 0;
-            while count < MOST {
+            let mut count: usize = 0;
+            while count < PORT_SLOTS {
                 let PortLinksStep::Item(link, next) = cursor.step(graph) else {
                     return Listed::Items(count);
                 };
@@ -112,8 +111,8 @@ pub fn back(graph: MultiPortGraph, port: u32) -> Listed
         PortLinksStart::Refused(refusal) => Listed::Refused(refusal),
         PortLinksStart::Started(start) => {
             let mut cursor = start;
-            let mut count: u32 = 0;
-            while count < MOST {
+            let mut count: usize = 0;
+            while count < PORT_SLOTS {
                 let PortLinksStep::Item(link, next) = cursor.step_back(graph) else {
                     return Listed::Items(count);
                 };
@@ -133,8 +132,8 @@ pub fn node_links(graph: MultiPortGraph, node: u32, sides: Sides, lo: u32, hi: u
         NodeLinksStart::Refused(refusal) => Listed::Refused(refusal),
         NodeLinksStart::Started(start) => {
             let mut cursor = start;
-            let mut count: u32 = 0;
-            while count < MOST {
+            let mut count: usize = 0;
+            while count < PORT_SLOTS {
                 let NodeLinksStep::Item(link, next) = cursor.step(graph) else {
                     return Listed::Items(count);
                 };
@@ -154,8 +153,8 @@ pub fn neighbours(graph: MultiPortGraph, node: u32, sides: Sides, ignore_self: b
         NeighboursStart::Refused(refusal) => Listed::Refused(refusal),
         NeighboursStart::Started(start) => {
             let mut cursor = start;
-            let mut count: u32 = 0;
-            while count < MOST {
+            let mut count: usize = 0;
+            while count < PORT_SLOTS {
                 let NeighboursStep::Item(neighbour, next) = cursor.step(graph) else {
                     return Listed::Items(count);
                 };
@@ -175,8 +174,8 @@ pub fn connections(graph: MultiPortGraph, from: u32, to: u32) -> Listed
         NodeConnectionsStart::Refused(refusal) => Listed::Refused(refusal),
         NodeConnectionsStart::Started(start) => {
             let mut cursor = start;
-            let mut count: u32 = 0;
-            while count < MOST {
+            let mut count: usize = 0;
+            while count < PORT_SLOTS {
                 let NodeConnectionsStep::Item(link, next) = cursor.step(graph) else {
                     return Listed::Items(count);
                 };
@@ -206,12 +205,12 @@ fn with_place(graph: MultiPortGraph, line: Line, subport: SubportIndex) -> Line
 }
 
 // All wires: as subports, or as places.
-pub fn wires(graph: MultiPortGraph, as_places: bool) -> u32
+pub fn wires(graph: MultiPortGraph, as_places: bool) -> usize
     requires { ⌜ MultiWf graph ⌝ }
 {
     let mut cursor = graph.wires();
-    let mut count: u32 = 0;
-    while count < MOST {
+    let mut count: usize = 0;
+    while count < PORT_SLOTS {
         let WiresStep::Item(link, next) = cursor.step(graph) else {
             return count;
         };

@@ -5,11 +5,12 @@ use crate::show::Line;
 use crate::text::Numbers;
 use multiportgraph::multiportgraph::MultiPortGraph;
 use multiportgraph::multiportgraph::SetAnswer;
+use portgraph::index::NODE_PORTS;
 use records::ask::resize;
 ghost use Rattle.multiportgraph.specs.Inner.{MultiWf};
 
 // Three numbers for each port that a node can have.
-const MOVES: usize = 3072;
+const MOVES: usize = 3 * NODE_PORTS;
 
 fn number_at(numbers: &[u32; MOVES], at: usize) -> u32 {
     if at < MOVES { numbers[at] } else { 0 }
@@ -19,7 +20,7 @@ fn number_at(numbers: &[u32; MOVES], at: usize) -> u32 {
 fn show_moves(moves: &[u32; MOVES], events: usize) {
     let mut event: usize = 0;
     while event < events {
-        if MOVES / 3 <= event {
+        if NODE_PORTS <= event {
             return;
         }
         let at = 3 * event;

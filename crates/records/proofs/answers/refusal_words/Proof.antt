@@ -1,5 +1,4 @@
 -- `records::answers::refusal_words` meets its contract: one arm for each refusal.
-use mathlib.Core.Path.{_≡_, _∙_, sym}
 use borrow.Author.Needs.{needs}
 use Rattle.multiportgraph.specs.Calls.{refusalNumbers}
 use Rattle.records.specs.AnswerSteps.{told, told-side}

@@ -1,7 +1,5 @@
 -- `records::requests::ask_at` meets its contract: the five words at a byte position.
-use mathlib.Core.Path.{_∙_, refl}
 use borrow.Author.Needs.{needs}
-use Rattle.records.specs.Words.{requestAt}
 use Rattle.records.specs.AnswerSteps.{request-read}
 use Rattle.records.proofs.requests.ask_at.Statement.{statement}
 use Rattle.records.proofs.requests.ask_at.Tie as tie

@@ -6,6 +6,7 @@ use Prim.Native.Nat.{_-_}
 use native.Mathlib.Omega.{arith}
 use lib.ListN.{length}
 use borrow.Author.Needs.{needs}
+use Rattle.multiportgraph.specs.Calls.{enough}
 use Rattle.multiportgraph.specs.Inner.{MultiWf}
 use Rattle.multiportgraph.specs.declared.multiportgraph.PortsSet.{PortsSet}
 use Rattle.records.specs.Forms.{words5, EventsFit}
@@ -16,20 +17,20 @@ use Rattle.records.proofs.run.run_all.Statement.{statement}
 use Rattle.records.proofs.run.run_all.Tie as tie
 
 abbrev Inv-loop : tie.InvT-loop
-Inv-loop requests answers₀ graph₀ moves₀ at₀ answers graph moves at = Running requests answers graph at × (length moves ≡ 3072)
+Inv-loop requests answers₀ graph₀ moves₀ at₀ answers graph moves at = Running requests answers graph at × (length moves ≡ enough)
 
 abbrev μ-loop : tie.MeasureT-loop
 μ-loop requests answers₀ graph₀ moves₀ at₀ answers graph moves at = length requests - at
 
--- at the test: the graph is one of the calls, and a request that is left fits
+-- at the test the graph is one of the calls
 well : (c : tie.At-loop Inv-loop μ-loop) → MultiWf (c .loop .graph)
 well c = kept-wf (c .loop .inv .0 .kept)
 
 -- whichever arm was taken, the request is done
 done : (c : tie.At-match-came Inv-loop μ-loop) →
-    Done (c .before .before .before .before .loop .graph) (c .before .before .ask-at .result) (words5 (c .match .words)) (c .match .graph) × (length (c .match .moves) ≡ 3072)
+    Done (c .before .before .before .before .loop .graph) (c .before .before .ask-at .result) (words5 (c .match .words)) (c .match .graph) × (length (c .match .moves) ≡ enough)
 done c =
-    let same : length (c .before .before .before .before .loop .moves) ≡ 3072 = c .before .before .before .before .loop .inv .1 in
+    let same : length (c .before .before .before .before .loop .moves) ≡ enough = c .before .before .before .before .loop .inv .1 in
     ⊎-elim (λ w. (done-add (c .before .before .before .before .loop .graph) (c .before .before .ask-at .result) (w .1 .given .1) (w .3 .ensures .0) (ap words5 (w .8) ∙ w .4 .ensures) (w .6), ap length (w .7) ∙ same))
     (⊎-elim (λ w. (done-remove (c .before .before .before .before .loop .graph) (c .before .before .ask-at .result) (w .1 .given .1) (w .3 .ensures .0) (ap words5 (w .8) ∙ w .4 .ensures) (w .6), ap length (w .7) ∙ same))
     (⊎-elim (λ w. (done-resize (c .before .before .before .before .loop .graph) (c .before .before .ask-at .result) (w .1 .given .1) (w .4 .ensures .0) same (ap words5 (w .10) ∙ w .6 .ensures) (w .8), ap length (w .9) ∙ w .4 .kept .1 .1 .1 .1 .0 ∙ same))

@@ -1,6 +1,7 @@
 -- `wiring::lists::back` meets its contract. The measure is how many items the walk may still have. Assumes nothing.
 use borrow.Author.Needs.{needs}
 use Prim.Native.Nat.{_-_}
+use Rattle.portgraph.specs.Limits.{portSlots}
 use Rattle.wiring.proofs.lists.back.Statement.{statement}
 use Rattle.wiring.proofs.lists.back.Tie as tie
 
@@ -8,7 +9,7 @@ abbrev Inv-loop : tie.InvT-loop
 Inv-loop graph port cursor₀ count₀ cursor count = Unit {0}
 
 abbrev μ-loop : tie.MeasureT-loop
-μ-loop graph port cursor₀ count₀ cursor count = 4096 - count
+μ-loop graph port cursor₀ count₀ cursor count = portSlots - count
 
 port-links-requires : tie.Need-port-links-requires Inv-loop μ-loop
 port-links-requires c κs = search needs

@@ -1,6 +1,7 @@
 -- `wiring::lists::blocks` meets its contract. The measure is how many items the walk may still have. Assumes nothing.
 use borrow.Author.Needs.{needs}
 use Prim.Native.Nat.{_-_}
+use Rattle.portgraph.specs.Limits.{portSlots}
 use Rattle.wiring.proofs.lists.blocks.Statement.{statement}
 use Rattle.wiring.proofs.lists.blocks.Tie as tie
 
@@ -8,7 +9,7 @@ abbrev Inv-loop : tie.InvT-loop
 Inv-loop graph cursor₀ count₀ cursor count = Unit {0}
 
 abbrev μ-loop : tie.MeasureT-loop
-μ-loop graph cursor₀ count₀ cursor count = 4096 - count
+μ-loop graph cursor₀ count₀ cursor count = portSlots - count
 
 nodes-iter-requires : tie.Need-nodes-iter-requires Inv-loop μ-loop
 nodes-iter-requires c κs = search needs

@@ -1,6 +1,7 @@
 -- `wiring::lists::subports` meets its contract. The measure is how many items the walk may still have. Assumes nothing.
 use borrow.Author.Needs.{needs}
 use Prim.Native.Nat.{_-_}
+use Rattle.portgraph.specs.Limits.{portSlots}
 use Rattle.wiring.proofs.lists.subports.Statement.{statement}
 use Rattle.wiring.proofs.lists.subports.Tie as tie
 
@@ -8,7 +9,7 @@ abbrev Inv-loop : tie.InvT-loop
 Inv-loop graph node cursor₀ count₀ t10 cursor count = Unit {0}
 
 abbrev μ-loop : tie.MeasureT-loop
-μ-loop graph node cursor₀ count₀ t10 cursor count = 4096 - count
+μ-loop graph node cursor₀ count₀ t10 cursor count = portSlots - count
 
 subports-requires : tie.Need-subports-requires Inv-loop μ-loop
 subports-requires c κs = search needs

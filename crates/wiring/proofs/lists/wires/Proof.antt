@@ -1,6 +1,7 @@
 -- `wiring::lists::wires` meets its contract. The measure is how many items the walk may still have. Assumes nothing.
 use borrow.Author.Needs.{needs}
 use Prim.Native.Nat.{_-_}
+use Rattle.portgraph.specs.Limits.{portSlots}
 use Rattle.wiring.proofs.lists.wires.Statement.{statement}
 use Rattle.wiring.proofs.lists.wires.Tie as tie
 
@@ -8,7 +9,7 @@ abbrev Inv-loop : tie.InvT-loop
 Inv-loop graph as-places cursor₀ count₀ t9 cursor count = Unit {0}
 
 abbrev μ-loop : tie.MeasureT-loop
-μ-loop graph as-places cursor₀ count₀ t9 cursor count = 4096 - count
+μ-loop graph as-places cursor₀ count₀ t9 cursor count = portSlots - count
 
 wires-requires : tie.Need-wires-requires Inv-loop μ-loop
 wires-requires c κs = search needs

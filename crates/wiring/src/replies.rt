@@ -65,26 +65,37 @@ pub fn show_bad(line: u64) {
     Line::of(b"bad line").long(line).write();
 }
 
+// The commands, and what each does.
 pub fn show_help() {
-    Line::of(b"add IN OUT").write();
-    Line::of(b"remove N").write();
-    Line::of(b"resize N IN OUT").write();
-    Line::of(b"link A B").write();
-    Line::of(b"linksub P O Q R").write();
-    Line::of(b"unlink P").write();
-    Line::of(b"unlinksub P O").write();
-    Line::of(b"sublink P O").write();
-    Line::of(b"counts").write();
-    Line::of(b"fanout P").write();
-    Line::of(b"blockfanout N").write();
-    Line::of(b"blocks").write();
-    Line::of(b"subports N SIDE").write();
-    Line::of(b"links P").write();
-    Line::of(b"back P").write();
-    Line::of(b"nodelinks N SIDE LO HI").write();
-    Line::of(b"neighbours N SIDE FLAG").write();
-    Line::of(b"connections N M").write();
-    Line::of(b"wires").write();
-    Line::of(b"places").write();
-    Line::of(b"help").write();
+    Line::of(b"add IN OUT              a block with so many inputs and outputs").write();
+    Line::of(b"remove N                takes a block away, with its wires").write();
+    Line::of(
+        b"resize N IN OUT         other numbers of ports for a block; lists what was moved or removed",
+    ).write();
+    Line::of(b"link A B                a wire between two ports").write();
+    Line::of(b"linksub P O Q R         a wire between two subports").write();
+    Line::of(b"unlink P                cuts all wires at a port").write();
+    Line::of(b"unlinksub P O           cuts the wire at a subport").write();
+    Line::of(b"sublink P O             the far end of the wire at a subport").write();
+    Line::of(b"counts                  how many blocks, ports and wires").write();
+    Line::of(b"fanout P                how many subports a port has").write();
+    Line::of(b"blockfanout N           how many subports the outputs of a block have").write();
+    Line::of(b"blocks                  all blocks").write();
+    Line::of(
+        b"subports N SIDE         subports of a block; SIDE is 0 incoming, 1 outgoing, 2 both",
+    ).write();
+    Line::of(b"links P                 links of a port").write();
+    Line::of(b"back P                  the same from the back").write();
+    Line::of(
+        b"nodelinks N SIDE LO HI  links of a block, without those to ports from LO on, HI excluded",
+    ).write();
+    Line::of(
+        b"neighbours N SIDE FLAG  the block at each link; with FLAG 1 without its own outputs",
+    ).write();
+    Line::of(b"connections N M         links from block N to block M").write();
+    Line::of(b"wires                   all wires").write();
+    Line::of(
+        b"places                  all wires as block, position and offset of both ends",
+    ).write();
+    Line::of(b"help                    these lines").write();
 }

@@ -146,7 +146,7 @@ unfolding total
 total-ones zero = refl
 total-ones (suc n) = let e : total n (λ i. 1) ≡ n = total-ones n in omega arith
 
-total-zeros : (n : ℕ) → total n (λ i. 0) ≡ 0
+pub total-zeros : (n : ℕ) → total n (λ i. 0) ≡ 0
 unfolding total
 total-zeros zero = refl
 total-zeros (suc n) = let e : total n (λ i. 0) ≡ 0 = total-zeros n in omega arith

@@ -1,22 +1,37 @@
--- The counts of the graph against the book: after every list of calls the number of visible links is the number of wires that
--- the history made and has not undone.
-use mathlib.Core.Path.{_≡_, refl, sym, ap, _∙_}
-use mathlib.Core.Bool.{Bool, true, false}
-use mathlib.Core.List.{List, [], _∷_}
-use Prim.Native.Nat.{ℕ, suc, _+_}
+-- The counts of the graph against the book: after every list of calls the visible nodes, ports and links are as many as the
+-- blocks, their ports and the wires that the history made and has not undone.
+use mathlib.Core.Path.{_≡_, refl, sym, ap, _∙_, subst}
+use mathlib.Core.Bool.{Bool, true}
+use mathlib.Core.List.{List, [], _∷_, _++_}
+use mathlib.Core.Logic.{inl, inr}
+use Prim.Native.Nat.{ℕ, _+_}
 use native.Mathlib.Omega.{arith}
 use lib.ListN.{length}
 use Rattle.portgraph.specs.Model.{Model}
-use Rattle.multiportgraph.specs.Calls.{visibleLinks}
-use Rattle.multiportgraph.specs.Wires.{Wire, Walked, each, wirePlaces, walked, wiresWalked, allWires}
-use Rattle.multiportgraph.specs.Book.{Call}
-use Rattle.multiportgraph.specs.History.{State, run, Once}
+use Rattle.portgraph.specs.declared.direction.Direction.the-variants.{Incoming, Outgoing}
+use Rattle.portgraph.specs.declared.node_entry.NodeMeta.{NodeMeta}
+use Rattle.multiportgraph.specs.Calls.{visibleNodes, visiblePorts, visibleLinks}
+use Rattle.multiportgraph.specs.Wires.{range, gather, each, Wire, Walked, wirePlaces, walked, wiresWalked, allWires, portsOfSide}
+use Rattle.multiportgraph.specs.Book.{Call, Block, Book}
+use Rattle.multiportgraph.specs.History.{State, run}
 use Rattle.multiportgraph.specs.BookLaws.{count, same-count}
-use Rattle.multiportgraph.specs.Listing.{length-each}
+use Rattle.multiportgraph.specs.Listing.{Member, Apart, member-each, each-member, rising-each, length-each}
 use Rattle.multiportgraph.specs.WalkRule.{walk-is-listing, walked-is-wires, walked-once}
-use Rattle.multiportgraph.specs.CountLaws.{visible-links}
-use Rattle.multiportgraph.specs.WireRule.{Rel, rel-run}
+use Rattle.multiportgraph.specs.Inner.{BlockIs}
+use Rattle.multiportgraph.specs.Ends.{ports-of-side}
+use Rattle.multiportgraph.specs.PortListing.{ListsBlocks, blocks-as-many, blocks-list, bothSides, by-blocks-lists, lists-as-long, ascending-lists, visible-ports-ascending}
+use Rattle.multiportgraph.specs.CountLaws.{visible-nodes, visible-links}
+use Rattle.multiportgraph.specs.WireRule.{OtherNode, Rel, rel-run}
 use Rattle.multiportgraph.specs.declared.multiportgraph.MultiPortGraph.{MultiPortGraph}
+
+-- the ports of a block of the book, and of all its blocks
+abbrev pub portsOfBlock : Block → List ℕ
+portsOfBlock b = b .ins ++ b .outs
+
+abbrev pub portsInBook : Book → List ℕ
+portsInBook B = gather portsOfBlock (B .blocks)
+
+-- Wires.
 
 abbrev every : Wire → Bool
 every w = true
@@ -41,6 +56,61 @@ counted s M r =
     let e : count every (s .book .wires) ≡ length (s .book .wires) = count-every (s .book .wires) in
     omega arith
 
+-- Blocks and ports.
+
+abbrev nodeOf : Block → ℕ
+nodeOf b = b .node
+
+gather-same : {A : Type 0} (g : ℕ → List ℕ) (h : A → List ℕ) (node : A → ℕ) (l : List A) → ((a : A) → Member a l → h a ≡ g (node a)) → gather h l ≡ gather g (each node l)
+unfolding gather each
+gather-same g h node [] e = refl
+gather-same g h node (a ∷ l) e =
+    ap (λ (r : List ℕ). r ++ gather h l) (e a (inl refl)) ∙ ap (λ (r : List ℕ). g (node a) ++ r) (gather-same g h node l (λ b i. e b (inr i)))
+
+module _ {m : MultiPortGraph} {M : Model} {B : Book} (r : Rel m M B) where
+  -- the book has the graph's blocks, each once
+  book-lists : ListsBlocks m M (each nodeOf (B .blocks))
+  book-lists =
+      record {
+        once = rising-each OtherNode Apart nodeOf (B .blocks) (r .blocks .once) (λ a c i j l. l);
+        only = λ n i.
+            let e = member-each nodeOf n (B .blocks) i in
+            let s = r .blocks .right (e .0) (e .1) in
+            subst (λ (k : ℕ). (a : NodeMeta) × BlockIs m M k a) (sym (e .2)) (s .0, s .1);
+        all = λ n k b. let s = r .blocks .all n k b in subst (λ (k : ℕ). Member k (each nodeOf (B .blocks))) (s .2) (each-member nodeOf (s .0) (B .blocks) (s .1));
+      }
+
+  nodes-counted : visibleNodes m ≡ length (B .blocks)
+  nodes-counted = visible-nodes (r .fine) ∙ (blocks-as-many (blocks-list (r .fine)) book-lists ∙ length-each nodeOf (B .blocks))
+
+  -- the ports of a block of the book are those that the graph lists
+  book-ports : (b : Block) → Member b (B .blocks) → portsOfBlock b ≡ bothSides m (b .node)
+  book-ports b i =
+      let s = r .blocks .right b i in
+      let k = s .0 in
+      let x = ports-of-side (r .fine) (b .node) Incoming k (s .1 .1) in
+      let y = ports-of-side (r .fine) (b .node) Outgoing k (s .1 .1) in
+      let p : k .«first_port» .0 + 0 ≡ k .«first_port» .0 = omega arith in
+      let u : b .ins ≡ portsOfSide m Incoming (b .node) = s .2 ∙ sym (x ∙ ap (λ (a : ℕ). range a (k .incoming)) p) in
+      let v : b .outs ≡ portsOfSide m Outgoing (b .node) = s .3 ∙ sym y in
+      rw (u, v)
+
+  ports-counted : visiblePorts m ≡ length (portsInBook B)
+  ports-counted =
+      visible-ports-ascending (r .fine)
+      ∙ (lists-as-long (ascending-lists (r .fine)) (by-blocks-lists (r .fine) book-lists)
+      ∙ ap length (sym (gather-same (bothSides m) portsOfBlock nodeOf (B .blocks) book-ports)))
+
+-- Every history.
+
 -- the visible links of every history are the wires of its book
 pub visible-links-of-history : (calls : List Call) → visibleLinks (run calls .graph) ≡ length (run calls .book .wires)
 visible-links-of-history calls = counted (run calls) (rel-run calls .0) (rel-run calls .1)
+
+-- the visible nodes are its blocks
+pub visible-nodes-of-history : (calls : List Call) → visibleNodes (run calls .graph) ≡ length (run calls .book .blocks)
+visible-nodes-of-history calls = nodes-counted (rel-run calls .1)
+
+-- the visible ports are those of its blocks
+pub visible-ports-of-history : (calls : List Call) → visiblePorts (run calls .graph) ≡ length (portsInBook (run calls .book))
+visible-ports-of-history calls = ports-counted (rel-run calls .1)

@@ -2,7 +2,6 @@
 -- else one more subport. None is prepared only where a table would pass its limit.
 use mathlib.Core.Path.{_≡_, refl, sym, _∙_, ap, subst}
 use mathlib.Core.Bool.{Bool, true, false}
-use mathlib.Core.List.{List, [], _∷_}
 use mathlib.Core.Logic.{_⊎_, inl, inr, ⊎-elim}
 use Prim.Native.Nat.{ℕ, zero, suc, _+_, _*_, _≤_, _<_}
 use native.Mathlib.Omega.{arith}
@@ -13,7 +12,7 @@ use Rattle.portgraph.specs.Entries.{pick, portsOn}
 use Rattle.portgraph.specs.Lookups.{numPorts}
 use Rattle.portgraph.specs.Meaning.{growth}
 use Rattle.portgraph.specs.Resize.{roundUp, Plan, refuse, sameCounts, fitsInside, setBy}
-use Rattle.portgraph.specs.ResizeLaws.{planLive, planWhere, set-law}
+use Rattle.portgraph.specs.ResizeLaws.{planLive, planWhere, set-law, none-beyond}
 use Rattle.portgraph.specs.SlotHolds.{blockRoom}
 use Rattle.portgraph.specs.declared.node_entry.NodeMeta.{NodeMeta}
 use Rattle.portgraph.specs.declared.portgraph.PortGraph.{PortGraph}
@@ -21,15 +20,15 @@ use Rattle.portgraph.specs.declared.resize.PortsSet.{PortsSet}
 use Rattle.portgraph.specs.declared.resize.SetAnswer.the-variants as lower-set
 use Rattle.portgraph.specs.GoodSlots.{zero-is-not-one}
 use Rattle.portgraph.specs.Model as model
-use Rattle.portgraph.specs.Model.{Model, Far, nowhere, to, Slots, live, In, Valid, slotOf, countOf}
+use Rattle.portgraph.specs.Model.{Model, Far, nowhere, to, Slots, live, Valid, slotOf, countOf}
 use Rattle.portgraph.specs.declared.direction.Direction.{Direction}
 use Rattle.portgraph.specs.declared.direction.Direction.the-variants.{Incoming, Outgoing}
-use Rattle.multiportgraph.specs.Reading.{isSplit, hasLink, portOf, copyNode, subports}
+use Rattle.multiportgraph.specs.Reading.{isHidden, isSplit, hasLink, portOf, copyNode, subports}
 use Rattle.multiportgraph.specs.Calls.{Prepared, ready, full, split, lowestFree, moreIn, moreOut, enough, grownBy, grow, reuse, prepare}
 use Rattle.multiportgraph.specs.Wires.{Place, Wire}
 use Rattle.multiportgraph.specs.Inner.{inner#, Fine, Seen, lift, outer, IsEnd, WireIn}
 use Rattle.multiportgraph.specs.Ends.{Hangs, split-has-copy, port-of, count-of, linked-is, unlinked-is, outer-apart, outer-of-unsplit}
-use Rattle.multiportgraph.specs.SplitLaws.{HasEnd, PreparedEnd, AllLinked, NoSpace, no-subport, no-larger, PreparedSays, end-of-wire, wire-of-end, split-says}
+use Rattle.multiportgraph.specs.SplitLaws.{HasEnd, PreparedEnd, AllLinked, NoSpace, no-subport, PreparedSays, end-of-wire, wire-of-end, split-says}
 use Rattle.multiportgraph.specs.RecountLaws.{grow-law}
 use Rattle.multiportgraph.specs.declared.multiportgraph.MultiPortGraph.{MultiPortGraph}
 
@@ -43,18 +42,7 @@ not-inside : (k : NodeMeta) (i o : ℕ) → 0 < i + o → fitsInside k i o ≡ f
 unfolding fitsInside
 not-inside k i o l e = ltb-false (i + o) (k .capacity) (ap (λ b. pick b (ltb (i + o) (k .capacity)) false) (sym (lt-ltb 0 (i + o) l)) ∙ e)
 
-module _ {m : MultiPortGraph} {M : Model} (f : Fine m M) (x : model.Place) (h : Hangs m M x) (linked : AllLinked M (h .copy) (x .side)) where
-  -- no block of 2,048 is free, nor does one fit
-  none-larger : (k : NodeMeta) → M .node (h .copy) ≡ live k → k .incoming + k .outgoing ≡ 1024 → portSlots < M .portLen + growth 2048 (M .freeBlocks 2048)
-  none-larger k here most = go (M .freeBlocks 2048) refl
-    where
-      go : (l : List ℕ) → M .freeBlocks 2048 ≡ l → portSlots < M .portLen + growth 2048 l
-      go [] e =
-          let a = f .good .portsInBlock (h .copy) k here in
-          let b = f .good .blockEnds (h .copy) k here in
-          omega arith
-      go (b ∷ l) e = absurd (let a = f .good .idleEnds 2048 b (subst (In b) (sym e) (inl refl)) .1 in omega arith)
-
+module _ {m : MultiPortGraph} {M : Model} (f : Fine m M) (x : model.Place) (sx : Seen m M x) (h : Hangs m M x) (linked : AllLinked M (h .copy) (x .side)) where
   grow-full : grow m (h .copy) (x .side) ≡ full → NoSpace m M x
   unfolding grow
   grow-full e =
@@ -82,7 +70,7 @@ module _ {m : MultiPortGraph} {M : Model} (f : Fine m M) (x : model.Place) (h : 
       room k here l false false false p q e =
           let s = sum k here in
           let a = not-inside k i# o# (omega arith) p in
-          no-subport (h .copy) k (h .isCopy) (h .back) linked here (omega arith) (omega arith)
+          no-subport (h .copy) k (h .isCopy) (h .back) linked here (omega arith)
           (subst (λ n. portSlots < M .portLen + growth (roundUp n) (M .freeBlocks (roundUp n))) s
           (leb-false (M .portLen + growth (roundUp (i# + o#)) (M .freeBlocks (roundUp (i# + o#)))) portSlots q))
 
@@ -103,8 +91,9 @@ module _ {m : MultiPortGraph} {M : Model} (f : Fine m M) (x : model.Place) (h : 
           let s = sum k here in
           let b = f .good .portsInBlock (h .copy) k here in
           let c = f .good .blockSmall (h .copy) k here in
-          let q : k .incoming + k .outgoing ≡ 1024 = omega arith in
-          no-larger (h .copy) k (h .isCopy) (h .back) linked here q (none-larger k here q)
+          no-subport (h .copy) k (h .isCopy) (h .back) linked here (omega arith)
+          (none-beyond (f .good) (h .copy) k here x (sx .0) (λ q. let seen = sx .1 in let copy = h .isCopy in let same = ap (isHidden m) q in zero-is-not-one (cc))
+          (suc (k .incoming + k .outgoing)) (omega arith) (omega arith))
 
 -- what the lowest free position r of a node's side says, looking at n positions from o on
 record Lowest (M : Model) (c : ℕ) (d : Direction) (o n r : ℕ) : Type 0 where
@@ -176,7 +165,7 @@ module _ {m : MultiPortGraph} {M : Model} (f : Fine m M) where
       grown : (p : Prepared) → grow m (h .copy) (x .side) ≡ p →
           AllLinked M (h .copy) (x .side) → PreparedSays m M x p
       grown (ready m′ q o) e linked = grow-law f x h linked m′ q o e
-      grown full e linked = grow-full f x h linked e
+      grown full e linked = grow-full f x sx h linked e
 
       go : (b : Bool) → ltb r (countOf (M .node (h .copy)) (x .side)) ≡ b →
           PreparedSays m M x (pick b (ready m (portOf (m .graph) (h .copy) (x .side) r) r) (grow m (h .copy) (x .side)))

@@ -10,7 +10,7 @@ use Rattle.portgraph.specs.Model.{Model}
 use Rattle.portgraph.specs.Meaning as meaning
 use Rattle.portgraph.specs.Meaning.{upd, rest, growth}
 use Rattle.portgraph.specs.Lookups.{metaAt}
-use Rattle.portgraph.specs.Resize.{doubled, sameCounts, fitsInside}
+use Rattle.portgraph.specs.Resize.{roundUp, sameCounts, fitsInside}
 use Rattle.portgraph.specs.declared.direction.Direction.{Direction}
 use Rattle.portgraph.specs.declared.node_entry.NodeMeta.{NodeMeta}
 use Rattle.portgraph.specs.declared.node_entry.MaybeNodeMeta.{MaybeNodeMeta}
@@ -110,13 +110,9 @@ goneWorks n (maybe-meta.Some k) = giveNode n ∷ giveBlock (k .«first_port» .0
 abbrev pub copiesGone : MultiPortGraph → List ℕ → List Work
 copiesGone m l = gather (λ c. goneWorks c (metaAt (m .graph) c)) l
 
--- a total rounded up to a power of two, 1 for a total of 0; a hidden node's may be 1,025
-unfoldable pub rounded : ℕ → ℕ
-rounded n = doubled 11 1 n
-
 -- a new block for a total, and only then the old one is free
 abbrev pub moveWorks : NodeMeta → ℕ → List Work
-moveWorks k total = takeBlock (rounded total) ∷ giveBlock (k .«first_port» .0) (k .capacity) ∷ []
+moveWorks k total = takeBlock (roundUp total) ∷ giveBlock (k .«first_port» .0) (k .capacity) ∷ []
 
 -- other counts: nothing if they are equal, nor for a total from 1 to capacity − 1
 unfoldable pub recountWorks : NodeMeta → ℕ → ℕ → List Work

@@ -17,9 +17,9 @@ use Rattle.portgraph.specs.Model as model
 use Rattle.portgraph.specs.Model.{Model, to, Within, Valid, slotOf, firstOf, sideStart, countOf, Good, Holds, In, Uniq, Slots, gone, live, Chain, NodeChain, numberOfFirst}
 use Rattle.portgraph.specs.Meaning.{upd, rest, growth, addModel, removeModel, linkModel, unlinkModel, resizeModel, moveModel, sameSide, atNode}
 use Rattle.portgraph.specs.Calls.{addNode, removeNode, linkPorts, unlinkPort}
-use Rattle.portgraph.specs.Resize.{doubled, roundUp, sameCounts, fitsInside, setNumPorts, setBy, refuse}
+use Rattle.portgraph.specs.Resize.{roundUp, sameCounts, fitsInside, setNumPorts, setBy, refuse}
 use Rattle.portgraph.specs.ResizeSteps.{round-up-reaches, round-up-positive, round-up-fits}
-use Rattle.portgraph.specs.ResizeLaws.{planLive, planWhere, set-law, set-too-many, set-moves-too-short}
+use Rattle.portgraph.specs.ResizeLaws.{planLive, planWhere, set-law, set-too-many, set-moves-too-short, none-beyond}
 use Rattle.portgraph.specs.InsideHolds.{inside-holds}
 use Rattle.portgraph.specs.AnewHolds.{anew-holds}
 use Rattle.portgraph.specs.GoodSlots.{zero-is-not-one, upd-elim, upd-other, slot-in-block, slots-apart, joined-is-valid}
@@ -60,7 +60,7 @@ use Rattle.multiportgraph.specs.Wires.{gather}
 use Rattle.multiportgraph.specs.Book as book
 use Rattle.multiportgraph.specs.Book.{orElse, notSo, Call, addCall, removeCall, setCall, linkSubCall, cutCall, cutSubCall, Answer, addAnswer, removeAnswer, setAnswer, linkAnswer, cutAnswer}
 use Rattle.multiportgraph.specs.History.{step}
-use Rattle.multiportgraph.specs.Space.{Room, roomOf, Work, takeNode, takeBlock, giveNode, giveBlock, blockTaken, afterWork, afterWorks, onTheWay, nodesPast, portsPast, nodesShort, portsShort, overflows, addWorks, goneWorks, splitWorks, rounded, moveWorks, recountWorks, growWorks, reuseWorks, prepareWorks, secondWorks, linkSeenWorks, linkWorks, copiesGone, setMetaWorks, setWorks, cutWorks, cutSeenWorks, removeWorks, removeMetaWorks, worksOf, toldWorks}
+use Rattle.multiportgraph.specs.Space.{Room, roomOf, Work, takeNode, takeBlock, giveNode, giveBlock, blockTaken, afterWork, afterWorks, onTheWay, nodesPast, portsPast, nodesShort, portsShort, overflows, addWorks, goneWorks, splitWorks, moveWorks, recountWorks, growWorks, reuseWorks, prepareWorks, secondWorks, linkSeenWorks, linkWorks, copiesGone, setMetaWorks, setWorks, cutWorks, cutSeenWorks, removeWorks, removeMetaWorks, worksOf, toldWorks}
 use Rattle.multiportgraph.specs.declared.multiportgraph.MultiPortGraph.{MultiPortGraph}
 use Rattle.multiportgraph.specs.declared.multiportgraph.Refusal.{Refusal}
 use Rattle.multiportgraph.specs.declared.multiportgraph.Refusal.the-variants.{BadOffset, TooManyPorts, UnknownNode, HiddenNode, MovesTooShort, NoRoom, IncompatibleDirections}
@@ -348,26 +348,6 @@ split-space {m} {M} f p d =
 
 -- Other counts.
 
--- how far a number reaches by so many doublings
-reach : ℕ → ℕ → ℕ
-reach zero p = p
-reach (suc t) p = reach t (p * 2)
-
-one-doubling-more : (t p n : ℕ) → n ≤ reach t p → doubled (suc t) p n ≡ doubled t p n
-unfolding reach doubled
-one-doubling-more zero p n h = rw (le-leb n p h)
-one-doubling-more (suc t) p n h = ap (λ (q : ℕ). pick (leb n p) p q) (one-doubling-more t (p * 2) n h)
-
--- up to the most ports of a node, sizes are the lower graph's
-pub rounded-is : (n : ℕ) → n ≤ nodePorts → rounded n ≡ roundUp n
-unfolding rounded roundUp reach
-rounded-is n h = one-doubling-more 10 1 n h
-
--- and the next total needs a block as large as the port table
-rounded-beyond : rounded 1025 ≡ 2048
-unfolding rounded doubled
-rounded-beyond = refl
-
 fits : {M : Model} → Good M → overflows (roomOf M) [] ≡ false
 unfolding onTheWay
 fits {M} good = rw (le-ltb nodeSlots (M .nodeLen) (good .nodesFit), le-ltb portSlots (M .portLen) (good .portsFit))
@@ -411,9 +391,6 @@ set-space {g} {M} good holds n k here i o room few told =
         ∙ ap (λ (b : Bool). setBy g n i o (pick b (planLive M i o k (sameCounts k i o) (fitsInside k i o) (blockRoom M (roundUp (i + o)))) (refuse lower-set.MovesTooShort)))
         (le-leb (3 * (k .incoming + k .outgoing)) room told))
 
-    sized : rounded (i + o) ≡ roundUp (i + o)
-    sized = rounded-is (i + o) few
-
     go : (a b c : Bool) → fitsInside k i o ≡ b → blockRoom M (roundUp (i + o)) ≡ c
         → SetSpace (setBy g n i o (planLive M i o k a b c) .graph) M (pick a [] (pick b [] (moveWorks k (i + o)))) (setBy g n i o (planLive M i o k a b c) .answer)
     go true b c q r = (fits good, record { model = M; good = good; holds = holds; is = refl })
@@ -421,11 +398,11 @@ set-space {g} {M} good holds n k here i o room few told =
         let fit = inside-fits k i o q in
         (fits good, record { model = resizeModel M n k i o; good = good-resize good n k here i o fit; holds = inside-holds good holds n k here i o fit; is = refl })
     go false false true q r =
-        let fit = round-up-reaches (i + o) few in
+        let fit = round-up-reaches (i + o) in
         let some = round-up-positive (i + o) in
-        let small = round-up-fits (i + o) in
+        let small = round-up-fits (i + o) few in
         let space = leb-true (M .portLen + growth (roundUp (i + o)) (M .freeBlocks (roundUp (i + o)))) portSlots r in
-        rw sized (
+        (
           move-overflows good k (roundUp (i + o)) ∙ ap notSo r,
           record {
             model = moveModel M n k i o (roundUp (i + o));
@@ -434,7 +411,7 @@ set-space {g} {M} good holds n k here i o room few told =
             is = room-moved good n k i o (roundUp (i + o));
           },
         )
-    go false false false q r = rw sized (move-overflows good k (roundUp (i + o)) ∙ ap notSo r)
+    go false false false q r = move-overflows good k (roundUp (i + o)) ∙ ap notSo r
 
 -- One more subport.
 
@@ -448,27 +425,19 @@ grow-works k i o e =
     differ true false p q = refl
     differ false b p q = refl
 
--- a node that has as many ports as a node can have gets no more: its new block would be as large as the port table
-grown-beyond : {M : Model} → Good M → (n : ℕ) (k : NodeMeta) → M .node n ≡ live k → nodePorts < k .incoming + k .outgoing + 1 → overflows (roomOf M) (growWorks (maybe-meta.Some k)) ≡ true
-grown-beyond {M} good n k here h =
-    let a = good .portsInBlock n k here in
+-- a node that has as many ports as a node can have gets no more, beside another node's port
+grown-beyond : {M : Model} → Good M → (n : ℕ) (k : NodeMeta) → M .node n ≡ live k → (x : model.Place) → Valid (M .node) x → (x .node ≡ n → ⊥)
+    → nodePorts < k .incoming + k .outgoing + 1 → overflows (roomOf M) (growWorks (maybe-meta.Some k)) ≡ true
+grown-beyond {M} good n k here x valid apart h =
     let b = good .blockSmall n k here in
-    let c = good .blockEnds n k here in
-    let e : k .incoming + k .outgoing + 1 ≡ 1025 = omega arith in
-    rw (le-ltb (k .incoming + k .outgoing + 1) (k .capacity) (omega arith), e, rounded-beyond)
-    (move-overflows good k 2048 ∙ ap notSo (lt-leb (M .portLen + growth 2048 (M .freeBlocks 2048)) portSlots (rw none-so-large (omega arith))))
-  where
-    none-so-large : M .freeBlocks 2048 ≡ []
-    none-so-large = go (M .freeBlocks 2048) refl
-      where
-        go : (l : List ℕ) → M .freeBlocks 2048 ≡ l → l ≡ []
-        go [] e = refl
-        go (b ∷ l) e = absurd (let q = good .idleEnds 2048 b (subst (In b) (sym e) (inl refl)) .1 in omega arith)
+    let e = none-beyond good n k here x valid apart (k .incoming + k .outgoing + 1) h (omega arith) in
+    rw (le-ltb (k .incoming + k .outgoing + 1) (k .capacity) (omega arith))
+    (move-overflows good k (roundUp (k .incoming + k .outgoing + 1)) ∙ ap notSo (lt-leb _ portSlots e))
 
 module _ {m : MultiPortGraph} {M : Model} (f : Fine m M) where
-  pub grow-space : (c : ℕ) (k : NodeMeta) (d : Direction) → M .node c ≡ live k → PreparedSpace M (growWorks (metaAt (m .graph) c)) (grow m c d)
+  pub grow-space : (c : ℕ) (k : NodeMeta) (d : Direction) → M .node c ≡ live k → (x : model.Place) → Valid (M .node) x → (x .node ≡ c → ⊥) → PreparedSpace M (growWorks (metaAt (m .graph) c)) (grow m c d)
   unfolding grow recounted
-  grow-space c k d here =
+  grow-space c k d here x valid apart =
       subst (λ (v : MaybeNodeMeta). PreparedSpace M (growWorks v) (grow m c d)) (sym meta-is)
       (few (leb (moreIn (m .graph) c d + moreOut (m .graph) c d) nodePorts) refl)
     where
@@ -501,19 +470,19 @@ module _ {m : MultiPortGraph} {M : Model} (f : Fine m M) where
           let long : nodePorts < moreIn (m .graph) c d + moreOut (m .graph) c d = leb-false (moreIn (m .graph) c d + moreOut (m .graph) c d) nodePorts e in
           subst (λ (v : lower-set-done.PortsSet). PreparedSpace M (growWorks (maybe-meta.Some k)) (grownBy m c d (v .graph) (v .answer)))
           (sym (set-too-many (f .good) (f .holds) c (moreIn (m .graph) c d) (moreOut (m .graph) c d) enough long))
-          (grown-beyond (f .good) c k here (omega arith))
+          (grown-beyond (f .good) c k here x valid apart (omega arith))
 
   nothing-taken : (q o : ℕ) → PreparedSpace M [] (ready m q o)
   unfolding afterWorks
   nothing-taken q o = (fits (f .good), record { model = M; good = f .good; holds = f .holds; is = refl })
 
-  reuse-space : (c : ℕ) (k : NodeMeta) (d : Direction) (o : ℕ) → M .node c ≡ live k → PreparedSpace M (reuseWorks m c o (numPorts (m .graph) c d)) (reuse m c d o)
+  reuse-space : (c : ℕ) (k : NodeMeta) (d : Direction) (o : ℕ) → M .node c ≡ live k → (x : model.Place) → Valid (M .node) x → (x .node ≡ c → ⊥) → PreparedSpace M (reuseWorks m c o (numPorts (m .graph) c d)) (reuse m c d o)
   unfolding reuse reuseWorks
-  reuse-space c k d o here = go (ltb o (numPorts (m .graph) c d))
+  reuse-space c k d o here x valid apart = go (ltb o (numPorts (m .graph) c d))
     where
       go : (b : Bool) → PreparedSpace M (pick b [] (growWorks (metaAt (m .graph) c))) (pick b (ready m (portOf (m .graph) c d o) o) (grow m c d))
       go true = nothing-taken (portOf (m .graph) c d o) o
-      go false = grow-space c k d here
+      go false = grow-space c k d here x valid apart
 
   -- an end of a block's port
   pub prepare-space : (x : model.Place) → Seen m M x → PreparedSpace M (prepareWorks m (slotOf (M .node) x) (x .side)) (prepare m (slotOf (M .node) x) (x .side))
@@ -533,7 +502,8 @@ module _ {m : MultiPortGraph} {M : Model} (f : Fine m M) where
           let c = f .copy (h .copy) (h .isCopy) in
           reuse-space (copyNode m (slotOf (M .node) x)) (c .meta) (x .side)
           (lowestFree (m .graph) (copyNode m (slotOf (M .node) x)) (x .side) 0 (subports m (slotOf (M .node) x) (x .side)))
-          (ap (M .node) (h .copyIs) ∙ c .here)
+          (ap (M .node) (h .copyIs) ∙ c .here) x (sx .0)
+          (λ q. let seen = sx .1 in let copy = h .isCopy in let same = ap (isHidden m) (q ∙ h .copyIs) in zero-is-not-one (cc))
       go false e true = split-space f (slotOf (M .node) x) (x .side)
       go false e false = nothing-taken (slotOf (M .node) x) 0
 

@@ -20,7 +20,7 @@ use Rattle.portgraph.specs.declared.direction.Direction.{Direction}
 use Rattle.portgraph.specs.declared.direction.Direction.the-variants.{Outgoing}
 use Rattle.multiportgraph.specs.Reading.{ownerOf, portOf, isHidden, isSplit, visible, seen, subports, End, inner, lacking, endAt, subport#, subportOf}
 use Rattle.multiportgraph.specs.Calls.{linkOfEnd}
-use Rattle.multiportgraph.specs.Wires.{range, those, each, isBlock, blocks, portsOfSide, subportsOfPort, subportsOfSide, wireTo, wireOf, sideLinks, allWires, isBeyond, firstItem, wiresBeyond, stepWires, startWires, Walked, walkedOn, walkBy, walkWires, Place, Wire, placeOf, wirePlaces, walked, wiresWalked}
+use Rattle.multiportgraph.specs.Wires.{range, those, each, isBlock, blocks, portsOfSide, subportsOfPort, subportsOfSide, wireTo, wireOf, sideLinks, allWires, isBeyond, firstItem, wiresBeyond, stepWires, startWires, Walked, walkedOn, walkBy, walkWires, Place, Wire, placeOf, wirePlaces, longWalk, walked, wiresWalked}
 use Rattle.multiportgraph.specs.History.{InWires, Once}
 use Rattle.multiportgraph.specs.Inner.{inner#, copyPlace, Fine, Seen, lift, outer, IsEnd, WireIn}
 use Rattle.multiportgraph.specs.Listing.{Member, Rising, Apart, member-right, member-gather, gather-member, member-each, each-member, length-each, member-those, those-member, member-range, range-member, in-wires, wire-member, those-gather, gather-beyond, those-rest, rising-by-items, rising-those, rising-gather, rising-each, range-rises, apart-below, rising-once}
@@ -617,7 +617,7 @@ module _ {m : MultiPortGraph} {M : Model} (f : Fine m M) where
   -- the walk from the start gives the whole list, and ends
   pub walk-is-listing : walked m ≡ record { items = allWires m; ended = true }
   unfolding walked
-  walk-is-listing = let h = few-wires in walk-gives-all (allWires m) refl 2049 (omega arith)
+  walk-is-listing = let h = few-wires in walk-gives-all (allWires m) refl longWalk (omega arith)
 
   walked-places : wiresWalked m ≡ each (wirePlaces m) (allWires m)
   unfolding wiresWalked

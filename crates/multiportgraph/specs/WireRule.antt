@@ -1,5 +1,5 @@
 -- Graph and book go together (`Rel`): the book's blocks are the blocks of the graph, with their slots, and its wires are the
--- wires of the graph, each once. Every call keeps this.
+-- wires of the graph, all of them once. Every call keeps this.
 use mathlib.Core.Path.{_≡_, refl, sym, ap, _∙_, subst}
 use mathlib.Core.Bool.{Bool, true, false}
 use mathlib.Core.List.{List, [], _∷_, _++_}
@@ -26,7 +26,7 @@ use Rattle.multiportgraph.specs.Book.{Call, emptyBook, readBy, Block, Bo
 use Rattle.multiportgraph.specs.History.{InWires, Once, portsWalked, State, next, runFrom, run}
 use Rattle.multiportgraph.specs.Inner.{inner#, Fine, BlockIs, Seen, lift, WireIn, SameBlocks, Wiring, none, SameWires}
 use Rattle.multiportgraph.specs.BookLaws.{so-not-false, not-so-true, or-true, or-right, left-once, wire-stays, stayed-wire, length-range, among-run, beside-run, any-touches, none-touches, next-offset}
-use Rattle.multiportgraph.specs.Listing.{Member, member-those, those-member}
+use Rattle.multiportgraph.specs.Listing.{Member, Rising, member-those, those-member, rising-those}
 use Rattle.multiportgraph.specs.Frame.{true-not-false}
 use Rattle.multiportgraph.specs.Ends.{out-side, into-side, ports-walked}
 use Rattle.multiportgraph.specs.Reading.{isSplit, subport#, asRead}
@@ -58,9 +58,14 @@ Right m M b =
     (k : NodeMeta) × BlockIs m M (b .node) k × (b .ins ≡ range (k .«first_port» .0) (k .incoming))
     × (b .outs ≡ range (k .«first_port» .0 + k .incoming) (k .outgoing))
 
+abbrev pub OtherNode : Block → Block → Type 0
+OtherNode b c = b .node ≡ c .node → ⊥
+
 pub record RightBlocks (m : MultiPortGraph) (M : Model) (l : List Block) : Type 0 where
   pub right : (b : Block) → Member b l → Right m M b
   pub all : (n : ℕ) (k : NodeMeta) → BlockIs m M n k → (b : Block) × Member b l × (b .node ≡ n)
+  -- no node has two blocks
+  pub once : Rising OtherNode l
 
 pub record RightWires (m : MultiPortGraph) (M : Model) (l : List Wire) : Type 0 where
   pub booked : (w : Wire) → InWires w l → WireIn m M w
@@ -180,15 +185,17 @@ module _ {m : MultiPortGraph} {M : Model} {m′ : MultiPortGraph} {M′ : Model}
       record {
         right = λ b i. still-right b i (s .0 (b .node));
         all = λ n k h. r .all n k (s .1 n k h);
+        once = r .once;
       }
 
   pub blocks-added : (n p i o c : ℕ) → BlockIs m′ M′ n (metaOf p i o c) → ((k : ℕ) (a : NodeMeta) → BlockIs m M k a → BlockIs m′ M′ k a) →
-      ((k : ℕ) (a : NodeMeta) → BlockIs m′ M′ k a → (k ≡ n) ⊎ BlockIs m M k a) →
+      ((k : ℕ) (a : NodeMeta) → BlockIs m′ M′ k a → (k ≡ n) ⊎ BlockIs m M k a) → ((a : NodeMeta) → BlockIs m M n a → ⊥) →
       RightBlocks m′ M′ (record { node = n; ins = range p i; outs = range (p + i) o } ∷ l)
-  blocks-added n p i o c new kept only =
+  blocks-added n p i o c new kept only free =
       record {
         right = λ b h. ⊎-elim (λ e. subst (Right m′ M′) (sym e) (metaOf p i o c, new, refl, refl)) (λ j. still-right b j (kept (b .node))) h;
         all = λ k a h. ⊎-elim (λ e. (_, inl refl, sym e)) (λ j. let s = r .all k a j in (s .0, inr (s .1), s .2)) (only k a h);
+        once = ((λ b j e. let s = r .right b j in free (s .0) (subst (λ (k : ℕ). BlockIs m M k (s .0)) (sym e) (s .1))), r .once);
       }
 
   module _ (n : ℕ) (kept : (k : ℕ) (a : NodeMeta) → (k ≡ n → ⊥) → BlockIs m M k a → BlockIs m′ M′ k a)
@@ -210,6 +217,7 @@ module _ {m : MultiPortGraph} {M : Model} {m′ : MultiPortGraph} {M′ : Model}
         record {
           right = others-right;
           all = λ k a h. others-all k a (λ e. lost a (subst (λ (j : ℕ). BlockIs m′ M′ j a) e h)) h;
+          once = rising-those OtherNode (notBlock n) l (r .once);
         }
 
     pub blocks-set : (k : NodeMeta) → BlockIs m′ M′ n k → (ports : List ℕ) →
@@ -223,6 +231,10 @@ module _ {m : MultiPortGraph} {M : Model} {m′ : MultiPortGraph} {M′ : Model}
         record {
           right = λ c h. ⊎-elim (λ q. subst (Right m′ M′) (sym q) (k, new, a, b)) (others-right c) h;
           all = λ j c h. go j c h (eqb j n) refl;
+          once = (
+            (λ c i q. eqb-false (c .node) n (not-so-true _ (member-those (notBlock n) c l i .1)) (sym q)),
+            rising-those OtherNode (notBlock n) l (r .once),
+          );
         }
       where
         go : (j : ℕ) (c : NodeMeta) → BlockIs m′ M′ j c → (t : Bool) → eqb j n ≡ t →
@@ -337,7 +349,7 @@ module _ {m : MultiPortGraph} {M : Model} {B : Book} (r : Rel m M B) (m′ : Mul
     d .model,
     record {
       fine = d .fine;
-      blocks = blocks-added (r .blocks) (d .fine) (n .0) (p .0) i o (i + o) (d .block) (d .kept) (d .only);
+      blocks = blocks-added (r .blocks) (d .fine) (n .0) (p .0) i o (i + o) (d .block) (d .kept) (d .only) (d .new);
       wires = wires-same (r .wires) (d .wires);
     },
   )
@@ -416,7 +428,7 @@ pub rel-start : Rel emptyGraph emptyModel emptyBook
 rel-start =
     record {
       fine = fine-empty;
-      blocks = record { right = λ b i. absurd i; all = λ n k h. absurd (empty-has-no-block n k h) };
+      blocks = record { right = λ b i. absurd i; all = λ n k h. absurd (empty-has-no-block n k h); once = tt };
       wires = record { booked = λ w i. absurd i; walks = λ w h. absurd (empty-has-no-wire w h); once = tt };
     }
 

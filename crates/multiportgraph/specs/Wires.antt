@@ -3,7 +3,7 @@ use mathlib.Core.Bool.{Bool, true, false}
 use mathlib.Core.List.{List, [], _∷_, _++_}
 use Prim.Native.Nat.{ℕ, zero, suc, _+_, _-_}
 use lib.Dec.{eqb, ltb}
-use Rattle.portgraph.specs.Limits.{nodeSlots}
+use Rattle.portgraph.specs.Limits.{nodeSlots, portSlots}
 use Rattle.portgraph.specs.Entries.{pick}
 use Rattle.portgraph.specs.Lookups.{numPorts, portLink, containsNode, portDirection}
 use Rattle.portgraph.specs.declared.direction.Direction.{Direction}
@@ -154,7 +154,7 @@ wirePlaces m w = record { out = placeOf m (w .from); into = placeOf m (w .to) }
 
 -- a port slot starts at most as many wires as there are places in the tables, so a walk of so many steps ends
 abbrev pub longWalk : ℕ
-longWalk = 2049
+longWalk = suc portSlots
 
 -- the wires, walked from the start by the cursor, as places
 unfoldable pub walked : MultiPortGraph → Walked

@@ -1,7 +1,7 @@
 -- What the entries of the tables mean.
 use mathlib.Core.Path.{_≡_}
 use mathlib.Core.Bool.{Bool, true, false}
-use mathlib.Core.List.{List}
+use mathlib.Core.List.{List, [], _∷_}
 use Prim.Native.Nat.{ℕ, _+_, _-_, _*_, _/_, _%_}
 use lib.Dec.{eqb}
 use lib.ListN.{getD, set}
@@ -38,6 +38,11 @@ unfoldable pub portEntry : ℕ → PortEntry
 portEntry e =
     pick (eqb e 0) port-variants.Free
     (port-variants.Port (record { node = record { 0 = (e - 1) / 2 }; direction = pick (eqb ((e - 1) % 2) 0) Incoming Outgoing }))
+
+-- a port's owner and side; nothing for a free slot
+abbrev pub portEntryNumbers : PortEntry → List ℕ
+portEntryNumbers port-variants.Free = []
+portEntryNumbers (port-variants.Port m) = m .node .0 ∷ sideNumber (m .direction) ∷ []
 
 abbrev pub freeSlotOf : ℕ → ℕ → NodeSlot
 freeSlotOf prev next = record { entry = Free (record { prev = prev; next = next }) }

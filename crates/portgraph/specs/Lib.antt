@@ -1,14 +1,17 @@
 -- The single-link graph: what it is, what its calls do, and the laws.
 --
--- Where to begin. What a reader must believe stands in nine files, in this order:
+-- What must be believed: that the definitions which contracts cite say what document 01 says. They stand in seven files, in this order:
 --   Limits, Entries, Tables     the numbers in the tables, and single steps on them
 --   Lookups, Calls, Resize      each call: answer, graph and move list as the contracts cite them
 --   Walks                       the steps of the cursors
+-- and three words of Meaning: metaOf, sameSide, newCount.
+--
+-- What is proved, and need not be believed: everything else. A contract presumes of its graph only that it came from these calls
+-- (Wf), and what that says nobody has to believe: the empty graph has it, and every call keeps it.
 --   Model                       what the tables stand for (Model), what is always true of it (Good), and how they stand
 --                               for it (Holds); Wf is what a graph of these calls has
 --   Meaning                     what each call does to the model: links between places, node slots and blocks taken or given
---
--- The laws follow; the checker reads them.
+-- The laws:
 --   wf-new, wf-link, wf-unlink (LinkHolds), wf-add, wf-remove (SlotHolds), wf-set (ResizeLaws): every call keeps Wf
 --   link-law, unlink-law (LinkHolds), add-law, remove-law (SlotHolds), set-law (ResizeLaws): when each answer is given
 --   link-holds, unlink-holds, place-holds, free-holds, inside-holds, anew-holds: the tables after each call stand for the
@@ -23,6 +26,7 @@ pub mod Lookups
 pub mod Calls
 pub mod Resize
 pub mod Walks
+-- what is proved
 pub mod Model
 pub mod Meaning
 -- steps that the functions' proofs cite
@@ -49,3 +53,7 @@ pub mod InsideHolds
 pub mod AnewHolds
 pub mod ResizeLaws
 pub mod WalkLaws
+-- walks over links and over all ports, with their laws
+pub mod LinkWalks
+pub mod LinkWalkSteps
+pub mod LinkWalkLaws

@@ -1,5 +1,7 @@
--- The limits, named once: every law is over these names.
-use Prim.Native.Nat.{ℕ}
+-- The limits, named once: every law is over these names. What the laws use of their values stands below them.
+use mathlib.Core.Path.{_≡_, refl}
+use Prim.Native.Nat.{ℕ, _+_, _*_, _^_, _≤_}
+use native.Mathlib.Omega.{arith}
 
 -- slots of the node table
 abbrev pub nodeSlots : ℕ
@@ -15,8 +17,18 @@ nodePorts = 1024
 
 -- free lists of blocks, one for each size from 0
 abbrev pub freeLists : ℕ
-freeLists = 1025
+freeLists = nodePorts + 1
 
 -- what a move list says where there is no link
 abbrev pub noPort : ℕ
 noPort = 4294967295
+
+-- What a raise of the limits proves again, besides that the numbers in the tables fit their widths.
+
+-- the most ports are a power of two, so that a total rounded up is a block that a node may have
+pub most-ports-are-a-power : (k : ℕ) × (2 ^ k ≡ nodePorts)
+most-ports-are-a-power = (10, refl)
+
+-- beside a node with the most ports and one port more there is no room for a block of twice as many
+pub no-double-block : portSlots ≤ 3 * nodePorts
+no-double-block = omega arith

@@ -49,6 +49,11 @@ metaOfEntry (node-variants.Node m) = maybe-meta.Some m
 abbrev pub metaAt : PortGraph → ℕ → MaybeNodeMeta
 metaAt g n = metaOfEntry (entryAt g n)
 
+-- a node's first slot, counts and capacity; nothing where there is no node
+abbrev pub metaNumbers : MaybeNodeMeta → List ℕ
+metaNumbers maybe-meta.None = []
+metaNumbers (maybe-meta.Some m) = m .«first_port» .0 ∷ m .incoming ∷ m .outgoing ∷ m .capacity ∷ []
+
 -- the port with a number, if it is live
 abbrev pub portAt : PortGraph → ℕ → PortEntry
 portAt g p = portEntry (at (g .«port_meta») p)
@@ -60,12 +65,21 @@ directionOf (port-variants.Port m) = maybe-direction.Some (m .direction)
 abbrev pub portDirection : PortGraph → ℕ → MaybeDirection
 portDirection g p = directionOf (portAt g p)
 
+-- 0 incoming, 1 outgoing; nothing for a port that is not live
+abbrev pub maybeDirectionNumbers : MaybeDirection → List ℕ
+maybeDirectionNumbers maybe-direction.None = []
+maybeDirectionNumbers (maybe-direction.Some d) = sideNumber d ∷ []
+
 abbrev pub nodeOf : PortEntry → MaybeNodeIndex
 nodeOf port-variants.Free = maybe-node.None
 nodeOf (port-variants.Port m) = maybe-node.Some (m .node)
 
 abbrev pub portNode : PortGraph → ℕ → MaybeNodeIndex
 portNode g p = nodeOf (portAt g p)
+
+abbrev pub maybeNodeNumbers : MaybeNodeIndex → List ℕ
+maybeNodeNumbers maybe-node.None = []
+maybeNodeNumbers (maybe-node.Some n) = n .0 ∷ []
 
 -- the position of a node's first port on a side, within its block
 abbrev pub startOf : NodeMeta → Direction → ℕ
@@ -85,6 +99,14 @@ offsetOf g p (port-variants.Port m) = offsetIn p (m .direction) (metaAt g (m .no
 abbrev pub portOffset : PortGraph → ℕ → MaybePortOffset
 portOffset g p = offsetOf g p (portAt g p)
 
+-- side and position
+abbrev pub offsetNumbers : PortOffset → List ℕ
+offsetNumbers o = sideNumber (o .direction) ∷ o .index ∷ []
+
+abbrev pub maybeOffsetNumbers : MaybePortOffset → List ℕ
+maybeOffsetNumbers maybe-offset.None = []
+maybeOffsetNumbers (maybe-offset.Some o) = offsetNumbers o
+
 abbrev pub portIn : MaybeNodeMeta → PortOffset → MaybePortIndex
 portIn maybe-meta.None o = maybe-port.None
 portIn (maybe-meta.Some m) o =
@@ -95,6 +117,10 @@ portIn (maybe-meta.Some m) o =
 -- the port at a side and position of a node
 abbrev pub portIndex : PortGraph → ℕ → PortOffset → MaybePortIndex
 portIndex g n o = portIn (metaAt g n) o
+
+abbrev pub maybePortNumbers : MaybePortIndex → List ℕ
+maybePortNumbers maybe-port.None = []
+maybePortNumbers (maybe-port.Some p) = p .0 ∷ []
 
 abbrev pub linkOf : PortGraph → ℕ → PortEntry → PortLink
 linkOf g p port-variants.Free = UnknownPort (port# p)

@@ -28,7 +28,7 @@ doubled (suc times) p n = pick (leb n p) p (doubled times (p * 2) n)
 
 -- a total rounded up to a power of two; 1 for a total of 0
 unfoldable pub roundUp : ℕ → ℕ
-roundUp n = doubled 10 1 n
+roundUp n = doubled n 1 n
 
 -- What is to be done: refused, nothing, within the block, or in a new block.
 pub data Plan : Type 0 where

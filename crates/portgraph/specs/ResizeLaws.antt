@@ -3,22 +3,24 @@
 use mathlib.Core.Path.{_≡_, refl, sym, _∙_, ap, subst}
 use mathlib.Core.Bool.{Bool, true, false}
 use mathlib.Core.List.{List, [], _∷_}
+use mathlib.Core.Logic.{inl}
 use Prim.Native.Nat.{ℕ, zero, suc, _+_, _*_, _≤_, _<_}
 use native.Mathlib.Omega.{arith}
 use lib.Dec.{eqb, leb, ltb}
 use lib.ListN.{length, getD, set, take, length-append}
 use lib.Seq.{sets, sets-eq, length-sets, getD-set-other, take-at}
-use borrow.Author.Tests.{ltb-true, leb-true, eqb-true, lt-ltb, le-leb, lt-leb, eq-eqb}
-use Rattle.portgraph.specs.Limits.{nodePorts, portSlots}
+use borrow.Author.Tests.{ltb-true, ltb-false, leb-true, leb-false, eqb-true, lt-ltb, le-leb, lt-leb, eq-eqb}
+use Rattle.portgraph.specs.Limits.{nodePorts, portSlots, no-double-block}
 use Rattle.portgraph.specs.Entries.{pick}
 use Rattle.portgraph.specs.Tables.{at, moveUpEvents, moveDownEvents, shiftEvents}
 use Rattle.portgraph.specs.Lookups.{entryAt}
 use Rattle.portgraph.specs.Calls.{findBlock}
-use Rattle.portgraph.specs.Model.{Model, Place, Far, to, Slots, gone, live, Good, Holds, Wf, slotOf, slotsOfEntry}
+use Rattle.portgraph.specs.Model.{Model, Place, Far, to, Slots, gone, live, Good, Holds, Wf, In, Valid, Within, slotOf, slotsOfEntry}
 use Rattle.portgraph.specs.Meaning.{dropJoin, beyond, newCount, growth, nextBlock, resizeModel, moveModel}
 use Rattle.portgraph.specs.Joins.{zero-is-not-one, drop-kept}
 use Rattle.portgraph.specs.Resize.{roundUp, Plan, refuse, same, inside, anew, sameCounts, fitsInside, planBlock, planCounts, planEntry, planOf, firstSlot, keptIn, keptOut, dropped, dropTold, resizeInside, insideTold, resizeAnew, anewTold, setBy, toldBy, setNumPorts, movesAfter}
-use Rattle.portgraph.specs.ResizeSteps.{round-up-reaches, round-up-positive, round-up-fits, length-moveUpEvents, length-dropTold}
+use Rattle.portgraph.specs.ResizeSteps.{round-up-reaches, round-up-positive, round-up-fits, round-up-beyond, length-moveUpEvents, length-dropTold}
+use Rattle.portgraph.specs.GoodSlots.{block-of-one, slot-in-block}
 use Rattle.portgraph.specs.GoodLaws.{good-resize, good-move}
 use Rattle.portgraph.specs.WfFacts.{node-of-entry}
 use Rattle.portgraph.specs.PlaceLaws.{link-to}
@@ -218,9 +220,9 @@ module _ (g : PortGraph) (n incoming outgoing : ℕ) (w : Wf g) where
       go true q k =
           let here : w .model .node n ≡ live m = node-of-entry g w n m e in
           let at-next : nextBlock (w .model) size ≡ first = cc in
-          let fit = round-up-reaches (incoming + outgoing) few in
+          let fit = round-up-reaches (incoming + outgoing) in
           let some = round-up-positive (incoming + outgoing) in
-          let small = round-up-fits (incoming + outgoing) in
+          let small = round-up-fits (incoming + outgoing) few in
           let room = leb-true (w .model .portLen + growth size (w .model .freeBlocks size)) portSlots q in
           subst (λ (b : ℕ). Wf (resizeAnew g n m incoming outgoing b size)) at-next
           (record {
@@ -349,3 +351,39 @@ module _ {g : PortGraph} {M : Model} (good : Good M) (holds : Holds g M) (n : �
       let still = kept-link (M .join) n incoming outgoing x y linked keptX keptY in
       let good′ = good-move good n m here incoming outgoing size fit some small room in
       link-to good′ (anew-holds good holds n m here incoming outgoing size fit some small room) x y (good′ .joinValid x y still) still
+
+-- A node that has the most ports, beside another node's port: no block is free for one port more, nor does one fit.
+pub none-beyond : {M : Model} → Good M → (n : ℕ) (m : NodeMeta) → M .node n ≡ live m → (x : Place) → Valid (M .node) x → (x .node ≡ n → ⊥)
+    → (total : ℕ) → nodePorts < total → total ≤ suc (m .incoming + m .outgoing) → portSlots < M .portLen + growth (roundUp total) (M .freeBlocks (roundUp total))
+none-beyond {M} good n m here x valid apart total many few = go (M .freeBlocks (roundUp total)) refl
+  where
+    large : 2 * nodePorts ≤ roundUp total
+    large = round-up-beyond total many
+
+    used : nodePorts < M .portLen
+    used =
+        let r = slot-in-block good x valid in
+        beside (r .0) (r .1) (r .2) (leb (m .«first_port» .0) s) (ltb s (m .«first_port» .0 + m .capacity)) refl refl
+      where
+        s : ℕ
+        s = slotOf (M .node) x
+
+        beside : (k : NodeMeta) → M .node (x .node) ≡ live k → Within (k .«first_port» .0) (k .capacity) s
+            → (a b : Bool) → leb (m .«first_port» .0) s ≡ a → ltb s (m .«first_port» .0 + m .capacity) ≡ b → nodePorts < M .portLen
+        beside k e w true true p q =
+            absurd (apart (block-of-one good (x .node) n k m s e here w (leb-true (m .«first_port» .0) s p, ltb-true s (m .«first_port» .0 + m .capacity) q)))
+        beside k e w true false p q =
+            let far = ltb-false s (m .«first_port» .0 + m .capacity) q in
+            let ends = good .blockEnds (x .node) k e in
+            let ports = good .portsInBlock n m here in
+            let inside = w .1 in
+            omega arith
+        beside k e w false b p q =
+            let near = leb-false (m .«first_port» .0) s p in
+            let ends = good .blockEnds n m here in
+            let ports = good .portsInBlock n m here in
+            omega arith
+
+    go : (l : List ℕ) → M .freeBlocks (roundUp total) ≡ l → portSlots < M .portLen + growth (roundUp total) l
+    go [] e = let a = large in let b = used in let c = no-double-block in omega arith
+    go (b ∷ l) e = absurd (let a = large in let q = good .idleEnds (roundUp total) b (subst (In b) (sym e) (inl refl)) .1 in omega arith)

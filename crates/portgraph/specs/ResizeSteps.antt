@@ -10,7 +10,7 @@ use lib.Dec.{eqb, leb, ltb}
 use lib.ListN.{length, length-append, set, List·getD-eq-default}
 use lib.Seq.{sets}
 use borrow.Author.Tests.{lt-ltb, le-ltb, le-leb, lt-leb, eq-eqb, ne-eqb, leb-true, leb-false, ltb-true, eqb-false}
-use Rattle.portgraph.specs.Limits.{nodePorts, portSlots}
+use Rattle.portgraph.specs.Limits.{nodePorts, portSlots, most-ports-are-a-power}
 use Rattle.portgraph.specs.Entries.{pick, nodeSlotOf, freshSlot}
 use Rattle.portgraph.specs.Tables.{at, headAt, putHead, fillRange, ownBlock, cut, cutRange, cutCount, shift, transfer, chainBlock, dropEvents, moveUpEvents, shiftEvents}
 use Rattle.portgraph.specs.TableSteps.{link-count-at-most-one}
@@ -46,9 +46,6 @@ doubled-more t p n h = rw (lt-leb n p h)
 powers-rise : (i j : ℕ) → i ≤ j → 2 ^ i ≤ 2 ^ j
 powers-rise i j h = pow-le-pow-right (omega arith) h
 
-pub small-power : (k : ℕ) → k ≤ 10 → 2 ^ k ≤ 1024
-small-power k h = powers-rise k 10 h
-
 doubled-power : (t a n : ℕ) → (k : ℕ) × (a ≤ k) × (k ≤ a + t) × (doubled t (2 ^ a) n ≡ 2 ^ k)
 unfolding doubled
 doubled-power zero a n = (a, omega arith, omega arith, refl)
@@ -58,16 +55,15 @@ doubled-power (suc t) a n = go (leb n (2 ^ a)) (doubled-power t (suc a) n)
     go true r = (a, omega arith, omega arith, refl)
     go false r = (r .0, omega arith, omega arith, rw (← pow-suc 2 a) (r .3))
 
-doubled-reaches : (t a n : ℕ) → n ≤ 2 ^ (a + t) → n ≤ doubled t (2 ^ a) n
+-- every doubling adds one at least
+doubled-reaches : (t p n : ℕ) → 0 < p → n ≤ p + t → n ≤ doubled t p n
 unfolding doubled
-doubled-reaches zero a n h = let e : a + 0 ≡ a = omega arith in rw e at h
-doubled-reaches (suc t) a n h =
-    let s : suc a + t ≡ a + suc t = omega arith in
-    go (leb n (2 ^ a)) refl (doubled-reaches t (suc a) n (rw s h))
+doubled-reaches zero p n some h = omega arith
+doubled-reaches (suc t) p n some h = go (leb n p) refl (doubled-reaches t (p * 2) n (omega arith) (omega arith))
   where
-    go : (b : Bool) → leb n (2 ^ a) ≡ b → n ≤ doubled t (2 ^ suc a) n → n ≤ pick b (2 ^ a) (doubled t (2 ^ a * 2) n)
-    go true e r = leb-true n (2 ^ a) e
-    go false e r = rw (← pow-suc 2 a) r
+    go : (b : Bool) → leb n p ≡ b → n ≤ doubled t (p * 2) n → n ≤ pick b p (doubled t (p * 2) n)
+    go true e r = leb-true n p e
+    go false e r = r
 
 past-power : (a n j : ℕ) → 2 ^ a < n → n ≤ 2 ^ j → suc a ≤ j
 past-power a n j m h = go (leb (suc a) j) refl
@@ -87,31 +83,39 @@ doubled-least (suc t) a n j l h = go (leb n (2 ^ a)) refl (λ i. doubled-least t
 
 pub round-up-is-a-power-of-two : (n : ℕ) → (k : ℕ) × (roundUp n ≡ 2 ^ k)
 unfolding roundUp
-round-up-is-a-power-of-two n = let r = doubled-power 10 0 n in (r .0, r .3)
+round-up-is-a-power-of-two n = let r = doubled-power n 0 n in (r .0, r .3)
 
-pub round-up-reaches : (n : ℕ) → n ≤ nodePorts → n ≤ roundUp n
+pub round-up-reaches : (n : ℕ) → n ≤ roundUp n
 unfolding roundUp
-round-up-reaches n h = doubled-reaches 10 0 n h
+round-up-reaches n = doubled-reaches n 1 n (omega arith) (omega arith)
 
 -- no smaller power of two reaches it
 pub round-up-is-least : (n j : ℕ) → n ≤ 2 ^ j → roundUp n ≤ 2 ^ j
 unfolding roundUp
-round-up-is-least n j h = doubled-least 10 0 n j (omega arith) h
+round-up-is-least n j h = doubled-least n 0 n j (omega arith) h
 
 pub round-up-positive : (n : ℕ) → 0 < roundUp n
-unfolding roundUp
 round-up-positive n =
-    let r = doubled-power 10 0 n in
+    let r = round-up-is-a-power-of-two n in
     let i = powers-rise 0 (r .0) (omega arith) in
-    let e = r .3 in
+    let e = r .1 in
     omega arith
 
-pub round-up-fits : (n : ℕ) → roundUp n ≤ nodePorts
-unfolding roundUp
-round-up-fits n =
-    let r = doubled-power 10 0 n in
-    let i = small-power (r .0) (omega arith) in
-    let e = r .3 in
+pub round-up-fits : (n : ℕ) → n ≤ nodePorts → roundUp n ≤ nodePorts
+round-up-fits n h =
+    let most = most-ports-are-a-power .1 in
+    let r = round-up-is-least n (most-ports-are-a-power .0) (omega arith) in
+    omega arith
+
+-- a total that is more than a node may have needs a block of twice the most ports
+pub round-up-beyond : (n : ℕ) → nodePorts < n → 2 * nodePorts ≤ roundUp n
+round-up-beyond n h =
+    let most = most-ports-are-a-power .1 in
+    let r = round-up-is-a-power-of-two n in
+    let e = r .1 in
+    let s = round-up-reaches n in
+    let i = powers-rise (suc (most-ports-are-a-power .0)) (r .0) (past-power (most-ports-are-a-power .0) n (r .0) (omega arith) (omega arith)) in
+    let d = pow-suc 2 (most-ports-are-a-power .0) in
     omega arith
 
 -- Events.
@@ -148,18 +152,23 @@ length-dropTold t m incoming outgoing =
 
 -- Single steps of the code.
 
-pub round-up-stops : (k p n : ℕ) → n ≤ p → doubled (10 - k) p n ≡ roundUp n → p ≡ roundUp n
-round-up-stops k p n h e = sym (doubled-enough (10 - k) p n h) ∙ e
+-- the doublings that are left from a power on, enough of them, give the rounded total
+abbrev pub Doubling : ℕ → ℕ → Type 0
+Doubling p n = (0 < p) × ((t : ℕ) × (n ≤ p + t) × (doubled t p n ≡ roundUp n))
 
-pub round-up-turn : (k p n : ℕ) → k < 10 → p < n → p ≡ 2 ^ k → doubled (10 - k) p n ≡ roundUp n → (k + 1 ≤ 10) × (p * 2 ≡ 2 ^ (k + 1)) × (doubled (10 - (k + 1)) (p * 2) n ≡ roundUp n)
-round-up-turn k p n h l e f =
-    let g : 10 - k ≡ suc (10 - (k + 1)) = omega arith in
-    let s : k + 1 ≡ suc k = omega arith in
-    (omega arith, rw (e, s, pow-suc), sym (doubled-more (10 - (k + 1)) p n l) ∙ rw g at f)
+pub round-up-starts : (n : ℕ) → Doubling 1 n
+unfolding roundUp
+round-up-starts n = (omega arith, (n, omega arith, refl))
 
-pub round-up-ends : (k p n : ℕ) → 10 ≤ k → doubled (10 - k) p n ≡ roundUp n → p ≡ roundUp n
-unfolding doubled
-round-up-ends k p n h e = let g : 10 - k ≡ zero = omega arith in rw g at e
+pub round-up-turn : (p n : ℕ) → p < n → Doubling p n → Doubling (p * 2) n
+round-up-turn p n l d = go (d .1 .0) (d .1 .1) (d .1 .2)
+  where
+    go : (t : ℕ) → n ≤ p + t → doubled t p n ≡ roundUp n → Doubling (p * 2) n
+    go zero h e = absurd (omega arith)
+    go (suc t) h e = let some = d .0 in (omega arith, (t, omega arith, sym (doubled-more t p n l) ∙ e))
+
+pub round-up-ends : (p n : ℕ) → n ≤ p → Doubling p n → p ≡ roundUp n
+round-up-ends p n h d = sym (doubled-enough (d .1 .0) p n h) ∙ d .1 .2
 
 pub same-counts-first : (m : NodeMeta) (i o r s : ℕ) → r ≡ m .incoming → s ≡ m .outgoing → i ≡ r → eqb o s ≡ sameCounts m i o
 unfolding sameCounts

@@ -7,7 +7,7 @@ use lib.Dec.{eqb, ltb}
 use lib.ListN.{getD}
 use Rattle.portgraph.specs.Limits.{nodeSlots}
 use Rattle.portgraph.specs.Entries.{pick, freshSlot, isNode}
-use Rattle.portgraph.specs.Lookups.{node#, port#, metaAt, containsNode, containsPort, portOffset}
+use Rattle.portgraph.specs.Lookups.{node#, port#, metaAt, containsNode, containsPort, portOffset, offsetNumbers}
 use Rattle.portgraph.specs.declared.direction.Direction.{Direction}
 use Rattle.portgraph.specs.declared.direction.Direction.the-variants.{Incoming, Outgoing}
 use Rattle.portgraph.specs.declared.index.NodeIndex.{NodeIndex}
@@ -50,6 +50,11 @@ nodeHeld g held = pick (eqb held 0) true (containsNode g (held - 1))
 unfoldable pub stepNodes : PortGraph → ℕ → NodesStep
 stepNodes g held = pick (nodeHeld g held) (nodeFrom (g .«node_meta») held (nodeSlots - held)) nodes-step.End
 
+-- a step is never refused: the item, and nothing at the end
+abbrev pub nodesStepNumbers : NodesStep → List ℕ
+nodesStepNumbers (nodes-step.Item n c) = n .0 ∷ []
+nodesStepNumbers nodes-step.End = []
+
 -- Ports of a node, on one side or both, incoming first.
 
 -- the first slot of a node's ports on these sides, and the one after their last
@@ -77,6 +82,10 @@ portsBeyond n sides held (maybe-meta.Some m) = portsItem n sides (max (portsFrom
 unfoldable pub stepPorts : PortGraph → NodePorts → NodePortsStep
 stepPorts g c = pick (portHeld g (c .held)) (portsBeyond (c .node .0) (c .sides) (c .held) (metaAt g (c .node .0))) ports-step.End
 
+abbrev pub portsStepNumbers : NodePortsStep → List ℕ
+portsStepNumbers (ports-step.Item p c) = p .0 ∷ []
+portsStepNumbers ports-step.End = []
+
 abbrev pub startedPorts : NodeIndex → Sides → MaybeNodeMeta → PortsStart
 startedPorts n sides maybe-meta.None = ports-start.UnknownNode
 startedPorts n sides (maybe-meta.Some m) = ports-start.Started (record { node = n; sides = sides; held = 0 })
@@ -102,6 +111,10 @@ offsetOfStep g ports-step.End = offsets-step.End
 
 abbrev pub stepOffsets : PortGraph → NodePortOffsets → NodePortOffsetsStep
 stepOffsets g c = offsetOfStep g (stepPorts g (c .ports))
+
+abbrev pub offsetsStepNumbers : NodePortOffsetsStep → List ℕ
+offsetsStepNumbers (offsets-step.Item o c) = offsetNumbers o
+offsetsStepNumbers offsets-step.End = []
 
 abbrev pub startedOffsets : PortsStart → OffsetsStart
 startedOffsets (ports-start.Started c) = offsets-start.Started (record { ports = c })

@@ -78,19 +78,19 @@ module _ (g : PortGraph) (w : Wf g) where
   out-small gone = omega arith
   out-small (live m) = omega arith
 
-  pub node-count-fits : g .«node_count» ≤ 512
+  pub node-count-fits : g .«node_count» ≤ nodeSlots
   node-count-fits =
       let e = w .holds .nodeCount in
       let h = total-bound nodeSlots 1 (λ n. isLive (w .model .node n)) (λ n _. one-live (w .model .node n)) in
       omega arith
 
-  pub port-count-fits : g .«port_count» ≤ 524288
+  pub port-count-fits : g .«port_count» ≤ nodeSlots * nodePorts
   port-count-fits =
       let e = w .holds .portCount in
       let h = total-bound nodeSlots nodePorts (λ n. portsOf (w .model .node n)) (λ n _. ports-small (w .model .node n) n refl) in
       omega arith
 
-  pub link-count-fits : g .«link_count» ≤ 524288
+  pub link-count-fits : g .«link_count» ≤ nodeSlots * nodePorts
   link-count-fits =
       let e = w .holds .linkCount in
       let h =

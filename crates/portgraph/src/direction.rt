@@ -12,7 +12,7 @@ pub enum Direction {
 impl Direction {
     // The opposite direction.
     pub fn reverse(self) -> Direction
-        ensures { λ r. ⌜ r ≡ reversed self ⌝ }
+        ensures { λ r. ⌜ (r ≡ reversed self) × (sideNumber r ≡ sideNumber (reversed self)) ⌝ }
     {
         match self {
             Direction::Incoming => Direction::Outgoing,

@@ -10,7 +10,7 @@ pub const PORT_SLOTS: usize = 2048;
 // The most ports that a node may have, and the largest block.
 pub const NODE_PORTS: usize = 1024;
 // Free lists of blocks, one for each size from 0; that of size 0 stays empty.
-pub const FREE_LISTS: usize = 1025;
+pub const FREE_LISTS: usize = NODE_PORTS + 1;
 
 // The number of a node.
 pub struct NodeIndex(pub u32);

@@ -14,7 +14,7 @@ use crate::portgraph::PortGraph;
 ghost use mathlib.Core.Path.{_≡_};
 ghost use Prim.Native.Nat.{max};
 ghost use Rattle.portgraph.specs.Model.{Wf};
-ghost use Rattle.portgraph.specs.Walks.{nodeHeld, stepNodes, portsFrom, portsTo, portHeld, stepPorts, startPorts, portsStartNumbers, stepOffsets, startOffsets, offsetsStartNumbers};
+ghost use Rattle.portgraph.specs.Walks.{nodeHeld, stepNodes, nodesStepNumbers, portsFrom, portsTo, portHeld, stepPorts, portsStepNumbers, startPorts, portsStartNumbers, stepOffsets, offsetsStepNumbers, startOffsets, offsetsStartNumbers};
 
 // One side of a node, or both, incoming first.
 pub enum Sides {
@@ -66,14 +66,14 @@ pub enum OffsetsStart {
 }
 
 // The larger of two numbers.
-fn larger(a: usize, b: usize) -> usize
+pub fn larger(a: usize, b: usize) -> usize
     ensures { λ r. ⌜ r ≡ max a b ⌝ }
 {
     if a <= b { b } else { a }
 }
 
 // The first slot of a node's ports on these sides.
-fn ports_from(meta: NodeMeta, sides: Sides) -> usize
+pub fn ports_from(meta: NodeMeta, sides: Sides) -> usize
     ensures { λ r. ⌜ r ≡ portsFrom meta sides ⌝ }
 {
     let first = wide(meta.first_port.0);
@@ -87,7 +87,7 @@ fn ports_from(meta: NodeMeta, sides: Sides) -> usize
 }
 
 // The slot after a node's last port on these sides.
-fn ports_to(meta: NodeMeta, sides: Sides) -> usize
+pub fn ports_to(meta: NodeMeta, sides: Sides) -> usize
     ensures { λ r. ⌜ r ≡ portsTo meta sides ⌝ }
 {
     let end = wide(meta.first_port.0) + wide16(meta.incoming);
@@ -155,7 +155,7 @@ impl PortGraph {
 
 impl Nodes {
     pub fn step(self, graph: PortGraph) -> NodesStep
-        ensures { λ r. ⌜ r ≡ stepNodes graph (self .held) ⌝ }
+        ensures { λ r. ⌜ (r ≡ stepNodes graph (self .held)) × (nodesStepNumbers r ≡ nodesStepNumbers (stepNodes graph (self .held))) ⌝ }
     {
         let held = self.held;
         if graph.node_held(held) {
@@ -175,7 +175,7 @@ impl Nodes {
 impl NodePorts {
     pub fn step(self, graph: PortGraph) -> NodePortsStep
         requires { ⌜ Wf graph ⌝ }
-        ensures { λ r. ⌜ r ≡ stepPorts graph self ⌝ }
+        ensures { λ r. ⌜ (r ≡ stepPorts graph self) × (portsStepNumbers r ≡ portsStepNumbers (stepPorts graph self)) ⌝ }
     {
         let held = self.held;
         if graph.port_held(held) {
@@ -203,7 +203,7 @@ impl NodePorts {
 impl NodePortOffsets {
     pub fn step(self, graph: PortGraph) -> NodePortOffsetsStep
         requires { ⌜ Wf graph ⌝ }
-        ensures { λ r. ⌜ r ≡ stepOffsets graph self ⌝ }
+        ensures { λ r. ⌜ (r ≡ stepOffsets graph self) × (offsetsStepNumbers r ≡ offsetsStepNumbers (stepOffsets graph self)) ⌝ }
     {
         let ports = self.ports;
         let NodePortsStep::Item(port, next) = ports.step(graph) else {

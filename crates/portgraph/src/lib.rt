@@ -3,6 +3,7 @@
 pub mod direction;
 pub mod index;
 pub mod iter;
+pub mod link_iter;
 pub mod node_entry;
 pub mod port_entry;
 pub mod portgraph;

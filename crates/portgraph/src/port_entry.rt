@@ -3,7 +3,7 @@
 use crate::direction::Direction;
 use crate::index::NodeIndex;
 ghost use mathlib.Core.Path.{_≡_};
-ghost use Rattle.portgraph.specs.Entries.{portEntry};
+ghost use Rattle.portgraph.specs.Entries.{portEntry, portEntryNumbers};
 
 // Meta data of a valid port.
 pub struct PortMeta {
@@ -23,7 +23,7 @@ pub enum PortEntry {
 
 impl PortEntry {
     pub fn read(entry: u32) -> Self
-        ensures { λ r. ⌜ r ≡ portEntry entry ⌝ }
+        ensures { λ r. ⌜ (r ≡ portEntry entry) × (portEntryNumbers r ≡ portEntryNumbers (portEntry entry)) ⌝ }
     {
         if entry == 0 {
             return PortEntry::Free;

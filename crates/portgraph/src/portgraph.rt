@@ -23,9 +23,10 @@ use crate::tables::link_both;
 use crate::tables::link_count;
 ghost use mathlib.Core.Path.{_≡_};
 ghost use Prim.Native.Nat.{_-_};
+ghost use Rattle.portgraph.specs.Entries.{portEntryNumbers};
 ghost use Rattle.portgraph.specs.Meaning.{sameSide};
 ghost use Rattle.portgraph.specs.Model.{Wf};
-ghost use Rattle.portgraph.specs.Lookups.{metaAt, portAt, portDirection, portNode, portOffset, portIndex, portLink, portLinkNumbers, numPorts, nodePortCapacity, containsNode, containsPort, isEmpty};
+ghost use Rattle.portgraph.specs.Lookups.{metaAt, metaNumbers, portAt, portDirection, maybeDirectionNumbers, portNode, maybeNodeNumbers, portOffset, maybeOffsetNumbers, portIndex, maybePortNumbers, portLink, portLinkNumbers, numPorts, nodePortCapacity, containsNode, containsPort, isEmpty};
 ghost use Rattle.portgraph.specs.Calls.{newGraph, linkPorts, linkNumbers, unlinkPort};
 
 // A port graph, by value.
@@ -123,7 +124,7 @@ impl PortGraph {
 
     // The meta data of a node, if it is live.
     pub fn node_meta_valid(self, node: NodeIndex) -> MaybeNodeMeta
-        ensures { λ r. ⌜ r ≡ metaAt self (node .0) ⌝ }
+        ensures { λ r. ⌜ (r ≡ metaAt self (node .0)) × (metaNumbers r ≡ metaNumbers (metaAt self (node .0))) ⌝ }
     {
         let place = wide(node.0);
         if NODE_SLOTS <= place {
@@ -139,13 +140,13 @@ impl PortGraph {
 
     // The owner and direction of a port, if it is live.
     pub fn port_meta_valid(self, port: PortIndex) -> PortEntry
-        ensures { λ r. ⌜ r ≡ portAt self (port .0) ⌝ }
+        ensures { λ r. ⌜ (r ≡ portAt self (port .0)) × (portEntryNumbers r ≡ portEntryNumbers (portAt self (port .0))) ⌝ }
     {
         PortEntry::read(at(&self.port_meta, wide(port.0)))
     }
 
     pub fn port_direction(self, port: PortIndex) -> MaybeDirection
-        ensures { λ r. ⌜ r ≡ portDirection self (port .0) ⌝ }
+        ensures { λ r. ⌜ (r ≡ portDirection self (port .0)) × (maybeDirectionNumbers r ≡ maybeDirectionNumbers (portDirection self (port .0))) ⌝ }
     {
         let PortEntry::Port(meta) = PortEntry::read(at(&self.port_meta, wide(port.0))) else {
             return MaybeDirection::None;
@@ -155,7 +156,7 @@ impl PortGraph {
     }
 
     pub fn port_node(self, port: PortIndex) -> MaybeNodeIndex
-        ensures { λ r. ⌜ r ≡ portNode self (port .0) ⌝ }
+        ensures { λ r. ⌜ (r ≡ portNode self (port .0)) × (maybeNodeNumbers r ≡ maybeNodeNumbers (portNode self (port .0))) ⌝ }
     {
         let PortEntry::Port(meta) = PortEntry::read(at(&self.port_meta, wide(port.0))) else {
             return MaybeNodeIndex::None;
@@ -166,7 +167,7 @@ impl PortGraph {
 
     // The side and position of a port.
     pub fn port_offset(self, port: PortIndex) -> MaybePortOffset
-        ensures { λ r. ⌜ r ≡ portOffset self (port .0) ⌝ }
+        ensures { λ r. ⌜ (r ≡ portOffset self (port .0)) × (maybeOffsetNumbers r ≡ maybeOffsetNumbers (portOffset self (port .0))) ⌝ }
     {
         let place = wide(port.0);
         if PORT_SLOTS <= place {
@@ -196,7 +197,7 @@ impl PortGraph {
     // The port at a side and position of a node.
     pub fn port_index(self, node: NodeIndex, offset: PortOffset) -> MaybePortIndex
         requires { ⌜ Wf self ⌝ }
-        ensures { λ r. ⌜ r ≡ portIndex self (node .0) offset ⌝ }
+        ensures { λ r. ⌜ (r ≡ portIndex self (node .0) offset) × (maybePortNumbers r ≡ maybePortNumbers (portIndex self (node .0) offset)) ⌝ }
     {
         let MaybeNodeMeta::Some(meta) = self.node_meta_valid(node) else {
             return MaybePortIndex::None;

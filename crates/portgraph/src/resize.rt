@@ -31,7 +31,7 @@ ghost use mathlib.Core.Bool.{true};
 ghost use Prim.Native.Nat.{_+_, _-_, _*_, _≤_, _<_, min};
 ghost use lib.ListN.{length};
 ghost use lib.Seq.{sets};
-ghost use Rattle.portgraph.specs.Limits.{portSlots, nodePorts};
+ghost use Rattle.portgraph.specs.Limits.{nodeSlots, portSlots, nodePorts};
 ghost use Rattle.portgraph.specs.Model.{Wf};
 ghost use Rattle.portgraph.specs.Calls.{findBlock};
 ghost use Rattle.portgraph.specs.Resize.{setBy, insideTold, anewTold, inside, anew, BlockFits, roundUp, sameCounts, fitsInside, dropLinks, dropCount, dropTold, dropped, insideLinks, anewLinks, setNumPorts, movesAfter, setNumbers};
@@ -66,13 +66,8 @@ pub(crate) fn round_up(total: usize) -> usize
     ensures { λ r. ⌜ r ≡ roundUp total ⌝ }
 {
     let mut power: usize = 1;
-    let mut k: usize = 0;
-    while k < 10 {
-        if total <= power {
-            return power;
-        }
+    while power < total {
         power = power * 2;
-        k += 1;
     }
     power
 }
@@ -201,7 +196,7 @@ impl PortGraph {
         outgoing: usize,
         moves: &mut [u32],
     ) -> PortsSet
-        requires { ⌜ Wf self × (node .0 < 512) × (incoming + outgoing ≤ meta .capacity) × BlockFits meta ⌝ }
+        requires { ⌜ Wf self × (node .0 < nodeSlots) × (incoming + outgoing ≤ meta .capacity) × BlockFits meta ⌝ }
         ensures { λ r. ⌜ (r ≡ setBy self (node .0) incoming outgoing (inside meta))
             × (now (moves .exit) ≡ sets (now (moves .entry)) 0 (insideTold self meta incoming outgoing)) ⌝ }
     {
@@ -249,7 +244,7 @@ impl PortGraph {
         new_first: usize,
         moves: &mut [u32],
     ) -> PortsSet
-        requires { ⌜ Wf self × (node .0 < 512) × (incoming + outgoing ≤ nodePorts) × BlockFits meta × (findBlock (self .«port_free») (self .«port_len») (roundUp (incoming + outgoing)) ≡ Found.At «new_first») ⌝ }
+        requires { ⌜ Wf self × (node .0 < nodeSlots) × (incoming + outgoing ≤ nodePorts) × BlockFits meta × (findBlock (self .«port_free») (self .«port_len») (roundUp (incoming + outgoing)) ≡ Found.At «new_first») ⌝ }
         ensures { λ r. ⌜ (r ≡ setBy self (node .0) incoming outgoing (anew meta «new_first»))
             × (now (moves .exit) ≡ sets (now (moves .entry)) 0 (anewTold self meta incoming outgoing «new_first»)) ⌝ }
     {

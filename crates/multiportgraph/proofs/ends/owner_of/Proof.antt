@@ -16,11 +16,11 @@ enum-told c = search needs
 
 returns : tie.Need-returns
 unfolding ownerOf
-returns c = ap nodeNumber (sym (c .enum-told .given .1) ∙ c .before .before .port-node .ensures)
+returns c = ap nodeNumber (sym (c .enum-told .given .1) ∙ c .before .before .port-node .ensures .0)
 
 returns-2 : tie.Need-returns-2
 unfolding ownerOf
-returns-2 c = ap nodeNumber (sym (c .before .node .given .1) ∙ c .before .before .before .port-node .ensures)
+returns-2 c = ap nodeNumber (sym (c .before .node .given .1) ∙ c .before .before .before .port-node .ensures .0)
 
 pub owner-of-spec : {M : Type 1} → statement M
 owner-of-spec = tie.close (tie.spec port-node-requires enum-known-node enum-told returns returns-2)

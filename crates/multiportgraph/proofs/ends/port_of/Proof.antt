@@ -16,11 +16,11 @@ enum-told c = search needs
 
 returns : tie.Need-returns
 unfolding portOf
-returns c = ap portNumber (sym (c .enum-told .given .1) ∙ c .before .before .port-index .ensures)
+returns c = ap portNumber (sym (c .enum-told .given .1) ∙ c .before .before .port-index .ensures .0)
 
 returns-2 : tie.Need-returns-2
 unfolding portOf
-returns-2 c = ap portNumber (sym (c .before .port .given .1) ∙ c .before .before .before .port-index .ensures)
+returns-2 c = ap portNumber (sym (c .before .port .given .1) ∙ c .before .before .before .port-index .ensures .0)
 
 pub port-of-spec : {M : Type 1} → statement M
 port-of-spec = tie.close (tie.spec port-index-requires enum-known-port enum-told returns returns-2)

@@ -16,11 +16,11 @@ enum-told c = search needs
 
 returns : tie.Need-returns
 unfolding positionOf
-returns c = ap positionNumber (sym (c .enum-told .given .1) ∙ c .before .before .port-offset .ensures)
+returns c = ap positionNumber (sym (c .enum-told .given .1) ∙ c .before .before .port-offset .ensures .0)
 
 returns-2 : tie.Need-returns-2
 unfolding positionOf
-returns-2 c = ap positionNumber (sym (c .before .offset .given .1) ∙ c .before .before .before .port-offset .ensures)
+returns-2 c = ap positionNumber (sym (c .before .offset .given .1) ∙ c .before .before .before .port-offset .ensures .0)
 
 pub position-of-spec : {M : Type 1} → statement M
 position-of-spec =

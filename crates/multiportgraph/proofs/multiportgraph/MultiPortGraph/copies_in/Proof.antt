@@ -8,6 +8,7 @@ use borrow.Author.Needs.{needs}
 use mathlib.Core.Logic.{⊎-elim}
 use lib.ListN.{length}
 use lib.Seq.{sets}
+use Rattle.portgraph.specs.Limits.{portSlots}
 use Rattle.multiportgraph.specs.Calls.{copiesIn}
 use Rattle.multiportgraph.specs.FormSteps.{split-told}
 use Rattle.multiportgraph.specs.BlockSteps.{copies-begun, copies-turn-split, copies-turn-plain, copies-counted, copies-listed}
@@ -24,7 +25,7 @@ Inv-loop list₀ at first count self place₀ k₀ list place k =
 abbrev μ-loop : tie.MeasureT-loop
 μ-loop list₀ at first count self place₀ k₀ list place k = count - k
 
-long : (c : tie.Start Inv-loop μ-loop) → length (c .args .t1 .multiport) ≡ 2048
+long : (c : tie.Start Inv-loop μ-loop) → length (c .args .t1 .multiport) ≡ portSlots
 long c = search needs
 
 loop-holds : tie.Need-loop-holds Inv-loop μ-loop

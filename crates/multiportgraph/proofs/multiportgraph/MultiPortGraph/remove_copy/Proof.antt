@@ -55,7 +55,7 @@ less-requires-2 c κs = search needs
 returns : tie.Need-returns
 returns c =
     copy-removed (c .before .before .before .before .before .before .before .before .before .before .before .before .before .before .before .before .before .before .args .t1) (c .before .before .before .before .before .before .before .before .before .before .before .before .before .before .before .before .before .before .args .port) (c .before .before .before .before .before .before .before .before .before .before .before .before .before .before .before .before .before .before .args .node) (marks-long (c .before .before .before .before .before .before .before .before .before .before .before .before .before .before .before .before .before .before)) (flags-long (c .before .before .before .before .before .before .before .before .before .before .before .before .before .before .before .before .before .before))
-    (c .before .before .before .before .before .before .before .before .before .before .before .before .before .before .before .before .copy-side .ensures) (c .before .before .before .before .before .before .before .before .before .before .before .before .before .before .before .port-of .ensures) (c .before .before .before .before .before .before .before .before .before .before .before .before .before .before .reverse .ensures) (c .before .before .before .before .before .before .before .before .before .before .before .before .before .num-ports .ensures) (c .before .before .before .before .before .before .before .before .before .before .before .before .remove-node .ensures .0)
+    (c .before .before .before .before .before .before .before .before .before .before .before .before .before .before .before .before .copy-side .ensures) (c .before .before .before .before .before .before .before .before .before .before .before .before .before .before .before .port-of .ensures) (c .before .before .before .before .before .before .before .before .before .before .before .before .before .before .reverse .ensures .0) (c .before .before .before .before .before .before .before .before .before .before .before .before .before .num-ports .ensures) (c .before .before .before .before .before .before .before .before .before .before .before .before .remove-node .ensures .0)
     (c .before .before .before .before .before .before .before .before .before .wide .ensures) (c .before .before .before .before .before .before .before .before .put-mark .ensures) (c .before .before .before .before .before .before .wide2 .ensures) (c .before .before .before .before .before .put-mark2 .ensures) (c .before .before .before .wide3 .ensures) (c .before .before .put-flag .ensures)
     (c .before .less .ensures) (c .less2 .ensures)
 

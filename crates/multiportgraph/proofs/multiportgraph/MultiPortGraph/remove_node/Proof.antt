@@ -12,7 +12,7 @@ use Rattle.multiportgraph.proofs.multiportgraph.MultiPortGraph.remove_n
 
 -- the node is live
 live : (c : tie.After-known-told) → maybe-meta.Some (c .before .meta .given .0 .0) ≡ metaAt (c .before .before .before .before .before .args .t1 .graph) (c .before .before .before .before .before .args .node .0)
-live c = sym (c .before .meta .given .1) ∙ c .before .before .before .node-meta-valid .ensures
+live c = sym (c .before .meta .given .1) ∙ c .before .before .before .node-meta-valid .ensures .0
 
 -- its flag is the one that was read
 told : (c : tie.After-flagged) (q : Bool) → c .flagged .result ≡ q → isHidden (c .before .before .before .before .before .before .before .before .before .args .t1) (c .before .before .before .before .before .before .before .before .before .args .node .0) ≡ q
@@ -28,7 +28,7 @@ enum-told : tie.Need-enum-told
 enum-told c = search needs
 
 returns : tie.Need-returns
-returns c = remove-unknown (c .before .before .before .before .args .t1) (c .before .before .before .before .args .node .0) (sym (c .enum-told .given .1) ∙ c .before .before .node-meta-valid .ensures)
+returns c = remove-unknown (c .before .before .before .before .args .t1) (c .before .before .before .before .args .node .0) (sym (c .enum-told .given .1) ∙ c .before .before .node-meta-valid .ensures .0)
 
 wide-requires : tie.Need-wide-requires
 wide-requires c κs = search needs

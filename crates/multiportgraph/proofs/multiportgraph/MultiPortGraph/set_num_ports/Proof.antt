@@ -20,7 +20,7 @@ few c = omega (arith, c .if2 .left, c .before .if1 .left)
 
 -- the node is live
 live : (c : tie.After-known-told) → maybe-meta.Some (c .before .meta .given .0 .0) ≡ metaAt (c .before .before .before .before .before .before .before .before .args .t1 .graph) (c .before .before .before .before .before .before .before .before .args .node .0)
-live c = sym (c .before .meta .given .1) ∙ c .before .before .before .node-meta-valid .ensures
+live c = sym (c .before .meta .given .1) ∙ c .before .before .before .node-meta-valid .ensures .0
 
 -- its flag is the one that was read
 told : (c : tie.After-flagged) (q : Bool) → c .flagged .result ≡ q → isHidden (c .before .before .before .before .before .before .before .before .before .before .before .before .args .t1) (c .before .before .before .before .before .before .before .before .before .before .before .before .args .node .0) ≡ q
@@ -42,7 +42,7 @@ enum-told : tie.Need-enum-told
 enum-told c = search needs
 
 returns-3 : tie.Need-returns-3
-returns-3 c = set-unknown (c .before .before .before .before .before .before .before .args .t1) (c .before .before .before .before .before .before .before .args .node .0) (c .before .before .before .before .before .before .before .args .incoming) (c .before .before .before .before .before .before .before .args .outgoing) (c .before .before .before .before .before .before .before .args .moves .now) (few (c .before .before .before .before)) (sym (c .enum-told .given .1) ∙ c .before .before .node-meta-valid .ensures)
+returns-3 c = set-unknown (c .before .before .before .before .before .before .before .args .t1) (c .before .before .before .before .before .before .before .args .node .0) (c .before .before .before .before .before .before .before .args .incoming) (c .before .before .before .before .before .before .before .args .outgoing) (c .before .before .before .before .before .before .before .args .moves .now) (few (c .before .before .before .before)) (sym (c .enum-told .given .1) ∙ c .before .before .node-meta-valid .ensures .0)
 
 wide-requires : tie.Need-wide-requires
 wide-requires c κs = search needs

@@ -5,15 +5,16 @@ use native.Mathlib.Omega.{arith}
 use borrow.Author.Needs.{needs}
 use Rattle.portgraph.specs.Limits.{portSlots}
 use Rattle.portgraph.specs.Lookups.{metaAt}
-use Rattle.portgraph.specs.Walks.{portsItem, stepPorts}
+use Rattle.portgraph.specs.Walks.{portsItem, stepPorts, portsStepNumbers}
 use Rattle.portgraph.specs.WalkLaws.{step-at, item-given, item-beyond, gone-node-ends-its-ports, step-where-port-gone, ports-end-inside}
 use Rattle.portgraph.specs.declared.node_entry.MaybeNodeMeta.the-variants.{Some}
+use Rattle.portgraph.specs.LookupSteps.{with-numbers}
 use Rattle.portgraph.proofs.iter.NodePorts.step.Statement.{statement}
 use Rattle.portgraph.proofs.iter.NodePorts.step.Tie as tie
 
 -- the node that was found
 found : (c : tie.After-meta) → metaAt (c .before .before .before .before .before .before .args .graph) (c .before .before .before .before .before .before .args .self .node .0) ≡ Some (c .meta .given .0 .0)
-found c = sym (c .before .before .node-meta-valid .ensures) ∙ c .meta .given .1
+found c = sym (c .before .before .node-meta-valid .ensures .0) ∙ c .meta .given .1
 
 -- the place of the next port lies within the tables
 room : (c : tie.Then2) → c .before .before .larger .result < portSlots
@@ -47,7 +48,7 @@ enum-told : tie.Need-enum-told
 enum-told c = search needs
 
 returns : tie.Need-returns
-returns c = sym (gone-node-ends-its-ports _ (c .before .before .before .before .before .before .args .self) (sym (c .before .before .node-meta-valid .ensures) ∙ c .enum-told .given .1))
+returns c = with-numbers portsStepNumbers (sym (gone-node-ends-its-ports _ (c .before .before .before .before .before .before .args .self) (sym (c .before .before .node-meta-valid .ensures .0) ∙ c .enum-told .given .1)))
 
 ports-from-requires : tie.Need-ports-from-requires
 ports-from-requires c κs = search needs
@@ -71,13 +72,13 @@ add-t16 : tie.Need-add-t16
 add-t16 c = let h = room c in omega arith
 
 returns-2 : tie.Need-returns-2
-returns-2 c = item-given _ _ _ _ (c .if2 .taken) ∙ sym (step (c .before))
+returns-2 c = with-numbers portsStepNumbers (item-given _ _ _ _ (c .if2 .taken) ∙ sym (step (c .before)))
 
 returns-3 : tie.Need-returns-3
-returns-3 c = sym (step (c .before) ∙ item-beyond _ _ _ _ (c .if2 .left))
+returns-3 c = with-numbers portsStepNumbers (sym (step (c .before) ∙ item-beyond _ _ _ _ (c .if2 .left)))
 
 returns-4 : tie.Need-returns-4
-returns-4 c = sym (step-where-port-gone _ (c .before .before .args .self) (sym (c .before .port-held .ensures) ∙ c .if1 .left))
+returns-4 c = with-numbers portsStepNumbers (sym (step-where-port-gone _ (c .before .before .args .self) (sym (c .before .port-held .ensures) ∙ c .if1 .left)))
 
 pub step-spec : {M : Type 1} → statement M
 step-spec =

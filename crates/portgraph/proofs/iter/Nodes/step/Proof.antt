@@ -5,7 +5,8 @@ use Prim.Native.Nat.{_-_}
 use borrow.Author.Needs.{needs}
 use Rattle.portgraph.specs.Limits.{nodeSlots}
 use Rattle.portgraph.specs.WalkLaws.{search-turn, search-found, search-done, step-where-gone}
-use Rattle.portgraph.specs.Walks.{nodeFrom}
+use Rattle.portgraph.specs.Walks.{nodeFrom, nodesStepNumbers}
+use Rattle.portgraph.specs.LookupSteps.{with-numbers}
 use Rattle.portgraph.proofs.iter.Nodes.step.Statement.{statement}
 use Rattle.portgraph.proofs.iter.Nodes.step.Tie as tie
 
@@ -45,8 +46,9 @@ add-t18 c = search needs
 returns : tie.Need-returns Inv-loop μ-loop
 returns c =
     let l = c .before .before .before .before in
-    search-found _ _ (l .loop .n) (sym (l .before .before .before .node-held .ensures) ∙ l .before .before .if1 .taken) (l .loop .inv) (c .before .before .before .loop-test .taken)
-    (sym (c .before .is-node .ensures) ∙ c .if2 .taken)
+    with-numbers nodesStepNumbers
+    (search-found _ _ (l .loop .n) (sym (l .before .before .before .node-held .ensures) ∙ l .before .before .if1 .taken) (l .loop .inv) (c .before .before .before .loop-test .taken)
+    (sym (c .before .is-node .ensures) ∙ c .if2 .taken))
 
 add-n : tie.Need-add-n Inv-loop μ-loop
 add-n c = search needs
@@ -62,10 +64,11 @@ loop-again c =
 returns-2 : tie.Need-returns-2 Inv-loop μ-loop
 returns-2 c =
     let l = c .before in
-    search-done _ _ (l .loop .n) (sym (l .before .before .before .node-held .ensures) ∙ l .before .before .if1 .taken) (l .loop .inv) (c .loop-test .left)
+    with-numbers nodesStepNumbers
+    (search-done _ _ (l .loop .n) (sym (l .before .before .before .node-held .ensures) ∙ l .before .before .if1 .taken) (l .loop .inv) (c .loop-test .left))
 
 returns-3 : tie.Need-returns-3 Inv-loop μ-loop
-returns-3 c = sym (step-where-gone _ _ (sym (c .before .node-held .ensures) ∙ c .if1 .left))
+returns-3 c = with-numbers nodesStepNumbers (sym (step-where-gone _ _ (sym (c .before .node-held .ensures) ∙ c .if1 .left)))
 
 pub step-spec : {M : Type 1} → statement M
 step-spec =

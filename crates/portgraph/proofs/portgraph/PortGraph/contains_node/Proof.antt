@@ -15,10 +15,10 @@ enum-told-2 : tie.Need-enum-told-2
 enum-told-2 c = search needs
 
 returns : tie.Need-returns
-returns c = ap isSome (sym (c .enum-told2 .given .1) ∙ c .before .before .node-meta-valid .ensures)
+returns c = ap isSome (sym (c .enum-told2 .given .1) ∙ c .before .before .node-meta-valid .ensures .0)
 
 returns-2 : tie.Need-returns-2
-returns-2 c = ap isSome (sym (c .enum-told .given .1) ∙ c .before .before .node-meta-valid .ensures)
+returns-2 c = ap isSome (sym (c .enum-told .given .1) ∙ c .before .before .node-meta-valid .ensures .0)
 
 pub contains-node-spec : {M : Type 1} → statement M
 contains-node-spec =

@@ -8,7 +8,7 @@ use Rattle.portgraph.proofs.portgraph.PortGraph.contains_port.Tie as ti
 
 -- the owner that is read is the port's
 read-owner : (c : tie.After-read) → c .read .result ≡ portAt (c .before .before .before .before .before .args .t1) (c .before .before .before .before .before .args .port .0)
-read-owner c = port-read _ _ _ _ _ (c .before .before .wide .ensures) (c .before .at .ensures) (c .read .ensures)
+read-owner c = port-read _ _ _ _ _ (c .before .before .wide .ensures) (c .before .at .ensures) (c .read .ensures .0)
 
 wide-requires : tie.Need-wide-requires
 wide-requires c κs = search needs

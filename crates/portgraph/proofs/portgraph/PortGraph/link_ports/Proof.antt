@@ -15,10 +15,10 @@ use Rattle.portgraph.proofs.portgraph.PortGraph.link_ports.Tie as tie
 
 -- the owners that are read are the ports'
 read-owner : (c : tie.After-read) → c .read .result ≡ portAt (c .before .before .before .before .before .before .args .t1) (c .before .before .before .before .before .before .args .port-a .0)
-read-owner c = port-read _ _ _ _ _ (c .before .before .before .before .before .wide .ensures) (c .before .at .ensures) (c .read .ensures)
+read-owner c = port-read _ _ _ _ _ (c .before .before .before .before .before .wide .ensures) (c .before .at .ensures) (c .read .ensures .0)
 
 read-second : (c : tie.After-read2) → c .read2 .result ≡ portAt (c .before .before .before .before .before .before .before .before .before .before .before .before .before .args .t1) (c .before .before .before .before .before .before .before .before .before .before .before .before .before .args .port-b .0)
-read-second c = port-read _ _ _ _ _ (c .before .before .before .before .before .before .before .before .before .before .before .wide2 .ensures) (c .before .at2 .ensures) (c .read2 .ensures)
+read-second c = port-read _ _ _ _ _ (c .before .before .before .before .before .before .before .before .before .before .before .wide2 .ensures) (c .before .at2 .ensures) (c .read2 .ensures .0)
 
 -- after both reads: two live ports
 live-first : (c : tie.After-same-side) → Port (c .before .before .before .before .before .before .before .before .before .meta-a .given .0 .0) ≡ portAt (c .before .before .before .before .before .before .before .before .before .before .before .before .before .before .before .before .before .args .t1) (c .before .before .before .before .before .before .before .before .before .before .before .before .before .before .before .before .before .args .port-a .0)

@@ -15,13 +15,13 @@ enum-told : tie.Need-enum-told
 enum-told c = search needs
 
 returns : tie.Need-returns
-returns c = ap capacityIn (sym (c .enum-told .given .1) ∙ c .before .before .node-meta-valid .ensures)
+returns c = ap capacityIn (sym (c .enum-told .given .1) ∙ c .before .before .node-meta-valid .ensures .0)
 
 capacity-requires : tie.Need-capacity-requires
 capacity-requires c κs = search needs
 
 returns-2 : tie.Need-returns-2
-returns-2 c = c .capacity .ensures ∙ ap capacityIn (sym (c .before .before .meta .given .1) ∙ c .before .before .before .before .node-meta-valid .ensures)
+returns-2 c = c .capacity .ensures ∙ ap capacityIn (sym (c .before .before .meta .given .1) ∙ c .before .before .before .before .node-meta-valid .ensures .0)
 
 pub node-port-capacity-spec : {M : Type 1} → statement M
 node-port-capacity-spec =

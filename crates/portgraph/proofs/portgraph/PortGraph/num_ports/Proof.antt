@@ -16,13 +16,13 @@ enum-told : tie.Need-enum-told
 enum-told c = search needs
 
 returns : tie.Need-returns
-returns c = ap (λ (m : MaybeNodeMeta). countIn m (c .before .before .before .args .direction)) (sym (c .enum-told .given .1) ∙ c .before .before .node-meta-valid .ensures)
+returns c = ap (λ (m : MaybeNodeMeta). countIn m (c .before .before .before .args .direction)) (sym (c .enum-told .given .1) ∙ c .before .before .node-meta-valid .ensures .0)
 
 num-ports-requires : tie.Need-num-ports-requires
 num-ports-requires c κs = search needs
 
 returns-2 : tie.Need-returns-2
-returns-2 c = c .num-ports .ensures ∙ ap (λ (m : MaybeNodeMeta). countIn m (c .before .before .before .before .before .args .direction)) (sym (c .before .before .meta .given .1) ∙ c .before .before .before .before .node-meta-valid .ensures)
+returns-2 c = c .num-ports .ensures ∙ ap (λ (m : MaybeNodeMeta). countIn m (c .before .before .before .before .before .args .direction)) (sym (c .before .before .meta .given .1) ∙ c .before .before .before .before .node-meta-valid .ensures .0)
 
 pub num-ports-spec : {M : Type 1} → statement M
 num-ports-spec =

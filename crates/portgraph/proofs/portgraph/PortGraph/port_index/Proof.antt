@@ -2,8 +2,8 @@
 use mathlib.Core.Path.{sym, ap, _∙_}
 use native.Mathlib.Omega.{arith}
 use borrow.Author.Needs.{needs}
-use Rattle.portgraph.specs.Lookups.{startOf, portIn}
-use Rattle.portgraph.specs.LookupSteps.{found-block-fits, side-fits, index-outside, index-inside}
+use Rattle.portgraph.specs.Lookups.{startOf, portIn, maybePortNumbers}
+use Rattle.portgraph.specs.LookupSteps.{with-numbers, found-block-fits, side-fits, index-outside, index-inside}
 use Rattle.portgraph.specs.declared.node_entry.MaybeNodeMeta.{MaybeNodeMeta}
 use Rattle.portgraph.proofs.portgraph.PortGraph.port_index.Statement.{statement}
 use Rattle.portgraph.proofs.portgraph.PortGraph.port_index.Tie as tie
@@ -18,7 +18,7 @@ enum-told : tie.Need-enum-told
 enum-told c = search needs
 
 returns : tie.Need-returns
-returns c = ap (λ (m : MaybeNodeMeta). portIn m (c .before .before .before .args .offset)) (sym (c .enum-told .given .1) ∙ c .before .before .node-meta-valid .ensures)
+returns c = with-numbers maybePortNumbers (ap (λ (m : MaybeNodeMeta). portIn m (c .before .before .before .args .offset)) (sym (c .enum-told .given .1) ∙ c .before .before .node-meta-valid .ensures .0))
 
 wide16-requires : tie.Need-wide16-requires
 wide16-requires c κs = search needs
@@ -27,7 +27,7 @@ num-ports-requires : tie.Need-num-ports-requires
 num-ports-requires c κs = search needs
 
 returns-2 : tie.Need-returns-2
-returns-2 c = index-outside (c .before .before .before .before .before .before .before .args .self) (c .before .before .before .before .before .before .before .args .node .0) _ _ (c .before .before .before .before .meta .given .0 .0) (c .before .before .before .before .before .before .before .args .offset) (sym (c .before .before .before .before .meta .given .1) ∙ c .before .before .before .before .before .before .node-meta-valid .ensures) (c .before .before .wide16 .ensures) (c .before .num-ports .ensures) (c .if1 .taken)
+returns-2 c = with-numbers maybePortNumbers (index-outside (c .before .before .before .before .before .before .before .args .self) (c .before .before .before .before .before .before .before .args .node .0) _ _ (c .before .before .before .before .meta .given .0 .0) (c .before .before .before .before .before .before .before .args .offset) (sym (c .before .before .before .before .meta .given .1) ∙ c .before .before .before .before .before .before .node-meta-valid .ensures .0) (c .before .before .wide16 .ensures) (c .before .num-ports .ensures) (c .if1 .taken))
 
 wide-requires : tie.Need-wide-requires
 wide-requires c κs = search needs
@@ -41,7 +41,7 @@ add-t12 c = search needs
 cast-t13 : tie.Need-cast-t13
 cast-t13 c =
     let m = c .before .before .before .before .before .before .before .meta .given .0 .0 in
-    let fits = found-block-fits (c .before .before .before .before .before .before .before .before .before .before .args .self) (c .before .before .before .before .before .before .before .before .before .before .pre) (c .before .before .before .before .before .before .before .before .before .before .args .node .0) m (sym (c .before .before .before .before .before .before .before .meta .given .1) ∙ c .before .before .before .before .before .before .before .before .before .node-meta-valid .ensures) in
+    let fits = found-block-fits (c .before .before .before .before .before .before .before .before .before .before .args .self) (c .before .before .before .before .before .before .before .before .before .before .pre) (c .before .before .before .before .before .before .before .before .before .before .args .node .0) m (sym (c .before .before .before .before .before .before .before .meta .given .1) ∙ c .before .before .before .before .before .before .before .before .before .node-meta-valid .ensures .0) in
     let side = side-fits m (c .before .before .before .before .before .before .before .before .before .before .args .offset .direction) fits in
     let start = ap (startOf m) (c .enum-told2 .given .1) in
     let first = c .before .before .wide .ensures in
@@ -65,7 +65,7 @@ add-t17 c = search needs
 cast-t18 : tie.Need-cast-t18
 cast-t18 c =
     let m = c .before .before .before .before .before .before .before .before .meta .given .0 .0 in
-    let fits = found-block-fits (c .before .before .before .before .before .before .before .before .before .before .before .args .self) (c .before .before .before .before .before .before .before .before .before .before .before .pre) (c .before .before .before .before .before .before .before .before .before .before .before .args .node .0) m (sym (c .before .before .before .before .before .before .before .before .meta .given .1) ∙ c .before .before .before .before .before .before .before .before .before .before .node-meta-valid .ensures) in
+    let fits = found-block-fits (c .before .before .before .before .before .before .before .before .before .before .before .args .self) (c .before .before .before .before .before .before .before .before .before .before .before .pre) (c .before .before .before .before .before .before .before .before .before .before .before .args .node .0) m (sym (c .before .before .before .before .before .before .before .before .meta .given .1) ∙ c .before .before .before .before .before .before .before .before .before .before .node-meta-valid .ensures .0) in
     let side = side-fits m (c .before .before .before .before .before .before .before .before .before .before .before .args .offset .direction) fits in
     let start = ap (startOf m) (c .before .enum-told3 .given .1) in
     let first = c .before .before .before .wide .ensures in
@@ -80,7 +80,8 @@ returns-3 c =
     let m = c .before .before .before .before .before .before .before .meta .given .0 .0 in
     let start = ap (startOf m) (c .enum-told2 .given .1) in
     let first = c .before .before .wide .ensures in
-    index-inside (c .before .before .before .before .before .before .before .before .before .before .args .self) (c .before .before .before .before .before .before .before .before .before .before .args .node .0) _ _ _ m (c .before .before .before .before .before .before .before .before .before .before .args .offset) (sym (c .before .before .before .before .before .before .before .meta .given .1) ∙ c .before .before .before .before .before .before .before .before .before .node-meta-valid .ensures) (c .before .before .before .before .before .wide16 .ensures) (c .before .before .before .before .num-ports .ensures) (c .before .before .before .if1 .left) (omega arith)
+    with-numbers maybePortNumbers
+    (index-inside (c .before .before .before .before .before .before .before .before .before .before .args .self) (c .before .before .before .before .before .before .before .before .before .before .args .node .0) _ _ _ m (c .before .before .before .before .before .before .before .before .before .before .args .offset) (sym (c .before .before .before .before .before .before .before .meta .given .1) ∙ c .before .before .before .before .before .before .before .before .before .node-meta-valid .ensures .0) (c .before .before .before .before .before .wide16 .ensures) (c .before .before .before .before .num-ports .ensures) (c .before .before .before .if1 .left) (omega arith))
 
 returns-4 : tie.Need-returns-4
 returns-4 c =
@@ -88,7 +89,8 @@ returns-4 c =
     let start = ap (startOf m) (c .before .enum-told3 .given .1) in
     let first = c .before .before .before .wide .ensures in
     let incoming = c .wide162 .ensures in
-    index-inside (c .before .before .before .before .before .before .before .before .before .before .before .args .self) (c .before .before .before .before .before .before .before .before .before .before .before .args .node .0) _ _ _ m (c .before .before .before .before .before .before .before .before .before .before .before .args .offset) (sym (c .before .before .before .before .before .before .before .before .meta .given .1) ∙ c .before .before .before .before .before .before .before .before .before .before .node-meta-valid .ensures) (c .before .before .before .before .before .before .wide16 .ensures) (c .before .before .before .before .before .num-ports .ensures) (c .before .before .before .before .if1 .left) (omega arith)
+    with-numbers maybePortNumbers
+    (index-inside (c .before .before .before .before .before .before .before .before .before .before .before .args .self) (c .before .before .before .before .before .before .before .before .before .before .before .args .node .0) _ _ _ m (c .before .before .before .before .before .before .before .before .before .before .before .args .offset) (sym (c .before .before .before .before .before .before .before .before .meta .given .1) ∙ c .before .before .before .before .before .before .before .before .before .before .node-meta-valid .ensures .0) (c .before .before .before .before .before .before .wide16 .ensures) (c .before .before .before .before .before .num-ports .ensures) (c .before .before .before .before .if1 .left) (omega arith))
 
 pub port-index-spec : {M : Type 1} → statement M
 port-index-spec =

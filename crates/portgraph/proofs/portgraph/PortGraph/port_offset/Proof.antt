@@ -2,20 +2,20 @@
 use mathlib.Core.Path.{_≡_, sym, ap, _∙_}
 use native.Mathlib.Omega.{arith}
 use borrow.Author.Needs.{needs}
-use Rattle.portgraph.specs.Lookups.{portAt, startOf, offsetOf}
-use Rattle.portgraph.specs.LookupSteps.{port-read, port-outside, offset-found, offset-without-node}
+use Rattle.portgraph.specs.Lookups.{portAt, startOf, offsetOf, maybeOffsetNumbers}
+use Rattle.portgraph.specs.LookupSteps.{with-numbers, port-read, port-outside, offset-found, offset-without-node}
 use Rattle.portgraph.proofs.portgraph.PortGraph.port_offset.Statement.{statement}
 use Rattle.portgraph.proofs.portgraph.PortGraph.port_offset.Tie as tie
 
 -- the owner that is read is the port's
 read-owner : (c : tie.After-read) → c .read .result ≡ portAt (c .before .before .before .before .before .before .args .t1) (c .before .before .before .before .before .before .args .port .0)
-read-owner c = port-read _ _ _ _ _ (c .before .before .before .before .before .wide .ensures) (c .before .at .ensures) (c .read .ensures)
+read-owner c = port-read _ _ _ _ _ (c .before .before .before .before .before .wide .ensures) (c .before .at .ensures) (c .read .ensures .0)
 
 wide-requires : tie.Need-wide-requires
 wide-requires c κs = search needs
 
 returns : tie.Need-returns
-returns c = ap (offsetOf (c .before .before .args .t1) (c .before .before .args .port .0)) (port-outside _ _ _ (c .before .wide .ensures) (c .if1 .taken))
+returns c = with-numbers maybeOffsetNumbers (ap (offsetOf (c .before .before .args .t1) (c .before .before .args .port .0)) (port-outside _ _ _ (c .before .wide .ensures) (c .if1 .taken)))
 
 at-requires : tie.Need-at-requires
 at-requires c κs = search needs
@@ -30,7 +30,7 @@ enum-told : tie.Need-enum-told
 enum-told c = search needs
 
 returns-2 : tie.Need-returns-2
-returns-2 c = ap (offsetOf (c .before .before .before .before .before .before .before .before .args .t1) (c .before .before .before .before .before .before .before .before .args .port .0)) (sym (c .enum-told .given .1) ∙ read-owner (c .before .before))
+returns-2 c = with-numbers maybeOffsetNumbers (ap (offsetOf (c .before .before .before .before .before .before .before .before .args .t1) (c .before .before .before .before .before .before .before .before .args .port .0)) (sym (c .enum-told .given .1) ∙ read-owner (c .before .before)))
 
 node-meta-valid-requires : tie.Need-node-meta-valid-requires
 node-meta-valid-requires c κs = search needs
@@ -42,7 +42,7 @@ enum-told-2 : tie.Need-enum-told-2
 enum-told-2 c = search needs
 
 returns-3 : tie.Need-returns-3
-returns-3 c = offset-without-node (c .before .before .before .before .before .before .before .before .before .before .before .before .before .args .t1) (c .before .before .before .before .before .before .before .before .before .before .before .before .before .args .port .0) (c .before .before .before .before .before .owner .given .0 .0) (sym (c .before .before .before .before .before .owner .given .1) ∙ read-owner (c .before .before .before .before .before .before .before)) (sym (c .enum-told2 .given .1) ∙ c .before .before .node-meta-valid .ensures)
+returns-3 c = with-numbers maybeOffsetNumbers (offset-without-node (c .before .before .before .before .before .before .before .before .before .before .before .before .before .args .t1) (c .before .before .before .before .before .before .before .before .before .before .before .before .before .args .port .0) (c .before .before .before .before .before .owner .given .0 .0) (sym (c .before .before .before .before .before .owner .given .1) ∙ read-owner (c .before .before .before .before .before .before .before)) (sym (c .enum-told2 .given .1) ∙ c .before .before .node-meta-valid .ensures .0))
 
 wide-requires-2 : tie.Need-wide-requires-2
 wide-requires-2 c κs = search needs
@@ -76,7 +76,8 @@ returns-4 c =
     let place = c .before .before .before .before .before .before .before .before .before .before .before .before .before .before .before .before .before .wide .ensures in
     let first = c .before .before .before .wide2 .ensures in
     let within = c .before .before .less .ensures in
-    offset-found (c .before .before .before .before .before .before .before .before .before .before .before .before .before .before .before .before .before .before .args .t1) (c .before .before .before .before .before .before .before .before .before .before .before .before .before .before .before .before .before .before .args .port .0) _ o m (sym (c .before .before .before .before .before .before .before .before .before .before .owner .given .1) ∙ read-owner (c .before .before .before .before .before .before .before .before .before .before .before .before)) (sym (c .before .before .before .before .before .meta .given .1) ∙ c .before .before .before .before .before .before .before .node-meta-valid .ensures) (omega arith)
+    with-numbers maybeOffsetNumbers
+    (offset-found (c .before .before .before .before .before .before .before .before .before .before .before .before .before .before .before .before .before .before .args .t1) (c .before .before .before .before .before .before .before .before .before .before .before .before .before .before .before .before .before .before .args .port .0) _ o m (sym (c .before .before .before .before .before .before .before .before .before .before .owner .given .1) ∙ read-owner (c .before .before .before .before .before .before .before .before .before .before .before .before)) (sym (c .before .before .before .before .before .meta .given .1) ∙ c .before .before .before .before .before .before .before .node-meta-valid .ensures .0) (omega arith))
 
 returns-5 : tie.Need-returns-5
 returns-5 c =
@@ -88,7 +89,8 @@ returns-5 c =
     let within = c .before .before .before .before .less .ensures in
     let incoming = c .before .wide16 .ensures in
     let rest = c .less2 .ensures in
-    offset-found (c .before .before .before .before .before .before .before .before .before .before .before .before .before .before .before .before .before .before .before .before .args .t1) (c .before .before .before .before .before .before .before .before .before .before .before .before .before .before .before .before .before .before .before .before .args .port .0) _ o m (sym (c .before .before .before .before .before .before .before .before .before .before .before .before .owner .given .1) ∙ read-owner (c .before .before .before .before .before .before .before .before .before .before .before .before .before .before)) (sym (c .before .before .before .before .before .before .before .meta .given .1) ∙ c .before .before .before .before .before .before .before .before .before .node-meta-valid .ensures) (omega arith)
+    with-numbers maybeOffsetNumbers
+    (offset-found (c .before .before .before .before .before .before .before .before .before .before .before .before .before .before .before .before .before .before .before .before .args .t1) (c .before .before .before .before .before .before .before .before .before .before .before .before .before .before .before .before .before .before .before .before .args .port .0) _ o m (sym (c .before .before .before .before .before .before .before .before .before .before .before .before .owner .given .1) ∙ read-owner (c .before .before .before .before .before .before .before .before .before .before .before .before .before .before)) (sym (c .before .before .before .before .before .before .before .meta .given .1) ∙ c .before .before .before .before .before .before .before .before .before .node-meta-valid .ensures .0) (omega arith))
 
 pub port-offset-spec : {M : Type 1} → statement M
 port-offset-spec =

@@ -17,13 +17,13 @@ enum-told-2 c = search needs
 returns : tie.Need-returns
 returns c =
     let a = c .before .before .before .args in
-    let e = sym (c .enum-told2 .given .1) ∙ c .before .before .node-meta-valid .ensures in
+    let e = sym (c .enum-told2 .given .1) ∙ c .before .before .node-meta-valid .ensures .0 in
     (ap (startedPorts (a .node) (a .sides)) e, ap (λ x. portsStartNumbers (startedPorts (a .node) (a .sides) x)) e)
 
 returns-2 : tie.Need-returns-2
 returns-2 c =
     let a = c .before .before .before .args in
-    let e = sym (c .enum-told .given .1) ∙ c .before .before .node-meta-valid .ensures in
+    let e = sym (c .enum-told .given .1) ∙ c .before .before .node-meta-valid .ensures .0 in
     (ap (startedPorts (a .node) (a .sides)) e, ap (λ x. portsStartNumbers (startedPorts (a .node) (a .sides) x)) e)
 
 pub ports-spec : {M : Type 1} → statement M

@@ -1,7 +1,7 @@
 -- `portgraph::PortGraph::resize_ports_anew` meets its contract: the block that was found lies within the tables, and what each step leaves is what
 -- the definition says.
 use mathlib.Core.Path.{_≡_}
-use Prim.Native.Nat.{ℕ, _+_, _≤_, _<_, min}
+use Prim.Native.Nat.{ℕ, _+_, _*_, _≤_, _<_, min}
 use native.Mathlib.Omega.{arith}
 use borrow.Author.Needs.{needs}
 use Rattle.portgraph.specs.Limits.{nodeSlots, portSlots, nodePorts}
@@ -21,7 +21,7 @@ record Numbers (f oi oo cap ki ko i o first size len count node : ℕ) : Type 0 
   sizeSmall : size ≤ nodePorts
   newEnds : first + size ≤ portSlots
   lenFits : len ≤ portSlots
-  countFits : count ≤ 524288
+  countFits : count ≤ nodeSlots * nodePorts
   below : node < nodeSlots
 
 numbers : (c : tie.After-smaller2)
@@ -32,8 +32,8 @@ numbers c =
     let a = c .before .before .before .before .before .before .before .before .args in
     let fits = pre .3 in
     let total = a .incoming + a .outgoing in
-    let reaches = round-up-reaches total (pre .2) in
-    let small = round-up-fits total in
+    let reaches = round-up-reaches total in
+    let small = round-up-fits total (pre .2) in
     let block = found-fits (a .t1) _ (a .new-first) (round-up-positive total) (pre .4) (pre .0) in
     let len = port-len-fits (a .t1) (pre .0) in
     let count = port-count-fits (a .t1) (pre .0) in

@@ -132,7 +132,8 @@ round-up-requires c κs = search needs
 find-block-requires : tie.Need-find-block-requires
 find-block-requires c κs =
     let a = c .before .before .before .before .before .before .before .before .before .before .before .before .before .before .before .before .before .before .args in
-    let small = round-up-fits (a .incoming + a .outgoing) in
+    let few : a .incoming + a .outgoing ≤ nodePorts = omega arith in
+    let small = round-up-fits (a .incoming + a .outgoing) few in
     (port-len-fits (a .t1) (c .before .before .before .before .before .before .before .before .before .before .before .before .before .before .before .before .before .before .pre), omega arith)
 
 enum-known-new-first : tie.Need-enum-known-new-first

@@ -92,3 +92,4 @@ pub mod WalkScans
 pub mod WireSteps
 pub mod WalkSteps
 pub mod LinkWalkSteps
+pub mod SubportSteps

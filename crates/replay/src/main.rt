@@ -1,5 +1,5 @@
 // Replays a recording from standard input: a list of requests, then the answers that the Rust original gave to them. The requests
-// are run, and the program prints how many answers are equal.
+// are run, and the program prints how many answers are equal. The check runs it on the list of `host/sample`.
 use libc::STDIN_FILENO;
 use libc::STDOUT_FILENO;
 use records::run::run_records;

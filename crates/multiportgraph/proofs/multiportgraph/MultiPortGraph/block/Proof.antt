@@ -20,7 +20,7 @@ enum-told : tie.Need-enum-told
 enum-told c = search needs
 
 returns : tie.Need-returns
-returns c = block-unknown (c .before .before .before .before .args .t1) _ (sym (c .enum-told .given .1) ∙ c .before .before .node-meta-valid .ensures)
+returns c = block-unknown (c .before .before .before .before .args .t1) _ (sym (c .enum-told .given .1) ∙ c .before .before .node-meta-valid .ensures .0)
 
 wide-requires : tie.Need-wide-requires
 wide-requires c κs = search needs
@@ -29,10 +29,10 @@ flagged-requires : tie.Need-flagged-requires
 flagged-requires c κs = search needs
 
 returns-2 : tie.Need-returns-2
-returns-2 c = block-flagged (c .before .before .before .before .before .before .before .before .before .before .args .t1) _ _ _ (sym (c .before .before .before .before .before .before .meta .given .1) ∙ c .before .before .before .before .before .before .before .before .node-meta-valid .ensures) (flagged-is (c .before) ∙ c .if1 .taken)
+returns-2 c = block-flagged (c .before .before .before .before .before .before .before .before .before .before .args .t1) _ _ _ (sym (c .before .before .before .before .before .before .meta .given .1) ∙ c .before .before .before .before .before .before .before .before .node-meta-valid .ensures .0) (flagged-is (c .before) ∙ c .if1 .taken)
 
 returns-3 : tie.Need-returns-3
-returns-3 c = block-flagged (c .before .before .before .before .before .before .before .before .before .before .args .t1) _ _ _ (sym (c .before .before .before .before .before .before .meta .given .1) ∙ c .before .before .before .before .before .before .before .before .node-meta-valid .ensures) (flagged-is (c .before) ∙ c .if1 .left)
+returns-3 c = block-flagged (c .before .before .before .before .before .before .before .before .before .before .args .t1) _ _ _ (sym (c .before .before .before .before .before .before .meta .given .1) ∙ c .before .before .before .before .before .before .before .before .node-meta-valid .ensures .0) (flagged-is (c .before) ∙ c .if1 .left)
 
 pub block-spec : {M : Type 1} → statement M
 block-spec =

@@ -29,13 +29,13 @@ enum-told-2 : tie.Need-enum-told-2
 enum-told-2 c = search needs
 
 returns : tie.Need-returns
-returns c = with-numbers portNumbers (index-at (c .before .before .before .before .before .before .before .args .self) (c .before .before .before .before .before .before .before .args .node .0) (c .before .before .before .before .before .before .before .args .offset) _ _ (sym (c .before .before .before .before .before .before .block .ensures) ∙ c .before .before .before .before .enum-told .given .1) (sym (c .enum-told2 .given .1) ∙ c .before .before .port-index .ensures))
+returns c = with-numbers portNumbers (index-at (c .before .before .before .before .before .before .before .args .self) (c .before .before .before .before .before .before .before .args .node .0) (c .before .before .before .before .before .before .before .args .offset) _ _ (sym (c .before .before .before .before .before .before .block .ensures) ∙ c .before .before .before .before .enum-told .given .1) (sym (c .enum-told2 .given .1) ∙ c .before .before .port-index .ensures .0))
 
 returns-2 : tie.Need-returns-2
 returns-2 c = with-numbers portNumbers (index-at (c .before .before .before .before .args .self) (c .before .before .before .before .args .node .0) (c .before .before .before .before .args .offset) _ (portIndex (c .before .before .before .before .args .self .graph) (c .before .before .before .before .args .node .0) (c .before .before .before .before .args .offset)) (sym (c .before .before .before .block .ensures) ∙ c .before .found .given .1) refl)
 
 returns-3 : tie.Need-returns-3
-returns-3 c = with-numbers portNumbers (index-at (c .before .before .before .before .before .before .before .before .args .self) (c .before .before .before .before .before .before .before .before .args .node .0) (c .before .before .before .before .before .before .before .before .args .offset) _ _ (sym (c .before .before .before .before .before .before .before .block .ensures) ∙ c .before .before .before .before .before .enum-told .given .1) (sym (c .before .port .given .1) ∙ c .before .before .before .port-index .ensures))
+returns-3 c = with-numbers portNumbers (index-at (c .before .before .before .before .before .before .before .before .args .self) (c .before .before .before .before .before .before .before .before .args .node .0) (c .before .before .before .before .before .before .before .before .args .offset) _ _ (sym (c .before .before .before .before .before .before .before .block .ensures) ∙ c .before .before .before .before .before .enum-told .given .1) (sym (c .before .port .given .1) ∙ c .before .before .before .port-index .ensures .0))
 
 pub port-index-spec : {M : Type 1} → statement M
 port-index-spec =

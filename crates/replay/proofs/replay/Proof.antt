@@ -5,6 +5,9 @@ use lib.ListN.{length-take}
 use Rattle.replay.proofs.replay.Statement.{statement}
 use Rattle.replay.proofs.replay.Tie as tie
 
+sub-if1 : tie.Need-sub-if1
+sub-if1 c = search needs
+
 slice-aggregate-write-all : tie.Need-slice-aggregate-write-all
 slice-aggregate-write-all c = search needs
 
@@ -75,6 +78,7 @@ pub replay-spec : {M : Type 1} → statement M
 replay-spec =
     tie.close
     (tie.spec
+    sub-if1
     slice-aggregate-write-all
     write-all-requires
     returns

@@ -64,7 +64,9 @@ pub fn has_wires(graph: MultiPortGraph, count: u32) -> bool
 }
 
 // Whether a port has so many subports.
-pub fn has_fan_out(graph: MultiPortGraph, port: u32, count: usize) -> bool {
+pub fn has_fan_out(graph: MultiPortGraph, port: u32, count: usize) -> bool
+    requires { ⌜ MultiWf graph ⌝ }
+{
     match graph.port_fan_out(PortIndex(port)) {
         CountAnswer::Count(found) => found == count,
         CountAnswer::Refused(_) => false,

@@ -4,6 +4,8 @@ pub mod direction;
 pub mod index;
 pub mod iter;
 pub mod link_iter;
+pub mod lent;
+pub mod lent_slots;
 pub mod node_entry;
 pub mod port_entry;
 pub mod portgraph;

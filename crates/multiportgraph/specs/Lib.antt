@@ -13,6 +13,10 @@
 --
 -- What is proved, and need not be believed: everything else.
 -- The theorems hold of every list of calls from the empty graph, refused ones included, with no other premise:
+--   Space       refusal 10 by the work of a call
+--   Inner       what holds of every graph of the calls (Fine, MultiWf), over the lower graph's model
+-- Forms has the enums and structs in which the code gives what these say, Reads what the code reads off lent tables.
+-- Then the theorems, each over every list of calls from the empty graph, refused ones included, with no other premise:
 --   wire-rule, cut-restores, links-in-either-order (Theorems), bench-table (Bench)
 --   visible-nodes-of-history, visible-ports-of-history, visible-links-of-history (HistoryCounts): the counts are those of the book
 -- A contract presumes of its graph only that it came from these calls (MultiWf, in Inner over the lower crate's Model). What that
@@ -40,6 +44,7 @@ pub mod Bench
 pub mod Inner
 pub mod Space
 pub mod Forms
+pub mod Reads
 pub mod Ends
 pub mod Listing
 pub mod WalkRule
@@ -61,6 +66,7 @@ pub mod LinkLaw
 pub mod BookLaws
 pub mod WireRule
 pub mod Theorems
+pub mod ReadLaws
 pub mod CountLaws
 pub mod PortListing
 pub mod HistoryCounts
@@ -70,6 +76,7 @@ pub mod StartLaws
 pub mod SpaceLaws
 -- steps that the functions' proofs cite
 pub mod FormSteps
+pub mod ReadSteps
 pub mod CopySteps
 pub mod PrepareSteps
 pub mod CallSteps

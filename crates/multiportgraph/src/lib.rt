@@ -9,3 +9,4 @@ pub mod lookups;
 pub mod marks;
 pub mod multiportgraph;
 pub mod prepare;
+pub mod reads;

@@ -1,0 +1,97 @@
+-- What can be read off the tables alone: owners, links, marks and hidden flags, each of which can be lent.
+-- The ports of a hidden node lie in a row: the subports are the slots of one owner beside the copy port.
+use mathlib.Core.Bool.{Bool, true, false}
+use mathlib.Core.List.{List}
+use Prim.Native.Nat.{ℕ, zero, suc, _+_, _-_, min}
+use lib.Dec.{eqb, ltb}
+use Rattle.portgraph.specs.Limits.{nodeSlots, portSlots}
+use Rattle.portgraph.specs.Entries.{pick, portEntry}
+use Rattle.portgraph.specs.Tables.{at}
+use Rattle.portgraph.specs.declared.direction.Direction.{Direction}
+use Rattle.portgraph.specs.declared.direction.Direction.the-variants.{Incoming, Outgoing}
+use Rattle.portgraph.specs.declared.port_entry.PortEntry.{PortEntry}
+use Rattle.portgraph.specs.declared.port_entry.PortEntry.the-variants as port-variants
+use Rattle.multiportgraph.specs.Reading.{Port, dead, hidden, visible, End, inner, lacking, subport#}
+use Rattle.multiportgraph.specs.Forms.{flagAt}
+use Rattle.multiportgraph.specs.declared.multiportgraph.SubportIndex.{SubportIndex}
+use Rattle.multiportgraph.specs.declared.multiportgraph.CutAnswer.{CutAnswer}
+use Rattle.multiportgraph.specs.declared.multiportgraph.CutAnswer.the-variants as cutting
+
+-- the slot that a slot is linked with; 0 for none
+unfoldable pub farIn : List ℕ → ℕ → ℕ
+farIn links s = at links s - 1
+
+-- a port number: not live, of a hidden node, or of a block
+abbrev pub seenOwner : List Bool → PortEntry → Port
+seenOwner flags port-variants.Free = dead
+seenOwner flags (port-variants.Port k) = pick (flagAt flags nodeSlots (k .node .0)) hidden (visible (k .node .0) (k .direction))
+
+unfoldable pub seenIn : List ℕ → List Bool → ℕ → Port
+seenIn owners flags p = seenOwner flags (portEntry (at owners p))
+
+-- how often in a row a test holds from i on, n times at the most
+unfoldable pub run : (ℕ → Bool) → ℕ → ℕ → ℕ
+run t i zero = 0
+run t i (suc n) = pick (t i) (suc (run t (suc i) n)) 0
+
+-- the k-th slot from i on, and the k-th below i, has this owner
+unfoldable pub ownsUp : List ℕ → ℕ → ℕ → ℕ → Bool
+ownsUp owners x i k = eqb (at owners (i + k)) x
+
+unfoldable pub ownsDown : List ℕ → ℕ → ℕ → ℕ → Bool
+ownsDown owners x i k = eqb (at owners (i - suc k)) x
+
+-- how many slots in a row, from i on or below i, have this owner
+unfoldable pub runUp : List ℕ → ℕ → ℕ → ℕ
+runUp owners x i = run (ownsUp owners x i) 0 portSlots
+
+unfoldable pub runDown : List ℕ → ℕ → ℕ → ℕ
+runDown owners x i = run (ownsDown owners x i) 0 (min i portSlots)
+
+-- The subports beside a copy port q, on side d of its node: how many, and the slot of the first.
+
+unfoldable pub countBeside : List ℕ → ℕ → Direction → ℕ
+countBeside owners q Incoming = runDown owners (at owners (q - 1)) q
+countBeside owners q Outgoing = runUp owners (at owners (q + 1)) (q + 1)
+
+unfoldable pub firstBeside : List ℕ → ℕ → Direction → ℕ
+firstBeside owners q Incoming = q - countBeside owners q Incoming
+firstBeside owners q Outgoing = q + 1
+
+unfoldable pub endBeside : List ℕ → ℕ → Direction → ℕ → End
+endBeside owners q Incoming o = pick (ltb o (countBeside owners q Incoming)) (inner (firstBeside owners q Incoming + o)) lacking
+endBeside owners q Outgoing o =
+    pick (ltb (q + 1 + o) portSlots) (pick (eqb (at owners (q + 1 + o)) (at owners (q + 1))) (inner (q + 1 + o)) lacking) lacking
+
+-- The split port p of side d.
+
+unfoldable pub subportsIn : List ℕ → List ℕ → ℕ → Direction → ℕ
+subportsIn links owners p d = countBeside owners (farIn links p) d
+
+unfoldable pub firstIn : List ℕ → List ℕ → ℕ → Direction → ℕ
+firstIn links owners p d = firstBeside owners (farIn links p) d
+
+-- an end that a call names
+unfoldable pub endIn : List Bool → List ℕ → List ℕ → ℕ → Direction → ℕ → End
+endIn marks links owners p d o = pick (flagAt marks portSlots p) (endBeside owners (farIn links p) d o) (inner p)
+
+-- The subport that an inner port is: as many slots of its owner lie below it as its offset says, and the copy port stands
+-- before the first or after the last.
+
+unfoldable pub copyBeside : List ℕ → ℕ → Direction → ℕ
+copyBeside owners q Incoming = q + runUp owners (at owners q) q
+copyBeside owners q Outgoing = q - runDown owners (at owners q) q - 1
+
+abbrev pub subportOwned : List ℕ → List ℕ → List Bool → ℕ → PortEntry → SubportIndex
+subportOwned links owners flags q port-variants.Free = subport# q 0
+subportOwned links owners flags q (port-variants.Port k) =
+    pick (flagAt flags nodeSlots (k .node .0))
+    (subport# (farIn links (copyBeside owners q (k .direction))) (runDown owners (at owners q) q))
+    (subport# q 0)
+
+unfoldable pub subportIn : List ℕ → List ℕ → List Bool → ℕ → SubportIndex
+subportIn links owners flags q = subportOwned links owners flags q (portEntry (at owners q))
+
+-- what an end is linked with
+unfoldable pub wireIn : List ℕ → List ℕ → List Bool → ℕ → CutAnswer
+wireIn links owners flags q = pick (eqb (at links q) 0) cutting.Nothing (cutting.Found (subportIn links owners flags (farIn links q)))

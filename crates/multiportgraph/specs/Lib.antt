@@ -15,7 +15,7 @@
 -- The theorems hold of every list of calls from the empty graph, refused ones included, with no other premise:
 --   Space       refusal 10 by the work of a call
 --   Inner       what holds of every graph of the calls (Fine, MultiWf), over the lower graph's model
--- Forms has the enums and structs in which the code gives what these say, Reads what the code reads off lent tables.
+-- Forms has the enums and structs in which the code gives what these say, Reads and Named what the code reads off lent tables.
 -- Then the theorems, each over every list of calls from the empty graph, refused ones included, with no other premise:
 --   wire-rule, cut-restores, links-in-either-order (Theorems), bench-table (Bench)
 --   visible-nodes-of-history, visible-ports-of-history, visible-links-of-history (HistoryCounts): the counts are those of the book
@@ -45,6 +45,7 @@ pub mod Inner
 pub mod Space
 pub mod Forms
 pub mod Reads
+pub mod Named
 pub mod Ends
 pub mod Listing
 pub mod WalkRule
@@ -81,4 +82,6 @@ pub mod CopySteps
 pub mod PrepareSteps
 pub mod CallSteps
 pub mod LinkSteps
+pub mod NamedSteps
+pub mod NamedLaws
 pub mod BlockSteps

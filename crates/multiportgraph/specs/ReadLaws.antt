@@ -20,13 +20,13 @@ use Rattle.portgraph.specs.declared.port_entry.PortMeta.{PortMeta}
 use Rattle.portgraph.specs.declared.port_entry.PortEntry.{PortEntry}
 use Rattle.portgraph.specs.declared.port_entry.PortEntry.the-variants as port-variants
 use Rattle.portgraph.specs.declared.portgraph.PortLink.the-variants as link-variants
-use Rattle.multiportgraph.specs.Reading.{isHidden, isSplit, hidden, visible, seenEntry, seen, copySide, subports, subportAt, inner, lacking, End, endAt, portOf, subport#, subportOf}
+use Rattle.multiportgraph.specs.Reading.{isHidden, isSplit, hidden, visible, seenEntry, seen, ownerOf, copyNode, copySide, subports, subportAt, inner, lacking, End, endAt, portOf, subport#, subportOf}
 use Rattle.multiportgraph.specs.Calls.{farSubport}
 use Rattle.multiportgraph.specs.Forms.{flagAt}
 use Rattle.multiportgraph.specs.FormSteps.{flag-is}
 use Rattle.multiportgraph.specs.Inner.{inner#, copyPlace, Fine, Seen, IsEnd}
-use Rattle.multiportgraph.specs.Ends.{BlockPort, EndOf, block-seen, Hangs, split-has-copy, copy-count, end-side, end-read, ends-join-ends, subport-of-hidden, subport-of-block}
-use Rattle.multiportgraph.specs.Reads.{farIn, seenOwner, seenIn, run, ownsUp, ownsDown, runUp, runDown, countBeside, firstBeside, endBeside, subportsIn, firstIn, endIn, copyBeside, subportOwned, subportIn, wireIn}
+use Rattle.multiportgraph.specs.Ends.{BlockPort, EndOf, block-seen, Hangs, split-has-copy, copy-count, copy-valid, port-of, owner-of, end-side, end-read, ends-join-ends, subport-of-hidden, subport-of-block}
+use Rattle.multiportgraph.specs.Reads.{farIn, ownerIn, seenOwner, seenIn, run, ownsUp, ownsDown, runUp, runDown, countBeside, firstBeside, endBeside, subportsIn, firstIn, endIn, copyBeside, subportOwned, subportIn, wireIn}
 use Rattle.multiportgraph.specs.declared.multiportgraph.MultiPortGraph.{MultiPortGraph}
 use Rattle.multiportgraph.specs.declared.multiportgraph.CutAnswer.the-variants as cutting
 
@@ -206,7 +206,7 @@ module _ {m : MultiPortGraph} {M : Model} (f : Fine m M) where
   unfolding isHidden
   flag-told n = flag-is (m .«copy_node») nodeSlots n (f .flagsLong)
 
-  mark-told : (p : ℕ) → flagAt (m .multiport) portSlots p ≡ isSplit m p
+  pub mark-told : (p : ℕ) → flagAt (m .multiport) portSlots p ≡ isSplit m p
   unfolding isSplit
   mark-told p = flag-is (m .multiport) portSlots p (f .marksLong)
 
@@ -320,6 +320,30 @@ module _ {m : MultiPortGraph} {M : Model} (f : Fine m M) where
     first-read t =
         (λ i. firstIn (m .graph .«port_link») (m .graph .«port_meta») (sym (block .slot) i) (sym (block .side) i))
         ∙ (first-there (block .place) (split-there t) ∙ (λ i. subportAt m (block .slot i) (block .side i) 0))
+
+    -- the hidden node of a split port: its number, its copy port, and its other side
+    pub owner-read : isSplit m p ≡ true → ownerIn (m .graph .«port_meta») (farIn (m .graph .«port_link») p) ≡ copyNode m p
+    unfolding ownerIn ownerOf
+    owner-read t =
+        let k = split-there t in
+        let c = copyPlace m (k .copy) in
+        ap (λ (q : ℕ). ownerOf (m .graph) (farIn (m .graph .«port_link») q)) (sym (block .slot))
+        ∙ (ap (ownerOf (m .graph)) (far-is (block .place) c (k .back))
+        ∙ (owner-of f c (copy-valid f (k .copy) (k .isCopy)) ∙ (sym (k .copyIs) ∙ ap (copyNode m) (block .slot))))
+
+    pub copy-read : isSplit m p ≡ true → farIn (m .graph .«port_link») p ≡ portOf (m .graph) (copyNode m p) (copySide m (copyNode m p)) 0
+    copy-read t =
+        let k = split-there t in
+        let c = copyPlace m (k .copy) in
+        ap (farIn (m .graph .«port_link»)) (sym (block .slot))
+        ∙ (far-is (block .place) c (k .back)
+        ∙ (sym (port-of f (k .copy) (copySide m (k .copy)) 0 (copy-valid f (k .copy) (k .isCopy)))
+        ∙ ap (λ (n : ℕ). portOf (m .graph) n (copySide m n) 0) (sym (k .copyIs) ∙ ap (copyNode m) (block .slot))))
+
+    pub side-read : isSplit m p ≡ true → d ≡ reversed (copySide m (copyNode m p))
+    side-read t =
+        let k = split-there t in
+        sym (block .side) ∙ (k .side ∙ ap (λ (n : ℕ). reversed (copySide m n)) (sym (k .copyIs) ∙ ap (copyNode m) (block .slot)))
 
     pub end-read-off : (o : ℕ) → endIn (m .multiport) (m .graph .«port_link») (m .graph .«port_meta») p d o ≡ endAt m p d o
     unfolding endIn endAt

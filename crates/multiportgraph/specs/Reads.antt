@@ -7,11 +7,12 @@ use lib.Dec.{eqb, ltb}
 use Rattle.portgraph.specs.Limits.{nodeSlots, portSlots}
 use Rattle.portgraph.specs.Entries.{pick, portEntry}
 use Rattle.portgraph.specs.Tables.{at}
+use Rattle.portgraph.specs.Lookups.{nodeOf}
 use Rattle.portgraph.specs.declared.direction.Direction.{Direction}
 use Rattle.portgraph.specs.declared.direction.Direction.the-variants.{Incoming, Outgoing}
 use Rattle.portgraph.specs.declared.port_entry.PortEntry.{PortEntry}
 use Rattle.portgraph.specs.declared.port_entry.PortEntry.the-variants as port-variants
-use Rattle.multiportgraph.specs.Reading.{Port, dead, hidden, visible, End, inner, lacking, subport#}
+use Rattle.multiportgraph.specs.Reading.{nodeNumber, Port, dead, hidden, visible, End, inner, lacking, subport#}
 use Rattle.multiportgraph.specs.Forms.{flagAt}
 use Rattle.multiportgraph.specs.declared.multiportgraph.SubportIndex.{SubportIndex}
 use Rattle.multiportgraph.specs.declared.multiportgraph.CutAnswer.{CutAnswer}
@@ -20,6 +21,10 @@ use Rattle.multiportgraph.specs.declared.multiportgraph.CutAnswer.the-va
 -- the slot that a slot is linked with; 0 for none
 unfoldable pub farIn : List ℕ → ℕ → ℕ
 farIn links s = at links s - 1
+
+-- the node that has a port; 0 for a port that is not live
+unfoldable pub ownerIn : List ℕ → ℕ → ℕ
+ownerIn owners p = nodeNumber (nodeOf (portEntry (at owners p)))
 
 -- a port number: not live, of a hidden node, or of a block
 abbrev pub seenOwner : List Bool → PortEntry → Port

@@ -1,6 +1,5 @@
 // Adding blocks, linking and cutting, and what a subport is linked with.
 use crate::copies::less;
-use crate::ends::EndFound;
 use crate::ends::SeenPort;
 use crate::marks::marked;
 use crate::marks::wide;
@@ -13,19 +12,26 @@ use crate::multiportgraph::PortUnlinked;
 use crate::multiportgraph::PortsLinked;
 use crate::multiportgraph::Refusal;
 use crate::multiportgraph::SubportIndex;
+use crate::named::NamedEnd;
+use crate::named::NamedLink;
+use crate::named::end_named;
+use crate::named::link_named;
+use crate::named::read_in;
+use crate::reads::seen_in;
+use crate::reads::wire_in;
 use portgraph::direction::Direction;
 use portgraph::index::NODE_SLOTS;
-use portgraph::index::NodeIndex;
 use portgraph::index::PORT_SLOTS;
 use portgraph::index::PortIndex;
-use portgraph::portgraph::LinkAnswer as LowerLink;
 use portgraph::portgraph::PortGraph;
-use portgraph::portgraph::PortLink;
 use portgraph::slots::AddAnswer as LowerAdd;
+use portgraph::tables::cut;
+use portgraph::tables::link_both as join;
 ghost use mathlib.Core.Path.{_≡_};
+ghost use Prim.Native.Nat.{_-_};
 ghost use Rattle.portgraph.specs.Meaning.{sameSide};
-ghost use Rattle.portgraph.specs.Model.{Wf};
-ghost use Rattle.multiportgraph.specs.Calls.{emptyGraph, addBlock, addNumbers, linkNumbers, cutNumbers, farSubport, linkRefused, linkEnds, linkCall, linkSub, cutPort, cutSub, subportLink, visibleNodes, visiblePorts, visibleLinks};
+ghost use Rattle.portgraph.specs.Tables.{linkCount};
+ghost use Rattle.multiportgraph.specs.Calls.{emptyGraph, addBlock, addNumbers, linkNumbers, cutNumbers, linkRefused, linkSub, cutPort, cutSub, subportLink, visibleNodes, visiblePorts, visibleLinks};
 ghost use Rattle.multiportgraph.specs.Inner.{MultiWf};
 
 // Whether two directions are the same.
@@ -42,6 +48,13 @@ pub(crate) fn same_side(a: Direction, b: Direction) -> bool
             Direction::Outgoing => true,
         },
     }
+}
+
+// The number of links after one is cut, by what the link table held; no link is one that was there.
+pub(crate) fn without_link(count: usize, far: u32) -> usize
+    ensures { λ r. ⌜ r ≡ count - linkCount far ⌝ }
+{
+    if far == 0 { count } else { less(count, 1) }
 }
 
 impl MultiPortGraph {
@@ -109,39 +122,27 @@ impl MultiPortGraph {
         less(self.graph.link_count, self.copy_node_count)
     }
 
-    // What an inner link tells: the subport at the far end.
-    fn far_subport(self, link: PortLink) -> CutAnswer
-        requires { ⌜ Wf (self .graph) ⌝ }
-        ensures { λ r. ⌜ r ≡ farSubport self link ⌝ }
-    {
-        match link {
-            PortLink::Linked(port) => CutAnswer::Found(self.subport_of(port.0)),
-            PortLink::Unlinked => CutAnswer::Nothing,
-            PortLink::UnknownPort(_) => CutAnswer::Nothing,
-        }
-    }
-
     // What a subport is linked with.
     pub fn subport_link(self, subport: SubportIndex) -> CutAnswer
         requires { ⌜ MultiWf self ⌝ }
         ensures { λ r. ⌜ (r ≡ subportLink self (subport .port .0) (subport .«subport_offset»)) × (cutNumbers r ≡ cutNumbers (subportLink self (subport .port .0) (subport .«subport_offset»))) ⌝ }
     {
-        let port = subport.port;
-        let offset = subport.subport_offset;
-        if offset == 65535 {
-            return CutAnswer::Refused(Refusal::BadOffset);
-        }
-        let seen = self.seen(port.0);
-        match seen {
-            SeenPort::Dead => CutAnswer::Refused(Refusal::UnknownPort(port)),
-            SeenPort::Hidden => CutAnswer::Refused(Refusal::HiddenPort(port)),
-            SeenPort::Visible(_, direction) => {
-                let EndFound::At(inner) = self.end_at(port.0, direction, offset) else {
-                    return CutAnswer::Refused(Refusal::UnknownOffset(port));
-                };
-                let graph = self.graph;
-                self.far_subport(graph.port_link(PortIndex(inner)))
+        match end_named(
+            &self.multiport,
+            &self.graph.port_link,
+            &self.graph.port_meta,
+            &self.copy_node,
+            subport,
+        ) {
+            NamedEnd::At(inner) => {
+                wire_in(
+                    &self.graph.port_link,
+                    &self.graph.port_meta,
+                    &self.copy_node,
+                    inner,
+                )
             }
+            NamedEnd::Refused(refusal) => CutAnswer::Refused(refusal),
         }
     }
 
@@ -150,16 +151,40 @@ impl MultiPortGraph {
         requires { ⌜ MultiWf self ⌝ }
         ensures { λ r. ⌜ (r ≡ cutSub self (subport .port .0) (subport .«subport_offset»)) × (cutNumbers (r .answer) ≡ cutNumbers (cutSub self (subport .port .0) (subport .«subport_offset») .answer)) ⌝ }
     {
-        let port = subport.port;
-        let offset = subport.subport_offset;
-        if offset == 65535 {
-            return PortUnlinked {
+        match end_named(
+            &self.multiport,
+            &self.graph.port_link,
+            &self.graph.port_meta,
+            &self.copy_node,
+            subport,
+        ) {
+            NamedEnd::At(inner) => {
+                let answer = wire_in(
+                    &self.graph.port_link,
+                    &self.graph.port_meta,
+                    &self.copy_node,
+                    inner,
+                );
+                let far = cut(&mut self.graph.port_link, wide(inner));
+                self.graph.link_count = without_link(self.graph.link_count, far);
+                PortUnlinked {
+                    graph: self,
+                    answer: answer,
+                }
+            }
+            NamedEnd::Refused(refusal) => PortUnlinked {
                 graph: self,
-                answer: CutAnswer::Refused(Refusal::BadOffset),
-            };
+                answer: CutAnswer::Refused(refusal),
+            },
         }
-        let seen = self.seen(port.0);
-        match seen {
+    }
+
+    // Cuts every wire at a port. A split port loses its hidden node and answers itself.
+    pub fn unlink_port(mut self, port: PortIndex) -> PortUnlinked
+        requires { ⌜ MultiWf self ⌝ }
+        ensures { λ r. ⌜ (r ≡ cutPort self (port .0)) × (cutNumbers (r .answer) ≡ cutNumbers (cutPort self (port .0) .answer)) ⌝ }
+    {
+        match seen_in(&self.graph.port_meta, &self.copy_node, port.0) {
             SeenPort::Dead => PortUnlinked {
                 graph: self,
                 answer: CutAnswer::Refused(Refusal::UnknownPort(port)),
@@ -169,44 +194,8 @@ impl MultiPortGraph {
                 answer: CutAnswer::Refused(Refusal::HiddenPort(port)),
             },
             SeenPort::Visible(_, direction) => {
-                let EndFound::At(inner) = self.end_at(port.0, direction, offset) else {
-                    return PortUnlinked {
-                        graph: self,
-                        answer: CutAnswer::Refused(Refusal::UnknownOffset(port)),
-                    };
-                };
-                let graph = self.graph;
-                let cut = graph.unlink_port(PortIndex(inner));
-                let link = cut.answer;
-                let answer = self.far_subport(link);
-                let after = cut.graph;
-                self.graph = after;
-                PortUnlinked {
-                    graph: self,
-                    answer: answer,
-                }
-            }
-        }
-    }
-
-    // Cuts every wire at a port. A split port loses its hidden node and answers itself.
-    pub fn unlink_port(mut self, port: PortIndex) -> PortUnlinked
-        requires { ⌜ MultiWf self ⌝ }
-        ensures { λ r. ⌜ (r ≡ cutPort self (port .0)) × (cutNumbers (r .answer) ≡ cutNumbers (cutPort self (port .0) .answer)) ⌝ }
-    {
-        let seen = self.seen(port.0);
-        match seen {
-            SeenPort::Dead => PortUnlinked {
-                graph: self,
-                answer: CutAnswer::Refused(Refusal::UnknownPort(port)),
-            },
-            SeenPort::Hidden => PortUnlinked {
-                graph: self,
-                answer: CutAnswer::Refused(Refusal::HiddenPort(port)),
-            },
-            SeenPort::Visible(_, _) => {
                 if marked(&self.multiport, wide(port.0)) {
-                    let after = self.unsplit(port.0);
+                    let after = self.drop_copy(port.0, direction);
                     return PortUnlinked {
                         graph: after,
                         answer: CutAnswer::Found(SubportIndex {
@@ -215,27 +204,20 @@ impl MultiPortGraph {
                         }),
                     };
                 }
-                let graph = self.graph;
-                let cut = graph.unlink_port(port);
-                let link = cut.answer;
-                let after = cut.graph;
-                self.graph = after;
-                match link {
-                    PortLink::Linked(far) => PortUnlinked {
-                        graph: self,
-                        answer: CutAnswer::Found(SubportIndex {
-                            port: far,
-                            subport_offset: 0,
-                        }),
-                    },
-                    PortLink::Unlinked => PortUnlinked {
+                let far = cut(&mut self.graph.port_link, wide(port.0));
+                self.graph.link_count = without_link(self.graph.link_count, far);
+                if far == 0 {
+                    return PortUnlinked {
                         graph: self,
                         answer: CutAnswer::Nothing,
-                    },
-                    PortLink::UnknownPort(_) => PortUnlinked {
-                        graph: self,
-                        answer: CutAnswer::Nothing,
-                    },
+                    };
+                }
+                PortUnlinked {
+                    graph: self,
+                    answer: CutAnswer::Found(SubportIndex {
+                        port: PortIndex(far - 1),
+                        subport_offset: 0,
+                    }),
                 }
             }
         }
@@ -250,69 +232,33 @@ impl MultiPortGraph {
         }
     }
 
-    // Links two inner ports that two ends named.
-    fn link_ends(mut self, from: SubportIndex, to: SubportIndex, x: u32, y: u32) -> PortsLinked
-        requires { ⌜ Wf (self .graph) ⌝ }
-        ensures { λ r. ⌜ r ≡ linkEnds self from to x y ⌝ }
-    {
-        let graph = self.graph;
-        let linked = graph.link_ports(PortIndex(x), PortIndex(y));
-        let answer = linked.answer;
-        match answer {
-            LowerLink::Linked(_, _) => {
-                let after = linked.graph;
-                self.graph = after;
-                PortsLinked {
-                    graph: self,
-                    answer: LinkAnswer::Linked(from, to),
-                }
-            }
-            LowerLink::UnknownPort(p) => self.link_refused(Refusal::UnknownPort(p)),
-            LowerLink::UnknownSecondPort(p) => self.link_refused(Refusal::UnknownSecondPort(p)),
-            LowerLink::IncompatibleDirections(p, q, d) =>
-                self.link_refused(Refusal::IncompatibleDirections(p, q, d)),
-            LowerLink::AlreadyLinked(p) => self.link_refused(Refusal::AlreadyLinked(p)),
-        }
-    }
-
     // Links two subports, and answers both ends as read.
-    pub fn link_subports(self, from: SubportIndex, to: SubportIndex) -> PortsLinked
+    pub fn link_subports(mut self, from: SubportIndex, to: SubportIndex) -> PortsLinked
         requires { ⌜ MultiWf self ⌝ }
         ensures { λ r. ⌜ (r ≡ linkSub self (from .port .0) (from .«subport_offset») (to .port .0) (to .«subport_offset»))
             × (linkNumbers (r .answer) ≡ linkNumbers (linkSub self (from .port .0) (from .«subport_offset») (to .port .0) (to .«subport_offset») .answer)) ⌝ }
     {
-        let p = from.port;
-        let o = from.subport_offset;
-        let q = to.port;
-        let r = to.subport_offset;
-        if o == 65535 {
-            return self.link_refused(Refusal::BadOffset);
-        }
-        if r == 65535 {
-            return self.link_refused(Refusal::BadOffset);
-        }
-        let first = self.seen(p.0);
-        let second = self.seen(q.0);
-        match first {
-            SeenPort::Dead => self.link_refused(Refusal::UnknownPort(p)),
-            SeenPort::Hidden => self.link_refused(Refusal::HiddenPort(p)),
-            SeenPort::Visible(_, d) => match second {
-                SeenPort::Hidden => self.link_refused(Refusal::HiddenPort(q)),
-                SeenPort::Dead => {
-                    let EndFound::At(_) = self.end_at(p.0, d, o) else {
-                        return self.link_refused(Refusal::UnknownOffset(p));
-                    };
-                    self.link_refused(Refusal::UnknownSecondPort(q))
+        match link_named(
+            &self.multiport,
+            &self.graph.port_link,
+            &self.graph.port_meta,
+            &self.copy_node,
+            from,
+            to,
+        ) {
+            NamedLink::Ends(x, y) => {
+                let first = read_in(&self.multiport, from);
+                let second = read_in(&self.multiport, to);
+                join(&mut self.graph.port_link, x, y);
+                self.graph.link_count = self.graph.link_count + 1;
+                PortsLinked {
+                    graph: self,
+                    answer: LinkAnswer::Linked(first, second),
                 }
-                SeenPort::Visible(_, e) => {
-                    let EndFound::At(x) = self.end_at(p.0, d, o) else {
-                        return self.link_refused(Refusal::UnknownOffset(p));
-                    };
-                    let EndFound::At(y) = self.end_at(q.0, e, r) else {
-                        return self.link_refused(Refusal::UnknownOffset(q));
-                    };
-                    self.link_ends(self.as_read(p.0, o), self.as_read(q.0, r), x, y)
-                }
+            }
+            NamedLink::Refused(refusal) => PortsLinked {
+                graph: self,
+                answer: LinkAnswer::Refused(refusal),
             },
         }
     }

@@ -6,14 +6,21 @@ use crate::marks::put_flag;
 use crate::marks::put_mark;
 use crate::marks::wide;
 use crate::multiportgraph::MultiPortGraph;
+use crate::reads::far_in;
+use crate::reads::owner_in;
+use crate::reads::subports_in;
+use portgraph::direction::Direction;
 use portgraph::index::NodeIndex;
 use portgraph::index::PortIndex;
 use portgraph::node_entry::MaybeNodeMeta;
 use portgraph::portgraph::PortGraph;
 ghost use mathlib.Core.Path.{_≡_};
+ghost use mathlib.Core.Bool.{true};
 ghost use Prim.Native.Nat.{_-_};
 ghost use Rattle.portgraph.specs.Model.{Wf};
+ghost use Rattle.multiportgraph.specs.Reading.{isSplit};
 ghost use Rattle.multiportgraph.specs.Calls.{removeCopy, unsplit, recounted};
+ghost use Rattle.multiportgraph.specs.LinkSteps.{OnBlock};
 
 // The difference, 0 at the least.
 pub(crate) fn less(a: usize, b: usize) -> usize
@@ -32,6 +39,31 @@ impl MultiPortGraph {
         let side = self.copy_side(node);
         let copy = port_of(graph, node, side, 0);
         let count = graph.num_ports(NodeIndex(node), side.reverse());
+        let removed = graph.remove_node(NodeIndex(node));
+        let after = removed.graph;
+        self.graph = after;
+        put_mark(&mut self.multiport, wide(copy), false);
+        put_mark(&mut self.multiport, wide(port), false);
+        put_flag(&mut self.copy_node, wide(node), false);
+        self.copy_node_count = less(self.copy_node_count, 1);
+        self.subport_count = less(self.subport_count, count);
+        self
+    }
+
+    // A split port of a block loses its hidden node, with every link at it.
+    pub(crate) fn drop_copy(mut self, port: u32, direction: Direction) -> MultiPortGraph
+        requires { ⌜ OnBlock self port direction × (isSplit self port ≡ true) ⌝ }
+        ensures { λ r. ⌜ r ≡ unsplit self port ⌝ }
+    {
+        let copy = far_in(&self.graph.port_link, wide(port));
+        let node = owner_in(&self.graph.port_meta, copy);
+        let count = subports_in(
+            &self.graph.port_link,
+            &self.graph.port_meta,
+            port,
+            direction,
+        );
+        let graph = self.graph;
         let removed = graph.remove_node(NodeIndex(node));
         let after = removed.graph;
         self.graph = after;

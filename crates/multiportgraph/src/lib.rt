@@ -8,5 +8,6 @@ pub mod links;
 pub mod lookups;
 pub mod marks;
 pub mod multiportgraph;
+pub mod named;
 pub mod prepare;
 pub mod reads;

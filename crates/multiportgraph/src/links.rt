@@ -1,13 +1,15 @@
 // Linking ports: each end is prepared, and the two inner ports are linked.
 use crate::calls::same_side;
-use crate::ends::SeenPort;
 use crate::multiportgraph::LinkAnswer;
 use crate::multiportgraph::MultiPortGraph;
 use crate::multiportgraph::PortsLinked;
 use crate::multiportgraph::Refusal;
 use crate::multiportgraph::SubportIndex;
+use crate::named::LinkNeed;
+use crate::named::link_need;
 use portgraph::direction::Direction;
 use portgraph::index::PortIndex;
+use portgraph::tables::link_both as join;
 ghost use mathlib.Core.Path.{_≡_};
 ghost use Rattle.multiportgraph.specs.Calls.{linkNumbers, linkCall, linkFirst, linkBoth, prepare};
 ghost use Rattle.multiportgraph.specs.Inner.{MultiWf};
@@ -73,20 +75,41 @@ impl MultiPortGraph {
     }
 
     // Links two ports; each end takes the lowest offset without a wire.
-    pub fn link_ports(self, port_a: PortIndex, port_b: PortIndex) -> PortsLinked
+    pub fn link_ports(mut self, port_a: PortIndex, port_b: PortIndex) -> PortsLinked
         requires { ⌜ MultiWf self ⌝ }
         ensures { λ r. ⌜ (r ≡ linkCall self («port_a» .0) («port_b» .0)) × (linkNumbers (r .answer) ≡ linkNumbers (linkCall self («port_a» .0) («port_b» .0) .answer)) ⌝ }
     {
-        let first = self.seen(port_a.0);
-        let second = self.seen(port_b.0);
-        match first {
-            SeenPort::Dead => self.link_refused(Refusal::UnknownPort(port_a)),
-            SeenPort::Hidden => self.link_refused(Refusal::HiddenPort(port_a)),
-            SeenPort::Visible(_, d) => match second {
-                SeenPort::Hidden => self.link_refused(Refusal::HiddenPort(port_b)),
-                SeenPort::Dead => self.link_first(port_a.0, d, port_b),
-                SeenPort::Visible(_, e) => self.link_both(port_a.0, d, port_b.0, e),
+        match link_need(
+            &self.multiport,
+            &self.graph.port_link,
+            &self.graph.port_meta,
+            &self.copy_node,
+            port_a,
+            port_b,
+        ) {
+            LinkNeed::Ends(x, o, y, r) => {
+                join(&mut self.graph.port_link, x, y);
+                self.graph.link_count = self.graph.link_count + 1;
+                PortsLinked {
+                    graph: self,
+                    answer: LinkAnswer::Linked(
+                        SubportIndex {
+                            port: port_a,
+                            subport_offset: o,
+                        },
+                        SubportIndex {
+                            port: port_b,
+                            subport_offset: r,
+                        },
+                    ),
+                }
+            }
+            LinkNeed::Refused(refusal) => PortsLinked {
+                graph: self,
+                answer: LinkAnswer::Refused(refusal),
             },
+            LinkNeed::First(d) => self.link_first(port_a.0, d, port_b),
+            LinkNeed::Both(d, e) => self.link_both(port_a.0, d, port_b.0, e),
         }
     }
 }

@@ -54,7 +54,7 @@ fn copy_out(direction: Direction) -> usize
 }
 
 // The lowest offset from 0 whose port, counted from `first`, has no link; `count` where all have.
-fn lowest_unlinked(links: &[u32; PORT_SLOTS], first: usize, count: usize) -> usize
+pub(crate) fn lowest_unlinked(links: &[u32; PORT_SLOTS], first: usize, count: usize) -> usize
     requires { ⌜ first + count ≤ portSlots ⌝ }
     ensures { λ r. ⌜ r ≡ lowestUnlinked (now (links .entry)) first 0 count ⌝ }
 {

@@ -19,7 +19,7 @@ ghost use mathlib.Core.Path.{_≡_};
 ghost use Prim.Native.Nat.{_≤_, min};
 ghost use Rattle.portgraph.specs.Limits.{portSlots};
 ghost use Rattle.multiportgraph.specs.Forms.{seenAs, endAs};
-ghost use Rattle.multiportgraph.specs.Reads.{farIn, seenIn, runUp, runDown, countBeside, firstBeside, endBeside, subportsIn, firstIn, endIn, copyBeside, subportIn, wireIn};
+ghost use Rattle.multiportgraph.specs.Reads.{farIn, ownerIn, seenIn, runUp, runDown, countBeside, firstBeside, endBeside, subportsIn, firstIn, endIn, copyBeside, subportIn, wireIn};
 
 // The slot that a slot is linked with; 0 for none.
 pub(crate) fn far_in(links: &[u32; PORT_SLOTS], slot: usize) -> u32
@@ -27,6 +27,17 @@ pub(crate) fn far_in(links: &[u32; PORT_SLOTS], slot: usize) -> u32
 {
     let far = at(links, slot);
     if far == 0 { 0 } else { far - 1 }
+}
+
+// The node that has a port; 0 for a port that is not live.
+pub(crate) fn owner_in(owners: &[u32; PORT_SLOTS], port: u32) -> u32
+    ensures { λ r. ⌜ r ≡ ownerIn (now (owners .entry)) port ⌝ }
+{
+    let PortEntry::Port(meta) = PortEntry::read(at(owners, wide(port))) else {
+        return 0;
+    };
+    let node = meta.node;
+    node.0
 }
 
 // A port number: not live, of a hidden node, or of a block.

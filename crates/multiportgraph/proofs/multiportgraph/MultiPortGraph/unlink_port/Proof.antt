@@ -1,21 +1,27 @@
--- `multiportgraph::multiportgraph::MultiPortGraph::unlink_port` meets its contract: a port that is not live or hidden, a split port, and one that is not split.
+-- `multiportgraph::multiportgraph::MultiPortGraph::unlink_port` meets its contract: a port that is not live or hidden, a split port, and a link that is cut or none.
 use mathlib.Core.Path.{_≡_, refl, sym, _∙_}
 use borrow.Author.Needs.{needs}
 use Rattle.portgraph.specs.LookupSteps.{with-numbers}
-use Rattle.multiportgraph.specs.Reading.{dead, hidden, isSplit}
+use Rattle.multiportgraph.specs.NamedLaws.{seen-as, port-cut-none, port-cut-far}
 use Rattle.multiportgraph.specs.Calls.{cutNumbers}
+use Rattle.multiportgraph.specs.Reading.{dead, hidden, isSplit}
+use Rattle.multiportgraph.specs.CallSteps.{was-dead, was-hidden, was-visible, cut-port-seen, cut-port-split}
+use Rattle.multiportgraph.specs.LinkSteps.{OnBlock, on-block}
 use Rattle.multiportgraph.specs.FormSteps.{split-told}
-use Rattle.multiportgraph.specs.CallSteps.{was-dead, was-hidden, was-visible, cut-port-seen, cut-port-split, cut-port-plain}
 use Rattle.multiportgraph.specs.declared.multiportgraph.PortUnlinked.{PortUnlinked}
 use Rattle.multiportgraph.proofs.multiportgraph.MultiPortGraph.unlink_port.Statement.{statement}
 use Rattle.multiportgraph.proofs.multiportgraph.MultiPortGraph.unlink_port.Tie as tie
 
--- the mark is the port's
-marked-is : (c : tie.After-marked) → isSplit (c .before .before .before .before .before .before .before .args .t1) (c .before .before .before .before .before .before .before .args .port .0) ≡ c .marked .result
-marked-is c = split-told (c .before .before .before .before .before .before .before .args .t1) _ _ _ _ (search needs) (c .before .wide .ensures) (c .marked .ensures) refl
+-- the port is a block's
+on-block-here : (c : tie.After-direction) → OnBlock (c .before .before .before .before .before .before .args .t1) (c .before .before .before .before .before .before .args .port .0) (c .direction .given .0 .1 .0)
+on-block-here c = on-block (c .before .before .before .before .before .before .pre) (c .before .before .seen-in .result) _ (seen-as (c .before .before .before .before .before .before .pre) _ (c .before .before .seen-in .ensures)) (c .direction .given .1)
 
-seen-requires : tie.Need-seen-requires
-seen-requires c κs = search needs
+-- the mark is the port's
+split-is : (c : tie.After-marked) → isSplit (c .before .before .before .before .before .before .before .before .before .before .before .args .t1) (c .before .before .before .before .before .before .before .before .before .before .before .args .port .0) ≡ c .marked .result
+split-is c = split-told (c .before .before .before .before .before .before .before .before .before .before .before .args .t1) _ _ _ _ (c .before .before .before .before .before .before .before .before .before .before .before .pre .fine .marksLong) (c .before .wide .ensures) (c .marked .ensures) refl
+
+seen-in-requires : tie.Need-seen-in-requires
+seen-in-requires c κs = search needs
 
 enum-told : tie.Need-enum-told
 enum-told c = search needs
@@ -23,8 +29,8 @@ enum-told c = search needs
 enum-told-2 : tie.Need-enum-told-2
 enum-told-2 c = search needs
 
-enum-told-3 : tie.Need-enum-told-3
-enum-told-3 c = search needs
+enum-known-direction : tie.Need-enum-known-direction
+enum-known-direction c = search needs
 
 wide-requires : tie.Need-wide-requires
 wide-requires c κs = search needs
@@ -32,69 +38,53 @@ wide-requires c κs = search needs
 marked-requires : tie.Need-marked-requires
 marked-requires c κs = search needs
 
-unsplit-requires : tie.Need-unsplit-requires
-unsplit-requires c κs = search needs
+drop-copy-requires : tie.Need-drop-copy-requires
+drop-copy-requires c κs = (on-block-here (c .before .before .before .before .before .before), split-is (c .before) ∙ c .if1 .taken)
 
 returns : tie.Need-returns
-returns c =
-    let e = cut-port-split (c .before .before .before .before .before .before .before .before .before .args .t1) (c .before .before .before .before .before .before .before .before .before .args .port .0) _ _ _ (was-visible _ _ _ (sym (c .before .before .before .before .before .before .before .before .seen .ensures) ∙ c .before .before .before .before .before .before .enum-told3 .given .1)) (marked-is (c .before .before) ∙ c .before .if1 .taken) (c .unsplit .ensures) in
-    with-numbers (λ (r : PortUnlinked). cutNumbers (r .answer)) e
+returns c = with-numbers (λ (r : PortUnlinked). cutNumbers (r .answer)) (cut-port-split (c .before .before .before .before .before .before .before .before .before .before .before .before .before .args .t1) _ _ _ _ (was-visible _ _ _ (sym (seen-as (c .before .before .before .before .before .before .before .before .before .before .before .before .before .pre) _ (c .before .before .before .before .before .before .before .before .before .seen-in .ensures)) ∙ c .before .before .before .before .before .before .before .direction .given .1)) (split-is (c .before .before) ∙ c .before .if1 .taken) (c .drop-copy .ensures))
 
-unlink-port-requires : tie.Need-unlink-port-requires
-unlink-port-requires c κs = search needs
+wide-requires-2 : tie.Need-wide-requires-2
+wide-requires-2 c κs = search needs
 
-enum-known-link : tie.Need-enum-known-link
-enum-known-link c = search needs
+cut-requires : tie.Need-cut-requires
+cut-requires c κs = search needs
 
-enum-told-4 : tie.Need-enum-told-4
-enum-told-4 c = search needs
-
-enum-told-5 : tie.Need-enum-told-5
-enum-told-5 c = search needs
+without-link-requires : tie.Need-without-link-requires
+without-link-requires c κs = search needs
 
 returns-2 : tie.Need-returns-2
-returns-2 c =
-    let e = cut-port-seen (c .before .before .before .args .t1) (c .before .before .before .args .port .0) dead (was-dead _ (sym (c .before .before .seen .ensures) ∙ c .enum-told .given .1)) in
-    with-numbers (λ (r : PortUnlinked). cutNumbers (r .answer)) e
+returns-2 c = with-numbers (λ (r : PortUnlinked). cutNumbers (r .answer)) (port-cut-none (on-block-here (c .before .before .before .before .before .before .before .before .before .before .before .before)) (split-is (c .before .before .before .before .before .before .before) ∙ c .before .before .before .before .before .before .if1 .left) (c .before .before .before .before .wide2 .ensures) (c .before .before .before .cut .ensures .0) (c .before .before .before .cut .ensures .1) (c .before .before .without-link .ensures) (c .if2 .taken))
+
+sub-t29 : tie.Need-sub-t29
+sub-t29 c = search needs
 
 returns-3 : tie.Need-returns-3
-returns-3 c =
-    let e = cut-port-seen (c .before .before .before .args .t1) (c .before .before .before .args .port .0) hidden (was-hidden _ (sym (c .before .before .seen .ensures) ∙ c .enum-told2 .given .1)) in
-    with-numbers (λ (r : PortUnlinked). cutNumbers (r .answer)) e
+returns-3 c = with-numbers (λ (r : PortUnlinked). cutNumbers (r .answer)) (cut-port-seen (c .before .before .before .before .before .before .args .t1) _ dead (was-dead _ (sym (seen-as (c .before .before .before .before .before .before .pre) _ (c .before .before .seen-in .ensures)) ∙ c .enum-told .given .1)))
 
 returns-4 : tie.Need-returns-4
-returns-4 c =
-    let e = cut-port-plain (c .before .before .before .before .before .before .before .before .before .before .before .before .before .before .args .t1) (c .before .before .before .before .before .before .before .before .before .before .before .before .before .before .args .port .0) _ _ (c .before .before .before .before .unlink-port .result) _ (was-visible _ _ _ (sym (c .before .before .before .before .before .before .before .before .before .before .before .before .before .seen .ensures) ∙ c .before .before .before .before .before .before .before .before .before .before .before .enum-told3 .given .1)) (marked-is (c .before .before .before .before .before .before .before) ∙ c .before .before .before .before .before .before .if1 .left) (c .before .before .before .before .unlink-port .ensures .0) (c .before .link .given .1) in
-    with-numbers (λ (r : PortUnlinked). cutNumbers (r .answer)) e
+returns-4 c = with-numbers (λ (r : PortUnlinked). cutNumbers (r .answer)) (cut-port-seen (c .before .before .before .before .before .before .args .t1) _ hidden (was-hidden _ (sym (seen-as (c .before .before .before .before .before .before .pre) _ (c .before .before .seen-in .ensures)) ∙ c .enum-told2 .given .1)))
 
 returns-5 : tie.Need-returns-5
-returns-5 c =
-    let e = cut-port-plain (c .before .before .before .before .before .before .before .before .before .before .before .before .before .args .t1) (c .before .before .before .before .before .before .before .before .before .before .before .before .before .args .port .0) _ _ (c .before .before .before .unlink-port .result) _ (was-visible _ _ _ (sym (c .before .before .before .before .before .before .before .before .before .before .before .before .seen .ensures) ∙ c .before .before .before .before .before .before .before .before .before .before .enum-told3 .given .1)) (marked-is (c .before .before .before .before .before .before) ∙ c .before .before .before .before .before .if1 .left) (c .before .before .before .unlink-port .ensures .0) (c .enum-told4 .given .1) in
-    with-numbers (λ (r : PortUnlinked). cutNumbers (r .answer)) e
-
-returns-6 : tie.Need-returns-6
-returns-6 c =
-    let e = cut-port-plain (c .before .before .before .before .before .before .before .before .before .before .before .before .before .args .t1) (c .before .before .before .before .before .before .before .before .before .before .before .before .before .args .port .0) _ _ (c .before .before .before .unlink-port .result) _ (was-visible _ _ _ (sym (c .before .before .before .before .before .before .before .before .before .before .before .before .seen .ensures) ∙ c .before .before .before .before .before .before .before .before .before .before .enum-told3 .given .1)) (marked-is (c .before .before .before .before .before .before) ∙ c .before .before .before .before .before .if1 .left) (c .before .before .before .unlink-port .ensures .0) (c .enum-told5 .given .1) in
-    with-numbers (λ (r : PortUnlinked). cutNumbers (r .answer)) e
+returns-5 c = with-numbers (λ (r : PortUnlinked). cutNumbers (r .answer)) (port-cut-far (on-block-here (c .before .before .before .before .before .before .before .before .before .before .before .before)) (split-is (c .before .before .before .before .before .before .before) ∙ c .before .before .before .before .before .before .if1 .left) (c .before .before .before .before .wide2 .ensures) (c .before .before .before .cut .ensures .0) (c .before .before .before .cut .ensures .1) (c .before .before .without-link .ensures) (c .if2 .left))
 
 pub unlink-port-spec : {M : Type 1} → statement M
 unlink-port-spec =
     tie.close
     (tie.spec
-    seen-requires
+    seen-in-requires
     enum-told
     enum-told-2
-    enum-told-3
+    enum-known-direction
     wide-requires
     marked-requires
-    unsplit-requires
+    drop-copy-requires
     returns
-    unlink-port-requires
-    enum-known-link
-    enum-told-4
-    enum-told-5
+    wide-requires-2
+    cut-requires
+    without-link-requires
     returns-2
+    sub-t29
     returns-3
     returns-4
-    returns-5
-    returns-6)
+    returns-5)

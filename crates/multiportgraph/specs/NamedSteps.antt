@@ -1,0 +1,236 @@
+-- Steps of the leaves that read what a call names, over plain values.
+use mathlib.Core.Path.{_≡_, refl, sym, _∙_, ap}
+use mathlib.Core.Bool.{Bool, true, false}
+use mathlib.Core.List.{List}
+use mathlib.Core.Logic.{_⊎_, inl, inr}
+use Prim.Native.Nat.{ℕ, _+_, _-_, _≤_, _<_}
+use native.Mathlib.Omega.{arith}
+use lib.Dec.{eqb, leb, ltb}
+use borrow.Author.Tests.{eq-eqb, ne-eqb, lt-ltb, le-ltb, le-leb, lt-leb, leb-true, leb-false}
+use Rattle.portgraph.specs.Limits.{portSlots}
+use Rattle.portgraph.specs.Entries.{pick, portEntry}
+use Rattle.portgraph.specs.Tables.{at, linkCount}
+use Rattle.portgraph.specs.Meaning.{sameSide}
+use Rattle.portgraph.specs.Lookups.{port#, nodeOf}
+use Rattle.portgraph.specs.declared.direction.Direction.{Direction}
+use Rattle.portgraph.specs.declared.port_entry.PortMeta.{PortMeta}
+use Rattle.portgraph.specs.declared.port_entry.PortEntry.{PortEntry}
+use Rattle.portgraph.specs.declared.port_entry.PortEntry.the-variants as port-variants
+use Rattle.multiportgraph.specs.Reading.{nodeNumber, Port, visible, End, inner, subport#}
+use Rattle.multiportgraph.specs.Calls.{goodOffset}
+use Rattle.multiportgraph.specs.CallSteps.{bad-offset}
+use Rattle.multiportgraph.specs.Forms.{flagAt, lowestUnlinked}
+use Rattle.multiportgraph.specs.Reads.{ownerIn, seenIn, endIn, subportsIn, firstIn}
+use Rattle.multiportgraph.specs.Named.{endOr, endSeen, endNamed, freeEnds, secondOr, secondSeen, secondEnd, firstOr, firstEnd, bothSeen, linkNamed, readIn, reuseAt, reuseIn, needIn, secondReady, bothReady, firstReady, firstNeed, bothNeed, linkSeen, linkNeed}
+use Rattle.multiportgraph.specs.declared.multiportgraph.Refusal.the-variants.{BadOffset, IncompatibleDirections, AlreadyLinked}
+use Rattle.multiportgraph.specs.declared.named.NamedEnd.the-variants as end
+use Rattle.multiportgraph.specs.declared.named.NamedLink.{NamedLink}
+use Rattle.multiportgraph.specs.declared.named.NamedLink.the-variants as ends
+use Rattle.multiportgraph.specs.declared.named.EndNeed.{EndNeed}
+use Rattle.multiportgraph.specs.declared.named.EndNeed.the-variants as need
+use Rattle.multiportgraph.specs.declared.named.LinkNeed.{LinkNeed}
+use Rattle.multiportgraph.specs.declared.named.LinkNeed.the-variants as needs
+
+-- The count of links.
+
+pub none-less : (n far : ℕ) → far ≡ 0 → n ≡ n - linkCount far
+unfolding linkCount
+none-less n far e = rw (eq-eqb far 0 e) (omega arith)
+
+pub one-less : (n far r : ℕ) → (far ≡ 0 → ⊥) → r ≡ n - 1 → r ≡ n - linkCount far
+unfolding linkCount
+one-less n far r e f = rw (ne-eqb far 0 e) f
+
+-- An owner's node.
+module _ (owners : List ℕ) (p w a : ℕ) (e : w ≡ p) (f : a ≡ at owners w) where
+  pub owner-none : portEntry a ≡ port-variants.Free → 0 ≡ ownerIn owners p
+  unfolding ownerIn
+  owner-none g = ap (λ (x : PortEntry). nodeNumber (nodeOf x)) (sym g ∙ ap portEntry (f ∙ ap (at owners) e))
+
+  pub owner-some : (k : PortMeta) → portEntry a ≡ port-variants.Port k → k .node .0 ≡ ownerIn owners p
+  unfolding ownerIn
+  owner-some k g = ap (λ (x : PortEntry). nodeNumber (nodeOf x)) (sym g ∙ ap portEntry (f ∙ ap (at owners) e))
+
+-- An end as read.
+module _ (marks : List Bool) (p o w : ℕ) (e : w ≡ p) (b : Bool) (f : b ≡ flagAt marks portSlots w) where
+  pub read-split : b ≡ true → subport# p o ≡ readIn marks p o
+  unfolding readIn
+  read-split g = ap (λ (x : Bool). subport# p (pick x o 0)) (sym g ∙ (f ∙ ap (flagAt marks portSlots) e))
+
+  pub read-plain : b ≡ false → subport# p 0 ≡ readIn marks p o
+  unfolding readIn
+  read-plain g = ap (λ (x : Bool). subport# p (pick x o 0)) (sym g ∙ (f ∙ ap (flagAt marks portSlots) e))
+
+-- Two ends that are there.
+module _ (links : List ℕ) (x : ℕ) (d : Direction) (y : ℕ) (e : Direction) (c : Bool) (f : c ≡ sameSide d e) where
+  pub same-sides : c ≡ true → ends.Refused (IncompatibleDirections (port# x) (port# y) d) ≡ freeEnds links x d y e
+  unfolding freeEnds
+  same-sides g = rw (sym f ∙ g)
+
+  module _ (g : c ≡ false) (w a : ℕ) (h : w ≡ x) (i : a ≡ at links w) where
+    first-is : at links x ≡ a
+    first-is = ap (at links) (sym h) ∙ sym i
+
+    pub first-taken : (a ≡ 0 → ⊥) → ends.Refused (AlreadyLinked (port# x)) ≡ freeEnds links x d y e
+    unfolding freeEnds
+    first-taken z = rw (sym f ∙ g, ne-eqb (at links x) 0 (λ k. z (sym first-is ∙ k)))
+
+    module _ (z : a ≡ 0) (v b : ℕ) (j : v ≡ y) (k : b ≡ at links v) where
+      second-is : at links y ≡ b
+      second-is = ap (at links) (sym j) ∙ sym k
+
+      pub second-taken : (b ≡ 0 → ⊥) → ends.Refused (AlreadyLinked (port# y)) ≡ freeEnds links x d y e
+      unfolding freeEnds
+      second-taken n = rw (sym f ∙ g, eq-eqb (at links x) 0 (first-is ∙ z), ne-eqb (at links y) 0 (λ l. n (sym second-is ∙ l)))
+
+      pub both-free : b ≡ 0 → ends.Ends x y ≡ freeEnds links x d y e
+      unfolding freeEnds
+      both-free n = rw (sym f ∙ g, eq-eqb (at links x) 0 (first-is ∙ z), eq-eqb (at links y) 0 (second-is ∙ n))
+
+-- A subport that is named, and two.
+module _ (marks : List Bool) (links owners : List ℕ) (flags : List Bool) where
+  pub named-bad : (p o : ℕ) → o ≡ 65535 → end.Refused BadOffset ≡ endNamed marks links owners flags p o
+  unfolding endNamed
+  named-bad p o e = rw (bad-offset o e)
+
+  pub named-seen : (p o : ℕ) (s : Port) → goodOffset o ≡ true → seenIn owners flags p ≡ s → endSeen marks links owners flags p o s ≡ endNamed marks links owners flags p o
+  unfolding endNamed
+  named-seen p o s g e = rw (g, e)
+
+  pub named-end : (p o n : ℕ) (d : Direction) (v : End) → goodOffset o ≡ true → seenIn owners flags p ≡ visible n d → endIn marks links owners p d o ≡ v
+      → endOr marks links owners flags p v ≡ endNamed marks links owners flags p o
+  named-end p o n d v g e f = ap (endOr marks links owners flags p) (sym f) ∙ named-seen p o (visible n d) g e
+
+  pub second-seen : (q r x : ℕ) (d : Direction) (s : Port) → seenIn owners flags q ≡ s → secondSeen marks links owners flags q r x d s ≡ secondEnd marks links owners flags q r x d
+  unfolding secondEnd
+  second-seen q r x d s e = rw e
+
+  pub second-end : (q r x : ℕ) (d : Direction) (n : ℕ) (e : Direction) (v : End) → seenIn owners flags q ≡ visible n e → endIn marks links owners q e r ≡ v
+      → secondOr marks links owners flags x d q e v ≡ secondEnd marks links owners flags q r x d
+  second-end q r x d n e v f g = ap (secondOr marks links owners flags x d q e) (sym g) ∙ second-seen q r x d (visible n e) f
+
+  pub second-free : (q r x : ℕ) (d : Direction) (n : ℕ) (e : Direction) (y : ℕ) (l : NamedLink) → seenIn owners flags q ≡ visible n e → endIn marks links owners q e r ≡ inner y
+      → l ≡ freeEnds links x d y e → l ≡ secondEnd marks links owners flags q r x d
+  second-free q r x d n e y l f g h = h ∙ second-end q r x d n e (inner y) f g
+
+  pub first-lacking : (p o q r : ℕ) (d : Direction) (v : End) → endIn marks links owners p d o ≡ v → firstOr marks links owners flags p q r d v ≡ firstEnd marks links owners flags p o q r d
+  unfolding firstEnd
+  first-lacking p o q r d v e = rw e
+
+  pub first-found : (p o q r : ℕ) (d : Direction) (x : ℕ) (l : NamedLink) → endIn marks links owners p d o ≡ inner x → l ≡ secondEnd marks links owners flags q r x d
+      → l ≡ firstEnd marks links owners flags p o q r d
+  first-found p o q r d x l e f = f ∙ first-lacking p o q r d (inner x) e
+
+  pub link-bad : (p o q r : ℕ) → o ≡ 65535 → ends.Refused BadOffset ≡ linkNamed marks links owners flags p o q r
+  unfolding linkNamed
+  link-bad p o q r e = rw (bad-offset o e)
+
+  pub link-bad-second : (p o q r : ℕ) → goodOffset o ≡ true → r ≡ 65535 → ends.Refused BadOffset ≡ linkNamed marks links owners flags p o q r
+  unfolding linkNamed
+  link-bad-second p o q r g e = rw (g, bad-offset r e)
+
+  pub link-seen : (p o q r : ℕ) (s t : Port) → goodOffset o ≡ true → goodOffset r ≡ true → seenIn owners flags p ≡ s → seenIn owners flags q ≡ t
+      → bothSeen marks links owners flags p o q r s t ≡ linkNamed marks links owners flags p o q r
+  unfolding linkNamed
+  link-seen p o q r s t g h e f = rw (g, h, e, f)
+
+  pub link-first : (p o q r n : ℕ) (d : Direction) (t : Port) (l : NamedLink) → goodOffset o ≡ true → goodOffset r ≡ true → seenIn owners flags p ≡ visible n d → seenIn owners flags q ≡ t
+      → firstEnd marks links owners flags p o q r d ≡ bothSeen marks links owners flags p o q r (visible n d) t
+      → l ≡ firstEnd marks links owners flags p o q r d → l ≡ linkNamed marks links owners flags p o q r
+  link-first p o q r n d t l g h e f same k = k ∙ same ∙ link-seen p o q r (visible n d) t g h e f
+
+  -- What a link needs.
+  pub call-seen : (a b : ℕ) (s t : Port) → seenIn owners flags a ≡ s → seenIn owners flags b ≡ t → linkSeen marks links owners flags a b s t ≡ linkNeed marks links owners flags a b
+  unfolding linkNeed
+  call-seen a b s t e f = rw (e, f)
+
+-- A range of slots.
+pub fits-inside : (f n : ℕ) (b : Bool) → f ≤ portSlots → b ≡ leb n (portSlots - f) → b ≡ leb (f + n) portSlots
+fits-inside f n true h e = let l = leb-true n (portSlots - f) (sym e) in sym (le-leb (f + n) portSlots (omega arith))
+fits-inside f n false h e = let l = leb-false n (portSlots - f) (sym e) in sym (lt-leb (f + n) portSlots (omega arith))
+
+pub fits-outside : (f n : ℕ) → portSlots < f → false ≡ leb (f + n) portSlots
+fits-outside f n h = sym (lt-leb (f + n) portSlots (omega arith))
+
+-- What an end needs.
+module _ (links owners : List ℕ) (p : ℕ) (d : Direction) {n f : ℕ} (e : n ≡ subportsIn links owners p d) (g : f ≡ firstIn links owners p d) {b : Bool} (h : b ≡ leb (f + n) portSlots) where
+  reuse-by : (c : Bool) → b ≡ c → pick c (reuseAt f n (lowestUnlinked links f 0 n)) need.Grow ≡ reuseIn links owners p d
+  unfolding reuseIn
+  reuse-by c i =
+      ap (λ (x : Bool). pick x (reuseAt f n (lowestUnlinked links f 0 n)) need.Grow) (sym i ∙ h)
+      ∙ (λ j. pick (leb (g j + e j) portSlots) (reuseAt (g j) (e j) (lowestUnlinked links (g j) 0 (e j))) need.Grow)
+
+  pub reuse-outside : b ≡ false → need.Grow ≡ reuseIn links owners p d
+  reuse-outside i = reuse-by false i
+
+  module _ (i : b ≡ true) {o : ℕ} (k : o ≡ lowestUnlinked links f 0 n) where
+    pub reuse-found : o < n → need.Ready (f + o) o ≡ reuseIn links owners p d
+    unfolding reuseAt
+    reuse-found l =
+        ap (λ (c : Bool). pick c (need.Ready (f + o) o) need.Grow) (sym (lt-ltb o n l))
+        ∙ (ap (reuseAt f n) k ∙ reuse-by true i)
+
+    pub reuse-none : n ≤ o → need.Grow ≡ reuseIn links owners p d
+    unfolding reuseAt
+    reuse-none l =
+        ap (λ (c : Bool). pick c (need.Ready (f + o) o) need.Grow) (sym (le-ltb o n l))
+        ∙ (ap (reuseAt f n) k ∙ reuse-by true i)
+
+module _ (marks : List Bool) (links owners : List ℕ) (p : ℕ) (d : Direction) {w : ℕ} (e : w ≡ p) {b : Bool} (f : b ≡ flagAt marks portSlots w) where
+  mark-is : flagAt marks portSlots p ≡ b
+  mark-is = ap (flagAt marks portSlots) (sym e) ∙ sym f
+
+  pub need-reuse : {r : EndNeed} → b ≡ true → r ≡ reuseIn links owners p d → r ≡ needIn marks links owners p d
+  unfolding needIn
+  need-reuse g h = rw (mark-is ∙ g) h
+
+  module _ (g : b ≡ false) {v a : ℕ} (h : v ≡ p) (i : a ≡ at links v) where
+    link-is : at links p ≡ a
+    link-is = ap (at links) (sym h) ∙ sym i
+
+    pub need-nothing : a ≡ 0 → need.Ready p 0 ≡ needIn marks links owners p d
+    unfolding needIn
+    need-nothing z = rw (mark-is ∙ g, eq-eqb (at links p) 0 (link-is ∙ z))
+
+    pub need-split : (a ≡ 0 → ⊥) → need.Split ≡ needIn marks links owners p d
+    unfolding needIn
+    need-split z = rw (mark-is ∙ g, ne-eqb (at links p) 0 (λ k. z (sym link-is ∙ k)))
+
+module _ (marks : List Bool) (links owners : List ℕ) where
+  pub first-by : (a : ℕ) (d : Direction) (b : ℕ) (v : EndNeed) {r : EndNeed} → r ≡ needIn marks links owners a d → r ≡ v → firstReady b d v ≡ firstNeed marks links owners a d b
+  unfolding firstNeed
+  first-by a d b v e f = ap (firstReady b d) (sym f ∙ e)
+
+  module _ (a : ℕ) (d : Direction) (b : ℕ) (e : Direction) {r : EndNeed} (f : r ≡ needIn marks links owners a d) where
+    -- an end that is not ready
+    unready : (tag : EndNeed → ℕ) → ((x o : ℕ) → tag (need.Ready x o) ≡ 0) → (v : EndNeed) → (tag v ≡ 1) ⊎ (tag v ≡ 2) → (P : EndNeed → LinkNeed)
+        → P need.Grow ≡ needs.Both d e → P need.Split ≡ needs.Both d e → needs.Both d e ≡ P v
+    unready tag zeroth (need.Ready x o) (inl t) P g h = let k = zeroth x o in absurd (omega arith)
+    unready tag zeroth (need.Ready x o) (inr t) P g h = let k = zeroth x o in absurd (omega arith)
+    unready tag zeroth need.Grow t P g h = sym g
+    unready tag zeroth need.Split t P g h = sym h
+
+    pub first-unready : (tag : EndNeed → ℕ) → ((x o : ℕ) → tag (need.Ready x o) ≡ 0) → (tag r ≡ 1) ⊎ (tag r ≡ 2) → needs.Both d e ≡ bothNeed marks links owners a d b e
+    unfolding bothNeed
+    first-unready tag zeroth t =
+        unready tag zeroth r t (λ (v : EndNeed). bothReady d e v (needIn marks links owners b e)) refl refl
+        ∙ ap (λ (v : EndNeed). bothReady d e v (needIn marks links owners b e)) f
+
+    module _ (x o : ℕ) (g : r ≡ need.Ready x o) {s : EndNeed} (h : s ≡ needIn marks links owners b e) where
+      by-second : (v : EndNeed) → s ≡ v → secondReady d e x o v ≡ bothNeed marks links owners a d b e
+      unfolding bothNeed
+      by-second v i =
+          ap (secondReady d e x o) (sym i ∙ h)
+          ∙ ap (λ (u : EndNeed). bothReady d e u (needIn marks links owners b e)) (sym g ∙ f)
+
+      pub second-unready : (tag : EndNeed → ℕ) → ((x o : ℕ) → tag (need.Ready x o) ≡ 0) → (tag s ≡ 1) ⊎ (tag s ≡ 2) → needs.Both d e ≡ bothNeed marks links owners a d b e
+      second-unready tag zeroth t = unready tag zeroth s t (secondReady d e x o) refl refl ∙ by-second s refl
+
+      module _ (y r₂ : ℕ) (i : s ≡ need.Ready y r₂) {c : Bool} (j : c ≡ sameSide d e) where
+        pub one-side : c ≡ true → needs.Refused (IncompatibleDirections (port# x) (port# y) d) ≡ bothNeed marks links owners a d b e
+        one-side k =
+            ap (λ (u : Bool). pick u (needs.Refused (IncompatibleDirections (port# x) (port# y) d)) (needs.Ends x o y r₂)) (sym k ∙ j) ∙ by-second (need.Ready y r₂) i
+
+        pub both-ready : c ≡ false → needs.Ends x o y r₂ ≡ bothNeed marks links owners a d b e
+        both-ready k =
+            ap (λ (u : Bool). pick u (needs.Refused (IncompatibleDirections (port# x) (port# y) d)) (needs.Ends x o y r₂)) (sym k ∙ j) ∙ by-second (need.Ready y r₂) i

@@ -46,6 +46,7 @@ pub mod Space
 pub mod Forms
 pub mod Reads
 pub mod Named
+pub mod MultiLent
 pub mod Ends
 pub mod Listing
 pub mod WalkRule
@@ -85,3 +86,4 @@ pub mod LinkSteps
 pub mod NamedSteps
 pub mod NamedLaws
 pub mod BlockSteps
+pub mod LentSteps

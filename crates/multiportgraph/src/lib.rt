@@ -4,6 +4,7 @@ pub mod calls;
 pub mod copies;
 pub mod ends;
 pub mod iter;
+pub mod lent;
 pub mod links;
 pub mod lookups;
 pub mod marks;

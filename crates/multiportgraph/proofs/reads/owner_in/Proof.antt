@@ -21,10 +21,10 @@ enum-told : tie.Need-enum-told
 enum-told c = search needs
 
 returns : tie.Need-returns
-returns c = owner-none _ _ _ _ (c .before .before .before .before .wide .ensures) (c .before .before .before .at .ensures) (sym (c .before .before .read .ensures) ∙ c .enum-told .given .1)
+returns c = owner-none _ _ _ _ (c .before .before .before .before .wide .ensures) (c .before .before .before .at .ensures) (sym (c .before .before .read .ensures .0) ∙ c .enum-told .given .1)
 
 returns-2 : tie.Need-returns-2
-returns-2 c = owner-some _ _ _ _ (c .before .before .before .before .before .before .wide .ensures) (c .before .before .before .before .before .at .ensures) _ (sym (c .before .before .before .before .read .ensures) ∙ c .before .before .meta .given .1)
+returns-2 c = owner-some _ _ _ _ (c .before .before .before .before .before .before .wide .ensures) (c .before .before .before .before .before .at .ensures) _ (sym (c .before .before .before .before .read .ensures .0) ∙ c .before .before .meta .given .1)
 
 pub owner-in-spec : {M : Type 1} → statement M
 owner-in-spec =

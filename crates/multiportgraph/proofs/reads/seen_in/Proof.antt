@@ -21,7 +21,7 @@ enum-told : tie.Need-enum-told
 enum-told c = search needs
 
 returns : tie.Need-returns
-returns c = seen-dead _ (c .before .before .before .before .before .args .flags .now) _ _ _ (c .before .before .before .before .wide .ensures) (c .before .before .before .at .ensures) (sym (c .before .before .read .ensures) ∙ c .enum-told .given .1)
+returns c = seen-dead _ (c .before .before .before .before .before .args .flags .now) _ _ _ (c .before .before .before .before .wide .ensures) (c .before .before .before .at .ensures) (sym (c .before .before .read .ensures .0) ∙ c .enum-told .given .1)
 
 wide-requires-2 : tie.Need-wide-requires-2
 wide-requires-2 c κs = search needs
@@ -30,10 +30,10 @@ flagged-requires : tie.Need-flagged-requires
 flagged-requires c κs = search needs
 
 returns-2 : tie.Need-returns-2
-returns-2 c = seen-hidden _ (c .before .before .before .before .before .before .before .before .before .before .args .flags .now) _ _ _ (c .before .before .before .before .before .before .before .before .before .wide .ensures) (c .before .before .before .before .before .before .before .before .at .ensures) _ (sym (c .before .before .before .before .before .before .before .read .ensures) ∙ c .before .before .before .before .before .meta .given .1) _ (c .before .before .wide2 .ensures) _ (c .before .flagged .ensures) (c .if1 .taken)
+returns-2 c = seen-hidden _ (c .before .before .before .before .before .before .before .before .before .before .args .flags .now) _ _ _ (c .before .before .before .before .before .before .before .before .before .wide .ensures) (c .before .before .before .before .before .before .before .before .at .ensures) _ (sym (c .before .before .before .before .before .before .before .read .ensures .0) ∙ c .before .before .before .before .before .meta .given .1) _ (c .before .before .wide2 .ensures) _ (c .before .flagged .ensures) (c .if1 .taken)
 
 returns-3 : tie.Need-returns-3
-returns-3 c = seen-visible _ (c .before .before .before .before .before .before .before .before .before .before .args .flags .now) _ _ _ (c .before .before .before .before .before .before .before .before .before .wide .ensures) (c .before .before .before .before .before .before .before .before .at .ensures) _ (sym (c .before .before .before .before .before .before .before .read .ensures) ∙ c .before .before .before .before .before .meta .given .1) _ (c .before .before .wide2 .ensures) _ (c .before .flagged .ensures) (c .if1 .left)
+returns-3 c = seen-visible _ (c .before .before .before .before .before .before .before .before .before .before .args .flags .now) _ _ _ (c .before .before .before .before .before .before .before .before .before .wide .ensures) (c .before .before .before .before .before .before .before .before .at .ensures) _ (sym (c .before .before .before .before .before .before .before .read .ensures .0) ∙ c .before .before .before .before .before .meta .given .1) _ (c .before .before .wide2 .ensures) _ (c .before .flagged .ensures) (c .if1 .left)
 
 pub seen-in-spec : {M : Type 1} → statement M
 seen-in-spec =

@@ -22,7 +22,7 @@ enum-told : tie.Need-enum-told
 enum-told c = search needs
 
 returns : tie.Need-returns
-returns c = unowned _ (c .before .before .before .before .before .args .flags .now) _ _ _ (c .before .before .before .before .wide .ensures) (c .before .before .before .at .ensures) _ (sym (c .before .before .read .ensures) ∙ c .enum-told .given .1)
+returns c = unowned _ (c .before .before .before .before .before .args .flags .now) _ _ _ (c .before .before .before .before .wide .ensures) (c .before .before .before .at .ensures) _ (sym (c .before .before .read .ensures .0) ∙ c .enum-told .given .1)
 
 wide-requires-2 : tie.Need-wide-requires-2
 wide-requires-2 c κs = search needs
@@ -46,10 +46,10 @@ cast-t18 : tie.Need-cast-t18
 cast-t18 c = let e = c .before .run-down .ensures in let b = down-bound (c .before .before .before .before .before .before .before .before .before .before .before .before .before .before .args .owners .now) (c .before .before .before .before .before .before .before .before .before .before .before .before .at .result) (c .before .before .wide3 .result) in omega arith
 
 returns-2 : tie.Need-returns-2
-returns-2 c = subport-hung _ _ _ _ _ (c .before .before .before .before .before .before .before .before .before .before .before .before .before .wide .ensures) (c .before .before .before .before .before .before .before .before .before .before .before .before .at .ensures) _ (sym (c .before .before .before .before .before .before .before .before .before .before .before .read .ensures) ∙ c .before .before .before .before .before .before .before .before .before .meta .given .1) _ (c .before .before .before .before .before .before .wide2 .ensures) _ (c .before .before .before .before .before .flagged .ensures) _ _ _ _ _ (c .before .before .before .before .if1 .taken) (c .before .before .before .copy-beside .ensures) (c .before .before .wide3 .ensures) (c .before .run-down .ensures) (c .far-in .ensures)
+returns-2 c = subport-hung _ _ _ _ _ (c .before .before .before .before .before .before .before .before .before .before .before .before .before .wide .ensures) (c .before .before .before .before .before .before .before .before .before .before .before .before .at .ensures) _ (sym (c .before .before .before .before .before .before .before .before .before .before .before .read .ensures .0) ∙ c .before .before .before .before .before .before .before .before .before .meta .given .1) _ (c .before .before .before .before .before .before .wide2 .ensures) _ (c .before .before .before .before .before .flagged .ensures) _ _ _ _ _ (c .before .before .before .before .if1 .taken) (c .before .before .before .copy-beside .ensures) (c .before .before .wide3 .ensures) (c .before .run-down .ensures) (c .far-in .ensures)
 
 returns-3 : tie.Need-returns-3
-returns-3 c = subport-plain _ _ _ _ _ (c .before .before .before .before .before .before .before .before .before .wide .ensures) (c .before .before .before .before .before .before .before .before .at .ensures) _ (sym (c .before .before .before .before .before .before .before .read .ensures) ∙ c .before .before .before .before .before .meta .given .1) _ (c .before .before .wide2 .ensures) _ (c .before .flagged .ensures) (c .before .before .before .before .before .before .before .before .before .before .args .links .now) (c .if1 .left)
+returns-3 c = subport-plain _ _ _ _ _ (c .before .before .before .before .before .before .before .before .before .wide .ensures) (c .before .before .before .before .before .before .before .before .at .ensures) _ (sym (c .before .before .before .before .before .before .before .read .ensures .0) ∙ c .before .before .before .before .before .meta .given .1) _ (c .before .before .wide2 .ensures) _ (c .before .flagged .ensures) (c .before .before .before .before .before .before .before .before .before .before .args .links .now) (c .if1 .left)
 
 pub subport-in-spec : {M : Type 1} → statement M
 subport-in-spec =

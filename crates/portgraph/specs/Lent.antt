@@ -4,12 +4,20 @@ use mathlib.Core.List.{List, [], _∷_}
 use Prim.Native.Nat.{ℕ, _+_, _*_}
 use lib.Dec.{eqb, ltb}
 use lib.ListN.{getD, set}
-use Rattle.portgraph.specs.Limits.{nodeSlots}
-use Rattle.portgraph.specs.Entries.{pick, freshSlot, freeSlotOf, nodeSlotOf}
+use Rattle.portgraph.specs.Limits.{nodeSlots, portSlots}
+use Rattle.portgraph.specs.Entries.{pick, freshSlot, freeSlotOf, nodeSlotOf, portEntry}
+use Rattle.portgraph.specs.Tables.{at}
 use Rattle.portgraph.specs.Meaning.{metaOf}
-use Rattle.portgraph.specs.Lookups.{metaOfEntry}
+use Rattle.portgraph.specs.Lookups.{metaOfEntry, portIn, offsetIn}
+use Rattle.portgraph.specs.declared.index.PortOffset.{PortOffset}
+use Rattle.portgraph.specs.declared.index.MaybePortIndex.{MaybePortIndex}
+use Rattle.portgraph.specs.declared.index.MaybePortIndex.the-variants as maybe-port
+use Rattle.portgraph.specs.declared.index.MaybePortOffset.{MaybePortOffset}
+use Rattle.portgraph.specs.declared.index.MaybePortOffset.the-variants as maybe-offset
 use Rattle.portgraph.specs.declared.node_entry.NodeSlot.{NodeSlot}
 use Rattle.portgraph.specs.declared.node_entry.MaybeNodeMeta.{MaybeNodeMeta}
+use Rattle.portgraph.specs.declared.port_entry.PortEntry.{PortEntry}
+use Rattle.portgraph.specs.declared.port_entry.PortEntry.the-variants as port-variants
 use Rattle.portgraph.specs.declared.portgraph.PortGraph.{PortGraph}
 use Rattle.portgraph.specs.declared.lent.Counts.{Counts}
 
@@ -49,6 +57,23 @@ putSlot nodes n s = pick (ltb n nodeSlots) (set nodes n s) nodes
 abbrev pub metaIn : List ℕ → ℕ → MaybeNodeMeta
 metaIn words n = metaOfEntry (slotIn words n .entry)
 
+-- a port outside the tables is none
+abbrev pub portWithin : MaybePortIndex → MaybePortIndex
+portWithin maybe-port.None = maybe-port.None
+portWithin (maybe-port.Some p) = pick (ltb (p .0) portSlots) (maybe-port.Some p) maybe-port.None
+
+-- the port at a side and position of a node
+abbrev pub portIndexIn : List ℕ → ℕ → PortOffset → MaybePortIndex
+portIndexIn words n o = portWithin (portIn (metaIn words n) o)
+
+abbrev pub offsetOfIn : List ℕ → ℕ → PortEntry → MaybePortOffset
+offsetOfIn words p port-variants.Free = maybe-offset.None
+offsetOfIn words p (port-variants.Port m) = offsetIn p (m .direction) (metaIn words (m .node .0))
+
+-- the side and position of a port
+abbrev pub portOffsetIn : List ℕ → List ℕ → ℕ → MaybePortOffset
+portOffsetIn words owners p = offsetOfIn words p (portEntry (at owners p))
+
 -- the graph that lent tables and counts are
 abbrev pub graphIn : List ℕ → List ℕ → List ℕ → List ℕ → Counts → PortGraph
 graphIn nodes links owners heads counts =
@@ -63,6 +88,18 @@ graphIn nodes links owners heads counts =
       «node_count» = counts .«node_count»;
       «port_count» = counts .«port_count»;
       «link_count» = counts .«link_count»;
+    }
+
+-- the counts with another number of links
+abbrev pub countLinks : Counts → ℕ → Counts
+countLinks counts links =
+    record {
+      «node_free» = counts .«node_free»;
+      «node_len» = counts .«node_len»;
+      «port_len» = counts .«port_len»;
+      «node_count» = counts .«node_count»;
+      «port_count» = counts .«port_count»;
+      «link_count» = links;
     }
 
 -- the counts of the empty graph

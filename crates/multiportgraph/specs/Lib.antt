@@ -86,4 +86,6 @@ pub mod LinkSteps
 pub mod NamedSteps
 pub mod NamedLaws
 pub mod BlockSteps
+pub mod LentLaws
 pub mod LentSteps
+pub mod LentLinkSteps

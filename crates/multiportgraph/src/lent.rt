@@ -93,15 +93,14 @@ pub(crate) fn add_in(
     links: &mut [u32; PORT_SLOTS],
     owners: &mut [u32; PORT_SLOTS],
     heads: &mut [u32; FREE_LISTS],
-    marks: &[bool; PORT_SLOTS],
-    flags: &[bool; NODE_SLOTS],
+    marks: &mut [bool; PORT_SLOTS],
+    flags: &mut [bool; NODE_SLOTS],
     held: Held,
     incoming: usize,
     outgoing: usize,
 ) -> AddedIn
     requires { ⌜ MultiWf (multiIn (now nodes) (now links) (now owners) (now heads) (now marks) (now flags) held) ⌝ }
-    ensures { λ r. ⌜ (multiIn (now (nodes .exit)) (now (links .exit)) (now (owners .exit)) (now (heads .exit)) (now (marks .entry)) (now (flags .entry)) (r .held)
-            ≡ addBlock (multiIn (now (nodes .entry)) (now (links .entry)) (now (owners .entry)) (now (heads .entry)) (now (marks .entry)) (now (flags .entry)) held) incoming outgoing .graph)
+    ensures { λ r. ⌜ (multiIn (now (nodes .exit)) (now (links .exit)) (now (owners .exit)) (now (heads .exit)) (now (marks .exit)) (now (flags .exit)) (r .held) ≡ addBlock (multiIn (now (nodes .entry)) (now (links .entry)) (now (owners .entry)) (now (heads .entry)) (now (marks .entry)) (now (flags .entry)) held) incoming outgoing .graph)
         × (r .answer ≡ addBlock (multiIn (now (nodes .entry)) (now (links .entry)) (now (owners .entry)) (now (heads .entry)) (now (marks .entry)) (now (flags .entry)) held) incoming outgoing .answer) ⌝ }
 {
     let counts = held.counts;
@@ -136,18 +135,17 @@ pub(crate) fn subport_link_in<'a>(
 
 // MultiPortGraph::unlink_subport over lent tables.
 pub(crate) fn cut_sub_in(
-    nodes: &[u32; NODE_WORDS],
+    nodes: &mut [u32; NODE_WORDS],
     links: &mut [u32; PORT_SLOTS],
-    owners: &[u32; PORT_SLOTS],
-    heads: &[u32; FREE_LISTS],
-    marks: &[bool; PORT_SLOTS],
-    flags: &[bool; NODE_SLOTS],
+    owners: &mut [u32; PORT_SLOTS],
+    heads: &mut [u32; FREE_LISTS],
+    marks: &mut [bool; PORT_SLOTS],
+    flags: &mut [bool; NODE_SLOTS],
     held: Held,
     subport: SubportIndex,
 ) -> CutIn
     requires { ⌜ MultiWf (multiIn (now nodes) (now links) (now owners) (now heads) (now marks) (now flags) held) ⌝ }
-    ensures { λ r. ⌜ (multiIn (now (nodes .entry)) (now (links .exit)) (now (owners .entry)) (now (heads .entry)) (now (marks .entry)) (now (flags .entry)) (r .held)
-            ≡ cutSub (multiIn (now (nodes .entry)) (now (links .entry)) (now (owners .entry)) (now (heads .entry)) (now (marks .entry)) (now (flags .entry)) held) (subport .port .0) (subport .«subport_offset») .graph)
+    ensures { λ r. ⌜ (multiIn (now (nodes .exit)) (now (links .exit)) (now (owners .exit)) (now (heads .exit)) (now (marks .exit)) (now (flags .exit)) (r .held) ≡ cutSub (multiIn (now (nodes .entry)) (now (links .entry)) (now (owners .entry)) (now (heads .entry)) (now (marks .entry)) (now (flags .entry)) held) (subport .port .0) (subport .«subport_offset») .graph)
         × (r .answer ≡ cutSub (multiIn (now (nodes .entry)) (now (links .entry)) (now (owners .entry)) (now (heads .entry)) (now (marks .entry)) (now (flags .entry)) held) (subport .port .0) (subport .«subport_offset») .answer) ⌝ }
 {
     match end_named(marks, links, owners, flags, subport) {
@@ -168,19 +166,18 @@ pub(crate) fn cut_sub_in(
 
 // MultiPortGraph::link_subports over lent tables.
 pub(crate) fn link_sub_in(
-    nodes: &[u32; NODE_WORDS],
+    nodes: &mut [u32; NODE_WORDS],
     links: &mut [u32; PORT_SLOTS],
-    owners: &[u32; PORT_SLOTS],
-    heads: &[u32; FREE_LISTS],
-    marks: &[bool; PORT_SLOTS],
-    flags: &[bool; NODE_SLOTS],
+    owners: &mut [u32; PORT_SLOTS],
+    heads: &mut [u32; FREE_LISTS],
+    marks: &mut [bool; PORT_SLOTS],
+    flags: &mut [bool; NODE_SLOTS],
     held: Held,
     from: SubportIndex,
     to: SubportIndex,
 ) -> LinkedIn
     requires { ⌜ MultiWf (multiIn (now nodes) (now links) (now owners) (now heads) (now marks) (now flags) held) ⌝ }
-    ensures { λ r. ⌜ (multiIn (now (nodes .entry)) (now (links .exit)) (now (owners .entry)) (now (heads .entry)) (now (marks .entry)) (now (flags .entry)) (r .held)
-            ≡ linkSub (multiIn (now (nodes .entry)) (now (links .entry)) (now (owners .entry)) (now (heads .entry)) (now (marks .entry)) (now (flags .entry)) held) (from .port .0) (from .«subport_offset») (to .port .0) (to .«subport_offset») .graph)
+    ensures { λ r. ⌜ (multiIn (now (nodes .exit)) (now (links .exit)) (now (owners .exit)) (now (heads .exit)) (now (marks .exit)) (now (flags .exit)) (r .held) ≡ linkSub (multiIn (now (nodes .entry)) (now (links .entry)) (now (owners .entry)) (now (heads .entry)) (now (marks .entry)) (now (flags .entry)) held) (from .port .0) (from .«subport_offset») (to .port .0) (to .«subport_offset») .graph)
         × (r .answer ≡ linkSub (multiIn (now (nodes .entry)) (now (links .entry)) (now (owners .entry)) (now (heads .entry)) (now (marks .entry)) (now (flags .entry)) held) (from .port .0) (from .«subport_offset») (to .port .0) (to .«subport_offset») .answer) ⌝ }
 {
     match link_named(marks, links, owners, flags, from, to) {

@@ -35,7 +35,7 @@ pub struct Prepared {
     pub ready: bool,
 }
 
-fn copy_in(direction: Direction) -> usize
+pub(crate) fn copy_in(direction: Direction) -> usize
     ensures { λ r. ⌜ r ≡ copyIn direction ⌝ }
 {
     match direction {
@@ -44,7 +44,7 @@ fn copy_in(direction: Direction) -> usize
     }
 }
 
-fn copy_out(direction: Direction) -> usize
+pub(crate) fn copy_out(direction: Direction) -> usize
     ensures { λ r. ⌜ r ≡ copyOut direction ⌝ }
 {
     match direction {
@@ -177,7 +177,7 @@ impl MultiPortGraph {
     }
 }
 
-fn direction_step(direction: Direction) -> usize
+pub(crate) fn direction_step(direction: Direction) -> usize
     ensures { λ r. ⌜ r ≡ sideNumber direction ⌝ }
 {
     match direction {

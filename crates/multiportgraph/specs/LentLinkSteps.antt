@@ -1,0 +1,425 @@
+-- Resizing a block, preparing an end and linking ports over lent tables leave the graph, and give the answer, that their definitions say.
+use mathlib.Core.Path.{_≡_, refl, sym, ap, _∙_, subst}
+use mathlib.Core.Bool.{Bool, true, false}
+use mathlib.Core.List.{List}
+use mathlib.Core.Logic.{_⊎_, inl, inr, ⊎-elim}
+use Prim.Native.Nat.{ℕ, _+_, _-_, _*_, _≤_, _<_}
+use native.Mathlib.Omega.{arith}
+use lib.Dec.{leb}
+use lib.ListN.{length, take}
+use lib.Seq.{sets}
+use borrow.Author.Tests.{le-leb, lt-leb}
+use Rattle.portgraph.specs.Limits.{nodeSlots, portSlots, nodePorts}
+use Rattle.portgraph.specs.Entries.{pick, reversed, sideNumber}
+use Rattle.portgraph.specs.Tables as tables
+use Rattle.portgraph.specs.Meaning.{sameSide}
+use Rattle.portgraph.specs.Lookups.{port#, metaAt, countIn, numPorts}
+use Rattle.portgraph.specs.Model.{Wf}
+use Rattle.portgraph.specs.Calls.{addFound, findSlot, findBlock, addNode, linkPorts, unlinkPort}
+use Rattle.portgraph.specs.Resize.{setNumPorts, movesAfter, BlockFits}
+use Rattle.portgraph.specs.ResizeLaws.{wf-set}
+use Rattle.portgraph.specs.SlotHolds.{wf-add}
+use Rattle.portgraph.specs.LinkHolds.{wf-link, wf-unlink}
+use Rattle.portgraph.specs.Lent.{metaIn, graphIn}
+use Rattle.portgraph.specs.LentSteps.{meta-read}
+use Rattle.portgraph.specs.GoodSlots.{zero-is-not-one}
+use Rattle.portgraph.specs.declared.direction.Direction.{Direction}
+use Rattle.portgraph.specs.declared.direction.Direction.the-variants.{Incoming, Outgoing}
+use Rattle.portgraph.specs.declared.index.PortIndex.{PortIndex}
+use Rattle.portgraph.specs.declared.index.NodeIndex.{NodeIndex}
+use Rattle.portgraph.specs.declared.node_entry.NodeMeta.{NodeMeta}
+use Rattle.portgraph.specs.declared.node_entry.MaybeNodeMeta.{MaybeNodeMeta}
+use Rattle.portgraph.specs.declared.node_entry.MaybeNodeMeta.the-variants as maybe-meta
+use Rattle.portgraph.specs.declared.lent.Counts.{Counts}
+use Rattle.portgraph.specs.declared.portgraph.PortGraph.{PortGraph}
+use Rattle.portgraph.specs.declared.portgraph.PortLink.{PortLink}
+use Rattle.portgraph.specs.declared.portgraph.LinkAnswer as lower-link
+use Rattle.portgraph.specs.declared.portgraph.PortsLinked as lower-linked
+use Rattle.portgraph.specs.declared.slots.Found.{Found}
+use Rattle.portgraph.specs.declared.slots.Found.the-variants as found
+use Rattle.portgraph.specs.declared.slots.AddAnswer as lower-add
+use Rattle.portgraph.specs.declared.slots.AddAnswer.the-variants as lower-add-variants
+use Rattle.portgraph.specs.declared.slots.NodeAdded as lower-added
+use Rattle.portgraph.specs.declared.resize.SetAnswer as lower-set
+use Rattle.portgraph.specs.declared.resize.SetAnswer.the-variants as lower-set-variants
+use Rattle.portgraph.specs.declared.resize.PortsSet as lower-sized
+use Rattle.multiportgraph.specs.Reading.{linkNumber, farPort, portOf, isHidden, subport#, seen, visible, Port, dead, hidden, copyNode}
+use Rattle.multiportgraph.specs.Calls as calls
+use Rattle.multiportgraph.specs.Calls.{withGraph, copiesDropped, recounted, marksMoved, removeAll, resized, setAs, setCounts, movesTold, copyIn, copyOut, split, grow, prepare, more, enough, linkRefused, linkFirst, linkBoth, linkCall}
+use Rattle.multiportgraph.specs.Forms.{putFlag, preparedAs}
+use Rattle.multiportgraph.specs.MarkLaws.{length-layMarks}
+use Rattle.multiportgraph.specs.BlockSteps.{loose-removed, set-answered, block-in, copies-dropped-few}
+use Rattle.multiportgraph.specs.PrepareSteps.{lower-wf, count-small, split-full, split-done, grow-full, grow-done}
+use Rattle.multiportgraph.specs.Inner.{MultiWf}
+use Rattle.multiportgraph.specs.LinkSteps.{OnBlock, BothOnBlock, others-stay, still-wf, first-ready, first-full, both-full, second-full, one-side, both-linked}
+use Rattle.multiportgraph.specs.Named.{needIn, preparedBy, firstReady, bothReady, secondReady, endsReady, linkSeen, linkNeed, linkedBy, firstNeed, bothNeed}
+use Rattle.multiportgraph.specs.NamedLaws.{need-law, call-done, ends-joined}
+use Rattle.multiportgraph.specs.ReadLaws.{seen-read}
+use Rattle.multiportgraph.specs.Reads.{seenIn}
+use Rattle.multiportgraph.specs.MultiLent.{multiIn, heldCounts, heldLinks, portOfIn, copyNodeIn, Sound, FitsIf, Resizes, preparedIn, Tried, plenty}
+use Rattle.multiportgraph.specs.LentLaws.{port-of-read, count-read, copy-node-read, never-short, plenty-told}
+use Rattle.multiportgraph.specs.LentSteps.{set-kept, set-parts, link-parts}
+use Rattle.multiportgraph.specs.declared.multiportgraph.MultiPortGraph.{MultiPortGraph}
+use Rattle.multiportgraph.specs.declared.multiportgraph.Refusal.{Refusal}
+use Rattle.multiportgraph.specs.declared.multiportgraph.Refusal.the-variants.{NoRoom, UnknownSecondPort, IncompatibleDirections}
+use Rattle.multiportgraph.specs.declared.multiportgraph.SetAnswer.{SetAnswer}
+use Rattle.multiportgraph.specs.declared.multiportgraph.LinkAnswer.{LinkAnswer}
+use Rattle.multiportgraph.specs.declared.multiportgraph.LinkAnswer.the-variants as link
+use Rattle.multiportgraph.specs.declared.multiportgraph.PortsLinked.{PortsLinked}
+use Rattle.multiportgraph.specs.declared.prepare.Prepared.{Prepared}
+use Rattle.multiportgraph.specs.declared.named.EndNeed.{EndNeed}
+use Rattle.multiportgraph.specs.declared.named.EndNeed.the-variants as need
+use Rattle.multiportgraph.specs.declared.named.LinkNeed.{LinkNeed}
+use Rattle.multiportgraph.specs.declared.named.LinkNeed.the-variants as needs
+use Rattle.multiportgraph.specs.declared.lent.Held.{Held}
+use Rattle.multiportgraph.specs.declared.lent_prepare.PreparedIn.{PreparedIn}
+
+-- Marks.
+
+pub length-moved : (marks : List Bool) (x y : MaybeNodeMeta) → length (marksMoved marks x y) ≡ length marks
+length-moved marks maybe-meta.None y = refl
+length-moved marks (maybe-meta.Some a) maybe-meta.None = refl
+length-moved marks (maybe-meta.Some a) (maybe-meta.Some b) = length-layMarks marks a b
+
+module _ (nodes links owners heads : List ℕ) (marks flags : List Bool) (held : Held) where
+  pub recounted-in : (n : ℕ) (nodes′ links′ owners′ heads′ : List ℕ) (marks′ : List Bool) (counts : Counts) {x y : MaybeNodeMeta} →
+      x ≡ metaAt (graphIn nodes links owners heads (held .counts)) n → y ≡ metaAt (graphIn nodes′ links′ owners′ heads′ counts) n → marks′ ≡ marksMoved marks x y →
+      multiIn nodes′ links′ owners′ heads′ marks′ flags (heldCounts held counts) ≡ recounted (multiIn nodes links owners heads marks flags held) n (graphIn nodes′ links′ owners′ heads′ counts)
+  unfolding recounted
+  recounted-in n nodes′ links′ owners′ heads′ marks′ counts {x} {y} e f h =
+      ap (λ (t : List Bool). multiIn nodes′ links′ owners′ heads′ t flags (heldCounts held counts)) (h ∙ (λ i. marksMoved marks (e i) (f i)))
+
+  pub count-small-in : MultiWf (multiIn nodes links owners heads marks flags held) → (n : ℕ) (d : Direction) → countIn (metaIn nodes n) d ≤ nodePorts
+  count-small-in w n d =
+      let l = lower-wf (multiIn nodes links owners heads marks flags held) w in
+      let e = count-read nodes links owners heads marks flags held l n d in
+      let h = count-small (graphIn nodes links owners heads (held .counts)) l n d in
+      omega arith
+
+-- Resizing.
+
+resized-refused : (m : MultiPortGraph) (n : ℕ) (k : NodeMeta) (i o : ℕ) (g : PortGraph) (tag : lower-set.SetAnswer → ℕ) → ((e : ℕ) → tag (lower-set-variants.Set e) ≡ 0) → (a : lower-set.SetAnswer) →
+    (tag a ≡ 1) ⊎ ((tag a ≡ 2) ⊎ ((tag a ≡ 3) ⊎ (tag a ≡ 4))) → m ≡ resized m n k i o g a
+resized-refused m n k i o g tag zeroth (lower-set-variants.Set e) t =
+    let z = zeroth e in absurd (⊎-elim (λ u. omega arith) (⊎-elim (λ u. omega arith) (⊎-elim (λ u. omega arith) (λ u. omega arith))) t)
+resized-refused m n k i o g tag zeroth lower-set-variants.TooManyPorts t = refl
+resized-refused m n k i o g tag zeroth lower-set-variants.UnknownNode t = refl
+resized-refused m n k i o g tag zeroth lower-set-variants.MovesTooShort t = refl
+resized-refused m n k i o g tag zeroth lower-set-variants.NoRoom t = refl
+
+module _ (nodes links owners heads : List ℕ) (marks flags : List Bool) (held : Held) (n : ℕ) (k : NodeMeta) (i o : ℕ) (r : Resizes (multiIn nodes links owners heads marks flags held) n k i o)
+    (b b′ : List ℕ) (nodes′ : List ℕ) {links′ owners′ heads′ : List ℕ} {counts : Counts} {a : lower-set.SetAnswer}
+    (e : graphIn nodes′ links′ owners′ heads′ counts ≡ setNumPorts (graphIn nodes links owners heads (held .counts)) n i o (length b) .graph)
+    (f : a ≡ setNumPorts (graphIn nodes links owners heads (held .counts)) n i o (length b) .answer)
+    (j : b′ ≡ movesAfter (graphIn nodes links owners heads (held .counts)) n i o b) where
+  abbrev m : MultiPortGraph
+  m = multiIn nodes links owners heads marks flags held
+
+  sized : lower-sized.PortsSet
+  sized = record { graph = graphIn nodes′ links′ owners′ heads′ counts; answer = a }
+
+  pub sized-wf : Wf (graphIn nodes′ links′ owners′ heads′ counts)
+  sized-wf = subst Wf (sym e) (wf-set (graphIn nodes links owners heads (held .counts)) n i o (length b) (lower-wf m (r .wf)))
+
+  pub resize-refused-in : {held′ : Held} {x : SetAnswer} (tag : lower-set.SetAnswer → ℕ) → ((q : ℕ) → tag (lower-set-variants.Set q) ≡ 0) → (tag a ≡ 1) ⊎ ((tag a ≡ 2) ⊎ ((tag a ≡ 3) ⊎ (tag a ≡ 4))) →
+      held′ ≡ heldCounts held counts → x ≡ setAs a →
+      (multiIn nodes′ links′ owners′ heads′ marks flags held′ ≡ setCounts m n i o (length b) .graph) × (x ≡ setCounts m n i o (length b) .answer) × (b′ ≡ movesTold m n i o b)
+  resize-refused-in {held′} {x} tag zeroth t h l =
+      let kept : withGraph m (graphIn nodes′ links′ owners′ heads′ counts) ≡ m =
+      ap (withGraph m) (e ∙ set-kept (graphIn nodes links owners heads (held .counts)) n i o (length b) tag zeroth f t) in
+      let z = set-parts (set-answered m n i o b (r .few) k (r .meta) (record { graph = graphIn nodes′ links′ owners′ heads′ counts; answer = a }) a
+      (withGraph m (graphIn nodes′ links′ owners′ heads′ counts)) b′ (r .seen) (λ v. record { graph = e v; answer = f v }) j refl
+      (kept ∙ resized-refused m n k i o (graphIn nodes′ links′ owners′ heads′ counts) tag zeroth a t)) in
+      (ap (multiIn nodes′ links′ owners′ heads′ marks flags) h ∙ z .0, l ∙ z .1, z .2)
+
+  module _ {x : MaybeNodeMeta} {marks′ : List Bool} {held′ : Held} (g : x ≡ metaIn nodes′ n) (h : marks′ ≡ marksMoved marks (maybe-meta.Some k) x) (l : held′ ≡ heldCounts held counts) where
+    pub loose-is : multiIn nodes′ links′ owners′ heads′ marks′ flags held′ ≡ recounted m n (graphIn nodes′ links′ owners′ heads′ counts)
+    loose-is =
+        ap (multiIn nodes′ links′ owners′ heads′ marks′ flags) l
+        ∙ recounted-in nodes links owners heads marks flags held n nodes′ links′ owners′ heads′ marks′ counts (r .meta)
+        (g ∙ meta-read nodes′ links′ owners′ heads′ counts n (sized-wf .holds .nodesLong)) h
+
+    pub loose-sound : Sound (multiIn nodes′ links′ owners′ heads′ marks′ flags held′)
+    loose-sound =
+        record {
+          wf = subst (λ (v : Held). Wf (graphIn nodes′ links′ owners′ heads′ (v .counts))) (sym l) sized-wf;
+          marksLong = ap length h ∙ (length-moved marks (maybe-meta.Some k) x ∙ r .wf .fine .marksLong);
+          flagsLong = r .wf .fine .flagsLong;
+        }
+
+    pub resize-done-in : (c : ℕ) (list list′ : List ℕ) {after : MultiPortGraph} {q : ℕ} {y : SetAnswer} → a ≡ lower-set-variants.Set q → c ≡ length (copiesDropped m k i o) →
+        list′ ≡ sets list 0 (copiesDropped m k i o) → length list ≡ nodePorts → after ≡ removeAll (multiIn nodes′ links′ owners′ heads′ marks′ flags held′) (take c list′) → y ≡ setAs a →
+        (after ≡ setCounts m n i o (length b) .graph) × (y ≡ setCounts m n i o (length b) .answer) × (b′ ≡ movesTold m n i o b)
+    resize-done-in c list list′ {after} {q} {y} t u v long p s =
+        let gone = loose-removed m (multiIn nodes′ links′ owners′ heads′ marks′ flags held′) after (graphIn nodes′ links′ owners′ heads′ counts) k n i o c list list′ (block-in m n k (r .wf) (r .meta)) loose-is p u v long in
+        let z = set-parts (set-answered m n i o b (r .few) k (r .meta) (record { graph = graphIn nodes′ links′ owners′ heads′ counts; answer = a }) (lower-set-variants.Set q)
+        after b′ (r .seen) (λ w. record { graph = e w; answer = f w }) j t gone) in
+        (z .0, (s ∙ ap setAs t) ∙ z .1, z .2)
+
+-- Splitting.
+
+pub hung : (g g₁ g₂ g₃ : PortGraph) (p copy old : ℕ) {a : PortLink} {far : ℕ} → g₁ ≡ unlinkPort g p .graph → a ≡ unlinkPort g p .answer → far ≡ linkNumber a → g₂ ≡ linkPorts g₁ p copy .graph → g₃ ≡ linkPorts g₂ old far .graph →
+    g₃ ≡ linkPorts (linkPorts (unlinkPort g p .graph) p copy .graph) old (farPort g p) .graph
+unfolding farPort unlinkPort
+hung g g₁ g₂ g₃ p copy old {a} {far} e f h k l =
+    let is : far ≡ linkNumber (unlinkPort g p .answer) = h ∙ ap linkNumber f in
+    let two : g₂ ≡ linkPorts (unlinkPort g p .graph) p copy .graph = k ∙ ap (λ (x : PortGraph). linkPorts x p copy .graph) e in
+    l ∙ (λ i. linkPorts (two i) old (is i) .graph)
+
+pub wf-unlinked : (g g₁ : PortGraph) (p : ℕ) → Wf g → g₁ ≡ unlinkPort g p .graph → Wf g₁
+wf-unlinked g g₁ p w e = subst Wf (sym e) (wf-unlink g p w)
+
+pub wf-linked : (g g₁ : PortGraph) (a b : ℕ) → Wf g → g₁ ≡ linkPorts g a b .graph → Wf g₁
+wf-linked g g₁ a b w e = subst Wf (sym e) (wf-link g a b w)
+
+pub wf-added : (g g₁ : PortGraph) (i o : ℕ) → Wf g → g₁ ≡ addNode g i o .graph → Wf g₁
+wf-added g g₁ i o w e = subst Wf (sym e) (wf-add g i o w)
+
+-- a refused node changes nothing
+add-kept : (g : PortGraph) (i o : ℕ) (tag : lower-add.AddAnswer → ℕ) → ((n : NodeIndex) (f : PortIndex) → tag (lower-add-variants.Added n f) ≡ 0) → {a : lower-add.AddAnswer} → a ≡ addNode g i o .answer →
+    (tag a ≡ 1) ⊎ (tag a ≡ 2) → addNode g i o .graph ≡ g
+unfolding addNode
+add-kept g i o tag zeroth {a} e t = go (leb (i + o) nodePorts) (findSlot (g .«node_free») (g .«node_len»)) (findBlock (g .«port_free») (g .«port_len») (i + o)) e
+  where
+    done : (n : NodeIndex) (f : PortIndex) → a ≡ lower-add-variants.Added n f → ⊥
+    done n f h = let z : tag a ≡ 0 = ap tag h ∙ zeroth n f in ⊎-elim (λ u. omega arith) (λ u. omega arith) t
+
+    go : (c : Bool) (x y : Found) → a ≡ pick c (addFound g i o x y) (record { graph = g; answer = lower-add-variants.TooManyPorts }) .answer →
+        pick c (addFound g i o x y) (record { graph = g; answer = lower-add-variants.TooManyPorts }) .graph ≡ g
+    go false x y h = refl
+    go true found.NoRoom y h = refl
+    go true (found.At n) found.NoRoom h = refl
+    go true (found.At n) (found.At f) h = absurd (done _ _ h)
+
+module _ (nodes links owners heads : List ℕ) (marks flags : List Bool) (held : Held) (w : MultiWf (multiIn nodes links owners heads marks flags held)) where
+  module _ (p : ℕ) (d : Direction) {i o : ℕ} (nodes₁ : List ℕ) {links₁ owners₁ heads₁ : List ℕ} {counts₁ : Counts} {a : lower-add.AddAnswer} (e₁ : i ≡ copyIn d) (e₂ : o ≡ copyOut d)
+      (e₃ : graphIn nodes₁ links₁ owners₁ heads₁ counts₁ ≡ addNode (graphIn nodes links owners heads (held .counts)) i o .graph)
+      (e₄ : a ≡ addNode (graphIn nodes links owners heads (held .counts)) i o .answer) where
+    pub split-full-in : (tag : lower-add.AddAnswer → ℕ) → ((n : NodeIndex) (f : PortIndex) → tag (lower-add-variants.Added n f) ≡ 0) → (tag a ≡ 1) ⊎ (tag a ≡ 2) → {held′ : Held} → held′ ≡ heldCounts held counts₁ →
+        _≡_ {A = Prepared} (record { graph = multiIn nodes₁ links₁ owners₁ heads₁ marks flags held′; port = 0; offset = 0; ready = false })
+        (preparedAs (multiIn nodes links owners heads marks flags held) (split (multiIn nodes links owners heads marks flags held) p d))
+    split-full-in tag zeroth t {held′} h =
+        let m = multiIn nodes links owners heads marks flags held in
+        let same : multiIn nodes₁ links₁ owners₁ heads₁ marks flags held′ ≡ m =
+        ap (multiIn nodes₁ links₁ owners₁ heads₁ marks flags) h
+        ∙ ap (withGraph m) (e₃ ∙ add-kept (graphIn nodes links owners heads (held .counts)) i o tag zeroth e₄ t) in
+        ap (λ (x : MultiPortGraph). record { graph = x; port = 0; offset = 0; ready = false }) same
+        ∙ split-full m p d {r = record { graph = graphIn nodes₁ links₁ owners₁ heads₁ counts₁; answer = a }} e₁ e₂ (λ v. record { graph = e₃ v; answer = e₄ v }) tag zeroth t
+
+    pub node-wf : Wf (graphIn nodes₁ links₁ owners₁ heads₁ counts₁)
+    node-wf = wf-added (graphIn nodes links owners heads (held .counts)) (graphIn nodes₁ links₁ owners₁ heads₁ counts₁) i o (lower-wf (multiIn nodes links owners heads marks flags held) w) e₃
+
+    pub split-done-in :
+        {n : NodeIndex} {f : PortIndex} {back : Direction} {copy old new w₁ w₂ w₃ : ℕ} (nodes₂ : List ℕ) {links₂ owners₂ heads₂ : List ℕ} {counts₂ : Counts} {t₁ t₂ t₃ : List Bool} →
+        a ≡ lower-add-variants.Added n f →
+        back ≡ reversed d →
+        copy ≡ portOfIn nodes₁ (n .0) back 0 →
+        old ≡ portOfIn nodes₁ (n .0) d 0 →
+        new ≡ portOfIn nodes₁ (n .0) d 1 →
+        graphIn nodes₂ links₂ owners₂ heads₂ counts₂
+        ≡ linkPorts (linkPorts (unlinkPort (graphIn nodes₁ links₁ owners₁ heads₁ counts₁) p .graph) p copy .graph) old (farPort (graphIn nodes₁ links₁ owners₁ heads₁ counts₁) p) .graph →
+        w₁ ≡ copy →
+        t₁ ≡ putFlag marks portSlots w₁ true →
+        w₂ ≡ p →
+        t₂ ≡ putFlag t₁ portSlots w₂ true →
+        w₃ ≡ n .0 →
+        t₃ ≡ putFlag flags nodeSlots w₃ true →
+        _≡_ {A = Prepared} (record { graph = multiIn nodes₂ links₂ owners₂ heads₂ t₂ t₃ (record { counts = counts₂; copies = held .copies + 1; subs = held .subs + 2 }); port = new; offset = 1; ready = true })
+        (preparedAs (multiIn nodes links owners heads marks flags held) (split (multiIn nodes links owners heads marks flags held) p d))
+    split-done-in {n} {f} {back} {copy} {old} {new} nodes₂ {links₂} {owners₂} {heads₂} {counts₂} {t₁} {t₂} {t₃} t b c₁ c₂ c₃ g k₁ k₂ k₃ k₄ k₅ k₆ =
+        let m = multiIn nodes links owners heads marks flags held in
+        let g₁ = graphIn nodes₁ links₁ owners₁ heads₁ counts₁ in
+        let held₁ : Held = record { counts = counts₁; copies = 0; subs = 0 } in
+        let read = port-of-read nodes₁ links₁ owners₁ heads₁ marks flags held₁ node-wf in
+        let l = linkPorts (linkPorts (unlinkPort g₁ p .graph) p copy .graph) old (farPort g₁ p) in
+        ap (λ (x : PortGraph). record { graph = record { graph = x; multiport = t₂; «copy_node» = t₃; «copy_node_count» = held .copies + 1; «subport_count» = held .subs + 2 }; port = new; offset = 1; ready = true }) g
+        ∙ split-done m p d {r = record { graph = g₁; answer = a }} e₁ e₂ (λ v. record { graph = e₃ v; answer = e₄ v })
+        {u = unlinkPort g₁ p} {h₁ = linkPorts (unlinkPort g₁ p .graph) p copy} {h₂ = l}
+        (w .fine .marksLong) (w .fine .flagsLong) t b (c₁ ∙ read (n .0) back 0) (c₂ ∙ read (n .0) d 0) (c₃ ∙ read (n .0) d 1) refl refl refl refl k₁ k₂ k₃ k₄ k₅ k₆
+
+  -- Growing.
+  module _ (c : ℕ) (d : Direction) {x y s₁ s₂ : ℕ} (b : List ℕ) (nodes₁ : List ℕ) {links₁ owners₁ heads₁ : List ℕ} {counts₁ : Counts} {a : lower-set.SetAnswer}
+      (e₁ : x ≡ countIn (metaIn nodes c) Incoming) (e₂ : y ≡ countIn (metaIn nodes c) Outgoing) (e₃ : s₁ ≡ sideNumber d) (e₄ : s₂ ≡ sideNumber d) (e₅ : length b ≡ enough)
+      (e₆ : graphIn nodes₁ links₁ owners₁ heads₁ counts₁ ≡ setNumPorts (graphIn nodes links owners heads (held .counts)) c (x + 1 - s₁) (y + s₂) (length b) .graph)
+      (e₇ : a ≡ setNumPorts (graphIn nodes links owners heads (held .counts)) c (x + 1 - s₁) (y + s₂) (length b) .answer) where
+    reads : (k : Direction) → countIn (metaIn nodes c) k ≡ numPorts (graphIn nodes links owners heads (held .counts)) c k
+    reads k = count-read nodes links owners heads marks flags held (lower-wf (multiIn nodes links owners heads marks flags held) w) c k
+
+    pub grow-full-in : (tag : lower-set.SetAnswer → ℕ) → ((q : ℕ) → tag (lower-set-variants.Set q) ≡ 0) → (tag a ≡ 1) ⊎ ((tag a ≡ 2) ⊎ ((tag a ≡ 3) ⊎ (tag a ≡ 4))) → {held′ : Held} → held′ ≡ heldCounts held counts₁ →
+        _≡_ {A = Prepared} (record { graph = multiIn nodes₁ links₁ owners₁ heads₁ marks flags held′; port = 0; offset = 0; ready = false })
+        (preparedAs (multiIn nodes links owners heads marks flags held) (grow (multiIn nodes links owners heads marks flags held) c d))
+    grow-full-in tag zeroth t {held′} h =
+        let m = multiIn nodes links owners heads marks flags held in
+        let same : multiIn nodes₁ links₁ owners₁ heads₁ marks flags held′ ≡ m =
+        ap (multiIn nodes₁ links₁ owners₁ heads₁ marks flags) h
+        ∙ ap (withGraph m) (e₆ ∙ set-kept (graphIn nodes links owners heads (held .counts)) c (x + 1 - s₁) (y + s₂) (length b) tag zeroth e₇ t) in
+        ap (λ (v : MultiPortGraph). record { graph = v; port = 0; offset = 0; ready = false }) same
+        ∙ grow-full m c d {r = record { graph = graphIn nodes₁ links₁ owners₁ heads₁ counts₁; answer = a }} (e₁ ∙ reads Incoming) (e₂ ∙ reads Outgoing) e₃ e₄ e₅ (λ v. record { graph = e₆ v; answer = e₇ v }) tag zeroth t
+
+    pub grown-wf : Wf (graphIn nodes₁ links₁ owners₁ heads₁ counts₁)
+    grown-wf = subst Wf (sym e₆) (wf-set (graphIn nodes links owners heads (held .counts)) c (x + 1 - s₁) (y + s₂) (length b) (lower-wf (multiIn nodes links owners heads marks flags held) w))
+
+    pub grow-done-in : {q k z : ℕ} {marks₁ : List Bool} {u v : MaybeNodeMeta} → a ≡ lower-set-variants.Set q → k ≡ countIn (metaIn nodes c) d → z ≡ portOfIn nodes₁ c d k →
+        u ≡ metaIn nodes c → v ≡ metaIn nodes₁ c → marks₁ ≡ marksMoved marks u v →
+        _≡_ {A = Prepared} (record { graph = multiIn nodes₁ links₁ owners₁ heads₁ marks₁ flags (record { counts = counts₁; copies = held .copies; subs = held .subs + 1 }); port = z; offset = k; ready = true })
+        (preparedAs (multiIn nodes links owners heads marks flags held) (grow (multiIn nodes links owners heads marks flags held) c d))
+    grow-done-in {q} {k} {z} {marks₁} {u} {v} t f₁ f₂ f₃ f₄ f₅ =
+        let m = multiIn nodes links owners heads marks flags held in
+        let long = w .fine .holds .nodesLong in
+        let held₁ : Held = record { counts = counts₁; copies = 0; subs = 0 } in
+        let moved = recounted-in nodes links owners heads marks flags held c nodes₁ links₁ owners₁ heads₁ marks₁ counts₁
+        (f₃ ∙ meta-read nodes links owners heads (held .counts) c long) (f₄ ∙ meta-read nodes₁ links₁ owners₁ heads₁ counts₁ c (grown-wf .holds .nodesLong)) f₅ in
+        grow-done m c d {r = record { graph = graphIn nodes₁ links₁ owners₁ heads₁ counts₁; answer = a }} (e₁ ∙ reads Incoming) (e₂ ∙ reads Outgoing) e₃ e₄ e₅ (λ i. record { graph = e₆ i; answer = e₇ i })
+        {g = multiIn nodes₁ links₁ owners₁ heads₁ marks₁ flags (heldCounts held counts₁)} t (f₁ ∙ reads d)
+        (f₂ ∙ port-of-read nodes₁ links₁ owners₁ heads₁ marks flags held₁ grown-wf c d k) moved
+
+-- Preparing.
+module _ {m : MultiPortGraph} {p : ℕ} {d : Direction} (b : OnBlock m p d) {r : EndNeed} (e : r ≡ needIn (m .multiport) (m .graph .«port_link») (m .graph .«port_meta») p d) where
+  prepared-by : (v : EndNeed) → r ≡ v → preparedAs m (preparedBy m p d v) ≡ preparedAs m (prepare m p d)
+  prepared-by v t = ap (preparedAs m) (ap (preparedBy m p d) (sym t ∙ e) ∙ sym (need-law (b .wf) p (b .node) d (b .is)))
+
+  pub prepared-ready : {x o : ℕ} → r ≡ need.Ready x o → _≡_ {A = Prepared} (record { graph = m; port = x; offset = o; ready = true }) (preparedAs m (prepare m p d))
+  prepared-ready {x} {o} t = prepared-by (need.Ready x o) t
+
+  pub prepared-split : {s : Prepared} → r ≡ need.Split → s ≡ preparedAs m (split m p d) → s ≡ preparedAs m (prepare m p d)
+  prepared-split t h = h ∙ prepared-by need.Split t
+
+  pub prepared-grow : {s : Prepared} {c : ℕ} → r ≡ need.Grow → c ≡ copyNode m p → s ≡ preparedAs m (grow m c d) → s ≡ preparedAs m (prepare m p d)
+  prepared-grow t f h = h ∙ (ap (λ (c : ℕ). preparedAs m (grow m c d)) f ∙ prepared-by need.Grow t)
+
+-- Linking.
+
+pub first-parts : (m : MultiPortGraph) (a : ℕ) (d : Direction) (b : ℕ) {g : MultiPortGraph} (r : PreparedIn) → preparedIn g r ≡ preparedAs m (prepare m a d) → r .ready ≡ true →
+    (g ≡ linkFirst m b (prepare m a d) .graph) × (link.Refused (UnknownSecondPort (port# b)) ≡ linkFirst m b (prepare m a d) .answer)
+first-parts m a d b {g} r e t = link-parts (first-ready m a d b (preparedIn g r) e t refl)
+
+-- an end that is not prepared leaves the graph
+unchanged : (m : MultiPortGraph) (p : calls.Prepared) {g : MultiPortGraph} (r : PreparedIn) → preparedIn g r ≡ preparedAs m p → r .ready ≡ false → g ≡ m
+unchanged m (calls.ready k q o) {g} r e t = absurd (zero-is-not-one (let h : r .ready ≡ true = ap (λ (s : Prepared). s .ready) e in cc))
+unchanged m calls.full r e t = ap (λ (s : Prepared). s .graph) e
+
+pub first-none : (m : MultiPortGraph) (a : ℕ) (d : Direction) (b : ℕ) {g : MultiPortGraph} (r : PreparedIn) → preparedIn g r ≡ preparedAs m (prepare m a d) → r .ready ≡ false →
+    (g ≡ linkFirst m b (prepare m a d) .graph) × (link.Refused NoRoom ≡ linkFirst m b (prepare m a d) .answer)
+first-none m a d b {g} r e t =
+    link-parts (first-full m a d b (preparedIn g r) e t (ap (λ (x : MultiPortGraph). linkRefused x NoRoom) (unchanged m (prepare m a d) r e t)))
+
+module _ {m : MultiPortGraph} {a : ℕ} {d : Direction} {b : ℕ} {e : Direction} {g : MultiPortGraph} (r : PreparedIn) (h : preparedIn g r ≡ preparedAs m (prepare m a d)) where
+  pub tried-none : {answer : LinkAnswer} → r .ready ≡ false → answer ≡ link.Refused NoRoom → Tried m a d b e g answer true
+  tried-none t f =
+      record {
+        whole = λ z. both-full m a d b e (preparedIn g r) h t (λ i. record { graph = unchanged m (prepare m a d) r h t i; answer = f i });
+        short = λ z. absurd (zero-is-not-one (cc));
+      }
+
+  module _ (t : r .ready ≡ true) {k : MultiPortGraph} (s : PreparedIn) (j : preparedIn k s ≡ preparedAs g (prepare g b e)) where
+    pub tried-short : (answer : LinkAnswer) → s .ready ≡ false → Tried m a d b e k answer false
+    tried-short answer u =
+        record {
+          whole = λ z. absurd (zero-is-not-one (cc));
+          short = λ z. sym (second-full m a d b e (preparedIn g r) h t (preparedIn k s) j u refl);
+        }
+
+    pub tried-same : s .ready ≡ true → sameSide d e ≡ true → Tried m a d b e k (link.Refused (IncompatibleDirections (port# (r .port)) (port# (s .port)) d)) true
+    tried-same u c =
+        record {
+          whole = λ z. one-side m a d b e (preparedIn g r) h t (preparedIn k s) j u c refl;
+          short = λ z. absurd (zero-is-not-one (cc));
+        }
+
+    pub tried-linked : {v : MultiPortGraph} (l : lower-linked.PortsLinked) → s .ready ≡ true → sameSide d e ≡ false → l ≡ linkPorts (k .graph) (r .port) (s .port) → v ≡ withGraph k (l .graph) →
+        Tried m a d b e v (link.Linked (subport# a (r .offset)) (subport# b (s .offset))) true
+    tried-linked {v} l u c i q =
+        record {
+          whole = λ z. ap (λ (x : MultiPortGraph). record { graph = x; answer = link.Linked (subport# a (r .offset)) (subport# b (s .offset)) }) q ∙ both-linked m a d b e (preparedIn g r) h t (preparedIn k s) j l u c i;
+          short = λ z. absurd (zero-is-not-one (cc));
+        }
+
+pub second-on-block : {m : MultiPortGraph} {a : ℕ} {d : Direction} {b : ℕ} {e : Direction} {g : MultiPortGraph} (r : PreparedIn) → BothOnBlock m a d b e → preparedIn g r ≡ preparedAs m (prepare m a d) → r .ready ≡ true → OnBlock g b e
+second-on-block {m} {a} {d} {b} {e} {g} r w h t = others-stay (w .first) (preparedIn g r) h t b e (w .second)
+
+module _ {m : MultiPortGraph} {a : ℕ} {d : Direction} {b : ℕ} {e : Direction} {g : MultiPortGraph} {answer : LinkAnswer} {done : Bool} (t : Tried m a d b e g answer done) where
+  pub tried-done : done ≡ true → (g ≡ linkBoth m a d b e (prepare m a d) .graph) × (answer ≡ linkBoth m a d b e (prepare m a d) .answer)
+  tried-done h = link-parts (t .whole h)
+
+  pub tried-undone : done ≡ false → (m ≡ linkBoth m a d b e (prepare m a d) .graph) × (link.Refused NoRoom ≡ linkBoth m a d b e (prepare m a d) .answer)
+  tried-undone h = link-parts (sym (t .short h))
+
+-- with plenty of room nothing is undone
+pub tried-plenty : (nodes links owners heads : List ℕ) (marks flags : List Bool) (held : Held) {a : ℕ} {d : Direction} {b : ℕ} {e : Direction} {g : MultiPortGraph} {answer : LinkAnswer} {done : Bool} →
+    BothOnBlock (multiIn nodes links owners heads marks flags held) a d b e → plenty held ≡ true → Tried (multiIn nodes links owners heads marks flags held) a d b e g answer done →
+    (g ≡ linkBoth (multiIn nodes links owners heads marks flags held) a d b e (prepare (multiIn nodes links owners heads marks flags held) a d) .graph)
+    × (answer ≡ linkBoth (multiIn nodes links owners heads marks flags held) a d b e (prepare (multiIn nodes links owners heads marks flags held) a d) .answer)
+tried-plenty nodes links owners heads marks flags held {done = true} w p t = tried-done t refl
+tried-plenty nodes links owners heads marks flags held {done = false} w p t =
+    let r = plenty-told held p in absurd (never-short w (r .0) (r .1) (t .short refl))
+
+-- the plenty that the code tests
+module _ (held : Held) where
+  pub plenty-nodes : nodeSlots - 2 < held .counts .«node_len» → false ≡ plenty held
+  unfolding plenty
+  plenty-nodes h = rw (lt-leb (held .counts .«node_len») (nodeSlots - 2) h)
+
+  module _ (a : held .counts .«node_len» ≤ nodeSlots - 2) where
+    pub plenty-ports : portSlots < held .counts .«port_len» → false ≡ plenty held
+    unfolding plenty
+    plenty-ports h = rw (le-leb (held .counts .«node_len») (nodeSlots - 2) a, lt-leb (held .counts .«port_len») portSlots h)
+
+    module _ (b : held .counts .«port_len» ≤ portSlots) where
+      pub plenty-subs : portSlots < held .subs → false ≡ plenty held
+      unfolding plenty
+      plenty-subs h = rw (le-leb (held .counts .«node_len») (nodeSlots - 2) a, le-leb (held .counts .«port_len») portSlots b, lt-leb (held .subs) portSlots h)
+
+      pub plenty-all : held .subs ≤ portSlots → leb (held .counts .«port_len» + 4 * held .subs + 12) portSlots ≡ plenty held
+      unfolding plenty
+      plenty-all h = rw (le-leb (held .counts .«node_len») (nodeSlots - 2) a, le-leb (held .counts .«port_len») portSlots b, le-leb (held .subs) portSlots h)
+
+-- Two ports.
+module _ {m : MultiPortGraph} (w : MultiWf m) (a b : ℕ) {r : LinkNeed} (e : r ≡ linkNeed (m .multiport) (m .graph .«port_link») (m .graph .«port_meta») (m .«copy_node») a b) where
+  pub call-refused-in : {x : Refusal} → r ≡ needs.Refused x → (m ≡ linkCall m a b .graph) × (link.Refused x ≡ linkCall m a b .answer)
+  call-refused-in {x} t = link-parts (call-done w a b e t refl)
+
+  pub call-first-in : {d : Direction} {g : MultiPortGraph} {y : LinkAnswer} → r ≡ needs.First d → (g ≡ linkFirst m b (prepare m a d) .graph) × (y ≡ linkFirst m b (prepare m a d) .answer) → (g ≡ linkCall m a b .graph) × (y ≡ linkCall m a b .answer)
+  call-first-in t h = link-parts (call-done w a b e t (λ i. record { graph = h .0 i; answer = h .1 i }))
+
+  pub call-both-in : {d f : Direction} {g : MultiPortGraph} {y : LinkAnswer} → r ≡ needs.Both d f → (g ≡ linkBoth m a d b f (prepare m a d) .graph) × (y ≡ linkBoth m a d b f (prepare m a d) .answer) → (g ≡ linkCall m a b .graph) × (y ≡ linkCall m a b .answer)
+  call-both-in t h = link-parts (call-done w a b e t (λ i. record { graph = h .0 i; answer = h .1 i }))
+
+  -- where the first end is to be prepared, it is a port of a block
+  first-side : (d : Direction) (v : EndNeed) (j : Direction) → firstReady b d v ≡ needs.First j → d ≡ j
+  first-side d (need.Ready x o) j h = absurd (zero-is-not-one (cc))
+  first-side d need.Grow j h = cc
+  first-side d need.Split j h = cc
+
+  ends-not-first : (d f : Direction) (x o y i : ℕ) (c : Bool) (j : Direction) → pick c (needs.Refused (IncompatibleDirections (port# x) (port# y) d)) (needs.Ends x o y i) ≡ needs.First j → ⊥
+  ends-not-first d f x o y i true j h = zero-is-not-one (cc)
+  ends-not-first d f x o y i false j h = zero-is-not-one (cc)
+
+  both-not-first : (d f : Direction) (u v : EndNeed) (j : Direction) → bothReady d f u v ≡ needs.First j → ⊥
+  both-not-first d f (need.Ready x o) (need.Ready y i) j h = ends-not-first d f x o y i (sameSide d f) j h
+  both-not-first d f (need.Ready x o) need.Grow j h = zero-is-not-one (cc)
+  both-not-first d f (need.Ready x o) need.Split j h = zero-is-not-one (cc)
+  both-not-first d f need.Grow v j h = zero-is-not-one (cc)
+  both-not-first d f need.Split v j h = zero-is-not-one (cc)
+
+  on-first : (u v : Port) (j : Direction) → seen m a ≡ u → linkSeen (m .multiport) (m .graph .«port_link») (m .graph .«port_meta») (m .«copy_node») a b u v ≡ needs.First j → OnBlock m a j
+  unfolding firstNeed bothNeed
+  on-first dead v j s h = absurd (zero-is-not-one (cc))
+  on-first hidden v j s h = absurd (zero-is-not-one (cc))
+  on-first (visible n d) hidden j s h = absurd (zero-is-not-one (cc))
+  on-first (visible n d) dead j s h =
+      record { wf = w; node = n; is = s ∙ ap (visible n) (first-side d (needIn (m .multiport) (m .graph .«port_link») (m .graph .«port_meta») a d) j h) }
+  on-first (visible n d) (visible k f) j s h =
+      absurd (both-not-first d f (needIn (m .multiport) (m .graph .«port_link») (m .graph .«port_meta») a d) (needIn (m .multiport) (m .graph .«port_link») (m .graph .«port_meta») b f) j h)
+
+  pub first-on-block : {d : Direction} → r ≡ needs.First d → OnBlock m a d
+  unfolding linkNeed
+  first-on-block {d} t = on-first (seenIn (m .graph .«port_meta») (m .«copy_node») a) (seenIn (m .graph .«port_meta») (m .«copy_node») b) d (sym (seen-read (w .fine) a)) (sym e ∙ t)
+
+pub call-linked-in : (nodes links owners heads : List ℕ) (marks flags : List Bool) (held : Held) (w : MultiWf (multiIn nodes links owners heads marks flags held)) (a b : ℕ) {r : LinkNeed} {x o y i n : ℕ} {links′ : List ℕ} {held′ : Held} →
+    r ≡ linkNeed marks links owners flags a b → r ≡ needs.Ends x o y i → links′ ≡ tables.linkBoth links x y → n ≡ held .counts .«link_count» + 1 → held′ ≡ heldLinks held n →
+    (multiIn nodes links′ owners heads marks flags held′ ≡ linkCall (multiIn nodes links owners heads marks flags held) a b .graph)
+    × (link.Linked (subport# a o) (subport# b i) ≡ linkCall (multiIn nodes links owners heads marks flags held) a b .answer)
+call-linked-in nodes links owners heads marks flags held w a b {r} {x} {o} {y} {i} {n} {links′} {held′} e t f g h =
+    let m = multiIn nodes links owners heads marks flags held in
+    let z = link-parts (call-done w a b {l = record { graph = multiIn nodes links′ owners heads marks flags (heldLinks held (held .counts .«link_count» + 1)); answer = link.Linked (subport# a o) (subport# b i) }} e t (ends-joined m a b x o y i f)) in
+    (ap (multiIn nodes links′ owners heads marks flags) (h ∙ ap (heldLinks held) g) ∙ z .0, z .1)

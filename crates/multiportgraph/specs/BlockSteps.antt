@@ -32,6 +32,9 @@ use Rattle.portgraph.specs.declared.portgraph.PortGraph.{PortGraph}
 use Rattle.multiportgraph.specs.Reading.{portOf, isHidden, isSplit, copyNode, copySide}
 use Rattle.multiportgraph.specs.Calls.{withGraph, removeNumbers, setNumbers, removeCopy, unsplit, unsplitRange, removeRefused, dropBlock, removeMeta, removeBlock, recounted, copiesIn, copiesDropped, removeLone, removeAll, setRefused, setAs, resized, setMeta, setCounts, toldMeta, movesTold}
 use Rattle.multiportgraph.specs.Inner.{MultiWf}
+use Rattle.multiportgraph.specs.Forms.{flagAt}
+use Rattle.multiportgraph.specs.FormSteps.{flag-inside}
+use Rattle.multiportgraph.specs.CopySteps.{unsplit-plain}
 use Rattle.multiportgraph.specs.declared.multiportgraph.Refusal.the-variants.{TooManyPorts, UnknownNode, HiddenNode}
 use Rattle.multiportgraph.specs.declared.multiportgraph.RemoveAnswer.the-variants as remove
 use Rattle.multiportgraph.specs.declared.multiportgraph.NodeRemoved.{NodeRemoved}
@@ -76,6 +79,11 @@ unsplit-turn m m′ p w k n h f e =
     let one : n - k ≡ suc (n - (k + 1)) = omega arith in
     let a : p + (k + 1) ≡ suc (p + k) = omega arith in
     rw (e, f, one, a)
+
+-- a port of the range that is not marked has none
+pub unsplit-none : (m m′ : MultiPortGraph) (p : ℕ) (b : Bool) → p < portSlots → b ≡ flagAt (m .multiport) portSlots p → b ≡ false → m′ ≡ m → m′ ≡ unsplit m p
+unfolding isSplit
+unsplit-none m m′ p b l f g e = e ∙ unsplit-plain m p (flag-inside (m .multiport) portSlots p l ∙ (sym f ∙ g))
 
 pub unsplit-done : (m : MultiPortGraph) (p k n : ℕ) → n ≤ k → m ≡ unsplitRange m p (n - k)
 unfolding unsplitRange

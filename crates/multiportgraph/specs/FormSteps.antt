@@ -17,12 +17,11 @@ use Rattle.portgraph.specs.declared.direction.Direction.the-variants.{Incoming,
 use Rattle.portgraph.specs.declared.node_entry.NodeMeta.{NodeMeta}
 use Rattle.portgraph.specs.declared.port_entry.PortMeta.{PortMeta}
 use Rattle.portgraph.specs.declared.port_entry.PortEntry.the-variants as port-variants
-use Rattle.multiportgraph.specs.Reading.{farPort, ownerOf, portOf, positionOf, isHidden, isSplit, hidden, visible, seenEntry, seen, copyNode, subports, subportAt, endAt, subport#, asRead, copySide, mainPort, subportOf}
+use Rattle.multiportgraph.specs.Reading.{farPort, ownerOf, portOf, isHidden, isSplit, hidden, visible, seenEntry, seen, copyNode, subports, copySide}
 use Rattle.multiportgraph.specs.Calls.{layRange, layMarks}
-use Rattle.multiportgraph.specs.Forms.{flagAt, putFlag, seenAs, endAs}
+use Rattle.multiportgraph.specs.Forms.{flagAt, putFlag, seenAs}
 use Rattle.multiportgraph.specs.declared.multiportgraph.MultiPortGraph.{MultiPortGraph}
 use Rattle.multiportgraph.specs.declared.ends.SeenPort.the-variants as seen-port
-use Rattle.multiportgraph.specs.declared.ends.EndFound.the-variants as end-found
 
 -- Flags in a table of a size.
 
@@ -137,32 +136,6 @@ module _ (m : MultiPortGraph) where
   unfolding subports
   subports-found p d c r e f = f ∙ ap (λ x. numPorts (m .graph) x d) e
 
-  module _ (p : ℕ) (d : Direction) (o : ℕ) where
-    pub end-split : (w n c q : ℕ) → isSplit m p ≡ true → w ≡ o → n ≡ subports m p d → w < n → c ≡ copyNode m p → q ≡ portOf (m .graph) c d o
-        → end-found.At q ≡ endAs (endAt m p d o)
-    unfolding endAt subportAt
-    end-split w n c q s e f l g h =
-        let inside : o < subports m p d = omega arith in
-        rw (s, lt-ltb o (subports m p d) inside) (ap end-found.At (h ∙ ap (λ x. portOf (m .graph) x d o) g))
-
-    pub end-lacking : (w n : ℕ) → isSplit m p ≡ true → w ≡ o → n ≡ subports m p d → n ≤ w → end-found.Lacking ≡ endAs (endAt m p d o)
-    unfolding endAt
-    end-lacking w n s e f l =
-        let outside : subports m p d ≤ o = omega arith in
-        rw (s, le-ltb o (subports m p d) outside)
-
-    pub end-plain : isSplit m p ≡ false → end-found.At p ≡ endAs (endAt m p d o)
-    unfolding endAt
-    end-plain s = rw s
-
-  pub read-split : (p o : ℕ) → isSplit m p ≡ true → subport# p o ≡ asRead m p o
-  unfolding asRead
-  read-split p o s = rw s
-
-  pub read-plain : (p o : ℕ) → isSplit m p ≡ false → subport# p 0 ≡ asRead m p o
-  unfolding asRead
-  read-plain p o s = rw s
-
   module _ (c a : ℕ) (e : a ≡ numPorts (m .graph) c Incoming) where
     pub side-other : (a ≡ 1 → ⊥) → Outgoing ≡ copySide m c
     unfolding copySide
@@ -178,20 +151,3 @@ module _ (m : MultiPortGraph) where
       unfolding copySide
       side-by-mark q two s =
           rw (eq-eqb (numPorts (m .graph) c Incoming) 1 (sym e ∙ one), eq-eqb (numPorts (m .graph) c Outgoing) 1 (sym f ∙ two), s)
-
-  pub main-found : (c p r : ℕ) (d : Direction) → d ≡ copySide m c → p ≡ portOf (m .graph) c d 0 → r ≡ farPort (m .graph) p → r ≡ mainPort m c
-  unfolding mainPort
-  main-found c p r d e f g = g ∙ ap (farPort (m .graph)) (f ∙ ap (λ x. portOf (m .graph) c x 0) e)
-
-  pub subport-hidden : (q n k i : ℕ) → n ≡ ownerOf (m .graph) q → isHidden m n ≡ true → k ≡ mainPort m n → i ≡ positionOf (m .graph) q
-      → subport# k i ≡ subportOf m q
-  unfolding subportOf
-  subport-hidden q n k i e h f g =
-      let told : isHidden m (ownerOf (m .graph) q) ≡ true = ap (isHidden m) (sym e) ∙ h in
-      rw (told, f, g, e)
-
-  pub subport-plain : (q n : ℕ) → n ≡ ownerOf (m .graph) q → isHidden m n ≡ false → subport# q 0 ≡ subportOf m q
-  unfolding subportOf
-  subport-plain q n e h =
-      let told : isHidden m (ownerOf (m .graph) q) ≡ false = ap (isHidden m) (sym e) ∙ h in
-      rw told

@@ -12,6 +12,7 @@ use borrow.Author.Tests.{le-leb, lt-leb}
 use Rattle.portgraph.specs.Limits.{nodeSlots, portSlots, nodePorts}
 use Rattle.portgraph.specs.Entries.{pick, reversed, sideNumber}
 use Rattle.portgraph.specs.Tables as tables
+use Rattle.portgraph.specs.Tables.{at, linkCount}
 use Rattle.portgraph.specs.Meaning.{sameSide}
 use Rattle.portgraph.specs.Lookups.{port#, metaAt, countIn, numPorts}
 use Rattle.portgraph.specs.Model.{Wf}
@@ -49,13 +50,16 @@ use Rattle.multiportgraph.specs.Calls.{withGraph, copiesDropped, recount
 use Rattle.multiportgraph.specs.Forms.{putFlag, preparedAs}
 use Rattle.multiportgraph.specs.MarkLaws.{length-layMarks}
 use Rattle.multiportgraph.specs.BlockSteps.{loose-removed, set-answered, block-in, copies-dropped-few}
-use Rattle.multiportgraph.specs.PrepareSteps.{lower-wf, count-small, split-full, split-done, grow-full, grow-done}
+use Rattle.multiportgraph.specs.PrepareSteps.{lower-wf, split-full}
+use Rattle.multiportgraph.specs.SplitLaws.{SplitTables}
+use Rattle.multiportgraph.specs.GrowLaws.{GrowTables}
+use Rattle.multiportgraph.specs.TableSteps.{split-told, split-done, grow-full, grow-told, grow-done}
 use Rattle.multiportgraph.specs.Inner.{MultiWf}
-use Rattle.multiportgraph.specs.LinkSteps.{OnBlock, BothOnBlock, others-stay, still-wf, first-ready, first-full, both-full, second-full, one-side, both-linked}
+use Rattle.multiportgraph.specs.LinkSteps.{OnBlock, BothOnBlock, LinkedPort, SplitPort, others-stay, still-wf, first-ready, first-full, both-full, second-full, one-side, both-linked}
 use Rattle.multiportgraph.specs.Named.{needIn, preparedBy, firstReady, bothReady, secondReady, endsReady, linkSeen, linkNeed, linkedBy, firstNeed, bothNeed}
 use Rattle.multiportgraph.specs.NamedLaws.{need-law, call-done, ends-joined}
 use Rattle.multiportgraph.specs.ReadLaws.{seen-read}
-use Rattle.multiportgraph.specs.Reads.{seenIn}
+use Rattle.multiportgraph.specs.Reads.{farIn, ownerIn, seenIn, subportsIn, firstIn, hangOn, copyAt, subportsAt, grownIn, grownOut}
 use Rattle.multiportgraph.specs.MultiLent.{multiIn, heldCounts, heldLinks, portOfIn, copyNodeIn, Sound, FitsIf, Resizes, preparedIn, Tried, plenty}
 use Rattle.multiportgraph.specs.LentLaws.{port-of-read, count-read, copy-node-read, never-short, plenty-told}
 use Rattle.multiportgraph.specs.LentSteps.{set-kept, set-parts, link-parts}
@@ -88,13 +92,6 @@ module _ (nodes links owners heads : List ℕ) (marks flags : List Bool) (held :
   unfolding recounted
   recounted-in n nodes′ links′ owners′ heads′ marks′ counts {x} {y} e f h =
       ap (λ (t : List Bool). multiIn nodes′ links′ owners′ heads′ t flags (heldCounts held counts)) (h ∙ (λ i. marksMoved marks (e i) (f i)))
-
-  pub count-small-in : MultiWf (multiIn nodes links owners heads marks flags held) → (n : ℕ) (d : Direction) → countIn (metaIn nodes n) d ≤ nodePorts
-  count-small-in w n d =
-      let l = lower-wf (multiIn nodes links owners heads marks flags held) w in
-      let e = count-read nodes links owners heads marks flags held l n d in
-      let h = count-small (graphIn nodes links owners heads (held .counts)) l n d in
-      omega arith
 
 -- Resizing.
 
@@ -158,23 +155,6 @@ module _ (nodes links owners heads : List ℕ) (marks flags : List Bool) (held :
 
 -- Splitting.
 
-pub hung : (g g₁ g₂ g₃ : PortGraph) (p copy old : ℕ) {a : PortLink} {far : ℕ} → g₁ ≡ unlinkPort g p .graph → a ≡ unlinkPort g p .answer → far ≡ linkNumber a → g₂ ≡ linkPorts g₁ p copy .graph → g₃ ≡ linkPorts g₂ old far .graph →
-    g₃ ≡ linkPorts (linkPorts (unlinkPort g p .graph) p copy .graph) old (farPort g p) .graph
-unfolding farPort unlinkPort
-hung g g₁ g₂ g₃ p copy old {a} {far} e f h k l =
-    let is : far ≡ linkNumber (unlinkPort g p .answer) = h ∙ ap linkNumber f in
-    let two : g₂ ≡ linkPorts (unlinkPort g p .graph) p copy .graph = k ∙ ap (λ (x : PortGraph). linkPorts x p copy .graph) e in
-    l ∙ (λ i. linkPorts (two i) old (is i) .graph)
-
-pub wf-unlinked : (g g₁ : PortGraph) (p : ℕ) → Wf g → g₁ ≡ unlinkPort g p .graph → Wf g₁
-wf-unlinked g g₁ p w e = subst Wf (sym e) (wf-unlink g p w)
-
-pub wf-linked : (g g₁ : PortGraph) (a b : ℕ) → Wf g → g₁ ≡ linkPorts g a b .graph → Wf g₁
-wf-linked g g₁ a b w e = subst Wf (sym e) (wf-link g a b w)
-
-pub wf-added : (g g₁ : PortGraph) (i o : ℕ) → Wf g → g₁ ≡ addNode g i o .graph → Wf g₁
-wf-added g g₁ i o w e = subst Wf (sym e) (wf-add g i o w)
-
 -- a refused node changes nothing
 add-kept : (g : PortGraph) (i o : ℕ) (tag : lower-add.AddAnswer → ℕ) → ((n : NodeIndex) (f : PortIndex) → tag (lower-add-variants.Added n f) ≡ 0) → {a : lower-add.AddAnswer} → a ≡ addNode g i o .answer →
     (tag a ≡ 1) ⊎ (tag a ≡ 2) → addNode g i o .graph ≡ g
@@ -191,7 +171,7 @@ add-kept g i o tag zeroth {a} e t = go (leb (i + o) nodePorts) (findSlot (g .«n
     go true (found.At n) found.NoRoom h = refl
     go true (found.At n) (found.At f) h = absurd (done _ _ h)
 
-module _ (nodes links owners heads : List ℕ) (marks flags : List Bool) (held : Held) (w : MultiWf (multiIn nodes links owners heads marks flags held)) where
+module _ (nodes links owners heads : List ℕ) (marks flags : List Bool) (held : Held) where
   module _ (p : ℕ) (d : Direction) {i o : ℕ} (nodes₁ : List ℕ) {links₁ owners₁ heads₁ : List ℕ} {counts₁ : Counts} {a : lower-add.AddAnswer} (e₁ : i ≡ copyIn d) (e₂ : o ≡ copyOut d)
       (e₃ : graphIn nodes₁ links₁ owners₁ heads₁ counts₁ ≡ addNode (graphIn nodes links owners heads (held .counts)) i o .graph)
       (e₄ : a ≡ addNode (graphIn nodes links owners heads (held .counts)) i o .answer) where
@@ -206,86 +186,68 @@ module _ (nodes links owners heads : List ℕ) (marks flags : List Bool) (held :
         ap (λ (x : MultiPortGraph). record { graph = x; port = 0; offset = 0; ready = false }) same
         ∙ split-full m p d {r = record { graph = graphIn nodes₁ links₁ owners₁ heads₁ counts₁; answer = a }} e₁ e₂ (λ v. record { graph = e₃ v; answer = e₄ v }) tag zeroth t
 
-    pub node-wf : Wf (graphIn nodes₁ links₁ owners₁ heads₁ counts₁)
-    node-wf = wf-added (graphIn nodes links owners heads (held .counts)) (graphIn nodes₁ links₁ owners₁ heads₁ counts₁) i o (lower-wf (multiIn nodes links owners heads marks flags held) w) e₃
+    module _ (b : LinkedPort (multiIn nodes links owners heads marks flags held) p d) where
+      pub node-wf : Wf (graphIn nodes₁ links₁ owners₁ heads₁ counts₁)
+      node-wf = subst Wf (sym e₃) (wf-add (graphIn nodes links owners heads (held .counts)) i o (lower-wf (multiIn nodes links owners heads marks flags held) (b .block .wf)))
 
-    pub split-done-in :
-        {n : NodeIndex} {f : PortIndex} {back : Direction} {copy old new w₁ w₂ w₃ : ℕ} (nodes₂ : List ℕ) {links₂ owners₂ heads₂ : List ℕ} {counts₂ : Counts} {t₁ t₂ t₃ : List Bool} →
-        a ≡ lower-add-variants.Added n f →
-        back ≡ reversed d →
-        copy ≡ portOfIn nodes₁ (n .0) back 0 →
-        old ≡ portOfIn nodes₁ (n .0) d 0 →
-        new ≡ portOfIn nodes₁ (n .0) d 1 →
-        graphIn nodes₂ links₂ owners₂ heads₂ counts₂
-        ≡ linkPorts (linkPorts (unlinkPort (graphIn nodes₁ links₁ owners₁ heads₁ counts₁) p .graph) p copy .graph) old (farPort (graphIn nodes₁ links₁ owners₁ heads₁ counts₁) p) .graph →
-        w₁ ≡ copy →
-        t₁ ≡ putFlag marks portSlots w₁ true →
-        w₂ ≡ p →
-        t₂ ≡ putFlag t₁ portSlots w₂ true →
-        w₃ ≡ n .0 →
-        t₃ ≡ putFlag flags nodeSlots w₃ true →
-        _≡_ {A = Prepared} (record { graph = multiIn nodes₂ links₂ owners₂ heads₂ t₂ t₃ (record { counts = counts₂; copies = held .copies + 1; subs = held .subs + 2 }); port = new; offset = 1; ready = true })
-        (preparedAs (multiIn nodes links owners heads marks flags held) (split (multiIn nodes links owners heads marks flags held) p d))
-    split-done-in {n} {f} {back} {copy} {old} {new} nodes₂ {links₂} {owners₂} {heads₂} {counts₂} {t₁} {t₂} {t₃} t b c₁ c₂ c₃ g k₁ k₂ k₃ k₄ k₅ k₆ =
-        let m = multiIn nodes links owners heads marks flags held in
-        let g₁ = graphIn nodes₁ links₁ owners₁ heads₁ counts₁ in
-        let held₁ : Held = record { counts = counts₁; copies = 0; subs = 0 } in
-        let read = port-of-read nodes₁ links₁ owners₁ heads₁ marks flags held₁ node-wf in
-        let l = linkPorts (linkPorts (unlinkPort g₁ p .graph) p copy .graph) old (farPort g₁ p) in
-        ap (λ (x : PortGraph). record { graph = record { graph = x; multiport = t₂; «copy_node» = t₃; «copy_node_count» = held .copies + 1; «subport_count» = held .subs + 2 }; port = new; offset = 1; ready = true }) g
-        ∙ split-done m p d {r = record { graph = g₁; answer = a }} e₁ e₂ (λ v. record { graph = e₃ v; answer = e₄ v })
-        {u = unlinkPort g₁ p} {h₁ = linkPorts (unlinkPort g₁ p .graph) p copy} {h₂ = l}
-        (w .fine .marksLong) (w .fine .flagsLong) t b (c₁ ∙ read (n .0) back 0) (c₂ ∙ read (n .0) d 0) (c₃ ∙ read (n .0) d 1) refl refl refl refl k₁ k₂ k₃ k₄ k₅ k₆
+      module _ {n : NodeIndex} {f : PortIndex} (t : a ≡ lower-add-variants.Added n f) where
+        pub split-told-in : SplitTables p d (graphIn nodes₁ links₁ owners₁ heads₁ counts₁) (n .0) (f .0)
+        split-told-in = split-told b {r = record { graph = graphIn nodes₁ links₁ owners₁ heads₁ counts₁; answer = a }} e₁ e₂ (λ v. record { graph = e₃ v; answer = e₄ v }) t
 
-  -- Growing.
-  module _ (c : ℕ) (d : Direction) {x y s₁ s₂ : ℕ} (b : List ℕ) (nodes₁ : List ℕ) {links₁ owners₁ heads₁ : List ℕ} {counts₁ : Counts} {a : lower-set.SetAnswer}
-      (e₁ : x ≡ countIn (metaIn nodes c) Incoming) (e₂ : y ≡ countIn (metaIn nodes c) Outgoing) (e₃ : s₁ ≡ sideNumber d) (e₄ : s₂ ≡ sideNumber d) (e₅ : length b ≡ enough)
-      (e₆ : graphIn nodes₁ links₁ owners₁ heads₁ counts₁ ≡ setNumPorts (graphIn nodes links owners heads (held .counts)) c (x + 1 - s₁) (y + s₂) (length b) .graph)
-      (e₇ : a ≡ setNumPorts (graphIn nodes links owners heads (held .counts)) c (x + 1 - s₁) (y + s₂) (length b) .answer) where
-    reads : (k : Direction) → countIn (metaIn nodes c) k ≡ numPorts (graphIn nodes links owners heads (held .counts)) c k
-    reads k = count-read nodes links owners heads marks flags held (lower-wf (multiIn nodes links owners heads marks flags held) w) c k
+        pub split-done-in :
+            {ca copy sa old was left w₁ w₂ w₃ : ℕ} {links₂ : List ℕ} {t₁ t₂ t₃ : List Bool} {held′ : Held} →
+            ca ≡ copyAt d →
+            copy ≡ f .0 + ca →
+            sa ≡ subportsAt d →
+            old ≡ f .0 + sa →
+            was ≡ at links₁ p →
+            links₂ ≡ hangOn links₁ p copy old →
+            left ≡ counts₁ .«link_count» - linkCount was →
+            w₁ ≡ copy →
+            t₁ ≡ putFlag marks portSlots w₁ true →
+            w₂ ≡ p →
+            t₂ ≡ putFlag t₁ portSlots w₂ true →
+            w₃ ≡ n .0 →
+            t₃ ≡ putFlag flags nodeSlots w₃ true →
+            held′ ≡ heldLinks (record { counts = counts₁; copies = held .copies + 1; subs = held .subs + 2 }) (left + 2) →
+            _≡_ {A = Prepared} (record { graph = multiIn nodes₁ links₂ owners₁ heads₁ t₂ t₃ held′; port = old + 1; offset = 1; ready = true })
+            (preparedAs (multiIn nodes links owners heads marks flags held) (split (multiIn nodes links owners heads marks flags held) p d))
+        split-done-in {old = old} {links₂ = links₂} {t₂ = t₂} {t₃ = t₃} c₁ c₂ c₃ c₄ c₅ c₆ c₇ k₁ k₂ k₃ k₄ k₅ k₆ h =
+            ap (λ (x : Held). record { graph = multiIn nodes₁ links₂ owners₁ heads₁ t₂ t₃ x; port = old + 1; offset = 1; ready = true }) h
+            ∙ split-done b {r = record { graph = graphIn nodes₁ links₁ owners₁ heads₁ counts₁; answer = a }} e₁ e₂ (λ v. record { graph = e₃ v; answer = e₄ v }) t c₁ c₂ c₃ c₄ c₅ c₆ c₇ k₁ k₂ k₃ k₄ k₅ k₆
 
+  -- One more subport.
+  module _ {p : ℕ} {d : Direction} (b : SplitPort (multiIn nodes links owners heads marks flags held) p d) {copy node count w i o : ℕ} (moves : List ℕ) (nodes₁ : List ℕ) {links₁ owners₁ heads₁ : List ℕ} {counts₁ : Counts} {a : lower-set.SetAnswer}
+      (e₁ : w ≡ p) (e₂ : copy ≡ farIn links w) (e₃ : node ≡ ownerIn owners copy) (e₄ : count ≡ subportsIn links owners p d) (f₁ : i ≡ grownIn d count) (f₂ : o ≡ grownOut d count) (f₃ : length moves ≡ enough)
+      (f₄ : graphIn nodes₁ links₁ owners₁ heads₁ counts₁ ≡ setNumPorts (graphIn nodes links owners heads (held .counts)) node i o (length moves) .graph)
+      (f₅ : a ≡ setNumPorts (graphIn nodes links owners heads (held .counts)) node i o (length moves) .answer) where
     pub grow-full-in : (tag : lower-set.SetAnswer → ℕ) → ((q : ℕ) → tag (lower-set-variants.Set q) ≡ 0) → (tag a ≡ 1) ⊎ ((tag a ≡ 2) ⊎ ((tag a ≡ 3) ⊎ (tag a ≡ 4))) → {held′ : Held} → held′ ≡ heldCounts held counts₁ →
         _≡_ {A = Prepared} (record { graph = multiIn nodes₁ links₁ owners₁ heads₁ marks flags held′; port = 0; offset = 0; ready = false })
-        (preparedAs (multiIn nodes links owners heads marks flags held) (grow (multiIn nodes links owners heads marks flags held) c d))
+        (preparedAs (multiIn nodes links owners heads marks flags held) (grow (multiIn nodes links owners heads marks flags held) (copyNode (multiIn nodes links owners heads marks flags held) p) d))
     grow-full-in tag zeroth t {held′} h =
         let m = multiIn nodes links owners heads marks flags held in
         let same : multiIn nodes₁ links₁ owners₁ heads₁ marks flags held′ ≡ m =
         ap (multiIn nodes₁ links₁ owners₁ heads₁ marks flags) h
-        ∙ ap (withGraph m) (e₆ ∙ set-kept (graphIn nodes links owners heads (held .counts)) c (x + 1 - s₁) (y + s₂) (length b) tag zeroth e₇ t) in
+        ∙ ap (withGraph m) (f₄ ∙ set-kept (graphIn nodes links owners heads (held .counts)) node i o (length moves) tag zeroth f₅ t) in
         ap (λ (v : MultiPortGraph). record { graph = v; port = 0; offset = 0; ready = false }) same
-        ∙ grow-full m c d {r = record { graph = graphIn nodes₁ links₁ owners₁ heads₁ counts₁; answer = a }} (e₁ ∙ reads Incoming) (e₂ ∙ reads Outgoing) e₃ e₄ e₅ (λ v. record { graph = e₆ v; answer = e₇ v }) tag zeroth t
+        ∙ grow-full b e₁ e₂ e₃ e₄ {r = record { graph = graphIn nodes₁ links₁ owners₁ heads₁ counts₁; answer = a }} f₁ f₂ f₃ (λ v. record { graph = f₄ v; answer = f₅ v }) tag zeroth t
 
-    pub grown-wf : Wf (graphIn nodes₁ links₁ owners₁ heads₁ counts₁)
-    grown-wf = subst Wf (sym e₆) (wf-set (graphIn nodes links owners heads (held .counts)) c (x + 1 - s₁) (y + s₂) (length b) (lower-wf (multiIn nodes links owners heads marks flags held) w))
+    module _ {q : ℕ} (t : a ≡ lower-set-variants.Set q) where
+      pub grow-told-in : GrowTables (multiIn nodes links owners heads marks flags held) p d (copyNode (multiIn nodes links owners heads marks flags held) p) count (graphIn nodes₁ links₁ owners₁ heads₁ counts₁)
+      grow-told-in = grow-told b e₁ e₂ e₃ e₄ {r = record { graph = graphIn nodes₁ links₁ owners₁ heads₁ counts₁; answer = a }} f₁ f₂ f₃ (λ v. record { graph = f₄ v; answer = f₅ v }) t
 
-    pub grow-done-in : {q k z : ℕ} {marks₁ : List Bool} {u v : MaybeNodeMeta} → a ≡ lower-set-variants.Set q → k ≡ countIn (metaIn nodes c) d → z ≡ portOfIn nodes₁ c d k →
-        u ≡ metaIn nodes c → v ≡ metaIn nodes₁ c → marks₁ ≡ marksMoved marks u v →
-        _≡_ {A = Prepared} (record { graph = multiIn nodes₁ links₁ owners₁ heads₁ marks₁ flags (record { counts = counts₁; copies = held .copies; subs = held .subs + 1 }); port = z; offset = k; ready = true })
-        (preparedAs (multiIn nodes links owners heads marks flags held) (grow (multiIn nodes links owners heads marks flags held) c d))
-    grow-done-in {q} {k} {z} {marks₁} {u} {v} t f₁ f₂ f₃ f₄ f₅ =
-        let m = multiIn nodes links owners heads marks flags held in
-        let long = w .fine .holds .nodesLong in
-        let held₁ : Held = record { counts = counts₁; copies = 0; subs = 0 } in
-        let moved = recounted-in nodes links owners heads marks flags held c nodes₁ links₁ owners₁ heads₁ marks₁ counts₁
-        (f₃ ∙ meta-read nodes links owners heads (held .counts) c long) (f₄ ∙ meta-read nodes₁ links₁ owners₁ heads₁ counts₁ c (grown-wf .holds .nodesLong)) f₅ in
-        grow-done m c d {r = record { graph = graphIn nodes₁ links₁ owners₁ heads₁ counts₁; answer = a }} (e₁ ∙ reads Incoming) (e₂ ∙ reads Outgoing) e₃ e₄ e₅ (λ i. record { graph = e₆ i; answer = e₇ i })
-        {g = multiIn nodes₁ links₁ owners₁ heads₁ marks₁ flags (heldCounts held counts₁)} t (f₁ ∙ reads d)
-        (f₂ ∙ port-of-read nodes₁ links₁ owners₁ heads₁ marks flags held₁ grown-wf c d k) moved
-
--- Preparing.
-module _ {m : MultiPortGraph} {p : ℕ} {d : Direction} (b : OnBlock m p d) {r : EndNeed} (e : r ≡ needIn (m .multiport) (m .graph .«port_link») (m .graph .«port_meta») p d) where
-  prepared-by : (v : EndNeed) → r ≡ v → preparedAs m (preparedBy m p d v) ≡ preparedAs m (prepare m p d)
-  prepared-by v t = ap (preparedAs m) (ap (preparedBy m p d) (sym t ∙ e) ∙ sym (need-law (b .wf) p (b .node) d (b .is)))
-
-  pub prepared-ready : {x o : ℕ} → r ≡ need.Ready x o → _≡_ {A = Prepared} (record { graph = m; port = x; offset = o; ready = true }) (preparedAs m (prepare m p d))
-  prepared-ready {x} {o} t = prepared-by (need.Ready x o) t
-
-  pub prepared-split : {s : Prepared} → r ≡ need.Split → s ≡ preparedAs m (split m p d) → s ≡ preparedAs m (prepare m p d)
-  prepared-split t h = h ∙ prepared-by need.Split t
-
-  pub prepared-grow : {s : Prepared} {c : ℕ} → r ≡ need.Grow → c ≡ copyNode m p → s ≡ preparedAs m (grow m c d) → s ≡ preparedAs m (prepare m p d)
-  prepared-grow t f h = h ∙ (ap (λ (c : ℕ). preparedAs m (grow m c d)) f ∙ prepared-by need.Grow t)
+      pub grow-done-in : {far first w₁ w₂ w₃ : ℕ} {t₁ t₂ : List Bool} →
+          w₁ ≡ p →
+          far ≡ farIn links₁ w₁ →
+          w₂ ≡ copy →
+          t₁ ≡ putFlag marks portSlots w₂ false →
+          w₃ ≡ far →
+          t₂ ≡ putFlag t₁ portSlots w₃ true →
+          first ≡ firstIn links₁ owners₁ p d →
+          _≡_ {A = Prepared} (record { graph = multiIn nodes₁ links₁ owners₁ heads₁ t₂ flags (record { counts = counts₁; copies = held .copies; subs = held .subs + 1 }); port = first + count; offset = count; ready = true })
+          (preparedAs (multiIn nodes links owners heads marks flags held) (grow (multiIn nodes links owners heads marks flags held) (copyNode (multiIn nodes links owners heads marks flags held) p) d))
+      grow-done-in k₁ k₂ k₃ k₄ k₅ k₆ k₇ =
+          grow-done b e₁ e₂ e₃ e₄ {r = record { graph = graphIn nodes₁ links₁ owners₁ heads₁ counts₁; answer = a }} f₁ f₂ f₃ (λ v. record { graph = f₄ v; answer = f₅ v }) t k₁ k₂ k₃ k₄ k₅ k₆ k₇
 
 -- Linking.
 

@@ -13,10 +13,6 @@
 --
 -- What is proved, and need not be believed: everything else.
 -- The theorems hold of every list of calls from the empty graph, refused ones included, with no other premise:
---   Space       refusal 10 by the work of a call
---   Inner       what holds of every graph of the calls (Fine, MultiWf), over the lower graph's model
--- Forms has the enums and structs in which the code gives what these say, Reads and Named what the code reads off lent tables.
--- Then the theorems, each over every list of calls from the empty graph, refused ones included, with no other premise:
 --   wire-rule, cut-restores, links-in-either-order (Theorems), bench-table (Bench)
 --   visible-nodes-of-history, visible-ports-of-history, visible-links-of-history (HistoryCounts): the counts are those of the book
 -- A contract presumes of its graph only that it came from these calls (MultiWf, in Inner over the lower crate's Model). What that
@@ -30,7 +26,7 @@
 --   a step gives only what is listed beyond what its cursor holds (WalkHeldLaws)
 --   the work of a call is what it takes and gives back, and 10 is given exactly if a table would grow past its limit (SpaceLaws)
 -- These speak in the words of Model (a node is live, a port stands at a place) and, for 10, of Space (the work of a call).
--- Forms has the enums and structs in which inner functions give what Reading and Calls say.
+-- Forms has the enums and structs in which inner functions give what Reading and Calls say, Reads what the code reads off lent tables.
 pub mod Reading
 pub mod Calls
 pub mod Wires
@@ -83,9 +79,21 @@ pub mod CopySteps
 pub mod PrepareSteps
 pub mod CallSteps
 pub mod LinkSteps
+pub mod GrowLaws
+pub mod TableSteps
 pub mod NamedSteps
 pub mod NamedLaws
 pub mod BlockSteps
+pub mod LookupSteps
+pub mod StartSteps
+pub mod Scans
+pub mod ScanSteps
+pub mod ScanReads
+pub mod WalkScans
+pub mod WireSteps
+pub mod WalkSteps
+pub mod LinkWalkSteps
+pub mod SubportSteps
 pub mod LentLaws
 pub mod LentSteps
 pub mod LentLinkSteps

@@ -3,6 +3,7 @@ use mathlib.Core.Path.{_≡_, refl, sym, _∙_, ap, subst}
 use mathlib.Core.Bool.{Bool, true, false}
 use Prim.Native.Nat.{ℕ, _+_, _<_}
 use Rattle.portgraph.specs.Entries.{pick}
+use Rattle.portgraph.specs.Tables.{at}
 use Rattle.portgraph.specs.Lookups.{port#}
 use Rattle.portgraph.specs.Meaning.{sameSide}
 use Rattle.portgraph.specs.Calls.{linkPorts}
@@ -11,15 +12,15 @@ use Rattle.portgraph.specs.Model.{firstOf, sideStart, countOf}
 use Rattle.portgraph.specs.declared.direction.Direction.{Direction}
 use Rattle.portgraph.specs.declared.index.NodeIndex.{NodeIndex}
 use Rattle.portgraph.specs.declared.portgraph.PortsLinked as lower
-use Rattle.multiportgraph.specs.Reading.{Port, dead, hidden, visible, seen, subport#}
+use Rattle.multiportgraph.specs.Reading.{Port, dead, hidden, visible, seen, isSplit, subport#}
 use Rattle.multiportgraph.specs.Calls as calls
-use Rattle.multiportgraph.specs.Calls.{withGraph, prepare, linkRefused, linkPrepared, linkSecond, linkBoth, linkFirst, linkSeen, linkCall}
+use Rattle.multiportgraph.specs.Calls.{withGraph, prepare, linkRefused, linkPrepared, linkSecond, linkBoth, linkFirst}
 use Rattle.multiportgraph.specs.Forms.{seenAs, preparedAs}
 use Rattle.multiportgraph.specs.Inner.{MultiWf}
-use Rattle.multiportgraph.specs.Ends.{BlockPort, block-seen, seen-block}
+use Rattle.multiportgraph.specs.Ends.{block-seen, seen-block}
 use Rattle.multiportgraph.specs.PrepareLaws.{prepare-law}
 use Rattle.multiportgraph.specs.declared.multiportgraph.MultiPortGraph.{MultiPortGraph}
-use Rattle.multiportgraph.specs.declared.multiportgraph.Refusal.the-variants.{UnknownPort, HiddenPort, NoRoom, UnknownSecondPort, IncompatibleDirections}
+use Rattle.multiportgraph.specs.declared.multiportgraph.Refusal.the-variants.{NoRoom, UnknownSecondPort, IncompatibleDirections}
 use Rattle.multiportgraph.specs.declared.multiportgraph.LinkAnswer.the-variants as link
 use Rattle.multiportgraph.specs.declared.multiportgraph.PortsLinked.{PortsLinked}
 use Rattle.multiportgraph.specs.declared.ends.SeenPort.{SeenPort}
@@ -31,6 +32,16 @@ pub record OnBlock (m : MultiPortGraph) (p : ℕ) (d : Direction) : Type 0 where
   pub wf : MultiWf m
   pub node : ℕ
   pub is : seen m p ≡ visible node d
+
+-- one that is linked and not split, and one that is split
+pub record LinkedPort (m : MultiPortGraph) (p : ℕ) (d : Direction) : Type 0 where
+  pub block : OnBlock m p d
+  pub plain : isSplit m p ≡ false
+  pub linked : at (m .graph .«port_link») p ≡ 0 → ⊥
+
+pub record SplitPort (m : MultiPortGraph) (p : ℕ) (d : Direction) : Type 0 where
+  pub block : OnBlock m p d
+  pub split : isSplit m p ≡ true
 
 -- two ports of blocks
 pub record BothOnBlock (m : MultiPortGraph) (a : ℕ) (d : Direction) (b : ℕ) (e : Direction) : Type 0 where
@@ -131,26 +142,3 @@ told v e t = back-is v ∙ ap seenBack (sym e ∙ t)
 
 pub on-block : {m : MultiPortGraph} {p : ℕ} {d : Direction} → MultiWf m → (s : SeenPort) (n : NodeIndex) → s ≡ seenAs (seen m p) → s ≡ seen-port.Visible n d → OnBlock m p d
 on-block {m} {p} {d} w s n e t = record { wf = w; node = n .0; is = told (seen m p) e t }
-
-module _ (m : MultiPortGraph) (a b : ℕ) {s t : SeenPort} (p : s ≡ seenAs (seen m a)) (q : t ≡ seenAs (seen m b)) where
-  pub call-dead : {r : PortsLinked} → s ≡ seen-port.Dead → r ≡ linkRefused m (UnknownPort (port# a)) → r ≡ linkCall m a b
-  unfolding linkCall
-  call-dead h e = e ∙ sym (ap (λ (v : Port). linkSeen m a b v (seen m b)) (told (seen m a) p h))
-
-  pub call-hidden : {r : PortsLinked} → s ≡ seen-port.Hidden → r ≡ linkRefused m (HiddenPort (port# a)) → r ≡ linkCall m a b
-  unfolding linkCall
-  call-hidden h e = e ∙ sym (ap (λ (v : Port). linkSeen m a b v (seen m b)) (told (seen m a) p h))
-
-  module _ (n : NodeIndex) (d : Direction) (h : s ≡ seen-port.Visible n d) where
-    call-by : (w : Port) → seen m b ≡ w → linkCall m a b ≡ linkSeen m a b (visible (n .0) d) w
-    unfolding linkCall
-    call-by w k = ap (λ (v : Port). linkSeen m a b v (seen m b)) (told (seen m a) p h) ∙ ap (linkSeen m a b (visible (n .0) d)) k
-
-    pub call-second-hidden : {r : PortsLinked} → t ≡ seen-port.Hidden → r ≡ linkRefused m (HiddenPort (port# b)) → r ≡ linkCall m a b
-    call-second-hidden k e = e ∙ sym (call-by hidden (told (seen m b) q k))
-
-    pub call-second-dead : {r : PortsLinked} → t ≡ seen-port.Dead → r ≡ linkFirst m b (prepare m a d) → r ≡ linkCall m a b
-    call-second-dead k e = e ∙ sym (call-by dead (told (seen m b) q k))
-
-    pub call-both : {r : PortsLinked} (l : NodeIndex) (f : Direction) → t ≡ seen-port.Visible l f → r ≡ linkBoth m a d b f (prepare m a d) → r ≡ linkCall m a b
-    call-both l f k e = e ∙ sym (call-by (visible (l .0) f) (told (seen m b) q k))

@@ -1,9 +1,9 @@
 -- What a call names, read off the tables: the inner ports of its ends or the refusal, and what an end needs before it can take a link.
-use mathlib.Core.Bool.{Bool, true, false}
+use mathlib.Core.Bool.{Bool}
 use mathlib.Core.List.{List}
-use Prim.Native.Nat.{ℕ, zero, suc, _+_, _-_}
+use Prim.Native.Nat.{ℕ, _+_, _-_}
 use lib.Dec.{eqb, leb, ltb}
-use Rattle.portgraph.specs.Limits.{nodeSlots, portSlots}
+use Rattle.portgraph.specs.Limits.{portSlots}
 use Rattle.portgraph.specs.Entries.{pick}
 use Rattle.portgraph.specs.Tables.{at, linkBoth, cut, linkCount}
 use Rattle.portgraph.specs.Meaning.{sameSide}

@@ -1,12 +1,11 @@
 -- What a call names by the tables is what it names by the graph, so that each call is what Named makes of it.
-use mathlib.Core.Path.{_≡_, refl, sym, _∙_, ap, subst}
+use mathlib.Core.Path.{_≡_, refl, sym, _∙_, ap}
 use mathlib.Core.Bool.{Bool, true, false}
 use mathlib.Core.List.{List}
-use mathlib.Core.Logic.{_⊎_, inl, inr}
-use Prim.Native.Nat.{ℕ, zero, suc, _+_, _-_, _≤_, _<_}
+use Prim.Native.Nat.{ℕ, _+_, _-_}
 use native.Mathlib.Omega.{arith}
 use lib.Dec.{eqb, leb, ltb}
-use borrow.Author.Tests.{eq-eqb, ne-eqb, eqb-true, eqb-false, le-leb, ltb-true}
+use borrow.Author.Tests.{eqb-true, eqb-false, le-leb, ltb-true}
 use Rattle.portgraph.specs.Limits.{nodeSlots, portSlots}
 use Rattle.portgraph.specs.Entries.{pick, reversed}
 use Rattle.portgraph.specs.Tables.{at, linkBoth, cut, linkCount}
@@ -15,10 +14,11 @@ use Rattle.portgraph.specs.Lookups.{port#, portAt, portLink, linkOf, numPorts}
 use Rattle.portgraph.specs.LookupSteps.{no-link, link-to, link-by-sides, link-first-taken, link-second-taken, link-made, unlink-live}
 use Rattle.portgraph.specs.Calls.{withLinks, linkPorts, unlinkPort, removeNode}
 use Rattle.portgraph.specs.Model as model
-use Rattle.portgraph.specs.Model.{Model, slotOf}
+use Rattle.portgraph.specs.Model.{Model, nowhere, to, Valid, slotOf}
 use Rattle.portgraph.specs.GoodSlots.{zero-is-not-one}
 use Rattle.portgraph.specs.PlaceLaws.{metaOfPlace, port-of-place, link-none}
 use Rattle.portgraph.specs.declared.direction.Direction.{Direction}
+use Rattle.portgraph.specs.declared.direction.Direction.the-variants.{Incoming, Outgoing}
 use Rattle.portgraph.specs.declared.port_entry.PortMeta.{PortMeta}
 use Rattle.portgraph.specs.declared.port_entry.PortEntry.{PortEntry}
 use Rattle.portgraph.specs.declared.port_entry.PortEntry.the-variants as port-variants
@@ -27,22 +27,23 @@ use Rattle.portgraph.specs.declared.portgraph.PortLink.{PortLink}
 use Rattle.portgraph.specs.declared.portgraph.PortLink.the-variants as link-variants
 use Rattle.portgraph.specs.declared.portgraph.PortsLinked as lower-linked
 use Rattle.portgraph.specs.declared.portgraph.PortUnlinked as lower-unlinked
+use Rattle.portgraph.specs.declared.portgraph.LinkAnswer.the-variants as lower-link
 use Rattle.portgraph.specs.declared.slots.NodeRemoved.{NodeRemoved}
-use Rattle.multiportgraph.specs.Reading.{isLinked, hasLink, isSplit, Port, dead, hidden, visible, seen, seenEntry, copyNode, subports, subportAt, End, inner, lacking, endAt, portOf, subport#, asRead, copySide}
+use Rattle.multiportgraph.specs.Reading.{isLinked, hasLink, isSplit, Port, dead, hidden, visible, seen, copyNode, subports, subportAt, End, inner, lacking, endAt, portOf, subport#, asRead, copySide}
 use Rattle.multiportgraph.specs.Calls as calls
-use Rattle.multiportgraph.specs.Calls.{withGraph, goodOffset, unsplit, lowestFree, reuse, prepare, subportLink, linkOfSeen, linkOfEnd, farSubport, cutSub, cutSubSeen, cutEnd, cutPlain, cutPort, cutRefused, linkRefused, linkInner, linkEnds, linkSecondEnd, linkFirstEnd, linkSubSeen, linkSub, linkFirst, linkSecond, linkPrepared, linkCall}
-use Rattle.multiportgraph.specs.Forms.{seenAs, flagAt, putFlag, lowestUnlinked}
-use Rattle.multiportgraph.specs.Inner.{inner#, Fine, MultiWf}
+use Rattle.multiportgraph.specs.Calls.{withGraph, goodOffset, unsplit, lowestFree, reuse, prepare, subportLink, linkOfSeen, linkOfEnd, farSubport, cutSub, cutSubSeen, cutEnd, cutPlain, cutPort, cutRefused, linkRefused, linkInner, linkEnds, linkSecondEnd, linkFirstEnd, linkSubSeen, linkSub, linkFirst, linkSecond, linkCall}
+use Rattle.multiportgraph.specs.Forms.{preparedAs, seenAs, flagAt, putFlag, lowestUnlinked}
+use Rattle.multiportgraph.specs.Inner.{Fine, MultiWf}
 use Rattle.multiportgraph.specs.Ends.{BlockPort, block-seen, port-of, count-of}
 use Rattle.multiportgraph.specs.CallSteps.{cut-port-plain}
 use Rattle.multiportgraph.specs.CopySteps.{copy-removed, unsplit-split}
 use Rattle.multiportgraph.specs.SplitLaws.{PreparedEnd}
 use Rattle.multiportgraph.specs.PrepareLaws.{prepare-law}
 use Rattle.multiportgraph.specs.PrepareSteps.{lower-wf, first-fits, lowest-same}
-use Rattle.multiportgraph.specs.LinkSteps.{OnBlock, BothOnBlock}
-use Rattle.multiportgraph.specs.Reads.{farIn, ownerIn, seenIn, endIn, wireIn, subportsIn, firstIn}
+use Rattle.multiportgraph.specs.LinkSteps.{OnBlock, LinkedPort, SplitPort, BothOnBlock, is-ready, others-stay, both-linked}
+use Rattle.multiportgraph.specs.Reads.{farIn, ownerIn, seenIn, wireIn, subportsIn, firstIn}
 use Rattle.multiportgraph.specs.ReadLaws.{mark-told, seen-read, owner-read, copy-read, side-read, subports-read, first-read, end-read-off, wire-read, end-is-port}
-use Rattle.multiportgraph.specs.Named.{endOr, endSeen, endNamed, freeEnds, secondOr, secondSeen, secondEnd, firstOr, firstEnd, bothSeen, linkNamed, readIn, reuseAt, reuseIn, needIn, endsReady, secondReady, bothReady, firstReady, firstNeed, bothNeed, linkSeen, linkNeed, joinedAt, cutAt, readNamed, cutNamed, linkBy, preparedBy, linkedBy}
+use Rattle.multiportgraph.specs.Named.{endOr, endSeen, endNamed, freeEnds, secondOr, secondSeen, secondEnd, firstOr, firstEnd, bothSeen, linkNamed, readIn, reuseAt, reuseIn, needIn, secondReady, bothReady, firstReady, firstNeed, bothNeed, linkSeen, linkNeed, joinedAt, cutAt, readNamed, cutNamed, linkBy, preparedBy, linkedBy}
 use Rattle.multiportgraph.specs.declared.multiportgraph.MultiPortGraph.{MultiPortGraph}
 use Rattle.multiportgraph.specs.declared.multiportgraph.SubportIndex.{SubportIndex}
 use Rattle.multiportgraph.specs.declared.multiportgraph.Refusal.{Refusal}
@@ -53,6 +54,7 @@ use Rattle.multiportgraph.specs.declared.multiportgraph.PortUnlinked.{Po
 use Rattle.multiportgraph.specs.declared.multiportgraph.LinkAnswer.the-variants as link
 use Rattle.multiportgraph.specs.declared.multiportgraph.PortsLinked.{PortsLinked}
 use Rattle.multiportgraph.specs.declared.ends.SeenPort.{SeenPort}
+use Rattle.multiportgraph.specs.declared.prepare.Prepared as prepare-forms
 use Rattle.multiportgraph.specs.declared.named.NamedEnd.{NamedEnd}
 use Rattle.multiportgraph.specs.declared.named.NamedEnd.the-variants as end
 use Rattle.multiportgraph.specs.declared.named.NamedLink.{NamedLink}
@@ -210,6 +212,21 @@ pub record ReadyEnd (m : MultiPortGraph) (d : Direction) (x : ℕ) : Type 0 wher
   pub side : meta .direction ≡ d
   pub free : at (m .graph .«port_link») x ≡ 0
 
+-- two such ends of opposite sides are linked
+ready-joined : {m : MultiPortGraph} (d e : Direction) (x y : ℕ) → ReadyEnd m d x → ReadyEnd m e y → sameSide d e ≡ false → {t : List ℕ} → t ≡ linkBoth (m .graph .«port_link») x y →
+    _≡_ {A = lower-linked.PortsLinked} (record { graph = withLinks (m .graph) t (m .graph .«link_count» + 1); answer = lower-link.Linked (port# x) (port# y) }) (linkPorts (m .graph) x y)
+ready-joined {m} d e x y u v h k =
+    link-made (m .graph) x y (u .meta) (v .meta) (sym (u .live)) (sym (v .live)) _ ((λ i. sameSide (u .side i) (v .side i)) ∙ h) (u .free) (v .free) k
+
+end-ready : {m : MultiPortGraph} {M : Model} → Fine m M → (z : model.Place) → Valid (M .node) z → M .join z ≡ nowhere → {d : Direction} {x : ℕ} → slotOf (M .node) z ≡ x → z .side ≡ d → ReadyEnd m d x
+end-ready {m} {M} f z v j q s =
+    record {
+      meta = metaOfPlace z;
+      live = ap (portAt (m .graph)) (sym q) ∙ port-of-place (f .good) (f .holds) z v;
+      side = s;
+      free = ap (at (m .graph .«port_link»)) (sym q) ∙ link-none (f .good) (f .holds) z v j;
+    }
+
 module _ {m : MultiPortGraph} (w : MultiWf m) where
   module _ (p n : ℕ) (d : Direction) (s : seen m p ≡ visible n d) where
     block : BlockPort m (w .model) p n d
@@ -225,16 +242,13 @@ module _ {m : MultiPortGraph} (w : MultiWf m) where
         go true = refl
         go false = refl
 
-    pub ready-end : (x o : ℕ) → prepare m p d ≡ calls.ready m x o → ReadyEnd m d x
-    ready-end x o e =
-        let l = prepare-law (w .fine) (block .place) (block .isSeen) m x o ((λ i. prepare m (block .slot i) (block .side i)) ∙ e) in
-        let z = l .1 in
-        record {
-          meta = metaOfPlace (z .z);
-          live = ap (portAt (m .graph)) (sym (z .slot)) ∙ port-of-place (z .fine .good) (z .fine .holds) (z .z) (z .end .valid);
-          side = z .side ∙ block .side;
-          free = ap (at (m .graph .«port_link»)) (sym (z .slot)) ∙ link-none (z .fine .good) (z .fine .holds) (z .z) (z .end .valid) (z .free);
-        }
+    prepared : (m′ : MultiPortGraph) (x o : ℕ) → prepare m p d ≡ calls.ready m′ x o → (M′ : Model) × PreparedEnd m (w .model) (block .place) m′ M′ x o
+    prepared m′ x o e = prepare-law (w .fine) (block .place) (block .isSeen) m′ x o ((λ i. prepare m (block .slot i) (block .side i)) ∙ e)
+
+    pub ready-end : (m′ : MultiPortGraph) (x o : ℕ) → prepare m p d ≡ calls.ready m′ x o → ReadyEnd m′ d x
+    ready-end m′ x o e =
+        let z = prepared m′ x o e .1 in
+        end-ready (z .fine) (z .z) (z .end .valid) (z .free) (z .slot) (z .side ∙ block .side)
 
     reuse-law : isSplit m p ≡ true →
         reuse m (copyNode m p) d (lowestFree (m .graph) (copyNode m p) d 0 (subports m p d)) ≡ preparedBy m p d (reuseIn (m .graph .«port_link») (m .graph .«port_meta») p d)
@@ -272,11 +286,6 @@ module _ {m : MultiPortGraph} (w : MultiWf m) where
         go false t = rw (mark-told (w .fine) p, t, has-link) (plain (eqb (at (m .graph .«port_link») p) 0))
 
   module _ (a b : ℕ) where
-    joined : (d e : Direction) (x y : ℕ) → ReadyEnd m d x → ReadyEnd m e y → sameSide d e ≡ false → linkPorts (m .graph) x y .graph ≡ joinedAt m x y .graph
-    joined d e x y u v h =
-        ap (λ (r : lower-linked.PortsLinked). r .graph)
-        (sym (link-made (m .graph) x y (u .meta) (v .meta) (sym (u .live)) (sym (v .live)) _ ((λ i. sameSide (u .side i) (v .side i)) ∙ h) (u .free) (v .free) refl))
-
     module _ (n : ℕ) (d : Direction) (s : seen m a ≡ visible n d) where
       first-law : (v : EndNeed) → prepare m a d ≡ preparedBy m a d v → linkFirst m b (prepare m a d) ≡ linkedBy m a b (firstReady b d v)
       first-law (need.Ready x o) e = ap (linkFirst m b) e
@@ -290,13 +299,13 @@ module _ {m : MultiPortGraph} (w : MultiWf m) where
             ≡ linkedBy m a b (pick c (needs.Refused (IncompatibleDirections (port# x) (port# y) d)) (needs.Ends x o y r))
         ends-law x o y r true u v h = refl
         ends-law x o y r false u v h =
-            ap (λ (g : PortGraph). record { graph = withGraph m g; answer = link.Linked (subport# a o) (subport# b r) }) (joined d e x y u v h)
+            ap (λ (g : PortGraph). record { graph = withGraph m g; answer = link.Linked (subport# a o) (subport# b r) }) (ap (λ (l : lower-linked.PortsLinked). l .graph) (sym (ready-joined d e x y u v h refl)))
 
         second-law : (x o : ℕ) (v : EndNeed) → prepare m a d ≡ calls.ready m x o → prepare m b e ≡ preparedBy m b e v →
             calls.linkBoth m a d b e (prepare m a d) ≡ linkedBy m a b (secondReady d e x o v)
         second-law x o (need.Ready y r) f g =
             ap (calls.linkBoth m a d b e) f
-            ∙ (ap (linkSecond m a d x o b e) g ∙ ends-law x o y r (sameSide d e) (ready-end a n d s x o f) (ready-end b k e t y r g) refl)
+            ∙ (ap (linkSecond m a d x o b e) g ∙ ends-law x o y r (sameSide d e) (ready-end a n d s m x o f) (ready-end b k e t m y r g) refl)
         second-law x o need.Grow f g = refl
         second-law x o need.Split f g = refl
 
@@ -338,6 +347,39 @@ module _ {m : MultiPortGraph} (w : MultiWf m) where
     both-sides d e (need.Ready x o) need.Split i j h = (cc, cc)
     both-sides d e need.Grow v i j h = (cc, cc)
     both-sides d e need.Split v i j h = (cc, cc)
+
+    first-side : (d : Direction) (v : EndNeed) (i : Direction) → firstReady b d v ≡ needs.First i → d ≡ i
+    first-side d (need.Ready x o) i h = absurd (zero-is-not-one (cc))
+    first-side d need.Grow i h = cc
+    first-side d need.Split i h = cc
+
+    ends-not-first : (d e : Direction) (x o y r : ℕ) (c : Bool) (i : Direction) →
+        pick c (needs.Refused (IncompatibleDirections (port# x) (port# y) d)) (needs.Ends x o y r) ≡ needs.First i → ⊥
+    ends-not-first d e x o y r true i h = zero-is-not-one (cc)
+    ends-not-first d e x o y r false i h = zero-is-not-one (cc)
+
+    both-not-first : (d e : Direction) (u v : EndNeed) (i : Direction) → bothReady d e u v ≡ needs.First i → ⊥
+    both-not-first d e (need.Ready x o) (need.Ready y r) i h = ends-not-first d e x o y r (sameSide d e) i h
+    both-not-first d e (need.Ready x o) need.Grow i h = zero-is-not-one (cc)
+    both-not-first d e (need.Ready x o) need.Split i h = zero-is-not-one (cc)
+    both-not-first d e need.Grow v i h = zero-is-not-one (cc)
+    both-not-first d e need.Split v i h = zero-is-not-one (cc)
+
+    on-first : (u v : Port) (i : Direction) → seen m a ≡ u → seen m b ≡ v →
+        linkSeen (m .multiport) (m .graph .«port_link») (m .graph .«port_meta») (m .«copy_node») a b u v ≡ needs.First i → OnBlock m a i
+    unfolding firstNeed bothNeed
+    on-first dead v i e h z = absurd (zero-is-not-one (cc))
+    on-first hidden v i e h z = absurd (zero-is-not-one (cc))
+    on-first (visible n d) hidden i e h z = absurd (zero-is-not-one (cc))
+    on-first (visible n d) dead i e h z =
+        record { wf = w; node = n; is = e ∙ ap (visible n) (first-side d (needIn (m .multiport) (m .graph .«port_link») (m .graph .«port_meta») a d) i z) }
+    on-first (visible n d) (visible k c) i e h z =
+        absurd (both-not-first d c (needIn (m .multiport) (m .graph .«port_link») (m .graph .«port_meta») a d) (needIn (m .multiport) (m .graph .«port_link») (m .graph .«port_meta») b c) i z)
+
+    pub first-on-block : (i : Direction) → linkNeed (m .multiport) (m .graph .«port_link») (m .graph .«port_meta») (m .«copy_node») a b ≡ needs.First i → OnBlock m a i
+    unfolding linkNeed
+    first-on-block i e =
+        on-first (seenIn (m .graph .«port_meta») (m .«copy_node») a) (seenIn (m .graph .«port_meta») (m .«copy_node») b) i (sym (seen-read (w .fine) a)) (sym (seen-read (w .fine) b)) e
 
     on-blocks : (u v : Port) (i j : Direction) → seen m a ≡ u → seen m b ≡ v →
         linkSeen (m .multiport) (m .graph .«port_link») (m .graph .«port_meta») (m .«copy_node») a b u v ≡ needs.Both i j → BothOnBlock m a i b j
@@ -453,3 +495,76 @@ module _ {m : MultiPortGraph} {p : ℕ} {d : Direction} (b : OnBlock m p d) (s :
 -- how a port number is seen by the tables, and by the graph
 pub seen-as : {m : MultiPortGraph} (w : MultiWf m) (p : ℕ) {s : SeenPort} → s ≡ seenAs (seenIn (m .graph .«port_meta») (m .«copy_node») p) → s ≡ seenAs (seen m p)
 seen-as w p e = e ∙ ap seenAs (seen-read (w .fine) p)
+
+-- Preparing an end.
+
+pub prepared-by : {m : MultiPortGraph} {p : ℕ} {d : Direction} (b : OnBlock m p d) {v u : EndNeed} {r : prepare-forms.Prepared} →
+    v ≡ needIn (m .multiport) (m .graph .«port_link») (m .graph .«port_meta») p d → v ≡ u → r ≡ preparedAs m (preparedBy m p d u) → r ≡ preparedAs m (prepare m p d)
+prepared-by {m} {p} {d} b e f h = h ∙ (ap (λ (u : EndNeed). preparedAs m (preparedBy m p d u)) (sym f ∙ e) ∙ ap (preparedAs m) (sym (need-law (b .wf) p (b .node) d (b .is))))
+
+-- why an end is not ready
+module _ {m : MultiPortGraph} {p : ℕ} {d : Direction} (b : OnBlock m p d) where
+  pub grow-needs : needIn (m .multiport) (m .graph .«port_link») (m .graph .«port_meta») p d ≡ need.Grow → SplitPort m p d
+  unfolding needIn
+  grow-needs e = record { block = b; split = sym (mark-told (b .wf .fine) p) ∙ go (flagAt (m .multiport) portSlots p) (eqb (at (m .graph .«port_link») p) 0) e }
+    where
+      go : (s t : Bool) → pick s (reuseIn (m .graph .«port_link») (m .graph .«port_meta») p d) (pick t (need.Ready p 0) need.Split) ≡ need.Grow → s ≡ true
+      go true t h = refl
+      go false true h = absurd (zero-is-not-one (cc))
+      go false false h = absurd (zero-is-not-one (cc))
+
+  reuse-no-split : reuseIn (m .graph .«port_link») (m .graph .«port_meta») p d ≡ need.Split → ⊥
+  unfolding reuseIn reuseAt
+  reuse-no-split e = go (leb (firstIn (m .graph .«port_link») (m .graph .«port_meta») p d + subportsIn (m .graph .«port_link») (m .graph .«port_meta») p d) portSlots)
+      (ltb (lowestUnlinked (m .graph .«port_link») (firstIn (m .graph .«port_link») (m .graph .«port_meta») p d) 0 (subportsIn (m .graph .«port_link») (m .graph .«port_meta») p d)) (subportsIn (m .graph .«port_link») (m .graph .«port_meta») p d)) _ _ e
+    where
+      go : (s t : Bool) (x o : ℕ) → pick s (pick t (need.Ready x o) need.Grow) need.Grow ≡ need.Split → ⊥
+      go true true x o h = zero-is-not-one (cc)
+      go true false x o h = zero-is-not-one (cc)
+      go false t x o h = zero-is-not-one (cc)
+
+  pub split-needs : needIn (m .multiport) (m .graph .«port_link») (m .graph .«port_meta») p d ≡ need.Split → LinkedPort m p d
+  unfolding needIn
+  split-needs e =
+      let r = go (flagAt (m .multiport) portSlots p) (eqb (at (m .graph .«port_link») p) 0) refl e in
+      record { block = b; plain = sym (mark-told (b .wf .fine) p) ∙ r .0; linked = eqb-false _ _ (r .1) }
+    where
+      go : (s t : Bool) → eqb (at (m .graph .«port_link») p) 0 ≡ t → pick s (reuseIn (m .graph .«port_link») (m .graph .«port_meta») p d) (pick t (need.Ready p 0) need.Split) ≡ need.Split → (s ≡ false) × (eqb (at (m .graph .«port_link») p) 0 ≡ false)
+      go true t q h = absurd (reuse-no-split h)
+      go false true q h = absurd (zero-is-not-one (cc))
+      go false false q h = (refl, q)
+
+-- both ends are prepared, and linked in the tables
+module _ {m : MultiPortGraph} {a b : ℕ} {d e : Direction} (both : BothOnBlock m a d b e) {r s : prepare-forms.Prepared}
+    (h : r ≡ preparedAs m (prepare m a d)) (t : r .ready ≡ true) (k : s ≡ preparedAs (r .graph) (prepare (r .graph) b e)) (v : s .ready ≡ true) (apart : sameSide d e ≡ false) where
+  middle : OnBlock (r .graph) b e
+  middle = others-stay (both .first) r h t b e (both .second)
+
+  second-ready : ReadyEnd (s .graph) e (s .port)
+  second-ready = ready-end (middle .wf) b (middle .node) e (middle .is) (s .graph) (s .port) (s .offset) (is-ready (r .graph) (prepare (r .graph) b e) s k v)
+
+  sides-apart : (d e : Direction) → sameSide d e ≡ false → d ≡ e → ⊥
+  sides-apart Incoming Incoming p q = zero-is-not-one (cc)
+  sides-apart Incoming Outgoing p q = zero-is-not-one (cc)
+  sides-apart Outgoing Incoming p q = zero-is-not-one (cc)
+  sides-apart Outgoing Outgoing p q = zero-is-not-one (cc)
+
+  first-ready : ReadyEnd (s .graph) d (r .port)
+  first-ready =
+      let one = prepared (both .first .wf) a (both .first .node) d (both .first .is) (r .graph) (r .port) (r .offset) (is-ready m (prepare m a d) r h t) in
+      let z = one .1 in
+      let c = block (both .first .wf) a (both .first .node) d (both .first .is) in
+      let x = block-seen (z .fine) b (middle .node) e (middle .is) in
+      let two = prepare-law (z .fine) (x .place) (x .isSeen) (s .graph) (s .port) (s .offset)
+      ((λ i. prepare (r .graph) (x .slot i) (x .side i)) ∙ is-ready (r .graph) (prepare (r .graph) b e) s k v) in
+      let side : z .z .side ≡ d = z .side ∙ c .side in
+      let kept = two .1 .keeps (z .z) (z .end) (z .free) (λ q. sides-apart d e apart (sym side ∙ (q ∙ x .side))) in
+      end-ready (two .1 .fine) (z .z) (kept .end .valid) (kept .free) (kept .slot ∙ z .slot) side
+
+  pub both-joined : {l : List ℕ} → l ≡ linkBoth (s .graph .graph .«port_link») (r .port) (s .port) →
+      _≡_ {A = PortsLinked}
+      (record {
+        graph = withGraph (s .graph) (withLinks (s .graph .graph) l (s .graph .graph .«link_count» + 1));
+        answer = link.Linked (subport# a (r .offset)) (subport# b (s .offset));
+      }) (calls.linkBoth m a d b e (prepare m a d))
+  both-joined q = both-linked m a d b e r h t s k _ v apart (ready-joined d e (r .port) (s .port) first-ready second-ready apart q)

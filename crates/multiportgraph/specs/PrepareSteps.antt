@@ -6,41 +6,32 @@ use mathlib.Core.Logic.{_⊎_, inl, inr}
 use Prim.Native.Nat.{ℕ, zero, suc, _+_, _-_, _*_, _≤_, _<_}
 use native.Mathlib.Omega.{arith}
 use lib.Dec.{eqb, ltb}
-use lib.ListN.{length, set}
-use borrow.Author.Tests.{eq-eqb, ne-eqb, lt-ltb, le-ltb, ltb-false}
+use borrow.Author.Tests.{eq-eqb, ne-eqb, ltb-false}
 use Rattle.portgraph.specs.Limits.{nodeSlots, portSlots, nodePorts}
-use Rattle.portgraph.specs.Entries.{pick, reversed, sideNumber, portsOn}
+use Rattle.portgraph.specs.Entries.{pick, portsOn}
 use Rattle.portgraph.specs.Tables.{at}
 use Rattle.portgraph.specs.Lookups.{metaAt, numPorts, countIn, portIn}
-use Rattle.portgraph.specs.Calls.{addNode, linkPorts, unlinkPort}
-use Rattle.portgraph.specs.Resize.{setNumPorts, BlockFits}
+use Rattle.portgraph.specs.Calls.{addNode}
+use Rattle.portgraph.specs.Resize.{BlockFits}
 use Rattle.portgraph.specs.LookupSteps.{found-block-fits, side-fits}
 use Rattle.portgraph.specs.Model.{Wf, Far, nowhere, to, Slots, gone, live, Valid, slotOf, countOf, portsOf}
 use Rattle.portgraph.specs.PlaceLaws.{link-none, link-to}
 use Rattle.portgraph.specs.Sums.{total-bound}
 use Rattle.portgraph.specs.declared.direction.Direction.{Direction}
-use Rattle.portgraph.specs.declared.direction.Direction.the-variants.{Incoming, Outgoing}
 use Rattle.portgraph.specs.declared.index.NodeIndex.{NodeIndex}
 use Rattle.portgraph.specs.declared.index.PortIndex.{PortIndex}
 use Rattle.portgraph.specs.declared.node_entry.NodeMeta.{NodeMeta}
 use Rattle.portgraph.specs.declared.node_entry.MaybeNodeMeta.{MaybeNodeMeta}
 use Rattle.portgraph.specs.declared.node_entry.MaybeNodeMeta.the-variants as maybe-meta
 use Rattle.portgraph.specs.declared.portgraph.PortGraph.{PortGraph}
-use Rattle.portgraph.specs.declared.portgraph.PortsLinked as lower-linked
-use Rattle.portgraph.specs.declared.portgraph.PortUnlinked as lower-unlinked
 use Rattle.portgraph.specs.declared.slots.AddAnswer.{AddAnswer}
 use Rattle.portgraph.specs.declared.slots.AddAnswer.the-variants as lower-add
 use Rattle.portgraph.specs.declared.slots.NodeAdded.{NodeAdded}
-use Rattle.portgraph.specs.declared.resize.SetAnswer.{SetAnswer}
-use Rattle.portgraph.specs.declared.resize.SetAnswer.the-variants as lower-set
-use Rattle.portgraph.specs.declared.resize.PortsSet.{PortsSet}
-use Rattle.multiportgraph.specs.Reading.{farPort, hasLink, portNumber, portOf, isHidden, isSplit, copyNode, subports}
-use Rattle.multiportgraph.specs.Calls.{copyIn, copyOut, splitGraph, splitPort, splitBy, split, lowestFree, moreIn, moreOut, enough, more, grownBy, recounted, grow, reuse, prepare}
+use Rattle.multiportgraph.specs.Reading.{hasLink, portNumber, portOf, isHidden}
+use Rattle.multiportgraph.specs.Calls.{copyIn, copyOut, splitBy, split, lowestFree}
 use Rattle.multiportgraph.specs.Inner.{inner#, flag, subportsIn, MultiWf}
 use Rattle.multiportgraph.specs.Ends.{port-of, count-of, linked-is, unlinked-is}
-use Rattle.multiportgraph.specs.Forms.{putFlag, lowestUnlinked, preparedAs}
-use Rattle.multiportgraph.specs.FormSteps.{put-flag-is}
-use Rattle.multiportgraph.specs.CopySteps.{two-puts}
+use Rattle.multiportgraph.specs.Forms.{lowestUnlinked, preparedAs}
 use Rattle.multiportgraph.specs.declared.multiportgraph.MultiPortGraph.{MultiPortGraph}
 use Rattle.multiportgraph.specs.declared.prepare.Prepared.{Prepared}
 
@@ -70,18 +61,7 @@ few-subs m w =
     small i true (live k) e = let p = w .fine .good .portsInBlock i k e in let s = w .fine .good .blockSmall i k e in omega arith
     small i false v e = omega arith
 
-side-small : (k : NodeMeta) (d : Direction) → BlockFits k → portsOn k d ≤ nodePorts
-side-small k Incoming f = let a = f .ports in let b = f .small in omega arith
-side-small k Outgoing f = let a = f .ports in let b = f .small in omega arith
-
 module _ (g : PortGraph) (w : Wf g) (c : ℕ) where
-  pub count-small : (d : Direction) → numPorts g c d ≤ nodePorts
-  count-small d = go (metaAt g c) refl
-    where
-      go : (k : MaybeNodeMeta) → k ≡ metaAt g c → countIn k d ≤ nodePorts
-      go maybe-meta.None e = omega arith
-      go (maybe-meta.Some k) e = side-small k d (found-block-fits g w c k e)
-
   pub first-fits : (d : Direction) → portOf g c d 0 + numPorts g c d ≤ portSlots
   unfolding portOf
   first-fits d = go (metaAt g c) refl
@@ -145,36 +125,6 @@ module _ (m : MultiPortGraph) (w : MultiWf m) (c : ℕ) (d : Direction) where
       (λ i l. let z = port-of (w .fine) c d 0 (omega arith) in omega arith)
       0 (numPorts (m .graph) c d) (omega arith)
 
--- The cases of prepare.
-module _ (m : MultiPortGraph) (p : ℕ) (d : Direction) where
-  pub prepare-plain : isSplit m p ≡ false → hasLink (m .graph) p ≡ false → _≡_ {A = Prepared} (record { graph = m; port = p; offset = 0; ready = true }) (preparedAs m (prepare m p d))
-  unfolding prepare
-  prepare-plain s h = rw (s, h)
-
-  pub prepare-split : {r : Prepared} → isSplit m p ≡ false → hasLink (m .graph) p ≡ true → r ≡ preparedAs m (split m p d) → r ≡ preparedAs m (prepare m p d)
-  unfolding prepare
-  prepare-split s h e = rw (s, h) e
-
-  module _ (w : MultiWf m) (s : isSplit m p ≡ true) {n count first w₂ o : ℕ} (e₁ : n ≡ copyNode m p) (e₂ : count ≡ numPorts (m .graph) n d)
-      (e₃ : first ≡ portOf (m .graph) n d 0) (e₄ : w₂ ≡ first) (e₅ : o ≡ lowestUnlinked (m .graph .«port_link») w₂ 0 count) where
-    lowest-is : lowestFree (m .graph) (copyNode m p) d 0 (numPorts (m .graph) (copyNode m p) d) ≡ o
-    lowest-is = sym (rw (e₅, e₄, e₃, e₂, e₁) (lowest-same m w (copyNode m p) d))
-
-    count-is : count ≡ numPorts (m .graph) (copyNode m p) d
-    count-is = rw (e₂, e₁)
-
-    pub prepare-reuse : {q : ℕ} → o < count → q ≡ portOf (m .graph) n d o → _≡_ {A = Prepared} (record { graph = m; port = q; offset = o; ready = true }) (preparedAs m (prepare m p d))
-    unfolding prepare reuse subports
-    prepare-reuse l f =
-        let k = count-is in
-        rw (s, lowest-is, lt-ltb o (numPorts (m .graph) (copyNode m p) d) (omega arith), f, e₁)
-
-    pub prepare-grow : {r : Prepared} → count ≤ o → r ≡ preparedAs m (grow m n d) → r ≡ preparedAs m (prepare m p d)
-    unfolding prepare reuse subports
-    prepare-grow l f =
-        let k = count-is in
-        rw (s, lowest-is, le-ltb o (numPorts (m .graph) (copyNode m p) d) (omega arith)) (f ∙ ap (λ (x : ℕ). preparedAs m (grow m x d)) e₁)
-
 -- Splitting.
 module _ (m : MultiPortGraph) (p : ℕ) (d : Direction) {i o : ℕ} {r : NodeAdded} (e₁ : i ≡ copyIn d) (e₂ : o ≡ copyOut d) (e₃ : r ≡ addNode (m .graph) i o) where
   added-is : r ≡ addNode (m .graph) (copyIn d) (copyOut d)
@@ -190,98 +140,3 @@ module _ (m : MultiPortGraph) (p : ℕ) (d : Direction) {i o : ℕ} {r : NodeAdd
       go (lower-add.Added n f) (inr t) = let k = zeroth n f in absurd (omega arith)
       go lower-add.TooManyPorts t = refl
       go lower-add.NoRoom t = refl
-
-  pub split-done :
-      {n : NodeIndex} {f : PortIndex} {back : Direction} {copy old new far w₁ w₂ w₃ : ℕ} {u : lower-unlinked.PortUnlinked} {h₁ h₂ : lower-linked.PortsLinked} {t₁ t₂ t₃ : List Bool} →
-      length (m .multiport) ≡ portSlots →
-      length (m .«copy_node») ≡ nodeSlots →
-      r .answer ≡ lower-add.Added n f →
-      back ≡ reversed d →
-      copy ≡ portOf (r .graph) (n .0) back 0 →
-      old ≡ portOf (r .graph) (n .0) d 0 →
-      new ≡ portOf (r .graph) (n .0) d 1 →
-      far ≡ farPort (r .graph) p →
-      u ≡ unlinkPort (r .graph) p →
-      h₁ ≡ linkPorts (u .graph) p copy →
-      h₂ ≡ linkPorts (h₁ .graph) old far →
-      w₁ ≡ copy →
-      t₁ ≡ putFlag (m .multiport) portSlots w₁ true →
-      w₂ ≡ p →
-      t₂ ≡ putFlag t₁ portSlots w₂ true →
-      w₃ ≡ n .0 →
-      t₃ ≡ putFlag (m .«copy_node») nodeSlots w₃ true →
-      _≡_ {A = Prepared} (record {
-        graph = record {
-          graph = h₂ .graph;
-          multiport = t₂;
-          «copy_node» = t₃;
-          «copy_node_count» = m .«copy_node_count» + 1;
-          «subport_count» = m .«subport_count» + 2;
-        };
-        port = new;
-        offset = 1;
-        ready = true;
-      }) (preparedAs m (split m p d))
-  unfolding split splitPort splitGraph
-  split-done {n} {f} {back} {copy} {old} {new} {far} {w₁} {w₂} {w₃} {u} {h₁} {h₂} {t₁} {t₂} {t₃} long flags a b c₁ c₂ c₃ c₄ c₅ c₆ c₇ k₁ k₂ k₃ k₄ k₅ k₆ =
-      let copy-is : copy ≡ portOf (r .graph) (n .0) (reversed d) 0 = rw (c₁, b) in
-      let marks-is : t₂ ≡ set (set (m .multiport) (portOf (r .graph) (n .0) (reversed d) 0) true) p true = rw (k₄, k₂, k₃, k₁, copy-is) (two-puts (m .multiport) portSlots _ p true true long) in
-      let flags-is : t₃ ≡ set (m .«copy_node») (n .0) true = rw (k₆, k₅) (put-flag-is (m .«copy_node») nodeSlots (n .0) true flags) in
-      let made : _≡_ {A = Prepared} (record {
-        graph = record {
-          graph = h₂ .graph;
-          multiport = t₂;
-          «copy_node» = t₃;
-          «copy_node_count» = m .«copy_node_count» + 1;
-          «subport_count» = m .«subport_count» + 2;
-        };
-        port = new;
-        offset = 1;
-        ready = true;
-      }) (preparedAs m (splitBy m p d (r .graph) (lower-add.Added n f)))
-      = rw (c₇, c₆, c₅, c₂, c₄, copy-is, marks-is, flags-is, c₃) in
-      made ∙ ((λ j. preparedAs m (splitBy m p d (r .graph) (sym a j))) ∙ (λ j. preparedAs m (splitBy m p d (added-is j .graph) (added-is j .answer))))
-
--- Growing.
-more-in-is : (g : PortGraph) (c : ℕ) (d : Direction) → numPorts g c Incoming + 1 - sideNumber d ≡ moreIn g c d
-more-in-is g c Incoming = omega arith
-more-in-is g c Outgoing = omega arith
-
-more-out-is : (g : PortGraph) (c : ℕ) (d : Direction) → numPorts g c Outgoing + sideNumber d ≡ moreOut g c d
-more-out-is g c Incoming = omega arith
-more-out-is g c Outgoing = omega arith
-
-pub side-step : (d : Direction) → sideNumber d ≤ 1
-side-step Incoming = omega arith
-side-step Outgoing = omega arith
-
-pub recount-keeps : (m : MultiPortGraph) (c : ℕ) (g : PortGraph) {r : MultiPortGraph} → r ≡ recounted m c g → r .«subport_count» ≡ m .«subport_count»
-unfolding recounted
-recount-keeps m c g e = ap (λ (k : MultiPortGraph). k .«subport_count») e
-
-module _ (m : MultiPortGraph) (c : ℕ) (d : Direction) {a b s₁ s₂ len : ℕ} {r : PortsSet} (e₁ : a ≡ numPorts (m .graph) c Incoming) (e₂ : b ≡ numPorts (m .graph) c Outgoing)
-    (e₃ : s₁ ≡ sideNumber d) (e₄ : s₂ ≡ sideNumber d) (e₅ : len ≡ enough) (e₆ : r ≡ setNumPorts (m .graph) c (a + 1 - s₁) (b + s₂) len) where
-  set-is : r ≡ setNumPorts (m .graph) c (moreIn (m .graph) c d) (moreOut (m .graph) c d) enough
-  set-is = rw (← more-in-is (m .graph) c d, ← more-out-is (m .graph) c d, e₆, e₁, e₂, e₃, e₄, e₅)
-
-  pub grow-full : (tag : SetAnswer → ℕ) → ((e : ℕ) → tag (lower-set.Set e) ≡ 0) → (tag (r .answer) ≡ 1) ⊎ ((tag (r .answer) ≡ 2) ⊎ ((tag (r .answer) ≡ 3) ⊎ (tag (r .answer) ≡ 4))) →
-      _≡_ {A = Prepared} (record { graph = m; port = 0; offset = 0; ready = false }) (preparedAs m (grow m c d))
-  unfolding grow
-  grow-full tag zeroth z = go (r .answer) z ∙ (λ j. preparedAs m (grownBy m c d (set-is j .graph) (set-is j .answer)))
-    where
-      go : (x : SetAnswer) → (tag x ≡ 1) ⊎ ((tag x ≡ 2) ⊎ ((tag x ≡ 3) ⊎ (tag x ≡ 4))) → _≡_ {A = Prepared} (record { graph = m; port = 0; offset = 0; ready = false }) (preparedAs m (grownBy m c d (r .graph) x))
-      go (lower-set.Set e) (inl t) = let k = zeroth e in absurd (omega arith)
-      go (lower-set.Set e) (inr (inl t)) = let k = zeroth e in absurd (omega arith)
-      go (lower-set.Set e) (inr (inr (inl t))) = let k = zeroth e in absurd (omega arith)
-      go (lower-set.Set e) (inr (inr (inr t))) = let k = zeroth e in absurd (omega arith)
-      go lower-set.TooManyPorts t = refl
-      go lower-set.UnknownNode t = refl
-      go lower-set.MovesTooShort t = refl
-      go lower-set.NoRoom t = refl
-
-  pub grow-done : {e k q : ℕ} {g : MultiPortGraph} → r .answer ≡ lower-set.Set e → k ≡ numPorts (m .graph) c d → q ≡ portOf (r .graph) c d k → g ≡ recounted m c (r .graph) →
-      _≡_ {A = Prepared} (record { graph = more g; port = q; offset = k; ready = true }) (preparedAs m (grow m c d))
-  unfolding grow
-  grow-done {e} {k} {q} {g} a f₁ f₂ f₃ =
-      let made : _≡_ {A = Prepared} (record { graph = more g; port = q; offset = k; ready = true }) (preparedAs m (grownBy m c d (r .graph) (lower-set.Set e))) = rw (f₃, f₂, f₁) in
-      made ∙ ((λ j. preparedAs m (grownBy m c d (r .graph) (sym a j))) ∙ (λ j. preparedAs m (grownBy m c d (set-is j .graph) (set-is j .answer))))

@@ -1,10 +1,9 @@
 -- Steps of the leaves that read lent tables, over plain values.
-use mathlib.Core.Path.{_≡_, refl, sym, _∙_, ap}
+use mathlib.Core.Path.{_≡_, sym, _∙_, ap}
 use mathlib.Core.Bool.{Bool, true, false}
 use mathlib.Core.List.{List}
 use Prim.Native.Nat.{ℕ, zero, suc, _+_, _-_, _≤_, _<_, min}
 use native.Mathlib.Omega.{arith}
-use lib.Dec.{eqb, ltb}
 use borrow.Author.Tests.{eq-eqb, ne-eqb, lt-ltb, le-ltb}
 use Rattle.portgraph.specs.Limits.{nodeSlots, portSlots}
 use Rattle.portgraph.specs.Entries.{pick, portEntry}
@@ -20,7 +19,6 @@ use Rattle.multiportgraph.specs.declared.ends.SeenPort.the-variants as s
 use Rattle.multiportgraph.specs.declared.ends.EndFound.{EndFound}
 use Rattle.multiportgraph.specs.declared.ends.EndFound.the-variants as end-found
 use Rattle.multiportgraph.specs.declared.multiportgraph.SubportIndex.{SubportIndex}
-use Rattle.multiportgraph.specs.declared.multiportgraph.CutAnswer.{CutAnswer}
 use Rattle.multiportgraph.specs.declared.multiportgraph.CutAnswer.the-variants as cutting
 
 -- The loop of a run.
@@ -231,3 +229,9 @@ module _ (links owners : List ℕ) (flags : List Bool) (p w a : ℕ) (e : w ≡ 
   pub one-wire : (v q : ℕ) (s : SubportIndex) → (a ≡ 0 → ⊥) → v ≡ p → q ≡ farIn links v → s ≡ subportIn links owners flags q → cutting.Found s ≡ wireIn links owners flags p
   unfolding wireIn
   one-wire v q s z h g k = rw (ne-eqb (at links p) 0 (λ y. z (f ∙ ap (at links) e ∙ y)), k, g, h)
+
+pub subports-bound : (links owners : List ℕ) (p : ℕ) (d : Direction) → subportsIn links owners p d ≤ portSlots
+unfolding subportsIn countBeside
+subports-bound links owners p Incoming =
+    let h = down-bound owners (at owners (farIn links p - 1)) (farIn links p) in omega arith
+subports-bound links owners p Outgoing = up-bound owners (at owners (farIn links p + 1)) (farIn links p + 1)

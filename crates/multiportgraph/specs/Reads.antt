@@ -1,12 +1,12 @@
 -- What can be read off the tables alone: owners, links, marks and hidden flags, each of which can be lent.
 -- The ports of a hidden node lie in a row: the subports are the slots of one owner beside the copy port.
-use mathlib.Core.Bool.{Bool, true, false}
+use mathlib.Core.Bool.{Bool}
 use mathlib.Core.List.{List}
 use Prim.Native.Nat.{ℕ, zero, suc, _+_, _-_, min}
 use lib.Dec.{eqb, ltb}
 use Rattle.portgraph.specs.Limits.{nodeSlots, portSlots}
 use Rattle.portgraph.specs.Entries.{pick, portEntry}
-use Rattle.portgraph.specs.Tables.{at}
+use Rattle.portgraph.specs.Tables.{at, linkBoth, cut}
 use Rattle.portgraph.specs.Lookups.{nodeOf}
 use Rattle.portgraph.specs.declared.direction.Direction.{Direction}
 use Rattle.portgraph.specs.declared.direction.Direction.the-variants.{Incoming, Outgoing}
@@ -100,3 +100,25 @@ subportIn links owners flags q = subportOwned links owners flags q (portEntry (a
 -- what an end is linked with
 unfoldable pub wireIn : List ℕ → List ℕ → List Bool → ℕ → CutAnswer
 wireIn links owners flags q = pick (eqb (at links q) 0) cutting.Nothing (cutting.Found (subportIn links owners flags (farIn links q)))
+
+-- What a split does to the links: the port hangs on the copy port, and its old link is at the first subport.
+unfoldable pub hangOn : List ℕ → ℕ → ℕ → ℕ → List ℕ
+hangOn links p copy first = linkBoth (linkBoth (cut links p) p copy) first (farIn links p)
+
+-- where the copy port and the first subport stand in a new hidden node's block
+abbrev pub copyAt : Direction → ℕ
+copyAt Incoming = 2
+copyAt Outgoing = 0
+
+abbrev pub subportsAt : Direction → ℕ
+subportsAt Incoming = 0
+subportsAt Outgoing = 1
+
+-- the counts of a hidden node with n subports on a side, with one more
+abbrev pub grownIn : Direction → ℕ → ℕ
+grownIn Incoming n = n + 1
+grownIn Outgoing n = 1
+
+abbrev pub grownOut : Direction → ℕ → ℕ
+grownOut Incoming n = 1
+grownOut Outgoing n = n + 1

@@ -239,7 +239,7 @@ pub record WasMarked (m : MultiPortGraph) (M M′ : Model) (s : ℕ) : Type 0 wh
   pub marked : isSplit m (slotOf (M .node) place) ≡ true
 
 -- a marked slot is the slot of a place
-marked-place : {m : MultiPortGraph} {M : Model} → Fine m M → (s : ℕ) → isSplit m s ≡ true → (x : model.Place) × Valid (M .node) x × (slotOf (M .node) x ≡ s)
+pub marked-place : {m : MultiPortGraph} {M : Model} → Fine m M → (s : ℕ) → isSplit m s ≡ true → (x : model.Place) × Valid (M .node) x × (slotOf (M .node) x ≡ s)
 marked-place {m} {M} f s e = go (f .onlyMarked s e)
   where
     go : Marked m M s → (x : model.Place) × Valid (M .node) x × (slotOf (M .node) x ≡ s)
@@ -477,7 +477,7 @@ module _ {m : MultiPortGraph} {M : Model} {m′ : MultiPortGraph} {M′ : Model}
 
 -- A hidden node grows by one subport.
 
-abbrev grown : MultiPortGraph → ℕ → PortGraph → MultiPortGraph
+abbrev pub grown : MultiPortGraph → ℕ → PortGraph → MultiPortGraph
 grown m c g = more (recounted m c g)
 
 reversed-twice : (d e : Direction) → d ≡ reversed e → reversed d ≡ e
@@ -509,7 +509,7 @@ module _ {m : MultiPortGraph} {M : Model} (f : Fine m M) (x : model.Place) (h : 
       go Outgoing Incoming p q = omega arith
       go Outgoing Outgoing p q = omega arith
 
-  valid-kept : (y : model.Place) → Valid (M .node) y → Valid (M′ .node) y
+  pub valid-kept : (y : model.Place) → Valid (M .node) y → Valid (M′ .node) y
   valid-kept y v = ⊎-elim
       (λ e. let p = count-before f r y e in let q = count-after f r y e in let l = side-grows (y .side) in omega arith)
       (λ e. let p = other-count f r (y .node) (y .side) e in omega arith)
@@ -522,7 +522,7 @@ module _ {m : MultiPortGraph} {M : Model} (f : Fine m M) (x : model.Place) (h : 
       let q = count-new b i o (y .side) (r .ins) (r .outs) in
       omega arith)
 
-  joins-same : (y : model.Place) → M′ .join y ≡ M .join y
+  pub joins-same : (y : model.Place) → M′ .join y ≡ M .join y
   joins-same y = r .join y ∙ go (M .join y) refl
     where
       go : (w : Far) → M .join y ≡ w → dropJoin (beyond (h .copy) i o) (M .join) y ≡ M .join y
@@ -530,7 +530,7 @@ module _ {m : MultiPortGraph} {M : Model} (f : Fine m M) (x : model.Place) (h : 
       go (to z) j =
           drop-kept (beyond (h .copy) i o) (M .join) y z j (kept-below y (f .good .joinValid y z j)) (kept-below z (joined-is-valid (f .good) y z j)) ∙ sym j
 
-  hidden-same : (k : ℕ) → isHidden (grown m (h .copy) g′) k ≡ isHidden m k
+  pub hidden-same : (k : ℕ) → isHidden (grown m (h .copy) g′) k ≡ isHidden m k
   unfolding isHidden recounted
   hidden-same k = refl
 
@@ -571,7 +571,7 @@ module _ {m : MultiPortGraph} {M : Model} (f : Fine m M) (x : model.Place) (h : 
       let t = shape k e in
       copy-side-is (grown m (h .copy) g′) k (t .meta) (copySide m k) (meta-of-node (r .good) holds-grown k (t .meta) (t .here)) (t .single) (t .several)
 
-  ends-same : SameEnds m M (grown m (h .copy) g′) M′
+  pub ends-same : SameEnds m M (grown m (h .copy) g′) M′
   ends-same = record { hid = hidden-same; sides = sides-same; joins = joins-same; valid = valid-kept; marks = split-same }
 
   grown-long : length (grown m (h .copy) g′ .multiport) ≡ portSlots
@@ -623,7 +623,7 @@ module _ {m : MultiPortGraph} {M : Model} (f : Fine m M) (x : model.Place) (h : 
               let z : y ≡ w .place = slots-apart (f .good) y (w .place) (joined-is-valid (f .good) (copyPlace m c) y j) (w .was) t in
               main-port c y (hidden-same c ∙ q) (ap (M′ .join) (copy-place-same f ends-same c q) ∙ joins-same _ ∙ j) (ap (slotOf (M′ .node)) z ∙ w .slot)
 
-  grown-fine : Fine (grown m (h .copy) g′) M′
+  pub grown-fine : Fine (grown m (h .copy) g′) M′
   grown-fine =
       record {
         good = r .good;
@@ -666,10 +666,10 @@ module _ {m : MultiPortGraph} {M : Model} (f : Fine m M) (x : model.Place) (h : 
   )
 
   -- the new subport
-  abbrev fresh : model.Place
+  abbrev pub fresh : model.Place
   fresh = inner# (h .copy) (x .side) (portsOn a (x .side))
 
-  fresh-valid : Valid (M′ .node) fresh
+  pub fresh-valid : Valid (M′ .node) fresh
   fresh-valid = let p = count-after f r fresh refl in omega arith
 
   fresh-end : IsEnd (grown m (h .copy) g′) M′ fresh
@@ -694,7 +694,7 @@ module _ {m : MultiPortGraph} {M : Model} (f : Fine m M) (x : model.Place) (h : 
       go nowhere j = j
       go (to y) j = absurd (fresh-was-free y j)
 
-  fresh-slot : slotOf (M′ .node) fresh ≡ portOf g′ (h .copy) (x .side) (portsOn a (x .side))
+  pub fresh-slot : slotOf (M′ .node) fresh ≡ portOf g′ (h .copy) (x .side) (portsOn a (x .side))
   unfolding portOf
   fresh-slot = sym (ap portNumber (port-index-is (r .good) (r .holds) fresh fresh-valid))
 
@@ -766,13 +766,13 @@ module _ {m : MultiPortGraph} {M : Model} (f : Fine m M) (x : model.Place) (h : 
 
 -- The call.
 
-more-longer : (a b : NodeMeta) (g : PortGraph) (c : ℕ) (d : Direction) → ((e : Direction) → numPorts g c e ≡ portsOn a e) → b .incoming ≡ moreIn g c d → b .outgoing ≡ moreOut g c d
+pub more-longer : (a b : NodeMeta) (g : PortGraph) (c : ℕ) (d : Direction) → ((e : Direction) → numPorts g c e ≡ portsOn a e) → b .incoming ≡ moreIn g c d → b .outgoing ≡ moreOut g c d
     → (portsOn b d ≡ portsOn a d + 1) × (portsOn b (reversed d) ≡ portsOn a (reversed d))
 more-longer a b g c Incoming n p q = (p ∙ ap (λ (k : ℕ). k + 1) (n Incoming), q ∙ n Outgoing)
 more-longer a b g c Outgoing n p q = (q ∙ ap (λ (k : ℕ). k + 1) (n Outgoing), p ∙ n Incoming)
 
 -- the lower resize that a hidden node grows by
-abbrev growth# : MultiPortGraph → ℕ → Direction → PortsSet
+abbrev pub growth# : MultiPortGraph → ℕ → Direction → PortsSet
 growth# m c d = setNumPorts (m .graph) c (moreIn (m .graph) c d) (moreOut (m .graph) c d) enough
 
 module _ {m : MultiPortGraph} {M : Model} (f : Fine m M) (x : model.Place) (h : Hangs m M x)

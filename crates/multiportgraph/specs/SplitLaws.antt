@@ -1,6 +1,6 @@
 -- What preparing an end of a port does (`PreparedEnd`), and its first case: splitting a linked port. A hidden node with two
 -- subports comes, the port's link moves to offset 0, and offset 1 is free.
-use mathlib.Core.Path.{_≡_, refl, sym, _∙_, ap, subst}
+use mathlib.Core.Path.{_≡_, refl, sym, _∙_, ap, subst, transport}
 use mathlib.Core.Bool.{Bool, true, false}
 use mathlib.Core.List.{List}
 use mathlib.Core.Logic.{_⊎_, inl, inr, ⊎-elim}
@@ -12,24 +12,32 @@ use lib.Seq.{getD-set-same, getD-set-other, lt-length-set}
 use borrow.Author.Tests.{eqb-true, eqb-false, leb-true, leb-false}
 use Rattle.portgraph.specs.Limits.{nodeSlots, portSlots, nodePorts}
 use Rattle.portgraph.specs.Entries.{pick, reversed, portsOn}
-use Rattle.portgraph.specs.Lookups.{numPorts, countIn}
+use Rattle.portgraph.specs.Tables.{at, cut, linkBoth, linkCount}
+use Rattle.portgraph.specs.Lookups.{node#, port#, numPorts, countIn}
 use Rattle.portgraph.specs.Sums.{place-cases, total-one, upd-same, upd-other, samePlace-refl, drop-here, drop-there, drop-nowhere, link-near, link-far, link-other, cut-elsewhere}
 use Rattle.portgraph.specs.Meaning.{addModel, linkModel, unlinkModel, samePlace, metaOf, nextSlot, nextBlock, growth}
-use Rattle.portgraph.specs.Calls.{linkPorts, unlinkPort, placeNode}
+use Rattle.portgraph.specs.Calls.{addNode, linkPorts, unlinkPort, placeNode, withLinks}
 use Rattle.portgraph.specs.Resize.{roundUp}
 use Rattle.portgraph.specs.GoodSlots.{gone-not-live, zero-is-not-one, slot-in-range, slots-apart, joined-is-valid, same-place}
 use Rattle.portgraph.specs.GoodLaws.{good-link, good-unlink, good-add, next-slot-gone}
 use Rattle.portgraph.specs.LinkHolds.{link-done, link-holds, unlink-linked, unlink-holds}
 use Rattle.portgraph.specs.SlotHolds.{add-law, addWhere, place-holds, slotRoom, blockRoom}
-use Rattle.portgraph.specs.PlaceLaws.{meta-of-node, port-index-is, port-link-to}
+use Rattle.portgraph.specs.PlaceLaws.{meta-of-node, port-index-is, port-link-to, link-to}
 use Rattle.portgraph.specs.declared.node_entry.NodeMeta.{NodeMeta}
+use Rattle.portgraph.specs.declared.index.NodeIndex.{NodeIndex}
+use Rattle.portgraph.specs.declared.index.PortIndex.{PortIndex}
 use Rattle.portgraph.specs.declared.portgraph.PortGraph.{PortGraph}
+use Rattle.portgraph.specs.declared.portgraph.PortsLinked as lower-linked
+use Rattle.portgraph.specs.declared.portgraph.PortUnlinked as lower-unlinked
+use Rattle.portgraph.specs.declared.slots.NodeAdded.{NodeAdded}
+use Rattle.portgraph.specs.declared.slots.AddAnswer.the-variants as lower-add
 use Rattle.portgraph.specs.Model as model
 use Rattle.portgraph.specs.Model.{Model, Far, nowhere, to, gone, live, Good, Holds, Valid, slotOf, portsOf, countOf, firstOf, sideStart}
 use Rattle.portgraph.specs.declared.direction.Direction.{Direction}
 use Rattle.portgraph.specs.declared.direction.Direction.the-variants.{Incoming, Outgoing}
 use Rattle.multiportgraph.specs.Reading.{isHidden, isSplit, copySide, portOf, portNumber, farPort, linkNumber}
 use Rattle.multiportgraph.specs.Calls.{copyIn, copyOut, Prepared, ready, full, split, splitBy, splitPort, splitGraph}
+use Rattle.multiportgraph.specs.Reads.{farIn, hangOn, copyAt, subportsAt}
 use Rattle.multiportgraph.specs.Wires.{Place, Wire}
 use Rattle.multiportgraph.specs.Inner.{inner#, copyPlace, Copy, Marked, copy-port, main-port, flag, subportsIn, Fine, Seen, lift, liftFar, outer, IsEnd, WireIn, SameBlocks, none, SameWires}
 use Rattle.multiportgraph.specs.Ends.{ends-join-ends, unsplit-no-copy, outer-of-subport, outer-of-block}
@@ -612,6 +620,14 @@ module _ {m : MultiPortGraph} {M : Model} {x y : model.Place} {m′ : MultiPortG
             };
       }
 
+-- What a split does to the tables of a graph in which node c was added, with its block from first on.
+pub record SplitTables (p : ℕ) (d : Direction) (g : PortGraph) (c first : ℕ) : Type 0 where
+  pub graph : splitGraph g p d c
+      ≡ withLinks g (hangOn (g .«port_link») p (first + copyAt d) (first + subportsAt d)) (g .«link_count» - linkCount (at (g .«port_link») p) + 2)
+  pub copy : portOf g c (reversed d) 0 ≡ first + copyAt d
+  pub new : portOf g c d 1 ≡ first + subportsAt d + 1
+  pub fits : first + 3 ≤ portSlots
+
 -- The lower graph's steps.
 
 module _ {g : PortGraph} {M : Model} (good : Good M) (holds : Holds g M) where
@@ -627,6 +643,10 @@ module _ {g : PortGraph} {M : Model} (good : Good M) (holds : Holds g M) where
   far-at : (x y : model.Place) → M .join x ≡ to y → farPort g (slotOf (M .node) x) ≡ slotOf (M .node) y
   unfolding farPort
   far-at x y j = ap linkNumber (port-link-to good holds x y (good .joinValid x y j) j)
+
+-- a graph with one link more
+abbrev linked-to : ℕ → ℕ → PortGraph → PortGraph
+linked-to a b g = withLinks g (linkBoth (g .«port_link») a b) (g .«link_count» + 1)
 
 module _ {m : MultiPortGraph} {M : Model} (f : Fine m M) (x y : model.Place) (sx : Seen m M x) (linked : M .join x ≡ to y)
     (small : copyIn (x .side) + copyOut (x .side) ≤ nodePorts)
@@ -747,6 +767,56 @@ module _ {m : MultiPortGraph} {M : Model} (f : Fine m M) (x y : model.Place) (sx
       subst (λ (g : PortGraph). Holds g M₄)
       (λ i. linkPorts (linkPorts (unlinkPort g₁ (slot-of-x i) .graph) (slot-of-x i) (sym a i) .graph) (sym b i) (sym e i) .graph)
       (link-step good₃ holds₃ (sp 0) y (valid-sp 0 (omega arith)) valid-y first-free y-free (f .good .joinSides x y linked))
+
+  -- the same by the tables
+  copy-at : slotOf (M₁ .node) cp ≡ nextBlock M (copyIn (x .side) + copyOut (x .side)) + copyAt (x .side)
+  copy-at = ap (λ w. firstOf w + (sideStart w (reversed (x .side)) + 0)) is-new ∙ go (x .side)
+    where
+      go : (d : Direction) → firstOf (live new#) + (sideStart (live (metaOf (firstOf (live new#)) (copyIn d) (copyOut d) (copyIn d + copyOut d))) (reversed d) + 0) ≡ firstOf (live new#) + copyAt d
+      go Incoming = omega arith
+      go Outgoing = omega arith
+
+  subport-at : (i : ℕ) → slotOf (M₁ .node) (sp i) ≡ nextBlock M (copyIn (x .side) + copyOut (x .side)) + subportsAt (x .side) + i
+  subport-at i = ap (λ w. firstOf w + (sideStart w (x .side) + i)) is-new ∙ go (x .side)
+    where
+      go : (d : Direction) → firstOf (live new#) + (sideStart (live (metaOf (firstOf (live new#)) (copyIn d) (copyOut d) (copyIn d + copyOut d))) d + i) ≡ firstOf (live new#) + subportsAt d + i
+      go Incoming = omega arith
+      go Outgoing = omega arith
+
+  far-in : farIn (g₁ .«port_link») (slotOf (M .node) x) ≡ slotOf (M₁ .node) y
+  unfolding farIn
+  far-in = let e = link-to good₁ holds₁ x y valid-x linked in ap (λ (s : ℕ). at (g₁ .«port_link») s - 1) (sym slot-of-x) ∙ omega arith
+
+  links₄ : splitGraph g₁ (slotOf (M .node) x) (x .side) c#
+      ≡ withLinks g₁
+      (hangOn (g₁ .«port_link») (slotOf (M .node) x) (nextBlock M (copyIn (x .side) + copyOut (x .side)) + copyAt (x .side)) (nextBlock M (copyIn (x .side) + copyOut (x .side)) + subportsAt (x .side)))
+      (g₁ .«link_count» - linkCount (at (g₁ .«port_link») (slotOf (M .node) x)) + 2)
+  unfolding splitGraph hangOn
+  links₄ =
+      let a = port-at good₁ holds₁ cp valid-cp in
+      let b = port-at good₁ holds₁ (sp 0) (valid-sp 0 (omega arith)) in
+      let e : farPort g₁ (slotOf (M .node) x) ≡ slotOf (M₁ .node) y = ap (farPort g₁) (sym slot-of-x) ∙ far-at good₁ holds₁ x y linked in
+      let cut₁ = ap (λ (r : lower-unlinked.PortUnlinked). r .graph) (unlink-linked good₁ holds₁ x y valid-x linked) in
+      let link₁ = ap (λ (r : lower-linked.PortsLinked). r .graph)
+      (link-done (good-unlink good₁ x) (cut-step good₁ holds₁ x y linked) x cp valid-x valid-cp (λ q. not-reversed (x .side) (sym q)) x-cut (new-free cp refl)) in
+      let link₂ = ap (λ (r : lower-linked.PortsLinked). r .graph)
+      (link-done good₃ holds₃ (sp 0) y (valid-sp 0 (omega arith)) valid-y (f .good .joinSides x y linked) first-free y-free) in
+      let first : slotOf (M₁ .node) (sp 0) ≡ nextBlock M (copyIn (x .side) + copyOut (x .side)) + subportsAt (x .side) = subport-at 0 ∙ omega arith in
+      let count : (n : ℕ) → n + 1 + 1 ≡ n + 2 = λ n. omega arith in
+      (λ i. linkPorts (linkPorts (unlinkPort g₁ (sym slot-of-x i) .graph) (sym slot-of-x i) (a i) .graph) (b i) (e i) .graph)
+      ∙ (link₂
+      ∙ (ap (linked-to (slotOf (M₁ .node) (sp 0)) (slotOf (M₁ .node) y)) (link₁ ∙ ap (linked-to (slotOf (M₁ .node) x) (slotOf (M₁ .node) cp)) cut₁)
+      ∙ (λ i. withLinks g₁ (linkBoth (linkBoth (cut (g₁ .«port_link») (slot-of-x i)) (slot-of-x i) (copy-at i)) (first i) (sym far-in i))
+      (count (g₁ .«link_count» - linkCount (at (g₁ .«port_link») (slot-of-x i))) i))))
+
+  tables₄ : SplitTables (slotOf (M .node) x) (x .side) g₁ c# (nextBlock M (copyIn (x .side) + copyOut (x .side)))
+  tables₄ =
+      record {
+        graph = links₄;
+        copy = port-at good₁ holds₁ cp valid-cp ∙ copy-at;
+        new = port-at good₁ holds₁ (sp 1) (valid-sp 1 (omega arith)) ∙ subport-at 1;
+        fits = let e = good₁ .blockEnds c# new# is-new in let l = good₁ .portsFit in let t = three-ports (x .side) in omega arith;
+      }
 
   abbrev m₄ : MultiPortGraph
   m₄ = splitPort m (slotOf (M .node) x) (x .side) g₁ c#
@@ -872,3 +942,25 @@ split-says {m} {M} f x y sx plain linked =
         (let a = leb-false (copyIn (x .side) + copyOut (x .side)) nodePorts p in
         let b = three-ports (x .side) in
         omega arith)
+
+-- the tables after a split
+pub split-tables : {m : MultiPortGraph} {M : Model} → Fine m M → (x y : model.Place) → Seen m M x → M .join x ≡ to y →
+    (r : NodeAdded) → r ≡ addNode (m .graph) (copyIn (x .side)) (copyOut (x .side)) → (n : NodeIndex) (p : PortIndex) → r .answer ≡ lower-add.Added n p →
+    SplitTables (slotOf (M .node) x) (x .side) (r .graph) (n .0) (p .0)
+split-tables {m} {M} f x y sx linked r e n p h =
+    go (leb (copyIn (x .side) + copyOut (x .side)) nodePorts) (slotRoom M) (blockRoom M (copyIn (x .side) + copyOut (x .side))) refl refl refl
+    (e ∙ add-law (f .good) (f .holds) (copyIn (x .side)) (copyOut (x .side)))
+  where
+    go : (few slot block : Bool) → leb (copyIn (x .side) + copyOut (x .side)) nodePorts ≡ few → slotRoom M ≡ slot → blockRoom M (copyIn (x .side) + copyOut (x .side)) ≡ block →
+        r ≡ addWhere (m .graph) M (copyIn (x .side)) (copyOut (x .side)) few slot block → SplitTables (slotOf (M .node) x) (x .side) (r .graph) (n .0) (p .0)
+    go true true true a b c k =
+        let small = leb-true (copyIn (x .side) + copyOut (x .side)) nodePorts a in
+        let nodeRoom = leb-true (M .nodeLen + growth 1 (M .freeNodes)) nodeSlots b in
+        let portRoom = leb-true (M .portLen + growth (copyIn (x .side) + copyOut (x .side)) (M .freeBlocks (copyIn (x .side) + copyOut (x .side)))) portSlots c in
+        let is : r .answer ≡ lower-add.Added (node# (nextSlot M)) (port# (nextBlock M (copyIn (x .side) + copyOut (x .side)))) = ap (λ (z : NodeAdded). z .answer) k in
+        let same : node# (nextSlot M) ≡ n = cc in
+        let at₁ : port# (nextBlock M (copyIn (x .side) + copyOut (x .side))) ≡ p = cc in
+        transport (λ i. SplitTables (slotOf (M .node) x) (x .side) (sym k i .graph) (same i .0) (at₁ i .0)) (tables₄ f x y sx linked small nodeRoom portRoom)
+    go true true false a b c k = absurd (zero-is-not-one (let z = ap (λ (u : NodeAdded). u .answer) k in cc))
+    go true false block a b c k = absurd (zero-is-not-one (let z = ap (λ (u : NodeAdded). u .answer) k in cc))
+    go false slot block a b c k = absurd (zero-is-not-one (let z = ap (λ (u : NodeAdded). u .answer) k in cc))

@@ -35,7 +35,10 @@ impl MultiPortGraph {
         let mut graph = self;
         let mut k: usize = 0;
         while k < count {
-            graph = graph.unsplit((wide(first) + k) as u32);
+            let port = wide(first) + k;
+            if marked(&graph.multiport, port) {
+                graph = graph.unsplit(port as u32);
+            }
             k += 1;
         }
         graph

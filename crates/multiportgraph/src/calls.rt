@@ -31,7 +31,7 @@ ghost use mathlib.Core.Path.{_≡_};
 ghost use Prim.Native.Nat.{_-_};
 ghost use Rattle.portgraph.specs.Meaning.{sameSide};
 ghost use Rattle.portgraph.specs.Tables.{linkCount};
-ghost use Rattle.multiportgraph.specs.Calls.{emptyGraph, addBlock, addNumbers, linkNumbers, cutNumbers, linkRefused, linkSub, cutPort, cutSub, subportLink, visibleNodes, visiblePorts, visibleLinks};
+ghost use Rattle.multiportgraph.specs.Calls.{emptyGraph, addBlock, addNumbers, linkNumbers, cutNumbers, linkSub, cutPort, cutSub, subportLink, visibleNodes, visiblePorts, visibleLinks};
 ghost use Rattle.multiportgraph.specs.Inner.{MultiWf};
 
 // Whether two directions are the same.
@@ -220,15 +220,6 @@ impl MultiPortGraph {
                     }),
                 }
             }
-        }
-    }
-
-    pub(crate) fn link_refused(self, refusal: Refusal) -> PortsLinked
-        ensures { λ r. ⌜ r ≡ linkRefused self refusal ⌝ }
-    {
-        PortsLinked {
-            graph: self,
-            answer: LinkAnswer::Refused(refusal),
         }
     }
 

@@ -15,12 +15,10 @@ use portgraph::index::PortIndex;
 use portgraph::node_entry::MaybeNodeMeta;
 use portgraph::portgraph::PortGraph;
 ghost use mathlib.Core.Path.{_≡_};
-ghost use mathlib.Core.Bool.{true};
 ghost use Prim.Native.Nat.{_-_};
 ghost use Rattle.portgraph.specs.Model.{Wf};
-ghost use Rattle.multiportgraph.specs.Reading.{isSplit};
 ghost use Rattle.multiportgraph.specs.Calls.{removeCopy, unsplit, recounted};
-ghost use Rattle.multiportgraph.specs.LinkSteps.{OnBlock};
+ghost use Rattle.multiportgraph.specs.LinkSteps.{SplitPort};
 
 // The difference, 0 at the least.
 pub(crate) fn less(a: usize, b: usize) -> usize
@@ -52,7 +50,7 @@ impl MultiPortGraph {
 
     // A split port of a block loses its hidden node, with every link at it.
     pub(crate) fn drop_copy(mut self, port: u32, direction: Direction) -> MultiPortGraph
-        requires { ⌜ OnBlock self port direction × (isSplit self port ≡ true) ⌝ }
+        requires { ⌜ SplitPort self port direction ⌝ }
         ensures { λ r. ⌜ r ≡ unsplit self port ⌝ }
     {
         let copy = far_in(&self.graph.port_link, wide(port));

@@ -1,10 +1,9 @@
-// How a port number is read: live or not, hidden or not, split or not, and which end a subport is.
+// How a port number is read: live or not, hidden or not, and the hidden node of a split port. Where tables can be lent, the
+// leaves of `reads` serve instead.
 use crate::marks::flagged;
 use crate::marks::marked;
 use crate::marks::wide;
-use crate::marks::wide16;
 use crate::multiportgraph::MultiPortGraph;
-use crate::multiportgraph::SubportIndex;
 use portgraph::direction::Direction;
 use portgraph::index::MaybeNodeIndex;
 use portgraph::index::MaybePortIndex;
@@ -17,8 +16,8 @@ use portgraph::portgraph::PortGraph;
 use portgraph::portgraph::PortLink;
 ghost use mathlib.Core.Path.{_≡_};
 ghost use Rattle.portgraph.specs.Model.{Wf};
-ghost use Rattle.multiportgraph.specs.Reading.{farPort, hasLink, ownerOf, portOf, positionOf, seen, copyNode, subports, endAt, asRead, copySide, mainPort, subportOf};
-ghost use Rattle.multiportgraph.specs.Forms.{seenAs, endAs};
+ghost use Rattle.multiportgraph.specs.Reading.{farPort, ownerOf, portOf, positionOf, seen, copyNode, subports, copySide};
+ghost use Rattle.multiportgraph.specs.Forms.{seenAs};
 
 // A port number, read.
 pub enum SeenPort {
@@ -44,17 +43,6 @@ pub(crate) fn far_port(graph: PortGraph, port: u32) -> u32
         PortLink::Linked(far) => far.0,
         PortLink::Unlinked => 0,
         PortLink::UnknownPort(_) => 0,
-    }
-}
-
-// Whether a port has a link.
-pub(crate) fn has_link(graph: PortGraph, port: u32) -> bool
-    ensures { λ r. ⌜ r ≡ hasLink graph port ⌝ }
-{
-    match graph.port_link(PortIndex(port)) {
-        PortLink::Linked(_) => true,
-        PortLink::Unlinked => false,
-        PortLink::UnknownPort(_) => false,
     }
 }
 
@@ -119,42 +107,11 @@ impl MultiPortGraph {
     }
 
     // How many subports a split port has.
-    pub(crate) fn subports(self, port: u32, direction: Direction) -> usize
+    pub(crate) fn subports_of(self, port: u32, direction: Direction) -> usize
         ensures { λ r. ⌜ r ≡ subports self port direction ⌝ }
     {
         let graph = self.graph;
         graph.num_ports(NodeIndex(self.copy_node_of(port)), direction)
-    }
-
-    // The inner port of an end.
-    pub(crate) fn end_at(self, port: u32, direction: Direction, offset: u16) -> EndFound
-        requires { ⌜ Wf (self .graph) ⌝ }
-        ensures { λ r. ⌜ r ≡ endAs (endAt self port direction offset) ⌝ }
-    {
-        if marked(&self.multiport, wide(port)) {
-            if wide16(offset) < self.subports(port, direction) {
-                let graph = self.graph;
-                return EndFound::At(port_of(graph, self.copy_node_of(port), direction, offset));
-            }
-            return EndFound::Lacking;
-        }
-        EndFound::At(port)
-    }
-
-    // An end as read: on an unsplit port every offset means the port itself.
-    pub(crate) fn as_read(self, port: u32, offset: u16) -> SubportIndex
-        ensures { λ r. ⌜ r ≡ asRead self port offset ⌝ }
-    {
-        if marked(&self.multiport, wide(port)) {
-            return SubportIndex {
-                port: PortIndex(port),
-                subport_offset: offset,
-            };
-        }
-        SubportIndex {
-            port: PortIndex(port),
-            subport_offset: 0,
-        }
     }
 
     // The side of a hidden node that has its copy port.
@@ -176,33 +133,5 @@ impl MultiPortGraph {
             return Direction::Incoming;
         }
         Direction::Outgoing
-    }
-
-    // The split port of a hidden node.
-    pub(crate) fn main_port(self, node: u32) -> u32
-        requires { ⌜ Wf (self .graph) ⌝ }
-        ensures { λ r. ⌜ r ≡ mainPort self node ⌝ }
-    {
-        let graph = self.graph;
-        far_port(graph, port_of(graph, node, self.copy_side(node), 0))
-    }
-
-    // The subport that an inner port is.
-    pub(crate) fn subport_of(self, port: u32) -> SubportIndex
-        requires { ⌜ Wf (self .graph) ⌝ }
-        ensures { λ r. ⌜ r ≡ subportOf self port ⌝ }
-    {
-        let graph = self.graph;
-        let node = owner_of(graph, port);
-        if flagged(&self.copy_node, wide(node)) {
-            return SubportIndex {
-                port: PortIndex(self.main_port(node)),
-                subport_offset: position_of(graph, port),
-            };
-        }
-        SubportIndex {
-            port: PortIndex(port),
-            subport_offset: 0,
-        }
     }
 }

@@ -5,29 +5,38 @@ use crate::multiportgraph::MultiPortGraph;
 use crate::multiportgraph::PortsLinked;
 use crate::multiportgraph::Refusal;
 use crate::multiportgraph::SubportIndex;
+use crate::named::EndNeed;
 use crate::named::LinkNeed;
 use crate::named::link_need;
+use crate::named::need_in;
+use crate::prepare::Prepared;
 use portgraph::direction::Direction;
 use portgraph::index::PortIndex;
 use portgraph::tables::link_both as join;
 ghost use mathlib.Core.Path.{_≡_};
 ghost use Rattle.multiportgraph.specs.Calls.{linkNumbers, linkCall, linkFirst, linkBoth, prepare};
 ghost use Rattle.multiportgraph.specs.Inner.{MultiWf};
-ghost use Rattle.multiportgraph.specs.LinkSteps.{BothOnBlock};
+ghost use Rattle.multiportgraph.specs.LinkSteps.{OnBlock, BothOnBlock};
 
 impl MultiPortGraph {
     // The second port is not live: the preparation of the first stays.
     fn link_first(self, a: u32, d: Direction, b: PortIndex) -> PortsLinked
-        requires { ⌜ MultiWf self ⌝ }
+        requires { ⌜ OnBlock self a d ⌝ }
         ensures { λ r. ⌜ r ≡ linkFirst self (b .0) (prepare self a d) ⌝ }
     {
         let first = self.prepare(a, d);
         let ready = first.ready;
         if ready {
             let after = first.graph;
-            return after.link_refused(Refusal::UnknownSecondPort(b));
+            return PortsLinked {
+                graph: after,
+                answer: LinkAnswer::Refused(Refusal::UnknownSecondPort(b)),
+            };
         }
-        self.link_refused(Refusal::NoRoom)
+        PortsLinked {
+            graph: self,
+            answer: LinkAnswer::Refused(Refusal::NoRoom),
+        }
     }
 
     // Both ports are live: both ends are prepared.
@@ -35,27 +44,58 @@ impl MultiPortGraph {
         requires { ⌜ BothOnBlock self a d b e ⌝ }
         ensures { λ r. ⌜ r ≡ linkBoth self a d b e (prepare self a d) ⌝ }
     {
-        let first = self.prepare(a, d);
+        let first = match need_in(
+            &self.multiport,
+            &self.graph.port_link,
+            &self.graph.port_meta,
+            a,
+            d,
+        ) {
+            EndNeed::Ready(inner, offset) => Prepared {
+                graph: self,
+                port: inner,
+                offset: offset,
+                ready: true,
+            },
+            EndNeed::Grow => self.grow(a, d),
+            EndNeed::Split => self.split(a, d),
+        };
         let ready = first.ready;
         if ready {
             let middle = first.graph;
-            let second = middle.prepare(b, e);
+            let second = match need_in(
+                &middle.multiport,
+                &middle.graph.port_link,
+                &middle.graph.port_meta,
+                b,
+                e,
+            ) {
+                EndNeed::Ready(inner, offset) => Prepared {
+                    graph: middle,
+                    port: inner,
+                    offset: offset,
+                    ready: true,
+                },
+                EndNeed::Grow => middle.grow(b, e),
+                EndNeed::Split => middle.split(b, e),
+            };
             let both = second.ready;
             if both {
                 let mut last = second.graph;
                 let x = first.port;
                 let y = second.port;
                 if same_side(d, e) {
-                    return last.link_refused(Refusal::IncompatibleDirections(
-                        PortIndex(x),
-                        PortIndex(y),
-                        d,
-                    ));
+                    return PortsLinked {
+                        graph: last,
+                        answer: LinkAnswer::Refused(Refusal::IncompatibleDirections(
+                            PortIndex(x),
+                            PortIndex(y),
+                            d,
+                        )),
+                    };
                 }
-                let graph = last.graph;
-                let linked = graph.link_ports(PortIndex(x), PortIndex(y));
-                let after = linked.graph;
-                last.graph = after;
+                join(&mut last.graph.port_link, x, y);
+                last.graph.link_count = last.graph.link_count + 1;
                 return PortsLinked {
                     graph: last,
                     answer: LinkAnswer::Linked(
@@ -71,7 +111,10 @@ impl MultiPortGraph {
                 };
             }
         }
-        self.link_refused(Refusal::NoRoom)
+        PortsLinked {
+            graph: self,
+            answer: LinkAnswer::Refused(Refusal::NoRoom),
+        }
     }
 
     // Links two ports; each end takes the lowest offset without a wire.

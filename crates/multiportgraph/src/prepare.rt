@@ -1,27 +1,32 @@
 // Preparing an end of a link: by the cases of mark and link.
-use crate::ends::far_port;
-use crate::ends::has_link;
-use crate::ends::port_of;
-use crate::marks::marked;
+use crate::calls::without_link;
 use crate::marks::put_flag;
 use crate::marks::put_mark;
 use crate::marks::wide;
 use crate::multiportgraph::MultiPortGraph;
+use crate::named::EndNeed;
+use crate::named::need_in;
+use crate::reads::far_in;
+use crate::reads::first_in;
+use crate::reads::owner_in;
+use crate::reads::subports_in;
 use portgraph::direction::Direction;
 use portgraph::index::NODE_PORTS;
 use portgraph::index::NodeIndex;
 use portgraph::index::PORT_SLOTS;
-use portgraph::index::PortIndex;
-use portgraph::portgraph::PortGraph;
 use portgraph::resize::SetAnswer as LowerSet;
 use portgraph::slots::AddAnswer as LowerAdd;
 use portgraph::tables::at;
+use portgraph::tables::cut;
+use portgraph::tables::link_both;
 ghost use mathlib.Core.Path.{_≡_};
 ghost use Prim.Native.Nat.{_+_, _≤_};
 ghost use Rattle.portgraph.specs.Limits.{portSlots};
-ghost use Rattle.portgraph.specs.Entries.{sideNumber};
-ghost use Rattle.multiportgraph.specs.Calls.{split, grow, prepare, copyIn, copyOut, moreIn, moreOut};
-ghost use Rattle.multiportgraph.specs.Inner.{MultiWf};
+ghost use Rattle.portgraph.specs.Tables.{at};
+ghost use Rattle.multiportgraph.specs.Reading.{copyNode};
+ghost use Rattle.multiportgraph.specs.Calls.{split, grow, prepare, copyIn, copyOut};
+ghost use Rattle.multiportgraph.specs.Reads.{hangOn, copyAt, subportsAt, grownIn, grownOut};
+ghost use Rattle.multiportgraph.specs.LinkSteps.{OnBlock, LinkedPort, SplitPort};
 ghost use Rattle.multiportgraph.specs.Forms.{preparedAs, lowestUnlinked};
 
 // A move list that is long enough for every node.
@@ -68,16 +73,68 @@ pub(crate) fn lowest_unlinked(links: &[u32; PORT_SLOTS], first: usize, count: us
     o
 }
 
+// The port hangs on the copy port, and its old link is at the first subport. Answers what the table held for the port.
+pub(crate) fn hang(links: &mut [u32; PORT_SLOTS], port: u32, copy: u32, first: u32) -> u32
+    ensures { λ r. ⌜ (r ≡ at (now (links .entry)) port) × (now (links .exit) ≡ hangOn (now (links .entry)) port copy first) ⌝ }
+{
+    let far = far_in(links, wide(port));
+    let held = cut(links, wide(port));
+    link_both(links, port, copy);
+    link_both(links, first, far);
+    held
+}
+
+// Where the copy port stands in a new hidden node's block.
+pub(crate) fn copy_at(direction: Direction) -> u32
+    ensures { λ r. ⌜ r ≡ copyAt direction ⌝ }
+{
+    match direction {
+        Direction::Incoming => 2,
+        Direction::Outgoing => 0,
+    }
+}
+
+// Where the first subport stands there.
+pub(crate) fn subports_at(direction: Direction) -> u32
+    ensures { λ r. ⌜ r ≡ subportsAt direction ⌝ }
+{
+    match direction {
+        Direction::Incoming => 0,
+        Direction::Outgoing => 1,
+    }
+}
+
+// The counts of a hidden node that has `count` subports on this side, with one more.
+pub(crate) fn grown_in(direction: Direction, count: usize) -> usize
+    requires { ⌜ count ≤ portSlots ⌝ }
+    ensures { λ r. ⌜ r ≡ grownIn direction count ⌝ }
+{
+    match direction {
+        Direction::Incoming => count + 1,
+        Direction::Outgoing => 1,
+    }
+}
+
+pub(crate) fn grown_out(direction: Direction, count: usize) -> usize
+    requires { ⌜ count ≤ portSlots ⌝ }
+    ensures { λ r. ⌜ r ≡ grownOut direction count ⌝ }
+{
+    match direction {
+        Direction::Incoming => 1,
+        Direction::Outgoing => count + 1,
+    }
+}
+
 impl MultiPortGraph {
     // Unsplit and linked: a hidden node with 2 subports is made, the old link moves to offset 0, and offset 1 is given.
     pub(crate) fn split(mut self, port: u32, direction: Direction) -> Prepared
-        requires { ⌜ MultiWf self ⌝ }
+        requires { ⌜ LinkedPort self port direction ⌝ }
         ensures { λ r. ⌜ r ≡ preparedAs self (split self port direction) ⌝ }
     {
         let graph = self.graph;
         let added = graph.add_node(copy_in(direction), copy_out(direction));
         let answer = added.answer;
-        let LowerAdd::Added(node, _) = answer else {
+        let LowerAdd::Added(node, first) = answer else {
             return Prepared {
                 graph: self,
                 port: 0,
@@ -85,18 +142,12 @@ impl MultiPortGraph {
                 ready: false,
             };
         };
-        let with_node = added.graph;
-        let copy = port_of(with_node, node.0, direction.reverse(), 0);
-        let old = port_of(with_node, node.0, direction, 0);
-        let new = port_of(with_node, node.0, direction, 1);
-        let far = far_port(with_node, port);
-        let unlinked = with_node.unlink_port(PortIndex(port));
-        let free = unlinked.graph;
-        let hung = free.link_ports(PortIndex(port), PortIndex(copy));
-        let hanging = hung.graph;
-        let moved = hanging.link_ports(PortIndex(old), PortIndex(far));
-        let done = moved.graph;
-        self.graph = done;
+        let after = added.graph;
+        self.graph = after;
+        let copy = first.0 + copy_at(direction);
+        let old = first.0 + subports_at(direction);
+        let held = hang(&mut self.graph.port_link, port, copy, old);
+        self.graph.link_count = without_link(self.graph.link_count, held) + 2;
         put_mark(&mut self.multiport, wide(copy), true);
         put_mark(&mut self.multiport, wide(port), true);
         put_flag(&mut self.copy_node, wide(node.0), true);
@@ -104,24 +155,29 @@ impl MultiPortGraph {
         self.subport_count = self.subport_count + 2;
         Prepared {
             graph: self,
-            port: new,
+            port: old + 1,
             offset: 1,
             ready: true,
         }
     }
 
-    // One more subport at the end of a hidden node.
-    pub(crate) fn grow(mut self, node: u32, direction: Direction) -> Prepared
-        requires { ⌜ MultiWf self ⌝ }
-        ensures { λ r. ⌜ r ≡ preparedAs self (grow self node direction) ⌝ }
+    // One more subport at the end of a split port's hidden node. The copy port's mark moves with it.
+    pub(crate) fn grow(mut self, port: u32, direction: Direction) -> Prepared
+        requires { ⌜ SplitPort self port direction ⌝ }
+        ensures { λ r. ⌜ r ≡ preparedAs self (grow self (copyNode self port) direction) ⌝ }
     {
-        let graph = self.graph;
-        let count = graph.num_ports(NodeIndex(node), direction);
-        let incoming = graph.num_ports(NodeIndex(node), Direction::Incoming);
-        let outgoing = graph.num_ports(NodeIndex(node), Direction::Outgoing);
-        let more_in = incoming + 1 - direction_step(direction);
-        let more_out = outgoing + direction_step(direction);
+        let copy = far_in(&self.graph.port_link, wide(port));
+        let node = owner_in(&self.graph.port_meta, copy);
+        let count = subports_in(
+            &self.graph.port_link,
+            &self.graph.port_meta,
+            port,
+            direction,
+        );
+        let more_in = grown_in(direction, count);
+        let more_out = grown_out(direction, count);
         let mut moves = [0u32; MOVES];
+        let graph = self.graph;
         let sized = graph.set_num_ports(NodeIndex(node), more_in, more_out, &mut moves);
         let answer = sized.answer;
         let LowerSet::Set(_) = answer else {
@@ -133,12 +189,20 @@ impl MultiPortGraph {
             };
         };
         let after = sized.graph;
-        let port = port_of(after, node, direction, count as u16);
-        let mut grown = self.recounted(node, after);
-        grown.subport_count = grown.subport_count + 1;
+        self.graph = after;
+        let moved = far_in(&self.graph.port_link, wide(port));
+        put_mark(&mut self.multiport, wide(copy), false);
+        put_mark(&mut self.multiport, wide(moved), true);
+        self.subport_count = self.subport_count + 1;
+        let first = first_in(
+            &self.graph.port_link,
+            &self.graph.port_meta,
+            port,
+            direction,
+        );
         Prepared {
-            graph: grown,
-            port: port,
+            graph: self,
+            port: (first + count) as u32,
             offset: count as u16,
             ready: true,
         }
@@ -146,42 +210,24 @@ impl MultiPortGraph {
 
     // The end that a link of this port takes.
     pub(crate) fn prepare(self, port: u32, direction: Direction) -> Prepared
-        requires { ⌜ MultiWf self ⌝ }
+        requires { ⌜ OnBlock self port direction ⌝ }
         ensures { λ r. ⌜ r ≡ preparedAs self (prepare self port direction) ⌝ }
     {
-        let graph = self.graph;
-        if marked(&self.multiport, wide(port)) {
-            let node = self.copy_node_of(port);
-            let count = graph.num_ports(NodeIndex(node), direction);
-            let first = port_of(graph, node, direction, 0);
-            let offset = lowest_unlinked(&graph.port_link, wide(first), count);
-            if offset < count {
-                return Prepared {
-                    graph: self,
-                    port: port_of(graph, node, direction, offset as u16),
-                    offset: offset as u16,
-                    ready: true,
-                };
-            }
-            return self.grow(node, direction);
+        match need_in(
+            &self.multiport,
+            &self.graph.port_link,
+            &self.graph.port_meta,
+            port,
+            direction,
+        ) {
+            EndNeed::Ready(inner, offset) => Prepared {
+                graph: self,
+                port: inner,
+                offset: offset,
+                ready: true,
+            },
+            EndNeed::Grow => self.grow(port, direction),
+            EndNeed::Split => self.split(port, direction),
         }
-        if has_link(graph, port) {
-            return self.split(port, direction);
-        }
-        Prepared {
-            graph: self,
-            port: port,
-            offset: 0,
-            ready: true,
-        }
-    }
-}
-
-pub(crate) fn direction_step(direction: Direction) -> usize
-    ensures { λ r. ⌜ r ≡ sideNumber direction ⌝ }
-{
-    match direction {
-        Direction::Incoming => 0,
-        Direction::Outgoing => 1,
     }
 }

@@ -66,14 +66,14 @@ pub enum OffsetsStart {
 }
 
 // The larger of two numbers.
-pub(crate) fn larger(a: usize, b: usize) -> usize
+pub fn larger(a: usize, b: usize) -> usize
     ensures { λ r. ⌜ r ≡ max a b ⌝ }
 {
     if a <= b { b } else { a }
 }
 
 // The first slot of a node's ports on these sides.
-pub(crate) fn ports_from(meta: NodeMeta, sides: Sides) -> usize
+pub fn ports_from(meta: NodeMeta, sides: Sides) -> usize
     ensures { λ r. ⌜ r ≡ portsFrom meta sides ⌝ }
 {
     let first = wide(meta.first_port.0);
@@ -87,7 +87,7 @@ pub(crate) fn ports_from(meta: NodeMeta, sides: Sides) -> usize
 }
 
 // The slot after a node's last port on these sides.
-pub(crate) fn ports_to(meta: NodeMeta, sides: Sides) -> usize
+pub fn ports_to(meta: NodeMeta, sides: Sides) -> usize
     ensures { λ r. ⌜ r ≡ portsTo meta sides ⌝ }
 {
     let end = wide(meta.first_port.0) + wide16(meta.incoming);

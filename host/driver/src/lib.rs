@@ -3,16 +3,19 @@
 //! - [`Call`]: the nine calls, and their records.
 //! - [`Oracle`]: one graph of the original; [`Oracle::ask`] gives a call to it, or says why it is not given.
 //! - [`run_list`]: a list of request records, run from an empty graph.
+//! - [`Shape`]: random calls for histories of many shapes.
 //! - The listings of [`Oracle`] (module `walk`): each walk, from the original's iterators.
 //!
 //! Everything here is decided from the original alone: from its inner graph before a call, or from the call on a clone.
 
 mod call;
+mod draw;
 mod list;
 mod oracle;
 mod walk;
 
 pub use call::{Answer, Call, End};
+pub use draw::{Random, Shape, Start};
 pub use list::{run_list, to_bytes};
 pub use oracle::{Asked, Event, Graph, Oracle, Reason};
 pub use walk::{Listing, Place, Side, Sides, Subport, Wire};

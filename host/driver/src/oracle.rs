@@ -286,6 +286,25 @@ impl Oracle {
         }
     }
 
+    /// How many slots the block of a node has: up to one less, a resize is done within it.
+    pub fn capacity(&self, node: u32) -> Option<usize> {
+        (self.node_standing(node) == Standing::Visible)
+            .then(|| self.inner().node_port_capacity(NodeIndex::new(node as usize)))
+    }
+
+    /// The graph after a resize that is set apart (R9), as the port's rules have it: the dropped split ports are cut in
+    /// the order in which they are reported, which takes their hidden nodes, and then nothing is set apart any more.
+    pub fn after_set_apart(&self, node: u32, incoming: u32, outgoing: u32) -> Oracle {
+        let mut after = self.clone();
+        let moves = self.resize_events(node, incoming, outgoing);
+        for [port, _, _] in moves.iter().filter(|[port, kind, _]| *kind == 1 && self.split(*port).is_some()) {
+            after.ask(Call::Unlink { port: *port });
+        }
+        after.ask(Call::Resize { node, incoming, outgoing });
+        after.moves = moves;
+        after
+    }
+
     /// Whether a resize is the case set apart (R9).
     pub fn set_apart(&self, node: u32, incoming: u32, outgoing: u32) -> bool {
         if self.node_standing(node) != Standing::Visible {

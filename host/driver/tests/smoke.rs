@@ -6,99 +6,14 @@ mod common;
 use std::collections::{BTreeMap, BTreeSet};
 use std::panic::{catch_unwind, AssertUnwindSafe};
 
-use common::{Book, Random};
-use driver::{Asked, Call, End, Graph, Oracle, Reason, Side, Sides};
+use common::Book;
+use driver::{Asked, Call, Graph, Oracle, Random, Reason, Shape, Side, Sides};
 use portgraph::{LinkView, NodeIndex, PortMut, PortView};
 
+/// All but the last, on whose many blocks the listings of each pair take long.
+const SHAPES: &[Shape] = Shape::ALL.split_at(Shape::ALL.len() - 1).0;
+
 const BOTH: [Side; 2] = [Side::Incoming, Side::Outgoing];
-
-/// How a history draws its calls.
-#[derive(Clone, Copy)]
-struct Style {
-    /// Adds name at most so many ports a side.
-    ports: u32,
-    /// Adds are rare from so many blocks on.
-    blocks: usize,
-}
-
-fn any_node(oracle: &Oracle, random: &mut Random) -> u32 {
-    match random.below(40) {
-        0 => u32::MAX - random.below(2),
-        1 => 2_147_483_646 + random.below(3),
-        2..=5 => random.below(oracle.tables().0 as u32 + 3),
-        _ => random.pick(&oracle.blocks()).unwrap_or(0),
-    }
-}
-
-fn any_port(oracle: &Oracle, random: &mut Random, side: Option<Side>) -> u32 {
-    match random.below(40) {
-        0 => u32::MAX - random.below(2),
-        1 => 2_147_483_646 + random.below(3),
-        2..=4 => random.below(oracle.tables().1 as u32 + 6),
-        _ => {
-            let node = random.pick(&oracle.blocks()).unwrap_or(0);
-            let sides = side.map_or(Sides::Both, Sides::One);
-            let ports = oracle.ports(node, sides).unwrap_or_default();
-            // The first few ports of a block often, so that they get many wires.
-            let ports = if random.one_in(2) { &ports[..ports.len().min(3)] } else { &ports[..] };
-            random.pick(ports).unwrap_or_else(|| random.below(oracle.tables().1 as u32 + 1))
-        }
-    }
-}
-
-fn any_end(oracle: &Oracle, random: &mut Random, side: Option<Side>) -> End {
-    let port = any_port(oracle, random, side);
-    let offset = match random.below(30) {
-        0 => 65_533 + random.below(4),
-        1 => 32_766 + random.below(3),
-        2 => u32::MAX,
-        _ => {
-            let beyond = u32::from(random.one_in(4));
-            random.below(oracle.split(port).unwrap_or(1) + beyond)
-        }
-    };
-    End { port, offset }
-}
-
-fn any_count(random: &mut Random, most: u32) -> u32 {
-    match random.below(60) {
-        0 => random.below(1_030),
-        1 => u32::MAX - random.below(3),
-        _ => random.below(most + 1),
-    }
-}
-
-fn any_call(oracle: &Oracle, random: &mut Random, style: Style) -> Call {
-    let crowded = oracle.blocks().len() >= style.blocks;
-    let sides = if random.one_in(8) {
-        [None, None]
-    } else if random.one_in(2) {
-        [Some(Side::Outgoing), Some(Side::Incoming)]
-    } else {
-        [Some(Side::Incoming), Some(Side::Outgoing)]
-    };
-    match random.below(100) {
-        0..=13 if !crowded || random.one_in(10) => {
-            Call::Add { incoming: any_count(random, style.ports), outgoing: any_count(random, style.ports) }
-        }
-        0..=17 if crowded || random.one_in(2) => Call::Remove { node: any_node(oracle, random) },
-        18..=32 => Call::Resize {
-            node: any_node(oracle, random),
-            incoming: any_count(random, style.ports),
-            outgoing: any_count(random, style.ports),
-        },
-        33..=40 => Call::Unlink { port: any_port(oracle, random, None) },
-        41..=52 => Call::LinkSubports { a: any_end(oracle, random, sides[0]), b: any_end(oracle, random, sides[1]) },
-        53..=62 => Call::UnlinkSubport { end: any_end(oracle, random, None) },
-        63..=69 => Call::SubportLink { end: any_end(oracle, random, None) },
-        70..=71 => Call::Counts,
-        _ => {
-            let a = any_port(oracle, random, sides[0]);
-            let b = if random.one_in(30) { a } else { any_port(oracle, random, sides[1]) };
-            Call::Link { a, b }
-        }
-    }
-}
 
 fn panics(calls: &[Call]) -> bool {
     catch_unwind(AssertUnwindSafe(|| {
@@ -220,18 +135,14 @@ fn check_listings(oracle: &Oracle) {
 /// What came up: answers by call code and refusal, and reasons.
 type Tally = BTreeMap<String, u32>;
 
-fn history(seed: u64, style: Style, filled: bool, steps: usize, tally: &mut Tally) {
+fn history(seed: u64, shape: Shape, steps: usize, tally: &mut Tally) {
     let mut random = Random::new(seed);
     let mut oracle = Oracle::new();
     let mut book = Book::default();
     let mut calls = Vec::new();
-    let mut first: Vec<Call> = Vec::new();
-    if filled {
-        first.push(Call::Add { incoming: 512, outgoing: 512 });
-        first.push(Call::Add { incoming: 400, outgoing: 500 + random.below(60) });
-    }
+    let mut first = shape.first_calls(&mut random);
     for step in 0..steps {
-        let call = first.pop().unwrap_or_else(|| any_call(&oracle, &mut random, style));
+        let call = first.pop().unwrap_or_else(|| shape.call(&oracle, &mut random));
         assert_eq!(Call::from_record(call.to_record()), Some(call));
         calls.push(call);
         let before = oracle.clone();
@@ -272,13 +183,7 @@ fn history(seed: u64, style: Style, filled: bool, steps: usize, tally: &mut Tall
 fn random_calls() {
     let mut tally = Tally::new();
     for seed in 1..=40 {
-        let style = match seed % 4 {
-            0 => Style { ports: 2, blocks: 5 },
-            1 => Style { ports: 4, blocks: 8 },
-            2 => Style { ports: 9, blocks: 6 },
-            _ => Style { ports: 3, blocks: 30 },
-        };
-        history(seed, style, seed % 3 == 0, 500, &mut tally);
+        history(seed, SHAPES[seed as usize % SHAPES.len()], 500, &mut tally);
     }
     for (name, count) in &tally {
         println!("{count:6} {name}");
@@ -327,8 +232,7 @@ fn random_calls() {
 fn many_random_calls() {
     let mut tally = Tally::new();
     for seed in 1_000..3_000 {
-        let style = Style { ports: 1 + (seed % 12) as u32, blocks: 2 + (seed % 23) as usize };
-        history(seed, style, seed % 5 == 0, 500, &mut tally);
+        history(seed, SHAPES[seed as usize % SHAPES.len()], 500, &mut tally);
     }
     for (name, count) in &tally {
         println!("{count:8} {name}");

@@ -1,37 +1,8 @@
-//! Shared by the tests: random numbers, and the wire book.
-#![allow(dead_code)]
+//! Shared by the tests: the wire book.
 
 use std::collections::{BTreeMap, BTreeSet};
 
 use driver::{Answer, Call, Oracle, Place, Side, Sides};
-
-/// xorshift64*, so that runs repeat.
-pub struct Random(u64);
-
-impl Random {
-    pub fn new(seed: u64) -> Self {
-        Self(seed.wrapping_mul(0x9E37_79B9_7F4A_7C15) | 1)
-    }
-
-    pub fn next(&mut self) -> u64 {
-        self.0 ^= self.0 >> 12;
-        self.0 ^= self.0 << 25;
-        self.0 ^= self.0 >> 27;
-        self.0.wrapping_mul(0x2545_F491_4F6C_DD1D) >> 16
-    }
-
-    pub fn below(&mut self, bound: u32) -> u32 {
-        (self.next() % u64::from(bound)) as u32
-    }
-
-    pub fn one_in(&mut self, bound: u32) -> bool {
-        self.below(bound) == 0
-    }
-
-    pub fn pick<T: Copy>(&mut self, items: &[T]) -> Option<T> {
-        (!items.is_empty()).then(|| items[self.below(items.len() as u32) as usize])
-    }
-}
 
 /// The wire book: blocks, their ports by side and position, and wires, the outgoing place first.
 #[derive(Clone, Default, Debug)]

@@ -1,12 +1,12 @@
 -- `multiportgraph::named::end_named` meets its contract: an offset that is none, a port that is not live or hidden, an offset that is lacking, and an end.
-use mathlib.Core.Path.{_≡_, sym, _∙_}
 use mathlib.Core.Bool.{true}
+use mathlib.Core.Path.{_≡_, sym, _∙_}
 use Prim.Native.Nat.{_<_}
 use borrow.Author.Needs.{needs}
-use Rattle.multiportgraph.specs.CallSteps.{good-offset, was-dead, was-hidden, was-visible, was-at, was-lacking}
 use Rattle.multiportgraph.specs.NamedSteps.{named-bad, named-seen, named-end}
 use Rattle.multiportgraph.specs.Calls.{goodOffset}
 use Rattle.multiportgraph.specs.Reading.{dead, hidden, lacking, inner}
+use Rattle.multiportgraph.specs.CallSteps.{good-offset, was-dead, was-hidden, was-visible, was-at, was-lacking}
 use Rattle.multiportgraph.proofs.named.end_named.Statement.{statement}
 use Rattle.multiportgraph.proofs.named.end_named.Tie as tie
 

@@ -1,8 +1,8 @@
 -- `multiportgraph::named::first_end` meets its contract: an offset that is lacking, and an end.
 use mathlib.Core.Path.{sym, _∙_}
 use borrow.Author.Needs.{needs}
-use Rattle.multiportgraph.specs.Reading.{lacking}
 use Rattle.multiportgraph.specs.CallSteps.{was-at, was-lacking}
+use Rattle.multiportgraph.specs.Reading.{lacking}
 use Rattle.multiportgraph.specs.NamedSteps.{first-lacking, first-found}
 use Rattle.multiportgraph.proofs.named.first_end.Statement.{statement}
 use Rattle.multiportgraph.proofs.named.first_end.Tie as tie

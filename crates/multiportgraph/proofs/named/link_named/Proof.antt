@@ -3,10 +3,10 @@ use mathlib.Core.Bool.{true}
 use mathlib.Core.Path.{_≡_, refl, sym, _∙_}
 use Prim.Native.Nat.{_<_}
 use borrow.Author.Needs.{needs}
-use Rattle.multiportgraph.specs.Reading.{dead, hidden, visible}
-use Rattle.multiportgraph.specs.CallSteps.{good-offset, was-dead, was-hidden, was-visible}
 use Rattle.multiportgraph.specs.NamedSteps.{link-bad, link-bad-second, link-seen, link-first}
 use Rattle.multiportgraph.specs.Calls.{goodOffset}
+use Rattle.multiportgraph.specs.CallSteps.{good-offset, was-dead, was-hidden, was-visible}
+use Rattle.multiportgraph.specs.Reading.{dead, hidden, visible}
 use Rattle.multiportgraph.proofs.named.link_named.Statement.{statement}
 use Rattle.multiportgraph.proofs.named.link_named.Tie as tie
 

@@ -2,8 +2,8 @@
 use mathlib.Core.Path.{sym, _∙_}
 use borrow.Author.Needs.{needs}
 use Rattle.multiportgraph.specs.CallSteps.{was-dead, was-hidden, was-visible, was-at, was-lacking}
-use Rattle.multiportgraph.specs.NamedSteps.{second-seen, second-end, second-free}
 use Rattle.multiportgraph.specs.Reading.{dead, hidden, lacking}
+use Rattle.multiportgraph.specs.NamedSteps.{second-seen, second-end, second-free}
 use Rattle.multiportgraph.proofs.named.second_end.Statement.{statement}
 use Rattle.multiportgraph.proofs.named.second_end.Tie as tie
 

@@ -2,12 +2,12 @@
 use mathlib.Core.Path.{refl, sym, _∙_}
 use native.Mathlib.Omega.{arith}
 use borrow.Author.Needs.{needs}
-use Rattle.portgraph.specs.LookupSteps.{with-numbers}
 use Rattle.portgraph.specs.WfFacts.{link-count-fits}
-use Rattle.multiportgraph.specs.NamedLaws.{call-done, both-on-blocks, ends-joined}
-use Rattle.multiportgraph.specs.CallSteps.{lower-wf}
+use Rattle.portgraph.specs.LookupSteps.{with-numbers}
+use Rattle.multiportgraph.specs.NamedLaws.{call-done, first-on-block, both-on-blocks, ends-joined}
 use Rattle.multiportgraph.specs.declared.multiportgraph.PortsLinked.{PortsLinked}
 use Rattle.multiportgraph.specs.Calls.{linkNumbers}
+use Rattle.multiportgraph.specs.CallSteps.{lower-wf}
 use Rattle.multiportgraph.proofs.multiportgraph.MultiPortGraph.link_ports.Statement.{statement}
 use Rattle.multiportgraph.proofs.multiportgraph.MultiPortGraph.link_ports.Tie as tie
 
@@ -30,7 +30,7 @@ enum-known-d : tie.Need-enum-known-d
 enum-known-d c = search needs
 
 link-first-requires : tie.Need-link-first-requires
-link-first-requires c κs = c .before .before .before .before .before .before .before .before .before .pre
+link-first-requires c κs = first-on-block (c .before .before .before .before .before .before .before .before .before .pre) _ _ _ (sym (c .before .before .before .link-need .ensures) ∙ c .before .d .given .1)
 
 enum-known-d-2 : tie.Need-enum-known-d-2
 enum-known-d-2 c = search needs

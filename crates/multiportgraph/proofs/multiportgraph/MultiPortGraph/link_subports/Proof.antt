@@ -2,14 +2,14 @@
 use mathlib.Core.Path.{_≡_, ap}
 use native.Mathlib.Omega.{arith}
 use borrow.Author.Needs.{needs}
-use Rattle.portgraph.specs.LookupSteps.{with-numbers}
 use Rattle.portgraph.specs.WfFacts.{link-count-fits}
-use Rattle.multiportgraph.specs.declared.multiportgraph.LinkAnswer.the-variants as link
-use Rattle.multiportgraph.specs.CallSteps.{lower-wf}
+use Rattle.portgraph.specs.LookupSteps.{with-numbers}
 use Rattle.multiportgraph.specs.NamedLaws.{link-done, link-refused, join-made}
-use Rattle.multiportgraph.specs.declared.multiportgraph.MultiPortGraph.{MultiPortGraph}
 use Rattle.multiportgraph.specs.declared.multiportgraph.PortsLinked.{PortsLinked}
+use Rattle.multiportgraph.specs.declared.multiportgraph.MultiPortGraph.{MultiPortGraph}
+use Rattle.multiportgraph.specs.declared.multiportgraph.LinkAnswer.the-variants as link
 use Rattle.multiportgraph.specs.Calls.{linkNumbers}
+use Rattle.multiportgraph.specs.CallSteps.{lower-wf}
 use Rattle.multiportgraph.proofs.multiportgraph.MultiPortGraph.link_subports.Statement.{statement}
 use Rattle.multiportgraph.proofs.multiportgraph.MultiPortGraph.link_subports.Tie as tie
 

@@ -3,12 +3,12 @@ use mathlib.Core.Path.{_≡_, refl, sym, _∙_}
 use borrow.Author.Needs.{needs}
 use Rattle.portgraph.specs.LookupSteps.{with-numbers}
 use Rattle.multiportgraph.specs.NamedLaws.{seen-as, port-cut-none, port-cut-far}
-use Rattle.multiportgraph.specs.Calls.{cutNumbers}
 use Rattle.multiportgraph.specs.Reading.{dead, hidden, isSplit}
-use Rattle.multiportgraph.specs.CallSteps.{was-dead, was-hidden, was-visible, cut-port-seen, cut-port-split}
 use Rattle.multiportgraph.specs.LinkSteps.{OnBlock, on-block}
-use Rattle.multiportgraph.specs.FormSteps.{split-told}
 use Rattle.multiportgraph.specs.declared.multiportgraph.PortUnlinked.{PortUnlinked}
+use Rattle.multiportgraph.specs.Calls.{cutNumbers}
+use Rattle.multiportgraph.specs.FormSteps.{split-told}
+use Rattle.multiportgraph.specs.CallSteps.{was-dead, was-hidden, was-visible, cut-port-seen, cut-port-split}
 use Rattle.multiportgraph.proofs.multiportgraph.MultiPortGraph.unlink_port.Statement.{statement}
 use Rattle.multiportgraph.proofs.multiportgraph.MultiPortGraph.unlink_port.Tie as tie
 
@@ -39,7 +39,7 @@ marked-requires : tie.Need-marked-requires
 marked-requires c κs = search needs
 
 drop-copy-requires : tie.Need-drop-copy-requires
-drop-copy-requires c κs = (on-block-here (c .before .before .before .before .before .before), split-is (c .before) ∙ c .if1 .taken)
+drop-copy-requires c κs = record { block = on-block-here (c .before .before .before .before .before .before); split = split-is (c .before) ∙ c .if1 .taken }
 
 returns : tie.Need-returns
 returns c = with-numbers (λ (r : PortUnlinked). cutNumbers (r .answer)) (cut-port-split (c .before .before .before .before .before .before .before .before .before .before .before .before .before .args .t1) _ _ _ _ (was-visible _ _ _ (sym (seen-as (c .before .before .before .before .before .before .before .before .before .before .before .before .before .pre) _ (c .before .before .before .before .before .before .before .before .before .seen-in .ensures)) ∙ c .before .before .before .before .before .before .before .direction .given .1)) (split-is (c .before .before) ∙ c .before .if1 .taken) (c .drop-copy .ensures))

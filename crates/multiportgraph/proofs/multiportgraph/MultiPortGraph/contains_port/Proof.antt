@@ -1,0 +1,34 @@
+-- `multiportgraph::multiportgraph::MultiPortGraph::contains_port` meets its contract: by how the port is seen.
+use mathlib.Core.Path.{sym, _∙_}
+use borrow.Author.Needs.{needs}
+use Rattle.multiportgraph.specs.Reading.{dead, hidden}
+use Rattle.multiportgraph.specs.CallSteps.{was-dead, was-hidden, was-visible}
+use Rattle.multiportgraph.specs.LookupSteps.{contains-at}
+use Rattle.multiportgraph.proofs.multiportgraph.MultiPortGraph.contains_port.Statement.{statement}
+use Rattle.multiportgraph.proofs.multiportgraph.MultiPortGraph.contains_port.Tie as tie
+
+seen-requires : tie.Need-seen-requires
+seen-requires c κs = search needs
+
+enum-told : tie.Need-enum-told
+enum-told c = search needs
+
+enum-told-2 : tie.Need-enum-told-2
+enum-told-2 c = search needs
+
+enum-told-3 : tie.Need-enum-told-3
+enum-told-3 c = search needs
+
+returns : tie.Need-returns
+returns c = contains-at (c .before .before .before .args .self) (c .before .before .before .args .port .0) dead (was-dead _ (sym (c .before .before .seen .ensures) ∙ c .enum-told .given .1))
+
+returns-2 : tie.Need-returns-2
+returns-2 c = contains-at (c .before .before .before .args .self) (c .before .before .before .args .port .0) hidden (was-hidden _ (sym (c .before .before .seen .ensures) ∙ c .enum-told2 .given .1))
+
+returns-3 : tie.Need-returns-3
+returns-3 c = contains-at (c .before .before .before .args .self) (c .before .before .before .args .port .0) _ (was-visible _ _ _ (sym (c .before .before .seen .ensures) ∙ c .enum-told3 .given .1))
+
+pub contains-port-spec : {M : Type 1} → statement M
+contains-port-spec =
+    tie.close
+    (tie.spec seen-requires enum-told enum-told-2 enum-told-3 returns returns-2 returns-3)

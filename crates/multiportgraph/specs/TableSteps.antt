@@ -1,0 +1,199 @@
+-- Steps of a split and of one more subport, made in the tables.
+use mathlib.Core.Path.{_≡_, refl, sym, _∙_, ap, transport}
+use mathlib.Core.Bool.{Bool, true, false}
+use mathlib.Core.List.{List}
+use mathlib.Core.Logic.{_⊎_, inl, inr}
+use Prim.Native.Nat.{ℕ, _+_, _-_}
+use native.Mathlib.Omega.{arith}
+use lib.ListN.{set}
+use Rattle.portgraph.specs.Limits.{nodeSlots, portSlots}
+use Rattle.portgraph.specs.Entries.{reversed}
+use Rattle.portgraph.specs.Tables.{at, cut, linkBoth, linkCount}
+use Rattle.portgraph.specs.Lookups.{numPorts}
+use Rattle.portgraph.specs.Calls.{addNode, withLinks}
+use Rattle.portgraph.specs.Resize.{setNumPorts}
+use Rattle.portgraph.specs.Model.{Far, nowhere, to}
+use Rattle.portgraph.specs.PlaceLaws.{link-none}
+use Rattle.portgraph.specs.declared.direction.Direction.{Direction}
+use Rattle.portgraph.specs.declared.index.NodeIndex.{NodeIndex}
+use Rattle.portgraph.specs.declared.index.PortIndex.{PortIndex}
+use Rattle.portgraph.specs.declared.slots.AddAnswer.the-variants as lower-add
+use Rattle.portgraph.specs.declared.slots.NodeAdded.{NodeAdded}
+use Rattle.portgraph.specs.declared.resize.SetAnswer.{SetAnswer}
+use Rattle.portgraph.specs.declared.resize.SetAnswer.the-variants as lower-set
+use Rattle.portgraph.specs.declared.resize.PortsSet.{PortsSet}
+use Rattle.multiportgraph.specs.Reading.{portOf, copyNode, subports}
+use Rattle.multiportgraph.specs.Calls.{copyIn, copyOut, splitGraph, splitPort, splitBy, split, recounted, more, enough, grownBy, grow}
+use Rattle.multiportgraph.specs.Ends.{block-seen}
+use Rattle.multiportgraph.specs.Forms.{putFlag, preparedAs}
+use Rattle.multiportgraph.specs.FormSteps.{put-flag-is}
+use Rattle.multiportgraph.specs.CopySteps.{two-puts}
+use Rattle.multiportgraph.specs.SplitLaws.{SplitTables, split-tables}
+use Rattle.multiportgraph.specs.RecountLaws.{growth#}
+use Rattle.multiportgraph.specs.LinkSteps.{LinkedPort, SplitPort}
+use Rattle.multiportgraph.specs.Reads.{farIn, ownerIn, subportsIn, firstIn, hangOn, copyAt, subportsAt, grownIn, grownOut}
+use Rattle.multiportgraph.specs.ReadLaws.{owner-read, subports-read}
+use Rattle.multiportgraph.specs.GrowLaws.{GrowTables, grow-tables, grown-counts}
+use Rattle.multiportgraph.specs.declared.multiportgraph.MultiPortGraph.{MultiPortGraph}
+use Rattle.multiportgraph.specs.declared.prepare.Prepared.{Prepared}
+
+-- The links of a split.
+pub hung : (t t₁ t₂ t₃ : List ℕ) (p copy first far w v : ℕ) → w ≡ p → far ≡ farIn t w → v ≡ p → t₁ ≡ cut t v → t₂ ≡ linkBoth t₁ p copy → t₃ ≡ linkBoth t₂ first far → t₃ ≡ hangOn t p copy first
+unfolding hangOn
+hung t t₁ t₂ t₃ p copy first far w v e₁ e₂ e₃ e₄ e₅ e₆ = rw (e₆, e₅, e₄, e₃, e₂, e₁)
+
+-- A split.
+module _ {m : MultiPortGraph} {p : ℕ} {d : Direction} (b : LinkedPort m p d) {i o : ℕ} {r : NodeAdded} (e₁ : i ≡ copyIn d) (e₂ : o ≡ copyOut d) (e₃ : r ≡ addNode (m .graph) i o)
+    {n : NodeIndex} {f : PortIndex} (a : r .answer ≡ lower-add.Added n f) where
+  added-is : r ≡ addNode (m .graph) (copyIn d) (copyOut d)
+  added-is = rw (e₃, e₁, e₂)
+
+  pub split-told : SplitTables p d (r .graph) (n .0) (f .0)
+  split-told =
+      let w = b .block .wf .fine in
+      let x = block-seen w p (b .block .node) d (b .block .is) in
+      let place = x .place in
+      go (b .block .wf .model .join place) refl
+    where
+      go : (y : Far) → b .block .wf .model .join (block-seen (b .block .wf .fine) p (b .block .node) d (b .block .is) .place) ≡ y → SplitTables p d (r .graph) (n .0) (f .0)
+      go nowhere j =
+          let w = b .block .wf .fine in
+          let x = block-seen w p (b .block .node) d (b .block .is) in
+          absurd (b .linked (ap (at (m .graph .«port_link»)) (sym (x .slot)) ∙ link-none (w .good) (w .holds) (x .place) (x .isSeen .0) j))
+      go (to y) j =
+          let w = b .block .wf .fine in
+          let x = block-seen w p (b .block .node) d (b .block .is) in
+          transport (λ k. SplitTables (x .slot k) (x .side k) (r .graph) (n .0) (f .0))
+          (split-tables w (x .place) y (x .isSeen) j r (added-is ∙ (λ k. addNode (m .graph) (copyIn (sym (x .side) k)) (copyOut (sym (x .side) k)))) n f a)
+
+  pub split-done :
+      {ca copy sa old held left w₁ w₂ w₃ : ℕ} {t : List ℕ} {t₁ t₂ t₃ : List Bool} →
+      ca ≡ copyAt d →
+      copy ≡ f .0 + ca →
+      sa ≡ subportsAt d →
+      old ≡ f .0 + sa →
+      held ≡ at (r .graph .«port_link») p →
+      t ≡ hangOn (r .graph .«port_link») p copy old →
+      left ≡ r .graph .«link_count» - linkCount held →
+      w₁ ≡ copy →
+      t₁ ≡ putFlag (m .multiport) portSlots w₁ true →
+      w₂ ≡ p →
+      t₂ ≡ putFlag t₁ portSlots w₂ true →
+      w₃ ≡ n .0 →
+      t₃ ≡ putFlag (m .«copy_node») nodeSlots w₃ true →
+      _≡_ {A = Prepared} (record {
+        graph = record {
+          graph = withLinks (r .graph) t (left + 2);
+          multiport = t₂;
+          «copy_node» = t₃;
+          «copy_node_count» = m .«copy_node_count» + 1;
+          «subport_count» = m .«subport_count» + 2;
+        };
+        port = old + 1;
+        offset = 1;
+        ready = true;
+      }) (preparedAs m (split m p d))
+  unfolding split splitPort
+  split-done {ca} {copy} {sa} {old} {held} {left} {w₁} {w₂} {w₃} {t} {t₁} {t₂} {t₃} c₁ c₂ c₃ c₄ c₅ c₆ c₇ k₁ k₂ k₃ k₄ k₅ k₆ =
+      let w = b .block .wf .fine in
+      let s = split-told in
+      let copy-is : copy ≡ portOf (r .graph) (n .0) (reversed d) 0 = rw (c₂, c₁) (sym (s .copy)) in
+      let graph-is : withLinks (r .graph) t (left + 2) ≡ splitGraph (r .graph) p d (n .0) = rw (c₆, c₇, c₅, c₂, c₁, c₄, c₃) (sym (s .graph)) in
+      let new-is : old + 1 ≡ portOf (r .graph) (n .0) d 1 = rw (c₄, c₃) (sym (s .new)) in
+      let marks-is : t₂ ≡ set (set (m .multiport) (portOf (r .graph) (n .0) (reversed d) 0) true) p true = rw (k₄, k₂, k₃, k₁, copy-is) (two-puts (m .multiport) portSlots _ p true true (w .marksLong)) in
+      let flags-is : t₃ ≡ set (m .«copy_node») (n .0) true = rw (k₆, k₅) (put-flag-is (m .«copy_node») nodeSlots (n .0) true (w .flagsLong)) in
+      (λ j. record {
+        graph = record {
+          graph = graph-is j;
+          multiport = marks-is j;
+          «copy_node» = flags-is j;
+          «copy_node_count» = m .«copy_node_count» + 1;
+          «subport_count» = m .«subport_count» + 2;
+        };
+        port = new-is j;
+        offset = 1;
+        ready = true;
+      })
+      ∙ ((λ j. preparedAs m (splitBy m p d (r .graph) (sym a j))) ∙ (λ j. preparedAs m (splitBy m p d (added-is j .graph) (added-is j .answer))))
+
+-- One more subport.
+module _ {m : MultiPortGraph} {p : ℕ} {d : Direction} (b : SplitPort m p d) {copy node count w : ℕ}
+    (e₁ : w ≡ p) (e₂ : copy ≡ farIn (m .graph .«port_link») w) (e₃ : node ≡ ownerIn (m .graph .«port_meta») copy) (e₄ : count ≡ subportsIn (m .graph .«port_link») (m .graph .«port_meta») p d) where
+  copy-is : copy ≡ farIn (m .graph .«port_link») p
+  copy-is = e₂ ∙ ap (farIn (m .graph .«port_link»)) e₁
+
+  node-is : node ≡ copyNode m p
+  node-is = e₃ ∙ (ap (ownerIn (m .graph .«port_meta»)) copy-is ∙ owner-read (b .block .wf .fine) p (b .block .node) d (b .block .is) (b .split))
+
+  count-is : count ≡ numPorts (m .graph) (copyNode m p) d
+  unfolding subports
+  count-is = e₄ ∙ subports-read (b .block .wf .fine) p (b .block .node) d (b .block .is) (b .split)
+
+  module _ {i o len : ℕ} {r : PortsSet} (f₁ : i ≡ grownIn d count) (f₂ : o ≡ grownOut d count) (f₃ : len ≡ enough) (f₄ : r ≡ setNumPorts (m .graph) node i o len) where
+    set-is : r ≡ growth# m (copyNode m p) d
+    set-is =
+        let g = grown-counts b count count-is in
+        f₄ ∙ (λ j. setNumPorts (m .graph) (node-is j) ((f₁ ∙ g .0) j) ((f₂ ∙ g .1) j) (f₃ j))
+
+    pub grow-full : (tag : SetAnswer → ℕ) → ((e : ℕ) → tag (lower-set.Set e) ≡ 0) → (tag (r .answer) ≡ 1) ⊎ ((tag (r .answer) ≡ 2) ⊎ ((tag (r .answer) ≡ 3) ⊎ (tag (r .answer) ≡ 4))) →
+        _≡_ {A = Prepared} (record { graph = m; port = 0; offset = 0; ready = false }) (preparedAs m (grow m (copyNode m p) d))
+    unfolding grow
+    grow-full tag zeroth z = go (r .answer) z ∙ (λ j. preparedAs m (grownBy m (copyNode m p) d (set-is j .graph) (set-is j .answer)))
+      where
+        go : (x : SetAnswer) → (tag x ≡ 1) ⊎ ((tag x ≡ 2) ⊎ ((tag x ≡ 3) ⊎ (tag x ≡ 4))) →
+            _≡_ {A = Prepared} (record { graph = m; port = 0; offset = 0; ready = false }) (preparedAs m (grownBy m (copyNode m p) d (r .graph) x))
+        go (lower-set.Set e) (inl t) = let k = zeroth e in absurd (omega arith)
+        go (lower-set.Set e) (inr (inl t)) = let k = zeroth e in absurd (omega arith)
+        go (lower-set.Set e) (inr (inr (inl t))) = let k = zeroth e in absurd (omega arith)
+        go (lower-set.Set e) (inr (inr (inr t))) = let k = zeroth e in absurd (omega arith)
+        go lower-set.TooManyPorts t = refl
+        go lower-set.UnknownNode t = refl
+        go lower-set.MovesTooShort t = refl
+        go lower-set.NoRoom t = refl
+
+    module _ {e : ℕ} (a : r .answer ≡ lower-set.Set e) where
+      pub grow-told : GrowTables m p d (copyNode m p) count (r .graph)
+      grow-told =
+          transport (λ j. GrowTables m p d (copyNode m p) (sym count-is j) (sym set-is j .graph))
+          (grow-tables b e (ap (λ (u : PortsSet). u .answer) (sym set-is) ∙ a))
+
+      pub grow-done : {far first w₁ w₂ w₃ : ℕ} {t₁ t₂ : List Bool} →
+          w₁ ≡ p →
+          far ≡ farIn (r .graph .«port_link») w₁ →
+          w₂ ≡ copy →
+          t₁ ≡ putFlag (m .multiport) portSlots w₂ false →
+          w₃ ≡ far →
+          t₂ ≡ putFlag t₁ portSlots w₃ true →
+          first ≡ firstIn (r .graph .«port_link») (r .graph .«port_meta») p d →
+          _≡_ {A = Prepared} (record {
+            graph = record {
+              graph = r .graph;
+              multiport = t₂;
+              «copy_node» = m .«copy_node»;
+              «copy_node_count» = m .«copy_node_count»;
+              «subport_count» = m .«subport_count» + 1;
+            };
+            port = first + count;
+            offset = count;
+            ready = true;
+          }) (preparedAs m (grow m (copyNode m p) d))
+      unfolding grow recounted
+      grow-done {far} {first} {w₁} {w₂} {w₃} {t₁} {t₂} k₁ k₂ k₃ k₄ k₅ k₆ k₇ =
+          let g = grow-told in
+          let far-is : far ≡ farIn (r .graph .«port_link») p = k₂ ∙ ap (farIn (r .graph .«port_link»)) k₁ in
+          let marks-is : t₂ ≡ recounted m (copyNode m p) (r .graph) .multiport = rw (k₆, k₄, k₅, k₃, far-is, copy-is) (two-puts (m .multiport) portSlots _ _ false true (b .block .wf .fine .marksLong) ∙ sym (g .marks)) in
+          let port-is : first + count ≡ portOf (r .graph) (copyNode m p) d count = rw k₇ (sym (g .port)) in
+          (λ j. record {
+            graph = record {
+              graph = r .graph;
+              multiport = marks-is j;
+              «copy_node» = m .«copy_node»;
+              «copy_node_count» = m .«copy_node_count»;
+              «subport_count» = m .«subport_count» + 1;
+            };
+            port = port-is j;
+            offset = count;
+            ready = true;
+          })
+          ∙ ((λ j. record { graph = more (recounted m (copyNode m p) (r .graph)); port = portOf (r .graph) (copyNode m p) d (count-is j); offset = count-is j; ready = true })
+          ∙ ((λ j. preparedAs m (grownBy m (copyNode m p) d (r .graph) (sym a j))) ∙ (λ j. preparedAs m (grownBy m (copyNode m p) d (set-is j .graph) (set-is j .answer)))))

@@ -1,0 +1,103 @@
+//! Runs a history through the port and compares every answer.
+
+use driver::{to_bytes, Answer};
+
+use crate::history::{By, History, Record};
+
+/// The port's entry: request bytes, answer bytes, and the number that it returns.
+pub type Entry<'a> = dyn Fn(&[u8], &mut [u8]) -> u32 + 'a;
+
+/// The entry that is linked.
+pub fn run_records(requests: &[u8], answers: &mut [u8]) -> u32 {
+    kanhtrev::run_bytes(requests, answers).map_or_else(|refusal| refusal.number(), |()| 0)
+}
+
+/// What the answer buffer, and bytes on both sides of it, hold before a run.
+const UNTOUCHED: u8 = 0xA5;
+const MARGIN: usize = 64;
+
+/// Runs bytes, with an answer buffer of so many; gives the number returned and the buffer. The bytes around it and the
+/// requests must be as before.
+pub fn run(entry: &Entry, requests: &[u8], answer_bytes: usize) -> Result<(u32, Vec<u8>), String> {
+    let lent = requests.to_vec();
+    let mut buffer = vec![UNTOUCHED; MARGIN + answer_bytes + MARGIN];
+    let returned = entry(&lent, &mut buffer[MARGIN..MARGIN + answer_bytes]);
+    let answers = buffer[MARGIN..MARGIN + answer_bytes].to_vec();
+    buffer.drain(MARGIN..MARGIN + answer_bytes);
+    if lent != requests || !untouched(&buffer) {
+        return Err("bytes outside the answer buffer were changed".into());
+    }
+    Ok((returned, answers))
+}
+
+/// Whether bytes are as before a run.
+pub fn untouched(bytes: &[u8]) -> bool {
+    bytes.iter().all(|byte| *byte == UNTOUCHED)
+}
+
+/// The first call that is answered otherwise than it must be, with the port's answer.
+fn first_difference(entry: &Entry, history: &History) -> Result<Option<(usize, Answer)>, String> {
+    let requests = to_bytes(&history.records(history.steps.len()));
+    let (returned, answers) = run(entry, &requests, requests.len())?;
+    if returned != 0 {
+        return Err(format!("the list is refused: {returned}"));
+    }
+    let word = |bytes: &[u8]| u32::from_le_bytes(bytes.try_into().expect("four bytes a word"));
+    let ours =
+        answers.chunks_exact(20).map(|answer| std::array::from_fn(|place| word(&answer[4 * place..4 * place + 4])));
+    let mut pairs = history.steps.iter().zip(ours).enumerate();
+    Ok(pairs.find_map(|(place, (step, ours))| (step.expected != ours).then_some((place, ours))))
+}
+
+/// Compares a history; a difference is told with the fewest calls found that show it.
+pub fn compare(entry: &Entry, history: &History) -> Result<(), String> {
+    let differs = |records: &[Record]| !matches!(first_difference(entry, &History::of(records)), Ok(None));
+    let calls = match first_difference(entry, history) {
+        Ok(None) => return Ok(()),
+        Ok(Some((place, _))) => place + 1,
+        Err(_) => history.steps.len(),
+    };
+    let fewest = History::of(&fewest(history.records(calls), differs));
+    let mut text = format!("after {calls} calls of the list; the fewest calls that show it:\n");
+    let difference = first_difference(entry, &fewest);
+    for (place, step) in fewest.steps.iter().enumerate() {
+        text += &format!("  {:?}: {:?}", step.record, step.expected);
+        match difference {
+            Ok(Some((at, ours))) if at == place => {
+                text += &format!(" {}, and the port answers {ours:?}", says(step.by))
+            }
+            _ => {}
+        }
+        text += "\n";
+    }
+    if let Err(message) = difference {
+        text += &message;
+    }
+    Err(text)
+}
+
+fn says(by: By) -> &'static str {
+    match by {
+        By::Rust => "by the Rust",
+        _ => "by 01 and the Rust's graph",
+    }
+}
+
+/// Leaves out items, many at once at first, while the rest still differs.
+pub fn fewest<T: Clone>(mut items: Vec<T>, differs: impl Fn(&[T]) -> bool) -> Vec<T> {
+    let mut size = items.len();
+    while size > 0 {
+        let mut from = 0;
+        while from < items.len() {
+            let mut fewer = items.clone();
+            fewer.drain(from..(from + size).min(items.len()));
+            if differs(&fewer) {
+                items = fewer;
+            } else {
+                from += size;
+            }
+        }
+        size /= 2;
+    }
+    items
+}

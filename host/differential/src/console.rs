@@ -1,0 +1,366 @@
+//! Listings and move lists: scripts for the program `wiring`, and what it must write, from the original.
+
+use std::env;
+use std::io::{Read, Write};
+use std::ops::Range;
+use std::path::{Path, PathBuf};
+use std::process::{Command as Process, Stdio};
+use std::thread;
+
+use driver::{Answer, Call, Listing, Random, Shape, Side, Sides, Subport, Wire};
+
+use crate::compare::fewest;
+use crate::history::History;
+use crate::tally::Tally;
+
+/// A line for the console.
+#[derive(Clone, Copy, Debug)]
+pub enum Command {
+    Call(Call),
+    FanOut(u32),
+    BlockFanOut(u32),
+    Blocks,
+    Subports(u32, Sides),
+    Links(u32),
+    Back(u32),
+    NodeLinks(u32, Sides, u32, u32),
+    Neighbours(u32, Sides, bool),
+    Connections(u32, u32),
+    Wires,
+    Places,
+    /// A line that is no command.
+    Nonsense(&'static str),
+}
+
+/// What the console writes for a command: items, then the last line.
+pub type Block = Vec<String>;
+
+/// A console: what it writes for a script.
+pub type Console<'a> = dyn Fn(&[Command]) -> Result<Vec<Block>, String> + 'a;
+
+/// Where the program is: `KANHTREV_WIRING`, or where `rt check` writes it.
+pub fn program() -> Result<PathBuf, String> {
+    let made = || Path::new(env!("CARGO_MANIFEST_DIR")).join("../../target/bin/wiring");
+    let path = env::var_os("KANHTREV_WIRING").map_or_else(made, PathBuf::from);
+    match path.is_file() {
+        true => Ok(path),
+        false => Err(format!(
+            "there is no program {}: run `rt check wiring` at the root of the repository, or give --records-only",
+            path.display()
+        )),
+    }
+}
+
+fn side_number(sides: Sides) -> u32 {
+    match sides {
+        Sides::One(Side::Incoming) => 0,
+        Sides::One(Side::Outgoing) => 1,
+        Sides::Both => 2,
+    }
+}
+
+fn words(numbers: &[u32]) -> String {
+    numbers.iter().map(|number| format!(" {number}")).collect()
+}
+
+fn item(numbers: &[u32]) -> String {
+    format!(" {}", words(numbers))
+}
+
+fn refused(answer: Answer) -> Block {
+    let carried = match answer[0] {
+        7 | 8 | 9 | 11 | 13 => 1,
+        12 => 3,
+        _ => 0,
+    };
+    vec![format!("refused{}", words(&answer[..1 + carried]))]
+}
+
+fn listing<T>(listing: Listing<T>, line: impl Fn(&T) -> String) -> Block {
+    match listing {
+        Ok(items) => items.iter().map(line).chain([format!("ok {}", items.len())]).collect(),
+        Err(answer) => refused(answer),
+    }
+}
+
+fn one(number: &u32) -> String {
+    item(&[*number])
+}
+
+fn ends(((port, offset), (far, far_offset)): &Wire) -> String {
+    item(&[*port, *offset, *far, *far_offset])
+}
+
+impl Command {
+    /// The name of the command.
+    fn name(self) -> &'static str {
+        match self {
+            Command::Call(call) => match call {
+                Call::Add { .. } => "add",
+                Call::Remove { .. } => "remove",
+                Call::Resize { .. } => "resize",
+                Call::Link { .. } => "link",
+                Call::Unlink { .. } => "unlink",
+                Call::LinkSubports { .. } => "linksub",
+                Call::UnlinkSubport { .. } => "unlinksub",
+                Call::SubportLink { .. } => "sublink",
+                Call::Counts => "counts",
+            },
+            Command::FanOut(_) => "fanout",
+            Command::BlockFanOut(_) => "blockfanout",
+            Command::Blocks => "blocks",
+            Command::Subports(..) => "subports",
+            Command::Links(_) => "links",
+            Command::Back(_) => "back",
+            Command::NodeLinks(..) => "nodelinks",
+            Command::Neighbours(..) => "neighbours",
+            Command::Connections(..) => "connections",
+            Command::Wires => "wires",
+            Command::Places => "places",
+            Command::Nonsense(_) => "no command",
+        }
+    }
+
+    /// The line to type.
+    fn line(self) -> String {
+        let arguments = match self {
+            Command::Call(call) => {
+                let used = match call {
+                    Call::Add { .. } | Call::Link { .. } | Call::UnlinkSubport { .. } | Call::SubportLink { .. } => 2,
+                    Call::Remove { .. } | Call::Unlink { .. } => 1,
+                    Call::Resize { .. } => 3,
+                    Call::LinkSubports { .. } => 4,
+                    Call::Counts => 0,
+                };
+                call.to_record()[1..1 + used].to_vec()
+            }
+            Command::FanOut(port) | Command::Links(port) | Command::Back(port) => vec![port],
+            Command::BlockFanOut(node) => vec![node],
+            Command::Subports(node, sides) => vec![node, side_number(sides)],
+            Command::NodeLinks(node, sides, low, high) => vec![node, side_number(sides), low, high],
+            Command::Neighbours(node, sides, flag) => vec![node, side_number(sides), u32::from(flag)],
+            Command::Connections(from, to) => vec![from, to],
+            Command::Blocks | Command::Wires | Command::Places => Vec::new(),
+            Command::Nonsense(text) => return text.into(),
+        };
+        format!("{}{}", self.name(), words(&arguments))
+    }
+
+    /// What the console must write, as the line of that number; a call is made in the history.
+    fn block(self, history: &mut History, line: usize) -> Block {
+        if let Command::Call(call) = self {
+            return call_block(call, history);
+        }
+        let oracle = &history.oracle;
+        match self {
+            Command::Call(_) => unreachable!("answered above"),
+            Command::FanOut(port) => number(oracle.port_fan_out(port)),
+            Command::BlockFanOut(node) => number(oracle.fan_out(node)),
+            Command::Blocks => listing(Ok(oracle.blocks()), one),
+            Command::Subports(node, sides) => {
+                listing(oracle.subports(node, sides), |(port, offset)| item(&[*port, *offset]))
+            }
+            Command::Links(port) => listing(oracle.port_links(port), ends),
+            Command::Back(port) => {
+                let steps = oracle.port_links(port).map_or(0, |links| links.len());
+                let links = oracle.port_links_by_steps(port, &vec![true; steps]);
+                listing(links.map(|links| links.into_iter().flatten().collect()), ends)
+            }
+            Command::NodeLinks(node, sides, low, high) => listing(oracle.node_links(node, sides, low..high), ends),
+            Command::Neighbours(node, sides, flag) => listing(oracle.neighbours(node, sides, flag), one),
+            Command::Connections(from, to) => listing(oracle.connections(from, to), ends),
+            Command::Wires => listing(Ok(oracle.all_wires()), ends),
+            Command::Places => listing(Ok(oracle.all_wires()), |(from, to)| {
+                let place = |end: Subport| {
+                    let place = oracle.place(end).expect("an end of a wire is live");
+                    [place.node, place.position, place.offset]
+                };
+                item(&[place(*from), place(*to)].concat())
+            }),
+            Command::Nonsense(_) => vec![format!("bad line {line}")],
+        }
+    }
+
+    /// Whether it leaves the graph as it is, so that it may follow the resize set apart.
+    fn reads(self) -> bool {
+        !matches!(self, Command::Call(call) if !matches!(call, Call::SubportLink { .. } | Call::Counts))
+    }
+}
+
+fn number(number: Result<u32, Answer>) -> Block {
+    number.map_or_else(refused, |number| vec![format!("ok {number}")])
+}
+
+fn call_block(call: Call, history: &mut History) -> Block {
+    history.give(call.to_record());
+    let answer = history.steps.last().expect("the call was given").expected;
+    if answer[0] != 0 {
+        return refused(answer);
+    }
+    let values = match call {
+        Call::Remove { .. } => 0,
+        Call::Resize { .. } => 1,
+        Call::Add { .. } => 2,
+        Call::Link { .. } | Call::LinkSubports { .. } => 4,
+        _ => 3,
+    };
+    let events = match call {
+        Call::Resize { .. } => history.oracle.moves(),
+        _ => &[],
+    };
+    let last = format!("ok{}", words(&answer[1..1 + values]));
+    events.iter().map(|event| item(event)).chain([last]).collect()
+}
+
+/// The history of a script, and what the console must write for each line.
+fn expected(script: &[Command]) -> (History, Vec<Block>) {
+    let mut history = History::default();
+    let blocks = script.iter().enumerate().map(|(line, command)| command.block(&mut history, line + 1)).collect();
+    (history, blocks)
+}
+
+/// A console that writes what it must.
+pub fn faultless(script: &[Command]) -> Result<Vec<Block>, String> {
+    Ok(expected(script).1)
+}
+
+/// The program as console.
+pub fn written(program: &Path, script: &[Command]) -> Result<Vec<Block>, String> {
+    let failed = |error: std::io::Error| format!("{}: {error}", program.display());
+    let mut child = Process::new(program).stdin(Stdio::piped()).stdout(Stdio::piped()).spawn().map_err(failed)?;
+    let input: String = script.iter().map(|command| command.line() + "\n").collect();
+    let mut stdin = child.stdin.take().expect("piped");
+    // A program that ends early shows as missing lines.
+    let typing = thread::spawn(move || _ = stdin.write_all(input.as_bytes()));
+    let mut text = String::new();
+    child.stdout.take().expect("piped").read_to_string(&mut text).map_err(failed)?;
+    typing.join().expect("typing doesn't panic");
+    child.wait().map_err(failed)?;
+    let mut blocks = vec![Block::new()];
+    for line in text.lines() {
+        let block = blocks.last_mut().expect("never empty");
+        block.push(line.to_string());
+        if !line.starts_with("  ") {
+            blocks.push(Block::new());
+        }
+    }
+    Ok(blocks)
+}
+
+/// The first line answered otherwise, with both answers.
+fn first_difference(console: &Console, script: &[Command]) -> Result<Option<(usize, Block, Block)>, String> {
+    let (_, expected) = expected(script);
+    let mut written = console(script)?;
+    written.resize(written.len().max(expected.len()), Block::new());
+    Ok(expected
+        .into_iter()
+        .zip(written)
+        .enumerate()
+        .find_map(|(line, (expected, written))| (expected != written).then_some((line, expected, written))))
+}
+
+/// A script without what may not follow the resize set apart.
+fn tidy(script: &[Command]) -> Vec<Command> {
+    let mut history = History::default();
+    let mut kept = Vec::new();
+    for command in script {
+        if !history.ended || command.reads() {
+            command.block(&mut history, 0);
+            kept.push(*command);
+        }
+    }
+    kept
+}
+
+fn compare(console: &Console, script: &[Command], tally: &mut Tally) -> Result<(), String> {
+    let Some((line, _, _)) = first_difference(console, script)? else {
+        let (history, blocks) = expected(script);
+        tally.count(&history.steps);
+        for (command, block) in script.iter().zip(blocks) {
+            tally.items += block.len() as u64 - 1;
+            if !matches!(command, Command::Call(_)) {
+                tally.list(command.name());
+            }
+        }
+        return Ok(());
+    };
+    let differs = |script: &[Command]| !matches!(first_difference(console, &tidy(script)), Ok(None));
+    let fewest = tidy(&fewest(script[..=line].to_vec(), differs));
+    let lines: String = fewest.iter().map(|command| format!("  {}\n", command.line())).collect();
+    let (_, expected, written) = first_difference(console, &fewest)?.ok_or("a difference that comes and goes")?;
+    Err(format!(
+        "after {} lines of the script; the fewest that show it:\n{lines}must be {expected:?}\nand is  {written:?}",
+        line + 1
+    ))
+}
+
+/// A random listing, mostly of what there is.
+fn draw_listing(shape: &Shape, history: &History, random: &mut Random) -> Command {
+    let oracle = &history.oracle;
+    let sides = [Sides::One(Side::Incoming), Sides::One(Side::Outgoing), Sides::Both][random.below(3) as usize];
+    let node = shape.node(oracle, random);
+    let port = shape.port(oracle, random);
+    match random.below(12) {
+        0 => Command::FanOut(port),
+        1 => Command::BlockFanOut(node),
+        2 => Command::Blocks,
+        3 => Command::Subports(node, sides),
+        4 => Command::Links(port),
+        5 => Command::Back(port),
+        6 => {
+            let low = random.below(oracle.tables().1 as u32 + 1);
+            Command::NodeLinks(node, sides, low, low + random.below(6))
+        }
+        7 => {
+            let own = oracle.ports(node, Sides::One(Side::Outgoing)).unwrap_or_default();
+            let low = own.first().copied().unwrap_or(0);
+            Command::NodeLinks(node, sides, low, low + own.len() as u32)
+        }
+        8 => Command::Neighbours(node, sides, random.one_in(2)),
+        9 => Command::Connections(node, shape.node(oracle, random)),
+        10 => Command::Wires,
+        _ => Command::Places,
+    }
+}
+
+const NONSENSE: [&str; 5] = ["hello", "link 1", "link 1 2 3", "add x 1", "remove"];
+
+/// A random script: calls, each followed by a listing as often as not. Calls of refusal 2 are for records only.
+fn draw(shape: &Shape, seed: u64, lines: usize) -> Vec<Command> {
+    let mut random = Random::new(seed);
+    let mut history = History::default();
+    let mut script = Vec::new();
+    for call in shape.first_calls(&mut random) {
+        history.give(call.to_record());
+        script.push(Command::Call(call));
+    }
+    let lines = script.len() + lines;
+    while script.len() < lines && !history.ended {
+        let call = shape.call(&history.oracle, &mut random);
+        let apart = history.set_apart(call.to_record());
+        let malformed = history.oracle.clone().ask(call).expected().is_some_and(|answer| answer[0] == 2);
+        let command = match random.below(100) {
+            0 => Command::Nonsense(random.pick(&NONSENSE).expect("some")),
+            1..=49 => draw_listing(shape, &history, &mut random),
+            _ if malformed || (apart && !random.one_in(12)) => Command::Places,
+            _ => Command::Call(call),
+        };
+        command.block(&mut history, 0);
+        script.push(command);
+    }
+    script.extend([Command::Wires, Command::Places, Command::Blocks, Command::Call(Call::Counts)]);
+    for node in history.oracle.blocks().into_iter().take(8) {
+        script.extend([Command::Subports(node, Sides::Both), Command::NodeLinks(node, Sides::Both, 0, 0)]);
+    }
+    script
+}
+
+/// Runs random scripts.
+pub fn run(console: &Console, seeds: Range<u64>, tally: &mut Tally) -> Result<(), String> {
+    for seed in seeds {
+        let shape = &Shape::ALL[seed as usize % Shape::ALL.len()];
+        let script = draw(shape, seed, 150);
+        compare(console, &script, tally).map_err(|text| format!("console, {}, seed {seed}: {text}", shape.name))?;
+    }
+    Ok(())
+}

@@ -1,0 +1,21 @@
+//! Runs the port beside the Rust original and compares every answer.
+//!
+//! - [`history`]: a list of calls with what each must answer, from the original.
+//! - [`compare`]: runs a list through the port; a difference comes with the fewest calls that show it.
+//! - [`exhaustive`], [`damage`]: all short lists over a few calls; lists of wrong lengths and altered bytes.
+//! - [`console`]: listings and move lists, through the program `wiring`.
+//! - [`spoil`]: wrong answers put in by hand, to show that they are caught.
+//! - [`lists`], [`plain`]: lists that the original answers itself, and the original without the driver, for the benchmark.
+//!
+//! What a call must answer, and whether it is compared at all, is decided by the driver on the original's side.
+
+pub mod compare;
+pub mod console;
+pub mod damage;
+pub mod exhaustive;
+pub mod history;
+pub mod lists;
+pub mod plain;
+pub mod runs;
+pub mod spoil;
+pub mod tally;

@@ -1,0 +1,97 @@
+//! The differential run. `--records-only` leaves out the program `wiring`; `--seed N` and `--calls N` choose where the
+//! seeds begin and how many calls of random lists are compared at least; `--spoil K` puts in the wrong answers of kind K
+//! (from 0), which must be caught.
+
+use std::env;
+use std::process::ExitCode;
+
+use differential::compare::{run_records, Entry};
+use differential::console::{Command, Console};
+use differential::runs::Plan;
+use differential::spoil::{spoiled, spoiled_listing, KINDS};
+use differential::tally::Tally;
+use differential::{console, runs};
+
+/// A run that compares fewer calls of random lists fails.
+const LEAST: u64 = 1_000_000;
+
+struct Options {
+    plan: Plan,
+    records_only: bool,
+    spoil: Option<usize>,
+}
+
+fn options() -> Result<Options, String> {
+    let mut options = Options { plan: Plan::WHOLE, records_only: false, spoil: None };
+    let mut words = env::args().skip(1);
+    while let Some(word) = words.next() {
+        let mut number = || {
+            let given = words.next().and_then(|number| number.parse::<u64>().ok());
+            given.ok_or(format!("{word} takes a number"))
+        };
+        match word.as_str() {
+            "--records-only" => options.records_only = true,
+            "--seed" => options.plan.seed = number()?,
+            "--calls" => options.plan.calls = number()?,
+            "--spoil" => options.spoil = Some(number()? as usize % KINDS),
+            _ => return Err(format!("unknown word {word}")),
+        }
+    }
+    Ok(options)
+}
+
+/// Runs all parts; what was told and compared so far stays in `total`.
+fn run(options: &Options, total: &mut Tally) -> Result<(), String> {
+    let wiring = if options.records_only { None } else { Some(console::program()?) };
+    let spoil = options.spoil;
+    let entry: &Entry = &|requests, answers| match spoil {
+        Some(kind) => spoiled(kind, requests, answers),
+        None => run_records(requests, answers),
+    };
+    let (lines, random, other) = runs::records(entry, &options.plan)?;
+    total.add(&random);
+    total.add(&other);
+    lines.iter().for_each(|line| println!("{line}"));
+    println!("\nrandom lists\n{random}\nother lists\n{other}");
+    if let Some(program) = wiring {
+        let mut scripts = Tally::default();
+        let seeds = options.plan.script_seeds();
+        println!("console: {} scripts, seeds {} to {}", options.plan.scripts, seeds.start, seeds.end - 1);
+        let written = |script: &[Command]| console::written(&program, script);
+        let console: &Console = &|script| match spoil {
+            Some(kind) => spoiled_listing(kind, &written, script),
+            None => written(script),
+        };
+        console::run(console, seeds, &mut scripts)?;
+        println!("{scripts}");
+        total.add(&scripts);
+    }
+    if random.compared() < LEAST {
+        return Err(format!("fewer than {LEAST} calls of random lists were compared with the Rust"));
+    }
+    let missing = total.missing();
+    if !missing.is_empty() {
+        return Err(format!("cases that never came up: {}", missing.join("; ")));
+    }
+    Ok(())
+}
+
+fn main() -> ExitCode {
+    let options = match options() {
+        Ok(options) => options,
+        Err(message) => {
+            println!("{message}");
+            return ExitCode::from(2);
+        }
+    };
+    let mut total = Tally::default();
+    let result = run(&options, &mut total);
+    let failed = u32::from(result.is_err());
+    if let Err(message) = result {
+        println!("FAILED: {message}");
+    }
+    let (compared, expected, listings) = (total.compared(), total.expected(), total.listings());
+    println!("{compared} calls compared with the Rust, {expected} expected by 01, {listings} listings compared");
+    println!("{} passed, {failed} failed", compared + expected + listings);
+    ExitCode::from(u8::from(failed > 0))
+}

@@ -1,0 +1,74 @@
+//! The parts of a run, and how much of each.
+
+use std::ops::Range;
+
+use driver::{Random, Shape};
+
+use crate::compare::{compare, Entry};
+use crate::history::History;
+use crate::tally::Tally;
+use crate::{damage, exhaustive};
+
+/// How much is run.
+#[derive(Clone, Copy, Debug)]
+pub struct Plan {
+    /// The first seed.
+    pub seed: u64,
+    /// So many calls of random lists are compared with the Rust, or more.
+    pub calls: u64,
+    /// By how many calls the exhaustive lists are shorter than they could be.
+    pub shorter: usize,
+    /// Wrong lengths are tried up to so many bytes.
+    pub lengths: usize,
+    /// Lists with altered bytes.
+    pub altered: u64,
+    /// Scripts for the console.
+    pub scripts: u64,
+}
+
+impl Plan {
+    /// A whole run.
+    pub const WHOLE: Plan = Plan { seed: 1, calls: 3_000_000, shorter: 0, lengths: 130, altered: 2_000, scripts: 600 };
+    /// A run of seconds.
+    pub const SHORT: Plan = Plan { seed: 1, calls: 20_000, shorter: 3, lengths: 45, altered: 20, scripts: 30 };
+
+    /// The seeds of the altered lists, and of the scripts.
+    pub fn altered_seeds(&self) -> Range<u64> {
+        self.seed..self.seed + self.altered
+    }
+
+    pub fn script_seeds(&self) -> Range<u64> {
+        self.seed..self.seed + self.scripts
+    }
+}
+
+/// Random lists of 200 to 3,000 calls, of each shape in turn. Gives the seeds and the number of lists by shape.
+pub fn random(entry: &Entry, plan: &Plan, tally: &mut Tally) -> Result<String, String> {
+    let mut seed = plan.seed;
+    while tally.compared() < plan.calls {
+        let shape = &Shape::ALL[seed as usize % Shape::ALL.len()];
+        let calls = 200 + Random::new(seed).below(2_801) as usize;
+        let history = History::draw(shape, seed, calls);
+        compare(entry, &history).map_err(|text| format!("{}, seed {seed}: {text}", shape.name))?;
+        tally.count(&history.steps);
+        seed += 1;
+    }
+    let names: Vec<&str> = Shape::ALL.iter().map(|shape| shape.name).collect();
+    let lists = seed - plan.seed;
+    Ok(format!("random: {lists} lists, seeds {} to {}, shapes in turn: {}", plan.seed, seed - 1, names.join(", ")))
+}
+
+/// All that goes through records: random lists, all short lists, lists of wrong lengths, altered lists. Gives what was
+/// run and, apart, the tally of the random lists.
+pub fn records(entry: &Entry, plan: &Plan) -> Result<(Vec<String>, Tally, Tally), String> {
+    let mut random_tally = Tally::default();
+    let mut lines = vec![random(entry, plan, &mut random_tally)?];
+    let mut other = Tally::default();
+    lines.extend(exhaustive::run(entry, plan.shorter, &mut other)?);
+    damage::lengths(entry, plan.lengths, &mut other)?;
+    lines.push(format!("wrong lengths: every pair up to {} bytes", plan.lengths));
+    let seeds = plan.altered_seeds();
+    damage::bytes(entry, seeds.clone(), &mut other)?;
+    lines.push(format!("altered bytes: {} lists, seeds {} to {}", plan.altered, seeds.start, seeds.end - 1));
+    Ok((lines, random_tally, other))
+}

@@ -1,0 +1,179 @@
+//! What was compared, by call, by refusal and by reason.
+
+use std::collections::BTreeMap;
+use std::fmt;
+
+use crate::history::{By, Step};
+
+/// The calls by code; 0 stands for unknown codes.
+pub const CALLS: [&str; 10] = [
+    "unknown code",
+    "add",
+    "remove",
+    "resize",
+    "link",
+    "unlink",
+    "link_subports",
+    "unlink_subport",
+    "subport_link",
+    "counts",
+];
+
+/// Counts of what was compared.
+#[derive(Clone, Default)]
+pub struct Tally {
+    calls: BTreeMap<(By, usize, u32), u64>,
+    notes: BTreeMap<&'static str, u64>,
+    listings: BTreeMap<&'static str, u64>,
+    /// Lists refused as a whole (refusal 1).
+    pub lists_refused: u64,
+    /// Items of listings and move lists, in the console's answers.
+    pub items: u64,
+}
+
+impl Tally {
+    pub fn count(&mut self, steps: &[Step]) {
+        for step in steps {
+            let code = if step.record[0] < 10 { step.record[0] as usize } else { 0 };
+            *self.calls.entry((step.by, code, step.expected[0])).or_default() += 1;
+            if let Some(note) = step.note {
+                *self.notes.entry(note).or_default() += 1;
+            }
+        }
+    }
+
+    /// Counts a listing of the console, by its command.
+    pub fn list(&mut self, command: &'static str) {
+        *self.listings.entry(command).or_default() += 1;
+    }
+
+    pub fn add(&mut self, other: &Tally) {
+        other.calls.iter().for_each(|(key, count)| *self.calls.entry(*key).or_default() += count);
+        other.notes.iter().for_each(|(key, count)| *self.notes.entry(key).or_default() += count);
+        other.listings.iter().for_each(|(key, count)| *self.listings.entry(key).or_default() += count);
+        self.lists_refused += other.lists_refused;
+        self.items += other.items;
+    }
+
+    /// Calls whose answer the Rust gave.
+    pub fn compared(&self) -> u64 {
+        self.by(|by| by == By::Rust)
+    }
+
+    /// Calls whose answer follows from 01 and the Rust's graph, and lists refused as a whole.
+    pub fn expected(&self) -> u64 {
+        self.by(|by| by != By::Rust) + self.lists_refused
+    }
+
+    /// Listings of the console, and its lines that are no commands.
+    pub fn listings(&self) -> u64 {
+        self.listings.values().sum()
+    }
+
+    fn by(&self, who: impl Fn(By) -> bool) -> u64 {
+        self.calls.iter().filter(|((by, _, _), _)| who(*by)).map(|(_, count)| count).sum()
+    }
+
+    /// Cases that a whole run must bring up and this one didn't.
+    pub fn missing(&self) -> Vec<String> {
+        let given = [
+            (1, 0),
+            (2, 0),
+            (2, 4),
+            (3, 0),
+            (3, 4),
+            (4, 0),
+            (4, 7),
+            (4, 11),
+            (4, 12),
+            (5, 0),
+            (5, 7),
+            (6, 0),
+            (6, 7),
+            (6, 11),
+            (6, 12),
+            (6, 13),
+            (7, 0),
+            (7, 7),
+            (8, 0),
+            (9, 0),
+        ];
+        let added = [
+            (0, 2),
+            (1, 2),
+            (2, 2),
+            (3, 2),
+            (4, 2),
+            (5, 2),
+            (6, 2),
+            (7, 2),
+            (8, 2),
+            (9, 2),
+            (1, 3),
+            (3, 3),
+            (2, 5),
+            (3, 5),
+            (4, 8),
+            (5, 8),
+            (6, 8),
+            (7, 8),
+            (8, 8),
+            (6, 9),
+            (7, 9),
+            (8, 9),
+            (1, 10),
+            (3, 10),
+            (4, 10),
+        ];
+        let reasons =
+            [(By::DeadRead, 8, 7), (By::DeadFirst, 6, 7), (By::Unheld, 2, 4), (By::Unheld, 4, 7), (By::SetApart, 3, 0)];
+        let notes = [
+            "resize to equal counts",
+            "resize by a new block",
+            "resize within the block, up",
+            "resize within the block, down",
+            "resize within the block, mixed",
+            "R1, second port given as a surely dead number",
+        ];
+        let all = given.into_iter().map(|(code, refusal)| (By::Rust, code, refusal));
+        let all = all.chain(added.into_iter().map(|(code, refusal)| (By::Added, code, refusal))).chain(reasons);
+        let calls = all.filter(|key| !self.calls.contains_key(key)).map(|key| format!("{key:?}"));
+        calls.chain(notes.into_iter().filter(|note| !self.notes.contains_key(note)).map(str::to_string)).collect()
+    }
+}
+
+impl fmt::Display for Tally {
+    fn fmt(&self, f: &mut fmt::Formatter) -> fmt::Result {
+        let mut last = None;
+        for ((by, code, refusal), count) in &self.calls {
+            if last != Some(by) {
+                let title = match by {
+                    By::Rust => "compared with the Rust",
+                    By::Added => "expected by 01, refusals that the Rust lacks",
+                    By::DeadRead => "expected by 01, R2: the Rust panics reading a dead port",
+                    By::DeadFirst => "expected by 01, R3: the Rust panics at a dead first port",
+                    By::Unheld => "expected by 01, R4: numbers that the Rust can't hold",
+                    By::SetApart => "expected by 01, R9: the resize set apart and reads after it",
+                };
+                writeln!(f, "{title}: {}", self.by(|other| other == *by))?;
+                last = Some(by);
+            }
+            let answer = if *refusal == 0 { "accepted".into() } else { format!("refusal {refusal}") };
+            writeln!(f, "  {:15} {answer:11} {count:9}", CALLS[*code])?;
+        }
+        if self.lists_refused > 0 {
+            writeln!(f, "expected by 01, refusal 1 with the answer buffer untouched: {}", self.lists_refused)?;
+        }
+        writeln!(f, "of these:")?;
+        for (note, count) in &self.notes {
+            writeln!(f, "  {note:45} {count:9}")?;
+        }
+        if self.listings() > 0 {
+            writeln!(f, "listings: {}, with move lists {} items", self.listings(), self.items)?;
+        }
+        for (command, count) in &self.listings {
+            writeln!(f, "  {command:15} {count:21}")?;
+        }
+        Ok(())
+    }
+}

@@ -1,0 +1,294 @@
+//! Lists of wiring calls, run by the proved entry `run_records` of the crate `records`.
+//!
+//! A [`List`] collects calls and runs them from an empty graph; it holds no graph itself. A refused call changes nothing
+//! but what refusals 11 and 12 of a link leave prepared, and the run goes on past it.
+//!
+//! ```
+//! use kanhtrev::{Answer, Counts, Direction, List, Node, Port, Refusal, Subport};
+//!
+//! let mut list = List::new();
+//! list.add(0, 1); // node 0 with port 0
+//! let sink = list.add(2, 0); // node 1 with ports 1 and 2
+//! list.link(Port(0), Port(1));
+//! let second = list.link(Port(0), Port(2));
+//! let far = list.subport_link(Port(2).at(0));
+//! let same_side = list.link(Port(1), Port(1));
+//! let counts = list.counts();
+//!
+//! let answers = list.run();
+//! assert_eq!(answers[sink], Ok(Answer::Added { node: Node(1), first_port: Some(Port(1)) }));
+//! assert_eq!(answers[second], Ok(Answer::Linked { a: Port(0).at(1), b: Port(2).at(0) }));
+//! assert_eq!(answers[far], Ok(Answer::End(Some(Subport { port: Port(0), offset: 1 }))));
+//! let Err(Refusal::SameDirection { direction, .. }) = answers[same_side] else { panic!("accepted") };
+//! assert_eq!(direction, Direction::Incoming);
+//! assert_eq!(answers[counts], Ok(Answer::Counts(Counts { nodes: 2, ports: 3, links: 2 })));
+//! ```
+
+use std::error::Error;
+use std::fmt;
+
+/// Bytes of a request, and of an answer: five little-endian `u32`.
+pub const RECORD: usize = 20;
+
+/// A node's number.
+#[derive(Clone, Copy, Debug, PartialEq, Eq, PartialOrd, Ord, Hash)]
+pub struct Node(pub u32);
+
+/// A port's number.
+#[derive(Clone, Copy, Debug, PartialEq, Eq, PartialOrd, Ord, Hash)]
+pub struct Port(pub u32);
+
+/// A port with an offset. On an unsplit port every offset means the port itself.
+#[derive(Clone, Copy, Debug, PartialEq, Eq, PartialOrd, Ord, Hash)]
+pub struct Subport {
+    pub port: Port,
+    /// At most 65,534; 65,535 is refused as [`Refusal::Malformed`].
+    pub offset: u16,
+}
+
+impl Port {
+    /// The subport of this port at an offset.
+    pub fn at(self, offset: u16) -> Subport {
+        Subport { port: self, offset }
+    }
+}
+
+/// The side of a node that a port is on.
+#[derive(Clone, Copy, Debug, PartialEq, Eq)]
+pub enum Direction {
+    Incoming,
+    Outgoing,
+}
+
+/// Visible nodes, ports and links.
+#[derive(Clone, Copy, Debug, PartialEq, Eq)]
+pub struct Counts {
+    pub nodes: u32,
+    pub ports: u32,
+    pub links: u32,
+}
+
+/// What an accepted call answers.
+#[derive(Clone, Copy, Debug, PartialEq, Eq)]
+pub enum Answer {
+    /// [`List::add`]. The ports are numbered on from the first, incoming ones first; `None` for a node without ports.
+    Added { node: Node, first_port: Option<Port> },
+    /// [`List::remove`].
+    Removed,
+    /// [`List::resize`]: how many ports were moved or removed.
+    Resized { events: u32 },
+    /// [`List::link`] and [`List::link_subports`]: the two ends, in the order of the call.
+    Linked { a: Subport, b: Subport },
+    /// [`List::unlink`], [`List::unlink_subport`] and [`List::subport_link`]: the end that was found, if any.
+    End(Option<Subport>),
+    /// [`List::counts`].
+    Counts(Counts),
+}
+
+/// Why a list or a call is refused, with what the refusal carries.
+#[derive(Clone, Copy, Debug, PartialEq, Eq)]
+pub enum Refusal {
+    /// 1: the length of a record list is not a multiple of 20, or differs from the answer buffer's. Only [`run_bytes`].
+    Length,
+    /// 2: unknown code, an unused word that is not 0, or an offset above 65,534.
+    Malformed,
+    /// 3: more than 1,024 ports.
+    TooManyPorts,
+    /// 4: the node is not live.
+    NodeNotLive,
+    /// 5: the node is hidden.
+    NodeHidden,
+    /// 6: the move list of a resize is too short. Never given in a run, which has its own.
+    MoveListShort,
+    /// 7: the only or first port is not live.
+    PortNotLive(Port),
+    /// 8: the port belongs to a hidden node.
+    PortHidden(Port),
+    /// 9: the port is split and has no such offset.
+    NoSuchOffset(Port),
+    /// 10: lack of space.
+    NoSpace,
+    /// 11: the second port is not live.
+    SecondPortNotLive(Port),
+    /// 12: both ends have one direction. The ports are inner ones.
+    SameDirection { a: Port, b: Port, direction: Direction },
+    /// 13: an end is linked. The port is an inner one.
+    AlreadyLinked(Port),
+}
+
+impl Refusal {
+    /// The number of the refusal, from 1 to 13.
+    pub fn number(&self) -> u32 {
+        match self {
+            Refusal::Length => 1,
+            Refusal::Malformed => 2,
+            Refusal::TooManyPorts => 3,
+            Refusal::NodeNotLive => 4,
+            Refusal::NodeHidden => 5,
+            Refusal::MoveListShort => 6,
+            Refusal::PortNotLive(_) => 7,
+            Refusal::PortHidden(_) => 8,
+            Refusal::NoSuchOffset(_) => 9,
+            Refusal::NoSpace => 10,
+            Refusal::SecondPortNotLive(_) => 11,
+            Refusal::SameDirection { .. } => 12,
+            Refusal::AlreadyLinked(_) => 13,
+        }
+    }
+
+    fn read([number, a, b, direction, _]: [u32; 5]) -> Refusal {
+        match number {
+            2 => Refusal::Malformed,
+            3 => Refusal::TooManyPorts,
+            4 => Refusal::NodeNotLive,
+            5 => Refusal::NodeHidden,
+            6 => Refusal::MoveListShort,
+            7 => Refusal::PortNotLive(Port(a)),
+            8 => Refusal::PortHidden(Port(a)),
+            9 => Refusal::NoSuchOffset(Port(a)),
+            10 => Refusal::NoSpace,
+            11 => Refusal::SecondPortNotLive(Port(a)),
+            12 => {
+                let direction = if direction == 0 { Direction::Incoming } else { Direction::Outgoing };
+                Refusal::SameDirection { a: Port(a), b: Port(b), direction }
+            }
+            13 => Refusal::AlreadyLinked(Port(a)),
+            _ => unreachable!("no refusal {number} of a call"),
+        }
+    }
+}
+
+impl fmt::Display for Refusal {
+    fn fmt(&self, f: &mut fmt::Formatter) -> fmt::Result {
+        write!(f, "refusal {}: {self:?}", self.number())
+    }
+}
+
+impl Error for Refusal {}
+
+/// A list of calls. Each method adds one and gives its place, which is that of its answer.
+#[derive(Clone, Debug, Default)]
+pub struct List {
+    requests: Vec<u8>,
+}
+
+impl List {
+    /// An empty list.
+    pub fn new() -> Self {
+        Self::default()
+    }
+
+    /// The number of calls.
+    pub fn len(&self) -> usize {
+        self.requests.len() / RECORD
+    }
+
+    /// Whether there is no call.
+    pub fn is_empty(&self) -> bool {
+        self.requests.is_empty()
+    }
+
+    /// The request bytes.
+    pub fn bytes(&self) -> &[u8] {
+        &self.requests
+    }
+
+    fn push(&mut self, request: [u32; 5]) -> usize {
+        self.requests.extend(request.iter().flat_map(|word| word.to_le_bytes()));
+        self.len() - 1
+    }
+
+    /// Adds a node.
+    pub fn add(&mut self, incoming: u32, outgoing: u32) -> usize {
+        self.push([1, incoming, outgoing, 0, 0])
+    }
+
+    /// Removes a node with its wires.
+    pub fn remove(&mut self, node: Node) -> usize {
+        self.push([2, node.0, 0, 0, 0])
+    }
+
+    /// Changes the port counts of a node. The highest positions of a side are dropped.
+    pub fn resize(&mut self, node: Node, incoming: u32, outgoing: u32) -> usize {
+        self.push([3, node.0, incoming, outgoing, 0])
+    }
+
+    /// Adds a wire between two ports, each at its lowest unwired offset.
+    pub fn link(&mut self, a: Port, b: Port) -> usize {
+        self.push([4, a.0, b.0, 0, 0])
+    }
+
+    /// Cuts every wire of a port.
+    pub fn unlink(&mut self, port: Port) -> usize {
+        self.push([5, port.0, 0, 0, 0])
+    }
+
+    /// Adds a wire between two subports.
+    pub fn link_subports(&mut self, a: Subport, b: Subport) -> usize {
+        self.push([6, a.port.0, a.offset.into(), b.port.0, b.offset.into()])
+    }
+
+    /// Cuts the wire of a subport.
+    pub fn unlink_subport(&mut self, end: Subport) -> usize {
+        self.push([7, end.port.0, end.offset.into(), 0, 0])
+    }
+
+    /// Asks for the far end of a subport's wire.
+    pub fn subport_link(&mut self, end: Subport) -> usize {
+        self.push([8, end.port.0, end.offset.into(), 0, 0])
+    }
+
+    /// Asks for the counts.
+    pub fn counts(&mut self) -> usize {
+        self.push([9, 0, 0, 0, 0])
+    }
+
+    /// Runs the calls from an empty graph: an answer for each call.
+    pub fn run(&self) -> Vec<Result<Answer, Refusal>> {
+        let mut answers = vec![0; self.requests.len()];
+        run_bytes(&self.requests, &mut answers).expect("both buffers hold a record for each call");
+        words(&self.requests).zip(words(&answers)).map(|(request, answer)| read(request, answer)).collect()
+    }
+}
+
+/// Runs a list of request bytes from an empty graph and writes the answer bytes. Refused as [`Refusal::Length`] if the
+/// lengths don't fit; the answer buffer is then as before.
+pub fn run_bytes(requests: &[u8], answers: &mut [u8]) -> Result<(), Refusal> {
+    extern "C" {
+        // A slice crosses as its pointer and its length.
+        fn run_records(requests: *const u8, request_bytes: usize, answers: *mut u8, answer_bytes: usize) -> u32;
+    }
+    // SAFETY: both are whole slices, the answers lent to this call alone. The callee is proved to read and write within
+    // them, to end for every content, and to keep neither.
+    match unsafe { run_records(requests.as_ptr(), requests.len(), answers.as_mut_ptr(), answers.len()) } {
+        0 => Ok(()),
+        1 => Err(Refusal::Length),
+        other => unreachable!("run_records returns 0 or 1, not {other}"),
+    }
+}
+
+fn words(bytes: &[u8]) -> impl Iterator<Item = [u32; 5]> + '_ {
+    let word = |record: &[u8], place: usize| {
+        u32::from_le_bytes(record[4 * place..4 * place + 4].try_into().expect("four bytes a word"))
+    };
+    bytes.chunks_exact(RECORD).map(move |record| std::array::from_fn(|place| word(record, place)))
+}
+
+fn subport(port: u32, offset: u32) -> Subport {
+    Port(port).at(offset.try_into().expect("an offset is at most 65,534"))
+}
+
+fn read(request: [u32; 5], answer: [u32; 5]) -> Result<Answer, Refusal> {
+    let [refused, a, b, c, d] = answer;
+    if refused != 0 {
+        return Err(Refusal::read(answer));
+    }
+    Ok(match request[0] {
+        1 => Answer::Added { node: Node(a), first_port: (request[1] + request[2] > 0).then_some(Port(b)) },
+        2 => Answer::Removed,
+        3 => Answer::Resized { events: a },
+        4 | 6 => Answer::Linked { a: subport(a, b), b: subport(c, d) },
+        5 | 7 | 8 => Answer::End((a == 1).then(|| subport(b, c))),
+        _ => Answer::Counts(Counts { nodes: a, ports: b, links: c }),
+    })
+}

@@ -1,0 +1,111 @@
+//! The bench wiring through the typed list: cases A to J, and K's answers.
+
+use kanhtrev::{run_bytes, Answer, Counts, Direction, List, Node, Port, Refusal, Subport};
+
+type Ends = (Subport, Subport);
+
+/// The list after so many links of cases A to C.
+fn after(links: usize) -> List {
+    let mut list = List::new();
+    list.add(0, 1);
+    list.add(2, 0);
+    for (a, b) in [(0, 1), (0, 2), (0, 2)].into_iter().take(links) {
+        list.link(Port(a), Port(b));
+    }
+    list
+}
+
+/// The answer to one more call.
+fn then(mut list: List, call: impl FnOnce(&mut List) -> usize) -> Result<Answer, Refusal> {
+    let place = call(&mut list);
+    list.run()[place]
+}
+
+fn linked((a, b): Ends) -> Result<Answer, Refusal> {
+    Ok(Answer::Linked { a, b })
+}
+
+fn end(port: u32, offset: u16) -> Result<Answer, Refusal> {
+    Ok(Answer::End(Some(Port(port).at(offset))))
+}
+
+fn counts(nodes: u32, ports: u32, links: u32) -> Result<Answer, Refusal> {
+    Ok(Answer::Counts(Counts { nodes, ports, links }))
+}
+
+#[test]
+fn links_and_counts() {
+    let answers = after(3).run();
+    assert_eq!(answers[0], Ok(Answer::Added { node: Node(0), first_port: Some(Port(0)) }));
+    assert_eq!(answers[1], Ok(Answer::Added { node: Node(1), first_port: Some(Port(1)) }));
+    assert_eq!(answers[2], linked((Port(0).at(0), Port(1).at(0))));
+    assert_eq!(answers[3], linked((Port(0).at(1), Port(2).at(0))));
+    assert_eq!(answers[4], linked((Port(0).at(2), Port(2).at(1))));
+    for links in 0..=3 {
+        assert_eq!(then(after(links), List::counts), counts(2, 3, links as u32));
+    }
+    assert_eq!(then(after(3), |list| list.subport_link(Port(0).at(1))), end(2, 0));
+}
+
+#[test]
+fn refused_links() {
+    let same = |a, b, direction| Err(Refusal::SameDirection { a: Port(a), b: Port(b), direction });
+    assert_eq!(then(after(1), |list| list.link(Port(1), Port(2))), same(4, 2, Direction::Incoming));
+    assert_eq!(then(after(0), |list| list.link(Port(0), Port(0))), same(0, 0, Direction::Outgoing));
+    assert_eq!(then(after(0), |list| list.link(Port(0), Port(9))), Err(Refusal::SecondPortNotLive(Port(9))));
+    assert_eq!(then(after(0), |list| list.link(Port(9), Port(0))), Err(Refusal::PortNotLive(Port(9))));
+    assert_eq!(then(after(2), |list| list.link(Port(0), Port(3))), Err(Refusal::PortHidden(Port(3))));
+    let twice = |list: &mut List| list.link_subports(Port(0).at(1), Port(1).at(0));
+    assert_eq!(then(after(2), twice), Err(Refusal::AlreadyLinked(Port(5))));
+}
+
+#[test]
+fn cuts() {
+    assert_eq!(then(after(2), |list| list.unlink(Port(0))), end(0, 0));
+    assert_eq!(then(after(2), |list| list.unlink(Port(2))), end(5, 0));
+    assert_eq!(then(after(2), |list| list.unlink_subport(Port(2).at(0))), end(0, 1));
+    assert_eq!(then(after(0), |list| list.unlink(Port(0))), Ok(Answer::End(None)));
+    assert_eq!(then(after(1), |list| list.subport_link(Port(1).at(5))), end(0, 0));
+    assert_eq!(then(after(2), |list| list.subport_link(Port(0).at(2))), Err(Refusal::NoSuchOffset(Port(0))));
+    assert_eq!(then(after(2), |list| list.subport_link(Port(0).at(65_535))), Err(Refusal::Malformed));
+}
+
+#[test]
+fn nodes_and_space() {
+    assert_eq!(then(after(2), |list| list.remove(Node(2))), Err(Refusal::NodeHidden));
+    assert_eq!(then(after(2), |list| list.remove(Node(7))), Err(Refusal::NodeNotLive));
+    assert_eq!(then(after(2), |list| list.remove(Node(1))), Ok(Answer::Removed));
+    let mut list = after(0);
+    list.resize(Node(0), 0, 0);
+    assert_eq!(then(list, |list| list.add(0, 1)), Ok(Answer::Added { node: Node(2), first_port: Some(Port(0)) }));
+    let mut list = List::new();
+    list.add(512, 512);
+    list.add(512, 512);
+    assert_eq!(then(list.clone(), |list| list.add(0, 1)), Err(Refusal::NoSpace));
+    assert_eq!(then(list.clone(), |list| list.add(0, 0)), Ok(Answer::Added { node: Node(2), first_port: None }));
+    assert_eq!(then(list, |list| list.add(512, 513)), Err(Refusal::TooManyPorts));
+}
+
+#[test]
+fn the_resize_of_case_k() {
+    let mut list = List::new();
+    list.add(1, 1);
+    list.add(0, 2);
+    list.link(Port(2), Port(0));
+    list.link(Port(3), Port(0));
+    assert_eq!(then(list.clone(), |list| list.resize(Node(0), 0, 1)), Ok(Answer::Resized { events: 2 }));
+    list.resize(Node(0), 0, 1);
+    assert_eq!(then(list, List::counts), counts(2, 3, 0));
+}
+
+#[test]
+fn lengths() {
+    let list = after(1);
+    for (request_bytes, answer_bytes) in [(59, 59), (60, 40), (60, 80), (0, 20), (19, 0)] {
+        let mut answers = vec![0xA5; answer_bytes];
+        assert_eq!(run_bytes(&list.bytes()[..request_bytes], &mut answers), Err(Refusal::Length));
+        assert!(answers.iter().all(|byte| *byte == 0xA5), "the answer buffer was changed");
+    }
+    assert_eq!(run_bytes(&[], &mut []), Ok(()));
+    assert!(List::new().run().is_empty());
+}

@@ -7,7 +7,7 @@ use Prim.Native.Nat.{ℕ, _+_, _-_, _*_, _≤_, _<_}
 use native.Mathlib.Omega.{arith}
 use lib.Dec.{leb}
 use lib.ListN.{length, take}
-use lib.Seq.{sets}
+use lib.Seq.{sets, length-sets}
 use borrow.Author.Tests.{le-leb, lt-leb}
 use Rattle.portgraph.specs.Limits.{nodeSlots, portSlots, nodePorts}
 use Rattle.portgraph.specs.Entries.{pick, reversed, sideNumber}
@@ -62,7 +62,7 @@ use Rattle.multiportgraph.specs.ReadLaws.{seen-read}
 use Rattle.multiportgraph.specs.Reads.{farIn, ownerIn, seenIn, subportsIn, firstIn, hangOn, copyAt, subportsAt, grownIn, grownOut}
 use Rattle.multiportgraph.specs.MultiLent.{multiIn, heldCounts, heldLinks, portOfIn, copyNodeIn, Sound, FitsIf, Resizes, preparedIn, Tried, plenty}
 use Rattle.multiportgraph.specs.LentLaws.{port-of-read, count-read, copy-node-read, never-short, plenty-told}
-use Rattle.multiportgraph.specs.LentSteps.{set-kept, set-parts, link-parts}
+use Rattle.multiportgraph.specs.LentSteps.{set-kept, set-parts, link-parts, found-fits}
 use Rattle.multiportgraph.specs.declared.multiportgraph.MultiPortGraph.{MultiPortGraph}
 use Rattle.multiportgraph.specs.declared.multiportgraph.Refusal.{Refusal}
 use Rattle.multiportgraph.specs.declared.multiportgraph.Refusal.the-variants.{NoRoom, UnknownSecondPort, IncompatibleDirections}
@@ -118,6 +118,14 @@ module _ (nodes links owners heads : List ℕ) (marks flags : List Bool) (held :
   pub sized-wf : Wf (graphIn nodes′ links′ owners′ heads′ counts)
   sized-wf = subst Wf (sym e) (wf-set (graphIn nodes links owners heads (held .counts)) n i o (length b) (lower-wf m (r .wf)))
 
+  pub after-fits : {x : MaybeNodeMeta} → x ≡ metaIn nodes′ n → FitsIf x
+  after-fits {x} g = found-fits (graphIn nodes′ links′ owners′ heads′ counts) sized-wf n x (g ∙ meta-read nodes′ links′ owners′ heads′ counts n (sized-wf .holds .nodesLong))
+
+  pub listed-in : (c : ℕ) (list list′ : List ℕ) → c ≡ length (copiesDropped m k i o) → list′ ≡ sets list 0 (copiesDropped m k i o) → length list ≡ nodePorts → (c ≤ nodePorts) × (length list′ ≡ nodePorts)
+  listed-in c list list′ u v long =
+      let few = copies-dropped-few m k i o (block-in m n k (r .wf) (r .meta)) in
+      (omega arith, ap length v ∙ (length-sets list 0 (copiesDropped m k i o) ∙ long))
+
   pub resize-refused-in : {held′ : Held} {x : SetAnswer} (tag : lower-set.SetAnswer → ℕ) → ((q : ℕ) → tag (lower-set-variants.Set q) ≡ 0) → (tag a ≡ 1) ⊎ ((tag a ≡ 2) ⊎ ((tag a ≡ 3) ⊎ (tag a ≡ 4))) →
       held′ ≡ heldCounts held counts → x ≡ setAs a →
       (multiIn nodes′ links′ owners′ heads′ marks flags held′ ≡ setCounts m n i o (length b) .graph) × (x ≡ setCounts m n i o (length b) .answer) × (b′ ≡ movesTold m n i o b)
@@ -154,6 +162,14 @@ module _ (nodes links owners heads : List ℕ) (marks flags : List Bool) (held :
         (z .0, (s ∙ ap setAs t) ∙ z .1, z .2)
 
 -- Splitting.
+
+pub copy-at-small : (d : Direction) → copyAt d ≤ 2
+copy-at-small Incoming = omega arith
+copy-at-small Outgoing = omega arith
+
+pub subports-at-small : (d : Direction) → subportsAt d ≤ 1
+subports-at-small Incoming = omega arith
+subports-at-small Outgoing = omega arith
 
 -- a refused node changes nothing
 add-kept : (g : PortGraph) (i o : ℕ) (tag : lower-add.AddAnswer → ℕ) → ((n : NodeIndex) (f : PortIndex) → tag (lower-add-variants.Added n f) ≡ 0) → {a : lower-add.AddAnswer} → a ≡ addNode g i o .answer →

@@ -2,12 +2,12 @@
 use mathlib.Core.Bool.{true, false}
 use mathlib.Core.Path.{sym, _∙_}
 use borrow.Author.Needs.{needs}
+use Rattle.multiportgraph.specs.CallSteps.{was-dead, was-hidden, was-visible, cut-port-seen, cut-port-split}
+use Rattle.multiportgraph.specs.Reading.{dead, hidden}
 use Rattle.multiportgraph.specs.MultiLent.{multiIn}
 use Rattle.multiportgraph.specs.LentLaws.{sound-of}
-use Rattle.multiportgraph.specs.LinkSteps.{on-block}
 use Rattle.multiportgraph.specs.NamedLaws.{seen-as}
-use Rattle.multiportgraph.specs.Reading.{dead, hidden}
-use Rattle.multiportgraph.specs.CallSteps.{was-dead, was-hidden, was-visible, cut-port-seen, cut-port-split}
+use Rattle.multiportgraph.specs.LinkSteps.{on-block}
 use Rattle.multiportgraph.specs.LentSteps.{cut-parts, mark-in, port-cut-none-in, port-cut-far-in}
 use Rattle.multiportgraph.proofs.lent_blocks.cut_port_in.Statement.{statement}
 use Rattle.multiportgraph.proofs.lent_blocks.cut_port_in.Tie as tie

@@ -6,12 +6,12 @@ use native.Mathlib.Omega.{arith}
 use lib.ListN.{length}
 use lib.Seq.{sets}
 use borrow.Author.Needs.{needs}
-use Rattle.multiportgraph.specs.BlockSteps.{copies-begun, copies-turn-split, copies-turn-plain, copies-counted, copies-listed}
 use Rattle.multiportgraph.specs.LentSteps.{copies-held}
-use Rattle.multiportgraph.specs.LentLaws.{copy-node-read}
-use Rattle.multiportgraph.specs.MultiLent.{multiIn, noHeld}
-use Rattle.multiportgraph.specs.FormSteps.{split-told}
 use Rattle.multiportgraph.specs.Calls.{copiesIn}
+use Rattle.multiportgraph.specs.MultiLent.{multiIn, noHeld}
+use Rattle.multiportgraph.specs.LentLaws.{copy-node-read}
+use Rattle.multiportgraph.specs.FormSteps.{split-told}
+use Rattle.multiportgraph.specs.BlockSteps.{copies-begun, copies-turn-split, copies-turn-plain, copies-counted, copies-listed}
 use Rattle.multiportgraph.proofs.lent_blocks.list_copies.Statement.{statement}
 use Rattle.multiportgraph.proofs.lent_blocks.list_copies.Tie as tie
 
@@ -80,7 +80,7 @@ returns c =
     let l = c .before .loop in
     let a = c .before .before .args in
     let same = copies-held (c .before .before .args .nodes .now) (c .before .before .args .links .now) (c .before .before .args .owners .now) (c .before .before .args .heads .now) (c .before .before .args .marks .now) (c .before .before .args .flags .now) noHeld (a .held) (a .first) (a .count) in
-    (copies-counted (multiIn (c .before .before .args .nodes .now) (c .before .before .args .links .now) (c .before .before .args .owners .now) (c .before .before .args .heads .now) (c .before .before .args .marks .now) (c .before .before .args .flags .now) noHeld) _ _ _ _ (c .loop-test .left) ∙ (l .inv .2 ∙ ap (λ v. a .at + length v) same), copies-listed (multiIn (c .before .before .args .nodes .now) (c .before .before .args .links .now) (c .before .before .args .owners .now) (c .before .before .args .heads .now) (c .before .before .args .marks .now) (c .before .before .args .flags .now) noHeld) _ _ _ _ _ (c .loop-test .left) ∙ (l .inv .3 ∙ ap (sets (a .list .now) (a .at)) same))
+    (copies-counted (multiIn (c .before .before .args .nodes .now) (c .before .before .args .links .now) (c .before .before .args .owners .now) (c .before .before .args .heads .now) (c .before .before .args .marks .now) (c .before .before .args .flags .now) noHeld) _ _ _ (c .loop-test .left) _ ∙ (l .inv .2 ∙ ap (λ v. a .at + length v) same), copies-listed (multiIn (c .before .before .args .nodes .now) (c .before .before .args .links .now) (c .before .before .args .owners .now) (c .before .before .args .heads .now) (c .before .before .args .marks .now) (c .before .before .args .flags .now) noHeld) _ _ _ (c .loop-test .left) _ _ ∙ (l .inv .3 ∙ ap (sets (a .list .now) (a .at)) same))
 
 pub list-copies-spec : {M : Type 1} → statement M
 list-copies-spec =

@@ -2,8 +2,8 @@
 use Prim.Native.Nat.{_+_, _-_}
 use native.Mathlib.Omega.{arith}
 use borrow.Author.Needs.{needs}
-use Rattle.multiportgraph.specs.BlockSteps.{copies-few, dropped-listed}
 use Rattle.multiportgraph.specs.MultiLent.{multiIn}
+use Rattle.multiportgraph.specs.BlockSteps.{copies-few, dropped-listed}
 use Rattle.multiportgraph.proofs.lent_blocks.list_dropped.Statement.{statement}
 use Rattle.multiportgraph.proofs.lent_blocks.list_dropped.Tie as tie
 

@@ -2,10 +2,10 @@
 use mathlib.Core.Bool.{true, false}
 use borrow.Author.Needs.{needs}
 use Rattle.portgraph.specs.declared.node_entry.MaybeNodeMeta.the-variants as maybe-meta
-use Rattle.multiportgraph.specs.MultiLent.{multiIn}
-use Rattle.multiportgraph.specs.LentLaws.{sound-of}
-use Rattle.multiportgraph.specs.BlockSteps.{range-in, wf-range-is, remove-unknown, remove-hidden}
 use Rattle.multiportgraph.specs.LentSteps.{removed-parts, meta-told, flag-told-in, block-removed-in}
+use Rattle.multiportgraph.specs.LentLaws.{sound-of}
+use Rattle.multiportgraph.specs.MultiLent.{multiIn}
+use Rattle.multiportgraph.specs.BlockSteps.{range-in, wf-range-is, remove-unknown, remove-hidden}
 use Rattle.multiportgraph.proofs.lent_blocks.remove_in.Statement.{statement}
 use Rattle.multiportgraph.proofs.lent_blocks.remove_in.Tie as tie
 

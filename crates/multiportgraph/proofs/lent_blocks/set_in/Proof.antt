@@ -3,9 +3,9 @@ use mathlib.Core.Bool.{true, false}
 use native.Mathlib.Omega.{arith}
 use borrow.Author.Needs.{needs}
 use Rattle.portgraph.specs.declared.node_entry.MaybeNodeMeta.the-variants as maybe-meta
+use Rattle.multiportgraph.specs.BlockSteps.{set-too-many, set-unknown, set-hidden}
 use Rattle.multiportgraph.specs.MultiLent.{multiIn}
 use Rattle.multiportgraph.specs.LentSteps.{set-parts, meta-told, flag-told-in}
-use Rattle.multiportgraph.specs.BlockSteps.{set-too-many, set-unknown, set-hidden}
 use Rattle.multiportgraph.proofs.lent_blocks.set_in.Statement.{statement}
 use Rattle.multiportgraph.proofs.lent_blocks.set_in.Tie as tie
 

@@ -1,7 +1,7 @@
 -- `multiportgraph::lent_links::link_first_in` meets its contract: the first end is prepared, or there is no room.
 use borrow.Author.Needs.{needs}
-use Rattle.multiportgraph.specs.MultiLent.{multiIn}
 use Rattle.multiportgraph.specs.LentLinkSteps.{first-parts, first-none}
+use Rattle.multiportgraph.specs.MultiLent.{multiIn}
 use Rattle.multiportgraph.proofs.lent_links.link_first_in.Statement.{statement}
 use Rattle.multiportgraph.proofs.lent_links.link_first_in.Tie as tie
 

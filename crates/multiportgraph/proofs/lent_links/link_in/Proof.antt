@@ -3,9 +3,9 @@ use mathlib.Core.Path.{refl, sym, _∙_}
 use native.Mathlib.Omega.{arith}
 use borrow.Author.Needs.{needs}
 use Rattle.portgraph.specs.WfFacts.{link-count-fits}
+use Rattle.multiportgraph.specs.NamedLaws.{both-on-blocks}
 use Rattle.multiportgraph.specs.PrepareSteps.{lower-wf}
 use Rattle.multiportgraph.specs.LentLinkSteps.{call-refused-in, call-first-in, call-both-in, first-on-block, call-linked-in}
-use Rattle.multiportgraph.specs.NamedLaws.{both-on-blocks}
 use Rattle.multiportgraph.proofs.lent_links.link_in.Statement.{statement}
 use Rattle.multiportgraph.proofs.lent_links.link_in.Tie as tie
 

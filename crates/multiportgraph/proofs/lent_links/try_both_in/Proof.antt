@@ -2,10 +2,10 @@
 use mathlib.Core.Path.{refl, sym, ap, _∙_}
 use native.Mathlib.Omega.{arith}
 use borrow.Author.Needs.{needs}
+use Rattle.multiportgraph.specs.MultiLent.{multiIn, preparedIn}
 use Rattle.multiportgraph.specs.PrepareSteps.{lower-wf}
 use Rattle.multiportgraph.specs.LinkSteps.{still-wf}
 use Rattle.multiportgraph.specs.LentLinkSteps.{tried-none, tried-short, tried-same, tried-linked, second-on-block}
-use Rattle.multiportgraph.specs.MultiLent.{multiIn, preparedIn}
 use Rattle.multiportgraph.proofs.lent_links.try_both_in.Statement.{statement}
 use Rattle.multiportgraph.proofs.lent_links.try_both_in.Tie as tie
 
@@ -19,7 +19,7 @@ same-side-requires : tie.Need-same-side-requires
 same-side-requires c κs = search needs
 
 same-length : tie.Need-same-length
-same-length c = search needs
+same-length c = c .before .before .before .before .before .moves2 .given ∙ c .before .before .before .before .before .before .before .before .before .before .before .before .before .before .before .before .before .moves .given
 
 returns : tie.Need-returns
 returns c = tried-same (c .before .before .before .before .before .before .before .before .before .before .before .before .before .before .before .before .before .before .prepare-in .result) (c .before .before .before .before .before .before .before .before .before .before .before .before .before .before .before .before .before .before .prepare-in .ensures) (c .before .before .before .before .before .before .before .before .before .before .before .before .before .before .if1 .taken) (c .before .before .before .before .before .before .prepare-in2 .result) (c .before .before .before .before .before .before .prepare-in2 .ensures) (c .before .before .if2 .taken) (sym (c .before .same-side .ensures) ∙ c .if3 .taken)
@@ -31,19 +31,19 @@ with-counts-requires : tie.Need-with-counts-requires
 with-counts-requires c κs = search needs
 
 same-length-2 : tie.Need-same-length-2
-same-length-2 c = search needs
+same-length-2 c = c .before .before .before .before .before .before .before .before .before .before .before .before .before .moves2 .given ∙ c .before .before .before .before .before .before .before .before .before .before .before .before .before .before .before .before .before .before .before .before .before .before .before .before .before .moves .given
 
 returns-2 : tie.Need-returns-2
 returns-2 c = tried-linked (c .before .before .before .before .before .before .before .before .before .before .before .before .before .before .before .before .before .before .before .before .before .before .before .before .before .before .prepare-in .result) (c .before .before .before .before .before .before .before .before .before .before .before .before .before .before .before .before .before .before .before .before .before .before .before .before .before .before .prepare-in .ensures) (c .before .before .before .before .before .before .before .before .before .before .before .before .before .before .before .before .before .before .before .before .before .before .if1 .taken) (c .before .before .before .before .before .before .before .before .before .before .before .before .before .before .prepare-in2 .result) (c .before .before .before .before .before .before .before .before .before .before .before .before .before .before .prepare-in2 .ensures) _ (c .before .before .before .before .before .before .before .before .before .before .if2 .taken) (sym (c .before .before .before .before .before .before .before .before .before .same-side .ensures) ∙ c .before .before .before .before .before .before .before .before .if3 .left) (λ i. record { graph = c .before .before .link-ports-in .ensures .0 i; answer = c .before .before .link-ports-in .ensures .1 i }) (ap (multiIn _ _ _ _ _ _) (c .with-counts .ensures))
 
 same-length-3 : tie.Need-same-length-3
-same-length-3 c = search needs
+same-length-3 c = c .before .before .before .moves2 .given ∙ c .before .before .before .before .before .before .before .before .before .before .before .before .before .before .before .moves .given
 
 returns-3 : tie.Need-returns-3
 returns-3 c = tried-short (c .before .before .before .before .before .before .before .before .before .before .before .before .before .before .before .before .prepare-in .result) (c .before .before .before .before .before .before .before .before .before .before .before .before .before .before .before .before .prepare-in .ensures) (c .before .before .before .before .before .before .before .before .before .before .before .before .if1 .taken) (c .before .before .before .before .prepare-in2 .result) (c .before .before .before .before .prepare-in2 .ensures) _ (c .if2 .left)
 
 same-length-4 : tie.Need-same-length-4
-same-length-4 c = search needs
+same-length-4 c = c .before .before .before .moves .given
 
 returns-4 : tie.Need-returns-4
 returns-4 c = tried-none (c .before .before .before .before .prepare-in .result) (c .before .before .before .before .prepare-in .ensures) (c .if1 .left) refl

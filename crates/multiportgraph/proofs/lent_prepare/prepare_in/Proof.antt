@@ -1,8 +1,8 @@
 -- `multiportgraph::lent_prepare::prepare_in` meets its contract: an end that is ready, one more subport, and a split.
-use mathlib.Core.Path.{_∙_}
+use mathlib.Core.Path.{refl, sym, _∙_}
 use borrow.Author.Needs.{needs}
-use Rattle.multiportgraph.specs.LentLinkSteps.{prepared-ready, prepared-split, prepared-grow}
-use Rattle.multiportgraph.specs.LentLaws.{copy-node-read}
+use Rattle.multiportgraph.specs.NamedLaws.{prepared-by, grow-needs, split-needs}
+use Rattle.multiportgraph.specs.declared.named.EndNeed.the-variants as need
 use Rattle.multiportgraph.proofs.lent_prepare.prepare_in.Statement.{statement}
 use Rattle.multiportgraph.proofs.lent_prepare.prepare_in.Tie as tie
 
@@ -15,29 +15,26 @@ enum-known-x c = search needs
 enum-told : tie.Need-enum-told
 enum-told c = search needs
 
-copy-node-in-requires : tie.Need-copy-node-in-requires
-copy-node-in-requires c κs = search needs
-
 grow-in-requires : tie.Need-grow-in-requires
-grow-in-requires c κs = (c .before .before .before .before .before .before .before .before .before .before .before .before .before .before .before .before .before .pre .0 .wf, c .before .before .before .before .before .before .before .before .before .before .before .before .before .before .before .before .before .pre .1)
+grow-in-requires c κs = (grow-needs (c .before .before .before .before .before .before .before .before .before .before .before .before .before .before .pre .0) (sym (c .before .before .before .before .before .before .before .before .before .need-in .ensures) ∙ c .before .before .before .before .before .before .before .enum-told .given .1), c .before .before .before .before .before .before .before .before .before .before .before .before .before .before .pre .1)
 
 enum-told-2 : tie.Need-enum-told-2
 enum-told-2 c = search needs
 
 split-in-requires : tie.Need-split-in-requires
-split-in-requires c κs = c .before .before .before .before .before .before .before .before .before .before .before .before .before .pre .0 .wf
+split-in-requires c κs = split-needs (c .before .before .before .before .before .before .before .before .before .before .before .before .before .pre .0) (sym (c .before .before .before .before .before .before .before .before .need-in .ensures) ∙ c .before .before .before .before .before .before .enum-told2 .given .1)
 
 returns : tie.Need-returns
-returns c = prepared-ready (c .before .before .before .before .before .before .before .before .pre .0) (c .before .before .before .need-in .ensures) (c .before .x .given .1)
+returns c = prepared-by (c .before .before .before .before .before .before .before .before .pre .0) {u = need.Ready _ _} (c .before .before .before .need-in .ensures) (c .before .x .given .1) refl
 
 same-length : tie.Need-same-length
 same-length c = search needs
 
 returns-2 : tie.Need-returns-2
-returns-2 c = prepared-grow (c .before .before .before .before .before .before .before .before .before .before .before .before .before .before .before .before .before .before .before .before .pre .0) (c .before .before .before .before .before .before .before .before .before .before .before .before .before .before .before .need-in .ensures) (c .before .before .before .before .before .before .before .before .before .before .before .before .before .enum-told .given .1) (c .before .before .before .before .before .before .before .before .before .before .copy-node-in .ensures ∙ copy-node-read (c .before .before .before .before .before .before .before .before .before .before .before .before .before .before .before .before .before .before .before .before .args .nodes .now) (c .before .before .before .before .before .before .before .before .before .before .before .before .before .before .before .before .before .before .before .before .args .links .now) (c .before .before .before .before .before .before .before .before .before .before .before .before .before .before .before .before .before .before .before .before .args .owners .now) (c .before .before .before .before .before .before .before .before .before .before .before .before .before .before .before .before .before .before .before .before .args .heads .now) (c .before .before .before .before .before .before .before .before .before .before .before .before .before .before .before .before .before .before .before .before .args .marks .now) (c .before .before .before .before .before .before .before .before .before .before .before .before .before .before .before .before .before .before .before .before .args .flags .now) (c .before .before .before .before .before .before .before .before .before .before .before .before .before .before .before .before .before .before .before .before .args .held) _) (c .before .before .grow-in .ensures)
+returns-2 c = prepared-by (c .before .before .before .before .before .before .before .before .before .before .before .before .before .before .before .before .before .pre .0) {u = need.Grow} (c .before .before .before .before .before .before .before .before .before .before .before .before .need-in .ensures) (c .before .before .before .before .before .before .before .before .before .before .enum-told .given .1) (c .before .before .grow-in .ensures)
 
 returns-3 : tie.Need-returns-3
-returns-3 c = prepared-split (c .before .before .before .before .before .before .before .before .before .before .before .before .before .before .pre .0) (c .before .before .before .before .before .before .before .before .before .need-in .ensures) (c .before .before .before .before .before .before .before .enum-told2 .given .1) (c .split-in .ensures)
+returns-3 c = prepared-by (c .before .before .before .before .before .before .before .before .before .before .before .before .before .before .pre .0) {u = need.Split} (c .before .before .before .before .before .before .before .before .before .need-in .ensures) (c .before .before .before .before .before .before .before .enum-told2 .given .1) (c .split-in .ensures)
 
 pub prepare-in-spec : {M : Type 1} → statement M
 prepare-in-spec =
@@ -46,7 +43,6 @@ prepare-in-spec =
     need-in-requires
     enum-known-x
     enum-told
-    copy-node-in-requires
     grow-in-requires
     enum-told-2
     split-in-requires

@@ -11,17 +11,13 @@ use Rattle.portgraph.specs.Limits.{portSlots, nodeSlots}
 use Rattle.portgraph.specs.Entries.{pick}
 use Rattle.portgraph.specs.Tables.{fill}
 use Rattle.portgraph.specs.TableSteps.{fill-more}
-use Rattle.portgraph.specs.Lookups.{portAt, numPorts}
-use Rattle.portgraph.specs.declared.direction.Direction.{Direction}
+use Rattle.portgraph.specs.Lookups.{numPorts}
 use Rattle.portgraph.specs.declared.direction.Direction.the-variants.{Incoming, Outgoing}
 use Rattle.portgraph.specs.declared.node_entry.NodeMeta.{NodeMeta}
-use Rattle.portgraph.specs.declared.port_entry.PortMeta.{PortMeta}
-use Rattle.portgraph.specs.declared.port_entry.PortEntry.the-variants as port-variants
-use Rattle.multiportgraph.specs.Reading.{farPort, ownerOf, portOf, isHidden, isSplit, hidden, visible, seenEntry, seen, copyNode, subports, copySide}
+use Rattle.multiportgraph.specs.Reading.{farPort, ownerOf, portOf, isHidden, isSplit, copyNode, copySide}
 use Rattle.multiportgraph.specs.Calls.{layRange, layMarks}
-use Rattle.multiportgraph.specs.Forms.{flagAt, putFlag, seenAs}
+use Rattle.multiportgraph.specs.Forms.{flagAt, putFlag}
 use Rattle.multiportgraph.specs.declared.multiportgraph.MultiPortGraph.{MultiPortGraph}
-use Rattle.multiportgraph.specs.declared.ends.SeenPort.the-variants as seen-port
 
 -- Flags in a table of a size.
 
@@ -111,30 +107,9 @@ module _ (m : MultiPortGraph) where
   hidden-told n w r q long e f g =
       sym (flag-is (m .«copy_node») nodeSlots n long) ∙ ap (flagAt (m .«copy_node») nodeSlots) (sym e) ∙ sym f ∙ g
 
-  seen-by : (k : PortMeta) (b : Bool) → isHidden m (k .node .0) ≡ b
-      → seenAs (pick b hidden (visible (k .node .0) (k .direction))) ≡ seenAs (seenEntry m (port-variants.Port k))
-  seen-by k b e = ap (λ q. seenAs (pick q hidden (visible (k .node .0) (k .direction)))) (sym e)
-
-  pub seen-dead : (p : ℕ) → port-variants.Free ≡ portAt (m .graph) p → seen-port.Dead ≡ seenAs (seen m p)
-  unfolding seen
-  seen-dead p e = ap (λ x. seenAs (seenEntry m x)) e
-
-  pub seen-hidden : (p : ℕ) (k : PortMeta) → port-variants.Port k ≡ portAt (m .graph) p → isHidden m (k .node .0) ≡ true → seen-port.Hidden ≡ seenAs (seen m p)
-  unfolding seen
-  seen-hidden p k e h = seen-by k true h ∙ ap (λ x. seenAs (seenEntry m x)) e
-
-  pub seen-visible : (p : ℕ) (k : PortMeta) → port-variants.Port k ≡ portAt (m .graph) p → isHidden m (k .node .0) ≡ false
-      → seen-port.Visible (k .node) (k .direction) ≡ seenAs (seen m p)
-  unfolding seen
-  seen-visible p k e h = seen-by k false h ∙ ap (λ x. seenAs (seenEntry m x)) e
-
   pub copy-node-found : (p far r : ℕ) → far ≡ farPort (m .graph) p → r ≡ ownerOf (m .graph) far → r ≡ copyNode m p
   unfolding copyNode
   copy-node-found p far r e f = f ∙ ap (ownerOf (m .graph)) e
-
-  pub subports-found : (p : ℕ) (d : Direction) (c r : ℕ) → c ≡ copyNode m p → r ≡ numPorts (m .graph) c d → r ≡ subports m p d
-  unfolding subports
-  subports-found p d c r e f = f ∙ ap (λ x. numPorts (m .graph) x d) e
 
   module _ (c a : ℕ) (e : a ≡ numPorts (m .graph) c Incoming) where
     pub side-other : (a ≡ 1 → ⊥) → Outgoing ≡ copySide m c

@@ -2,11 +2,9 @@
 use mathlib.Core.Path.{_≡_, refl, sym, _∙_, ap}
 use mathlib.Core.Bool.{Bool, true, false}
 use mathlib.Core.List.{List, [], _∷_, _++_, append-nil}
-use Prim.Native.Nat.{ℕ, zero, suc, _+_, _-_, _≤_, _<_}
+use Prim.Native.Nat.{ℕ, suc, _+_, _-_, _≤_, _<_}
 use native.Mathlib.Omega.{arith}
 use lib.Dec.{eqb}
-use borrow.Author.Tests.{eq-eqb, ne-eqb}
-use Rattle.portgraph.specs.Limits.{portSlots}
 use Rattle.portgraph.specs.Entries.{pick}
 use Rattle.portgraph.specs.Meaning.{sameSide}
 use Rattle.portgraph.specs.Lookups.{node#}
@@ -22,7 +20,6 @@ use Rattle.multiportgraph.specs.Forms.{seenAs}
 use Rattle.multiportgraph.specs.Inner.{MultiWf}
 use Rattle.multiportgraph.specs.Reads.{seenIn, wireIn}
 use Rattle.multiportgraph.specs.ReadLaws.{seen-read}
-use Rattle.multiportgraph.specs.Calls.{farSubport}
 use Rattle.multiportgraph.specs.Wires.{range, gather, those, isBlock, wireTo, sideLinks}
 use Rattle.multiportgraph.specs.Walks.{bothSeen, firstOf, lastOf, between, bySides, portLinksSeen, portLinks, linksLeft, stepFront, stepBack, linkBeyond, nodeLinks, stepLinks, isOwnOutput, notIgnored, neighbourLinks, neighboursItem, stepNeighbours, connections, connectionsItem, linksItem, stepConnections}
 use Rattle.multiportgraph.specs.Listing.{those-same}
@@ -32,14 +29,12 @@ use Rattle.multiportgraph.specs.Scans.{firstFound, spanFirst, spanCount,
 use Rattle.multiportgraph.specs.ScanSteps.{those-every}
 use Rattle.multiportgraph.specs.ScanReads.{beyond-read, links-under}
 use Rattle.multiportgraph.specs.WalkScans.{heldIn, blockLeft, selfFilter, lastFound, leftIn}
-use Rattle.multiportgraph.specs.WalkSteps.{both-refused, both-found}
+use Rattle.multiportgraph.specs.WalkSteps.{both-found}
 use Rattle.multiportgraph.specs.declared.multiportgraph.MultiPortGraph.{MultiPortGraph}
-use Rattle.multiportgraph.specs.declared.multiportgraph.Refusal.{Refusal}
 use Rattle.multiportgraph.specs.declared.multiportgraph.SubportIndex.{SubportIndex}
 use Rattle.multiportgraph.specs.declared.multiportgraph.SubportLink.{SubportLink}
 use Rattle.multiportgraph.specs.declared.multiportgraph.CutAnswer.{CutAnswer}
 use Rattle.multiportgraph.specs.declared.multiportgraph.CutAnswer.the-variants as cutting
-use Rattle.multiportgraph.specs.declared.lookups.BlockFound.{BlockFound}
 use Rattle.multiportgraph.specs.declared.lookups.BlockFound.the-variants as block-found
 use Rattle.multiportgraph.specs.declared.iter.NodeLinks.{NodeLinks}
 use Rattle.multiportgraph.specs.declared.iter.NodeLinksStep.the-variants as links-step

@@ -11,9 +11,9 @@ use Rattle.portgraph.specs.declared.index.MaybePortIndex.{MaybePortIndex}
 use Rattle.portgraph.specs.declared.node_entry.NodeMeta.{NodeMeta}
 use Rattle.portgraph.specs.declared.node_entry.MaybeNodeMeta.{MaybeNodeMeta}
 use Rattle.portgraph.specs.declared.node_entry.MaybeNodeMeta.the-variants as maybe-meta
-use Rattle.multiportgraph.specs.Reading.{positionOf, isHidden, isSplit, Port, visible, seen, subports}
+use Rattle.multiportgraph.specs.Reading.{positionOf, isHidden, Port, visible, seen}
 use Rattle.multiportgraph.specs.Wires.{isBlock}
-use Rattle.multiportgraph.specs.Walks.{fanOut, Start, started, refused, startAtNode, isSeen}
+use Rattle.multiportgraph.specs.Walks.{Start, started, refused, startAtNode, isSeen}
 use Rattle.multiportgraph.specs.Lookups.{directionSeen, directionOf, nodeSeen, nodeOf, offsetSeen, offsetOf, fanOutSeen, portFanOut, containsPortOf, counted, numPortsOf, capacityOf, portFound, portIndexOf}
 use Rattle.multiportgraph.specs.declared.multiportgraph.MultiPortGraph.{MultiPortGraph}
 use Rattle.multiportgraph.specs.declared.multiportgraph.Refusal.{Refusal}
@@ -135,14 +135,6 @@ module _ (m : MultiPortGraph) (p : ℕ) where
   pub fan-out-at : (s : Port) → seen m p ≡ s → fanOutSeen m p s ≡ portFanOut m p
   unfolding portFanOut
   fan-out-at s e = ap (fanOutSeen m p) (sym e)
-
-  pub fan-out-split : (n : ℕ) (d : Direction) (k : ℕ) → seen m p ≡ visible n d → isSplit m p ≡ true → k ≡ subports m p d → count-of.Count k ≡ portFanOut m p
-  unfolding fanOut
-  fan-out-split n d k e s f = ap count-of.Count f ∙ ap (λ b. count-of.Count (pick b (subports m p d) 1)) (sym s) ∙ fan-out-at (visible n d) e
-
-  pub fan-out-plain : (n : ℕ) (d : Direction) → seen m p ≡ visible n d → isSplit m p ≡ false → count-of.Count 1 ≡ portFanOut m p
-  unfolding fanOut
-  fan-out-plain n d e s = ap (λ b. count-of.Count (pick b (subports m p d) 1)) (sym s) ∙ fan-out-at (visible n d) e
 
   pub contains-at : (s : Port) → seen m p ≡ s → isSeen s ≡ containsPortOf m p
   unfolding containsPortOf

@@ -7,13 +7,12 @@ use Prim.Native.Nat.{ℕ, zero, suc, _+_, _-_, _≤_, _<_, min}
 use native.Mathlib.Omega.{arith}
 use lib.Dec.{eqb, leb, ltb}
 use lib.ListN.{getD}
-use borrow.Author.Tests.{lt-ltb, le-ltb, le-leb, lt-leb, ltb-true, ltb-false, leb-true, leb-false}
+use borrow.Author.Tests.{lt-ltb, ltb-true, ltb-false, leb-true, leb-false}
 use Rattle.portgraph.specs.Limits.{nodeSlots, portSlots}
 use Rattle.portgraph.specs.Entries.{pick, freshSlot, portEntry}
 use Rattle.portgraph.specs.Tables.{at}
 use Rattle.portgraph.specs.TableSteps.{at-outside}
 use Rattle.portgraph.specs.Lookups.{metaAt, metaOfEntry, isSome, portAt, entryAt}
-use Rattle.portgraph.specs.Model.{Model}
 use Rattle.portgraph.specs.GoodSlots.{zero-is-not-one, slot-in-block}
 use Rattle.portgraph.specs.PlaceLaws.{meta-of-node}
 use Rattle.portgraph.specs.Walks.{portsFrom, portsTo}
@@ -31,14 +30,14 @@ use Rattle.multiportgraph.specs.Reading.{isHidden, isSplit, Port, dead, 
 use Rattle.multiportgraph.specs.Forms.{flagAt}
 use Rattle.multiportgraph.specs.FormSteps.{flag-is}
 use Rattle.multiportgraph.specs.Calls.{linkOfEnd}
-use Rattle.multiportgraph.specs.Inner.{Fine, MultiWf}
-use Rattle.multiportgraph.specs.Ends.{BlockPort, block-seen}
-use Rattle.multiportgraph.specs.Reads.{farIn, seenIn, countBeside, firstBeside, endBeside, subportsIn, firstIn, endIn, wireIn}
+use Rattle.multiportgraph.specs.Inner.{MultiWf}
+use Rattle.multiportgraph.specs.Ends.{block-seen}
+use Rattle.multiportgraph.specs.Reads.{farIn, countBeside, firstBeside, endBeside, firstIn, endIn, wireIn}
 use Rattle.multiportgraph.specs.ReadLaws.{seen-read, subports-read, end-read-off, wire-read, end-is-port}
 use Rattle.multiportgraph.specs.Wires.{range, gather, those, isBlock, blocks, wireTo, wireOf, sideLinks, allWires, isBeyond, wiresBeyond}
 use Rattle.multiportgraph.specs.Walks.{bySides, portLinksSeen, portLinks, linkBeyond}
-use Rattle.multiportgraph.specs.Listing.{Member, member-range, member-those, those-append}
-use Rattle.multiportgraph.specs.ScanLaws.{linksFromTo, linkPast, gather-same, gather-under, those-swap, later-slots, offsets-past, wire-stands, links-on, links-end, those-beyond-held, links-of-split, links-of-plain, row-fits, block-links-all, block-links-rest, block-links-none}
+use Rattle.multiportgraph.specs.Listing.{member-range, member-those, those-append}
+use Rattle.multiportgraph.specs.ScanLaws.{linksFromTo, linkPast, gather-same, gather-under, those-swap, offsets-past, wire-stands, links-on, links-end, those-beyond-held, links-of-split, links-of-plain, row-fits, block-links-all, block-links-rest, block-links-none}
 use Rattle.multiportgraph.specs.Scans.{spanFirst, spanCount, linksIn, portLinksBy, portLinksIn, linksRest, beyondIn, blockLinksIn, wiresIn}
 use Rattle.multiportgraph.specs.ScanSteps.{those-every}
 use Rattle.multiportgraph.specs.declared.multiportgraph.MultiPortGraph.{MultiPortGraph}

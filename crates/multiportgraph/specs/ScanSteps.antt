@@ -1,14 +1,14 @@
 -- Steps of the scans over lent tables, over plain values.
 use mathlib.Core.Path.{_≡_, refl, sym, _∙_, ap}
 use mathlib.Core.Bool.{Bool, true, false}
-use mathlib.Core.List.{List, [], _∷_, _++_, append-nil}
-use Prim.Native.Nat.{ℕ, zero, suc, _+_, _-_, _≤_, _<_, min}
+use mathlib.Core.List.{List, [], _∷_, _++_}
+use Prim.Native.Nat.{ℕ, suc, _+_, _-_, _≤_, _<_, min}
 use native.Mathlib.Omega.{arith}
-use lib.Dec.{eqb, leb, ltb}
+use lib.Dec.{eqb, leb}
 use lib.ListN.{getD}
-use borrow.Author.Tests.{lt-ltb, le-ltb, le-leb, lt-leb, eq-eqb, ne-eqb}
+use borrow.Author.Tests.{le-leb, lt-leb, eq-eqb, ne-eqb}
 use Rattle.portgraph.specs.Limits.{nodeSlots, portSlots}
-use Rattle.portgraph.specs.Entries.{pick, portEntry, freshSlot}
+use Rattle.portgraph.specs.Entries.{portEntry, freshSlot}
 use Rattle.portgraph.specs.Tables.{at}
 use Rattle.portgraph.specs.TableSteps.{at-outside}
 use Rattle.portgraph.specs.Walks.{portsFrom, portsTo}
@@ -16,8 +16,6 @@ use Rattle.portgraph.specs.declared.direction.Direction.{Direction}
 use Rattle.portgraph.specs.declared.direction.Direction.the-variants.{Incoming, Outgoing}
 use Rattle.portgraph.specs.declared.iter.Sides.the-variants.{One}
 use Rattle.portgraph.specs.declared.port_entry.PortEntry.{PortEntry}
-use Rattle.portgraph.specs.declared.port_entry.PortEntry.the-variants as port-variants
-use Rattle.portgraph.specs.declared.port_entry.PortMeta.{PortMeta}
 use Rattle.portgraph.specs.declared.node_entry.NodeEntry.{NodeEntry}
 use Rattle.portgraph.specs.declared.node_entry.NodeEntry.the-variants as node-variants
 use Rattle.portgraph.specs.declared.node_entry.FreeNodeEntry.{FreeNodeEntry}
@@ -27,7 +25,7 @@ use Rattle.portgraph.specs.Lookups as lookups
 use Rattle.portgraph.specs.LookupSteps.{port-read}
 use Rattle.portgraph.specs.Meaning.{sameSide}
 use Rattle.portgraph.specs.declared.index.NodeIndex.{NodeIndex}
-use Rattle.multiportgraph.specs.Reading.{nodeNumber, Port, dead, hidden, visible, subport#}
+use Rattle.multiportgraph.specs.Reading.{nodeNumber, Port, visible, subport#}
 use Rattle.multiportgraph.specs.Forms.{flagAt, seenAs}
 use Rattle.multiportgraph.specs.Reads.{farIn, seenIn, ownsUp, ownsDown, runUp, runDown, countBeside, subportsIn, firstIn, wireIn}
 use Rattle.multiportgraph.specs.ReadSteps.{run-bound}

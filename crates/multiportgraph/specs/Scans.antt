@@ -1,5 +1,5 @@
 -- The links of ports as the lent tables tell them, in the order of the walks, and the first of them.
-use mathlib.Core.Bool.{Bool, true, false}
+use mathlib.Core.Bool.{Bool, true}
 use mathlib.Core.List.{List, [], _∷_, _++_}
 use Prim.Native.Nat.{ℕ, zero, suc, _+_, _-_, min}
 use lib.Dec.{eqb, leb}
@@ -20,7 +20,6 @@ use Rattle.multiportgraph.specs.Reading.{nodeNumber, Port, dead, hidden,
 use Rattle.multiportgraph.specs.Forms.{flagAt, seenAs}
 use Rattle.multiportgraph.specs.Reads.{seenIn, subportsIn, firstIn, wireIn}
 use Rattle.multiportgraph.specs.Wires.{range, gather, wireTo}
-use Rattle.multiportgraph.specs.Walks.{firstOf}
 use Rattle.multiportgraph.specs.declared.multiportgraph.SubportLink.{SubportLink}
 use Rattle.multiportgraph.specs.declared.ends.SeenPort.{SeenPort}
 use Rattle.multiportgraph.specs.declared.ends.SeenPort.the-variants as seen-port

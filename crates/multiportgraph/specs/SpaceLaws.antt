@@ -401,8 +401,7 @@ set-space {g} {M} good holds n k here i o room few told =
         let fit = round-up-reaches (i + o) in
         let some = round-up-positive (i + o) in
         let small = round-up-fits (i + o) few in
-        let space = leb-true (M .portLen + growth (roundUp (i + o)) (M .freeBlocks (roundUp (i + o)))) portSlots r in
-        (
+        let space = leb-true (M .portLen + growth (roundUp (i + o)) (M .freeBlocks (roundUp (i + o)))) portSlots r in (
           move-overflows good k (roundUp (i + o)) ∙ ap notSo r,
           record {
             model = moveModel M n k i o (roundUp (i + o));

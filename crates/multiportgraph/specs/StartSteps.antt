@@ -1,16 +1,14 @@
 -- What the steps of the starts of walks amount to, over plain values.
-use mathlib.Core.Path.{_≡_, refl, sym, ap, _∙_}
+use mathlib.Core.Path.{_≡_, refl, sym, ap}
 use mathlib.Core.Bool.{Bool, true, false}
-use mathlib.Core.List.{List}
 use Prim.Native.Nat.{ℕ}
 use lib.ListN.{length}
 use Rattle.portgraph.specs.Limits.{nodeSlots}
-use Rattle.portgraph.specs.Entries.{pick, portEntry}
+use Rattle.portgraph.specs.Entries.{pick}
 use Rattle.portgraph.specs.Lookups.{containsNode, portAt}
 use Rattle.portgraph.specs.declared.port_entry.PortEntry.{PortEntry}
 use Rattle.portgraph.specs.declared.port_entry.PortEntry.the-variants as port-variants
 use Rattle.multiportgraph.specs.Reading.{isHidden, Port, hidden, visible, seenEntry, seen}
-use Rattle.multiportgraph.specs.Forms.{flagAt}
 use Rattle.multiportgraph.specs.FormSteps.{flag-is}
 use Rattle.multiportgraph.specs.Reads.{seenOwner, seenIn}
 use Rattle.multiportgraph.specs.Walks.{Start, started, refused, startAtNode, startBetween, startSeen, startAtPort}

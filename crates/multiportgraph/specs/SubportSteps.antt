@@ -3,12 +3,12 @@ use mathlib.Core.Path.{_≡_, refl, sym, _∙_, ap}
 use mathlib.Core.Bool.{Bool, true, false}
 use mathlib.Core.List.{List, [], _∷_, _++_}
 use mathlib.Core.Logic.{inl, inr}
-use Prim.Native.Nat.{ℕ, zero, suc, _+_, _-_, _*_, _≤_, _<_, min}
+use Prim.Native.Nat.{ℕ, zero, suc, _+_, _-_, _≤_, _<_, min}
 use native.Mathlib.Omega.{arith}
 use lib.Dec.{leb, ltb}
 use borrow.Author.Tests.{le-leb, lt-leb, ltb-true, ltb-false, leb-true, leb-false}
 use Rattle.portgraph.specs.Limits.{portSlots}
-use Rattle.portgraph.specs.Entries.{pick, portsOn}
+use Rattle.portgraph.specs.Entries.{pick}
 use Rattle.portgraph.specs.Lookups.{metaAt}
 use Rattle.portgraph.specs.Walks.{portsFrom, portsTo}
 use Rattle.portgraph.specs.declared.direction.Direction.{Direction}
@@ -23,10 +23,10 @@ use Rattle.multiportgraph.specs.Reads.{seenIn}
 use Rattle.multiportgraph.specs.ReadLaws.{seen-read}
 use Rattle.multiportgraph.specs.Wires.{range, each, those, portsOfSide}
 use Rattle.multiportgraph.specs.Walks.{fanOut, sumOf, blockFanOut, bothSeen, firstOf, portsOfNode, subportsOf, subportBeyond, stepSubports}
-use Rattle.multiportgraph.specs.Lookups.{counted, nodeFanOut}
+use Rattle.multiportgraph.specs.Lookups.{counted, portFanOut, nodeFanOut}
 use Rattle.multiportgraph.specs.Listing.{Member, member-range}
 use Rattle.multiportgraph.specs.ScanLaws.{subportsSeen, subportsAt, subportsFromTo, subportPast, subports-on, subports-end, subports-of-split, subports-of-plain, split-subports-rest, plain-subports-rest, block-not-hidden, row-fits, port-seen-there, ports-in-row, block-subports-all, block-subports-rest, block-subports-none}
-use Rattle.multiportgraph.specs.LookupSteps.{blockFound, start-at, block-at, meta-is}
+use Rattle.multiportgraph.specs.LookupSteps.{blockFound, start-at, block-at, meta-is, fan-out-at}
 use Rattle.multiportgraph.specs.Scans.{spanCount}
 use Rattle.multiportgraph.specs.ScanReads.{count-split, count-plain}
 use Rattle.multiportgraph.specs.WalkScans.{heldIn, firstSubport, subportPort, portSubportsBy, portSubportsIn, subportsRest, subportsBeyond, fanOutIn}
@@ -34,7 +34,6 @@ use Rattle.multiportgraph.specs.WalkSteps.{both-found}
 use Rattle.multiportgraph.specs.declared.multiportgraph.MultiPortGraph.{MultiPortGraph}
 use Rattle.multiportgraph.specs.declared.multiportgraph.Refusal.{Refusal}
 use Rattle.multiportgraph.specs.declared.multiportgraph.SubportIndex.{SubportIndex}
-use Rattle.multiportgraph.specs.declared.lookups.BlockFound.{BlockFound}
 use Rattle.multiportgraph.specs.declared.lookups.BlockFound.the-variants as block-found
 use Rattle.multiportgraph.specs.declared.lookups.CountAnswer.the-variants as count-of
 use Rattle.multiportgraph.specs.declared.iter.NodeSubports.{NodeSubports}
@@ -311,7 +310,7 @@ module _ (m : MultiPortGraph) (c : NodeSubports) where
     subports-none h =
         rw (both-found m (c .node .0) k (c .held) true w e there) (first-end subports-step.End subportsItem _ r listed h)
 
--- Fan-out of a block.
+-- Fan-out of a port and of a block.
 
 sum-same : (f g : ℕ → ℕ) (l : List ℕ) → ((x : ℕ) → Member x l → f x ≡ g x) → sumOf f l ≡ sumOf g l
 unfolding sumOf
@@ -321,6 +320,19 @@ sum-same f g (x ∷ l) h =
     let r = sum-same f g l (λ y i. h y (inr i)) in
     λ i. a i + r i
 
+module _ (m : MultiPortGraph) (w : MultiWf m) (p n : ℕ) (d : Direction) (s : seen m p ≡ visible n d) where
+  fan-out-of : spanCount (m .multiport) (m .graph .«port_link») (m .graph .«port_meta») p d ≡ fanOut m p d
+  unfolding fanOut
+  fan-out-of = go (isSplit m p) refl
+    where
+      go : (b : Bool) → isSplit m p ≡ b → spanCount (m .multiport) (m .graph .«port_link») (m .graph .«port_meta») p d ≡ pick b (subports m p d) 1
+      go true t = count-split m w p n d s t
+      go false t = count-plain m w p n d s t
+
+  -- fan-out of a port
+  pub fan-out-at-port : (r : ℕ) → r ≡ spanCount (m .multiport) (m .graph .«port_link») (m .graph .«port_meta») p d → count-of.Count r ≡ portFanOut m p
+  fan-out-at-port r e = ap count-of.Count (e ∙ fan-out-of) ∙ fan-out-at m p (visible n d) s
+
 module _ (m : MultiPortGraph) (n : ℕ) where
   pub fan-out-refused : (r : Refusal) → blockFound m n ≡ block-found.Refused r → count-of.Refused r ≡ nodeFanOut m n
   unfolding nodeFanOut
@@ -329,14 +341,6 @@ module _ (m : MultiPortGraph) (n : ℕ) where
   module _ (w : MultiWf m) (k : NodeMeta) (e : blockFound m n ≡ block-found.Block k) where
     open-node : isHidden m n ≡ false
     open-node = block-not-hidden m n (sym (block-at m n (block-found.Block k) e))
-
-    fan-out-of : (p : ℕ) → seen m p ≡ visible n Outgoing → spanCount (m .multiport) (m .graph .«port_link») (m .graph .«port_meta») p Outgoing ≡ fanOut m p Outgoing
-    unfolding fanOut
-    fan-out-of p s = go (isSplit m p) refl
-      where
-        go : (b : Bool) → isSplit m p ≡ b → spanCount (m .multiport) (m .graph .«port_link») (m .graph .«port_meta») p Outgoing ≡ pick b (subports m p Outgoing) 1
-        go true t = count-split m w p n Outgoing s t
-        go false t = count-plain m w p n Outgoing s t
 
     outputs : portsOfSide m Outgoing n ≡ range (portsFrom k (One Outgoing)) (portsTo k (One Outgoing) - portsFrom k (One Outgoing))
     unfolding portsOfNode
@@ -354,6 +358,6 @@ module _ (m : MultiPortGraph) (n : ℕ) where
         ∙ ap (λ (x : ℕ). fanOutIn (m .multiport) (m .graph .«port_link») (m .graph .«port_meta») x (portsTo k (One Outgoing) - portsFrom k (One Outgoing))) ea
         ∙ sum-same (λ p. spanCount (m .multiport) (m .graph .«port_link») (m .graph .«port_meta») p Outgoing) (λ p. fanOut m p Outgoing)
         (range (portsFrom k (One Outgoing)) (portsTo k (One Outgoing) - portsFrom k (One Outgoing)))
-        (λ p i. let h = member-range p (portsFrom k (One Outgoing)) (portsTo k (One Outgoing) - portsFrom k (One Outgoing)) i in fan-out-of p (port-seen-there w n k open-node (meta-is m n k e) Outgoing p (omega arith) (omega arith)))
+        (λ p i. let h = member-range p (portsFrom k (One Outgoing)) (portsTo k (One Outgoing) - portsFrom k (One Outgoing)) i in fan-out-of m w p n Outgoing (port-seen-there w n k open-node (meta-is m n k e) Outgoing p (omega arith) (omega arith)))
         ∙ ap (sumOf (λ p. fanOut m p Outgoing)) (sym outputs) in
         ap count-of.Count sum ∙ ap (λ s. counted s (sumOf (λ p. fanOut m p Outgoing) (portsOfSide m Outgoing n))) (start-at m n (block-found.Block k) e)

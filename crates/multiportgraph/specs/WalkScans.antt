@@ -1,7 +1,7 @@
 -- What the steps of walks find, over lent tables and over the graph's listings.
 use mathlib.Core.Bool.{Bool, true, false}
-use mathlib.Core.List.{List, [], _∷_, _++_}
-use Prim.Native.Nat.{ℕ, zero, suc, _+_, _-_, min}
+use mathlib.Core.List.{List, [], _++_}
+use Prim.Native.Nat.{ℕ, zero, suc, _-_, min}
 use lib.Dec.{eqb, leb}
 use Rattle.portgraph.specs.Limits.{portSlots}
 use Rattle.portgraph.specs.Entries.{pick, isNode}

@@ -3,17 +3,15 @@ use mathlib.Core.Path.{_≡_, refl, sym, _∙_, ap}
 use mathlib.Core.Bool.{Bool, true, false}
 use mathlib.Core.List.{List, [], _∷_, _++_, append-nil}
 use mathlib.Core.Logic.{inl, inr}
-use Prim.Native.Nat.{ℕ, zero, suc, _+_, _-_, _≤_, _<_, min, max}
+use Prim.Native.Nat.{ℕ, suc, _+_, _-_, _≤_, _<_, max}
 use native.Mathlib.Omega.{arith}
-use lib.Dec.{eqb, leb, ltb}
+use lib.Dec.{eqb, leb}
 use lib.ListN.{getD, length}
 use borrow.Author.Tests.{eq-eqb, ne-eqb}
 use Rattle.portgraph.specs.Limits.{nodeSlots, portSlots}
 use Rattle.portgraph.specs.Entries.{pick, freshSlot, isNode}
-use Rattle.portgraph.specs.Lookups.{node#, port#, metaAt, metaOfEntry, entryAt, isSome}
+use Rattle.portgraph.specs.Lookups.{node#, port#, metaOfEntry, entryAt, isSome}
 use Rattle.portgraph.specs.Walks.{portsFrom, portsTo}
-use Rattle.portgraph.specs.declared.index.NodeIndex.{NodeIndex}
-use Rattle.portgraph.specs.declared.iter.Sides.{Sides}
 use Rattle.portgraph.specs.declared.node_entry.NodeMeta.{NodeMeta}
 use Rattle.portgraph.specs.declared.node_entry.NodeEntry.{NodeEntry}
 use Rattle.portgraph.specs.declared.node_entry.NodeEntry.the-variants as node-variants
@@ -31,13 +29,10 @@ use Rattle.multiportgraph.specs.LookupSteps.{blockFound, block-at, meta-
 use Rattle.multiportgraph.specs.WalkScans.{heldIn, blockSlot, portsIn, firstOr, lastOr}
 use Rattle.multiportgraph.specs.declared.multiportgraph.MultiPortGraph.{MultiPortGraph}
 use Rattle.multiportgraph.specs.declared.multiportgraph.Refusal.{Refusal}
-use Rattle.multiportgraph.specs.declared.lookups.BlockFound.{BlockFound}
 use Rattle.multiportgraph.specs.declared.lookups.BlockFound.the-variants as block-found
 use Rattle.multiportgraph.specs.declared.iter.Nodes.{Nodes}
-use Rattle.multiportgraph.specs.declared.iter.NodesStep.{NodesStep}
 use Rattle.multiportgraph.specs.declared.iter.NodesStep.the-variants as nodes-step
 use Rattle.multiportgraph.specs.declared.iter.Ports.{Ports}
-use Rattle.multiportgraph.specs.declared.iter.PortsStep.{PortsStep}
 use Rattle.multiportgraph.specs.declared.iter.PortsStep.the-variants as ports-step
 use Rattle.multiportgraph.specs.declared.iter.NodePorts.{NodePorts}
 use Rattle.multiportgraph.specs.declared.iter.NodePortsStep.{NodePortsStep}

@@ -1,11 +1,10 @@
 -- Steps of the walk over all wires, over plain values.
 use mathlib.Core.Path.{_≡_, refl, sym, _∙_, ap}
 use mathlib.Core.List.{List, [], _∷_}
-use Prim.Native.Nat.{ℕ, suc, _+_, _-_, _<_}
+use Prim.Native.Nat.{ℕ, suc, _+_, _-_}
 use native.Mathlib.Omega.{arith}
 use borrow.Author.Tests.{eq-eqb, ne-eqb}
 use Rattle.portgraph.specs.Limits.{nodeSlots}
-use Rattle.portgraph.specs.Entries.{pick}
 use Rattle.portgraph.specs.declared.direction.Direction.{Direction}
 use Rattle.multiportgraph.specs.Reading.{Port, visible, seen}
 use Rattle.multiportgraph.specs.Wires.{allWires, firstItem, wiresBeyond, wiresSeen, stepWires}

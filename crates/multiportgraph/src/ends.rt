@@ -1,6 +1,5 @@
-// How a port number is read: live or not, hidden or not, and the hidden node of a split port. Where tables can be lent, the
-// leaves of `reads` serve instead.
-use crate::marks::flagged;
+// How a port number is read, and readers of the hidden node of a split port. Where tables can be lent, the leaves of `reads`
+// serve instead.
 use crate::marks::marked;
 use crate::marks::wide;
 use crate::multiportgraph::MultiPortGraph;
@@ -11,13 +10,11 @@ use portgraph::index::MaybePortOffset;
 use portgraph::index::NodeIndex;
 use portgraph::index::PortIndex;
 use portgraph::index::PortOffset;
-use portgraph::port_entry::PortEntry;
 use portgraph::portgraph::PortGraph;
 use portgraph::portgraph::PortLink;
 ghost use mathlib.Core.Path.{_≡_};
 ghost use Rattle.portgraph.specs.Model.{Wf};
-ghost use Rattle.multiportgraph.specs.Reading.{farPort, ownerOf, portOf, positionOf, seen, copyNode, subports, copySide};
-ghost use Rattle.multiportgraph.specs.Forms.{seenAs};
+ghost use Rattle.multiportgraph.specs.Reading.{farPort, ownerOf, portOf, positionOf, copyNode, copySide};
 
 // A port number, read.
 pub enum SeenPort {
@@ -82,36 +79,12 @@ pub(crate) fn position_of(graph: PortGraph, port: u32) -> u16
 }
 
 impl MultiPortGraph {
-    // A port number: not live, of a hidden node, or of a block.
-    pub(crate) fn seen(self, port: u32) -> SeenPort
-        ensures { λ r. ⌜ r ≡ seenAs (seen self port) ⌝ }
-    {
-        let graph = self.graph;
-        let PortEntry::Port(meta) = graph.port_meta_valid(PortIndex(port)) else {
-            return SeenPort::Dead;
-        };
-        let node = meta.node;
-        if flagged(&self.copy_node, wide(node.0)) {
-            return SeenPort::Hidden;
-        }
-        let direction = meta.direction;
-        SeenPort::Visible(node, direction)
-    }
-
     // The hidden node of a split port.
     pub(crate) fn copy_node_of(self, port: u32) -> u32
         ensures { λ r. ⌜ r ≡ copyNode self port ⌝ }
     {
         let graph = self.graph;
         owner_of(graph, far_port(graph, port))
-    }
-
-    // How many subports a split port has.
-    pub(crate) fn subports_of(self, port: u32, direction: Direction) -> usize
-        ensures { λ r. ⌜ r ≡ subports self port direction ⌝ }
-    {
-        let graph = self.graph;
-        graph.num_ports(NodeIndex(self.copy_node_of(port)), direction)
     }
 
     // The side of a hidden node that has its copy port.

@@ -2,10 +2,11 @@
 use crate::ends::SeenPort;
 use crate::ends::position_of;
 use crate::marks::flagged;
-use crate::marks::marked;
 use crate::marks::wide;
 use crate::multiportgraph::MultiPortGraph;
 use crate::multiportgraph::Refusal;
+use crate::reads::seen_in;
+use crate::scans::span_count;
 use portgraph::direction::Direction;
 use portgraph::index::MaybePortIndex;
 use portgraph::index::NodeIndex;
@@ -72,7 +73,7 @@ impl MultiPortGraph {
     pub fn port_direction(self, port: PortIndex) -> DirectionAnswer
         ensures { λ r. ⌜ (r ≡ directionOf self (port .0)) × (directionNumbers r ≡ directionNumbers (directionOf self (port .0))) ⌝ }
     {
-        let seen = self.seen(port.0);
+        let seen = seen_in(&self.graph.port_meta, &self.copy_node, port.0);
         match seen {
             SeenPort::Dead => DirectionAnswer::Refused(Refusal::UnknownPort(port)),
             SeenPort::Hidden => DirectionAnswer::Refused(Refusal::HiddenPort(port)),
@@ -84,7 +85,7 @@ impl MultiPortGraph {
     pub fn port_node(self, port: PortIndex) -> NodeAnswer
         ensures { λ r. ⌜ (r ≡ nodeOf self (port .0)) × (nodeNumbers r ≡ nodeNumbers (nodeOf self (port .0))) ⌝ }
     {
-        let seen = self.seen(port.0);
+        let seen = seen_in(&self.graph.port_meta, &self.copy_node, port.0);
         match seen {
             SeenPort::Dead => NodeAnswer::Refused(Refusal::UnknownPort(port)),
             SeenPort::Hidden => NodeAnswer::Refused(Refusal::HiddenPort(port)),
@@ -96,7 +97,7 @@ impl MultiPortGraph {
     pub fn port_offset(self, port: PortIndex) -> OffsetAnswer
         ensures { λ r. ⌜ (r ≡ offsetOf self (port .0)) × (offsetNumbers r ≡ offsetNumbers (offsetOf self (port .0))) ⌝ }
     {
-        let seen = self.seen(port.0);
+        let seen = seen_in(&self.graph.port_meta, &self.copy_node, port.0);
         match seen {
             SeenPort::Dead => OffsetAnswer::Refused(Refusal::UnknownPort(port)),
             SeenPort::Hidden => OffsetAnswer::Refused(Refusal::HiddenPort(port)),
@@ -165,7 +166,7 @@ impl MultiPortGraph {
     pub fn contains_port(self, port: PortIndex) -> bool
         ensures { λ r. ⌜ r ≡ containsPortOf self (port .0) ⌝ }
     {
-        let seen = self.seen(port.0);
+        let seen = seen_in(&self.graph.port_meta, &self.copy_node, port.0);
         match seen {
             SeenPort::Dead => false,
             SeenPort::Hidden => false,
@@ -185,18 +186,20 @@ impl MultiPortGraph {
 
     // The number of subports of a port; 1 for a port that is not split.
     pub fn port_fan_out(self, port: PortIndex) -> CountAnswer
+        requires { ⌜ MultiWf self ⌝ }
         ensures { λ r. ⌜ (r ≡ portFanOut self (port .0)) × (countNumbers r ≡ countNumbers (portFanOut self (port .0))) ⌝ }
     {
-        let seen = self.seen(port.0);
+        let seen = seen_in(&self.graph.port_meta, &self.copy_node, port.0);
         match seen {
             SeenPort::Dead => CountAnswer::Refused(Refusal::UnknownPort(port)),
             SeenPort::Hidden => CountAnswer::Refused(Refusal::HiddenPort(port)),
-            SeenPort::Visible(_, direction) => {
-                if marked(&self.multiport, wide(port.0)) {
-                    return CountAnswer::Count(self.subports_of(port.0, direction));
-                }
-                CountAnswer::Count(1)
-            }
+            SeenPort::Visible(_, direction) => CountAnswer::Count(span_count(
+                &self.multiport,
+                &self.graph.port_link,
+                &self.graph.port_meta,
+                port.0,
+                direction,
+            )),
         }
     }
 }

@@ -145,7 +145,7 @@ pub(crate) fn link_at<'a>(
     offset: u16,
 ) -> LinkFound
     ensures { λ r. ⌜ (r ≡ firstFound (those (λ w. passesIn (now (owners .entry)) (now (flags .entry)) filter (w .to .port .0))
-            (wireTo (subport# port offset) (wireIn (now (links .entry)) (now (owners .entry)) (now (flags .entry)) slot))))
+        (wireTo (subport# port offset) (wireIn (now (links .entry)) (now (owners .entry)) (now (flags .entry)) slot))))
         × (linkPort port r ≡ port) ⌝ }
 {
     if slot < PORT_SLOTS {
@@ -184,7 +184,7 @@ pub(crate) fn scan_port<'a>(
 ) -> LinkFound
     requires { ⌜ (first ≤ portSlots) × (end ≤ portSlots) ⌝ }
     ensures { λ r. ⌜ (r ≡ firstFound (those (λ w. passesIn (now (owners .entry)) (now (flags .entry)) filter (w .to .port .0))
-            (linksIn (now (links .entry)) (now (owners .entry)) (now (flags .entry)) port first from (end - from))))
+        (linksIn (now (links .entry)) (now (owners .entry)) (now (flags .entry)) port first from (end - from))))
         × (linkPort port r ≡ port) ⌝ }
 {
     let mut offset = from;
@@ -221,7 +221,7 @@ fn port_link_from<'a>(
     from: usize,
 ) -> LinkFound
     ensures { λ r. ⌜ (r ≡ firstFound (those (λ w. passesIn (now (owners .entry)) (now (flags .entry)) filter (w .to .port .0))
-            (portLinksIn (now (marks .entry)) (now (links .entry)) (now (owners .entry)) (now (flags .entry)) port from)))
+        (portLinksIn (now (marks .entry)) (now (links .entry)) (now (owners .entry)) (now (flags .entry)) port from)))
         × (linkPort port r ≡ port) ⌝ }
 {
     let seen = seen_in(owners, flags, port);
@@ -248,7 +248,7 @@ fn next_link<'a>(
     end: usize,
 ) -> LinkFound
     ensures { λ r. ⌜ (r ≡ firstFound (those (λ w. passesIn (now (owners .entry)) (now (flags .entry)) filter (w .to .port .0))
-            (linksRest (now (marks .entry)) (now (links .entry)) (now (owners .entry)) (now (flags .entry)) from offset (min end portSlots - from))))
+        (linksRest (now (marks .entry)) (now (links .entry)) (now (owners .entry)) (now (flags .entry)) from offset (min end portSlots - from))))
         × (linkPort 0 r < portSlots) ⌝ }
 {
     let stop = capped(end);
@@ -282,7 +282,7 @@ pub(crate) fn next_beyond<'a>(
     offset: u16,
 ) -> LinkFound
     ensures { λ r. ⌜ (r ≡ firstFound (those (λ w. passesIn (now (owners .entry)) (now (flags .entry)) filter (w .to .port .0))
-            (beyondIn (now (marks .entry)) (now (links .entry)) (now (owners .entry)) (now (flags .entry)) from end held offset)))
+        (beyondIn (now (marks .entry)) (now (links .entry)) (now (owners .entry)) (now (flags .entry)) from end held offset)))
         × (linkPort 0 r < portSlots) ⌝ }
 {
     let place = wide(held);

@@ -99,7 +99,13 @@ impl MultiPortGraph {
     }
 
     // Starts a walk over the links of a block; links to a port from `skip_from` on, `skip_to` excluded, are left out.
-    pub fn links(self, node: NodeIndex, sides: Sides, skip_from: u32, skip_to: u32) -> NodeLinksStart
+    pub fn links(
+        self,
+        node: NodeIndex,
+        sides: Sides,
+        skip_from: u32,
+        skip_to: u32,
+    ) -> NodeLinksStart
         ensures { λ r. ⌜ (r ≡ startLinks self node sides «skip_from» «skip_to») × (nodeLinksStartNumbers r ≡ nodeLinksStartNumbers (startLinks self node sides «skip_from» «skip_to»)) ⌝ }
     {
         let found = self.block(node);

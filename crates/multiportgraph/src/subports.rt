@@ -21,7 +21,7 @@ use portgraph::iter::Sides;
 use portgraph::iter::ports_from;
 use portgraph::iter::ports_to;
 ghost use mathlib.Core.Path.{_≡_};
-ghost use Prim.Native.Nat.{_-_, _≤_, _<_, min};
+ghost use Prim.Native.Nat.{_-_, _<_, min};
 ghost use Rattle.portgraph.specs.Limits.{portSlots};
 ghost use Rattle.multiportgraph.specs.Walks.{stepSubports};
 ghost use Rattle.multiportgraph.specs.WalkNumbers.{nodeSubportsValues};

@@ -190,12 +190,7 @@ impl Ports {
         if held_seen(&graph.graph.port_meta, &graph.copy_node, front) {
             if held_seen(&graph.graph.port_meta, &graph.copy_node, back) {
                 let end = end_before(back, PORT_SLOTS);
-                let port = first_port(
-                    &graph.graph.port_meta,
-                    &graph.copy_node,
-                    wide(front),
-                    end,
-                );
+                let port = first_port(&graph.graph.port_meta, &graph.copy_node, wide(front), end);
                 if port < PORT_SLOTS {
                     return PortsStep::Item(
                         PortIndex(port as u32),
@@ -219,12 +214,7 @@ impl Ports {
         if held_seen(&graph.graph.port_meta, &graph.copy_node, front) {
             if held_seen(&graph.graph.port_meta, &graph.copy_node, back) {
                 let end = end_before(back, PORT_SLOTS);
-                let port = last_port(
-                    &graph.graph.port_meta,
-                    &graph.copy_node,
-                    wide(front),
-                    end,
-                );
+                let port = last_port(&graph.graph.port_meta, &graph.copy_node, wide(front), end);
                 if port < PORT_SLOTS {
                     return PortsStep::Item(
                         PortIndex(port as u32),

@@ -18,3 +18,4 @@ pub mod RoomLaws
 pub mod WordSteps
 pub mod AnswerSteps
 pub mod RunSteps
+pub mod AskSteps

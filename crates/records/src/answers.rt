@@ -21,12 +21,12 @@ ghost use Rattle.records.specs.Run.{counts, numbers, five};
 ghost use Rattle.records.specs.Forms.{words5, EventsFit};
 
 // 0 or the refusal, then values, the rest 0.
-pub(crate) struct Answer5 {
-    pub(crate) a: u32,
-    pub(crate) b: u32,
-    pub(crate) c: u32,
-    pub(crate) d: u32,
-    pub(crate) e: u32,
+pub struct Answer5 {
+    pub a: u32,
+    pub b: u32,
+    pub c: u32,
+    pub d: u32,
+    pub e: u32,
 }
 
 pub(crate) fn five_words(a: u32, b: u32, c: u32, d: u32, e: u32) -> Answer5
@@ -51,7 +51,7 @@ fn side_number(direction: Direction) -> u32
 }
 
 // A refusal with what it carries.
-fn refusal_words(refusal: Refusal) -> Answer5
+pub fn refusal_words(refusal: Refusal) -> Answer5
     ensures { λ r. ⌜ words5 r ≡ five (refusalNumbers refusal) ⌝ }
 {
     match refusal {

@@ -82,7 +82,7 @@ fn ask_subport_link(p: u32, o: u32) -> Ask
 }
 
 // What a code asks of its four arguments.
-fn ask_of(code: u32, a: u32, b: u32, c: u32, d: u32) -> Ask
+pub(crate) fn ask_of(code: u32, a: u32, b: u32, c: u32, d: u32) -> Ask
     ensures { λ r. ⌜ meant r ≡ askedBy code a b c d ⌝ }
 {
     match code {

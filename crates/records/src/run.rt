@@ -23,9 +23,9 @@ ghost use Rattle.records.specs.Words.{bytesOf, requestsOf};
 ghost use Rattle.records.specs.Run.{answersFrom, returned, written};
 
 // Numbers of the run's own move list: three for each port of the largest node.
-const MOVES: usize = 3 * NODE_PORTS;
+pub(crate) const MOVES: usize = 3 * NODE_PORTS;
 
-fn subport(port: u32, offset: u16) -> SubportIndex
+pub(crate) fn subport(port: u32, offset: u16) -> SubportIndex
     ensures { λ r. ⌜ r ≡ subport# port offset ⌝ }
 {
     SubportIndex {

@@ -1,7 +1,7 @@
 -- `multiportgraph::scans::next_link` meets its contract. Invariant: what is found from `port` and `first` on is what is found from the start on.
 -- Measure: the ports that are left.
-use mathlib.Core.Path.{_≡_, refl, ap, _∙_}
-use Prim.Native.Nat.{_-_, _≤_, min}
+use mathlib.Core.Path.{_≡_, ap, _∙_}
+use Prim.Native.Nat.{_-_, min}
 use native.Mathlib.Omega.{arith}
 use borrow.Author.Needs.{needs}
 use Rattle.portgraph.specs.Limits.{portSlots}

@@ -2,7 +2,6 @@
 -- Measure: the offsets that are left.
 use mathlib.Core.Path.{_≡_, refl, _∙_}
 use Prim.Native.Nat.{_-_}
-use native.Mathlib.Omega.{arith}
 use borrow.Author.Needs.{needs}
 use Rattle.multiportgraph.specs.Wires.{those}
 use Rattle.multiportgraph.specs.Scans.{firstFound, passesIn, linksIn}

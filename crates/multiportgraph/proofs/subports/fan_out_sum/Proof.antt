@@ -1,6 +1,6 @@
 -- `multiportgraph::subports::fan_out_sum` meets its contract. Invariant: the sum so far and the fan-out of the ports left make the whole.
 -- Measure: the ports that are left.
-use mathlib.Core.Path.{_≡_, refl, sym, ap, _∙_}
+use mathlib.Core.Path.{_≡_, ap, _∙_}
 use Prim.Native.Nat.{_+_, _-_, _*_, _≤_, min}
 use native.Mathlib.Omega.{arith}
 use borrow.Author.Needs.{needs}

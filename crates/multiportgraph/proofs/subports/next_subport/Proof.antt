@@ -1,6 +1,6 @@
 -- `multiportgraph::subports::next_subport` meets its contract. Invariant: what is found from `port` and `first` on is what is found from the start on.
 -- Measure: the ports that are left.
-use mathlib.Core.Path.{_≡_, refl, ap, _∙_}
+use mathlib.Core.Path.{_≡_, ap, _∙_}
 use Prim.Native.Nat.{_-_, min}
 use native.Mathlib.Omega.{arith}
 use borrow.Author.Needs.{needs}

@@ -2,7 +2,6 @@
 -- Measure: the slots that are left.
 use mathlib.Core.Path.{_≡_, refl}
 use Prim.Native.Nat.{_-_}
-use native.Mathlib.Omega.{arith}
 use borrow.Author.Needs.{needs}
 use Rattle.multiportgraph.specs.WalkScans.{portsIn}
 use Rattle.multiportgraph.specs.WalkSteps.{port-found, port-turn, port-none}

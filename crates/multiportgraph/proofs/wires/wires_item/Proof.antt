@@ -1,9 +1,7 @@
 -- `multiportgraph::wires::wires_item` meets its contract: nothing found, and a wire.
-use mathlib.Core.Path.{_≡_, ap}
-use Prim.Native.Nat.{_<_}
+use mathlib.Core.Path.{ap}
 use native.Mathlib.Omega.{arith}
 use borrow.Author.Needs.{needs}
-use Rattle.portgraph.specs.Limits.{portSlots}
 use Rattle.multiportgraph.specs.Scans.{linkPort}
 use Rattle.multiportgraph.specs.WireSteps.{item-held, item-end}
 use Rattle.multiportgraph.proofs.wires.wires_item.Statement.{statement}

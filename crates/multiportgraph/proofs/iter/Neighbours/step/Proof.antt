@@ -1,5 +1,5 @@
 -- `multiportgraph::iter::Neighbours::step` meets its contract: nothing found, and a link to a neighbour.
-use mathlib.Core.Path.{_≡_, ap}
+use mathlib.Core.Path.{ap}
 use native.Mathlib.Omega.{arith}
 use borrow.Author.Needs.{needs}
 use Rattle.portgraph.specs.LookupSteps.{with-numbers}

@@ -1,5 +1,5 @@
 -- `multiportgraph::iter::NodeConnections::step` meets its contract: the other block is gone or hidden, nothing found, and a link.
-use mathlib.Core.Path.{_≡_, sym, ap, _∙_}
+use mathlib.Core.Path.{sym, ap, _∙_}
 use native.Mathlib.Omega.{arith}
 use borrow.Author.Needs.{needs}
 use Rattle.portgraph.specs.LookupSteps.{with-numbers}

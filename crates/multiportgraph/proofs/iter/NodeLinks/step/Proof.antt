@@ -1,5 +1,5 @@
 -- `multiportgraph::iter::NodeLinks::step` meets its contract: nothing found, and a link.
-use mathlib.Core.Path.{_≡_, ap}
+use mathlib.Core.Path.{ap}
 use native.Mathlib.Omega.{arith}
 use borrow.Author.Needs.{needs}
 use Rattle.portgraph.specs.LookupSteps.{with-numbers}

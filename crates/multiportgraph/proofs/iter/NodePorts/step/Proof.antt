@@ -1,5 +1,5 @@
 -- `multiportgraph::iter::NodePorts::step` meets its contract: a node that is refused, a port, none left, and a port held that is gone or hidden.
-use mathlib.Core.Path.{_≡_, refl, sym, _∙_}
+use mathlib.Core.Path.{sym, _∙_}
 use Prim.Native.Nat.{_<_}
 use native.Mathlib.Omega.{arith}
 use borrow.Author.Needs.{needs}

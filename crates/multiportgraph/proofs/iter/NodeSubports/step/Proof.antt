@@ -1,5 +1,5 @@
 -- `multiportgraph::iter::NodeSubports::step` meets its contract: a node that is refused, nothing left, a subport, and a port held that is gone or hidden.
-use mathlib.Core.Path.{_≡_, sym, ap, _∙_}
+use mathlib.Core.Path.{sym, ap, _∙_}
 use native.Mathlib.Omega.{arith}
 use borrow.Author.Needs.{needs}
 use Rattle.portgraph.specs.LookupSteps.{with-numbers}

@@ -1,11 +1,11 @@
 -- `multiportgraph::iter::Nodes::step_back` meets its contract. Invariant: the last of the blocks below `end` is the last of all that are left.
 -- Measure: the slots that are left.
-use mathlib.Core.Path.{_≡_, refl, sym, ap, _∙_}
+use mathlib.Core.Path.{_≡_, refl, sym, _∙_}
 use Prim.Native.Nat.{_-_, _≤_}
 use native.Mathlib.Omega.{arith}
 use borrow.Author.Needs.{needs}
 use Rattle.portgraph.specs.Limits.{nodeSlots}
-use Rattle.portgraph.specs.LookupSteps.{with-numbers, length-of-map}
+use Rattle.portgraph.specs.LookupSteps.{with-numbers}
 use Rattle.multiportgraph.specs.Wires.{range, those, isBlock}
 use Rattle.multiportgraph.specs.WalkNumbers.{nodesValues}
 use Rattle.multiportgraph.specs.WalkSteps.{block-told, back-turn, back-front-gone, back-back-gone, back-item, back-none}

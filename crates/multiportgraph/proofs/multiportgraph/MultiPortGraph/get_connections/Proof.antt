@@ -2,7 +2,6 @@
 use mathlib.Core.Path.{_≡_, refl, sym, ap, _∙_}
 use borrow.Author.Needs.{needs}
 use Rattle.portgraph.specs.LookupSteps.{with-numbers}
-use Rattle.portgraph.specs.Lookups.{containsNode}
 use Rattle.multiportgraph.specs.Reading.{isHidden}
 use Rattle.multiportgraph.specs.Walks.{connectionsFrom}
 use Rattle.multiportgraph.specs.WalkNumbers.{nodeConnectionsStartNumbers}

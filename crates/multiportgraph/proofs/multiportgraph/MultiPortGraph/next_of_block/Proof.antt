@@ -1,5 +1,5 @@
 -- `multiportgraph::multiportgraph::MultiPortGraph::next_of_block` meets its contract: a node that is refused, a port held that is gone or hidden, and a scan.
-use mathlib.Core.Path.{_≡_, refl, sym, _∙_}
+use mathlib.Core.Path.{sym, _∙_}
 use native.Mathlib.Omega.{arith}
 use borrow.Author.Needs.{needs}
 use Rattle.multiportgraph.specs.WalkSteps.{both-refused, both-found}

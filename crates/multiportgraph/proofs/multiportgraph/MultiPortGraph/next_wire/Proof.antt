@@ -6,8 +6,8 @@ use native.Mathlib.Omega.{arith}
 use borrow.Author.Needs.{needs}
 use Rattle.portgraph.specs.Limits.{nodeSlots}
 use Rattle.portgraph.specs.Entries.{freshSlot}
-use Rattle.portgraph.specs.LookupSteps.{length-of-map}
 use lib.ListN.{getD}
+use Rattle.multiportgraph.specs.Forms.{flagAt}
 use Rattle.multiportgraph.specs.Scans.{firstFound, blockLinksIn, wiresIn}
 use Rattle.multiportgraph.specs.ScanSteps.{nodes-turn, nodes-found, nodes-done}
 use Rattle.multiportgraph.proofs.multiportgraph.MultiPortGraph.next_wire.Statement.{statement}
@@ -19,7 +19,8 @@ Inv-loop = λ node held offset self lower n₀ h₀ o₀ n h o. firstFound (wire
 abbrev μ-loop : tie.MeasureT-loop
 μ-loop = λ node held offset self lower n₀ h₀ o₀ n h o. nodeSlots - n
 
-found-is : (c : tie.After-block-links Inv-loop μ-loop) → c .block-links .result ≡ firstFound (blockLinksIn (c .before .before .before .before .before .before .before .before .before .before .before .before .before .args .t1 .multiport) (c .before .before .before .before .before .before .before .before .before .before .before .before .before .args .t1 .graph .«port_link») (c .before .before .before .before .before .before .before .before .before .before .before .before .before .args .t1 .graph .«port_meta») (c .before .before .before .before .before .before .before .before .before .before .before .before .before .args .t1 .«copy_node») (getD (c .before .before .before .before .before .before .before .before .before .before .before .before .before .args .t1 .graph .«node_meta») (c .before .before .before .before .before .before .before .before .before .before .before .loop .n) freshSlot .entry) (Rattle.multiportgraph.specs.Forms.flagAt (c .before .before .before .before .before .before .before .before .before .before .before .before .before .args .t1 .«copy_node») nodeSlots (c .before .before .before .before .before .before .before .before .before .before .before .loop .n)) (c .before .before .before .before .before .before .before .before .before .before .before .loop .h) (c .before .before .before .before .before .before .before .before .before .before .before .loop .o))
+-- what the slot's scan found
+found-is : (c : tie.After-block-links Inv-loop μ-loop) → c .block-links .result ≡ firstFound (blockLinksIn (c .before .before .before .before .before .before .before .before .before .before .before .before .before .args .t1 .multiport) (c .before .before .before .before .before .before .before .before .before .before .before .before .before .args .t1 .graph .«port_link») (c .before .before .before .before .before .before .before .before .before .before .before .before .before .args .t1 .graph .«port_meta») (c .before .before .before .before .before .before .before .before .before .before .before .before .before .args .t1 .«copy_node») (getD (c .before .before .before .before .before .before .before .before .before .before .before .before .before .args .t1 .graph .«node_meta») (c .before .before .before .before .before .before .before .before .before .before .before .loop .n) freshSlot .entry) (flagAt (c .before .before .before .before .before .before .before .before .before .before .before .before .before .args .t1 .«copy_node») nodeSlots (c .before .before .before .before .before .before .before .before .before .before .before .loop .n)) (c .before .before .before .before .before .before .before .before .before .before .before .loop .h) (c .before .before .before .before .before .before .before .before .before .before .before .loop .o))
 found-is c = c .block-links .ensures .0 ∙ ap (λ b. firstFound (blockLinksIn (c .before .before .before .before .before .before .before .before .before .before .before .before .before .args .t1 .multiport) (c .before .before .before .before .before .before .before .before .before .before .before .before .before .args .t1 .graph .«port_link») (c .before .before .before .before .before .before .before .before .before .before .before .before .before .args .t1 .graph .«port_meta») (c .before .before .before .before .before .before .before .before .before .before .before .before .before .args .t1 .«copy_node») (getD (c .before .before .before .before .before .before .before .before .before .before .before .before .before .args .t1 .graph .«node_meta») (c .before .before .before .before .before .before .before .before .before .before .before .loop .n) freshSlot .entry) b (c .before .before .before .before .before .before .before .before .before .before .before .loop .h) (c .before .before .before .before .before .before .before .before .before .before .before .loop .o))) (c .before .before .before .before .before .before .flagged .ensures)
 
 loop-holds : tie.Need-loop-holds Inv-loop μ-loop

@@ -1,0 +1,147 @@
+// One request on a graph that the caller holds, for the programs: what the run does with each record of a list. The calls here
+// also tell that the graph stays one that came from the calls, which is what every call presumes.
+use crate::answers::Answer5;
+use crate::answers::add_words;
+use crate::answers::count_words;
+use crate::answers::cut_words;
+use crate::answers::five_words;
+use crate::answers::link_words;
+use crate::answers::remove_words;
+use crate::answers::set_words;
+use crate::requests::Ask;
+use crate::requests::ask_of;
+use crate::run::MOVES;
+use crate::run::subport;
+use multiportgraph::multiportgraph::MultiPortGraph;
+use multiportgraph::multiportgraph::PortsSet;
+use portgraph::index::NodeIndex;
+use portgraph::index::PortIndex;
+ghost use mathlib.Core.Path.{_≡_};
+ghost use lib.ListN.{length};
+ghost use Rattle.multiportgraph.specs.Calls.{emptyGraph, setCounts, movesTold, enough};
+ghost use Rattle.multiportgraph.specs.Book.{setCall};
+ghost use Rattle.multiportgraph.specs.Inner.{MultiWf};
+ghost use Rattle.records.specs.Run.{call, askedBy};
+ghost use Rattle.records.specs.Forms.{words5};
+ghost use Rattle.records.specs.AskSteps.{Answered};
+
+// The graph afterwards, and the five words of the answer.
+pub struct Asked {
+    pub graph: MultiPortGraph,
+    pub answer: Answer5,
+}
+
+// The empty graph.
+pub fn empty() -> MultiPortGraph
+    ensures { λ r. ⌜ (r ≡ emptyGraph) × MultiWf r ⌝ }
+{
+    MultiPortGraph::new()
+}
+
+// Changes the number of ports of a block, with the caller's move list.
+pub fn resize(
+    graph: MultiPortGraph,
+    node: u32,
+    incoming: u32,
+    outgoing: u32,
+    moves: &mut [u32],
+) -> PortsSet
+    requires { ⌜ MultiWf graph ⌝ }
+    ensures { λ r. ⌜ (r ≡ setCounts graph node incoming outgoing (length (now (moves .entry))))
+        × (now (moves .exit) ≡ movesTold graph node incoming outgoing (now (moves .entry)))
+        × MultiWf (r .graph) ⌝ }
+{
+    graph.set_num_ports(NodeIndex(node), incoming as usize, outgoing as usize, moves)
+}
+
+// A resize as a request: its move list is its own, and long enough.
+fn ask_resize(graph: MultiPortGraph, node: u32, incoming: u32, outgoing: u32) -> Asked
+    requires { ⌜ MultiWf graph ⌝ }
+    ensures { λ r. ⌜ Answered graph (call (setCall node incoming outgoing enough)) (words5 (r .answer)) (r .graph) ⌝ }
+{
+    let mut moves = [0u32; MOVES];
+    let sized = resize(graph, node, incoming, outgoing, &mut moves);
+    let answer = sized.answer;
+    let after = sized.graph;
+    Asked {
+        graph: after,
+        answer: set_words(answer),
+    }
+}
+
+// A code with its four arguments, asked of a graph.
+pub fn ask(graph: MultiPortGraph, code: u32, a: u32, b: u32, c: u32, d: u32) -> Asked
+    requires { ⌜ MultiWf graph ⌝ }
+    ensures { λ r. ⌜ Answered graph (askedBy code a b c d) (words5 (r .answer)) (r .graph) ⌝ }
+{
+    let asked = ask_of(code, a, b, c, d);
+    match asked {
+        Ask::Add(incoming, outgoing) => {
+            let added = graph.add_node(incoming as usize, outgoing as usize);
+            let answer = added.answer;
+            let after = added.graph;
+            Asked {
+                graph: after,
+                answer: add_words(answer),
+            }
+        }
+        Ask::Remove(node) => {
+            let removed = graph.remove_node(NodeIndex(node));
+            let answer = removed.answer;
+            let after = removed.graph;
+            Asked {
+                graph: after,
+                answer: remove_words(answer),
+            }
+        }
+        Ask::Resize(node, incoming, outgoing) => ask_resize(graph, node, incoming, outgoing),
+        Ask::Link(p, q) => {
+            let linked = graph.link_ports(PortIndex(p), PortIndex(q));
+            let answer = linked.answer;
+            let after = linked.graph;
+            Asked {
+                graph: after,
+                answer: link_words(answer),
+            }
+        }
+        Ask::Unlink(port) => {
+            let cut = graph.unlink_port(PortIndex(port));
+            let answer = cut.answer;
+            let after = cut.graph;
+            Asked {
+                graph: after,
+                answer: cut_words(answer),
+            }
+        }
+        Ask::LinkSubports(p, o, q, r) => {
+            let linked = graph.link_subports(subport(p, o), subport(q, r));
+            let answer = linked.answer;
+            let after = linked.graph;
+            Asked {
+                graph: after,
+                answer: link_words(answer),
+            }
+        }
+        Ask::UnlinkSubport(p, o) => {
+            let cut = graph.unlink_subport(subport(p, o));
+            let answer = cut.answer;
+            let after = cut.graph;
+            Asked {
+                graph: after,
+                answer: cut_words(answer),
+            }
+        }
+        Ask::SubportLink(p, o) => Asked {
+            graph: graph,
+            answer: cut_words(graph.subport_link(subport(p, o))),
+        },
+        Ask::Counts => Asked {
+            graph: graph,
+            answer: count_words(graph),
+        },
+        Ask::Refused => Asked {
+            graph: graph,
+            answer: five_words(2, 0, 0, 0, 0),
+        },
+    }
+}

@@ -1,5 +1,6 @@
 // The calls over lent tables, for a run that copies none of them: adding, linking and cutting, and what a subport is linked with.
 use crate::calls::without_link;
+use crate::copies::less;
 use crate::marks::wide;
 use crate::multiportgraph::AddAnswer;
 use crate::multiportgraph::CutAnswer;
@@ -22,31 +23,71 @@ use portgraph::slots::AddAnswer as LowerAdd;
 use portgraph::tables::cut;
 use portgraph::tables::link_both;
 ghost use mathlib.Core.Path.{_≡_};
+ghost use Prim.Native.Nat.{_-_};
 ghost use Rattle.multiportgraph.specs.Calls.{addedAs, addBlock, cutSub, linkSub, subportLink};
 ghost use Rattle.multiportgraph.specs.Inner.{MultiWf};
-ghost use Rattle.multiportgraph.specs.MultiLent.{multiIn, heldCounts, heldLinks};
+ghost use Rattle.multiportgraph.specs.MultiLent.{multiIn, noHeld, heldCounts, heldLinks};
 
 // What a graph has besides its tables.
-pub(crate) struct Held {
+pub struct Held {
     pub(crate) counts: Counts,
     // The number of hidden nodes, and of subports in them.
     pub(crate) copies: usize,
     pub(crate) subs: usize,
 }
 
-pub(crate) struct AddedIn {
-    pub(crate) held: Held,
-    pub(crate) answer: AddAnswer,
+pub struct AddedIn {
+    pub held: Held,
+    pub answer: AddAnswer,
 }
 
-pub(crate) struct LinkedIn {
-    pub(crate) held: Held,
-    pub(crate) answer: LinkAnswer,
+pub struct LinkedIn {
+    pub held: Held,
+    pub answer: LinkAnswer,
 }
 
-pub(crate) struct CutIn {
-    pub(crate) held: Held,
-    pub(crate) answer: CutAnswer,
+pub struct CutIn {
+    pub held: Held,
+    pub answer: CutAnswer,
+}
+
+// The numbers of the empty graph.
+pub fn no_held() -> Held
+    ensures { λ r. ⌜ r ≡ noHeld ⌝ }
+{
+    Held {
+        counts: Counts {
+            node_free: 0,
+            node_len: 0,
+            port_len: 0,
+            node_count: 0,
+            port_count: 0,
+            link_count: 0,
+        },
+        copies: 0,
+        subs: 0,
+    }
+}
+
+// The number of blocks.
+pub fn node_count_in(held: Held) -> usize
+    ensures { λ r. ⌜ r ≡ held .counts .«node_count» - held .copies ⌝ }
+{
+    less(held.counts.node_count, held.copies)
+}
+
+// The number of ports of blocks.
+pub fn port_count_in(held: Held) -> usize
+    ensures { λ r. ⌜ r ≡ held .counts .«port_count» - held .subs - held .copies ⌝ }
+{
+    less(less(held.counts.port_count, held.subs), held.copies)
+}
+
+// The number of wires.
+pub fn link_count_in(held: Held) -> usize
+    ensures { λ r. ⌜ r ≡ held .counts .«link_count» - held .copies ⌝ }
+{
+    less(held.counts.link_count, held.copies)
 }
 
 pub(crate) fn with_counts(held: Held, counts: Counts) -> Held
@@ -88,7 +129,7 @@ fn added_as(answer: LowerAdd) -> AddAnswer
 }
 
 // MultiPortGraph::add_node over lent tables.
-pub(crate) fn add_in(
+pub fn add_in(
     nodes: &mut [u32; NODE_WORDS],
     links: &mut [u32; PORT_SLOTS],
     owners: &mut [u32; PORT_SLOTS],
@@ -114,7 +155,7 @@ pub(crate) fn add_in(
 }
 
 // MultiPortGraph::subport_link over lent tables.
-pub(crate) fn subport_link_in<'a>(
+pub fn subport_link_in<'a>(
     nodes: &'a [u32; NODE_WORDS],
     links: &'a [u32; PORT_SLOTS],
     owners: &'a [u32; PORT_SLOTS],
@@ -134,7 +175,7 @@ pub(crate) fn subport_link_in<'a>(
 }
 
 // MultiPortGraph::unlink_subport over lent tables.
-pub(crate) fn cut_sub_in(
+pub fn cut_sub_in(
     nodes: &mut [u32; NODE_WORDS],
     links: &mut [u32; PORT_SLOTS],
     owners: &mut [u32; PORT_SLOTS],
@@ -165,7 +206,7 @@ pub(crate) fn cut_sub_in(
 }
 
 // MultiPortGraph::link_subports over lent tables.
-pub(crate) fn link_sub_in(
+pub fn link_sub_in(
     nodes: &mut [u32; NODE_WORDS],
     links: &mut [u32; PORT_SLOTS],
     owners: &mut [u32; PORT_SLOTS],

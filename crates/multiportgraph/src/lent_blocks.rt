@@ -44,18 +44,18 @@ ghost use Rattle.multiportgraph.specs.Calls.{cutPort, removeBlock, marks
 ghost use Rattle.multiportgraph.specs.Inner.{MultiWf};
 ghost use Rattle.multiportgraph.specs.MultiLent.{multiIn, FitsIf, Sound, Resizes};
 
-pub(crate) struct RemovedIn {
-    pub(crate) held: Held,
-    pub(crate) answer: RemoveAnswer,
+pub struct RemovedIn {
+    pub held: Held,
+    pub answer: RemoveAnswer,
 }
 
-pub(crate) struct SetIn {
-    pub(crate) held: Held,
-    pub(crate) answer: SetAnswer,
+pub struct SetIn {
+    pub held: Held,
+    pub answer: SetAnswer,
 }
 
 // MultiPortGraph::unlink_port over lent tables.
-pub(crate) fn cut_port_in(
+pub fn cut_port_in(
     nodes: &mut [u32; NODE_WORDS],
     links: &mut [u32; PORT_SLOTS],
     owners: &mut [u32; PORT_SLOTS],
@@ -109,7 +109,7 @@ pub(crate) fn cut_port_in(
 }
 
 // MultiPortGraph::remove_node over lent tables.
-pub(crate) fn remove_in(
+pub fn remove_in(
     nodes: &mut [u32; NODE_WORDS],
     links: &mut [u32; PORT_SLOTS],
     owners: &mut [u32; PORT_SLOTS],
@@ -275,7 +275,7 @@ fn resize_in(
 }
 
 // MultiPortGraph::set_num_ports over lent tables.
-pub(crate) fn set_in(
+pub fn set_in(
     nodes: &mut [u32; NODE_WORDS],
     links: &mut [u32; PORT_SLOTS],
     owners: &mut [u32; PORT_SLOTS],

@@ -228,7 +228,7 @@ fn link_both_in(
 }
 
 // MultiPortGraph::link_ports over lent tables.
-pub(crate) fn link_in(
+pub fn link_in(
     nodes: &mut [u32; NODE_WORDS],
     links: &mut [u32; PORT_SLOTS],
     owners: &mut [u32; PORT_SLOTS],

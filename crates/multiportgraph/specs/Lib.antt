@@ -42,6 +42,7 @@ pub mod Space
 pub mod Forms
 pub mod Reads
 pub mod Named
+pub mod MultiLent
 pub mod Ends
 pub mod Listing
 pub mod WalkRule
@@ -93,3 +94,6 @@ pub mod WireSteps
 pub mod WalkSteps
 pub mod LinkWalkSteps
 pub mod SubportSteps
+pub mod LentLaws
+pub mod LentSteps
+pub mod LentLinkSteps

@@ -40,7 +40,7 @@ pub struct Prepared {
     pub ready: bool,
 }
 
-fn copy_in(direction: Direction) -> usize
+pub(crate) fn copy_in(direction: Direction) -> usize
     ensures { λ r. ⌜ r ≡ copyIn direction ⌝ }
 {
     match direction {
@@ -49,7 +49,7 @@ fn copy_in(direction: Direction) -> usize
     }
 }
 
-fn copy_out(direction: Direction) -> usize
+pub(crate) fn copy_out(direction: Direction) -> usize
     ensures { λ r. ⌜ r ≡ copyOut direction ⌝ }
 {
     match direction {
@@ -74,7 +74,7 @@ pub(crate) fn lowest_unlinked(links: &[u32; PORT_SLOTS], first: usize, count: us
 }
 
 // The port hangs on the copy port, and its old link is at the first subport. Answers what the table held for the port.
-fn hang(links: &mut [u32; PORT_SLOTS], port: u32, copy: u32, first: u32) -> u32
+pub(crate) fn hang(links: &mut [u32; PORT_SLOTS], port: u32, copy: u32, first: u32) -> u32
     ensures { λ r. ⌜ (r ≡ at (now (links .entry)) port) × (now (links .exit) ≡ hangOn (now (links .entry)) port copy first) ⌝ }
 {
     let far = far_in(links, wide(port));
@@ -85,7 +85,7 @@ fn hang(links: &mut [u32; PORT_SLOTS], port: u32, copy: u32, first: u32) -> u32
 }
 
 // Where the copy port stands in a new hidden node's block.
-fn copy_at(direction: Direction) -> u32
+pub(crate) fn copy_at(direction: Direction) -> u32
     ensures { λ r. ⌜ r ≡ copyAt direction ⌝ }
 {
     match direction {
@@ -95,7 +95,7 @@ fn copy_at(direction: Direction) -> u32
 }
 
 // Where the first subport stands there.
-fn subports_at(direction: Direction) -> u32
+pub(crate) fn subports_at(direction: Direction) -> u32
     ensures { λ r. ⌜ r ≡ subportsAt direction ⌝ }
 {
     match direction {
@@ -105,7 +105,7 @@ fn subports_at(direction: Direction) -> u32
 }
 
 // The counts of a hidden node that has `count` subports on this side, with one more.
-fn grown_in(direction: Direction, count: usize) -> usize
+pub(crate) fn grown_in(direction: Direction, count: usize) -> usize
     requires { ⌜ count ≤ portSlots ⌝ }
     ensures { λ r. ⌜ r ≡ grownIn direction count ⌝ }
 {
@@ -115,7 +115,7 @@ fn grown_in(direction: Direction, count: usize) -> usize
     }
 }
 
-fn grown_out(direction: Direction, count: usize) -> usize
+pub(crate) fn grown_out(direction: Direction, count: usize) -> usize
     requires { ⌜ count ≤ portSlots ⌝ }
     ensures { λ r. ⌜ r ≡ grownOut direction count ⌝ }
 {

@@ -34,6 +34,8 @@ pub mod TableSteps
 pub mod LookupSteps
 pub mod SlotSteps
 pub mod ResizeSteps
+pub mod Lent
+pub mod LentSteps
 pub mod WfFacts
 -- single changes; tables, sums and chains; links under any numbering of places; the model stays good
 pub mod Joins

@@ -54,7 +54,7 @@ pub struct PortsSet {
 }
 
 // The smaller of two numbers.
-fn smaller(a: usize, b: usize) -> usize
+pub(crate) fn smaller(a: usize, b: usize) -> usize
     ensures { λ r. ⌜ r ≡ min a b ⌝ }
 {
     if a <= b { a } else { b }
@@ -73,7 +73,7 @@ pub(crate) fn round_up(total: usize) -> usize
 }
 
 // Whether a node has these counts already.
-fn same_counts(meta: NodeMeta, incoming: usize, outgoing: usize) -> bool
+pub(crate) fn same_counts(meta: NodeMeta, incoming: usize, outgoing: usize) -> bool
     ensures { λ r. ⌜ r ≡ sameCounts meta incoming outgoing ⌝ }
 {
     if incoming == wide16(meta.incoming) {
@@ -83,7 +83,7 @@ fn same_counts(meta: NodeMeta, incoming: usize, outgoing: usize) -> bool
 }
 
 // Whether these counts are done within the node's block.
-fn fits_inside(meta: NodeMeta, incoming: usize, outgoing: usize) -> bool
+pub(crate) fn fits_inside(meta: NodeMeta, incoming: usize, outgoing: usize) -> bool
     requires { ⌜ incoming + outgoing ≤ nodePorts ⌝ }
     ensures { λ r. ⌜ r ≡ fitsInside meta incoming outgoing ⌝ }
 {
@@ -95,7 +95,7 @@ fn fits_inside(meta: NodeMeta, incoming: usize, outgoing: usize) -> bool
 }
 
 // Drops the highest positions of each side, incoming ones first, and answers how many links there were.
-fn drop_both(
+pub(crate) fn drop_both(
     links: &mut [u32; PORT_SLOTS],
     moves: &mut [u32],
     meta: NodeMeta,
@@ -124,7 +124,7 @@ fn drop_both(
 }
 
 // Moves the outgoing ports that stay, and clears new slots and slots no longer used.
-fn inside_links(links: &mut [u32; PORT_SLOTS], meta: NodeMeta, incoming: usize, outgoing: usize)
+pub(crate) fn inside_links(links: &mut [u32; PORT_SLOTS], meta: NodeMeta, incoming: usize, outgoing: usize)
     requires { ⌜ (meta .«first_port» .0 + meta .capacity ≤ portSlots) × (meta .incoming + meta .outgoing ≤ meta .capacity)
         × (incoming + outgoing ≤ meta .capacity) × (meta .capacity ≤ nodePorts) ⌝ }
     ensures { λ _. ⌜ now (links .exit) ≡ insideLinks (now (links .entry)) meta incoming outgoing ⌝ }
@@ -161,7 +161,7 @@ fn inside_links(links: &mut [u32; PORT_SLOTS], meta: NodeMeta, incoming: usize, 
 }
 
 // Clears the slots of a new block, and moves the ports that stay into it.
-fn anew_links(
+pub(crate) fn anew_links(
     links: &mut [u32; PORT_SLOTS],
     meta: NodeMeta,
     incoming: usize,

@@ -19,3 +19,4 @@ pub mod WordSteps
 pub mod AnswerSteps
 pub mod RunSteps
 pub mod AskSteps
+pub mod LentSteps

@@ -7,6 +7,7 @@ use crate::answers::link_words;
 use crate::answers::put_answer;
 use crate::answers::remove_words;
 use crate::answers::set_words;
+use crate::lent::run_list;
 use crate::requests::Ask;
 use crate::requests::ask_at;
 use multiportgraph::multiportgraph::MultiPortGraph;
@@ -34,8 +35,9 @@ pub(crate) fn subport(port: u32, offset: u16) -> SubportIndex
     }
 }
 
-// Runs a list from an empty graph, past refused calls, and lays every answer.
-fn run_all(requests: &[u8], answers: &mut [u8])
+// Runs a list from an empty graph, past refused calls, and lays every answer, by the calls that take the graph by value.
+// The entry runs `run_list`, which holds to the same contract and copies no table.
+pub fn run_all(requests: &[u8], answers: &mut [u8])
     requires { ⌜ (length (now answers) ≡ length (now requests)) × (length (now requests) % 20 ≡ 0) ⌝ }
     ensures { λ _. ⌜ now (answers .exit) ≡ bytesOf (answersFrom emptyGraph (requestsOf (now (requests .entry)))) ⌝ }
 {
@@ -118,6 +120,6 @@ pub extern "C" fn run_records(requests: &[u8], answers: &mut [u8]) -> u32
     if requests.len() % 20 != 0 {
         return 1;
     }
-    run_all(requests, answers);
+    run_list(requests, answers);
     0
 }

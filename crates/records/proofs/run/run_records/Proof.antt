@@ -10,14 +10,14 @@ returns c = run-refused (c .before .before .before .args .requests .now) (c .bef
 returns-2 : tie.Need-returns-2
 returns-2 c = run-refused (c .before .before .before .before .args .requests .now) (c .before .before .before .before .args .answers .now) (odd-length (c .before .before .before .before .args .requests .now) (c .before .before .before .before .args .answers .now) (c .before .if1 .left) (c .if2 .taken))
 
-run-all-requires : tie.Need-run-all-requires
-run-all-requires c κs = search needs
+run-list-requires : tie.Need-run-list-requires
+run-list-requires c κs = search needs
 
 same-length : tie.Need-same-length
 same-length c = search needs
 
 returns-3 : tie.Need-returns-3
-returns-3 c = run-taken (c .before .before .before .before .before .before .before .before .args .requests .now) (c .before .before .before .before .before .before .before .before .args .answers .now) _ (list-good (c .before .before .before .before .before .before .before .before .args .requests .now) (c .before .before .before .before .before .before .before .before .args .answers .now) (c .before .before .before .before .before .if1 .left) (c .before .before .before .before .if2 .left)) (c .before .before .run-all .ensures)
+returns-3 c = run-taken (c .before .before .before .before .before .before .before .before .args .requests .now) (c .before .before .before .before .before .before .before .before .args .answers .now) _ (list-good (c .before .before .before .before .before .before .before .before .args .requests .now) (c .before .before .before .before .before .before .before .before .args .answers .now) (c .before .before .before .before .before .if1 .left) (c .before .before .before .before .if2 .left)) (c .before .before .run-list .ensures)
 
 pub run-records-spec : {M : Type 1} → statement M
-run-records-spec = tie.close (tie.spec returns returns-2 run-all-requires same-length returns-3)
+run-records-spec = tie.close (tie.spec returns returns-2 run-list-requires same-length returns-3)

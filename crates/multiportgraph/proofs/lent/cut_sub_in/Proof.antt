@@ -1,0 +1,50 @@
+-- `multiportgraph::lent::cut_sub_in` meets its contract: an end that is cut, and a refusal.
+use borrow.Author.Needs.{needs}
+use Rattle.multiportgraph.specs.LentSteps.{cut-refused-in, cut-made-in}
+use Rattle.multiportgraph.proofs.lent.cut_sub_in.Statement.{statement}
+use Rattle.multiportgraph.proofs.lent.cut_sub_in.Tie as tie
+
+end-named-requires : tie.Need-end-named-requires
+end-named-requires c κs = search needs
+
+enum-known-inner : tie.Need-enum-known-inner
+enum-known-inner c = search needs
+
+wire-in-requires : tie.Need-wire-in-requires
+wire-in-requires c κs = search needs
+
+wide-requires : tie.Need-wide-requires
+wide-requires c κs = search needs
+
+cut-requires : tie.Need-cut-requires
+cut-requires c κs = search needs
+
+without-link-requires : tie.Need-without-link-requires
+without-link-requires c κs = search needs
+
+with-links-requires : tie.Need-with-links-requires
+with-links-requires c κs = search needs
+
+enum-known-refusal : tie.Need-enum-known-refusal
+enum-known-refusal c = search needs
+
+returns : tie.Need-returns
+returns c = cut-made-in (c .before .before .before .before .before .before .before .before .before .before .before .before .before .before .before .before .before .args .nodes .now) (c .before .before .before .before .before .before .before .before .before .before .before .before .before .before .before .before .before .args .links .now) (c .before .before .before .before .before .before .before .before .before .before .before .before .before .before .before .before .before .args .owners .now) (c .before .before .before .before .before .before .before .before .before .before .before .before .before .before .before .before .before .args .heads .now) (c .before .before .before .before .before .before .before .before .before .before .before .before .before .before .before .before .before .args .marks .now) (c .before .before .before .before .before .before .before .before .before .before .before .before .before .before .before .before .before .args .flags .now) (c .before .before .before .before .before .before .before .before .before .before .before .before .before .before .before .before .before .args .held) (c .before .before .before .before .before .before .before .before .before .before .before .before .before .before .before .before .before .pre) _ _ (c .before .before .before .before .before .before .before .before .before .before .before .before .end-named .ensures) (c .before .before .before .before .before .before .before .before .before .before .inner .given .1) (c .before .before .before .before .before .wire-in .ensures) (c .before .before .before .wide .ensures) (c .before .before .cut .ensures .0) (c .before .before .cut .ensures .1) (c .before .without-link .ensures) (c .with-links .ensures)
+
+returns-2 : tie.Need-returns-2
+returns-2 c = cut-refused-in (c .before .before .before .before .before .before .before .before .args .nodes .now) (c .before .before .before .before .before .before .before .before .args .links .now) (c .before .before .before .before .before .before .before .before .args .owners .now) (c .before .before .before .before .before .before .before .before .args .heads .now) (c .before .before .before .before .before .before .before .before .args .marks .now) (c .before .before .before .before .before .before .before .before .args .flags .now) (c .before .before .before .before .before .before .before .before .args .held) (c .before .before .before .before .before .before .before .before .pre) _ _ (c .before .before .before .end-named .ensures) (c .before .refusal .given .1)
+
+pub cut-sub-in-spec : {M : Type 1} → statement M
+cut-sub-in-spec =
+    tie.close
+    (tie.spec
+    end-named-requires
+    enum-known-inner
+    wire-in-requires
+    wide-requires
+    cut-requires
+    without-link-requires
+    with-links-requires
+    enum-known-refusal
+    returns
+    returns-2)

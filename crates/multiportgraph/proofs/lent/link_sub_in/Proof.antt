@@ -1,0 +1,54 @@
+-- `multiportgraph::lent::link_sub_in` meets its contract: two ends that are linked, and a refusal.
+use mathlib.Core.Path.{refl}
+use native.Mathlib.Omega.{arith}
+use borrow.Author.Needs.{needs}
+use Rattle.portgraph.specs.WfFacts.{link-count-fits}
+use Rattle.multiportgraph.specs.CallSteps.{lower-wf}
+use Rattle.multiportgraph.specs.LentSteps.{link-refused-in, link-made-in}
+use Rattle.multiportgraph.proofs.lent.link_sub_in.Statement.{statement}
+use Rattle.multiportgraph.proofs.lent.link_sub_in.Tie as tie
+
+link-named-requires : tie.Need-link-named-requires
+link-named-requires c κs = search needs
+
+enum-known-x : tie.Need-enum-known-x
+enum-known-x c = search needs
+
+read-in-requires : tie.Need-read-in-requires
+read-in-requires c κs = search needs
+
+read-in-requires-2 : tie.Need-read-in-requires-2
+read-in-requires-2 c κs = search needs
+
+link-both-requires : tie.Need-link-both-requires
+link-both-requires c κs = search needs
+
+add-with-links : tie.Need-add-with-links
+add-with-links c = omega (arith, link-count-fits _ (lower-wf _ (c .before .before .before .before .before .before .before .before .before .before .before .before .before .before .before .pre)))
+
+with-links-requires : tie.Need-with-links-requires
+with-links-requires c κs = search needs
+
+enum-known-refusal : tie.Need-enum-known-refusal
+enum-known-refusal c = search needs
+
+returns : tie.Need-returns
+returns c = link-made-in (c .before .before .before .before .before .before .before .before .before .before .before .before .before .before .before .before .args .nodes .now) (c .before .before .before .before .before .before .before .before .before .before .before .before .before .before .before .before .args .links .now) (c .before .before .before .before .before .before .before .before .before .before .before .before .before .before .before .before .args .owners .now) (c .before .before .before .before .before .before .before .before .before .before .before .before .before .before .before .before .args .heads .now) (c .before .before .before .before .before .before .before .before .before .before .before .before .before .before .before .before .args .marks .now) (c .before .before .before .before .before .before .before .before .before .before .before .before .before .before .before .before .args .flags .now) (c .before .before .before .before .before .before .before .before .before .before .before .before .before .before .before .before .args .held) (c .before .before .before .before .before .before .before .before .before .before .before .before .before .before .before .before .pre) _ _ _ _ (c .before .before .before .before .before .before .before .before .before .before .before .link-named .ensures) (c .before .before .before .before .before .before .before .before .before .x .given .1) (c .before .before .before .before .before .before .read-in .ensures) (c .before .before .before .before .read-in2 .ensures) (c .before .before .link-both .ensures) refl (c .with-links .ensures)
+
+returns-2 : tie.Need-returns-2
+returns-2 c = link-refused-in (c .before .before .before .before .before .before .before .before .args .nodes .now) (c .before .before .before .before .before .before .before .before .args .links .now) (c .before .before .before .before .before .before .before .before .args .owners .now) (c .before .before .before .before .before .before .before .before .args .heads .now) (c .before .before .before .before .before .before .before .before .args .marks .now) (c .before .before .before .before .before .before .before .before .args .flags .now) (c .before .before .before .before .before .before .before .before .args .held) (c .before .before .before .before .before .before .before .before .pre) _ _ _ _ (c .before .before .before .link-named .ensures) (c .before .refusal .given .1)
+
+pub link-sub-in-spec : {M : Type 1} → statement M
+link-sub-in-spec =
+    tie.close
+    (tie.spec
+    link-named-requires
+    enum-known-x
+    read-in-requires
+    read-in-requires-2
+    link-both-requires
+    add-with-links
+    with-links-requires
+    enum-known-refusal
+    returns
+    returns-2)

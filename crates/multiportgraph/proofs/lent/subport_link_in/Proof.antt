@@ -1,0 +1,35 @@
+-- `multiportgraph::lent::subport_link_in` meets its contract: an end, and a refusal.
+use mathlib.Core.Path.{refl}
+use borrow.Author.Needs.{needs}
+use Rattle.multiportgraph.specs.NamedLaws.{read-done}
+use Rattle.multiportgraph.proofs.lent.subport_link_in.Statement.{statement}
+use Rattle.multiportgraph.proofs.lent.subport_link_in.Tie as tie
+
+end-named-requires : tie.Need-end-named-requires
+end-named-requires c κs = search needs
+
+enum-known-inner : tie.Need-enum-known-inner
+enum-known-inner c = search needs
+
+wire-in-requires : tie.Need-wire-in-requires
+wire-in-requires c κs = search needs
+
+enum-known-refusal : tie.Need-enum-known-refusal
+enum-known-refusal c = search needs
+
+returns : tie.Need-returns
+returns c = read-done (c .before .before .before .before .before .pre) _ _ (c .before .before .before .before .end-named .ensures) (c .before .before .inner .given .1) (c .wire-in .ensures)
+
+returns-2 : tie.Need-returns-2
+returns-2 c = read-done (c .before .before .before .before .pre) _ _ (c .before .before .before .end-named .ensures) (c .before .refusal .given .1) refl
+
+pub subport-link-in-spec : {M : Type 1} → statement M
+subport-link-in-spec =
+    tie.close
+    (tie.spec
+    end-named-requires
+    enum-known-inner
+    wire-in-requires
+    enum-known-refusal
+    returns
+    returns-2)

@@ -1,0 +1,59 @@
+-- `multiportgraph::lent_copies::remove_all_in` meets its contract. Invariant: what is left to do amounts to all that was to do. Measure: the nodes that are left.
+use mathlib.Core.Path.{_≡_, _∙_}
+use Prim.Native.Nat.{_+_, _-_, _≤_}
+use native.Mathlib.Omega.{arith}
+use lib.ListN.{length, take, drop}
+use borrow.Author.Needs.{needs}
+use Rattle.multiportgraph.specs.BlockSteps.{remove-begun, remove-turn, remove-done}
+use Rattle.multiportgraph.specs.Calls.{removeAll}
+use Rattle.multiportgraph.specs.LentLaws.{sound-lone, sound-is}
+use Rattle.multiportgraph.specs.MultiLent.{multiIn, Sound}
+use Rattle.multiportgraph.proofs.lent_copies.remove_all_in.Statement.{statement}
+use Rattle.multiportgraph.proofs.lent_copies.remove_all_in.Tie as tie
+
+abbrev Inv-loop : tie.InvT-loop
+Inv-loop nodes₀ links₀ owners₀ heads₀ marks₀ flags₀ list count left₀ k₀ nodes links owners heads marks flags left k =
+    (k ≤ count) × Sound (multiIn nodes links owners heads marks flags left)
+    × (removeAll (multiIn nodes links owners heads marks flags left) (take (count - k) (drop k list)) ≡ removeAll (multiIn nodes₀ links₀ owners₀ heads₀ marks₀ flags₀ left₀) (take count list))
+
+abbrev μ-loop : tie.MeasureT-loop
+μ-loop nodes₀ links₀ owners₀ heads₀ marks₀ flags₀ list count left₀ k₀ nodes links owners heads marks flags left k = count - k
+
+loop-holds : tie.Need-loop-holds Inv-loop μ-loop
+loop-holds c = (omega arith, c .pre .0, remove-begun _ (c .args .list .now) (c .args .count))
+
+mul-remove-lone-in : tie.Need-mul-remove-lone-in Inv-loop μ-loop
+mul-remove-lone-in c = search needs
+
+element-copy-out-remove-lone-in : tie.Need-element-copy-out-remove-lone-in Inv-loop μ-loop
+element-copy-out-remove-lone-in c = search needs
+
+remove-lone-in-requires : tie.Need-remove-lone-in-requires Inv-loop μ-loop
+remove-lone-in-requires c κs = c .before .before .before .before .before .before .before .before .loop .inv .1
+
+add-k : tie.Need-add-k Inv-loop μ-loop
+add-k c = search needs
+
+loop-less : tie.Need-loop-less Inv-loop μ-loop
+loop-less c = search needs
+
+loop-again : tie.Need-loop-again Inv-loop μ-loop
+loop-again c = (omega arith, sound-is _ _ (c .remove-lone-in .ensures) (sound-lone _ _ (c .before .before .before .before .before .before .before .before .before .loop .inv .1)), remove-turn _ _ (c .before .before .before .before .before .before .before .before .before .before .args .list .now) _ _ (c .before .before .before .before .before .before .before .before .loop-test .taken) (omega (arith, c .before .before .before .before .before .before .before .before .before .before .pre .1, c .before .before .before .before .before .before .before .before .before .before .pre .2)) (c .remove-lone-in .ensures) ∙ c .before .before .before .before .before .before .before .before .before .loop .inv .2)
+
+returns : tie.Need-returns Inv-loop μ-loop
+returns c = remove-done _ _ (c .before .loop .k) (c .before .before .args .count) (c .loop-test .left) ∙ c .before .loop .inv .2
+
+pub remove-all-in-spec : {M : Type 1} → statement M
+remove-all-in-spec =
+    tie.close
+    (tie.spec
+    Inv-loop
+    μ-loop
+    loop-holds
+    mul-remove-lone-in
+    element-copy-out-remove-lone-in
+    remove-lone-in-requires
+    add-k
+    loop-less
+    loop-again
+    returns)

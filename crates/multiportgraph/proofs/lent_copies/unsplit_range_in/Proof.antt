@@ -1,0 +1,63 @@
+-- `multiportgraph::lent_copies::unsplit_range_in` meets its contract. Invariant: what is left to do amounts to all that was to do. Measure: the ports that are left.
+use mathlib.Core.Path.{_≡_, _∙_}
+use Prim.Native.Nat.{_+_, _-_, _≤_}
+use native.Mathlib.Nat.{add-zero, sub-zero}
+use native.Mathlib.Omega.{arith}
+use borrow.Author.Needs.{needs}
+use Rattle.multiportgraph.specs.BlockSteps.{unsplit-turn, unsplit-done}
+use Rattle.multiportgraph.specs.LentLaws.{sound-unsplit, sound-is}
+use Rattle.multiportgraph.specs.Calls.{unsplitRange}
+use Rattle.multiportgraph.specs.MultiLent.{multiIn, Sound}
+use Rattle.multiportgraph.proofs.lent_copies.unsplit_range_in.Statement.{statement}
+use Rattle.multiportgraph.proofs.lent_copies.unsplit_range_in.Tie as tie
+
+abbrev Inv-loop : tie.InvT-loop
+Inv-loop nodes₀ links₀ owners₀ heads₀ marks₀ flags₀ first count left₀ k₀ nodes links owners heads marks flags left k =
+    (k ≤ count) × Sound (multiIn nodes links owners heads marks flags left)
+    × (unsplitRange (multiIn nodes links owners heads marks flags left) (first + k) (count - k) ≡ unsplitRange (multiIn nodes₀ links₀ owners₀ heads₀ marks₀ flags₀ left₀) first count)
+
+abbrev μ-loop : tie.MeasureT-loop
+μ-loop nodes₀ links₀ owners₀ heads₀ marks₀ flags₀ first count left₀ k₀ nodes links owners heads marks flags left k = count - k
+
+loop-holds : tie.Need-loop-holds Inv-loop μ-loop
+loop-holds c = (omega arith, c .pre .0, simp (add-zero, sub-zero))
+
+wide-requires : tie.Need-wide-requires Inv-loop μ-loop
+wide-requires c κs = search needs
+
+add-unsplit-in : tie.Need-add-unsplit-in Inv-loop μ-loop
+add-unsplit-in c = search needs
+
+cast-unsplit-in : tie.Need-cast-unsplit-in Inv-loop μ-loop
+cast-unsplit-in c = search needs
+
+unsplit-in-requires : tie.Need-unsplit-in-requires Inv-loop μ-loop
+unsplit-in-requires c κs = c .before .before .before .before .before .before .before .before .loop .inv .1
+
+add-k : tie.Need-add-k Inv-loop μ-loop
+add-k c = search needs
+
+loop-less : tie.Need-loop-less Inv-loop μ-loop
+loop-less c = search needs
+
+loop-again : tie.Need-loop-again Inv-loop μ-loop
+loop-again c = (omega arith, sound-is _ _ (c .unsplit-in .ensures) (sound-unsplit _ _ (c .before .before .before .before .before .before .before .before .before .loop .inv .1)), unsplit-turn _ _ _ _ _ _ (c .before .before .before .before .before .before .before .before .loop-test .taken) (c .before .wide .ensures) (c .unsplit-in .ensures) ∙ c .before .before .before .before .before .before .before .before .before .loop .inv .2)
+
+returns : tie.Need-returns Inv-loop μ-loop
+returns c = unsplit-done _ _ _ _ (c .loop-test .left) ∙ c .before .loop .inv .2
+
+pub unsplit-range-in-spec : {M : Type 1} → statement M
+unsplit-range-in-spec =
+    tie.close
+    (tie.spec
+    Inv-loop
+    μ-loop
+    loop-holds
+    wide-requires
+    add-unsplit-in
+    cast-unsplit-in
+    unsplit-in-requires
+    add-k
+    loop-less
+    loop-again
+    returns)

@@ -1,0 +1,122 @@
+-- The graph's tables as a run lends them, over the lower crate's: each an array of its own, with the numbers that stand outside.
+-- What is read off them, and what the steps of a call over them presume and tell.
+use mathlib.Core.Path.{_≡_}
+use mathlib.Core.List.{List}
+use mathlib.Core.Bool.{Bool, true, false}
+use Prim.Native.Nat.{ℕ, _+_, _-_, _*_, _≤_}
+use lib.Dec.{eqb, leb, ltb}
+use lib.ListN.{length}
+use Rattle.portgraph.specs.Limits.{nodeSlots, portSlots, nodePorts}
+use Rattle.portgraph.specs.Entries.{pick, portEntry}
+use Rattle.portgraph.specs.Tables.{at}
+use Rattle.portgraph.specs.Lookups.{countIn, metaAt}
+use Rattle.portgraph.specs.Model.{Wf}
+use Rattle.portgraph.specs.Resize.{BlockFits}
+use Rattle.portgraph.specs.Lent.{metaIn, portIndexIn, graphIn, noCounts, countLinks}
+use Rattle.portgraph.specs.declared.direction.Direction.{Direction}
+use Rattle.portgraph.specs.declared.direction.Direction.the-variants.{Incoming, Outgoing}
+use Rattle.portgraph.specs.declared.node_entry.NodeMeta.{NodeMeta}
+use Rattle.portgraph.specs.declared.node_entry.MaybeNodeMeta.{MaybeNodeMeta}
+use Rattle.portgraph.specs.declared.node_entry.MaybeNodeMeta.the-variants as maybe-meta
+use Rattle.portgraph.specs.declared.port_entry.PortEntry.{PortEntry}
+use Rattle.portgraph.specs.declared.port_entry.PortEntry.the-variants as port-variants
+use Rattle.portgraph.specs.declared.lent.Counts.{Counts}
+use Rattle.multiportgraph.specs.Reading.{portNumber, isHidden}
+use Rattle.multiportgraph.specs.Calls as calls
+use Rattle.multiportgraph.specs.Calls.{prepare, linkRefused, linkBoth}
+use Rattle.multiportgraph.specs.Inner.{MultiWf}
+use Rattle.multiportgraph.specs.Forms.{flagAt}
+use Rattle.multiportgraph.specs.Reads.{farIn, ownerIn}
+use Rattle.multiportgraph.specs.declared.multiportgraph.MultiPortGraph.{MultiPortGraph}
+use Rattle.multiportgraph.specs.declared.multiportgraph.Refusal.the-variants.{NoRoom}
+use Rattle.multiportgraph.specs.declared.multiportgraph.LinkAnswer.{LinkAnswer}
+use Rattle.multiportgraph.specs.declared.multiportgraph.PortsLinked.{PortsLinked}
+use Rattle.multiportgraph.specs.declared.prepare.Prepared.{Prepared}
+use Rattle.multiportgraph.specs.declared.lent.Held.{Held}
+use Rattle.multiportgraph.specs.declared.lent_prepare.PreparedIn.{PreparedIn}
+
+-- the graph that lent tables and numbers are
+abbrev pub multiIn : List ℕ → List ℕ → List ℕ → List ℕ → List Bool → List Bool → Held → MultiPortGraph
+multiIn nodes links owners heads marks flags held =
+    record {
+      graph = graphIn nodes links owners heads (held .counts);
+      multiport = marks;
+      «copy_node» = flags;
+      «copy_node_count» = held .copies;
+      «subport_count» = held .subs;
+    }
+
+-- the numbers of the empty graph
+abbrev pub noHeld : Held
+noHeld = record { counts = noCounts; copies = 0; subs = 0 }
+
+-- the numbers with other counts of the single-link graph
+abbrev pub heldCounts : Held → Counts → Held
+heldCounts held counts = record { counts = counts; copies = held .copies; subs = held .subs }
+
+-- the numbers with another number of links
+abbrev pub heldLinks : Held → ℕ → Held
+heldLinks held links = heldCounts held (countLinks (held .counts) links)
+
+-- What is read off the tables.
+
+-- the port of a node at a side and position; 0 where there is none
+unfoldable pub portOfIn : List ℕ → ℕ → Direction → ℕ → ℕ
+portOfIn nodes n d i = portNumber (portIndexIn nodes n (record { direction = d; index = i }))
+
+-- the side of a hidden node that has its copy port
+unfoldable pub copySideIn : List ℕ → List Bool → ℕ → Direction
+copySideIn nodes marks c =
+    pick (eqb (countIn (metaIn nodes c) Incoming) 1)
+    (pick (eqb (countIn (metaIn nodes c) Outgoing) 1) (pick (flagAt marks portSlots (portOfIn nodes c Incoming 0)) Incoming Outgoing) Incoming)
+    Outgoing
+
+abbrev pub farEntry : List ℕ → ℕ → PortEntry → ℕ
+farEntry links p port-variants.Free = 0
+farEntry links p (port-variants.Port k) = farIn links p
+
+-- the port that a port is linked with; 0 for none
+unfoldable pub farPortIn : List ℕ → List ℕ → ℕ → ℕ
+farPortIn links owners p = farEntry links p (portEntry (at owners p))
+
+-- the hidden node of a split port
+unfoldable pub copyNodeIn : List ℕ → List ℕ → ℕ → ℕ
+copyNodeIn links owners p = ownerIn owners (farPortIn links owners p)
+
+-- What the steps presume.
+
+-- the single-link graph came from its calls, and the other tables have their length
+pub record Sound (m : MultiPortGraph) : Type 0 where
+  pub wf : Wf (m .graph)
+  pub marksLong : length (m .multiport) ≡ portSlots
+  pub flagsLong : length (m .«copy_node») ≡ nodeSlots
+
+abbrev pub FitsIf : MaybeNodeMeta → Type 0
+FitsIf maybe-meta.None = Unit {0}
+FitsIf (maybe-meta.Some k) = BlockFits k
+
+-- a block that is there, with counts that are few enough
+pub record Resizes (m : MultiPortGraph) (n : ℕ) (k : NodeMeta) (incoming outgoing : ℕ) : Type 0 where
+  pub wf : MultiWf m
+  pub few : incoming + outgoing ≤ nodePorts
+  pub meta : maybe-meta.Some k ≡ metaAt (m .graph) n
+  pub seen : isHidden m n ≡ false
+
+-- What the steps tell.
+
+-- a prepared end with its graph
+abbrev pub preparedIn : MultiPortGraph → PreparedIn → Prepared
+preparedIn m r = record { graph = m; port = r .port; offset = r .offset; ready = r .ready }
+
+-- room for both ends of a link, whichever they are: two nodes, and two blocks that hold all subports
+unfoldable pub plenty : Held → Bool
+plenty held =
+    pick (leb (held .counts .«node_len») (nodeSlots - 2))
+    (pick (leb (held .counts .«port_len») portSlots)
+    (pick (leb (held .subs) portSlots) (leb (held .counts .«port_len» + 4 * held .subs + 12) portSlots) false) false)
+    false
+
+-- a link that was tried: done or refused as it should; or short of room for the second end
+pub record Tried (m : MultiPortGraph) (a : ℕ) (d : Direction) (b : ℕ) (e : Direction) (m′ : MultiPortGraph) (answer : LinkAnswer) (done : Bool) : Type 0 where
+  pub whole : done ≡ true → _≡_ {A = PortsLinked} (record { graph = m′; answer = answer }) (linkBoth m a d b e (prepare m a d))
+  pub short : done ≡ false → linkBoth m a d b e (prepare m a d) ≡ linkRefused m NoRoom

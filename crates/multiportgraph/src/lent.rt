@@ -1,0 +1,239 @@
+// The calls over lent tables, for a run that copies none of them: adding, linking and cutting, and what a subport is linked with.
+use crate::calls::without_link;
+use crate::copies::less;
+use crate::marks::wide;
+use crate::multiportgraph::AddAnswer;
+use crate::multiportgraph::CutAnswer;
+use crate::multiportgraph::LinkAnswer;
+use crate::multiportgraph::Refusal;
+use crate::multiportgraph::SubportIndex;
+use crate::named::NamedEnd;
+use crate::named::NamedLink;
+use crate::named::end_named;
+use crate::named::link_named;
+use crate::named::read_in;
+use crate::reads::wire_in;
+use portgraph::index::FREE_LISTS;
+use portgraph::index::NODE_SLOTS;
+use portgraph::index::PORT_SLOTS;
+use portgraph::lent::Counts;
+use portgraph::lent::NODE_WORDS;
+use portgraph::lent_slots::add_node_in;
+use portgraph::slots::AddAnswer as LowerAdd;
+use portgraph::tables::cut;
+use portgraph::tables::link_both;
+ghost use mathlib.Core.Path.{_≡_};
+ghost use Prim.Native.Nat.{_-_};
+ghost use Rattle.multiportgraph.specs.Calls.{addedAs, addBlock, cutSub, linkSub, subportLink};
+ghost use Rattle.multiportgraph.specs.Inner.{MultiWf};
+ghost use Rattle.multiportgraph.specs.MultiLent.{multiIn, noHeld, heldCounts, heldLinks};
+
+// What a graph has besides its tables.
+pub struct Held {
+    pub(crate) counts: Counts,
+    // The number of hidden nodes, and of subports in them.
+    pub(crate) copies: usize,
+    pub(crate) subs: usize,
+}
+
+pub struct AddedIn {
+    pub held: Held,
+    pub answer: AddAnswer,
+}
+
+pub struct LinkedIn {
+    pub held: Held,
+    pub answer: LinkAnswer,
+}
+
+pub struct CutIn {
+    pub held: Held,
+    pub answer: CutAnswer,
+}
+
+// The numbers of the empty graph.
+pub fn no_held() -> Held
+    ensures { λ r. ⌜ r ≡ noHeld ⌝ }
+{
+    Held {
+        counts: Counts {
+            node_free: 0,
+            node_len: 0,
+            port_len: 0,
+            node_count: 0,
+            port_count: 0,
+            link_count: 0,
+        },
+        copies: 0,
+        subs: 0,
+    }
+}
+
+// The number of blocks.
+pub fn node_count_in(held: Held) -> usize
+    ensures { λ r. ⌜ r ≡ held .counts .«node_count» - held .copies ⌝ }
+{
+    less(held.counts.node_count, held.copies)
+}
+
+// The number of ports of blocks.
+pub fn port_count_in(held: Held) -> usize
+    ensures { λ r. ⌜ r ≡ held .counts .«port_count» - held .subs - held .copies ⌝ }
+{
+    less(less(held.counts.port_count, held.subs), held.copies)
+}
+
+// The number of wires.
+pub fn link_count_in(held: Held) -> usize
+    ensures { λ r. ⌜ r ≡ held .counts .«link_count» - held .copies ⌝ }
+{
+    less(held.counts.link_count, held.copies)
+}
+
+pub(crate) fn with_counts(held: Held, counts: Counts) -> Held
+    ensures { λ r. ⌜ r ≡ heldCounts held counts ⌝ }
+{
+    Held {
+        counts: counts,
+        copies: held.copies,
+        subs: held.subs,
+    }
+}
+
+pub(crate) fn with_links(held: Held, links: usize) -> Held
+    ensures { λ r. ⌜ r ≡ heldLinks held links ⌝ }
+{
+    let counts = held.counts;
+    Held {
+        counts: Counts {
+            node_free: counts.node_free,
+            node_len: counts.node_len,
+            port_len: counts.port_len,
+            node_count: counts.node_count,
+            port_count: counts.port_count,
+            link_count: links,
+        },
+        copies: held.copies,
+        subs: held.subs,
+    }
+}
+
+fn added_as(answer: LowerAdd) -> AddAnswer
+    ensures { λ r. ⌜ r ≡ addedAs answer ⌝ }
+{
+    match answer {
+        LowerAdd::Added(node, first) => AddAnswer::Added(node, first),
+        LowerAdd::TooManyPorts => AddAnswer::Refused(Refusal::TooManyPorts),
+        LowerAdd::NoRoom => AddAnswer::Refused(Refusal::NoRoom),
+    }
+}
+
+// MultiPortGraph::add_node over lent tables.
+pub fn add_in(
+    nodes: &mut [u32; NODE_WORDS],
+    links: &mut [u32; PORT_SLOTS],
+    owners: &mut [u32; PORT_SLOTS],
+    heads: &mut [u32; FREE_LISTS],
+    marks: &mut [bool; PORT_SLOTS],
+    flags: &mut [bool; NODE_SLOTS],
+    held: Held,
+    incoming: usize,
+    outgoing: usize,
+) -> AddedIn
+    requires { ⌜ MultiWf (multiIn (now nodes) (now links) (now owners) (now heads) (now marks) (now flags) held) ⌝ }
+    ensures { λ r. ⌜ (multiIn (now (nodes .exit)) (now (links .exit)) (now (owners .exit)) (now (heads .exit)) (now (marks .exit)) (now (flags .exit)) (r .held) ≡ addBlock (multiIn (now (nodes .entry)) (now (links .entry)) (now (owners .entry)) (now (heads .entry)) (now (marks .entry)) (now (flags .entry)) held) incoming outgoing .graph)
+        × (r .answer ≡ addBlock (multiIn (now (nodes .entry)) (now (links .entry)) (now (owners .entry)) (now (heads .entry)) (now (marks .entry)) (now (flags .entry)) held) incoming outgoing .answer) ⌝ }
+{
+    let counts = held.counts;
+    let added = add_node_in(nodes, links, owners, heads, counts, incoming, outgoing);
+    let after = added.counts;
+    let answer = added.answer;
+    AddedIn {
+        held: with_counts(held, after),
+        answer: added_as(answer),
+    }
+}
+
+// MultiPortGraph::subport_link over lent tables.
+pub fn subport_link_in<'a>(
+    nodes: &'a [u32; NODE_WORDS],
+    links: &'a [u32; PORT_SLOTS],
+    owners: &'a [u32; PORT_SLOTS],
+    heads: &'a [u32; FREE_LISTS],
+    marks: &'a [bool; PORT_SLOTS],
+    flags: &'a [bool; NODE_SLOTS],
+    held: Held,
+    subport: SubportIndex,
+) -> CutAnswer
+    requires { ⌜ MultiWf (multiIn (now nodes) (now links) (now owners) (now heads) (now marks) (now flags) held) ⌝ }
+    ensures { λ r. ⌜ r ≡ subportLink (multiIn (now (nodes .entry)) (now (links .entry)) (now (owners .entry)) (now (heads .entry)) (now (marks .entry)) (now (flags .entry)) held) (subport .port .0) (subport .«subport_offset») ⌝ }
+{
+    match end_named(marks, links, owners, flags, subport) {
+        NamedEnd::At(inner) => wire_in(links, owners, flags, inner),
+        NamedEnd::Refused(refusal) => CutAnswer::Refused(refusal),
+    }
+}
+
+// MultiPortGraph::unlink_subport over lent tables.
+pub fn cut_sub_in(
+    nodes: &mut [u32; NODE_WORDS],
+    links: &mut [u32; PORT_SLOTS],
+    owners: &mut [u32; PORT_SLOTS],
+    heads: &mut [u32; FREE_LISTS],
+    marks: &mut [bool; PORT_SLOTS],
+    flags: &mut [bool; NODE_SLOTS],
+    held: Held,
+    subport: SubportIndex,
+) -> CutIn
+    requires { ⌜ MultiWf (multiIn (now nodes) (now links) (now owners) (now heads) (now marks) (now flags) held) ⌝ }
+    ensures { λ r. ⌜ (multiIn (now (nodes .exit)) (now (links .exit)) (now (owners .exit)) (now (heads .exit)) (now (marks .exit)) (now (flags .exit)) (r .held) ≡ cutSub (multiIn (now (nodes .entry)) (now (links .entry)) (now (owners .entry)) (now (heads .entry)) (now (marks .entry)) (now (flags .entry)) held) (subport .port .0) (subport .«subport_offset») .graph)
+        × (r .answer ≡ cutSub (multiIn (now (nodes .entry)) (now (links .entry)) (now (owners .entry)) (now (heads .entry)) (now (marks .entry)) (now (flags .entry)) held) (subport .port .0) (subport .«subport_offset») .answer) ⌝ }
+{
+    match end_named(marks, links, owners, flags, subport) {
+        NamedEnd::At(inner) => {
+            let answer = wire_in(links, owners, flags, inner);
+            let far = cut(links, wide(inner));
+            CutIn {
+                held: with_links(held, without_link(held.counts.link_count, far)),
+                answer: answer,
+            }
+        }
+        NamedEnd::Refused(refusal) => CutIn {
+            held: held,
+            answer: CutAnswer::Refused(refusal),
+        },
+    }
+}
+
+// MultiPortGraph::link_subports over lent tables.
+pub fn link_sub_in(
+    nodes: &mut [u32; NODE_WORDS],
+    links: &mut [u32; PORT_SLOTS],
+    owners: &mut [u32; PORT_SLOTS],
+    heads: &mut [u32; FREE_LISTS],
+    marks: &mut [bool; PORT_SLOTS],
+    flags: &mut [bool; NODE_SLOTS],
+    held: Held,
+    from: SubportIndex,
+    to: SubportIndex,
+) -> LinkedIn
+    requires { ⌜ MultiWf (multiIn (now nodes) (now links) (now owners) (now heads) (now marks) (now flags) held) ⌝ }
+    ensures { λ r. ⌜ (multiIn (now (nodes .exit)) (now (links .exit)) (now (owners .exit)) (now (heads .exit)) (now (marks .exit)) (now (flags .exit)) (r .held) ≡ linkSub (multiIn (now (nodes .entry)) (now (links .entry)) (now (owners .entry)) (now (heads .entry)) (now (marks .entry)) (now (flags .entry)) held) (from .port .0) (from .«subport_offset») (to .port .0) (to .«subport_offset») .graph)
+        × (r .answer ≡ linkSub (multiIn (now (nodes .entry)) (now (links .entry)) (now (owners .entry)) (now (heads .entry)) (now (marks .entry)) (now (flags .entry)) held) (from .port .0) (from .«subport_offset») (to .port .0) (to .«subport_offset») .answer) ⌝ }
+{
+    match link_named(marks, links, owners, flags, from, to) {
+        NamedLink::Ends(x, y) => {
+            let first = read_in(marks, from);
+            let second = read_in(marks, to);
+            link_both(links, x, y);
+            LinkedIn {
+                held: with_links(held, held.counts.link_count + 1),
+                answer: LinkAnswer::Linked(first, second),
+            }
+        }
+        NamedLink::Refused(refusal) => LinkedIn {
+            held: held,
+            answer: LinkAnswer::Refused(refusal),
+        },
+    }
+}

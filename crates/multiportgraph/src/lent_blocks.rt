@@ -1,0 +1,321 @@
+// Blocks over lent tables: every wire at a port is cut, a block goes, and its counts change.
+use crate::calls::without_link;
+use crate::ends::SeenPort;
+use crate::lent::CutIn;
+use crate::lent::Held;
+use crate::lent::with_counts;
+use crate::lent::with_links;
+use crate::lent_copies::copy_node_in;
+use crate::lent_copies::remove_all_in;
+use crate::lent_copies::unsplit_in;
+use crate::lent_copies::unsplit_range_in;
+use crate::marks::flagged;
+use crate::marks::lay_marks;
+use crate::marks::marked;
+use crate::marks::wide;
+use crate::marks::wide16;
+use crate::multiportgraph::CutAnswer;
+use crate::multiportgraph::Refusal;
+use crate::multiportgraph::RemoveAnswer;
+use crate::multiportgraph::SetAnswer;
+use crate::multiportgraph::SubportIndex;
+use crate::reads::seen_in;
+use portgraph::index::FREE_LISTS;
+use portgraph::index::NODE_PORTS;
+use portgraph::index::NODE_SLOTS;
+use portgraph::index::NodeIndex;
+use portgraph::index::PORT_SLOTS;
+use portgraph::index::PortIndex;
+use portgraph::lent::NODE_WORDS;
+use portgraph::lent::meta_in;
+use portgraph::lent_resize::set_num_ports_in;
+use portgraph::lent_slots::remove_node_in;
+use portgraph::node_entry::MaybeNodeMeta;
+use portgraph::node_entry::NodeMeta;
+use portgraph::resize::SetAnswer as LowerSet;
+use portgraph::tables::cut;
+ghost use mathlib.Core.Path.{_≡_};
+ghost use Prim.Native.Nat.{_+_, _≤_, min};
+ghost use lib.ListN.{length};
+ghost use lib.Seq.{sets};
+ghost use Rattle.portgraph.specs.Limits.{portSlots, nodePorts};
+ghost use Rattle.portgraph.specs.Resize.{BlockFits};
+ghost use Rattle.multiportgraph.specs.Calls.{cutPort, removeBlock, marksMoved, copiesIn, copiesDropped, setAs, setCounts, movesTold};
+ghost use Rattle.multiportgraph.specs.Inner.{MultiWf};
+ghost use Rattle.multiportgraph.specs.MultiLent.{multiIn, FitsIf, Sound, Resizes};
+
+pub struct RemovedIn {
+    pub held: Held,
+    pub answer: RemoveAnswer,
+}
+
+pub struct SetIn {
+    pub held: Held,
+    pub answer: SetAnswer,
+}
+
+// MultiPortGraph::unlink_port over lent tables.
+pub fn cut_port_in(
+    nodes: &mut [u32; NODE_WORDS],
+    links: &mut [u32; PORT_SLOTS],
+    owners: &mut [u32; PORT_SLOTS],
+    heads: &mut [u32; FREE_LISTS],
+    marks: &mut [bool; PORT_SLOTS],
+    flags: &mut [bool; NODE_SLOTS],
+    held: Held,
+    port: PortIndex,
+) -> CutIn
+    requires { ⌜ MultiWf (multiIn (now nodes) (now links) (now owners) (now heads) (now marks) (now flags) held) ⌝ }
+    ensures { λ r. ⌜ (multiIn (now (nodes .exit)) (now (links .exit)) (now (owners .exit)) (now (heads .exit)) (now (marks .exit)) (now (flags .exit)) (r .held) ≡ cutPort (multiIn (now (nodes .entry)) (now (links .entry)) (now (owners .entry)) (now (heads .entry)) (now (marks .entry)) (now (flags .entry)) held) (port .0) .graph)
+        × (r .answer ≡ cutPort (multiIn (now (nodes .entry)) (now (links .entry)) (now (owners .entry)) (now (heads .entry)) (now (marks .entry)) (now (flags .entry)) held) (port .0) .answer) ⌝ }
+{
+    match seen_in(owners, flags, port.0) {
+        SeenPort::Dead => CutIn {
+            held: held,
+            answer: CutAnswer::Refused(Refusal::UnknownPort(port)),
+        },
+        SeenPort::Hidden => CutIn {
+            held: held,
+            answer: CutAnswer::Refused(Refusal::HiddenPort(port)),
+        },
+        SeenPort::Visible(_, _) => {
+            if marked(marks, wide(port.0)) {
+                let after = unsplit_in(nodes, links, owners, heads, marks, flags, held, port.0);
+                return CutIn {
+                    held: after,
+                    answer: CutAnswer::Found(SubportIndex {
+                        port: port,
+                        subport_offset: 0,
+                    }),
+                };
+            }
+            let far = cut(links, wide(port.0));
+            let left = with_links(held, without_link(held.counts.link_count, far));
+            if far == 0 {
+                return CutIn {
+                    held: left,
+                    answer: CutAnswer::Nothing,
+                };
+            }
+            CutIn {
+                held: left,
+                answer: CutAnswer::Found(SubportIndex {
+                    port: PortIndex(far - 1),
+                    subport_offset: 0,
+                }),
+            }
+        }
+    }
+}
+
+// MultiPortGraph::remove_node over lent tables.
+pub fn remove_in(
+    nodes: &mut [u32; NODE_WORDS],
+    links: &mut [u32; PORT_SLOTS],
+    owners: &mut [u32; PORT_SLOTS],
+    heads: &mut [u32; FREE_LISTS],
+    marks: &mut [bool; PORT_SLOTS],
+    flags: &mut [bool; NODE_SLOTS],
+    held: Held,
+    node: NodeIndex,
+) -> RemovedIn
+    requires { ⌜ MultiWf (multiIn (now nodes) (now links) (now owners) (now heads) (now marks) (now flags) held) ⌝ }
+    ensures { λ r. ⌜ (multiIn (now (nodes .exit)) (now (links .exit)) (now (owners .exit)) (now (heads .exit)) (now (marks .exit)) (now (flags .exit)) (r .held) ≡ removeBlock (multiIn (now (nodes .entry)) (now (links .entry)) (now (owners .entry)) (now (heads .entry)) (now (marks .entry)) (now (flags .entry)) held) (node .0) .graph)
+        × (r .answer ≡ removeBlock (multiIn (now (nodes .entry)) (now (links .entry)) (now (owners .entry)) (now (heads .entry)) (now (marks .entry)) (now (flags .entry)) held) (node .0) .answer) ⌝ }
+{
+    let MaybeNodeMeta::Some(meta) = meta_in(nodes, node.0) else {
+        return RemovedIn {
+            held: held,
+            answer: RemoveAnswer::Refused(Refusal::UnknownNode),
+        };
+    };
+    if flagged(flags, wide(node.0)) {
+        return RemovedIn {
+            held: held,
+            answer: RemoveAnswer::Refused(Refusal::HiddenNode),
+        };
+    }
+    let bare = unsplit_range_in(nodes, links, owners, heads, marks, flags, held, meta.first_port.0, meta.port_count());
+    let counts = bare.counts;
+    let removed = remove_node_in(nodes, links, owners, heads, counts, node);
+    let after = removed.counts;
+    RemovedIn {
+        held: with_counts(bare, after),
+        answer: RemoveAnswer::Removed,
+    }
+}
+
+// The marks of a node whose ports move.
+pub(crate) fn recount(marks: &mut [bool; PORT_SLOTS], before: MaybeNodeMeta, after: MaybeNodeMeta)
+    requires { ⌜ FitsIf before × FitsIf after ⌝ }
+    ensures { λ _. ⌜ now (marks .exit) ≡ marksMoved (now (marks .entry)) before after ⌝ }
+{
+    let MaybeNodeMeta::Some(a) = before else {
+        return;
+    };
+    let MaybeNodeMeta::Some(b) = after else {
+        return;
+    };
+    lay_marks(marks, a, b);
+}
+
+fn smaller(a: usize, b: usize) -> usize
+    ensures { λ r. ⌜ r ≡ min a b ⌝ }
+{
+    if a <= b { a } else { b }
+}
+
+// Lists the hidden nodes of `count` ports from `first` on, in order, from place `at` on; answers the place after the last.
+fn list_copies<'a>(
+    nodes: &'a [u32; NODE_WORDS],
+    links: &'a [u32; PORT_SLOTS],
+    owners: &'a [u32; PORT_SLOTS],
+    heads: &'a [u32; FREE_LISTS],
+    marks: &'a [bool; PORT_SLOTS],
+    flags: &'a [bool; NODE_SLOTS],
+    held: Held,
+    list: &mut [u32; NODE_PORTS],
+    at: usize,
+    first: usize,
+    count: usize,
+) -> usize
+    requires { ⌜ Sound (multiIn (now nodes) (now links) (now owners) (now heads) (now marks) (now flags) held) × (first + count ≤ portSlots) × (at + count ≤ nodePorts) ⌝ }
+    ensures { λ r. ⌜ (r ≡ at + length (copiesIn (multiIn (now (nodes .entry)) (now (links .entry)) (now (owners .entry)) (now (heads .entry)) (now (marks .entry)) (now (flags .entry)) held) first count)) × (now (list .exit) ≡ sets (now (list .entry)) at (copiesIn (multiIn (now (nodes .entry)) (now (links .entry)) (now (owners .entry)) (now (heads .entry)) (now (marks .entry)) (now (flags .entry)) held) first count)) ⌝ }
+{
+    let mut place = at;
+    let mut k: usize = 0;
+    while k < count {
+        let port = (first + k) as u32;
+        if marked(marks, first + k) {
+            if place < NODE_PORTS {
+                list[place] = copy_node_in(links, owners, port);
+                place += 1;
+            }
+        }
+        k += 1;
+    }
+    place
+}
+
+// Lists the hidden nodes of the ports that are dropped, in the order in which these are reported, and answers how many.
+fn list_dropped<'a>(
+    nodes: &'a [u32; NODE_WORDS],
+    links: &'a [u32; PORT_SLOTS],
+    owners: &'a [u32; PORT_SLOTS],
+    heads: &'a [u32; FREE_LISTS],
+    marks: &'a [bool; PORT_SLOTS],
+    flags: &'a [bool; NODE_SLOTS],
+    held: Held,
+    list: &mut [u32; NODE_PORTS],
+    meta: NodeMeta,
+    incoming: usize,
+    outgoing: usize,
+) -> usize
+    requires { ⌜ Sound (multiIn (now nodes) (now links) (now owners) (now heads) (now marks) (now flags) held) × BlockFits meta ⌝ }
+    ensures { λ r. ⌜ (r ≡ length (copiesDropped (multiIn (now (nodes .entry)) (now (links .entry)) (now (owners .entry)) (now (heads .entry)) (now (marks .entry)) (now (flags .entry)) held) meta incoming outgoing)) × (now (list .exit) ≡ sets (now (list .entry)) 0 (copiesDropped (multiIn (now (nodes .entry)) (now (links .entry)) (now (owners .entry)) (now (heads .entry)) (now (marks .entry)) (now (flags .entry)) held) meta incoming outgoing)) ⌝ }
+{
+    let first = wide(meta.first_port.0);
+    let old_in = wide16(meta.incoming);
+    let old_out = wide16(meta.outgoing);
+    let kept_in = smaller(old_in, incoming);
+    let kept_out = smaller(old_out, outgoing);
+    let middle = list_copies(nodes, links, owners, heads, marks, flags, held, list, 0, first + kept_in, old_in - kept_in);
+    list_copies(nodes, links, owners, heads, marks, flags, held, list, middle, first + old_in + kept_out, old_out - kept_out)
+}
+
+fn set_as(answer: LowerSet) -> SetAnswer
+    ensures { λ r. ⌜ r ≡ setAs answer ⌝ }
+{
+    match answer {
+        LowerSet::Set(events) => SetAnswer::Set(events),
+        LowerSet::TooManyPorts => SetAnswer::Refused(Refusal::TooManyPorts),
+        LowerSet::UnknownNode => SetAnswer::Refused(Refusal::UnknownNode),
+        LowerSet::MovesTooShort => SetAnswer::Refused(Refusal::MovesTooShort),
+        LowerSet::NoRoom => SetAnswer::Refused(Refusal::NoRoom),
+    }
+}
+
+// The block is there and not hidden: its counts change, and the hidden nodes of dropped ports go.
+fn resize_in(
+    nodes: &mut [u32; NODE_WORDS],
+    links: &mut [u32; PORT_SLOTS],
+    owners: &mut [u32; PORT_SLOTS],
+    heads: &mut [u32; FREE_LISTS],
+    marks: &mut [bool; PORT_SLOTS],
+    flags: &mut [bool; NODE_SLOTS],
+    held: Held,
+    node: NodeIndex,
+    meta: NodeMeta,
+    incoming: usize,
+    outgoing: usize,
+    moves: &mut [u32],
+) -> SetIn
+    requires { ⌜ Resizes (multiIn (now nodes) (now links) (now owners) (now heads) (now marks) (now flags) held) (node .0) meta incoming outgoing ⌝ }
+    ensures { λ r. ⌜ (multiIn (now (nodes .exit)) (now (links .exit)) (now (owners .exit)) (now (heads .exit)) (now (marks .exit)) (now (flags .exit)) (r .held) ≡ setCounts (multiIn (now (nodes .entry)) (now (links .entry)) (now (owners .entry)) (now (heads .entry)) (now (marks .entry)) (now (flags .entry)) held) (node .0) incoming outgoing (length (now (moves .entry))) .graph)
+        × (r .answer ≡ setCounts (multiIn (now (nodes .entry)) (now (links .entry)) (now (owners .entry)) (now (heads .entry)) (now (marks .entry)) (now (flags .entry)) held) (node .0) incoming outgoing (length (now (moves .entry))) .answer)
+        × (now (moves .exit) ≡ movesTold (multiIn (now (nodes .entry)) (now (links .entry)) (now (owners .entry)) (now (heads .entry)) (now (marks .entry)) (now (flags .entry)) held) (node .0) incoming outgoing (now (moves .entry))) ⌝ }
+{
+    let mut list = [0u32; NODE_PORTS];
+    let count = list_dropped(nodes, links, owners, heads, marks, flags, held, &mut list, meta, incoming, outgoing);
+    let counts = held.counts;
+    let sized = set_num_ports_in(nodes, links, owners, heads, counts, node, incoming, outgoing, moves);
+    let after = sized.counts;
+    let answer = sized.answer;
+    let LowerSet::Set(_) = answer else {
+        return SetIn {
+            held: with_counts(held, after),
+            answer: set_as(answer),
+        };
+    };
+    recount(marks, MaybeNodeMeta::Some(meta), meta_in(nodes, node.0));
+    SetIn {
+        held: remove_all_in(nodes, links, owners, heads, marks, flags, with_counts(held, after), &list, count),
+        answer: set_as(answer),
+    }
+}
+
+// MultiPortGraph::set_num_ports over lent tables.
+pub fn set_in(
+    nodes: &mut [u32; NODE_WORDS],
+    links: &mut [u32; PORT_SLOTS],
+    owners: &mut [u32; PORT_SLOTS],
+    heads: &mut [u32; FREE_LISTS],
+    marks: &mut [bool; PORT_SLOTS],
+    flags: &mut [bool; NODE_SLOTS],
+    held: Held,
+    node: NodeIndex,
+    incoming: usize,
+    outgoing: usize,
+    moves: &mut [u32],
+) -> SetIn
+    requires { ⌜ MultiWf (multiIn (now nodes) (now links) (now owners) (now heads) (now marks) (now flags) held) ⌝ }
+    ensures { λ r. ⌜ (multiIn (now (nodes .exit)) (now (links .exit)) (now (owners .exit)) (now (heads .exit)) (now (marks .exit)) (now (flags .exit)) (r .held) ≡ setCounts (multiIn (now (nodes .entry)) (now (links .entry)) (now (owners .entry)) (now (heads .entry)) (now (marks .entry)) (now (flags .entry)) held) (node .0) incoming outgoing (length (now (moves .entry))) .graph)
+        × (r .answer ≡ setCounts (multiIn (now (nodes .entry)) (now (links .entry)) (now (owners .entry)) (now (heads .entry)) (now (marks .entry)) (now (flags .entry)) held) (node .0) incoming outgoing (length (now (moves .entry))) .answer)
+        × (now (moves .exit) ≡ movesTold (multiIn (now (nodes .entry)) (now (links .entry)) (now (owners .entry)) (now (heads .entry)) (now (marks .entry)) (now (flags .entry)) held) (node .0) incoming outgoing (now (moves .entry))) ⌝ }
+{
+    if NODE_PORTS < incoming {
+        return SetIn {
+            held: held,
+            answer: SetAnswer::Refused(Refusal::TooManyPorts),
+        };
+    }
+    if NODE_PORTS - incoming < outgoing {
+        return SetIn {
+            held: held,
+            answer: SetAnswer::Refused(Refusal::TooManyPorts),
+        };
+    }
+    let MaybeNodeMeta::Some(meta) = meta_in(nodes, node.0) else {
+        return SetIn {
+            held: held,
+            answer: SetAnswer::Refused(Refusal::UnknownNode),
+        };
+    };
+    if flagged(flags, wide(node.0)) {
+        return SetIn {
+            held: held,
+            answer: SetAnswer::Refused(Refusal::HiddenNode),
+        };
+    }
+    resize_in(nodes, links, owners, heads, marks, flags, held, node, meta, incoming, outgoing, moves)
+}

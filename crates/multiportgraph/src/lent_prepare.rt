@@ -1,0 +1,186 @@
+// Preparing an end of a link over lent tables: by the cases of mark and link.
+use crate::calls::without_link;
+use crate::lent::Held;
+use crate::lent::with_counts;
+use crate::lent::with_links;
+use crate::marks::put_flag;
+use crate::marks::put_mark;
+use crate::marks::wide;
+use crate::named::EndNeed;
+use crate::named::need_in;
+use crate::prepare::copy_at;
+use crate::prepare::copy_in;
+use crate::prepare::copy_out;
+use crate::prepare::grown_in;
+use crate::prepare::grown_out;
+use crate::prepare::hang;
+use crate::prepare::subports_at;
+use crate::reads::far_in;
+use crate::reads::first_in;
+use crate::reads::owner_in;
+use crate::reads::subports_in;
+use portgraph::direction::Direction;
+use portgraph::index::FREE_LISTS;
+use portgraph::index::NODE_SLOTS;
+use portgraph::index::NodeIndex;
+use portgraph::index::PORT_SLOTS;
+use portgraph::index::PortIndex;
+use portgraph::lent::NODE_WORDS;
+use portgraph::lent_resize::set_num_ports_in;
+use portgraph::lent_slots::add_node_in;
+use portgraph::resize::SetAnswer as LowerSet;
+use portgraph::slots::AddAnswer as LowerAdd;
+ghost use mathlib.Core.Path.{_≡_};
+ghost use lib.ListN.{length};
+ghost use Rattle.multiportgraph.specs.Reading.{copyNode};
+ghost use Rattle.multiportgraph.specs.Calls.{split, grow, prepare, enough};
+ghost use Rattle.multiportgraph.specs.Forms.{preparedAs};
+ghost use Rattle.multiportgraph.specs.LinkSteps.{OnBlock, LinkedPort, SplitPort};
+ghost use Rattle.multiportgraph.specs.MultiLent.{multiIn, preparedIn};
+
+// A prepared end: the numbers, the inner port and its offset; or, where there is no room, the graph as it was.
+pub(crate) struct PreparedIn {
+    pub(crate) held: Held,
+    pub(crate) port: u32,
+    pub(crate) offset: u16,
+    pub(crate) ready: bool,
+}
+
+// Unsplit and linked: a hidden node with 2 subports is made, the old link moves to offset 0, and offset 1 is given.
+fn split_in(
+    nodes: &mut [u32; NODE_WORDS],
+    links: &mut [u32; PORT_SLOTS],
+    owners: &mut [u32; PORT_SLOTS],
+    heads: &mut [u32; FREE_LISTS],
+    marks: &mut [bool; PORT_SLOTS],
+    flags: &mut [bool; NODE_SLOTS],
+    held: Held,
+    port: u32,
+    direction: Direction,
+) -> PreparedIn
+    requires { ⌜ LinkedPort (multiIn (now nodes) (now links) (now owners) (now heads) (now marks) (now flags) held) port direction ⌝ }
+    ensures { λ r. ⌜ preparedIn (multiIn (now (nodes .exit)) (now (links .exit)) (now (owners .exit)) (now (heads .exit)) (now (marks .exit)) (now (flags .exit)) (r .held)) r ≡ preparedAs (multiIn (now (nodes .entry)) (now (links .entry)) (now (owners .entry)) (now (heads .entry)) (now (marks .entry)) (now (flags .entry)) held) (split (multiIn (now (nodes .entry)) (now (links .entry)) (now (owners .entry)) (now (heads .entry)) (now (marks .entry)) (now (flags .entry)) held) port direction) ⌝ }
+{
+    let counts = held.counts;
+    let added = add_node_in(
+        nodes,
+        links,
+        owners,
+        heads,
+        counts,
+        copy_in(direction),
+        copy_out(direction),
+    );
+    let after = added.counts;
+    let answer = added.answer;
+    let LowerAdd::Added(node, first) = answer else {
+        return PreparedIn {
+            held: with_counts(held, after),
+            port: 0,
+            offset: 0,
+            ready: false,
+        };
+    };
+    let copy = first.0 + copy_at(direction);
+    let old = first.0 + subports_at(direction);
+    let was = hang(links, port, copy, old);
+    put_mark(marks, wide(copy), true);
+    put_mark(marks, wide(port), true);
+    put_flag(flags, wide(node.0), true);
+    let more = Held {
+        counts: after,
+        copies: held.copies + 1,
+        subs: held.subs + 2,
+    };
+    PreparedIn {
+        held: with_links(more, without_link(after.link_count, was) + 2),
+        port: old + 1,
+        offset: 1,
+        ready: true,
+    }
+}
+
+// One more subport at the end of a split port's hidden node. The copy port's mark moves with it.
+fn grow_in(
+    nodes: &mut [u32; NODE_WORDS],
+    links: &mut [u32; PORT_SLOTS],
+    owners: &mut [u32; PORT_SLOTS],
+    heads: &mut [u32; FREE_LISTS],
+    marks: &mut [bool; PORT_SLOTS],
+    flags: &mut [bool; NODE_SLOTS],
+    held: Held,
+    port: u32,
+    direction: Direction,
+    moves: &mut [u32],
+) -> PreparedIn
+    requires { ⌜ SplitPort (multiIn (now nodes) (now links) (now owners) (now heads) (now marks) (now flags) held) port direction × (length (now moves) ≡ enough) ⌝ }
+    ensures { λ r. ⌜ preparedIn (multiIn (now (nodes .exit)) (now (links .exit)) (now (owners .exit)) (now (heads .exit)) (now (marks .exit)) (now (flags .exit)) (r .held)) r ≡ preparedAs (multiIn (now (nodes .entry)) (now (links .entry)) (now (owners .entry)) (now (heads .entry)) (now (marks .entry)) (now (flags .entry)) held) (grow (multiIn (now (nodes .entry)) (now (links .entry)) (now (owners .entry)) (now (heads .entry)) (now (marks .entry)) (now (flags .entry)) held) (copyNode (multiIn (now (nodes .entry)) (now (links .entry)) (now (owners .entry)) (now (heads .entry)) (now (marks .entry)) (now (flags .entry)) held) port) direction) ⌝ }
+{
+    let copy = far_in(links, wide(port));
+    let node = owner_in(owners, copy);
+    let count = subports_in(links, owners, port, direction);
+    let counts = held.counts;
+    let sized = set_num_ports_in(
+        nodes,
+        links,
+        owners,
+        heads,
+        counts,
+        NodeIndex(node),
+        grown_in(direction, count),
+        grown_out(direction, count),
+        moves,
+    );
+    let after = sized.counts;
+    let answer = sized.answer;
+    let LowerSet::Set(_) = answer else {
+        return PreparedIn {
+            held: with_counts(held, after),
+            port: 0,
+            offset: 0,
+            ready: false,
+        };
+    };
+    let moved = far_in(links, wide(port));
+    put_mark(marks, wide(copy), false);
+    put_mark(marks, wide(moved), true);
+    let first = first_in(links, owners, port, direction);
+    PreparedIn {
+        held: Held {
+            counts: after,
+            copies: held.copies,
+            subs: held.subs + 1,
+        },
+        port: (first + count) as u32,
+        offset: count as u16,
+        ready: true,
+    }
+}
+
+// The end that a link of this port takes.
+pub(crate) fn prepare_in(
+    nodes: &mut [u32; NODE_WORDS],
+    links: &mut [u32; PORT_SLOTS],
+    owners: &mut [u32; PORT_SLOTS],
+    heads: &mut [u32; FREE_LISTS],
+    marks: &mut [bool; PORT_SLOTS],
+    flags: &mut [bool; NODE_SLOTS],
+    held: Held,
+    port: u32,
+    direction: Direction,
+    moves: &mut [u32],
+) -> PreparedIn
+    requires { ⌜ OnBlock (multiIn (now nodes) (now links) (now owners) (now heads) (now marks) (now flags) held) port direction × (length (now moves) ≡ enough) ⌝ }
+    ensures { λ r. ⌜ preparedIn (multiIn (now (nodes .exit)) (now (links .exit)) (now (owners .exit)) (now (heads .exit)) (now (marks .exit)) (now (flags .exit)) (r .held)) r ≡ preparedAs (multiIn (now (nodes .entry)) (now (links .entry)) (now (owners .entry)) (now (heads .entry)) (now (marks .entry)) (now (flags .entry)) held) (prepare (multiIn (now (nodes .entry)) (now (links .entry)) (now (owners .entry)) (now (heads .entry)) (now (marks .entry)) (now (flags .entry)) held) port direction) ⌝ }
+{
+    match need_in(marks, links, owners, port, direction) {
+        EndNeed::Ready(x, o) => PreparedIn {
+            held: held,
+            port: x,
+            offset: o,
+            ready: true,
+        },
+        EndNeed::Grow => grow_in(nodes, links, owners, heads, marks, flags, held, port, direction, moves),
+        EndNeed::Split => split_in(nodes, links, owners, heads, marks, flags, held, port, direction),
+    }
+}

@@ -1,0 +1,48 @@
+-- `portgraph::lent::put_slot` meets its contract: the numbers of a free entry, and of a node.
+use native.Mathlib.Omega.{arith}
+use borrow.Author.Needs.{needs}
+use Rattle.portgraph.specs.Lent.{slotsIn}
+use Rattle.portgraph.specs.LentSteps.{put-free, put-node}
+use Rattle.portgraph.proofs.lent.put_slot.Statement.{statement}
+use Rattle.portgraph.proofs.lent.put_slot.Tie as tie
+
+enum-known-entry : tie.Need-enum-known-entry
+enum-known-entry c = search needs
+
+put-words-requires : tie.Need-put-words-requires
+put-words-requires c κs = search needs
+
+enum-known-entry-2 : tie.Need-enum-known-entry-2
+enum-known-entry-2 c = search needs
+
+cast-put-words : tie.Need-cast-put-words
+cast-put-words c = search needs
+
+cast-put-words-2 : tie.Need-cast-put-words-2
+cast-put-words-2 c = search needs
+
+cast-put-words-3 : tie.Need-cast-put-words-3
+cast-put-words-3 c = search needs
+
+put-words-requires-2 : tie.Need-put-words-requires-2
+put-words-requires-2 c κs = search needs
+
+returns : tie.Need-returns
+returns c = put-free (slotsIn (c .before .before .before .before .before .args .nodes .now)) _ (c .before .before .before .before .before .args .n) (c .before .before .before .before .before .args .slot) (c .before .before .before .entry .given .0 .0) (c .before .before .before .entry .given .1) (c .put-words .ensures)
+
+returns-2 : tie.Need-returns-2
+returns-2 c = put-node (slotsIn (c .before .before .before .before .before .before .before .before .args .nodes .now)) _ (c .before .before .before .before .before .before .before .before .args .n) (c .before .before .before .before .before .before .before .before .args .slot) (c .before .before .before .before .before .before .entry2 .given .0 .0) (c .before .before .before .before .before .before .entry2 .given .1) (omega arith) (omega arith) (omega arith) (c .put-words2 .ensures)
+
+pub put-slot-spec : {M : Type 1} → statement M
+put-slot-spec =
+    tie.close
+    (tie.spec
+    enum-known-entry
+    put-words-requires
+    enum-known-entry-2
+    cast-put-words
+    cast-put-words-2
+    cast-put-words-3
+    put-words-requires-2
+    returns
+    returns-2)

@@ -1,0 +1,115 @@
+-- The graph's tables as a run lends them: each an array of its own, the nodes as numbers, and the counts beside them.
+-- A node slot is five numbers: 0, previous and next free entry, 0, 0; or 1, first port, incoming, outgoing, capacity.
+use mathlib.Core.List.{List, [], _∷_}
+use Prim.Native.Nat.{ℕ, _+_, _*_}
+use lib.Dec.{eqb, ltb}
+use lib.ListN.{getD, set}
+use Rattle.portgraph.specs.Limits.{nodeSlots, portSlots}
+use Rattle.portgraph.specs.Entries.{pick, freshSlot, freeSlotOf, nodeSlotOf, portEntry}
+use Rattle.portgraph.specs.Tables.{at}
+use Rattle.portgraph.specs.Meaning.{metaOf}
+use Rattle.portgraph.specs.Lookups.{metaOfEntry, portIn, offsetIn}
+use Rattle.portgraph.specs.declared.index.PortOffset.{PortOffset}
+use Rattle.portgraph.specs.declared.index.MaybePortIndex.{MaybePortIndex}
+use Rattle.portgraph.specs.declared.index.MaybePortIndex.the-variants as maybe-port
+use Rattle.portgraph.specs.declared.index.MaybePortOffset.{MaybePortOffset}
+use Rattle.portgraph.specs.declared.index.MaybePortOffset.the-variants as maybe-offset
+use Rattle.portgraph.specs.declared.node_entry.NodeSlot.{NodeSlot}
+use Rattle.portgraph.specs.declared.node_entry.MaybeNodeMeta.{MaybeNodeMeta}
+use Rattle.portgraph.specs.declared.port_entry.PortEntry.{PortEntry}
+use Rattle.portgraph.specs.declared.port_entry.PortEntry.the-variants as port-variants
+use Rattle.portgraph.specs.declared.portgraph.PortGraph.{PortGraph}
+use Rattle.portgraph.specs.declared.lent.Counts.{Counts}
+
+-- the numbers of all node slots
+abbrev pub nodeWords : ℕ
+nodeWords = 5 * nodeSlots
+
+-- a number as a count of ports; 0 for one that is too large
+unfoldable pub narrow : ℕ → ℕ
+narrow x = pick (ltb x 65536) x 0
+
+-- five numbers, read as a slot
+unfoldable pub slotOfWords : ℕ → ℕ → ℕ → ℕ → ℕ → NodeSlot
+slotOfWords kind a b c d = pick (eqb kind 0) (freeSlotOf a b) (nodeSlotOf (metaOf a (narrow b) (narrow c) (narrow d)))
+
+-- the node table that the numbers stand for
+unfoldable pub slotsIn : List ℕ → List NodeSlot
+slotsIn [] = []
+slotsIn (k ∷ []) = []
+slotsIn (k ∷ a ∷ []) = []
+slotsIn (k ∷ a ∷ b ∷ []) = []
+slotsIn (k ∷ a ∷ b ∷ c ∷ []) = []
+slotsIn (k ∷ a ∷ b ∷ c ∷ d ∷ words) = slotOfWords k a b c d ∷ slotsIn words
+
+-- one slot; a free one outside the table
+unfoldable pub slotIn : List ℕ → ℕ → NodeSlot
+slotIn words n =
+    pick (ltb n nodeSlots)
+    (slotOfWords (getD words (5 * n) 0) (getD words (5 * n + 1) 0) (getD words (5 * n + 2) 0) (getD words (5 * n + 3) 0) (getD words (5 * n + 4) 0))
+    freshSlot
+
+-- the node table with another slot; outside nothing changes
+unfoldable pub putSlot : List NodeSlot → ℕ → NodeSlot → List NodeSlot
+putSlot nodes n s = pick (ltb n nodeSlots) (set nodes n s) nodes
+
+-- the node with a number, if it is live
+abbrev pub metaIn : List ℕ → ℕ → MaybeNodeMeta
+metaIn words n = metaOfEntry (slotIn words n .entry)
+
+-- a port outside the tables is none
+abbrev pub portWithin : MaybePortIndex → MaybePortIndex
+portWithin maybe-port.None = maybe-port.None
+portWithin (maybe-port.Some p) = pick (ltb (p .0) portSlots) (maybe-port.Some p) maybe-port.None
+
+-- the port at a side and position of a node
+abbrev pub portIndexIn : List ℕ → ℕ → PortOffset → MaybePortIndex
+portIndexIn words n o = portWithin (portIn (metaIn words n) o)
+
+abbrev pub offsetOfIn : List ℕ → ℕ → PortEntry → MaybePortOffset
+offsetOfIn words p port-variants.Free = maybe-offset.None
+offsetOfIn words p (port-variants.Port m) = offsetIn p (m .direction) (metaIn words (m .node .0))
+
+-- the side and position of a port
+abbrev pub portOffsetIn : List ℕ → List ℕ → ℕ → MaybePortOffset
+portOffsetIn words owners p = offsetOfIn words p (portEntry (at owners p))
+
+-- the graph that lent tables and counts are
+abbrev pub graphIn : List ℕ → List ℕ → List ℕ → List ℕ → Counts → PortGraph
+graphIn nodes links owners heads counts =
+    record {
+      «node_meta» = slotsIn nodes;
+      «port_link» = links;
+      «port_meta» = owners;
+      «port_free» = heads;
+      «node_free» = counts .«node_free»;
+      «node_len» = counts .«node_len»;
+      «port_len» = counts .«port_len»;
+      «node_count» = counts .«node_count»;
+      «port_count» = counts .«port_count»;
+      «link_count» = counts .«link_count»;
+    }
+
+-- the counts with another number of links
+abbrev pub countLinks : Counts → ℕ → Counts
+countLinks counts links =
+    record {
+      «node_free» = counts .«node_free»;
+      «node_len» = counts .«node_len»;
+      «port_len» = counts .«port_len»;
+      «node_count» = counts .«node_count»;
+      «port_count» = counts .«port_count»;
+      «link_count» = links;
+    }
+
+-- the counts of the empty graph
+abbrev pub noCounts : Counts
+noCounts =
+    record {
+      «node_free» = 0;
+      «node_len» = 0;
+      «port_len» = 0;
+      «node_count» = 0;
+      «port_count» = 0;
+      «link_count» = 0;
+    }

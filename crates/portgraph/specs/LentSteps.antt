@@ -1,0 +1,429 @@
+-- The node table as numbers reads and stores as the table of slots, and each call over lent tables leaves what its definition says.
+use mathlib.Core.Path.{_≡_, refl, sym, ap, _∙_}
+use mathlib.Core.Bool.{Bool, true, false}
+use mathlib.Core.List.{List, [], _∷_}
+use Prim.Native.Nat.{ℕ, zero, suc, _+_, _-_, _*_, _≤_, _<_, min}
+use native.Mathlib.Omega.{arith}
+use lib.Dec.{ltb}
+use lib.ListN.{length, getD, set, replicate, List·getD-eq-default}
+use lib.Seq.{sets}
+use borrow.Author.Tests.{lt-ltb, le-ltb, eq-eqb, ne-eqb, ltb-true, ltb-false}
+use Rattle.portgraph.specs.Limits.{nodeSlots, portSlots, nodePorts, freeLists}
+use Rattle.portgraph.specs.Entries.{freshSlot, freeSlotOf, nodeSlotOf, withPrev, nextOf, portEntry, portsOn}
+use Rattle.portgraph.specs.Tables.{at, fillRange, headAt, putHead, ownBlock, cutRange, cutCount, chainBlock}
+use Rattle.portgraph.specs.Meaning.{metaOf}
+use Rattle.portgraph.specs.Lookups.{entryAt, metaOfEntry, metaAt, startOf, offsetIn, portIn, portIndex, portOffset, node#, port#}
+use Rattle.portgraph.specs.Calls.{newGraph, findSlot, findBlock, restOf, grown, slotAfter, addNode, removeNode, withLinks}
+use Rattle.portgraph.specs.Resize.{BlockFits, Plan, inside, anew, planOf, setBy, toldBy, setNumPorts, movesAfter, roundUp, dropLinks, dropCount, firstSlot, insideLinks, anewLinks}
+use Rattle.portgraph.specs.Lent.{nodeWords, narrow, slotOfWords, slotsIn, slotIn, putSlot, metaIn, portWithin, portIndexIn, offsetOfIn, portOffsetIn, graphIn, countLinks, noCounts}
+use Rattle.portgraph.specs.Model.{Wf}
+use Rattle.portgraph.specs.WfFacts.{block-fits, node-below}
+use Rattle.portgraph.specs.LookupSteps.{side-fits}
+use Rattle.portgraph.specs.SlotSteps.{node-added, node-removed, node-slot-fits}
+use Rattle.portgraph.specs.ResizeSteps.{inside-graph, anew-graph}
+use Rattle.portgraph.specs.declared.direction.Direction.{Direction}
+use Rattle.portgraph.specs.declared.index.PortOffset.{PortOffset}
+use Rattle.portgraph.specs.declared.index.MaybePortIndex.the-variants as maybe-port
+use Rattle.portgraph.specs.declared.index.MaybePortOffset.the-variants as maybe-offset
+use Rattle.portgraph.specs.declared.node_entry.NodeMeta.{NodeMeta}
+use Rattle.portgraph.specs.declared.node_entry.MaybeNodeMeta.{MaybeNodeMeta}
+use Rattle.portgraph.specs.declared.node_entry.MaybeNodeMeta.the-variants as maybe-meta
+use Rattle.portgraph.specs.declared.node_entry.FreeNodeEntry.{FreeNodeEntry}
+use Rattle.portgraph.specs.declared.node_entry.NodeSlot.{NodeSlot}
+use Rattle.portgraph.specs.declared.node_entry.NodeEntry.{NodeEntry}
+use Rattle.portgraph.specs.declared.node_entry.NodeEntry.the-variants as node-variants
+use Rattle.portgraph.specs.declared.port_entry.PortMeta.{PortMeta}
+use Rattle.portgraph.specs.declared.port_entry.PortEntry.{PortEntry}
+use Rattle.portgraph.specs.declared.port_entry.PortEntry.the-variants as port-variants
+use Rattle.portgraph.specs.declared.portgraph.PortGraph.{PortGraph}
+use Rattle.portgraph.specs.declared.portgraph.LinkAnswer.{LinkAnswer}
+use Rattle.portgraph.specs.declared.portgraph.PortLink.{PortLink}
+use Rattle.portgraph.specs.declared.portgraph.PortsLinked.{PortsLinked}
+use Rattle.portgraph.specs.declared.portgraph.PortUnlinked.{PortUnlinked}
+use Rattle.portgraph.specs.declared.resize.SetAnswer.{SetAnswer}
+use Rattle.portgraph.specs.declared.resize.SetAnswer.the-variants as set-variants
+use Rattle.portgraph.specs.declared.resize.PortsSet.{PortsSet}
+use Rattle.portgraph.specs.declared.slots.Found.the-variants.{At}
+use Rattle.portgraph.specs.declared.slots.AddAnswer.{AddAnswer}
+use Rattle.portgraph.specs.declared.slots.AddAnswer.the-variants as added
+use Rattle.portgraph.specs.declared.slots.NodeAdded.{NodeAdded}
+use Rattle.portgraph.specs.declared.slots.RemoveAnswer.{RemoveAnswer}
+use Rattle.portgraph.specs.declared.slots.RemoveAnswer.the-variants as removed
+use Rattle.portgraph.specs.declared.slots.NodeRemoved.{NodeRemoved}
+use Rattle.portgraph.specs.declared.lent.Counts.{Counts}
+
+-- Numbers and slots.
+
+next-five : (n : ℕ) → 5 * suc n ≡ suc (suc (suc (suc (suc (5 * n)))))
+next-five n = omega arith
+
+-- five stores in a row
+pub stored-words : (t : List ℕ) (n k a b c d : ℕ) → set (set (set (set (set t (5 * n) k) (5 * n + 1) a) (5 * n + 2) b) (5 * n + 3) c) (5 * n + 4) d ≡ sets t (5 * n) (k ∷ a ∷ b ∷ c ∷ d ∷ [])
+stored-words t n k a b c d =
+    let e1 : 5 * n + 1 ≡ suc (5 * n) = omega arith in
+    let e2 : 5 * n + 2 ≡ suc (suc (5 * n)) = omega arith in
+    let e3 : 5 * n + 3 ≡ suc (suc (suc (5 * n))) = omega arith in
+    let e4 : 5 * n + 4 ≡ suc (suc (suc (suc (5 * n)))) = omega arith in
+    rw (e1, e2, e3, e4)
+
+words-written : (t : List ℕ) (n k a b c d : ℕ) → slotsIn (sets t (5 * n) (k ∷ a ∷ b ∷ c ∷ d ∷ [])) ≡ set (slotsIn t) n (slotOfWords k a b c d)
+unfolding slotsIn
+words-written [] n k a b c d = refl
+words-written (x ∷ []) zero k a b c d = refl
+words-written (x ∷ []) (suc n) k a b c d = rw (next-five n)
+words-written (x ∷ y ∷ []) zero k a b c d = refl
+words-written (x ∷ y ∷ []) (suc n) k a b c d = rw (next-five n)
+words-written (x ∷ y ∷ z ∷ []) zero k a b c d = refl
+words-written (x ∷ y ∷ z ∷ []) (suc n) k a b c d = rw (next-five n)
+words-written (x ∷ y ∷ z ∷ u ∷ []) zero k a b c d = refl
+words-written (x ∷ y ∷ z ∷ u ∷ []) (suc n) k a b c d = rw (next-five n)
+words-written (x ∷ y ∷ z ∷ u ∷ v ∷ t) zero k a b c d = refl
+words-written (x ∷ y ∷ z ∷ u ∷ v ∷ t) (suc n) k a b c d = rw (next-five n) (ap (λ (l : List NodeSlot). slotOfWords x y z u v ∷ l) (words-written t n k a b c d))
+
+abbrev wordsAt : List ℕ → ℕ → NodeSlot
+wordsAt t k = slotOfWords (getD t k 0) (getD t (suc k) 0) (getD t (suc (suc k)) 0) (getD t (suc (suc (suc k))) 0) (getD t (suc (suc (suc (suc k)))) 0)
+
+words-read : (t : List ℕ) (n : ℕ) → n < length (slotsIn t) → wordsAt t (5 * n) ≡ getD (slotsIn t) n freshSlot
+unfolding slotsIn
+words-read [] n h = absurd (omega arith)
+words-read (x ∷ []) n h = absurd (omega arith)
+words-read (x ∷ y ∷ []) n h = absurd (omega arith)
+words-read (x ∷ y ∷ z ∷ []) n h = absurd (omega arith)
+words-read (x ∷ y ∷ z ∷ u ∷ []) n h = absurd (omega arith)
+words-read (x ∷ y ∷ z ∷ u ∷ v ∷ t) zero h = refl
+words-read (x ∷ y ∷ z ∷ u ∷ v ∷ t) (suc n) h = let i : n < length (slotsIn t) = omega arith in rw (next-five n) (words-read t n i)
+
+zeros-read : (n : ℕ) → slotsIn (replicate (5 * n) 0) ≡ replicate n freshSlot
+unfolding slotsIn slotOfWords
+zeros-read zero = refl
+zeros-read (suc n) = rw (next-five n) (ap (λ (l : List NodeSlot). freshSlot ∷ l) (zeros-read n))
+
+-- tables of zeros are the empty graph
+pub zeros-are-new : graphIn (replicate nodeWords 0) (replicate portSlots 0) (replicate portSlots 0) (replicate freeLists 0) noCounts ≡ newGraph
+unfolding newGraph
+zeros-are-new = rw (zeros-read nodeSlots)
+
+-- What the leaves do.
+
+pub narrow-small : (x : ℕ) → x < 65536 → x ≡ narrow x
+unfolding narrow
+narrow-small x h = rw (lt-ltb x 65536 h)
+
+pub narrow-large : (x : ℕ) → 65536 ≤ x → 0 ≡ narrow x
+unfolding narrow
+narrow-large x h = rw (le-ltb x 65536 h)
+
+pub free-of-words : (k a b c d : ℕ) → k ≡ 0 → freeSlotOf a b ≡ slotOfWords k a b c d
+unfolding slotOfWords
+free-of-words k a b c d h = rw (eq-eqb k 0 h)
+
+pub node-of-words : (k a b c d x y z : ℕ) → (k ≡ 0 → ⊥) → x ≡ narrow b → y ≡ narrow c → z ≡ narrow d → nodeSlotOf (metaOf a x y z) ≡ slotOfWords k a b c d
+unfolding slotOfWords
+node-of-words k a b c d x y z h e f g = rw (ne-eqb k 0 h, e, f, g)
+
+pub slot-outside : (t : List ℕ) (n : ℕ) → nodeSlots ≤ n → freshSlot ≡ slotIn t n
+unfolding slotIn
+slot-outside t n h = rw (le-ltb n nodeSlots h)
+
+pub slot-inside : (t : List ℕ) (n : ℕ) → n < nodeSlots → slotOfWords (getD t (5 * n) 0) (getD t (5 * n + 1) 0) (getD t (5 * n + 2) 0) (getD t (5 * n + 3) 0) (getD t (5 * n + 4) 0) ≡ slotIn t n
+unfolding slotIn
+slot-inside t n h = rw (lt-ltb n nodeSlots h)
+
+pub words-put : (t : List ℕ) (n k a b c d : ℕ) → n < nodeSlots → slotsIn (set (set (set (set (set t (5 * n) k) (5 * n + 1) a) (5 * n + 2) b) (5 * n + 3) c) (5 * n + 4) d) ≡ putSlot (slotsIn t) n (slotOfWords k a b c d)
+unfolding putSlot
+words-put t n k a b c d h = rw (lt-ltb n nodeSlots h) (ap slotsIn (stored-words t n k a b c d) ∙ words-written t n k a b c d)
+
+pub put-outside : (l : List NodeSlot) (n : ℕ) (s : NodeSlot) → nodeSlots ≤ n → l ≡ putSlot l n s
+unfolding putSlot
+put-outside l n s h = rw (le-ltb n nodeSlots h)
+
+pub put-inside : (l : List NodeSlot) (n : ℕ) (s : NodeSlot) → n < nodeSlots → putSlot l n s ≡ set l n s
+unfolding putSlot
+put-inside l n s h = rw (lt-ltb n nodeSlots h)
+
+abbrev slotOf : NodeEntry → NodeSlot
+slotOf e = record { entry = e }
+
+-- a node's numbers are read back
+pub node-words : (m : NodeMeta) → m .incoming < 65536 → m .outgoing < 65536 → m .capacity < 65536 → slotOfWords 1 (m .«first_port» .0) (m .incoming) (m .outgoing) (m .capacity) ≡ nodeSlotOf m
+node-words m h i j = sym (node-of-words 1 (m .«first_port» .0) (m .incoming) (m .outgoing) (m .capacity) (m .incoming) (m .outgoing) (m .capacity) (λ z. omega arith) (narrow-small (m .incoming) h) (narrow-small (m .outgoing) i) (narrow-small (m .capacity) j))
+
+pub put-node : (l t : List NodeSlot) (n : ℕ) (s : NodeSlot) (m : NodeMeta) → s .entry ≡ node-variants.Node m
+    → m .incoming < 65536 → m .outgoing < 65536 → m .capacity < 65536
+    → t ≡ putSlot l n (slotOfWords 1 (m .«first_port» .0) (m .incoming) (m .outgoing) (m .capacity)) → t ≡ putSlot l n s
+put-node l t n s m e h i j p = p ∙ ap (putSlot l n) (node-words m h i j ∙ ap (λ (x : NodeEntry). slotOf x) (sym e))
+
+pub put-free : (l t : List NodeSlot) (n : ℕ) (s : NodeSlot) (f : FreeNodeEntry) → s .entry ≡ node-variants.Free f
+    → t ≡ putSlot l n (slotOfWords 0 (f .prev) (f .next) 0 0) → t ≡ putSlot l n s
+put-free l t n s f e p = p ∙ ap (putSlot l n) (sym (free-of-words 0 (f .prev) (f .next) 0 0 refl) ∙ ap (λ (x : NodeEntry). slotOf x) (sym e))
+
+-- a slot that is read is the table's
+pub slot-read : (t : List ℕ) (n : ℕ) → length (slotsIn t) ≡ nodeSlots → slotIn t n ≡ getD (slotsIn t) n freshSlot
+unfolding slotIn
+slot-read t n long = go (ltb n nodeSlots) refl
+  where
+    go : (b : Bool) → ltb n nodeSlots ≡ b → slotIn t n ≡ getD (slotsIn t) n freshSlot
+    go true e =
+        let h = ltb-true n nodeSlots e in
+        let e1 : 5 * n + 1 ≡ suc (5 * n) = omega arith in
+        let e2 : 5 * n + 2 ≡ suc (suc (5 * n)) = omega arith in
+        let e3 : 5 * n + 3 ≡ suc (suc (suc (5 * n))) = omega arith in
+        let e4 : 5 * n + 4 ≡ suc (suc (suc (suc (5 * n)))) = omega arith in
+        rw (e, e1, e2, e3, e4) (words-read t n (omega arith))
+    go false e =
+        let h = ltb-false n nodeSlots e in
+        rw e (sym (List·getD-eq-default (slotsIn t) freshSlot {n = n} (omega arith)))
+
+pub entry-read : (t : List ℕ) (n w : ℕ) (s : NodeSlot) (e : NodeEntry) → w ≡ n → s ≡ slotIn t w → s .entry ≡ e → metaOfEntry e ≡ metaIn t n
+entry-read t n w s e h p q = ap metaOfEntry (sym q ∙ ap (λ (x : NodeSlot). x .entry) (p ∙ ap (slotIn t) h))
+
+-- a node that is read is the graph's
+pub meta-read : (nodes links owners heads : List ℕ) (counts : Counts) (n : ℕ) → length (slotsIn nodes) ≡ nodeSlots → metaIn nodes n ≡ metaAt (graphIn nodes links owners heads counts) n
+meta-read nodes links owners heads counts n long = ap (λ (s : NodeSlot). metaOfEntry (s .entry)) (slot-read nodes n long)
+
+-- Lookups.
+
+-- a node that is found, or not, as the entry that the graph has
+entry-of-none : (e : NodeEntry) → maybe-meta.None ≡ metaOfEntry e → (f : FreeNodeEntry) × (e ≡ node-variants.Free f)
+entry-of-none (node-variants.Free f) h = (f, refl)
+entry-of-none (node-variants.Node m) h = let z : _≡_ {A = ℕ} 0 1 = cc in absurd (omega arith)
+
+entry-of-some : (e : NodeEntry) (m : NodeMeta) → maybe-meta.Some m ≡ metaOfEntry e → e ≡ node-variants.Node m
+entry-of-some (node-variants.Free f) m h = let z : _≡_ {A = ℕ} 0 1 = cc in absurd (omega arith)
+entry-of-some (node-variants.Node k) m h = cc
+
+module _ (nodes links owners heads : List ℕ) (counts : Counts) (long : length (slotsIn nodes) ≡ nodeSlots) where
+  pub unknown-in : (n : ℕ) (x : MaybeNodeMeta) → x ≡ metaIn nodes n → x ≡ maybe-meta.None → (f : FreeNodeEntry) × (entryAt (graphIn nodes links owners heads counts) n ≡ node-variants.Free f)
+  unknown-in n x p q = entry-of-none (entryAt (graphIn nodes links owners heads counts) n) (sym q ∙ p ∙ meta-read nodes links owners heads counts n long)
+
+  pub found-in : (n : ℕ) (x : MaybeNodeMeta) (m : NodeMeta) → x ≡ metaIn nodes n → x ≡ maybe-meta.Some m → entryAt (graphIn nodes links owners heads counts) n ≡ node-variants.Node m
+  found-in n x m p q = entry-of-some (entryAt (graphIn nodes links owners heads counts) n) m (sym q ∙ p ∙ meta-read nodes links owners heads counts n long)
+
+  -- the side and position that are read are the graph's
+  pub offset-read : (p : ℕ) → portOffsetIn nodes owners p ≡ portOffset (graphIn nodes links owners heads counts) p
+  offset-read p = go (portEntry (at owners p)) refl
+    where
+      go : (e : PortEntry) → portEntry (at owners p) ≡ e → portOffsetIn nodes owners p ≡ portOffset (graphIn nodes links owners heads counts) p
+      go port-variants.Free q = rw q
+      go (port-variants.Port m) q = rw q (ap (offsetIn p (m .direction)) (meta-read nodes links owners heads counts (m .node .0) long))
+
+-- every port of a node lies within the tables
+within-tables : (m : NodeMeta) (o : PortOffset) → BlockFits m → portWithin (portIn (maybe-meta.Some m) o) ≡ portIn (maybe-meta.Some m) o
+within-tables m o f = go (ltb (o .index) (portsOn m (o .direction))) refl
+  where
+    go : (b : Bool) → ltb (o .index) (portsOn m (o .direction)) ≡ b → portWithin (portIn (maybe-meta.Some m) o) ≡ portIn (maybe-meta.Some m) o
+    go true e =
+        let fits = side-fits m (o .direction) f in
+        let small = ltb-true (o .index) (portsOn m (o .direction)) e in
+        rw (e, lt-ltb (m .«first_port» .0 + startOf m (o .direction) + o .index) portSlots (omega arith))
+    go false e = rw e
+
+-- the port that is read is the graph's
+pub index-read : (nodes links owners heads : List ℕ) (counts : Counts) → Wf (graphIn nodes links owners heads counts) → (n : ℕ) (o : PortOffset) → portIndexIn nodes n o ≡ portIndex (graphIn nodes links owners heads counts) n o
+index-read nodes links owners heads counts w n o =
+    ap (λ (x : MaybeNodeMeta). portWithin (portIn x o)) (meta-read nodes links owners heads counts n (w .holds .nodesLong)) ∙ go (entryAt (graphIn nodes links owners heads counts) n) refl
+  where
+    go : (e : NodeEntry) → entryAt (graphIn nodes links owners heads counts) n ≡ e → portWithin (portIn (metaAt (graphIn nodes links owners heads counts) n) o) ≡ portIn (metaAt (graphIn nodes links owners heads counts) n) o
+    go (node-variants.Free f) e = rw e
+    go (node-variants.Node m) e = rw e (within-tables m o (block-fits (graphIn nodes links owners heads counts) w n m e))
+
+-- the ways out of a lookup
+pub index-unknown : (t : List ℕ) (n : ℕ) (o : PortOffset) (x : MaybeNodeMeta) → x ≡ metaIn t n → x ≡ maybe-meta.None → maybe-port.None ≡ portIndexIn t n o
+index-unknown t n o x p q = ap (λ (y : MaybeNodeMeta). portWithin (portIn y o)) (sym q ∙ p)
+
+module _ (t : List ℕ) (n : ℕ) (o : PortOffset) (x : MaybeNodeMeta) (m : NodeMeta) (i k : ℕ) (p : x ≡ metaIn t n) (q : x ≡ maybe-meta.Some m) (hi : i ≡ o .index) (hk : k ≡ portsOn m (o .direction)) where
+  pub index-beyond : k ≤ i → maybe-port.None ≡ portIndexIn t n o
+  index-beyond h =
+      let e : maybe-port.None ≡ portWithin (portIn (maybe-meta.Some m) o) = rw (le-ltb (o .index) (portsOn m (o .direction)) (omega arith)) in
+      e ∙ ap (λ (y : MaybeNodeMeta). portWithin (portIn y o)) (sym q ∙ p)
+
+  module _ (f start : ℕ) (ef : f ≡ m .«first_port» .0) (es : start ≡ startOf m (o .direction)) (h : i < k) where
+    pub index-outside : portSlots ≤ f + start + i → maybe-port.None ≡ portIndexIn t n o
+    index-outside l =
+        let e : maybe-port.None ≡ portWithin (portIn (maybe-meta.Some m) o) =
+        rw (lt-ltb (o .index) (portsOn m (o .direction)) (omega arith), le-ltb (m .«first_port» .0 + startOf m (o .direction) + o .index) portSlots (omega arith)) in
+        e ∙ ap (λ (y : MaybeNodeMeta). portWithin (portIn y o)) (sym q ∙ p)
+
+    pub index-inside : f + start + i < portSlots → maybe-port.Some (port# (f + start + i)) ≡ portIndexIn t n o
+    index-inside l =
+        let g : f + start + i ≡ m .«first_port» .0 + startOf m (o .direction) + o .index = omega arith in
+        let e : maybe-port.Some (port# (f + start + i)) ≡ portWithin (portIn (maybe-meta.Some m) o) =
+        rw (lt-ltb (o .index) (portsOn m (o .direction)) (omega arith), lt-ltb (m .«first_port» .0 + startOf m (o .direction) + o .index) portSlots (omega arith))
+        (ap (λ (y : ℕ). maybe-port.Some (port# y)) g) in
+        e ∙ ap (λ (y : MaybeNodeMeta). portWithin (portIn y o)) (sym q ∙ p)
+
+pub offset-without-node : (t owners : List ℕ) (p : ℕ) (o : PortMeta) (x : MaybeNodeMeta) → port-variants.Port o ≡ portEntry (at owners p) → x ≡ metaIn t (o .node .0) → x ≡ maybe-meta.None
+    → maybe-offset.None ≡ portOffsetIn t owners p
+offset-without-node t owners p o x ho hm hx = ap (offsetIn p (o .direction)) (sym hx ∙ hm) ∙ ap (offsetOfIn t p) ho
+
+pub offset-found : (t owners : List ℕ) (p i : ℕ) (o : PortMeta) (m : NodeMeta) (x : MaybeNodeMeta) → port-variants.Port o ≡ portEntry (at owners p) → x ≡ metaIn t (o .node .0) → x ≡ maybe-meta.Some m
+    → i ≡ p - m .«first_port» .0 - startOf m (o .direction)
+    → maybe-offset.Some (record { direction = o .direction; index = i }) ≡ portOffsetIn t owners p
+offset-found t owners p i o m x ho hm hx hi =
+    ap (λ (y : ℕ). maybe-offset.Some (record { direction = o .direction; index = y })) hi
+    ∙ ap (offsetIn p (o .direction)) (sym hx ∙ hm) ∙ ap (offsetOfIn t p) ho
+
+-- Graph and answer of a call, from the equation of both.
+
+pub added-in : {g : PortGraph} {a : AddAnswer} {r : NodeAdded} → _≡_ {A = NodeAdded} (record { graph = g; answer = a }) r → (g ≡ r .graph) × (a ≡ r .answer)
+added-in e = (ap (λ (x : NodeAdded). x .graph) e, ap (λ (x : NodeAdded). x .answer) e)
+
+pub removed-in : {g : PortGraph} {a : RemoveAnswer} {r : NodeRemoved} → _≡_ {A = NodeRemoved} (record { graph = g; answer = a }) r → (g ≡ r .graph) × (a ≡ r .answer)
+removed-in e = (ap (λ (x : NodeRemoved). x .graph) e, ap (λ (x : NodeRemoved). x .answer) e)
+
+pub linked-in : {g : PortGraph} {a : LinkAnswer} {r : PortsLinked} → _≡_ {A = PortsLinked} (record { graph = g; answer = a }) r → (g ≡ r .graph) × (a ≡ r .answer)
+linked-in e = (ap (λ (x : PortsLinked). x .graph) e, ap (λ (x : PortsLinked). x .answer) e)
+
+pub unlinked-in : {g : PortGraph} {a : PortLink} {r : PortUnlinked} → _≡_ {A = PortUnlinked} (record { graph = g; answer = a }) r → (g ≡ r .graph) × (a ≡ r .answer)
+unlinked-in e = (ap (λ (x : PortUnlinked). x .graph) e, ap (λ (x : PortUnlinked). x .answer) e)
+
+set-in : {g : PortGraph} {a : SetAnswer} {r : PortsSet} → _≡_ {A = PortsSet} (record { graph = g; answer = a }) r → (g ≡ r .graph) × (a ≡ r .answer)
+set-in e = (ap (λ (x : PortsSet). x .graph) e, ap (λ (x : PortsSet). x .answer) e)
+
+pub counted-links : (nodes links links′ owners heads : List ℕ) (counts counts′ : Counts) (k : ℕ) → counts′ ≡ countLinks counts k
+    → graphIn nodes links′ owners heads counts′ ≡ withLinks (graphIn nodes links owners heads counts) links′ k
+counted-links nodes links links′ owners heads counts counts′ k e = ap (graphIn nodes links′ owners heads) e
+
+-- Adding and removing a node.
+
+module _ (nodes links owners heads : List ℕ) (counts : Counts) (w : Wf (graphIn nodes links owners heads counts)) where
+  -- each value that the call computes, in its order, and the graph with these values
+  pub node-added-in :
+      (i o n b : ℕ) (nodes₁ nodes₂ : List ℕ) {next free after nlen head link first plen : ℕ} {slot neighbour beside own : NodeSlot} {heads′ links′ owners′ : List ℕ} →
+      i + o ≤ nodePorts →
+      findSlot (counts .«node_free») (counts .«node_len») ≡ At n →
+      findBlock heads (counts .«port_len») (i + o) ≡ At b →
+      slot ≡ slotIn nodes n →
+      next ≡ nextOf (slot .entry) →
+      free ≡ restOf (counts .«node_free») next →
+      (after ≡ slotAfter free n) × (after < nodeSlots) →
+      neighbour ≡ slotIn nodes after →
+      beside ≡ withPrev neighbour 0 →
+      slotsIn nodes₁ ≡ putSlot (slotsIn nodes) after beside →
+      own ≡ nodeSlotOf (metaOf b i o (i + o)) →
+      slotsIn nodes₂ ≡ putSlot (slotsIn nodes₁) n own →
+      head ≡ headAt heads (i + o) →
+      link ≡ at links b →
+      first ≡ restOf head link →
+      heads′ ≡ putHead heads (i + o) first →
+      links′ ≡ fillRange links b (i + o) 0 →
+      owners′ ≡ ownBlock owners n (metaOf b i o (i + o)) →
+      nlen ≡ grown (counts .«node_free») (counts .«node_len») 1 →
+      plen ≡ grown head (counts .«port_len») (i + o) →
+      (graphIn nodes₂ links′ owners′ heads′ (record {
+        «node_free» = free;
+        «node_len» = nlen;
+        «port_len» = plen;
+        «node_count» = counts .«node_count» + 1;
+        «port_count» = counts .«port_count» + (i + o);
+        «link_count» = counts .«link_count»;
+      }) ≡ addNode (graphIn nodes links owners heads counts) i o .graph)
+      × (added.Added (node# n) (port# b) ≡ addNode (graphIn nodes links owners heads counts) i o .answer)
+  node-added-in i o n b nodes₁ nodes₂ {next} {free} {after} {nlen} {head} {link} {first} {plen} {slot} {neighbour} {beside} {own} {heads′} {links′} {owners′} few fs fb e1 e2 e3 e4 e5 e6 e7 e8 e9 e10 e11 e12 e13 e14 e15 e16 e17 =
+      let long = w .holds .nodesLong in
+      let below : n < nodeSlots = node-slot-fits (graphIn nodes links owners heads counts) w n fs in
+      let own-entry : next ≡ nextOf (entryAt (graphIn nodes links owners heads counts) n) = e2 ∙ ap (λ (s : NodeSlot). nextOf (s .entry)) (e1 ∙ slot-read nodes n long) in
+      let next-to : beside ≡ withPrev (getD (slotsIn nodes) after freshSlot) 0 = e6 ∙ ap (λ (s : NodeSlot). withPrev s 0) (e5 ∙ slot-read nodes after long) in
+      let stored : slotsIn nodes₂ ≡ set (set (slotsIn nodes) after beside) n own =
+      e9 ∙ put-inside (slotsIn nodes₁) n own below ∙ ap (λ (l : List NodeSlot). set l n own) (e7 ∙ put-inside (slotsIn nodes) after beside (e4 .1)) in
+      added-in (rw stored
+      (node-added (graphIn nodes links owners heads counts) i o n b few fs fb long own-entry e3 (e4 .0) next-to e8 e16 e10 e11 e12 e13 e17 e14 e15))
+
+  pub node-removed-in :
+      (n : ℕ) (m : NodeMeta) (nodes₁ nodes₂ : List ℕ) {place first size after cuts head nodeCount ports portCount linkCount : ℕ} {neighbour beside own : NodeSlot} {cutLinks links′ owners′ heads′ : List ℕ} →
+      entryAt (graphIn nodes links owners heads counts) n ≡ node-variants.Node m →
+      place ≡ n →
+      first ≡ m .«first_port» .0 →
+      size ≡ m .capacity →
+      (after ≡ slotAfter (counts .«node_free») place) × (after < nodeSlots) →
+      neighbour ≡ slotIn nodes after →
+      beside ≡ withPrev neighbour (n + 1) →
+      slotsIn nodes₁ ≡ putSlot (slotsIn nodes) after beside →
+      own ≡ freeSlotOf 0 (counts .«node_free») →
+      slotsIn nodes₂ ≡ putSlot (slotsIn nodes₁) place own →
+      (cuts ≡ cutCount links first size) × (cutLinks ≡ cutRange links first size) →
+      head ≡ headAt heads size →
+      links′ ≡ chainBlock cutLinks first size head →
+      owners′ ≡ fillRange owners (m .«first_port» .0) (m .capacity) 0 →
+      heads′ ≡ putHead heads size (m .«first_port» .0 + 1) →
+      nodeCount ≡ counts .«node_count» - 1 →
+      ports ≡ m .incoming + m .outgoing →
+      portCount ≡ counts .«port_count» - ports →
+      linkCount ≡ counts .«link_count» - cuts →
+      (graphIn nodes₂ links′ owners′ heads′ (record {
+        «node_free» = n + 1;
+        «node_len» = counts .«node_len»;
+        «port_len» = counts .«port_len»;
+        «node_count» = nodeCount;
+        «port_count» = portCount;
+        «link_count» = linkCount;
+      }) ≡ removeNode (graphIn nodes links owners heads counts) n .graph)
+      × (removed.Removed ≡ removeNode (graphIn nodes links owners heads counts) n .answer)
+  node-removed-in n m nodes₁ nodes₂ {place} {first} {size} {after} {cuts} {head} {nodeCount} {ports} {portCount} {linkCount} {neighbour} {beside} {own} {cutLinks} {links′} {owners′} {heads′} e p e1 e2 e3 e4 e5 e6 e7 e8 e9 e10 e11 e12 e13 e14 e15 e16 e17 =
+      let long = w .holds .nodesLong in
+      let below : n < nodeSlots = node-below (graphIn nodes links owners heads counts) w n m e in
+      let here : place < nodeSlots = omega arith in
+      let entry : entryAt (graphIn nodes links owners heads counts) place ≡ node-variants.Node m = ap (entryAt (graphIn nodes links owners heads counts)) p ∙ e in
+      let next-to : beside ≡ withPrev (getD (slotsIn nodes) after freshSlot) (n + 1) = e5 ∙ ap (λ (s : NodeSlot). withPrev s (n + 1)) (e4 ∙ slot-read nodes after long) in
+      let stored : slotsIn nodes₂ ≡ set (set (slotsIn nodes) after beside) place own =
+      e8 ∙ put-inside (slotsIn nodes₁) place own here ∙ ap (λ (l : List NodeSlot). set l place own) (e6 ∙ put-inside (slotsIn nodes) after beside (e3 .1)) in
+      removed-in (rw stored
+      (node-removed (graphIn nodes links owners heads counts) n m entry long p e1 e2 (e3 .0) next-to e7 (e9 .0) (e9 .1) e10 e11 e12 e13 e14 e15 e16 e17))
+
+-- Changing a node's counts.
+
+module _ (nodes links owners heads : List ℕ) (counts : Counts) (m : NodeMeta) (n i o f oi oo ki ko : ℕ) (below : n < nodeSlots)
+    (ef : f ≡ firstSlot m) (ei : oi ≡ m .incoming) (eo : oo ≡ m .outgoing) (eki : ki ≡ min oi i) (eko : ko ≡ min oo o) where
+  pub inside-in : (place cuts count links# : ℕ) (slot : NodeSlot) (nodes′ t t′ owners′ : List ℕ)
+      → t ≡ dropLinks links m i o → cuts ≡ dropCount links m i o → t′ ≡ insideLinks t m i o
+      → owners′ ≡ ownBlock owners n (metaOf (firstSlot m) i o (m .capacity)) → place ≡ n
+      → slot ≡ nodeSlotOf (metaOf (firstSlot m) i o (m .capacity)) → slotsIn nodes′ ≡ putSlot (slotsIn nodes) place slot
+      → count ≡ counts .«port_count» - (oi + oo) → links# ≡ counts .«link_count» - cuts
+      → (graphIn nodes′ t′ owners′ heads (record {
+        «node_free» = counts .«node_free»;
+        «node_len» = counts .«node_len»;
+        «port_len» = counts .«port_len»;
+        «node_count» = counts .«node_count»;
+        «port_count» = count + (i + o);
+        «link_count» = links#;
+      }) ≡ setBy (graphIn nodes links owners heads counts) n i o (inside m) .graph)
+      × (set-variants.Set (((oi - ki) + (oo - ko)) + ko) ≡ setBy (graphIn nodes links owners heads counts) n i o (inside m) .answer)
+  inside-in place cuts count links# slot nodes′ t t′ owners′ et ec et′ eow ep es en ecount elinks =
+      let here : place < nodeSlots = omega arith in
+      let stored : slotsIn nodes′ ≡ set (slotsIn nodes) place slot = en ∙ put-inside (slotsIn nodes) place slot here in
+      set-in (rw stored
+      (inside-graph (graphIn nodes links owners heads counts) m n i o f oi oo ki ko ef ei eo eki eko place cuts count links# slot t t′ owners′ et ec et′ eow ep es ecount elinks))
+
+  pub anew-in : (cap size first place head next rest cuts more old len count links# links#′ : ℕ) (slot : NodeSlot) (nodes′ t t₁ t₂ t₃ heads′ heads″ owners′ owners″ : List ℕ)
+      → cap ≡ m .capacity → size ≡ roundUp (i + o) → findBlock heads (counts .«port_len») (roundUp (i + o)) ≡ At first
+      → head ≡ headAt heads size → next ≡ at links first → rest ≡ restOf head next
+      → t ≡ dropLinks links m i o → cuts ≡ dropCount links m i o
+      → heads′ ≡ putHead heads size rest
+      → t₁ ≡ anewLinks t m i o first size
+      → owners′ ≡ ownBlock owners n (metaOf first i o size) → place ≡ n → slot ≡ nodeSlotOf (metaOf first i o size)
+      → slotsIn nodes′ ≡ putSlot (slotsIn nodes) place slot
+      → (more ≡ cutCount t₁ f cap) × (t₂ ≡ cutRange t₁ f cap) → old ≡ headAt heads′ cap → t₃ ≡ chainBlock t₂ f cap old
+      → owners″ ≡ fillRange owners′ (firstSlot m) (m .capacity) 0 → heads″ ≡ putHead heads′ cap (firstSlot m + 1)
+      → len ≡ grown head (counts .«port_len») size
+      → count ≡ counts .«port_count» - (oi + oo) → links# ≡ counts .«link_count» - cuts → links#′ ≡ links# - more
+      → (graphIn nodes′ t₃ owners″ heads″ (record {
+        «node_free» = counts .«node_free»;
+        «node_len» = counts .«node_len»;
+        «port_len» = len;
+        «node_count» = counts .«node_count»;
+        «port_count» = count + (i + o);
+        «link_count» = links#′;
+      }) ≡ setBy (graphIn nodes links owners heads counts) n i o (anew m first) .graph)
+      × (set-variants.Set (((oi - ki) + (oo - ko)) + (ki + ko)) ≡ setBy (graphIn nodes links owners heads counts) n i o (anew m first) .answer)
+  anew-in cap size first place head next rest cuts more old len count links# links#′ slot nodes′ t t₁ t₂ t₃ heads′ heads″ owners′ owners″ ecap esize found ehead enext erest et ecuts eheads et₁ eow ep es en ecut eold et₃ eow′ eheads′ elen ecount elinks elinks′ =
+      let here : place < nodeSlots = omega arith in
+      let stored : slotsIn nodes′ ≡ set (slotsIn nodes) place slot = en ∙ put-inside (slotsIn nodes) place slot here in
+      set-in (rw stored
+      (anew-graph (graphIn nodes links owners heads counts) m n i o f oi oo ki ko ef ei eo eki eko cap size first place head next rest cuts more old len count links# links#′ slot t t₁ t₂ t₃ heads′ heads″ owners′ owners″
+      ecap esize found ehead enext erest et ecuts eheads elen et₁ eow ep es (ecut .0) (ecut .1) eold et₃ eow′ eheads′ ecount elinks elinks′))
+
+pub answered-in : (g h : PortGraph) (n i o : ℕ) (b b′ : List ℕ) (a : SetAnswer) (p : Plan) → planOf g n i o (length b) ≡ p
+    → h ≡ setBy g n i o p .graph → a ≡ setBy g n i o p .answer → b′ ≡ sets b 0 (toldBy g i o p)
+    → (h ≡ setNumPorts g n i o (length b) .graph) × (a ≡ setNumPorts g n i o (length b) .answer) × (b′ ≡ movesAfter g n i o b)
+unfolding setNumPorts movesAfter
+answered-in g h n i o b b′ a p e eg ea eb = (rw e eg, rw e ea, rw e eb)

@@ -1,0 +1,104 @@
+// The graph's tables lent one by one, for a run that copies none of them. The node table is held as numbers, five a slot:
+// 0, previous and next free entry, 0, 0; or 1, first port, incoming, outgoing, capacity.
+use crate::index::NODE_SLOTS;
+use crate::index::PortIndex;
+use crate::index::wide;
+use crate::node_entry::MaybeNodeMeta;
+use crate::node_entry::NodeEntry;
+use crate::node_entry::NodeMeta;
+use crate::node_entry::NodeSlot;
+ghost use mathlib.Core.Path.{_≡_};
+ghost use Rattle.portgraph.specs.Lent.{narrow, slotOfWords, slotsIn, slotIn, putSlot, metaIn};
+
+// The numbers of all node slots.
+pub const NODE_WORDS: usize = 5 * NODE_SLOTS;
+
+// What a graph has besides its tables.
+pub struct Counts {
+    // The first free node entry, one higher than its number; 0 for none.
+    pub node_free: u32,
+    // How many slots of the node table, and of the port tables, have been used.
+    pub node_len: usize,
+    pub port_len: usize,
+    pub node_count: usize,
+    pub port_count: usize,
+    pub link_count: usize,
+}
+
+// A number as a count of ports; 0 for one that is too large.
+fn narrow(x: u32) -> u16
+    ensures { λ r. ⌜ r ≡ narrow x ⌝ }
+{
+    if x < 65536 { x as u16 } else { 0 }
+}
+
+// Five numbers, read as a slot.
+fn slot_of_words(kind: u32, a: u32, b: u32, c: u32, d: u32) -> NodeSlot
+    ensures { λ r. ⌜ r ≡ slotOfWords kind a b c d ⌝ }
+{
+    if kind == 0 {
+        return NodeSlot::new_free(a, b);
+    }
+    NodeSlot::new_node(NodeMeta {
+        first_port: PortIndex(a),
+        incoming: narrow(b),
+        outgoing: narrow(c),
+        capacity: narrow(d),
+    })
+}
+
+// A slot of the node table; a free one outside.
+pub fn slot_in(nodes: &[u32; NODE_WORDS], n: usize) -> NodeSlot
+    ensures { λ r. ⌜ r ≡ slotIn (now (nodes .entry)) n ⌝ }
+{
+    if NODE_SLOTS <= n {
+        return NodeSlot::new_free(0, 0);
+    }
+    let k = 5 * n;
+    slot_of_words(nodes[k], nodes[k + 1], nodes[k + 2], nodes[k + 3], nodes[k + 4])
+}
+
+// Stores a slot as its five numbers; outside nothing changes.
+fn put_words(nodes: &mut [u32; NODE_WORDS], n: usize, kind: u32, a: u32, b: u32, c: u32, d: u32)
+    ensures { λ _. ⌜ slotsIn (now (nodes .exit)) ≡ putSlot (slotsIn (now (nodes .entry))) n (slotOfWords kind a b c d) ⌝ }
+{
+    if n < NODE_SLOTS {
+        let k = 5 * n;
+        nodes[k] = kind;
+        nodes[k + 1] = a;
+        nodes[k + 2] = b;
+        nodes[k + 3] = c;
+        nodes[k + 4] = d;
+    }
+}
+
+// Stores a slot of the node table; outside nothing changes.
+pub(crate) fn put_slot(nodes: &mut [u32; NODE_WORDS], n: usize, slot: NodeSlot)
+    ensures { λ _. ⌜ slotsIn (now (nodes .exit)) ≡ putSlot (slotsIn (now (nodes .entry))) n slot ⌝ }
+{
+    let entry = slot.entry;
+    match entry {
+        NodeEntry::Free(free) => put_words(nodes, n, 0, free.prev, free.next, 0, 0),
+        NodeEntry::Node(meta) => put_words(
+            nodes,
+            n,
+            1,
+            meta.first_port.0,
+            meta.incoming as u32,
+            meta.outgoing as u32,
+            meta.capacity as u32,
+        ),
+    }
+}
+
+// The meta data of a node, if it is live.
+pub fn meta_in(nodes: &[u32; NODE_WORDS], node: u32) -> MaybeNodeMeta
+    ensures { λ r. ⌜ r ≡ metaIn (now (nodes .entry)) node ⌝ }
+{
+    let slot = slot_in(nodes, wide(node));
+    let entry = slot.entry;
+    let NodeEntry::Node(meta) = entry else {
+        return MaybeNodeMeta::None;
+    };
+    MaybeNodeMeta::Some(meta)
+}

@@ -1,0 +1,161 @@
+// Adding and removing nodes over lent tables.
+use crate::index::FREE_LISTS;
+use crate::index::NODE_PORTS;
+use crate::index::NodeIndex;
+use crate::index::PORT_SLOTS;
+use crate::index::PortIndex;
+use crate::index::wide;
+use crate::index::wide16;
+use crate::lent::Counts;
+use crate::lent::NODE_WORDS;
+use crate::lent::meta_in;
+use crate::lent::put_slot;
+use crate::lent::slot_in;
+use crate::node_entry::MaybeNodeMeta;
+use crate::node_entry::NodeMeta;
+use crate::node_entry::NodeSlot;
+use crate::portgraph::less;
+use crate::slots::AddAnswer;
+use crate::slots::Found;
+use crate::slots::RemoveAnswer;
+use crate::slots::find_block;
+use crate::slots::find_slot;
+use crate::slots::grown;
+use crate::slots::rest_of;
+use crate::slots::slot_after;
+use crate::tables::at;
+use crate::tables::chain_block;
+use crate::tables::cut_range;
+use crate::tables::fill;
+use crate::tables::head_at;
+use crate::tables::own_block;
+use crate::tables::put_head;
+ghost use mathlib.Core.Path.{_≡_};
+ghost use Rattle.portgraph.specs.Model.{Wf};
+ghost use Rattle.portgraph.specs.Calls.{addNode, removeNode};
+ghost use Rattle.portgraph.specs.Lent.{graphIn};
+
+pub struct NodeAddedIn {
+    pub counts: Counts,
+    pub answer: AddAnswer,
+}
+
+pub struct NodeRemovedIn {
+    pub counts: Counts,
+    pub answer: RemoveAnswer,
+}
+
+// PortGraph::add_node over lent tables.
+pub fn add_node_in(
+    nodes: &mut [u32; NODE_WORDS],
+    links: &mut [u32; PORT_SLOTS],
+    owners: &mut [u32; PORT_SLOTS],
+    heads: &mut [u32; FREE_LISTS],
+    counts: Counts,
+    incoming: usize,
+    outgoing: usize,
+) -> NodeAddedIn
+    requires { ⌜ Wf (graphIn (now nodes) (now links) (now owners) (now heads) counts) ⌝ }
+    ensures { λ r. ⌜ (graphIn (now (nodes .exit)) (now (links .exit)) (now (owners .exit)) (now (heads .exit)) (r .counts)
+            ≡ addNode (graphIn (now (nodes .entry)) (now (links .entry)) (now (owners .entry)) (now (heads .entry)) counts) incoming outgoing .graph)
+        × (r .answer ≡ addNode (graphIn (now (nodes .entry)) (now (links .entry)) (now (owners .entry)) (now (heads .entry)) counts) incoming outgoing .answer) ⌝ }
+{
+    if NODE_PORTS < incoming {
+        return NodeAddedIn {
+            counts: counts,
+            answer: AddAnswer::TooManyPorts,
+        };
+    }
+    if NODE_PORTS - incoming < outgoing {
+        return NodeAddedIn {
+            counts: counts,
+            answer: AddAnswer::TooManyPorts,
+        };
+    }
+    let size = incoming + outgoing;
+    let Found::At(node) = find_slot(counts.node_free, counts.node_len) else {
+        return NodeAddedIn {
+            counts: counts,
+            answer: AddAnswer::NoRoom,
+        };
+    };
+    let Found::At(first) = find_block(heads, counts.port_len, size) else {
+        return NodeAddedIn {
+            counts: counts,
+            answer: AddAnswer::NoRoom,
+        };
+    };
+    let meta = NodeMeta {
+        first_port: PortIndex(first as u32),
+        incoming: incoming as u16,
+        outgoing: outgoing as u16,
+        capacity: size as u16,
+    };
+    let slot = slot_in(nodes, node);
+    let free = rest_of(counts.node_free, slot.next_free());
+    let after = slot_after(free, node);
+    let neighbour = slot_in(nodes, after);
+    put_slot(nodes, after, neighbour.with_prev(0));
+    put_slot(nodes, node, NodeSlot::new_node(meta));
+    let head = head_at(heads, size);
+    let rest = rest_of(head, at(links, first));
+    put_head(heads, size, rest);
+    fill(links, first as u32, size as u16, 0);
+    own_block(owners, node as u32, meta);
+    NodeAddedIn {
+        counts: Counts {
+            node_free: free,
+            node_len: grown(counts.node_free, counts.node_len, 1),
+            port_len: grown(head, counts.port_len, size),
+            node_count: counts.node_count + 1,
+            port_count: counts.port_count + size,
+            link_count: counts.link_count,
+        },
+        answer: AddAnswer::Added(NodeIndex(node as u32), PortIndex(first as u32)),
+    }
+}
+
+// PortGraph::remove_node over lent tables.
+pub fn remove_node_in(
+    nodes: &mut [u32; NODE_WORDS],
+    links: &mut [u32; PORT_SLOTS],
+    owners: &mut [u32; PORT_SLOTS],
+    heads: &mut [u32; FREE_LISTS],
+    counts: Counts,
+    node: NodeIndex,
+) -> NodeRemovedIn
+    requires { ⌜ Wf (graphIn (now nodes) (now links) (now owners) (now heads) counts) ⌝ }
+    ensures { λ r. ⌜ (graphIn (now (nodes .exit)) (now (links .exit)) (now (owners .exit)) (now (heads .exit)) (r .counts)
+            ≡ removeNode (graphIn (now (nodes .entry)) (now (links .entry)) (now (owners .entry)) (now (heads .entry)) counts) (node .0) .graph)
+        × (r .answer ≡ removeNode (graphIn (now (nodes .entry)) (now (links .entry)) (now (owners .entry)) (now (heads .entry)) counts) (node .0) .answer) ⌝ }
+{
+    let MaybeNodeMeta::Some(meta) = meta_in(nodes, node.0) else {
+        return NodeRemovedIn {
+            counts: counts,
+            answer: RemoveAnswer::UnknownNode,
+        };
+    };
+    let place = wide(node.0);
+    let first = wide(meta.first_port.0);
+    let size = wide16(meta.capacity);
+    let after = slot_after(counts.node_free, place);
+    let neighbour = slot_in(nodes, after);
+    put_slot(nodes, after, neighbour.with_prev(node.0 + 1));
+    put_slot(nodes, place, NodeSlot::new_free(0, counts.node_free));
+    let cuts = cut_range(links, first, size);
+    let head = head_at(heads, size);
+    chain_block(links, first, size, head);
+    fill(owners, meta.first_port.0, meta.capacity, 0);
+    put_head(heads, size, meta.first_port.0 + 1);
+    NodeRemovedIn {
+        counts: Counts {
+            node_free: node.0 + 1,
+            node_len: counts.node_len,
+            port_len: counts.port_len,
+            node_count: less(counts.node_count, 1),
+            port_count: less(counts.port_count, meta.port_count()),
+            link_count: less(counts.link_count, cuts),
+        },
+        answer: RemoveAnswer::Removed,
+    }
+}

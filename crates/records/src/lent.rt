@@ -1,0 +1,196 @@
+// The run over lent tables: each table is an array of its own, lent to the calls, and none is ever copied.
+use crate::answers::Answer5;
+use crate::answers::add_words;
+use crate::answers::cut_words;
+use crate::answers::five_words;
+use crate::answers::link_words;
+use crate::answers::put_answer;
+use crate::answers::remove_words;
+use crate::answers::set_words;
+use crate::requests::Ask;
+use crate::requests::ask_at;
+use crate::run::MOVES;
+use crate::run::subport;
+use multiportgraph::lent::Held;
+use multiportgraph::lent::add_in;
+use multiportgraph::lent::cut_sub_in;
+use multiportgraph::lent::link_count_in;
+use multiportgraph::lent::link_sub_in;
+use multiportgraph::lent::no_held;
+use multiportgraph::lent::node_count_in;
+use multiportgraph::lent::port_count_in;
+use multiportgraph::lent::subport_link_in;
+use multiportgraph::lent_blocks::cut_port_in;
+use multiportgraph::lent_blocks::remove_in;
+use multiportgraph::lent_blocks::set_in;
+use multiportgraph::lent_links::link_in;
+use portgraph::index::FREE_LISTS;
+use portgraph::index::NODE_SLOTS;
+use portgraph::index::NodeIndex;
+use portgraph::index::PORT_SLOTS;
+use portgraph::index::PortIndex;
+use portgraph::lent::NODE_WORDS;
+ghost use mathlib.Core.Path.{_≡_};
+ghost use Prim.Native.Nat.{_%_};
+ghost use lib.ListN.{length};
+ghost use Rattle.multiportgraph.specs.Calls.{emptyGraph, enough};
+ghost use Rattle.multiportgraph.specs.Inner.{MultiWf};
+ghost use Rattle.multiportgraph.specs.MultiLent.{multiIn};
+ghost use Rattle.records.specs.Words.{bytesOf, requestsOf};
+ghost use Rattle.records.specs.Run.{answersFrom};
+ghost use Rattle.records.specs.Forms.{words5};
+ghost use Rattle.records.specs.RunSteps.{Done};
+
+// What stands outside the tables afterwards, and the five words of the answer.
+struct Told {
+    held: Held,
+    words: Answer5,
+}
+
+// What a request does, and its answer.
+fn one_request(
+    nodes: &mut [u32; NODE_WORDS],
+    links: &mut [u32; PORT_SLOTS],
+    owners: &mut [u32; PORT_SLOTS],
+    heads: &mut [u32; FREE_LISTS],
+    marks: &mut [bool; PORT_SLOTS],
+    flags: &mut [bool; NODE_SLOTS],
+    held: Held,
+    moves: &mut [u32],
+    ask: Ask,
+) -> Told
+    requires { ⌜ MultiWf (multiIn (now nodes) (now links) (now owners) (now heads) (now marks) (now flags) held) × (length (now moves) ≡ enough) ⌝ }
+    ensures { λ r. ⌜ Done (multiIn (now (nodes .entry)) (now (links .entry)) (now (owners .entry)) (now (heads .entry)) (now (marks .entry)) (now (flags .entry)) held) ask (words5 (r .words)) (multiIn (now (nodes .exit)) (now (links .exit)) (now (owners .exit)) (now (heads .exit)) (now (marks .exit)) (now (flags .exit)) (r .held)) ⌝ }
+{
+    match ask {
+        Ask::Add(incoming, outgoing) => {
+            let added = add_in(nodes, links, owners, heads, marks, flags, held, incoming as usize, outgoing as usize);
+            let after = added.held;
+            let answer = added.answer;
+            Told {
+                held: after,
+                words: add_words(answer),
+            }
+        }
+        Ask::Remove(node) => {
+            let removed = remove_in(nodes, links, owners, heads, marks, flags, held, NodeIndex(node));
+            let after = removed.held;
+            let answer = removed.answer;
+            Told {
+                held: after,
+                words: remove_words(answer),
+            }
+        }
+        Ask::Resize(node, incoming, outgoing) => {
+            let sized = set_in(
+                nodes,
+                links,
+                owners,
+                heads,
+                marks,
+                flags,
+                held,
+                NodeIndex(node),
+                incoming as usize,
+                outgoing as usize,
+                moves,
+            );
+            let after = sized.held;
+            let answer = sized.answer;
+            Told {
+                held: after,
+                words: set_words(answer),
+            }
+        }
+        Ask::Link(a, b) => {
+            let linked = link_in(nodes, links, owners, heads, marks, flags, held, PortIndex(a), PortIndex(b), moves);
+            let after = linked.held;
+            let answer = linked.answer;
+            Told {
+                held: after,
+                words: link_words(answer),
+            }
+        }
+        Ask::Unlink(port) => {
+            let cut = cut_port_in(nodes, links, owners, heads, marks, flags, held, PortIndex(port));
+            let after = cut.held;
+            let answer = cut.answer;
+            Told {
+                held: after,
+                words: cut_words(answer),
+            }
+        }
+        Ask::LinkSubports(p, o, q, r) => {
+            let linked = link_sub_in(nodes, links, owners, heads, marks, flags, held, subport(p, o), subport(q, r));
+            let after = linked.held;
+            let answer = linked.answer;
+            Told {
+                held: after,
+                words: link_words(answer),
+            }
+        }
+        Ask::UnlinkSubport(p, o) => {
+            let cut = cut_sub_in(nodes, links, owners, heads, marks, flags, held, subport(p, o));
+            let after = cut.held;
+            let answer = cut.answer;
+            Told {
+                held: after,
+                words: cut_words(answer),
+            }
+        }
+        Ask::SubportLink(p, o) => {
+            let answer = subport_link_in(nodes, links, owners, heads, marks, flags, held, subport(p, o));
+            Told {
+                held: held,
+                words: cut_words(answer),
+            }
+        }
+        Ask::Counts => {
+            let blocks = node_count_in(held);
+            let ports = port_count_in(held);
+            let wires = link_count_in(held);
+            Told {
+                held: held,
+                words: five_words(0, blocks as u32, ports as u32, wires as u32, 0),
+            }
+        }
+        Ask::Refused => Told {
+            held: held,
+            words: five_words(2, 0, 0, 0, 0),
+        },
+    }
+}
+
+// Runs a list from an empty graph, past refused calls, and lays every answer: what `run_all` does.
+pub(crate) fn run_list(requests: &[u8], answers: &mut [u8])
+    requires { ⌜ (length (now answers) ≡ length (now requests)) × (length (now requests) % 20 ≡ 0) ⌝ }
+    ensures { λ _. ⌜ now (answers .exit) ≡ bytesOf (answersFrom emptyGraph (requestsOf (now (requests .entry)))) ⌝ }
+{
+    let mut nodes = [0u32; NODE_WORDS];
+    let mut links = [0u32; PORT_SLOTS];
+    let mut owners = [0u32; PORT_SLOTS];
+    let mut heads = [0u32; FREE_LISTS];
+    let mut marks = [false; PORT_SLOTS];
+    let mut flags = [false; NODE_SLOTS];
+    let mut moves = [0u32; MOVES];
+    let mut held = no_held();
+    let mut at: usize = 0;
+    while at < requests.len() {
+        let ask = ask_at(requests, at);
+        let told = one_request(
+            &mut nodes,
+            &mut links,
+            &mut owners,
+            &mut heads,
+            &mut marks,
+            &mut flags,
+            held,
+            &mut moves,
+            ask,
+        );
+        let words = told.words;
+        held = told.held;
+        put_answer(answers, at, words);
+        at += 20;
+    }
+}

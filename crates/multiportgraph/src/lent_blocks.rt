@@ -135,7 +135,17 @@ pub fn remove_in(
             answer: RemoveAnswer::Refused(Refusal::HiddenNode),
         };
     }
-    let bare = unsplit_range_in(nodes, links, owners, heads, marks, flags, held, meta.first_port.0, meta.port_count());
+    let bare = unsplit_range_in(
+        nodes,
+        links,
+        owners,
+        heads,
+        marks,
+        flags,
+        held,
+        meta.first_port.0,
+        meta.port_count(),
+    );
     let counts = bare.counts;
     let removed = remove_node_in(nodes, links, owners, heads, counts, node);
     let after = removed.counts;
@@ -219,8 +229,32 @@ fn list_dropped<'a>(
     let old_out = wide16(meta.outgoing);
     let kept_in = smaller(old_in, incoming);
     let kept_out = smaller(old_out, outgoing);
-    let middle = list_copies(nodes, links, owners, heads, marks, flags, held, list, 0, first + kept_in, old_in - kept_in);
-    list_copies(nodes, links, owners, heads, marks, flags, held, list, middle, first + old_in + kept_out, old_out - kept_out)
+    let middle = list_copies(
+        nodes,
+        links,
+        owners,
+        heads,
+        marks,
+        flags,
+        held,
+        list,
+        0,
+        first + kept_in,
+        old_in - kept_in,
+    );
+    list_copies(
+        nodes,
+        links,
+        owners,
+        heads,
+        marks,
+        flags,
+        held,
+        list,
+        middle,
+        first + old_in + kept_out,
+        old_out - kept_out,
+    )
 }
 
 fn set_as(answer: LowerSet) -> SetAnswer
@@ -256,9 +290,31 @@ fn resize_in(
         × (now (moves .exit) ≡ movesTold (multiIn (now (nodes .entry)) (now (links .entry)) (now (owners .entry)) (now (heads .entry)) (now (marks .entry)) (now (flags .entry)) held) (node .0) incoming outgoing (now (moves .entry))) ⌝ }
 {
     let mut list = [0u32; NODE_PORTS];
-    let count = list_dropped(nodes, links, owners, heads, marks, flags, held, &mut list, meta, incoming, outgoing);
+    let count = list_dropped(
+        nodes,
+        links,
+        owners,
+        heads,
+        marks,
+        flags,
+        held,
+        &mut list,
+        meta,
+        incoming,
+        outgoing,
+    );
     let counts = held.counts;
-    let sized = set_num_ports_in(nodes, links, owners, heads, counts, node, incoming, outgoing, moves);
+    let sized = set_num_ports_in(
+        nodes,
+        links,
+        owners,
+        heads,
+        counts,
+        node,
+        incoming,
+        outgoing,
+        moves,
+    );
     let after = sized.counts;
     let answer = sized.answer;
     let LowerSet::Set(_) = answer else {
@@ -269,7 +325,17 @@ fn resize_in(
     };
     recount(marks, MaybeNodeMeta::Some(meta), meta_in(nodes, node.0));
     SetIn {
-        held: remove_all_in(nodes, links, owners, heads, marks, flags, with_counts(held, after), &list, count),
+        held: remove_all_in(
+            nodes,
+            links,
+            owners,
+            heads,
+            marks,
+            flags,
+            with_counts(held, after),
+            &list,
+            count,
+        ),
         answer: set_as(answer),
     }
 }
@@ -317,5 +383,18 @@ pub fn set_in(
             answer: SetAnswer::Refused(Refusal::HiddenNode),
         };
     }
-    resize_in(nodes, links, owners, heads, marks, flags, held, node, meta, incoming, outgoing, moves)
+    resize_in(
+        nodes,
+        links,
+        owners,
+        heads,
+        marks,
+        flags,
+        held,
+        node,
+        meta,
+        incoming,
+        outgoing,
+        moves,
+    )
 }

@@ -69,11 +69,7 @@ fn copy_side_in<'a>(
 }
 
 // The port that a port is linked with; 0 for none.
-fn far_port_in<'a>(
-    links: &'a [u32; PORT_SLOTS],
-    owners: &'a [u32; PORT_SLOTS],
-    port: u32,
-) -> u32
+fn far_port_in<'a>(links: &'a [u32; PORT_SLOTS], owners: &'a [u32; PORT_SLOTS], port: u32) -> u32
     ensures { λ r. ⌜ r ≡ farPortIn (now (links .entry)) (now (owners .entry)) port ⌝ }
 {
     let PortEntry::Port(_) = PortEntry::read(at(owners, wide(port))) else {
@@ -163,7 +159,16 @@ pub(crate) fn unsplit_range_in(
     let mut left = held;
     let mut k: usize = 0;
     while k < count {
-        left = unsplit_in(nodes, links, owners, heads, marks, flags, left, (wide(first) + k) as u32);
+        left = unsplit_in(
+            nodes,
+            links,
+            owners,
+            heads,
+            marks,
+            flags,
+            left,
+            (wide(first) + k) as u32,
+        );
         k += 1;
     }
     left

@@ -85,7 +85,18 @@ fn try_both_in(
     let first = prepare_in(nodes, links, owners, heads, marks, flags, held, a, d, moves);
     let middle = first.held;
     if first.ready {
-        let second = prepare_in(nodes, links, owners, heads, marks, flags, middle, b, e, moves);
+        let second = prepare_in(
+            nodes,
+            links,
+            owners,
+            heads,
+            marks,
+            flags,
+            middle,
+            b,
+            e,
+            moves,
+        );
         let last = second.held;
         if second.ready {
             let x = first.port;
@@ -102,7 +113,15 @@ fn try_both_in(
                 };
             }
             let counts = last.counts;
-            let linked = link_ports_in(nodes, links, owners, heads, counts, PortIndex(x), PortIndex(y));
+            let linked = link_ports_in(
+                nodes,
+                links,
+                owners,
+                heads,
+                counts,
+                PortIndex(x),
+                PortIndex(y),
+            );
             let after = linked.counts;
             return TriedIn {
                 held: with_counts(last, after),
@@ -175,7 +194,20 @@ fn link_full_in(
     let old_heads = *heads;
     let old_marks = *marks;
     let old_flags = *flags;
-    let tried = try_both_in(nodes, links, owners, heads, marks, flags, held, a, d, b, e, moves);
+    let tried = try_both_in(
+        nodes,
+        links,
+        owners,
+        heads,
+        marks,
+        flags,
+        held,
+        a,
+        d,
+        b,
+        e,
+        moves,
+    );
     let after = tried.held;
     let answer = tried.answer;
     if tried.done {
@@ -216,7 +248,20 @@ fn link_both_in(
         × (r .answer ≡ linkBoth (multiIn (now (nodes .entry)) (now (links .entry)) (now (owners .entry)) (now (heads .entry)) (now (marks .entry)) (now (flags .entry)) held) a d b e (prepare (multiIn (now (nodes .entry)) (now (links .entry)) (now (owners .entry)) (now (heads .entry)) (now (marks .entry)) (now (flags .entry)) held) a d) .answer) ⌝ }
 {
     if plenty(held) {
-        let tried = try_both_in(nodes, links, owners, heads, marks, flags, held, a, d, b, e, moves);
+        let tried = try_both_in(
+            nodes,
+            links,
+            owners,
+            heads,
+            marks,
+            flags,
+            held,
+            a,
+            d,
+            b,
+            e,
+            moves,
+        );
         let after = tried.held;
         let answer = tried.answer;
         return LinkedIn {
@@ -224,7 +269,20 @@ fn link_both_in(
             answer: answer,
         };
     }
-    link_full_in(nodes, links, owners, heads, marks, flags, held, a, d, b, e, moves)
+    link_full_in(
+        nodes,
+        links,
+        owners,
+        heads,
+        marks,
+        flags,
+        held,
+        a,
+        d,
+        b,
+        e,
+        moves,
+    )
 }
 
 // MultiPortGraph::link_ports over lent tables.
@@ -265,7 +323,32 @@ pub fn link_in(
             held: held,
             answer: LinkAnswer::Refused(refusal),
         },
-        LinkNeed::First(d) => link_first_in(nodes, links, owners, heads, marks, flags, held, port_a.0, d, port_b, moves),
-        LinkNeed::Both(d, e) => link_both_in(nodes, links, owners, heads, marks, flags, held, port_a.0, d, port_b.0, e, moves),
+        LinkNeed::First(d) => link_first_in(
+            nodes,
+            links,
+            owners,
+            heads,
+            marks,
+            flags,
+            held,
+            port_a.0,
+            d,
+            port_b,
+            moves,
+        ),
+        LinkNeed::Both(d, e) => link_both_in(
+            nodes,
+            links,
+            owners,
+            heads,
+            marks,
+            flags,
+            held,
+            port_a.0,
+            d,
+            port_b.0,
+            e,
+            moves,
+        ),
     }
 }

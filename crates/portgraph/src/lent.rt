@@ -55,7 +55,13 @@ pub fn slot_in(nodes: &[u32; NODE_WORDS], n: usize) -> NodeSlot
         return NodeSlot::new_free(0, 0);
     }
     let k = 5 * n;
-    slot_of_words(nodes[k], nodes[k + 1], nodes[k + 2], nodes[k + 3], nodes[k + 4])
+    slot_of_words(
+        nodes[k],
+        nodes[k + 1],
+        nodes[k + 2],
+        nodes[k + 3],
+        nodes[k + 4],
+    )
 }
 
 // Stores a slot as its five numbers; outside nothing changes.

@@ -55,7 +55,7 @@ pub fn link_ports_in(
 ) -> PortsLinkedIn
     requires { ⌜ Wf (graphIn (now nodes) (now links) (now owners) (now heads) counts) ⌝ }
     ensures { λ r. ⌜ (graphIn (now (nodes .exit)) (now (links .exit)) (now (owners .exit)) (now (heads .exit)) (r .counts)
-            ≡ linkPorts (graphIn (now (nodes .entry)) (now (links .entry)) (now (owners .entry)) (now (heads .entry)) counts) («port_a» .0) («port_b» .0) .graph)
+        ≡ linkPorts (graphIn (now (nodes .entry)) (now (links .entry)) (now (owners .entry)) (now (heads .entry)) counts) («port_a» .0) («port_b» .0) .graph)
         × (r .answer ≡ linkPorts (graphIn (now (nodes .entry)) (now (links .entry)) (now (owners .entry)) (now (heads .entry)) counts) («port_a» .0) («port_b» .0) .answer) ⌝ }
 {
     let a = wide(port_a.0);
@@ -109,7 +109,7 @@ pub fn unlink_port_in(
     port: PortIndex,
 ) -> PortUnlinkedIn
     ensures { λ r. ⌜ (graphIn (now (nodes .exit)) (now (links .exit)) (now (owners .exit)) (now (heads .exit)) (r .counts)
-            ≡ unlinkPort (graphIn (now (nodes .entry)) (now (links .entry)) (now (owners .entry)) (now (heads .entry)) counts) (port .0) .graph)
+        ≡ unlinkPort (graphIn (now (nodes .entry)) (now (links .entry)) (now (owners .entry)) (now (heads .entry)) counts) (port .0) .graph)
         × (r .answer ≡ unlinkPort (graphIn (now (nodes .entry)) (now (links .entry)) (now (owners .entry)) (now (heads .entry)) counts) (port .0) .answer) ⌝ }
 {
     let place = wide(port.0);

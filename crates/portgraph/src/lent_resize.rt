@@ -65,7 +65,7 @@ fn resize_inside_in(
     requires { ⌜ Wf (graphIn (now nodes) (now links) (now owners) (now heads) counts)
         × (node .0 < nodeSlots) × (incoming + outgoing ≤ meta .capacity) × BlockFits meta ⌝ }
     ensures { λ r. ⌜ (graphIn (now (nodes .exit)) (now (links .exit)) (now (owners .exit)) (now (heads .exit)) (r .counts)
-            ≡ setBy (graphIn (now (nodes .entry)) (now (links .entry)) (now (owners .entry)) (now (heads .entry)) counts) (node .0) incoming outgoing (inside meta) .graph)
+        ≡ setBy (graphIn (now (nodes .entry)) (now (links .entry)) (now (owners .entry)) (now (heads .entry)) counts) (node .0) incoming outgoing (inside meta) .graph)
         × (r .answer ≡ setBy (graphIn (now (nodes .entry)) (now (links .entry)) (now (owners .entry)) (now (heads .entry)) counts) (node .0) incoming outgoing (inside meta) .answer)
         × (now (moves .exit) ≡ sets (now (moves .entry)) 0 (insideTold (graphIn (now (nodes .entry)) (now (links .entry)) (now (owners .entry)) (now (heads .entry)) counts) meta incoming outgoing)) ⌝ }
 {
@@ -124,7 +124,7 @@ fn resize_anew_in(
     requires { ⌜ Wf (graphIn (now nodes) (now links) (now owners) (now heads) counts)
         × (node .0 < nodeSlots) × (incoming + outgoing ≤ nodePorts) × BlockFits meta × (findBlock (now heads) (counts .«port_len») (roundUp (incoming + outgoing)) ≡ Found.At «new_first») ⌝ }
     ensures { λ r. ⌜ (graphIn (now (nodes .exit)) (now (links .exit)) (now (owners .exit)) (now (heads .exit)) (r .counts)
-            ≡ setBy (graphIn (now (nodes .entry)) (now (links .entry)) (now (owners .entry)) (now (heads .entry)) counts) (node .0) incoming outgoing (anew meta «new_first») .graph)
+        ≡ setBy (graphIn (now (nodes .entry)) (now (links .entry)) (now (owners .entry)) (now (heads .entry)) counts) (node .0) incoming outgoing (anew meta «new_first») .graph)
         × (r .answer ≡ setBy (graphIn (now (nodes .entry)) (now (links .entry)) (now (owners .entry)) (now (heads .entry)) counts) (node .0) incoming outgoing (anew meta «new_first») .answer)
         × (now (moves .exit) ≡ sets (now (moves .entry)) 0 (anewTold (graphIn (now (nodes .entry)) (now (links .entry)) (now (owners .entry)) (now (heads .entry)) counts) meta incoming outgoing «new_first»)) ⌝ }
 {
@@ -190,7 +190,7 @@ pub fn set_num_ports_in(
 ) -> PortsSetIn
     requires { ⌜ Wf (graphIn (now nodes) (now links) (now owners) (now heads) counts) ⌝ }
     ensures { λ r. ⌜ (graphIn (now (nodes .exit)) (now (links .exit)) (now (owners .exit)) (now (heads .exit)) (r .counts)
-            ≡ setNumPorts (graphIn (now (nodes .entry)) (now (links .entry)) (now (owners .entry)) (now (heads .entry)) counts) (node .0) incoming outgoing (length (now (moves .entry))) .graph)
+        ≡ setNumPorts (graphIn (now (nodes .entry)) (now (links .entry)) (now (owners .entry)) (now (heads .entry)) counts) (node .0) incoming outgoing (length (now (moves .entry))) .graph)
         × (r .answer ≡ setNumPorts (graphIn (now (nodes .entry)) (now (links .entry)) (now (owners .entry)) (now (heads .entry)) counts) (node .0) incoming outgoing (length (now (moves .entry))) .answer)
         × (now (moves .exit) ≡ movesAfter (graphIn (now (nodes .entry)) (now (links .entry)) (now (owners .entry)) (now (heads .entry)) counts) (node .0) incoming outgoing (now (moves .entry))) ⌝ }
 {

@@ -57,7 +57,7 @@ pub fn add_node_in(
 ) -> NodeAddedIn
     requires { ⌜ Wf (graphIn (now nodes) (now links) (now owners) (now heads) counts) ⌝ }
     ensures { λ r. ⌜ (graphIn (now (nodes .exit)) (now (links .exit)) (now (owners .exit)) (now (heads .exit)) (r .counts)
-            ≡ addNode (graphIn (now (nodes .entry)) (now (links .entry)) (now (owners .entry)) (now (heads .entry)) counts) incoming outgoing .graph)
+        ≡ addNode (graphIn (now (nodes .entry)) (now (links .entry)) (now (owners .entry)) (now (heads .entry)) counts) incoming outgoing .graph)
         × (r .answer ≡ addNode (graphIn (now (nodes .entry)) (now (links .entry)) (now (owners .entry)) (now (heads .entry)) counts) incoming outgoing .answer) ⌝ }
 {
     if NODE_PORTS < incoming {
@@ -126,7 +126,7 @@ pub fn remove_node_in(
 ) -> NodeRemovedIn
     requires { ⌜ Wf (graphIn (now nodes) (now links) (now owners) (now heads) counts) ⌝ }
     ensures { λ r. ⌜ (graphIn (now (nodes .exit)) (now (links .exit)) (now (owners .exit)) (now (heads .exit)) (r .counts)
-            ≡ removeNode (graphIn (now (nodes .entry)) (now (links .entry)) (now (owners .entry)) (now (heads .entry)) counts) (node .0) .graph)
+        ≡ removeNode (graphIn (now (nodes .entry)) (now (links .entry)) (now (owners .entry)) (now (heads .entry)) counts) (node .0) .graph)
         × (r .answer ≡ removeNode (graphIn (now (nodes .entry)) (now (links .entry)) (now (owners .entry)) (now (heads .entry)) counts) (node .0) .answer) ⌝ }
 {
     let MaybeNodeMeta::Some(meta) = meta_in(nodes, node.0) else {

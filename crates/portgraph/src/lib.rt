@@ -3,12 +3,12 @@
 pub mod direction;
 pub mod index;
 pub mod iter;
-pub mod link_iter;
 pub mod lent;
 pub mod lent_links;
 pub mod lent_reads;
 pub mod lent_resize;
 pub mod lent_slots;
+pub mod link_iter;
 pub mod node_entry;
 pub mod port_entry;
 pub mod portgraph;

@@ -124,7 +124,12 @@ pub(crate) fn drop_both(
 }
 
 // Moves the outgoing ports that stay, and clears new slots and slots no longer used.
-pub(crate) fn inside_links(links: &mut [u32; PORT_SLOTS], meta: NodeMeta, incoming: usize, outgoing: usize)
+pub(crate) fn inside_links(
+    links: &mut [u32; PORT_SLOTS],
+    meta: NodeMeta,
+    incoming: usize,
+    outgoing: usize,
+)
     requires { ⌜ (meta .«first_port» .0 + meta .capacity ≤ portSlots) × (meta .incoming + meta .outgoing ≤ meta .capacity)
         × (incoming + outgoing ≤ meta .capacity) × (meta .capacity ≤ nodePorts) ⌝ }
     ensures { λ _. ⌜ now (links .exit) ≡ insideLinks (now (links .entry)) meta incoming outgoing ⌝ }

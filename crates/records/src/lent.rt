@@ -64,7 +64,17 @@ fn one_request(
 {
     match ask {
         Ask::Add(incoming, outgoing) => {
-            let added = add_in(nodes, links, owners, heads, marks, flags, held, incoming as usize, outgoing as usize);
+            let added = add_in(
+                nodes,
+                links,
+                owners,
+                heads,
+                marks,
+                flags,
+                held,
+                incoming as usize,
+                outgoing as usize,
+            );
             let after = added.held;
             let answer = added.answer;
             Told {
@@ -73,7 +83,16 @@ fn one_request(
             }
         }
         Ask::Remove(node) => {
-            let removed = remove_in(nodes, links, owners, heads, marks, flags, held, NodeIndex(node));
+            let removed = remove_in(
+                nodes,
+                links,
+                owners,
+                heads,
+                marks,
+                flags,
+                held,
+                NodeIndex(node),
+            );
             let after = removed.held;
             let answer = removed.answer;
             Told {
@@ -103,7 +122,18 @@ fn one_request(
             }
         }
         Ask::Link(a, b) => {
-            let linked = link_in(nodes, links, owners, heads, marks, flags, held, PortIndex(a), PortIndex(b), moves);
+            let linked = link_in(
+                nodes,
+                links,
+                owners,
+                heads,
+                marks,
+                flags,
+                held,
+                PortIndex(a),
+                PortIndex(b),
+                moves,
+            );
             let after = linked.held;
             let answer = linked.answer;
             Told {
@@ -112,7 +142,16 @@ fn one_request(
             }
         }
         Ask::Unlink(port) => {
-            let cut = cut_port_in(nodes, links, owners, heads, marks, flags, held, PortIndex(port));
+            let cut = cut_port_in(
+                nodes,
+                links,
+                owners,
+                heads,
+                marks,
+                flags,
+                held,
+                PortIndex(port),
+            );
             let after = cut.held;
             let answer = cut.answer;
             Told {
@@ -121,7 +160,17 @@ fn one_request(
             }
         }
         Ask::LinkSubports(p, o, q, r) => {
-            let linked = link_sub_in(nodes, links, owners, heads, marks, flags, held, subport(p, o), subport(q, r));
+            let linked = link_sub_in(
+                nodes,
+                links,
+                owners,
+                heads,
+                marks,
+                flags,
+                held,
+                subport(p, o),
+                subport(q, r),
+            );
             let after = linked.held;
             let answer = linked.answer;
             Told {
@@ -130,7 +179,16 @@ fn one_request(
             }
         }
         Ask::UnlinkSubport(p, o) => {
-            let cut = cut_sub_in(nodes, links, owners, heads, marks, flags, held, subport(p, o));
+            let cut = cut_sub_in(
+                nodes,
+                links,
+                owners,
+                heads,
+                marks,
+                flags,
+                held,
+                subport(p, o),
+            );
             let after = cut.held;
             let answer = cut.answer;
             Told {
@@ -139,7 +197,16 @@ fn one_request(
             }
         }
         Ask::SubportLink(p, o) => {
-            let answer = subport_link_in(nodes, links, owners, heads, marks, flags, held, subport(p, o));
+            let answer = subport_link_in(
+                nodes,
+                links,
+                owners,
+                heads,
+                marks,
+                flags,
+                held,
+                subport(p, o),
+            );
             Told {
                 held: held,
                 words: cut_words(answer),

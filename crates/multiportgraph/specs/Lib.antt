@@ -26,7 +26,8 @@
 --   a step gives only what is listed beyond what its cursor holds (WalkHeldLaws)
 --   the work of a call is what it takes and gives back, and 10 is given exactly if a table would grow past its limit (SpaceLaws)
 -- These speak in the words of Model (a node is live, a port stands at a place) and, for 10, of Space (the work of a call).
--- Forms has the enums and structs in which inner functions give what Reading and Calls say, Reads what the code reads off lent tables.
+-- Forms has the enums and structs in which inner functions give what Reading and Calls say, Reads and Named what the code reads off
+-- lent tables; MultiLent has the same graph as tables apart, for the run that copies none: multiIn puts them together.
 pub mod Reading
 pub mod Calls
 pub mod Wires

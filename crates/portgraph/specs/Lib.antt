@@ -1,9 +1,9 @@
 -- The single-link graph: what it is, what its calls do, and the laws.
 --
--- What must be believed: that the definitions which contracts cite say what document 01 says. They stand in seven files, in this order:
+-- What must be believed: that the definitions which contracts cite say what document 01 says. They stand in eight files, in this order:
 --   Limits, Entries, Tables     the numbers in the tables, and single steps on them
 --   Lookups, Calls, Resize      each call: answer, graph and move list as the contracts cite them
---   Walks                       the steps of the cursors
+--   Walks, LinkWalks            the steps of the cursors
 -- and three words of Meaning: metaOf, sameSide, newCount.
 --
 -- What is proved, and need not be believed: everything else. A contract presumes of its graph only that it came from these calls
@@ -18,7 +18,9 @@
 --   model that Meaning gives
 --   slot-found, block-found (SlotHolds, BlockHolds): the slot or block freed last is taken first, else the end
 --   told-length, told-first, moves-kept, kept-link (ResizeLaws): the move list, and that a kept port keeps its link
---   walk-gives-all-nodes, walk-gives-all-ports, walk-gives-all-offsets (WalkLaws)
+--   walk-gives-all-nodes, walk-gives-all-ports, walk-gives-all-offsets (WalkLaws), walk-gives-all-links, walk-gives-all-neighbours,
+--   walk-gives-all-connections, walk-gives-all-live-ports (LinkWalkLaws)
+-- Lent has the same graph as tables apart, each lent to the calls: graphIn puts them together.
 pub mod Limits
 pub mod Entries
 pub mod Tables

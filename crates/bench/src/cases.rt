@@ -41,17 +41,17 @@ fn after_b() -> State
         .asked([COUNTS, 0, 0, 0, 0], [0, 2, 3, 2, 0])
 }
 
-pub fn case_a() -> bool {
+pub(crate) fn case_a() -> bool {
     let state = after_a();
     state.good
 }
 
-pub fn case_b() -> bool {
+pub(crate) fn case_b() -> bool {
     let state = after_b();
     state.good
 }
 
-pub fn case_c() -> bool {
+pub(crate) fn case_c() -> bool {
     let state = after_b()
         .asked([LINK, 0, 2, 0, 0], [0, 0, 2, 2, 1])
         .asked([COUNTS, 0, 0, 0, 0], [0, 2, 3, 3, 0])
@@ -59,7 +59,7 @@ pub fn case_c() -> bool {
     state.good
 }
 
-pub fn case_d() -> bool {
+pub(crate) fn case_d() -> bool {
     let state = after_a()
         .asked([LINK, 1, 2, 0, 0], [12, 4, 2, 0, 0])
         .listed(1, &[1, 0, 1, 1, 2, 0])
@@ -67,7 +67,7 @@ pub fn case_d() -> bool {
     state.good
 }
 
-pub fn case_e() -> bool {
+pub(crate) fn case_e() -> bool {
     let first = after_b()
         .asked([UNLINK, 0, 0, 0, 0], [0, 1, 0, 0, 0])
         .wired(0);
@@ -75,14 +75,14 @@ pub fn case_e() -> bool {
     both(first, second)
 }
 
-pub fn case_f() -> bool {
+pub(crate) fn case_f() -> bool {
     let first = after_a().asked([SUBPORT_LINK, 1, 5, 0, 0], [0, 1, 0, 0, 0]);
     let second = after_b().asked([SUBPORT_LINK, 0, 2, 0, 0], [9, 0, 0, 0, 0]);
     both(first, second)
 }
 
 // Each link on a graph of its own.
-pub fn case_g() -> bool {
+pub(crate) fn case_g() -> bool {
     let first = start().asked([LINK, 0, 0, 0, 0], [12, 0, 0, 1, 0]);
     let second = start().asked([LINK, 0, 9, 0, 0], [11, 9, 0, 0, 0]);
     let third = start().asked([LINK, 9, 0, 0, 0], [7, 9, 0, 0, 0]);
@@ -93,21 +93,21 @@ pub fn case_g() -> bool {
     }
 }
 
-pub fn case_h() -> bool {
+pub(crate) fn case_h() -> bool {
     let state = after_b()
         .asked([REMOVE, 2, 0, 0, 0], [5, 0, 0, 0, 0])
         .asked([REMOVE, 7, 0, 0, 0], [4, 0, 0, 0, 0]);
     state.good
 }
 
-pub fn case_i() -> bool {
+pub(crate) fn case_i() -> bool {
     let state = start()
         .asked([RESIZE, 0, 0, 0, 0], [0, 1, 0, 0, 0])
         .asked([ADD, 0, 1, 0, 0], [0, 2, 0, 0, 0]);
     state.good
 }
 
-pub fn case_j() -> bool {
+pub(crate) fn case_j() -> bool {
     let state = State::new()
         .asked([ADD, 512, 512, 0, 0], [0, 0, 0, 0, 0])
         .asked([ADD, 512, 512, 0, 0], [0, 1, 1024, 0, 0])
@@ -117,7 +117,7 @@ pub fn case_j() -> bool {
     state.good
 }
 
-pub fn case_k() -> bool {
+pub(crate) fn case_k() -> bool {
     let state = State::new()
         .asked([ADD, 1, 1, 0, 0], [0, 0, 0, 0, 0])
         .asked([ADD, 0, 2, 0, 0], [0, 1, 2, 0, 0])

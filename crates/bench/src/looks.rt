@@ -20,7 +20,7 @@ fn is_subport(subport: SubportIndex, port: u32, offset: u32) -> bool {
 }
 
 // Whether the subports of a node, both sides, are these three: a port and an offset each.
-pub fn lists(graph: MultiPortGraph, node: u32, numbers: &[u32; 6]) -> bool
+pub(crate) fn lists(graph: MultiPortGraph, node: u32, numbers: &[u32; 6]) -> bool
     requires { ⌜ MultiWf graph ⌝ }
 {
     let NodeSubportsStart::Started(start) = graph.subports(NodeIndex(node), Sides::Both) else {
@@ -45,7 +45,7 @@ pub fn lists(graph: MultiPortGraph, node: u32, numbers: &[u32; 6]) -> bool
 }
 
 // Whether the list of all wires has so many.
-pub fn has_wires(graph: MultiPortGraph, count: u32) -> bool
+pub(crate) fn has_wires(graph: MultiPortGraph, count: u32) -> bool
     requires { ⌜ MultiWf graph ⌝ }
 {
     let mut cursor = graph.wires();
@@ -64,7 +64,7 @@ pub fn has_wires(graph: MultiPortGraph, count: u32) -> bool
 }
 
 // Whether a port has so many subports.
-pub fn has_fan_out(graph: MultiPortGraph, port: u32, count: usize) -> bool
+pub(crate) fn has_fan_out(graph: MultiPortGraph, port: u32, count: usize) -> bool
     requires { ⌜ MultiWf graph ⌝ }
 {
     match graph.port_fan_out(PortIndex(port)) {

@@ -55,7 +55,7 @@ fn was_set(answer: SetAnswer, count: usize) -> bool {
 
 impl State {
     // The empty graph.
-    pub fn new() -> Self
+    pub(crate) fn new() -> Self
         ensures { λ r. ⌜ MultiWf (r .graph) ⌝ }
     {
         State {
@@ -76,7 +76,7 @@ impl State {
     }
 
     // A request, a code with its arguments, and its answer: 0 or the refusal, then values.
-    pub fn asked(self, request: [u32; 5], words: [u32; 5]) -> Self
+    pub(crate) fn asked(self, request: [u32; 5], words: [u32; 5]) -> Self
         requires { ⌜ MultiWf (self .graph) ⌝ }
         ensures { λ r. ⌜ MultiWf (r .graph) ⌝ }
     {
@@ -99,7 +99,7 @@ impl State {
     }
 
     // A resize of a node with two ports, its number of events and its move list.
-    pub fn resized(
+    pub(crate) fn resized(
         self,
         node: u32,
         incoming: u32,
@@ -125,7 +125,7 @@ impl State {
     }
 
     // The three subports of a node, a port and an offset each.
-    pub fn listed(self, node: u32, numbers: &[u32; 6]) -> Self
+    pub(crate) fn listed(self, node: u32, numbers: &[u32; 6]) -> Self
         requires { ⌜ MultiWf (self .graph) ⌝ }
         ensures { λ r. ⌜ MultiWf (r .graph) ⌝ }
     {
@@ -134,7 +134,7 @@ impl State {
     }
 
     // The number of all wires.
-    pub fn wired(self, count: u32) -> Self
+    pub(crate) fn wired(self, count: u32) -> Self
         requires { ⌜ MultiWf (self .graph) ⌝ }
         ensures { λ r. ⌜ MultiWf (r .graph) ⌝ }
     {
@@ -143,7 +143,7 @@ impl State {
     }
 
     // A port that is not split.
-    pub fn unsplit(self, port: u32) -> Self
+    pub(crate) fn unsplit(self, port: u32) -> Self
         requires { ⌜ MultiWf (self .graph) ⌝ }
         ensures { λ r. ⌜ MultiWf (r .graph) ⌝ }
     {

@@ -36,8 +36,7 @@ pub(crate) fn subport(port: u32, offset: u16) -> SubportIndex
 }
 
 // Runs a list from an empty graph, past refused calls, and lays every answer, by the calls that take the graph by value.
-// The entry runs `run_list`, which holds to the same contract and copies no table.
-pub fn run_all(requests: &[u8], answers: &mut [u8])
+fn run_all(requests: &[u8], answers: &mut [u8])
     requires { ⌜ (length (now answers) ≡ length (now requests)) × (length (now requests) % 20 ≡ 0) ⌝ }
     ensures { λ _. ⌜ now (answers .exit) ≡ bytesOf (answersFrom emptyGraph (requestsOf (now (requests .entry)))) ⌝ }
 {
@@ -121,5 +120,20 @@ pub extern "C" fn run_records(requests: &[u8], answers: &mut [u8]) -> u32
         return 1;
     }
     run_list(requests, answers);
+    0
+}
+
+// The same by the calls that take the graph by value: the plain form, which the entry over lent tables equals.
+pub fn run_by_value(requests: &[u8], answers: &mut [u8]) -> u32
+    ensures { λ r. ⌜ (r ≡ returned (now (requests .entry)) (now (answers .entry)))
+        × (now (answers .exit) ≡ written (now (requests .entry)) (now (answers .entry))) ⌝ }
+{
+    if requests.len() != answers.len() {
+        return 1;
+    }
+    if requests.len() % 20 != 0 {
+        return 1;
+    }
+    run_all(requests, answers);
     0
 }

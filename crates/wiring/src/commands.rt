@@ -29,7 +29,7 @@ fn request(graph: MultiPortGraph, code: u32, numbers: Numbers, values: u32) -> M
 }
 
 // A command that changes the graph, or asks for what a request asks.
-pub fn run(graph: MultiPortGraph, word: Word, numbers: Numbers) -> MultiPortGraph
+pub(crate) fn run(graph: MultiPortGraph, word: Word, numbers: Numbers) -> MultiPortGraph
     requires { ⌜ MultiWf graph ⌝ }
     ensures { λ r. ⌜ MultiWf r ⌝ }
 {

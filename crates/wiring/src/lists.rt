@@ -46,7 +46,7 @@ fn show_link(link: SubportLink) {
     with_subport(with_subport(Line::of(b" "), from), to).write();
 }
 
-pub fn blocks(graph: MultiPortGraph) -> usize
+pub(crate) fn blocks(graph: MultiPortGraph) -> usize
     requires { ⌜ MultiWf graph ⌝ }
 {
     let mut cursor = graph.nodes_iter();
@@ -62,7 +62,7 @@ pub fn blocks(graph: MultiPortGraph) -> usize
     count
 }
 
-pub fn subports(graph: MultiPortGraph, node: u32, sides: Sides) -> Listed
+pub(crate) fn subports(graph: MultiPortGraph, node: u32, sides: Sides) -> Listed
     requires { ⌜ MultiWf graph ⌝ }
 {
     match graph.subports(NodeIndex(node), sides) {
@@ -83,7 +83,7 @@ pub fn subports(graph: MultiPortGraph, node: u32, sides: Sides) -> Listed
     }
 }
 
-pub fn links(graph: MultiPortGraph, port: u32) -> Listed
+pub(crate) fn links(graph: MultiPortGraph, port: u32) -> Listed
     requires { ⌜ MultiWf graph ⌝ }
 {
     match graph.port_links(PortIndex(port)) {
@@ -104,7 +104,7 @@ pub fn links(graph: MultiPortGraph, port: u32) -> Listed
     }
 }
 
-pub fn back(graph: MultiPortGraph, port: u32) -> Listed
+pub(crate) fn back(graph: MultiPortGraph, port: u32) -> Listed
     requires { ⌜ MultiWf graph ⌝ }
 {
     match graph.port_links(PortIndex(port)) {
@@ -125,7 +125,7 @@ pub fn back(graph: MultiPortGraph, port: u32) -> Listed
     }
 }
 
-pub fn node_links(graph: MultiPortGraph, node: u32, sides: Sides, lo: u32, hi: u32) -> Listed
+pub(crate) fn node_links(graph: MultiPortGraph, node: u32, sides: Sides, lo: u32, hi: u32) -> Listed
     requires { ⌜ MultiWf graph ⌝ }
 {
     match graph.links(NodeIndex(node), sides, lo, hi) {
@@ -146,7 +146,12 @@ pub fn node_links(graph: MultiPortGraph, node: u32, sides: Sides, lo: u32, hi: u
     }
 }
 
-pub fn neighbours(graph: MultiPortGraph, node: u32, sides: Sides, ignore_self: bool) -> Listed
+pub(crate) fn neighbours(
+    graph: MultiPortGraph,
+    node: u32,
+    sides: Sides,
+    ignore_self: bool,
+) -> Listed
     requires { ⌜ MultiWf graph ⌝ }
 {
     match graph.neighbours(NodeIndex(node), sides, ignore_self) {
@@ -167,7 +172,7 @@ pub fn neighbours(graph: MultiPortGraph, node: u32, sides: Sides, ignore_self: b
     }
 }
 
-pub fn connections(graph: MultiPortGraph, from: u32, to: u32) -> Listed
+pub(crate) fn connections(graph: MultiPortGraph, from: u32, to: u32) -> Listed
     requires { ⌜ MultiWf graph ⌝ }
 {
     match graph.get_connections(NodeIndex(from), NodeIndex(to)) {
@@ -205,7 +210,7 @@ fn with_place(graph: MultiPortGraph, line: Line, subport: SubportIndex) -> Line
 }
 
 // All wires: as subports, or as places.
-pub fn wires(graph: MultiPortGraph, as_places: bool) -> usize
+pub(crate) fn wires(graph: MultiPortGraph, as_places: bool) -> usize
     requires { ⌜ MultiWf graph ⌝ }
 {
     let mut cursor = graph.wires();

@@ -33,7 +33,7 @@ fn with_values(line: Line, answer: Answer5, count: u32) -> Line {
 }
 
 // An answer with so many values, or the refusal with what it carries.
-pub fn show_answer(answer: Answer5, values: u32) {
+pub(crate) fn show_answer(answer: Answer5, values: u32) {
     if answer.a == 0 {
         with_values(Line::of(b"ok"), answer, values).write();
     } else {
@@ -45,28 +45,28 @@ pub fn show_answer(answer: Answer5, values: u32) {
     }
 }
 
-pub fn show_refusal(refusal: Refusal) {
+pub(crate) fn show_refusal(refusal: Refusal) {
     show_answer(refusal_words(refusal), 0);
 }
 
 // `ok` with one number.
-pub fn show_number(value: u64) {
+pub(crate) fn show_number(value: u64) {
     Line::of(b"ok").long(value).write();
 }
 
-pub fn show_count(answer: CountAnswer) {
+pub(crate) fn show_count(answer: CountAnswer) {
     match answer {
         CountAnswer::Count(count) => show_number(count as u64),
         CountAnswer::Refused(refusal) => show_refusal(refusal),
     }
 }
 
-pub fn show_bad(line: u64) {
+pub(crate) fn show_bad(line: u64) {
     Line::of(b"bad line").long(line).write();
 }
 
 // The commands, and what each does.
-pub fn show_help() {
+pub(crate) fn show_help() {
     Line::of(b"add IN OUT              a block with so many inputs and outputs").write();
     Line::of(b"remove N                takes a block away, with its wires").write();
     Line::of(

@@ -33,7 +33,7 @@ fn show_moves(moves: &[u32; MOVES], events: usize) {
     }
 }
 
-pub fn resize_block(graph: MultiPortGraph, numbers: Numbers) -> MultiPortGraph
+pub(crate) fn resize_block(graph: MultiPortGraph, numbers: Numbers) -> MultiPortGraph
     requires { ⌜ MultiWf graph ⌝ }
     ensures { λ r. ⌜ MultiWf r ⌝ }
 {

@@ -26,7 +26,7 @@ impl Line {
         self
     }
 
-    pub fn of(text: &[u8]) -> Self {
+    pub(crate) fn of(text: &[u8]) -> Self {
         let line = Line {
             bytes: [0u8; WIDTH],
             len: 0,
@@ -34,7 +34,7 @@ impl Line {
         line.with(text)
     }
 
-    pub fn with(self, text: &[u8]) -> Self {
+    pub(crate) fn with(self, text: &[u8]) -> Self {
         let mut line = self;
         let mut at = 0;
         while at < text.len() {
@@ -45,18 +45,18 @@ impl Line {
     }
 
     // A blank, and the number in decimal digits.
-    pub fn long(self, value: u64) -> Self {
+    pub(crate) fn long(self, value: u64) -> Self {
         let mut digits = [0u8; 20];
         let count = io::decimal(value, &mut digits);
         self.byte(b' ').with(&digits[..count])
     }
 
-    pub fn number(self, value: u32) -> Self {
+    pub(crate) fn number(self, value: u32) -> Self {
         self.long(value as u64)
     }
 
     // Writes the line with its newline.
-    pub fn write(self) {
+    pub(crate) fn write(self) {
         let line = self.byte(b'\n');
         let bytes = line.bytes;
         write_first(&bytes, line.len);

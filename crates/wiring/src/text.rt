@@ -18,7 +18,7 @@ pub struct Numbers {
 }
 
 // The byte at a place; 0 outside.
-pub fn byte_at(text: &[u8], at: usize) -> u8 {
+pub(crate) fn byte_at(text: &[u8], at: usize) -> u8 {
     if at < text.len() { text[at] } else { 0 }
 }
 
@@ -30,7 +30,7 @@ fn is_blank(byte: u8) -> bool {
 }
 
 // The place of the newline that ends the line, or the end of the text.
-pub fn line_end(text: &[u8], from: usize) -> usize
+pub(crate) fn line_end(text: &[u8], from: usize) -> usize
     ensures { λ r. ⌜ from ≤ r ⌝ }
 {
     let mut at = from;
@@ -44,7 +44,7 @@ pub fn line_end(text: &[u8], from: usize) -> usize
 }
 
 // The end of a line without its carriage return.
-pub fn without_return(text: &[u8], from: usize, to: usize) -> usize {
+pub(crate) fn without_return(text: &[u8], from: usize, to: usize) -> usize {
     if from < to {
         if byte_at(text, to - 1) == b'\r' {
             return to - 1;
@@ -54,7 +54,7 @@ pub fn without_return(text: &[u8], from: usize, to: usize) -> usize {
 }
 
 // The next place that is no blank, or the end.
-pub fn word_start(text: &[u8], from: usize, to: usize) -> usize {
+pub(crate) fn word_start(text: &[u8], from: usize, to: usize) -> usize {
     let mut at = from;
     while at < to {
         if !is_blank(byte_at(text, at)) {
@@ -66,7 +66,7 @@ pub fn word_start(text: &[u8], from: usize, to: usize) -> usize {
 }
 
 // The next blank, or the end.
-pub fn word_end(text: &[u8], from: usize, to: usize) -> usize {
+pub(crate) fn word_end(text: &[u8], from: usize, to: usize) -> usize {
     let mut at = from;
     while at < to {
         if is_blank(byte_at(text, at)) {
@@ -78,7 +78,7 @@ pub fn word_end(text: &[u8], from: usize, to: usize) -> usize {
 }
 
 // Whether a word of the text is this one.
-pub fn is_word(text: &[u8], from: usize, to: usize, word: &[u8]) -> bool {
+pub(crate) fn is_word(text: &[u8], from: usize, to: usize, word: &[u8]) -> bool {
     if to < from {
         return false;
     }
@@ -112,7 +112,7 @@ fn with_digit(value: u32, byte: u8) -> Number {
 }
 
 // The number that a word says in decimal digits.
-pub fn number_of(text: &[u8], from: usize, to: usize) -> Number {
+pub(crate) fn number_of(text: &[u8], from: usize, to: usize) -> Number {
     let mut value: u32 = 0;
     let mut at = from;
     while at < to {
@@ -126,7 +126,7 @@ pub fn number_of(text: &[u8], from: usize, to: usize) -> Number {
 }
 
 impl Numbers {
-    pub fn none() -> Self {
+    pub(crate) fn none() -> Self {
         Numbers {
             bad: false,
             count: 0,
@@ -160,7 +160,7 @@ impl Numbers {
 }
 
 // The numbers from a place on to the end of the line.
-pub fn numbers_of(text: &[u8], from: usize, to: usize) -> Numbers {
+pub(crate) fn numbers_of(text: &[u8], from: usize, to: usize) -> Numbers {
     let mut found = Numbers::none();
     let mut at = word_start(text, from, to);
     let mut left: u32 = 5;

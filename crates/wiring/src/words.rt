@@ -114,7 +114,7 @@ fn or_else(first: Word, second: Word) -> Word {
 }
 
 // The command that a word of the text names.
-pub fn word_of(text: &[u8], from: usize, to: usize) -> Word {
+pub(crate) fn word_of(text: &[u8], from: usize, to: usize) -> Word {
     let word = or_else(changing(text, from, to), asking(text, from, to));
     or_else(word, listing(text, from, to))
 }
@@ -143,7 +143,7 @@ impl Word {
     }
 
     // Whether these numbers can follow: as many as the command takes, a side of at most 2, a flag of at most 1.
-    pub fn takes(self, numbers: Numbers) -> bool {
+    pub(crate) fn takes(self, numbers: Numbers) -> bool {
         if numbers.bad {
             return false;
         }

@@ -1,6 +1,6 @@
 -- What the loops over a block's ports and over listed hidden nodes do, turn by turn, and what the calls that remove or resize a block amount to.
 use mathlib.Core.Path.{_≡_, refl, sym, ap, _∙_}
-use mathlib.Core.Bool.{Bool, true, false}
+use mathlib.Core.Bool.{Bool, true, false, cond}
 use mathlib.Core.List.{List, [], _∷_, _++_}
 use Prim.Native.Nat.{ℕ, zero, suc, _+_, _-_, _≤_, _<_, min}
 use native.Mathlib.Omega.{arith}
@@ -8,13 +8,12 @@ use native.Mathlib.Nat.{zero-add}
 use lib.ListN.{getD, set, length, take, drop, length-append}
 use lib.Seq.{sets, sets-eq, length-sets, drop-cons, take-append-seam}
 use borrow.Author.Tests.{le-leb, lt-leb}
-use Rattle.portgraph.specs.Limits.{portSlots, nodePorts}
-use Rattle.portgraph.specs.Entries.{pick}
+use Rattle.portgraph.specs.Limits.{portSlots, nodePorts, present}
 use Rattle.portgraph.specs.Model.{Wf}
 use Rattle.portgraph.specs.Lookups.{entryAt, metaOfEntry, metaAt}
 use Rattle.portgraph.specs.LookupSteps.{found-block-fits}
 use Rattle.portgraph.specs.Calls.{removeNode}
-use Rattle.portgraph.specs.Resize.{BlockFits, planOf, refuse, setNumPorts, movesAfter}
+use Rattle.portgraph.specs.Resize.{BlockFits, planOf, refuse, setNumPorts, movesAfter, movesAfterUnder}
 use Rattle.portgraph.specs.ResizeSteps.{sets-append, plan-too-many, plan-unknown}
 use Rattle.portgraph.specs.ResizeLaws.{wf-set}
 use Rattle.portgraph.specs.SlotHolds.{wf-remove}
@@ -30,7 +29,7 @@ use Rattle.portgraph.specs.declared.resize.SetAnswer as lower-answer
 use Rattle.portgraph.specs.declared.resize.SetAnswer.the-variants as lower-variants
 use Rattle.portgraph.specs.declared.portgraph.PortGraph.{PortGraph}
 use Rattle.multiportgraph.specs.Reading.{portOf, isHidden, isSplit, copyNode, copySide}
-use Rattle.multiportgraph.specs.Calls.{withGraph, removeNumbers, setNumbers, removeCopy, unsplit, unsplitRange, removeRefused, dropBlock, removeMeta, removeBlock, recounted, copiesIn, copiesDropped, removeLone, removeAll, setRefused, setAs, resized, setMeta, setCounts, toldMeta, movesTold}
+use Rattle.multiportgraph.specs.Calls.{dropBlock, removeBlock, setAs, setCounts, toldMeta, movesTold, movesToldUnder, setCountsUnder}
 use Rattle.multiportgraph.specs.Inner.{MultiWf}
 use Rattle.multiportgraph.specs.Forms.{flagAt}
 use Rattle.multiportgraph.specs.FormSteps.{flag-inside}
@@ -40,6 +39,11 @@ use Rattle.multiportgraph.specs.declared.multiportgraph.RemoveAnswer.the
 use Rattle.multiportgraph.specs.declared.multiportgraph.NodeRemoved.{NodeRemoved}
 use Rattle.multiportgraph.specs.declared.multiportgraph.PortsSet.{PortsSet}
 use Rattle.multiportgraph.specs.declared.multiportgraph.MultiPortGraph.{MultiPortGraph}
+use Rattle.multiportgraph.specs.Graph.{withGraph}
+use Rattle.multiportgraph.specs.Answers.{removeNumbers, setNumbers}
+use Rattle.multiportgraph.specs.HiddenNodes.{removeCopy, unsplit, unsplitRange, recounted, copiesIn, copiesDropped, removeLone, removeAll}
+use Rattle.multiportgraph.specs.Cases.{removeRefused, removeMeta, setRefused, resized, setMeta}
+use Rattle.multiportgraph.specs.CaseLaws.{remove-cases, set-cases}
 
 -- The lower graph stays one that came from its calls.
 
@@ -47,13 +51,13 @@ pub wf-remove-copy : (m : MultiPortGraph) (p c : ℕ) → Wf (m .graph) → Wf (
 unfolding removeCopy
 wf-remove-copy m p c w = wf-remove (m .graph) c w
 
-wf-pick : (b : Bool) (a m : MultiPortGraph) → Wf (a .graph) → Wf (m .graph) → Wf (pick b a m .graph)
-wf-pick true a m v w = v
-wf-pick false a m v w = w
+wf-cond : (b : Bool) (a m : MultiPortGraph) → Wf (a .graph) → Wf (m .graph) → Wf (cond b a m .graph)
+wf-cond true a m v w = v
+wf-cond false a m v w = w
 
 pub wf-unsplit : (m : MultiPortGraph) (p : ℕ) → Wf (m .graph) → Wf (unsplit m p .graph)
 unfolding unsplit
-wf-unsplit m p w = wf-pick (isSplit m p) _ m (wf-remove-copy m p (copyNode m p) w) w
+wf-unsplit m p w = wf-cond (isSplit m p) _ m (wf-remove-copy m p (copyNode m p) w) w
 
 pub wf-unsplit-range : (m : MultiPortGraph) (p n : ℕ) → Wf (m .graph) → Wf (unsplitRange m p n .graph)
 unfolding unsplitRange
@@ -119,7 +123,7 @@ unfolding copiesIn
 copies-few m p zero = omega arith
 copies-few m p (suc n) = go (isSplit m p) (copies-few m (suc p) n)
   where
-    go : (b : Bool) → length (copiesIn m (suc p) n) ≤ n → length (pick b (copyNode m p ∷ copiesIn m (suc p) n) (copiesIn m (suc p) n)) ≤ suc n
+    go : (b : Bool) → length (copiesIn m (suc p) n) ≤ n → length (cond b (copyNode m p ∷ copiesIn m (suc p) n) (copiesIn m (suc p) n)) ≤ suc n
     go true h = omega arith
     go false h = omega arith
 
@@ -127,7 +131,7 @@ module _ (m : MultiPortGraph) (p k n : ℕ) (h : k < n) where
   abbrev rest : List ℕ
   rest = copiesIn m (suc (p + k)) (n - (k + 1))
 
-  copies-step : copiesIn m (p + k) (n - k) ≡ pick (isSplit m (p + k)) (copyNode m (p + k) ∷ rest) rest
+  copies-step : copiesIn m (p + k) (n - k) ≡ cond (isSplit m (p + k)) (copyNode m (p + k) ∷ rest) rest
   unfolding copiesIn
   copies-step = let one : n - k ≡ suc (n - (k + 1)) = omega arith in rw one
 
@@ -240,25 +244,23 @@ removed-as m n r e = (e, ap (λ x. removeNumbers (x .answer)) e)
 
 module _ (m : MultiPortGraph) (n : ℕ) where
   pub remove-unknown : maybe-meta.None ≡ metaAt (m .graph) n → RemovedAs m n (removeRefused m UnknownNode)
-  unfolding removeBlock
-  remove-unknown e = removed-as m n _ (ap (removeMeta m n) e)
+  remove-unknown e = removed-as m n _ (ap (removeMeta m n) e ∙ sym (remove-cases m n))
 
-  remove-pick : (k : NodeMeta) (b : Bool) → isHidden m n ≡ b
-      → pick b (removeRefused m HiddenNode) (record { graph = dropBlock m n k; answer = remove.Removed }) ≡ removeMeta m n (maybe-meta.Some k)
-  remove-pick k b e = ap (λ x. pick x (removeRefused m HiddenNode) (record { graph = dropBlock m n k; answer = remove.Removed })) (sym e)
+  remove-cond : (k : NodeMeta) (b : Bool) → isHidden m n ≡ b
+      → cond b (removeRefused m HiddenNode) (record { graph = dropBlock m n k; answer = remove.Removed }) ≡ removeMeta m n (maybe-meta.Some k)
+  remove-cond k b e = ap (λ x. cond x (removeRefused m HiddenNode) (record { graph = dropBlock m n k; answer = remove.Removed })) (sym e)
 
   pub remove-hidden : (k : NodeMeta) → maybe-meta.Some k ≡ metaAt (m .graph) n → isHidden m n ≡ true → RemovedAs m n (removeRefused m HiddenNode)
-  unfolding removeBlock
-  remove-hidden k e h = removed-as m n _ (remove-pick k true h ∙ ap (removeMeta m n) e)
+  remove-hidden k e h = removed-as m n _ (remove-cond k true h ∙ ap (removeMeta m n) e ∙ sym (remove-cases m n))
 
   pub remove-removed : (k : NodeMeta) (c : ℕ) (bare : MultiPortGraph) (s : lower-removed.NodeRemoved) → maybe-meta.Some k ≡ metaAt (m .graph) n → isHidden m n ≡ false
       → c ≡ k .incoming + k .outgoing → bare ≡ unsplitRange m (k .«first_port» .0) c → s ≡ removeNode (bare .graph) n
       → RemovedAs m n (record { graph = withGraph bare (s .graph); answer = remove.Removed })
-  unfolding removeBlock dropBlock
+  unfolding dropBlock
   remove-removed k c bare s e h f g j =
       let b : bare ≡ unsplitRange m (k .«first_port» .0) (k .incoming + k .outgoing) = g ∙ ap (unsplitRange m (k .«first_port» .0)) f in
       let d : withGraph bare (s .graph) ≡ dropBlock m n k = ap (λ x. withGraph bare (x .graph)) j ∙ ap (λ x. withGraph x (removeNode (x .graph) n .graph)) b in
-      removed-as m n _ (ap (λ x. record { graph = x; answer = remove.Removed }) d ∙ remove-pick k false h ∙ ap (removeMeta m n) e)
+      removed-as m n _ (ap (λ x. record { graph = x; answer = remove.Removed }) d ∙ remove-cond k false h ∙ ap (removeMeta m n) e ∙ sym (remove-cases m n))
 
 -- Changing a block's counts.
 
@@ -300,38 +302,40 @@ module _ (m : MultiPortGraph) (n i o : ℕ) (b : List ℕ) where
   set-as r b′ e f = (e, f, ap (λ x. setNumbers (x .answer)) e)
 
   refused-told : (a : lower-answer.SetAnswer) (h : Bool) → planOf (m .graph) n i o (length b) ≡ refuse a → b ≡ toldMeta m n i o b h
-  unfolding movesAfter
+  unfolding movesAfterUnder
   refused-told a true e = refl
   refused-told a false e = rw e
 
   pub set-too-many : nodePorts < i + o → SetAs (setRefused m TooManyPorts) b
-  unfolding setCounts movesTold
+  unfolding setCountsUnder movesToldUnder
   set-too-many h =
       set-as _ b (rw (lt-leb (i + o) nodePorts h)) (refused-told _ (isHidden m n) (plan-too-many (m .graph) n i o (length b) h))
 
   module _ (few : i + o ≤ nodePorts) where
     set-by : (x : MaybeNodeMeta) → x ≡ metaAt (m .graph) n → setMeta m n i o (length b) x ≡ setCounts m n i o (length b)
-    unfolding setCounts
-    set-by x e = rw (le-leb (i + o) nodePorts few) (ap (setMeta m n i o (length b)) e)
+    set-by x e =
+        ap (setMeta m n i o (length b)) e
+        ∙ ap (λ (t : Bool). cond t (setMeta m n i o (length b) (metaAt (m .graph) n)) (setRefused m TooManyPorts)) (sym (le-leb (i + o) nodePorts few))
+        ∙ sym (set-cases present m n i o (length b))
 
     plan-none : (x : NodeEntry) → entryAt (m .graph) n ≡ x → maybe-meta.None ≡ metaOfEntry x → planOf (m .graph) n i o (length b) ≡ refuse lower-variants.UnknownNode
     plan-none (node-variants.Free f) e h = plan-unknown (m .graph) n i o (length b) few f e
     plan-none (node-variants.Node k) e h = let z : _≡_ {A = ℕ} 0 1 = cc in absurd (omega arith)
 
     pub set-unknown : maybe-meta.None ≡ metaAt (m .graph) n → SetAs (setRefused m UnknownNode) b
-    unfolding movesTold
+    unfolding movesToldUnder
     set-unknown e = set-as _ b (set-by maybe-meta.None e) (refused-told _ (isHidden m n) (plan-none (entryAt (m .graph) n) refl e))
 
     module _ (k : NodeMeta) (e : maybe-meta.Some k ≡ metaAt (m .graph) n) where
       pub set-hidden : isHidden m n ≡ true → SetAs (setRefused m HiddenNode) b
-      unfolding movesTold
+      unfolding movesToldUnder
       set-hidden h =
           let p : setRefused m HiddenNode ≡ setMeta m n i o (length b) (maybe-meta.Some k) = rw h in
           set-as _ b (p ∙ set-by (maybe-meta.Some k) e) (rw h)
 
       pub set-answered : (s : lower-set.PortsSet) (a : lower-answer.SetAnswer) (g : MultiPortGraph) (b′ : List ℕ) → isHidden m n ≡ false → s ≡ setNumPorts (m .graph) n i o (length b)
           → b′ ≡ movesAfter (m .graph) n i o b → s .answer ≡ a → g ≡ resized m n k i o (s .graph) a → SetAs (record { graph = g; answer = setAs a }) b′
-      unfolding movesTold
+      unfolding movesToldUnder
       set-answered s a g b′ h f j q u =
           let v : record { graph = resized m n k i o (s .graph) (s .answer); answer = setAs (s .answer) } ≡ setMeta m n i o (length b) (maybe-meta.Some k) = rw (h, f) in
           let y : _≡_ {A = PortsSet} (record { graph = g; answer = setAs a }) (record { graph = resized m n k i o (s .graph) (s .answer); answer = setAs (s .answer) }) = rw (q, u) in

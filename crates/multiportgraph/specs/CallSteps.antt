@@ -5,7 +5,7 @@ use Prim.Native.Nat.{ℕ, _<_}
 use native.Mathlib.Omega.{arith}
 use lib.ListN.{replicate}
 use borrow.Author.Tests.{lt-ltb, le-ltb}
-use Rattle.portgraph.specs.Limits.{nodeSlots, portSlots}
+use Rattle.portgraph.specs.Limits.{nodeSlots, portSlots, present}
 use Rattle.portgraph.specs.Model.{Wf}
 use Rattle.portgraph.specs.Calls.{addNode, unlinkPort, newGraph}
 use Rattle.portgraph.specs.declared.direction.Direction.{Direction}
@@ -16,7 +16,7 @@ use Rattle.portgraph.specs.declared.portgraph.PortUnlinked as lower-unlinked
 use Rattle.portgraph.specs.declared.slots.NodeAdded as lower-added
 use Rattle.portgraph.specs.declared.slots.AddAnswer as lower-add
 use Rattle.multiportgraph.specs.Reading.{Port, dead, hidden, visible, seen, End, inner, lacking, isSplit, subport#}
-use Rattle.multiportgraph.specs.Calls.{emptyGraph, withGraph, addedAs, addBlock, goodOffset, cutPlain, cutSeen, cutPort, unsplit}
+use Rattle.multiportgraph.specs.Calls.{addedAs, addBlock, cutPlain, cutPort, addBlockUnder}
 use Rattle.multiportgraph.specs.Forms.{seenAs, endAs}
 use Rattle.multiportgraph.specs.Inner.{MultiWf}
 use Rattle.multiportgraph.specs.declared.multiportgraph.MultiPortGraph.{MultiPortGraph}
@@ -26,6 +26,11 @@ use Rattle.multiportgraph.specs.declared.multiportgraph.PortUnlinked.{Po
 use Rattle.multiportgraph.specs.declared.ends.SeenPort.{SeenPort}
 use Rattle.multiportgraph.specs.declared.ends.SeenPort.the-variants as seen-port
 use Rattle.multiportgraph.specs.declared.ends.EndFound.the-variants as end-found
+use Rattle.multiportgraph.specs.Graph.{multi, emptyGraph, withGraph}
+use Rattle.multiportgraph.specs.Refusals.{goodOffset}
+use Rattle.multiportgraph.specs.Cases.{cutSeen}
+use Rattle.multiportgraph.specs.HiddenNodes.{unsplit}
+use Rattle.multiportgraph.specs.CaseLaws.{add-cases, cut-cases}
 
 -- the lower graph of a graph of the calls
 pub lower-wf : (m : MultiPortGraph) → MultiWf m → Wf (m .graph)
@@ -33,11 +38,11 @@ lower-wf m w = record { model = w .model; good = w .fine .good; holds = w .fine 
 
 pub empty-made : (g : PortGraph) → g ≡ newGraph
     → _≡_ {A = MultiPortGraph}
-    (record { graph = g; multiport = replicate portSlots false; «copy_node» = replicate nodeSlots false; «copy_node_count» = 0; «subport_count» = 0 })
+    (multi g (replicate portSlots false) (replicate nodeSlots false) 0 0)
     emptyGraph
 unfolding emptyGraph
 empty-made g e =
-    ap (λ (x : PortGraph). record { graph = x; multiport = replicate portSlots false; «copy_node» = replicate nodeSlots false; «copy_node_count» = 0; «subport_count» = 0 }) e
+    ap (λ (x : PortGraph). multi x (replicate portSlots false) (replicate nodeSlots false) 0 0) e
 
 -- What a read port or end was.
 
@@ -86,16 +91,15 @@ module _ (m : MultiPortGraph) where
   -- a block is added, or refused
   pub block-added : (i o : ℕ) (r : lower-added.NodeAdded) (a : lower-add.AddAnswer) → r ≡ addNode (m .graph) i o → r .answer ≡ a
       → _≡_ {A = NodeAdded} (record { graph = withGraph m (r .graph); answer = addedAs a }) (addBlock m i o)
-  unfolding addBlock
   block-added i o r a e f =
       ap (λ (x : lower-add.AddAnswer). record { graph = withGraph m (r .graph); answer = addedAs x }) (sym f)
       ∙ ap (λ (x : lower-added.NodeAdded). record { graph = withGraph m (x .graph); answer = addedAs (x .answer) }) e
+      ∙ sym (add-cases present m i o)
 
   -- every wire at a port is cut
   module _ (p : ℕ) where
     pub cut-port-seen : (s : Port) → seen m p ≡ s → cutSeen m p s ≡ cutPort m p
-    unfolding cutPort
-    cut-port-seen s e = rw e
+    cut-port-seen s e = ap (cutSeen m p) (sym e) ∙ sym (cut-cases m p)
 
     pub cut-port-split : (n : ℕ) (d : Direction) (r : MultiPortGraph) → seen m p ≡ visible n d → isSplit m p ≡ true → r ≡ unsplit m p
         → _≡_ {A = PortUnlinked} (record { graph = r; answer = cutting.Found (subport# p 0) }) (cutPort m p)

@@ -1,7 +1,7 @@
 -- The hidden node of a split port goes: every wire at that port goes with it, and nothing else changes.
 -- Then the cut of a whole port.
 use mathlib.Core.Path.{_≡_, refl, sym, _∙_, ap, subst}
-use mathlib.Core.Bool.{Bool, true, false}
+use mathlib.Core.Bool.{Bool, true, false, cond}
 use mathlib.Core.List.{List, []}
 use mathlib.Core.Logic.{_⊎_, inl, inr, ⊎-elim}
 use Prim.Native.Nat.{ℕ, _+_, _-_, _≤_, _<_}
@@ -11,7 +11,7 @@ use lib.ListN.{length, getD, set, length-set}
 use lib.Seq.{getD-set-same, getD-set-other}
 use borrow.Author.Tests.{eq-eqb, ne-eqb, eqb-true, eqb-false}
 use Rattle.portgraph.specs.Limits.{nodeSlots, portSlots}
-use Rattle.portgraph.specs.Entries.{pick, reversed, portsOn}
+use Rattle.portgraph.specs.Entries.{reversed, portsOn}
 use Rattle.portgraph.specs.Model as model
 use Rattle.portgraph.specs.Model.{Model, nowhere, to, Slots, gone, live, Good, Holds, Valid, slotOf, portsOf, countOf, total}
 use Rattle.portgraph.specs.Meaning.{removeModel, unlinkModel, atNode, upd}
@@ -28,24 +28,27 @@ use Rattle.portgraph.specs.declared.portgraph.PortGraph.{PortGraph}
 use Rattle.portgraph.specs.declared.portgraph.PortLink.{PortLink}
 use Rattle.portgraph.specs.declared.portgraph.PortLink.the-variants as lower-cut
 use Rattle.multiportgraph.specs.Reading.{isHidden, isSplit, copySide, copyNode, portOf, Port, dead, hidden, visible, seen, subport#}
-use Rattle.multiportgraph.specs.Calls.{withGraph, removeCopy, unsplit, cutPort, cutSeen, cutPlain}
-use Rattle.multiportgraph.specs.Wires.{Place, Wire}
-use Rattle.multiportgraph.specs.Book.{touches, atSpot, atEnd, spot}
-use Rattle.multiportgraph.specs.Inner.{copyPlace, flag, subportsIn, Fine, Seen, outer, lift, IsEnd, WireIn, SameBlocks, Wiring}
+use Rattle.multiportgraph.specs.Calls.{cutPort, cutPlain}
+use Rattle.multiportgraph.specs.Inner.{copyPlace, Fine, Seen, outer, lift, IsEnd, WireIn, SameBlocks, Wiring, subportsOfSlot}
 use Rattle.multiportgraph.specs.Ends.{BlockPort, Hangs, port-of, count-of, copy-valid, main-seen, main-back, outer-of-subport, outer-of-block, one-copy, unsplit-no-copy, split-has-copy, block-seen, ends-join-ends, outer-of-unsplit}
 use Rattle.multiportgraph.specs.Frame.{same-wire, outer-kept, true-or-false, true-not-false, AtCopyLink, Frame, frame-fine, Alike, kept-end, wire-kept, kept-wire}
 use Rattle.multiportgraph.specs.PlainLaws.{to-same, end-is-here, CutDone, CutSays, CutSaid, cut-end, endIs, touches-neither, touched-not-out, touched-not-into, at-spot-here, at-spot-is}
 use Rattle.multiportgraph.specs.declared.multiportgraph.MultiPortGraph.{MultiPortGraph}
 use Rattle.multiportgraph.specs.declared.multiportgraph.CutAnswer.the-variants as cutting
+use Rattle.multiportgraph.specs.Places.{Place, Wire, touches, atSpot, atEnd, spot, flag}
+use Rattle.multiportgraph.specs.Graph.{withGraph}
+use Rattle.multiportgraph.specs.HiddenNodes.{removeCopy, unsplit}
+use Rattle.multiportgraph.specs.Cases.{cutSeen}
+use Rattle.multiportgraph.specs.CaseLaws.{cut-cases}
 
 -- the ports at a place, whatever the offset
-abbrev pub portAt : model.Place → Place → Bool
+abbrev pub portAt : model.InnerPlace → Place → Bool
 portAt x = atSpot (spot (x .node) (x .side) (x .pos))
 
-pub port-at-here : (x : model.Place) (o : ℕ) → portAt x (lift x o) ≡ true
+pub port-at-here : (x : model.InnerPlace) (o : ℕ) → portAt x (lift x o) ≡ true
 port-at-here x o = at-spot-here (x .node) (x .side) (x .pos) (lift x o) refl refl refl
 
-pub port-at-is : (x z : model.Place) (o : ℕ) → portAt x (lift z o) ≡ true → z ≡ x
+pub port-at-is : (x z : model.InnerPlace) (o : ℕ) → portAt x (lift z o) ≡ true → z ≡ x
 port-at-is x z o t = let r = at-spot-is (x .node) (x .side) (x .pos) (lift z o) t in same-place z x (r .0) (r .1) (r .2)
 
 number-cases : (a b : ℕ) → (a ≡ b) ⊎ (a ≡ b → ⊥)
@@ -60,7 +63,7 @@ pub removed-holds : {g : PortGraph} {M : Model} → Good M → Holds g M → (n 
 removed-holds {g} {M} good h n k e =
     subst (λ (r : _). Holds (r .graph) (removeModel M n k)) (sym (remove-law h n ∙ ap (removeSlots g n) e)) (free-holds good h n k e)
 
-module _ {m : MultiPortGraph} {M : Model} (f : Fine m M) (x : model.Place) (c : ℕ) (hc : isHidden m c ≡ true) (from : M .join (copyPlace m c) ≡ to x) where
+module _ {m : MultiPortGraph} {M : Model} (f : Fine m M) (x : model.InnerPlace) (c : ℕ) (hc : isHidden m c ≡ true) (from : M .join (copyPlace m c) ≡ to x) where
   abbrev withoutCopy : MultiPortGraph
   withoutCopy = removeCopy m (slotOf (M .node) x) c
 
@@ -97,7 +100,7 @@ module _ {m : MultiPortGraph} {M : Model} (f : Fine m M) (x : model.Place) (c : 
       omega arith)
 
   apart-slots : slotOf (M .node) (copyPlace m c) ≡ slotOf (M .node) x → ⊥
-  apart-slots e = x-not-copy (ap (λ (z : model.Place). z .node) (sym (slots-apart (f .good) (copyPlace m c) x (copy-valid f c hc) (x-seen .0) e)))
+  apart-slots e = x-not-copy (ap (λ (z : model.InnerPlace). z .node) (sym (slots-apart (f .good) (copyPlace m c) x (copy-valid f c hc) (x-seen .0) e)))
 
   split-copy : isSplit withoutCopy (slotOf (M .node) (copyPlace m c)) ≡ false
   unfolding isSplit removeCopy
@@ -142,22 +145,22 @@ module _ {m : MultiPortGraph} {M : Model} (f : Fine m M) (x : model.Place) (c : 
   node-other n other = upd-other (M .node) c gone n other
 
   -- links away from the hidden node stay
-  join-other : (z u : model.Place) → M .join z ≡ to u → (z .node ≡ c → ⊥) → (u .node ≡ c → ⊥) → modelAfter .join z ≡ to u
+  join-other : (z u : model.InnerPlace) → M .join z ≡ to u → (z .node ≡ c → ⊥) → (u .node ≡ c → ⊥) → modelAfter .join z ≡ to u
   join-other z u j a b = drop-kept (atNode c) (M .join) z u j (ne-eqb (z .node) c a) (ne-eqb (u .node) c b)
 
-  main-not-copy : (e : ℕ) (z : model.Place) → isHidden m e ≡ true → M .join (copyPlace m e) ≡ to z → z .node ≡ c → ⊥
+  main-not-copy : (e : ℕ) (z : model.InnerPlace) → isHidden m e ≡ true → M .join (copyPlace m e) ≡ to z → z .node ≡ c → ⊥
   main-not-copy e z h j q = true-not-false hc (ap (isHidden m) (sym q) ∙ main-seen f e z h j .1)
 
   -- the links of other hidden nodes have other slots
   other-link : (e s : ℕ) → isHidden m e ≡ true → (e ≡ c → ⊥) → AtCopyLink m M e s
       → (s ≡ slotOf (M .node) (copyPlace m c) → ⊥) × (s ≡ slotOf (M .node) x → ⊥)
   other-link e s h other (inl q) = (
-    (λ r. other (ap (λ (z : model.Place). z .node) (slots-apart (f .good) (copyPlace m e) (copyPlace m c) (copy-valid f e h) (copy-valid f c hc) (q ∙ r)))),
-    λ r. true-not-false h (ap (λ (z : model.Place). isHidden m (z .node)) (slots-apart (f .good) (copyPlace m e) x (copy-valid f e h) (x-seen .0) (q ∙ r)) ∙ x-seen .1),
+    (λ r. other (ap (λ (z : model.InnerPlace). z .node) (slots-apart (f .good) (copyPlace m e) (copyPlace m c) (copy-valid f e h) (copy-valid f c hc) (q ∙ r)))),
+    λ r. true-not-false h (ap (λ (z : model.InnerPlace). isHidden m (z .node)) (slots-apart (f .good) (copyPlace m e) x (copy-valid f e h) (x-seen .0) (q ∙ r)) ∙ x-seen .1),
   )
   other-link e s h other (inr r) =
       let sy = main-seen f e (r .0) h (r .1) in (
-        (λ q. true-not-false hc (ap (λ (z : model.Place). isHidden m (z .node)) (sym (slots-apart (f .good) (r .0) (copyPlace m c) (sy .0) (copy-valid f c hc) (r .2 ∙ q))) ∙ sy .1)),
+        (λ q. true-not-false hc (ap (λ (z : model.InnerPlace). isHidden m (z .node)) (sym (slots-apart (f .good) (r .0) (copyPlace m c) (sy .0) (copy-valid f c hc) (r .2 ∙ q))) ∙ sy .1)),
         λ q. other (one-copy f e c x (r .1 ∙ ap to (slots-apart (f .good) (r .0) x (sy .0) (x-seen .0) (r .2 ∙ q))) from),
       )
 
@@ -170,7 +173,7 @@ module _ {m : MultiPortGraph} {M : Model} (f : Fine m M) (x : model.Place) (c : 
   own-link-unmarked s (inr r) =
       let j = r .1 in
       let e : r .0 ≡ x = cc in
-      ap (isSplit withoutCopy) (sym (r .2)) ∙ (ap (λ (z : model.Place). isSplit withoutCopy (slotOf (M .node) z)) e ∙ split-main)
+      ap (isSplit withoutCopy) (sym (r .2)) ∙ (ap (λ (z : model.InnerPlace). isSplit withoutCopy (slotOf (M .node) z)) e ∙ split-main)
 
   stays : (e s : ℕ) → isHidden m e ≡ true → isSplit withoutCopy s ≡ true → AtCopyLink m M e s → isHidden withoutCopy e ≡ true
   stays e s h t a =
@@ -189,13 +192,13 @@ module _ {m : MultiPortGraph} {M : Model} (f : Fine m M) (x : model.Place) (c : 
   ports-of Incoming e = omega arith
   ports-of Outgoing e = omega arith
 
-  subs-after : withoutCopy .«subport_count» ≡ total nodeSlots (subportsIn withoutCopy modelAfter)
+  subs-after : withoutCopy .«subport_count» ≡ total nodeSlots (subportsOfSlot withoutCopy modelAfter)
   unfolding removeCopy
   subs-after =
-      let t = total-one nodeSlots c (subportsIn m M) (subportsIn withoutCopy modelAfter) node-below
-      (λ n l other. sym (ap (λ (b : Bool). pick b (portsOf (modelAfter .node n) - 1) 0) (hidden-other n other) ∙ ap (λ (s : Slots). pick (isHidden m n) (portsOf s - 1) 0) (node-other n other))) in
-      let a : subportsIn m M c ≡ k .incoming + k .outgoing - 1 = ap (λ (b : Bool). pick b (portsOf (M .node c) - 1) 0) hc ∙ ap (λ (s : Slots). portsOf s - 1) (f .copy c hc .here) in
-      let b : subportsIn withoutCopy modelAfter c ≡ 0 = ap (λ (b : Bool). pick b (portsOf (modelAfter .node c) - 1) 0) hidden-gone in
+      let t = total-one nodeSlots c (subportsOfSlot m M) (subportsOfSlot withoutCopy modelAfter) node-below
+      (λ n l other. sym (ap (λ (b : Bool). cond b (portsOf (modelAfter .node n) - 1) 0) (hidden-other n other) ∙ ap (λ (s : Slots). cond (isHidden m n) (portsOf s - 1) 0) (node-other n other))) in
+      let a : subportsOfSlot m M c ≡ k .incoming + k .outgoing - 1 = ap (λ (b : Bool). cond b (portsOf (M .node c) - 1) 0) hc ∙ ap (λ (s : Slots). portsOf s - 1) (f .copy c hc .here) in
+      let b : subportsOfSlot withoutCopy modelAfter c ≡ 0 = ap (λ (b : Bool). cond b (portsOf (modelAfter .node c) - 1) 0) hidden-gone in
       let p : k .incoming + k .outgoing - 1 ≡ portsOn k (reversed (copySide m c)) = ports-of (copySide m c) (f .copy c hc .single) in
       let q : numPorts (m .graph) c (reversed (copySide m c)) ≡ portsOn k (reversed (copySide m c)) = count-of f c (reversed (copySide m c)) ∙ ap (λ (s : Slots). countOf s (reversed (copySide m c))) (f .copy c hc .here) in
       let e = f .subs in
@@ -242,11 +245,11 @@ module _ {m : MultiPortGraph} {M : Model} (f : Fine m M) (x : model.Place) (c : 
   )
 
   -- the ends of that port are the hidden node's
-  end-of-copy : (z : model.Place) → z .node ≡ c → portAt x (outer m M z) ≡ true
+  end-of-copy : (z : model.InnerPlace) → z .node ≡ c → portAt x (outer m M z) ≡ true
   end-of-copy z q =
       ap (portAt x) (outer-of-subport f z x (ap (isHidden m) q ∙ hc) (ap (λ (n : ℕ). M .join (copyPlace m n)) q ∙ from)) ∙ port-at-here x (z .pos)
 
-  end-elsewhere : (z : model.Place) → IsEnd m M z → (z .node ≡ c → ⊥) → portAt x (outer m M z) ≡ false
+  end-elsewhere : (z : model.InnerPlace) → IsEnd m M z → (z .node ≡ c → ⊥) → portAt x (outer m M z) ≡ false
   end-elsewhere z ez other = ⊎-elim (λ t. absurd (clash t)) (λ e. e) (true-or-false (portAt x (outer m M z)))
     where
       clash : portAt x (outer m M z) ≡ true → ⊥
@@ -255,7 +258,7 @@ module _ {m : MultiPortGraph} {M : Model} (f : Fine m M) (x : model.Place) (c : 
           whole : isHidden m (z .node) ≡ false → ⊥
           whole h =
               let q : z ≡ x = port-at-is x z 0 (ap (portAt x) (sym (outer-of-block f z h)) ∙ t) in
-              true-not-false (f .mainMarked c x hc from) (ap (λ (y : model.Place). isSplit m (slotOf (M .node) y)) (sym q) ∙ ez .unsplit h)
+              true-not-false (f .mainMarked c x hc from) (ap (λ (y : model.InnerPlace). isSplit m (slotOf (M .node) y)) (sym q) ∙ ez .unsplit h)
 
           sub : isHidden m (z .node) ≡ true → ⊥
           sub h =
@@ -263,14 +266,14 @@ module _ {m : MultiPortGraph} {M : Model} (f : Fine m M) (x : model.Place) (c : 
               let q : i .main ≡ x = port-at-is x (i .main) (z .pos) (ap (portAt x) (sym (outer-of-subport f z (i .main) h (i .joined))) ∙ t) in
               other (one-copy f (z .node) c x (i .joined ∙ ap to q) from)
 
-  copy-alike : (z : model.Place) → Valid (M .node) z → (z .node ≡ c → ⊥) → (z ≡ x → ⊥) → Alike m M withoutCopy modelAfter z
+  copy-alike : (z : model.InnerPlace) → Valid (M .node) z → (z .node ≡ c → ⊥) → (z ≡ x → ⊥) → Alike m M withoutCopy modelAfter z
   copy-alike z v other away =
       record {
         node = node-other (z .node) other;
         hidden = hidden-other (z .node) other;
         split = λ h.
             split-other (slotOf (M .node) z)
-            (λ q. other (ap (λ (y : model.Place). y .node) (slots-apart (f .good) z (copyPlace m c) v (copy-valid f c hc) q)))
+            (λ q. other (ap (λ (y : model.InnerPlace). y .node) (slots-apart (f .good) z (copyPlace m c) v (copy-valid f c hc) q)))
             (λ q. away (slots-apart (f .good) z x v (x-seen .0) q));
       }
 
@@ -282,7 +285,7 @@ module _ {m : MultiPortGraph} {M : Model} (f : Fine m M) (x : model.Place) (c : 
           let a : e .x .node ≡ c → ⊥ = λ q. true-not-false (end-of-copy (e .x) q) (ap (portAt x) (sym (ap (λ (v : Wire). v .out) (e .is))) ∙ touched-not-out (portAt x) w n) in
           let b : e .y .node ≡ c → ⊥ = λ q. true-not-false (end-of-copy (e .y) q) (ap (portAt x) (sym (ap (λ (v : Wire). v .into) (e .is))) ∙ touched-not-into (portAt x) w n) in
           wire-kept f copy-frame w e (join-other (e .x) (e .y) (e .joined) a b)
-          (copy-alike (e .x) (e .end .valid) a (λ q. b (ap (λ (y : model.Place). y .node) (to-same (e .joined) (ap (M .join) q ∙ main-back f c x from)))))
+          (copy-alike (e .x) (e .end .valid) a (λ q. b (ap (λ (y : model.InnerPlace). y .node) (to-same (e .joined) (ap (M .join) q ∙ main-back f c x from)))))
           (hidden-other (e .y .node) b)
 
       only : (w : Wire) → WireIn withoutCopy modelAfter w → WireIn m M w × (touches (portAt x) w ≡ false)
@@ -291,7 +294,7 @@ module _ {m : MultiPortGraph} {M : Model} (f : Fine m M) (x : model.Place) (c : 
           let a : e .x .node ≡ c → ⊥ = eqb-false (e .x .node) c (j .1) in
           let b : e .y .node ≡ c → ⊥ = eqb-false (e .y .node) c (j .2) in
           let l : Alike m M withoutCopy modelAfter (e .x) =
-          copy-alike (e .x) (f .good .joinValid (e .x) (e .y) (j .0)) a (λ q. b (ap (λ (y : model.Place). y .node) (to-same (j .0) (ap (M .join) q ∙ main-back f c x from)))) in
+          copy-alike (e .x) (f .good .joinValid (e .x) (e .y) (j .0)) a (λ q. b (ap (λ (y : model.InnerPlace). y .node) (to-same (j .0) (ap (M .join) q ∙ main-back f c x from)))) in
           let v : WireIn m M w = kept-wire f copy-frame w e (j .0) l (hidden-other (e .y .node) b) in
           let ez : IsEnd m M (e .x) = kept-end f copy-frame (e .x) l (e .end) in (
             v,
@@ -300,7 +303,7 @@ module _ {m : MultiPortGraph} {M : Model} (f : Fine m M) (x : model.Place) (c : 
           )
 
 -- the split port is left unsplit and free, and no port is split that was not
-pub record CopyGone (m : MultiPortGraph) (M : Model) (x : model.Place) (m′ : MultiPortGraph) (M′ : Model) : Type 0 where
+pub record CopyGone (m : MultiPortGraph) (M : Model) (x : model.InnerPlace) (m′ : MultiPortGraph) (M′ : Model) : Type 0 where
   pub fine : Fine m′ M′
   pub blocks : SameBlocks m M m′ M′
   pub wires : Wiring m M m′ M′ (portAt x) []
@@ -310,7 +313,7 @@ pub record CopyGone (m : MultiPortGraph) (M : Model) (x : model.Place) (m′ : M
   pub free : M′ .join x ≡ nowhere
   pub onlySplit : (s : ℕ) → isSplit m′ s ≡ true → isSplit m s ≡ true
 
-pub copy-goes : {m : MultiPortGraph} {M : Model} (f : Fine m M) (x : model.Place) (h : Hangs m M x)
+pub copy-goes : {m : MultiPortGraph} {M : Model} (f : Fine m M) (x : model.InnerPlace) (h : Hangs m M x)
     → CopyGone m M x (removeCopy m (slotOf (M .node) x) (h .copy)) (removeModel M (h .copy) (f .copy (h .copy) (h .isCopy) .meta))
 copy-goes {m} {M} f x h =
     let n : removeModel M (h .copy) (f .copy (h .copy) (h .isCopy) .meta) .node (x .node) ≡ M .node (x .node) = node-other f x (h .copy) (h .isCopy) (h .from) (x .node) (x-not-copy f x (h .copy) (h .isCopy) (h .from)) in
@@ -338,7 +341,7 @@ pub unsplit-whole : (m : MultiPortGraph) (p : ℕ) → isSplit m p ≡ false →
 unfolding unsplit
 unsplit-whole m p e = rw e
 
-pub unsplit-gone : {m : MultiPortGraph} {M : Model} (f : Fine m M) (x : model.Place) → Seen m M x → isSplit m (slotOf (M .node) x) ≡ true
+pub unsplit-gone : {m : MultiPortGraph} {M : Model} (f : Fine m M) (x : model.InnerPlace) → Seen m M x → isSplit m (slotOf (M .node) x) ≡ true
     → (M′ : Model) × CopyGone m M x (unsplit m (slotOf (M .node) x)) M′
 unsplit-gone {m} {M} f x sx t =
     let h = split-has-copy f x sx t in (
@@ -352,7 +355,7 @@ unsplit-gone {m} {M} f x sx t =
 
 module _ {m : MultiPortGraph} {M : Model} (f : Fine m M) where
   -- tests that agree on ends drop the same wires
-  pub same-test : {m′ : MultiPortGraph} {M′ : Model} {more : List Wire} (t u : Place → Bool) → ((z : model.Place) → IsEnd m M z → t (outer m M z) ≡ u (outer m M z))
+  pub same-test : {m′ : MultiPortGraph} {M′ : Model} {more : List Wire} (t u : Place → Bool) → ((z : model.InnerPlace) → IsEnd m M z → t (outer m M z) ≡ u (outer m M z))
       → Wiring m M m′ M′ t more → Wiring m M m′ M′ u more
   same-test t u agree d =
       record {
@@ -368,7 +371,7 @@ module _ {m : MultiPortGraph} {M : Model} (f : Fine m M) where
           ap (touches t) (e .is) ∙ (rw (a, b) refl ∙ sym (ap (touches u) (e .is)))
 
   -- an unsplit port has one end
-  one-end : (x z : model.Place) → Seen m M x → isSplit m (slotOf (M .node) x) ≡ false → IsEnd m M z → endIs (lift x 0) (outer m M z) ≡ portAt x (outer m M z)
+  one-end : (x z : model.InnerPlace) → Seen m M x → isSplit m (slotOf (M .node) x) ≡ false → IsEnd m M z → endIs (lift x 0) (outer m M z) ≡ portAt x (outer m M z)
   unfolding atEnd
   one-end x z sx n ez = ⊎-elim here away (true-or-false (portAt x (outer m M z)))
     where
@@ -382,7 +385,7 @@ module _ {m : MultiPortGraph} {M : Model} (f : Fine m M) where
           whole h =
               let o : outer m M z ≡ lift z 0 = outer-of-block f z h in
               let q : z ≡ x = port-at-is x z 0 (ap (portAt x) (sym o) ∙ t) in
-              ap (endIs (lift x 0)) (o ∙ ap (λ (y : model.Place). lift y 0) q) ∙ (end-is-here (lift x 0) ∙ sym t)
+              ap (endIs (lift x 0)) (o ∙ ap (λ (y : model.InnerPlace). lift y 0) q) ∙ (end-is-here (lift x 0) ∙ sym t)
 
           sub : isHidden m (z .node) ≡ true → endIs (lift x 0) (outer m M z) ≡ portAt x (outer m M z)
           sub h =
@@ -390,7 +393,7 @@ module _ {m : MultiPortGraph} {M : Model} (f : Fine m M) where
               let q : i .main ≡ x = port-at-is x (i .main) (z .pos) (ap (portAt x) (sym (outer-of-subport f z (i .main) h (i .joined))) ∙ t) in
               absurd (unsplit-no-copy f x n (z .node) h (i .joined ∙ ap to q))
 
-  whole-cut : (x : model.Place) → Seen m M x → isSplit m (slotOf (M .node) x) ≡ false
+  whole-cut : (x : model.InnerPlace) → Seen m M x → isSplit m (slotOf (M .node) x) ≡ false
       → CutDone m M (withGraph m (unlinkPort (m .graph) (slotOf (M .node) x) .graph)) (slotOf (M .node) x) portAt
   whole-cut x sx n =
       let u = outer-of-unsplit f x sx n in
@@ -407,15 +410,14 @@ module _ {m : MultiPortGraph} {M : Model} (f : Fine m M) where
             (λ z ez. ap (λ (v : Place). endIs v (outer m M z)) (u .0) ∙ one-end x z sx n ez) (c .wires);
       }
 
-  split-cut : (x : model.Place) → Seen m M x → isSplit m (slotOf (M .node) x) ≡ true → CutDone m M (unsplit m (slotOf (M .node) x)) (slotOf (M .node) x) portAt
+  split-cut : (x : model.InnerPlace) → Seen m M x → isSplit m (slotOf (M .node) x) ≡ true → CutDone m M (unsplit m (slotOf (M .node) x)) (slotOf (M .node) x) portAt
   split-cut x sx t =
       let r = unsplit-gone f x sx t in
       record { x = x; isSeen = sx; at = refl; model = r .0; fine = r .1 .fine; blocks = r .1 .blocks; wires = r .1 .wires }
 
   -- every wire at the port goes, and nothing else changes; refused, the graph stays
   pub cut-port-law : (p : ℕ) → CutSays m M p portAt (cutPort m p .graph) (cutPort m p .answer)
-  unfolding cutPort
-  cut-port-law p = ports (seen m p) refl
+  cut-port-law p = subst (CutSaid m M p portAt) (sym (cut-cases m p)) (ports (seen m p) refl)
     where
       told : (m′ : MultiPortGraph) → CutDone m M m′ p portAt → (v : PortLink) → CutSays m M p portAt m′ (cutPlain v)
       told m′ d (lower-cut.Linked q) = d
@@ -424,7 +426,7 @@ module _ {m : MultiPortGraph} {M : Model} (f : Fine m M) where
 
       marks : (n : ℕ) (d : Direction) → BlockPort m M p n d → (b : Bool) → isSplit m p ≡ b
           → CutSaid m M p portAt
-          (pick b (record { graph = unsplit m p; answer = cutting.Found (subport# p 0) })
+          (cond b (record { graph = unsplit m p; answer = cutting.Found (subport# p 0) })
           (record { graph = withGraph m (unlinkPort (m .graph) p .graph); answer = cutPlain (unlinkPort (m .graph) p .answer) }))
       marks n d b true e =
           subst (λ (c : ℕ). CutDone m M (unsplit m c) c portAt) (b .slot) (split-cut (b .place) (b .isSeen) (ap (isSplit m) (b .slot) ∙ e))

@@ -1,11 +1,11 @@
 -- Hidden nodes that go and marks that move: what the calls of the code give amounts to the definitions.
 use mathlib.Core.Path.{_≡_, sym, ap, _∙_}
-use mathlib.Core.Bool.{Bool, true, false}
+use mathlib.Core.Bool.{Bool, true, false, cond}
 use mathlib.Core.List.{List}
 use Prim.Native.Nat.{ℕ, _-_}
 use lib.ListN.{length, set, length-set}
 use Rattle.portgraph.specs.Limits.{nodeSlots, portSlots}
-use Rattle.portgraph.specs.Entries.{pick, reversed}
+use Rattle.portgraph.specs.Entries.{reversed}
 use Rattle.portgraph.specs.Lookups.{metaAt, numPorts}
 use Rattle.portgraph.specs.Calls.{removeNode}
 use Rattle.portgraph.specs.declared.direction.Direction.{Direction}
@@ -14,11 +14,12 @@ use Rattle.portgraph.specs.declared.node_entry.MaybeNodeMeta.{MaybeNodeMeta}
 use Rattle.portgraph.specs.declared.node_entry.MaybeNodeMeta.the-variants as maybe-meta
 use Rattle.portgraph.specs.declared.portgraph.PortGraph.{PortGraph}
 use Rattle.portgraph.specs.declared.slots.NodeRemoved.{NodeRemoved}
+use Rattle.multiportgraph.specs.Graph.{multi}
 use Rattle.multiportgraph.specs.Reading.{portOf, isSplit, copyNode, copySide}
-use Rattle.multiportgraph.specs.Calls.{removeCopy, unsplit, recounted, marksMoved, layMarks}
 use Rattle.multiportgraph.specs.Forms.{putFlag}
 use Rattle.multiportgraph.specs.FormSteps.{put-flag-is}
 use Rattle.multiportgraph.specs.declared.multiportgraph.MultiPortGraph.{MultiPortGraph}
+use Rattle.multiportgraph.specs.HiddenNodes.{removeCopy, unsplit, recounted, marksMoved, layMarks}
 
 -- two marks stored
 pub two-puts : (t : List Bool) (size i j : ℕ) (a b : Bool) → length t ≡ size → putFlag (putFlag t size i a) size j b ≡ set (set t i a) j b
@@ -43,7 +44,7 @@ pub copy-removed :
     t₃ ≡ putFlag (m .«copy_node») nodeSlots w₃ false →
     copies ≡ m .«copy_node_count» - 1 →
     subs ≡ m .«subport_count» - count →
-    _≡_ {A = MultiPortGraph} (record { graph = r .graph; multiport = t₂; «copy_node» = t₃; «copy_node_count» = copies; «subport_count» = subs }) (removeCopy m p n)
+    _≡_ {A = MultiPortGraph} (multi (r .graph) t₂ t₃ copies subs) (removeCopy m p n)
 unfolding removeCopy
 copy-removed m p n {side} {back} {copy} {count} {w₁} {w₂} {w₃} {copies} {subs} {r} {t₁} {t₂} {t₃} long flags e₁ e₂ e₃ e₄ e₅ e₆ e₇ e₈ e₉ f₁ f₂ f₃ f₄ =
     let marks-is : t₂ ≡ set (set (m .multiport) (portOf (m .graph) n (copySide m n) 0) false) p false = rw (e₉, e₇, e₈, e₆, e₂, e₁) (two-puts (m .multiport) portSlots _ p false false long) in
@@ -53,24 +54,18 @@ copy-removed m p n {side} {back} {copy} {count} {w₁} {w₂} {w₃} {copies} {s
 
 pub unsplit-split : (m : MultiPortGraph) (p n : ℕ) {r : MultiPortGraph} → isSplit m p ≡ true → n ≡ copyNode m p → r ≡ removeCopy m p n → r ≡ unsplit m p
 unfolding unsplit
-unsplit-split m p n s e f = f ∙ (ap (removeCopy m p) e ∙ ap (λ (b : Bool). pick b (removeCopy m p (copyNode m p)) m) (sym s))
+unsplit-split m p n s e f = f ∙ (ap (removeCopy m p) e ∙ ap (λ (b : Bool). cond b (removeCopy m p (copyNode m p)) m) (sym s))
 
 pub unsplit-plain : (m : MultiPortGraph) (p : ℕ) → isSplit m p ≡ false → m ≡ unsplit m p
 unfolding unsplit
-unsplit-plain m p s = ap (λ (b : Bool). pick b (removeCopy m p (copyNode m p)) m) (sym s)
+unsplit-plain m p s = ap (λ (b : Bool). cond b (removeCopy m p (copyNode m p)) m) (sym s)
 
 -- Another lower graph.
 
 -- the graph with another lower graph and other marks
 abbrev pub remarked : MultiPortGraph → PortGraph → List Bool → MultiPortGraph
 remarked m g t =
-    record {
-      graph = g;
-      multiport = t;
-      «copy_node» = m .«copy_node»;
-      «copy_node_count» = m .«copy_node_count»;
-      «subport_count» = m .«subport_count»;
-    }
+    multi g t (m .«copy_node») (m .«copy_node_count») (m .«subport_count»)
 
 pub recount-none : (m : MultiPortGraph) (n : ℕ) (g : PortGraph) → maybe-meta.None ≡ metaAt (m .graph) n → remarked m g (m .multiport) ≡ recounted m n g
 unfolding recounted

@@ -1,6 +1,6 @@
 -- What the leaves over one table compute, and what the lookups of the lower graph amount to, as the code's steps need it.
 use mathlib.Core.Path.{_≡_, refl, sym, ap, _∙_}
-use mathlib.Core.Bool.{Bool, true, false}
+use mathlib.Core.Bool.{Bool, true, false, cond}
 use mathlib.Core.List.{List, [], _∷_}
 use Prim.Native.Nat.{ℕ, zero, suc, _+_, _-_, _≤_, _<_, min}
 use native.Mathlib.Omega.{arith}
@@ -8,16 +8,14 @@ use lib.Dec.{ltb}
 use lib.ListN.{getD, set, length}
 use borrow.Author.Tests.{lt-ltb, le-ltb, ltb-false, eq-eqb, ne-eqb}
 use Rattle.portgraph.specs.Limits.{portSlots, nodeSlots}
-use Rattle.portgraph.specs.Entries.{pick}
 use Rattle.portgraph.specs.Tables.{fill}
 use Rattle.portgraph.specs.TableSteps.{fill-more}
 use Rattle.portgraph.specs.Lookups.{numPorts}
 use Rattle.portgraph.specs.declared.direction.Direction.the-variants.{Incoming, Outgoing}
-use Rattle.portgraph.specs.declared.node_entry.NodeMeta.{NodeMeta}
 use Rattle.multiportgraph.specs.Reading.{farPort, ownerOf, portOf, isHidden, isSplit, copyNode, copySide}
-use Rattle.multiportgraph.specs.Calls.{layRange, layMarks}
 use Rattle.multiportgraph.specs.Forms.{flagAt, putFlag}
 use Rattle.multiportgraph.specs.declared.multiportgraph.MultiPortGraph.{MultiPortGraph}
+use Rattle.multiportgraph.specs.HiddenNodes.{layRange}
 
 -- Flags in a table of a size.
 
@@ -48,11 +46,11 @@ set-past (x ∷ t) zero b h = absurd (omega arith)
 set-past (x ∷ t) (suc i) b h = ap (λ r. x ∷ r) (set-past t i b (omega arith))
 
 -- a table of that size reads and stores as a list does
-flag-by : (t : List Bool) (size i : ℕ) (q : Bool) → ltb i size ≡ q → (size ≤ i → getD t i false ≡ false) → (q ≡ false → size ≤ i) → pick q (getD t i false) false ≡ getD t i false
+flag-by : (t : List Bool) (size i : ℕ) (q : Bool) → ltb i size ≡ q → (size ≤ i → getD t i false ≡ false) → (q ≡ false → size ≤ i) → cond q (getD t i false) false ≡ getD t i false
 flag-by t size i true e f g = refl
 flag-by t size i false e f g = sym (f (g refl))
 
-put-by : (t : List Bool) (size i : ℕ) (b q : Bool) → ltb i size ≡ q → (size ≤ i → set t i b ≡ t) → (q ≡ false → size ≤ i) → pick q (set t i b) t ≡ set t i b
+put-by : (t : List Bool) (size i : ℕ) (b q : Bool) → ltb i size ≡ q → (size ≤ i → set t i b ≡ t) → (q ≡ false → size ≤ i) → cond q (set t i b) t ≡ set t i b
 put-by t size i b true e f g = refl
 put-by t size i b false e f g = sym (f (g refl))
 
@@ -85,16 +83,6 @@ pub lay-done : (m old : List Bool) (i j k n : ℕ) → n ≤ k → m ≡ layRang
 unfolding layRange
 lay-done m old i j k n h = let e : n - k ≡ 0 = omega arith in rw e
 
--- all steps of laying a node's marks
-pub lay-marks-done : (t t₁ t₂ t₃ t₄ : List Bool) (a b : NodeMeta) (af ai ao bf bi bo mi mo : ℕ)
-    → af ≡ a .«first_port» .0 → ai ≡ a .incoming → ao ≡ a .outgoing → bf ≡ b .«first_port» .0 → bi ≡ b .incoming → bo ≡ b .outgoing
-    → mi ≡ min (a .incoming) (b .incoming) → mo ≡ min (a .outgoing) (b .outgoing)
-    → t₁ ≡ fill t af (ai + ao) false → t₂ ≡ fill t₁ bf (bi + bo) false → t₃ ≡ layRange t₂ t af bf mi → t₄ ≡ layRange t₃ t (af + ai) (bf + bi) mo
-    → t₄ ≡ layMarks t a b
-unfolding layMarks
-lay-marks-done t t₁ t₂ t₃ t₄ a b af ai ao bf bi bo mi mo e₁ e₂ e₃ e₄ e₅ e₆ e₇ e₈ f₁ f₂ f₃ f₄ =
-    rw (f₄, f₃, f₂, f₁, e₁, e₂, e₃, e₄, e₅, e₆, e₇, e₈)
-
 -- The words of Reading, from what the code looks up.
 module _ (m : MultiPortGraph) where
   pub split-told : (p w : ℕ) (r q : Bool) → length (m .multiport) ≡ portSlots → w ≡ p → r ≡ flagAt (m .multiport) portSlots w → r ≡ q → isSplit m p ≡ q
@@ -122,7 +110,7 @@ module _ (m : MultiPortGraph) where
       side-single h =
           rw (eq-eqb (numPorts (m .graph) c Incoming) 1 (sym e ∙ one), ne-eqb (numPorts (m .graph) c Outgoing) 1 (λ g. h (f ∙ g)))
 
-      pub side-by-mark : (q : Bool) → b ≡ 1 → isSplit m (portOf (m .graph) c Incoming 0) ≡ q → pick q Incoming Outgoing ≡ copySide m c
+      pub side-by-mark : (q : Bool) → b ≡ 1 → isSplit m (portOf (m .graph) c Incoming 0) ≡ q → cond q Incoming Outgoing ≡ copySide m c
       unfolding copySide
       side-by-mark q two s =
           rw (eq-eqb (numPorts (m .graph) c Incoming) 1 (sym e ∙ one), eq-eqb (numPorts (m .graph) c Outgoing) 1 (sym f ∙ two), s)

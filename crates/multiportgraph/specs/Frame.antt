@@ -22,10 +22,10 @@ use Rattle.portgraph.specs.declared.node_entry.NodeMeta.{NodeMeta}
 use Rattle.portgraph.specs.declared.node_entry.MaybeNodeMeta.the-variants as maybe-meta
 use Rattle.portgraph.specs.declared.portgraph.PortGraph.{PortGraph}
 use Rattle.multiportgraph.specs.Reading.{isHidden, isSplit, copySide}
-use Rattle.multiportgraph.specs.Calls.{withGraph}
-use Rattle.multiportgraph.specs.Wires.{Place, Wire}
-use Rattle.multiportgraph.specs.Inner.{inner#, copyPlace, Marked, copy-port, main-port, flag, subportsIn, Fine, outer, IsEnd, WireIn}
+use Rattle.multiportgraph.specs.Inner.{inner#, copyPlace, Marked, copy-port, main-port, Fine, outer, IsEnd, WireIn, subportsOfSlot}
 use Rattle.multiportgraph.specs.declared.multiportgraph.MultiPortGraph.{MultiPortGraph}
+use Rattle.multiportgraph.specs.Places.{Place, Wire, flag}
+use Rattle.multiportgraph.specs.Graph.{withGraph}
 
 pub true-or-false : (b : Bool) → (b ≡ true) ⊎ (b ≡ false)
 true-or-false true = inl refl
@@ -44,7 +44,7 @@ copy-side-is m c k Outgoing e one more = rw (e, ne-eqb (k .incoming) 1 (λ q. om
 -- a slot at an end of a hidden node's own link
 abbrev pub AtCopyLink : MultiPortGraph → Model → ℕ → ℕ → Type 0
 AtCopyLink m M c s =
-    (slotOf (M .node) (copyPlace m c) ≡ s) ⊎ ((x : model.Place) × (M .join (copyPlace m c) ≡ to x) × (slotOf (M .node) x ≡ s))
+    (slotOf (M .node) (copyPlace m c) ≡ s) ⊎ ((x : model.InnerPlace) × (M .join (copyPlace m c) ≡ to x) × (slotOf (M .node) x ≡ s))
 
 -- some hidden nodes may go; the others keep their meta data, their main port and its slot, and the marks of their own link
 pub record Frame (m : MultiPortGraph) (M : Model) (m′ : MultiPortGraph) (M′ : Model) : Type 0 where
@@ -54,13 +54,13 @@ pub record Frame (m : MultiPortGraph) (M : Model) (m′ : MultiPortGraph) (M′ 
   pub flagsLong : length (m′ .«copy_node») ≡ nodeSlots
   pub hid : (c : ℕ) → isHidden m′ c ≡ true → isHidden m c ≡ true
   pub node : (c : ℕ) → isHidden m′ c ≡ true → M′ .node c ≡ M .node c
-  pub main : (c : ℕ) (x : model.Place) → isHidden m′ c ≡ true → M .join (copyPlace m c) ≡ to x → M′ .node (x .node) ≡ M .node (x .node)
+  pub main : (c : ℕ) (x : model.InnerPlace) → isHidden m′ c ≡ true → M .join (copyPlace m c) ≡ to x → M′ .node (x .node) ≡ M .node (x .node)
   pub join : (c : ℕ) → isHidden m′ c ≡ true → M′ .join (copyPlace m c) ≡ M .join (copyPlace m c)
   pub marked : (c s : ℕ) → isHidden m′ c ≡ true → AtCopyLink m M c s → isSplit m′ s ≡ true
   pub only : (s : ℕ) → isSplit m′ s ≡ true → isSplit m s ≡ true
   pub stays : (c s : ℕ) → isHidden m c ≡ true → isSplit m′ s ≡ true → AtCopyLink m M c s → isHidden m′ c ≡ true
   pub copies : m′ .«copy_node_count» ≡ total nodeSlots (λ n. flag (isHidden m′ n))
-  pub subs : m′ .«subport_count» ≡ total nodeSlots (subportsIn m′ M′)
+  pub subs : m′ .«subport_count» ≡ total nodeSlots (subportsOfSlot m′ M′)
 
 module _ {m : MultiPortGraph} {M : Model} {m′ : MultiPortGraph} {M′ : Model} (f : Fine m M) (F : Frame m M m′ M′) where
   pub copy-side-kept : (c : ℕ) → isHidden m′ c ≡ true → copySide m′ c ≡ copySide m c
@@ -82,7 +82,7 @@ module _ {m : MultiPortGraph} {M : Model} {m′ : MultiPortGraph} {M′ : Model}
       ap (slotOf (M′ .node)) (copy-place-kept c h)
       ∙ ap (λ (s : Slots). model.firstOf s + (model.sideStart s (copySide m c) + 0)) (F .node c h)
 
-  slot-kept : (x : model.Place) → M′ .node (x .node) ≡ M .node (x .node) → slotOf (M′ .node) x ≡ slotOf (M .node) x
+  slot-kept : (x : model.InnerPlace) → M′ .node (x .node) ≡ M .node (x .node) → slotOf (M′ .node) x ≡ slotOf (M .node) x
   slot-kept x e = ap (λ (s : Slots). model.firstOf s + (model.sideStart s (x .side) + x .pos)) e
 
   pub frame-fine : Fine m′ M′
@@ -121,7 +121,7 @@ module _ {m : MultiPortGraph} {M : Model} {m′ : MultiPortGraph} {M′ : Model}
           main-port c x j (copy-join-kept c j ∙ q) (slot-kept x (F .main c x j q) ∙ e)
 
   -- an end is where it was
-  pub outer-kept : (z : model.Place) → isHidden m′ (z .node) ≡ isHidden m (z .node) → outer m′ M′ z ≡ outer m M z
+  pub outer-kept : (z : model.InnerPlace) → isHidden m′ (z .node) ≡ isHidden m (z .node) → outer m′ M′ z ≡ outer m M z
   unfolding outer
   outer-kept z same = go (isHidden m′ (z .node)) refl
     where
@@ -133,7 +133,7 @@ module _ {m : MultiPortGraph} {M : Model} {m′ : MultiPortGraph} {M′ : Model}
 
 module _ {m : MultiPortGraph} {M : Model} (f : Fine m M) {g : PortGraph} {M′ : Model} (good : Good M′) (holds : Holds g M′)
     (nodes : (c : ℕ) → isHidden m c ≡ true → M′ .node c ≡ M .node c)
-    (mains : (c : ℕ) (x : model.Place) → isHidden m c ≡ true → M .join (copyPlace m c) ≡ to x → M′ .node (x .node) ≡ M .node (x .node))
+    (mains : (c : ℕ) (x : model.InnerPlace) → isHidden m c ≡ true → M .join (copyPlace m c) ≡ to x → M′ .node (x .node) ≡ M .node (x .node))
     (joins : (c : ℕ) → isHidden m c ≡ true → M′ .join (copyPlace m c) ≡ M .join (copyPlace m c)) where
   pub plain-frame : Frame m M (withGraph m g) M′
   unfolding isHidden isSplit
@@ -154,7 +154,7 @@ module _ {m : MultiPortGraph} {M : Model} (f : Fine m M) {g : PortGraph} {M′ :
         subs = f .subs ∙ total-same nodeSlots _ _ (λ n l. same n (isHidden m n) refl);
       }
     where
-      same : (n : ℕ) (b : Bool) → isHidden m n ≡ b → subportsIn m M n ≡ subportsIn m M′ n
+      same : (n : ℕ) (b : Bool) → isHidden m n ≡ b → subportsOfSlot m M n ≡ subportsOfSlot m M′ n
       same n true e = rw (e, nodes n e)
       same n false e = rw e
 
@@ -169,7 +169,7 @@ split-below m g s = refl
 
 -- Ends and wires where a place's node, its being hidden and its mark are the same.
 
-pub record Alike (m : MultiPortGraph) (M : Model) (m′ : MultiPortGraph) (M′ : Model) (z : model.Place) : Type 0 where
+pub record Alike (m : MultiPortGraph) (M : Model) (m′ : MultiPortGraph) (M′ : Model) (z : model.InnerPlace) : Type 0 where
   pub node : M′ .node (z .node) ≡ M .node (z .node)
   pub hidden : isHidden m′ (z .node) ≡ isHidden m (z .node)
   pub split : isHidden m (z .node) ≡ false → isSplit m′ (slotOf (M .node) z) ≡ isSplit m (slotOf (M .node) z)
@@ -178,10 +178,10 @@ pub same-wire : {a b c d : Place} → a ≡ b → c ≡ d → _≡_ {A = Wire} (
 same-wire p q = λ i. record { out = p i; into = q i }
 
 module _ {m : MultiPortGraph} {M : Model} {m′ : MultiPortGraph} {M′ : Model} (f : Fine m M) (F : Frame m M m′ M′) where
-  pub slot-alike : (z : model.Place) → Alike m M m′ M′ z → slotOf (M′ .node) z ≡ slotOf (M .node) z
+  pub slot-alike : (z : model.InnerPlace) → Alike m M m′ M′ z → slotOf (M′ .node) z ≡ slotOf (M .node) z
   slot-alike z a = ap (λ (s : Slots). model.firstOf s + (model.sideStart s (z .side) + z .pos)) (a .node)
 
-  pub end-kept : (z : model.Place) → Alike m M m′ M′ z → IsEnd m M z → IsEnd m′ M′ z
+  pub end-kept : (z : model.InnerPlace) → Alike m M m′ M′ z → IsEnd m M z → IsEnd m′ M′ z
   end-kept z a e =
       record {
         valid = subst (λ (s : Slots). z .pos < countOf s (z .side)) (sym (a .node)) (e .valid);
@@ -189,7 +189,7 @@ module _ {m : MultiPortGraph} {M : Model} {m′ : MultiPortGraph} {M′ : Model}
         subport = λ h s. e .subport (F .hid (z .node) h) (s ∙ copy-side-kept f F (z .node) h);
       }
 
-  pub kept-end : (z : model.Place) → Alike m M m′ M′ z → IsEnd m′ M′ z → IsEnd m M z
+  pub kept-end : (z : model.InnerPlace) → Alike m M m′ M′ z → IsEnd m′ M′ z → IsEnd m M z
   kept-end z a e =
       record {
         valid = subst (λ (s : Slots). z .pos < countOf s (z .side)) (a .node) (e .valid);

@@ -19,33 +19,33 @@ use Rattle.portgraph.specs.declared.portgraph.PortGraph.{PortGraph}
 use Rattle.portgraph.specs.declared.resize.SetAnswer.the-variants as lower-set
 use Rattle.portgraph.specs.declared.resize.PortsSet.{PortsSet}
 use Rattle.multiportgraph.specs.Reading.{isHidden, isSplit, copySide, copyNode, portOf}
-use Rattle.multiportgraph.specs.Calls.{recounted, moreIn, moreOut, enough}
 use Rattle.multiportgraph.specs.Inner.{inner#, copyPlace, Fine, Marked, copy-port, main-port, Seen}
 use Rattle.multiportgraph.specs.Ends.{Hangs, hangs, copy-valid, copy-count, count-of, one-copy, main-seen, block-seen, split-has-copy}
 use Rattle.multiportgraph.specs.RecountLaws.{Recount, WasMarked, number-cases, marked-place, marks-long, other-slot, recount-marks, marked-was, set-recounts, copy-place-same, grown, growth#, valid-kept, joins-same, ends-same, hidden-same, grown-fine, fresh, fresh-valid, fresh-slot, more-longer}
 use Rattle.multiportgraph.specs.Reads.{farIn, firstIn, grownIn, grownOut}
 use Rattle.multiportgraph.specs.ReadLaws.{first-there, far-is}
-use Rattle.multiportgraph.specs.LinkSteps.{SplitPort}
 use Rattle.multiportgraph.specs.declared.multiportgraph.MultiPortGraph.{MultiPortGraph}
+use Rattle.multiportgraph.specs.HiddenNodes.{recounted, moreIn, moreOut, enough}
+use Rattle.multiportgraph.specs.Presumed.{SplitPort}
 
 -- a marked port of a hidden node is its copy port
-marked-copy : {m : MultiPortGraph} {M : Model} → Fine m M → (c : ℕ) → isHidden m c ≡ true → (y : model.Place) → Valid (M .node) y → y .node ≡ c → isSplit m (slotOf (M .node) y) ≡ true → y ≡ copyPlace m c
+marked-copy : {m : MultiPortGraph} {M : Model} → Fine m M → (c : ℕ) → isHidden m c ≡ true → (y : model.InnerPlace) → Valid (M .node) y → y .node ≡ c → isSplit m (slotOf (M .node) y) ≡ true → y ≡ copyPlace m c
 marked-copy {m} {M} f c h y v n t = go (f .onlyMarked (slotOf (M .node) y) t)
   where
     go : Marked m M (slotOf (M .node) y) → y ≡ copyPlace m c
     go (copy-port k i e) =
         let q : copyPlace m k ≡ y = slots-apart (f .good) (copyPlace m k) y (copy-valid f k i) v e in
-        sym q ∙ ap (copyPlace m) (ap (λ (z : model.Place). z .node) q ∙ n)
+        sym q ∙ ap (copyPlace m) (ap (λ (z : model.InnerPlace). z .node) q ∙ n)
     go (main-port k z i j e) =
         let q : z ≡ y = slots-apart (f .good) z y (joined-is-valid (f .good) (copyPlace m k) z j) v e in
         let a : isHidden m (z .node) ≡ false = main-seen f k z i j .1 in
-        let b : isHidden m (z .node) ≡ true = ap (λ (u : model.Place). isHidden m (u .node)) q ∙ (ap (isHidden m) n ∙ h) in
+        let b : isHidden m (z .node) ≡ true = ap (λ (u : model.InnerPlace). isHidden m (u .node)) q ∙ (ap (isHidden m) n ∙ h) in
         absurd (zero-is-not-one (cc))
 
-module _ {m : MultiPortGraph} {M : Model} (f : Fine m M) (x : model.Place) (h : Hangs m M x) {g′ : PortGraph} {M′ : Model} {i o : ℕ} {a b : NodeMeta}
+module _ {m : MultiPortGraph} {M : Model} (f : Fine m M) (x : model.InnerPlace) (h : Hangs m M x) {g′ : PortGraph} {M′ : Model} {i o : ℕ} {a b : NodeMeta}
     (r : Recount g′ M M′ (h .copy) a b i o) (longer : portsOn b (x .side) ≡ portsOn a (x .side) + 1)
     (same : portsOn b (reversed (x .side)) ≡ portsOn a (reversed (x .side))) where
-  abbrev cp : model.Place
+  abbrev cp : model.InnerPlace
   cp = copyPlace m (h .copy)
 
   valid-cp : Valid (M .node) cp
@@ -74,7 +74,7 @@ module _ {m : MultiPortGraph} {M : Model} (f : Fine m M) (x : model.Place) (h : 
           other e =
               let q : slotOf (M .node) (w .place) ≡ s = sym (other-slot f r (w .place) e) ∙ w .slot in (
                 ap (isSplit m) (sym q) ∙ w .marked,
-                λ z. e (ap (λ (u : model.Place). u .node) (slots-apart (f .good) (w .place) cp (w .was) valid-cp (q ∙ z))),
+                λ z. e (ap (λ (u : model.InnerPlace). u .node) (slots-apart (f .good) (w .place) cp (w .was) valid-cp (q ∙ z))),
               )
 
   -- and every such slot is marked
@@ -163,7 +163,7 @@ pub record GrowTables (m : MultiPortGraph) (p : ℕ) (d : Direction) (c n : ℕ)
   pub port : portOf g c d n ≡ firstIn (g .«port_link») (g .«port_meta») p d + n
   pub few : firstIn (g .«port_link») (g .«port_meta») p d + n < portSlots
 
-grow-here : {m : MultiPortGraph} {M : Model} (f : Fine m M) (x : model.Place) (s : Seen m M x) (h : Hangs m M x) (e : ℕ) → growth# m (h .copy) (x .side) .answer ≡ lower-set.Set e →
+grow-here : {m : MultiPortGraph} {M : Model} (f : Fine m M) (x : model.InnerPlace) (s : Seen m M x) (h : Hangs m M x) (e : ℕ) → growth# m (h .copy) (x .side) .answer ≡ lower-set.Set e →
     GrowTables m (slotOf (M .node) x) (x .side) (h .copy) (numPorts (m .graph) (h .copy) (x .side)) (growth# m (h .copy) (x .side) .graph)
 grow-here {m} {M} f x s h e t =
     let z = set-recounts (f .good) (f .holds) (h .copy) _ _ enough e t in

@@ -1,6 +1,6 @@
 -- What is read off lent tables is what the graph says; and where a graph has plenty of room, both ends of a link find theirs.
 use mathlib.Core.Path.{_≡_, refl, sym, ap, _∙_, subst}
-use mathlib.Core.Bool.{Bool, true, false}
+use mathlib.Core.Bool.{Bool, true, false, cond}
 use mathlib.Core.List.{List, [], _∷_, _++_}
 use Prim.Native.Nat.{ℕ, zero, suc, _+_, _-_, _*_, _≤_, _<_}
 use native.Mathlib.Omega.{arith}
@@ -8,7 +8,7 @@ use lib.Dec.{eqb, leb, ltb}
 use lib.ListN.{length, set, length-set, replicate}
 use borrow.Author.Tests.{eq-eqb, ne-eqb, eqb-true, eqb-false, le-ltb, leb-true, leb-false, le-leb, lt-leb}
 use Rattle.portgraph.specs.Limits.{nodeSlots, portSlots, freeLists}
-use Rattle.portgraph.specs.Entries.{pick, portEntry}
+use Rattle.portgraph.specs.Entries.{portEntry}
 use Rattle.portgraph.specs.Tables.{at}
 use Rattle.portgraph.specs.Meaning.{growth, rest, sameSide}
 use Rattle.portgraph.specs.Lookups.{port#, metaAt, countIn, numPorts, portIndex}
@@ -34,8 +34,7 @@ use Rattle.portgraph.specs.declared.slots.AddAnswer.the-variants as lower-add
 use Rattle.portgraph.specs.declared.resize.SetAnswer as lower-set-answer
 use Rattle.portgraph.specs.declared.resize.SetAnswer.the-variants as lower-set
 use Rattle.multiportgraph.specs.Reading.{linkNumber, farPort, ownerOf, portNumber, portOf, hasLink, isHidden, isSplit, visible, seen, copyNode, subports, subport#, copySide}
-use Rattle.multiportgraph.specs.Calls.{emptyGraph, withGraph, removeCopy, removeLone, unsplit, Prepared, ready, full, lowestFree, copyIn, copyOut, moreIn, moreOut, enough, splitBy, splitPort, split, grownBy, recounted, more, grow, reuse, prepare, linkRefused, linkSecond, linkBoth}
-use Rattle.multiportgraph.specs.Inner.{Fine, MultiWf, Seen, SameBlocks, subportsIn, Copy}
+use Rattle.multiportgraph.specs.Inner.{Fine, MultiWf, Seen, SameBlocks, Copy, subportsOfSlot}
 use Rattle.multiportgraph.specs.Forms.{flagAt}
 use Rattle.multiportgraph.specs.FormSteps.{flag-is}
 use Rattle.multiportgraph.specs.Ends.{Hangs, BlockPort, block-seen, seen-block, split-has-copy}
@@ -44,7 +43,6 @@ use Rattle.multiportgraph.specs.SpaceLaws.{overfull, overflows-at-end, r
 use Rattle.multiportgraph.specs.PrepareLaws.{prepare-law}
 use Rattle.multiportgraph.specs.CallSteps.{empty-made, lower-wf}
 use Rattle.multiportgraph.specs.BlockSteps.{wf-remove-copy}
-use Rattle.multiportgraph.specs.LinkSteps.{OnBlock, BothOnBlock}
 use Rattle.multiportgraph.specs.Reads.{farIn, ownerIn}
 use Rattle.multiportgraph.specs.MultiLent.{multiIn, noHeld, portOfIn, copySideIn, farEntry, farPortIn, copyNodeIn, Sound, plenty}
 use Rattle.multiportgraph.specs.declared.multiportgraph.Refusal.the-variants.{NoRoom, IncompatibleDirections}
@@ -53,6 +51,10 @@ use Rattle.multiportgraph.specs.declared.multiportgraph.LinkAnswer.the-v
 use Rattle.multiportgraph.specs.declared.multiportgraph.PortsLinked.{PortsLinked}
 use Rattle.multiportgraph.specs.declared.multiportgraph.MultiPortGraph.{MultiPortGraph}
 use Rattle.multiportgraph.specs.declared.lent.Held.{Held}
+use Rattle.multiportgraph.specs.Graph.{emptyGraph, withGraph}
+use Rattle.multiportgraph.specs.HiddenNodes.{removeCopy, removeLone, unsplit, Prepared, ready, full, lowestFree, copyIn, copyOut, moreIn, moreOut, enough, splitBy, splitPort, split, grownBy, recounted, more, grow, reuse, prepare, prepareUnder, splitUnder, reuseUnder, growUnder}
+use Rattle.multiportgraph.specs.Cases.{linkRefused, linkSecond, linkLive}
+use Rattle.multiportgraph.specs.Presumed.{OnBlock, BothOnBlock}
 
 -- tables without anything are the empty graph
 pub empty-in : multiIn (replicate nodeWords 0) (replicate portSlots 0) (replicate portSlots 0) (replicate freeLists 0) (replicate portSlots false) (replicate nodeSlots false) noHeld ≡ emptyGraph
@@ -73,13 +75,13 @@ module _ (nodes links owners heads : List ℕ) (marks flags : List Bool) (held :
       let a = count-read (s .wf) c Incoming in
       let b = count-read (s .wf) c Outgoing in
       let p = ap (flagAt marks portSlots) (port-of-read (s .wf) c Incoming 0) ∙ flag-is marks portSlots (portOf (graphIn nodes links owners heads (held .counts)) c Incoming 0) (s .marksLong) in
-      λ i. pick (eqb (a i) 1) (pick (eqb (b i) 1) (pick (p i) Incoming Outgoing) Incoming) Outgoing
+      λ i. cond (eqb (a i) 1) (cond (eqb (b i) 1) (cond (p i) Incoming Outgoing) Incoming) Outgoing
 
   pub far-port-read : (p : ℕ) → farPortIn links owners p ≡ farPort (graphIn nodes links owners heads (held .counts)) p
   unfolding farPortIn farPort farIn
   far-port-read p = go (portEntry (at owners p))
     where
-      some : (b : Bool) → eqb (at links p) 0 ≡ b → at links p - 1 ≡ linkNumber (pick b link-variants.Unlinked (link-variants.Linked (port# (at links p - 1))))
+      some : (b : Bool) → eqb (at links p) 0 ≡ b → at links p - 1 ≡ linkNumber (cond b link-variants.Unlinked (link-variants.Linked (port# (at links p - 1))))
       some true e = let z = eqb-true (at links p) 0 e in omega arith
       some false e = refl
 
@@ -109,7 +111,7 @@ pub sound-unsplit : (m : MultiPortGraph) (p : ℕ) → Sound m → Sound (unspli
 unfolding unsplit
 sound-unsplit m p s = go (isSplit m p)
   where
-    go : (b : Bool) → Sound (pick b (removeCopy m p (copyNode m p)) m)
+    go : (b : Bool) → Sound (cond b (removeCopy m p (copyNode m p)) m)
     go true = sound-removed m p (copyNode m p) s
     go false = s
 
@@ -127,7 +129,7 @@ unfolding doubled
 doubled-small zero p n h = h
 doubled-small (suc times) p n h = go (leb n p) refl (doubled-small times (p * 2) n)
   where
-    go : (b : Bool) → leb n p ≡ b → (p * 2 < 2 * n → doubled times (p * 2) n < 2 * n) → pick b p (doubled times (p * 2) n) < 2 * n
+    go : (b : Bool) → leb n p ≡ b → (p * 2 < 2 * n → doubled times (p * 2) n < 2 * n) → cond b p (doubled times (p * 2) n) < 2 * n
     go true e k = h
     go false e k = let l = leb-false n p e in k (omega arith)
 
@@ -147,7 +149,7 @@ block-grows : (r : Room) (size : ℕ) → Grows r (afterWork r (takeBlock size))
 unfolding afterWork
 block-grows r size = go (eqb size 0)
   where
-    go : (b : Bool) → Grows r (pick b r (blockTaken r size)) size
+    go : (b : Bool) → Grows r (cond b r (blockTaken r size)) size
     go true = (omega arith, omega arith)
     go false = let g = growth-small size (r .freeBlocks size) in (omega arith, omega arith)
 
@@ -172,8 +174,8 @@ module _ {m : MultiPortGraph} {M : Model} (f : Fine m M) where
   copy-small c k h e =
       let used = f .good .nodeUsed c k e in
       let fit = f .good .nodesFit in
-      let has = total-has nodeSlots c (subportsIn m M) (omega arith) in
-      let one : subportsIn m M c ≡ k .incoming + k .outgoing - 1 = rw (h, e) refl in
+      let has = total-has nodeSlots c (subportsOfSlot m M) (omega arith) in
+      let one : subportsOfSlot m M c ≡ k .incoming + k .outgoing - 1 = rw (h, e) refl in
       let all = f .subs in
       omega arith
 
@@ -183,7 +185,7 @@ module _ {m : MultiPortGraph} {M : Model} (f : Fine m M) where
   grow-grows : (c : ℕ) (k : NodeMeta) → isHidden m c ≡ true → M .node c ≡ live k → (r : Room) → Grows r (afterWorks r (growWorks (metaAt (m .graph) c))) most
   grow-grows c k h e r = rw (meta-of-node (f .good) (f .holds) c k e) (go (ltb (k .incoming + k .outgoing + 1) (k .capacity)))
     where
-      go : (b : Bool) → Grows r (afterWorks r (pick b [] (moveWorks k (k .incoming + k .outgoing + 1)))) most
+      go : (b : Bool) → Grows r (afterWorks r (cond b [] (moveWorks k (k .incoming + k .outgoing + 1)))) most
       go true = none-grows r most
       go false =
           let g = move-grows r k (k .incoming + k .outgoing + 1) in
@@ -198,7 +200,7 @@ module _ {m : MultiPortGraph} {M : Model} (f : Fine m M) where
       block : BlockPort m M p n d
       block = block-seen f p n d s
 
-      reused : (b : Bool) → isSplit m p ≡ true → Grows r (afterWorks r (pick b [] (growWorks (metaAt (m .graph) (copyNode m p))))) most
+      reused : (b : Bool) → isSplit m p ≡ true → Grows r (afterWorks r (cond b [] (growWorks (metaAt (m .graph) (copyNode m p))))) most
       reused true t = none-grows r most
       reused false t =
           let x = block .place in
@@ -208,7 +210,7 @@ module _ {m : MultiPortGraph} {M : Model} (f : Fine m M) where
           grow-grows (copyNode m p) (c .meta) (ap (isHidden m) is ∙ h .isCopy) (ap (M .node) is ∙ c .here) r
 
       go : (a : Bool) → isSplit m p ≡ a → (b : Bool) →
-          Grows r (afterWorks r (pick a (pick (ltb (lowestFree (m .graph) (copyNode m p) d 0 (subports m p d)) (subports m p d)) [] (growWorks (metaAt (m .graph) (copyNode m p)))) (pick b splitWorks []))) most
+          Grows r (afterWorks r (cond a (cond (ltb (lowestFree (m .graph) (copyNode m p) d 0 (subports m p d)) (subports m p d)) [] (growWorks (metaAt (m .graph) (copyNode m p)))) (cond b splitWorks []))) most
       go true t b = reused (ltb (lowestFree (m .graph) (copyNode m p) d 0 (subports m p d)) (subports m p d)) t
       go false t true = let g = split-grows r in (g .0, (let i = g .1 in omega arith))
       go false t false = none-grows r most
@@ -238,24 +240,24 @@ grow-subs m c d g lower-set.MovesTooShort = omega arith
 grow-subs m c d g lower-set.NoRoom = omega arith
 
 split-subs-all : (m : MultiPortGraph) (p : ℕ) (d : Direction) → subsAfter (split m p d) ≤ m .«subport_count» + 2
-unfolding split
+unfolding splitUnder
 split-subs-all m p d = split-subs m p d (addNode (m .graph) (copyIn d) (copyOut d) .graph) (addNode (m .graph) (copyIn d) (copyOut d) .answer)
 
 grow-subs-all : (m : MultiPortGraph) (c : ℕ) (d : Direction) → subsAfter (grow m c d) ≤ m .«subport_count» + 2
-unfolding grow
+unfolding growUnder
 grow-subs-all m c d =
     grow-subs m c d (setNumPorts (m .graph) c (moreIn (m .graph) c d) (moreOut (m .graph) c d) enough .graph)
     (setNumPorts (m .graph) c (moreIn (m .graph) c d) (moreOut (m .graph) c d) enough .answer)
 
 prepare-subs : (m : MultiPortGraph) (p : ℕ) (d : Direction) → subsAfter (prepare m p d) ≤ m .«subport_count» + 2
-unfolding prepare reuse
+unfolding prepareUnder reuseUnder
 prepare-subs m p d = go (isSplit m p) (ltb (lowestFree (m .graph) (copyNode m p) d 0 (subports m p d)) (numPorts (m .graph) (copyNode m p) d)) (hasLink (m .graph) p)
   where
     go : (a b c : Bool) →
         subsAfter
-        (pick a
-        (pick b (ready m (portOf (m .graph) (copyNode m p) d (lowestFree (m .graph) (copyNode m p) d 0 (subports m p d))) (lowestFree (m .graph) (copyNode m p) d 0 (subports m p d))) (grow m (copyNode m p) d))
-        (pick c (split m p d) (ready m p 0))) ≤ m .«subport_count» + 2
+        (cond a
+        (cond b (ready m (portOf (m .graph) (copyNode m p) d (lowestFree (m .graph) (copyNode m p) d 0 (subports m p d))) (lowestFree (m .graph) (copyNode m p) d 0 (subports m p d))) (grow m (copyNode m p) d))
+        (cond c (split m p d) (ready m p 0))) ≤ m .«subport_count» + 2
     go true true c = omega arith
     go true false c = grow-subs-all m (copyNode m p) d
     go false b true = split-subs-all m p d
@@ -276,7 +278,7 @@ seen-still {m} {M} {m′} {M′} f f′ same p n d e =
 module _ {m : MultiPortGraph} {a : ℕ} {d : Direction} {b : ℕ} {e : Direction} (w : BothOnBlock m a d b e) (nodes : m .graph .«node_len» + 2 ≤ nodeSlots)
     (ports : m .graph .«port_len» + 4 * m .«subport_count» + 12 ≤ portSlots) where
   linked-not-short : (x o y i : ℕ) (m₂ : MultiPortGraph) (c : Bool) →
-      pick c (linkRefused m₂ (IncompatibleDirections (port# x) (port# y) d))
+      cond c (linkRefused m₂ (IncompatibleDirections (port# x) (port# y) d))
       (record { graph = withGraph m₂ (linkPorts (m₂ .graph) x y .graph); answer = link.Linked (subport# a o) (subport# b i) })
       ≡ linkRefused m NoRoom → ⊥
   linked-not-short x o y i m₂ true q = let z = ap (λ (r : PortsLinked). r .answer) q in zero-is-not-one (cc)
@@ -291,7 +293,7 @@ module _ {m : MultiPortGraph} {a : ℕ} {d : Direction} {b : ℕ} {e : Direction
       let v = sym (overflows-at-end (roomOf M₁) (prepareWorks m₁ b e)) ∙ p in
       zero-is-not-one (cc)
 
-  first-room : (t : Prepared) → prepare m a d ≡ t → PreparedSpace (w .first .wf .model) (prepareWorks m a d) t → linkBoth m a d b e t ≡ linkRefused m NoRoom → ⊥
+  first-room : (t : Prepared) → prepare m a d ≡ t → PreparedSpace (w .first .wf .model) (prepareWorks m a d) t → linkLive m a d b e t ≡ linkRefused m NoRoom → ⊥
   first-room full u p q =
       let f = w .first .wf .fine in
       let M = w .first .wf .model in
@@ -319,7 +321,7 @@ module _ {m : MultiPortGraph} {a : ℕ} {d : Direction} {b : ℕ} {e : Direction
       second-room x o m₁ M₁ (w .second .node) (r .1 .fine) s (let i = g .0 in omega arith) (let i = g .1 in omega arith)
       (prepare m₁ b e) (prepare-seen-space (r .1 .fine) b (w .second .node) e s) q
 
-  pub never-short : linkBoth m a d b e (prepare m a d) ≡ linkRefused m NoRoom → ⊥
+  pub never-short : linkLive m a d b e (prepare m a d) ≡ linkRefused m NoRoom → ⊥
   never-short = first-room (prepare m a d) refl (prepare-seen-space (w .first .wf .fine) a (w .first .node) d (w .first .is))
 
 -- what the test of plenty tells
@@ -328,7 +330,7 @@ unfolding plenty
 plenty-told held e = go (leb (held .counts .«node_len») (nodeSlots - 2)) refl (leb (held .counts .«port_len») portSlots) (leb (held .subs) portSlots) (leb (held .counts .«port_len» + 4 * held .subs + 12) portSlots) refl e
   where
     go : (a : Bool) → leb (held .counts .«node_len») (nodeSlots - 2) ≡ a → (b c : Bool) (f : Bool) → leb (held .counts .«port_len» + 4 * held .subs + 12) portSlots ≡ f →
-        pick a (pick b (pick c f false) false) false ≡ true → (held .counts .«node_len» + 2 ≤ nodeSlots) × (held .counts .«port_len» + 4 * held .subs + 12 ≤ portSlots)
+        cond a (cond b (cond c f false) false) false ≡ true → (held .counts .«node_len» + 2 ≤ nodeSlots) × (held .counts .«port_len» + 4 * held .subs + 12 ≤ portSlots)
     go true u true true true v q = (let h = leb-true (held .counts .«node_len») (nodeSlots - 2) u in omega arith, leb-true (held .counts .«port_len» + 4 * held .subs + 12) portSlots v)
     go true u true true false v q = absurd (zero-is-not-one (cc))
     go true u true false f v q = absurd (zero-is-not-one (cc))

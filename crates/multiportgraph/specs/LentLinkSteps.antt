@@ -1,6 +1,6 @@
 -- Resizing a block, preparing an end and linking ports over lent tables leave the graph, and give the answer, that their definitions say.
 use mathlib.Core.Path.{_≡_, refl, sym, ap, _∙_, subst}
-use mathlib.Core.Bool.{Bool, true, false}
+use mathlib.Core.Bool.{Bool, true, false, cond}
 use mathlib.Core.List.{List}
 use mathlib.Core.Logic.{_⊎_, inl, inr, ⊎-elim}
 use Prim.Native.Nat.{ℕ, _+_, _-_, _*_, _≤_, _<_}
@@ -10,13 +10,13 @@ use lib.ListN.{length, take}
 use lib.Seq.{sets, length-sets}
 use borrow.Author.Tests.{le-leb, lt-leb}
 use Rattle.portgraph.specs.Limits.{nodeSlots, portSlots, nodePorts}
-use Rattle.portgraph.specs.Entries.{pick, reversed, sideNumber}
+use Rattle.portgraph.specs.Entries.{reversed, sideNumber}
 use Rattle.portgraph.specs.Tables as tables
 use Rattle.portgraph.specs.Tables.{at, linkCount}
 use Rattle.portgraph.specs.Meaning.{sameSide}
 use Rattle.portgraph.specs.Lookups.{port#, metaAt, countIn, numPorts}
 use Rattle.portgraph.specs.Model.{Wf}
-use Rattle.portgraph.specs.Calls.{addFound, findSlot, findBlock, addNode, linkPorts, unlinkPort}
+use Rattle.portgraph.specs.Calls.{addFound, findSlot, findBlock, addNode, linkPorts, unlinkPort, addNodeUnder}
 use Rattle.portgraph.specs.Resize.{setNumPorts, movesAfter, BlockFits}
 use Rattle.portgraph.specs.ResizeLaws.{wf-set}
 use Rattle.portgraph.specs.SlotHolds.{wf-add}
@@ -45,8 +45,8 @@ use Rattle.portgraph.specs.declared.resize.SetAnswer as lower-set
 use Rattle.portgraph.specs.declared.resize.SetAnswer.the-variants as lower-set-variants
 use Rattle.portgraph.specs.declared.resize.PortsSet as lower-sized
 use Rattle.multiportgraph.specs.Reading.{linkNumber, farPort, portOf, isHidden, subport#, seen, visible, Port, dead, hidden, copyNode}
-use Rattle.multiportgraph.specs.Calls as calls
-use Rattle.multiportgraph.specs.Calls.{withGraph, copiesDropped, recounted, marksMoved, removeAll, resized, setAs, setCounts, movesTold, copyIn, copyOut, split, grow, prepare, more, enough, linkRefused, linkFirst, linkBoth, linkCall}
+use Rattle.multiportgraph.specs.HiddenNodes as hiding
+use Rattle.multiportgraph.specs.Calls.{setAs, setCounts, movesTold, linkPair}
 use Rattle.multiportgraph.specs.Forms.{putFlag, preparedAs}
 use Rattle.multiportgraph.specs.MarkLaws.{length-layMarks}
 use Rattle.multiportgraph.specs.BlockSteps.{loose-removed, set-answered, block-in, copies-dropped-few}
@@ -55,7 +55,7 @@ use Rattle.multiportgraph.specs.SplitLaws.{SplitTables}
 use Rattle.multiportgraph.specs.GrowLaws.{GrowTables}
 use Rattle.multiportgraph.specs.TableSteps.{split-told, split-done, grow-full, grow-told, grow-done}
 use Rattle.multiportgraph.specs.Inner.{MultiWf}
-use Rattle.multiportgraph.specs.LinkSteps.{OnBlock, BothOnBlock, LinkedPort, SplitPort, others-stay, still-wf, first-ready, first-full, both-full, second-full, one-side, both-linked}
+use Rattle.multiportgraph.specs.LinkSteps.{others-stay, still-wf, first-ready, first-full, both-full, second-full, one-side, both-linked}
 use Rattle.multiportgraph.specs.Named.{needIn, preparedBy, firstReady, bothReady, secondReady, endsReady, linkSeen, linkNeed, linkedBy, firstNeed, bothNeed}
 use Rattle.multiportgraph.specs.NamedLaws.{need-law, call-done, ends-joined}
 use Rattle.multiportgraph.specs.ReadLaws.{seen-read}
@@ -77,6 +77,10 @@ use Rattle.multiportgraph.specs.declared.named.LinkNeed.{LinkNeed}
 use Rattle.multiportgraph.specs.declared.named.LinkNeed.the-variants as needs
 use Rattle.multiportgraph.specs.declared.lent.Held.{Held}
 use Rattle.multiportgraph.specs.declared.lent_prepare.PreparedIn.{PreparedIn}
+use Rattle.multiportgraph.specs.Graph.{withGraph}
+use Rattle.multiportgraph.specs.HiddenNodes.{copiesDropped, recounted, marksMoved, removeAll, copyIn, copyOut, split, grow, prepare, more, enough}
+use Rattle.multiportgraph.specs.Cases.{resized, linkRefused, linkFirst, linkLive}
+use Rattle.multiportgraph.specs.Presumed.{OnBlock, BothOnBlock, LinkedPort, SplitPort}
 
 -- Marks.
 
@@ -174,14 +178,14 @@ subports-at-small Outgoing = omega arith
 -- a refused node changes nothing
 add-kept : (g : PortGraph) (i o : ℕ) (tag : lower-add.AddAnswer → ℕ) → ((n : NodeIndex) (f : PortIndex) → tag (lower-add-variants.Added n f) ≡ 0) → {a : lower-add.AddAnswer} → a ≡ addNode g i o .answer →
     (tag a ≡ 1) ⊎ (tag a ≡ 2) → addNode g i o .graph ≡ g
-unfolding addNode
+unfolding addNodeUnder
 add-kept g i o tag zeroth {a} e t = go (leb (i + o) nodePorts) (findSlot (g .«node_free») (g .«node_len»)) (findBlock (g .«port_free») (g .«port_len») (i + o)) e
   where
     done : (n : NodeIndex) (f : PortIndex) → a ≡ lower-add-variants.Added n f → ⊥
     done n f h = let z : tag a ≡ 0 = ap tag h ∙ zeroth n f in ⊎-elim (λ u. omega arith) (λ u. omega arith) t
 
-    go : (c : Bool) (x y : Found) → a ≡ pick c (addFound g i o x y) (record { graph = g; answer = lower-add-variants.TooManyPorts }) .answer →
-        pick c (addFound g i o x y) (record { graph = g; answer = lower-add-variants.TooManyPorts }) .graph ≡ g
+    go : (c : Bool) (x y : Found) → a ≡ cond c (addFound g i o x y) (record { graph = g; answer = lower-add-variants.TooManyPorts }) .answer →
+        cond c (addFound g i o x y) (record { graph = g; answer = lower-add-variants.TooManyPorts }) .graph ≡ g
     go false x y h = refl
     go true found.NoRoom y h = refl
     go true (found.At n) found.NoRoom h = refl
@@ -272,9 +276,9 @@ pub first-parts : (m : MultiPortGraph) (a : ℕ) (d : Direction) (b : ℕ) {g : 
 first-parts m a d b {g} r e t = link-parts (first-ready m a d b (preparedIn g r) e t refl)
 
 -- an end that is not prepared leaves the graph
-unchanged : (m : MultiPortGraph) (p : calls.Prepared) {g : MultiPortGraph} (r : PreparedIn) → preparedIn g r ≡ preparedAs m p → r .ready ≡ false → g ≡ m
-unchanged m (calls.ready k q o) {g} r e t = absurd (zero-is-not-one (let h : r .ready ≡ true = ap (λ (s : Prepared). s .ready) e in cc))
-unchanged m calls.full r e t = ap (λ (s : Prepared). s .graph) e
+unchanged : (m : MultiPortGraph) (p : hiding.Prepared) {g : MultiPortGraph} (r : PreparedIn) → preparedIn g r ≡ preparedAs m p → r .ready ≡ false → g ≡ m
+unchanged m (hiding.ready k q o) {g} r e t = absurd (zero-is-not-one (let h : r .ready ≡ true = ap (λ (s : Prepared). s .ready) e in cc))
+unchanged m hiding.full r e t = ap (λ (s : Prepared). s .graph) e
 
 pub first-none : (m : MultiPortGraph) (a : ℕ) (d : Direction) (b : ℕ) {g : MultiPortGraph} (r : PreparedIn) → preparedIn g r ≡ preparedAs m (prepare m a d) → r .ready ≡ false →
     (g ≡ linkFirst m b (prepare m a d) .graph) × (link.Refused NoRoom ≡ linkFirst m b (prepare m a d) .answer)
@@ -316,17 +320,17 @@ pub second-on-block : {m : MultiPortGraph} {a : ℕ} {d : Direction} {b : ℕ} {
 second-on-block {m} {a} {d} {b} {e} {g} r w h t = others-stay (w .first) (preparedIn g r) h t b e (w .second)
 
 module _ {m : MultiPortGraph} {a : ℕ} {d : Direction} {b : ℕ} {e : Direction} {g : MultiPortGraph} {answer : LinkAnswer} {done : Bool} (t : Tried m a d b e g answer done) where
-  pub tried-done : done ≡ true → (g ≡ linkBoth m a d b e (prepare m a d) .graph) × (answer ≡ linkBoth m a d b e (prepare m a d) .answer)
+  pub tried-done : done ≡ true → (g ≡ linkLive m a d b e (prepare m a d) .graph) × (answer ≡ linkLive m a d b e (prepare m a d) .answer)
   tried-done h = link-parts (t .whole h)
 
-  pub tried-undone : done ≡ false → (m ≡ linkBoth m a d b e (prepare m a d) .graph) × (link.Refused NoRoom ≡ linkBoth m a d b e (prepare m a d) .answer)
+  pub tried-undone : done ≡ false → (m ≡ linkLive m a d b e (prepare m a d) .graph) × (link.Refused NoRoom ≡ linkLive m a d b e (prepare m a d) .answer)
   tried-undone h = link-parts (sym (t .short h))
 
 -- with plenty of room nothing is undone
 pub tried-plenty : (nodes links owners heads : List ℕ) (marks flags : List Bool) (held : Held) {a : ℕ} {d : Direction} {b : ℕ} {e : Direction} {g : MultiPortGraph} {answer : LinkAnswer} {done : Bool} →
     BothOnBlock (multiIn nodes links owners heads marks flags held) a d b e → plenty held ≡ true → Tried (multiIn nodes links owners heads marks flags held) a d b e g answer done →
-    (g ≡ linkBoth (multiIn nodes links owners heads marks flags held) a d b e (prepare (multiIn nodes links owners heads marks flags held) a d) .graph)
-    × (answer ≡ linkBoth (multiIn nodes links owners heads marks flags held) a d b e (prepare (multiIn nodes links owners heads marks flags held) a d) .answer)
+    (g ≡ linkLive (multiIn nodes links owners heads marks flags held) a d b e (prepare (multiIn nodes links owners heads marks flags held) a d) .graph)
+    × (answer ≡ linkLive (multiIn nodes links owners heads marks flags held) a d b e (prepare (multiIn nodes links owners heads marks flags held) a d) .answer)
 tried-plenty nodes links owners heads marks flags held {done = true} w p t = tried-done t refl
 tried-plenty nodes links owners heads marks flags held {done = false} w p t =
     let r = plenty-told held p in absurd (never-short w (r .0) (r .1) (t .short refl))
@@ -353,13 +357,13 @@ module _ (held : Held) where
 
 -- Two ports.
 module _ {m : MultiPortGraph} (w : MultiWf m) (a b : ℕ) {r : LinkNeed} (e : r ≡ linkNeed (m .multiport) (m .graph .«port_link») (m .graph .«port_meta») (m .«copy_node») a b) where
-  pub call-refused-in : {x : Refusal} → r ≡ needs.Refused x → (m ≡ linkCall m a b .graph) × (link.Refused x ≡ linkCall m a b .answer)
+  pub call-refused-in : {x : Refusal} → r ≡ needs.Refused x → (m ≡ linkPair m a b .graph) × (link.Refused x ≡ linkPair m a b .answer)
   call-refused-in {x} t = link-parts (call-done w a b e t refl)
 
-  pub call-first-in : {d : Direction} {g : MultiPortGraph} {y : LinkAnswer} → r ≡ needs.First d → (g ≡ linkFirst m b (prepare m a d) .graph) × (y ≡ linkFirst m b (prepare m a d) .answer) → (g ≡ linkCall m a b .graph) × (y ≡ linkCall m a b .answer)
+  pub call-first-in : {d : Direction} {g : MultiPortGraph} {y : LinkAnswer} → r ≡ needs.First d → (g ≡ linkFirst m b (prepare m a d) .graph) × (y ≡ linkFirst m b (prepare m a d) .answer) → (g ≡ linkPair m a b .graph) × (y ≡ linkPair m a b .answer)
   call-first-in t h = link-parts (call-done w a b e t (λ i. record { graph = h .0 i; answer = h .1 i }))
 
-  pub call-both-in : {d f : Direction} {g : MultiPortGraph} {y : LinkAnswer} → r ≡ needs.Both d f → (g ≡ linkBoth m a d b f (prepare m a d) .graph) × (y ≡ linkBoth m a d b f (prepare m a d) .answer) → (g ≡ linkCall m a b .graph) × (y ≡ linkCall m a b .answer)
+  pub call-both-in : {d f : Direction} {g : MultiPortGraph} {y : LinkAnswer} → r ≡ needs.Both d f → (g ≡ linkLive m a d b f (prepare m a d) .graph) × (y ≡ linkLive m a d b f (prepare m a d) .answer) → (g ≡ linkPair m a b .graph) × (y ≡ linkPair m a b .answer)
   call-both-in t h = link-parts (call-done w a b e t (λ i. record { graph = h .0 i; answer = h .1 i }))
 
   -- where the first end is to be prepared, it is a port of a block
@@ -368,7 +372,7 @@ module _ {m : MultiPortGraph} (w : MultiWf m) (a b : ℕ) {r : LinkNeed} (e : r 
   first-side d need.Grow j h = cc
   first-side d need.Split j h = cc
 
-  ends-not-first : (d f : Direction) (x o y i : ℕ) (c : Bool) (j : Direction) → pick c (needs.Refused (IncompatibleDirections (port# x) (port# y) d)) (needs.Ends x o y i) ≡ needs.First j → ⊥
+  ends-not-first : (d f : Direction) (x o y i : ℕ) (c : Bool) (j : Direction) → cond c (needs.Refused (IncompatibleDirections (port# x) (port# y) d)) (needs.Ends x o y i) ≡ needs.First j → ⊥
   ends-not-first d f x o y i true j h = zero-is-not-one (cc)
   ends-not-first d f x o y i false j h = zero-is-not-one (cc)
 
@@ -395,8 +399,8 @@ module _ {m : MultiPortGraph} (w : MultiWf m) (a b : ℕ) {r : LinkNeed} (e : r 
 
 pub call-linked-in : (nodes links owners heads : List ℕ) (marks flags : List Bool) (held : Held) (w : MultiWf (multiIn nodes links owners heads marks flags held)) (a b : ℕ) {r : LinkNeed} {x o y i n : ℕ} {links′ : List ℕ} {held′ : Held} →
     r ≡ linkNeed marks links owners flags a b → r ≡ needs.Ends x o y i → links′ ≡ tables.linkBoth links x y → n ≡ held .counts .«link_count» + 1 → held′ ≡ heldLinks held n →
-    (multiIn nodes links′ owners heads marks flags held′ ≡ linkCall (multiIn nodes links owners heads marks flags held) a b .graph)
-    × (link.Linked (subport# a o) (subport# b i) ≡ linkCall (multiIn nodes links owners heads marks flags held) a b .answer)
+    (multiIn nodes links′ owners heads marks flags held′ ≡ linkPair (multiIn nodes links owners heads marks flags held) a b .graph)
+    × (link.Linked (subport# a o) (subport# b i) ≡ linkPair (multiIn nodes links owners heads marks flags held) a b .answer)
 call-linked-in nodes links owners heads marks flags held w a b {r} {x} {o} {y} {i} {n} {links′} {held′} e t f g h =
     let m = multiIn nodes links owners heads marks flags held in
     let z = link-parts (call-done w a b {l = record { graph = multiIn nodes links′ owners heads marks flags (heldLinks held (held .counts .«link_count» + 1)); answer = link.Linked (subport# a o) (subport# b i) }} e t (ends-joined m a b x o y i f)) in

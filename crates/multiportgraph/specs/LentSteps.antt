@@ -1,6 +1,6 @@
 -- Each call over lent tables leaves the graph, and gives the answer, that its definition says.
 use mathlib.Core.Path.{_≡_, refl, sym, ap, _∙_, subst}
-use mathlib.Core.Bool.{Bool, true, false}
+use mathlib.Core.Bool.{Bool, true, false, cond}
 use mathlib.Core.List.{List, [], _∷_}
 use mathlib.Core.Logic.{_⊎_, inl, inr, ⊎-elim}
 use Prim.Native.Nat.{ℕ, zero, suc, _+_, _-_}
@@ -9,13 +9,13 @@ use lib.Dec.{eqb}
 use lib.ListN.{getD}
 use borrow.Author.Tests.{eq-eqb, ne-eqb}
 use Rattle.portgraph.specs.Limits.{nodeSlots, portSlots}
-use Rattle.portgraph.specs.Entries.{pick, reversed, portEntry}
+use Rattle.portgraph.specs.Entries.{reversed, portEntry}
 use Rattle.portgraph.specs.Tables.{at, linkBoth, cut, linkCount}
 use Rattle.portgraph.specs.Lookups.{metaAt, countIn}
 use Rattle.portgraph.specs.LookupSteps.{found-block-fits}
 use Rattle.portgraph.specs.Model.{Wf}
 use Rattle.portgraph.specs.Calls.{addNode, removeNode}
-use Rattle.portgraph.specs.Resize.{Plan, refuse, same, inside, anew, planOf, setBy, setNumPorts, BlockFits}
+use Rattle.portgraph.specs.Resize.{Plan, refuse, same, inside, anew, planOf, setBy, setNumPorts, BlockFits, setNumPortsUnder}
 use Rattle.portgraph.specs.Lent.{metaIn, portIndexIn, graphIn}
 use Rattle.portgraph.specs.LentSteps.{meta-read}
 use Rattle.portgraph.specs.declared.direction.Direction.{Direction}
@@ -38,7 +38,7 @@ use Rattle.portgraph.specs.declared.resize.SetAnswer as lower-set
 use Rattle.portgraph.specs.declared.resize.SetAnswer.the-variants as lower-set-variants
 use Rattle.multiportgraph.specs.Reading.{portNumber, isHidden, isSplit, copyNode, subport#}
 use Rattle.multiportgraph.specs.Reads.{farIn, ownerIn, wireIn}
-use Rattle.multiportgraph.specs.Calls.{addedAs, addBlock, removeCopy, unsplit, unsplitRange, removeBlock, removeLone, layMarks, marksMoved, copiesIn, cutPort, cutSub, linkSub}
+use Rattle.multiportgraph.specs.Calls.{addedAs, addBlock, removeBlock, cutPort, cutSub, linkSub}
 use Rattle.multiportgraph.specs.Forms.{flagAt, putFlag}
 use Rattle.multiportgraph.specs.FormSteps.{flag-is}
 use Rattle.multiportgraph.specs.CallSteps.{block-added}
@@ -47,7 +47,6 @@ use Rattle.multiportgraph.specs.BlockSteps.{lone-removed, remove-removed
 use Rattle.multiportgraph.specs.Named.{endNamed, linkNamed, readIn}
 use Rattle.multiportgraph.specs.NamedLaws.{cut-done, link-done, end-cut, join-made, port-cut-none, port-cut-far}
 use Rattle.multiportgraph.specs.Inner.{MultiWf}
-use Rattle.multiportgraph.specs.LinkSteps.{OnBlock}
 use Rattle.multiportgraph.specs.MultiLent.{multiIn, heldCounts, heldLinks, portOfIn, copySideIn, farEntry, farPortIn, copyNodeIn, Sound, FitsIf}
 use Rattle.multiportgraph.specs.LentLaws.{port-of-read, count-read, copy-side-read, copy-node-read}
 use Rattle.multiportgraph.specs.declared.multiportgraph.SubportIndex.{SubportIndex}
@@ -71,6 +70,8 @@ use Rattle.multiportgraph.specs.declared.named.NamedEnd.the-variants as 
 use Rattle.multiportgraph.specs.declared.named.NamedLink.{NamedLink}
 use Rattle.multiportgraph.specs.declared.named.NamedLink.the-variants as ends
 use Rattle.multiportgraph.specs.declared.lent.Held.{Held}
+use Rattle.multiportgraph.specs.HiddenNodes.{removeCopy, unsplit, unsplitRange, removeLone, layMarks, marksMoved, copiesIn}
+use Rattle.multiportgraph.specs.Presumed.{OnBlock}
 
 -- graph and answer of a call, each by itself
 pub cut-parts : {g : MultiPortGraph} {a : CutAnswer} {r : PortUnlinked} → _≡_ {A = PortUnlinked} (record { graph = g; answer = a }) r → (g ≡ r .graph) × (a ≡ r .answer)
@@ -152,7 +153,7 @@ module _ (nodes : List ℕ) (marks : List Bool) (n : ℕ) {a : ℕ} (e : a ≡ c
     side-single k = rw (← e, ← f, eq-eqb a 1 h, ne-eqb b 1 k)
 
     module _ (k : b ≡ 1) {q w : ℕ} {c : Bool} (g : q ≡ portOfIn nodes n Incoming 0) (i : w ≡ q) (j : c ≡ flagAt marks portSlots w) where
-      side-by : (t : Bool) → c ≡ t → pick t Incoming Outgoing ≡ copySideIn nodes marks n
+      side-by : (t : Bool) → c ≡ t → cond t Incoming Outgoing ≡ copySideIn nodes marks n
       unfolding copySideIn
       side-by t l =
           let m : flagAt marks portSlots (portOfIn nodes n Incoming 0) ≡ t = ap (flagAt marks portSlots) (sym (i ∙ g)) ∙ (sym j ∙ l) in
@@ -253,7 +254,7 @@ set-parts e = (ap (λ (x : PortsSet). x .graph) (e .0), ap (λ (x : PortsSet). x
 -- a refused resize changes nothing
 pub set-kept : (g : PortGraph) (n i o room : ℕ) (tag : lower-set.SetAnswer → ℕ) → ((e : ℕ) → tag (lower-set-variants.Set e) ≡ 0) → {a : lower-set.SetAnswer} → a ≡ setNumPorts g n i o room .answer →
     (tag a ≡ 1) ⊎ ((tag a ≡ 2) ⊎ ((tag a ≡ 3) ⊎ (tag a ≡ 4))) → setNumPorts g n i o room .graph ≡ g
-unfolding setNumPorts
+unfolding setNumPortsUnder
 set-kept g n i o room tag zeroth {a} e t = go (planOf g n i o room) e
   where
     done : (k : ℕ) → a ≡ lower-set-variants.Set k → ⊥
@@ -321,4 +322,4 @@ copies-held nodes links owners heads marks flags held held′ p zero = refl
 copies-held nodes links owners heads marks flags held held′ p (suc n) =
     let same = sym (copy-node-read nodes links owners heads marks flags held p) ∙ copy-node-read nodes links owners heads marks flags held′ p in
     let later = copies-held nodes links owners heads marks flags held held′ (suc p) n in
-    λ i. pick (getD marks p false) (same i ∷ later i) (later i)
+    λ i. cond (getD marks p false) (same i ∷ later i) (later i)

@@ -1,8 +1,7 @@
 -- What the code's steps of a link amount to: the ends that are prepared, and each refusal.
 use mathlib.Core.Path.{_≡_, refl, sym, _∙_, ap, subst}
-use mathlib.Core.Bool.{Bool, true, false}
+use mathlib.Core.Bool.{Bool, true, false, cond}
 use Prim.Native.Nat.{ℕ, _+_, _<_}
-use Rattle.portgraph.specs.Entries.{pick}
 use Rattle.portgraph.specs.Tables.{at}
 use Rattle.portgraph.specs.Lookups.{port#}
 use Rattle.portgraph.specs.Meaning.{sameSide}
@@ -13,8 +12,7 @@ use Rattle.portgraph.specs.declared.direction.Direction.{Direction}
 use Rattle.portgraph.specs.declared.index.NodeIndex.{NodeIndex}
 use Rattle.portgraph.specs.declared.portgraph.PortsLinked as lower
 use Rattle.multiportgraph.specs.Reading.{Port, dead, hidden, visible, seen, isSplit, subport#}
-use Rattle.multiportgraph.specs.Calls as calls
-use Rattle.multiportgraph.specs.Calls.{withGraph, prepare, linkRefused, linkPrepared, linkSecond, linkBoth, linkFirst}
+use Rattle.multiportgraph.specs.HiddenNodes as hiding
 use Rattle.multiportgraph.specs.Forms.{seenAs, preparedAs}
 use Rattle.multiportgraph.specs.Inner.{MultiWf}
 use Rattle.multiportgraph.specs.Ends.{block-seen, seen-block}
@@ -26,36 +24,19 @@ use Rattle.multiportgraph.specs.declared.multiportgraph.PortsLinked.{Por
 use Rattle.multiportgraph.specs.declared.ends.SeenPort.{SeenPort}
 use Rattle.multiportgraph.specs.declared.ends.SeenPort.the-variants as seen-port
 use Rattle.multiportgraph.specs.declared.prepare.Prepared.{Prepared}
-
--- a port of a block on this side, in a graph of the calls
-pub record OnBlock (m : MultiPortGraph) (p : ℕ) (d : Direction) : Type 0 where
-  pub wf : MultiWf m
-  pub node : ℕ
-  pub is : seen m p ≡ visible node d
-
--- one that is linked and not split, and one that is split
-pub record LinkedPort (m : MultiPortGraph) (p : ℕ) (d : Direction) : Type 0 where
-  pub block : OnBlock m p d
-  pub plain : isSplit m p ≡ false
-  pub linked : at (m .graph .«port_link») p ≡ 0 → ⊥
-
-pub record SplitPort (m : MultiPortGraph) (p : ℕ) (d : Direction) : Type 0 where
-  pub block : OnBlock m p d
-  pub split : isSplit m p ≡ true
-
--- two ports of blocks
-pub record BothOnBlock (m : MultiPortGraph) (a : ℕ) (d : Direction) (b : ℕ) (e : Direction) : Type 0 where
-  pub first : OnBlock m a d
-  pub second : OnBlock m b e
+use Rattle.multiportgraph.specs.Graph.{withGraph}
+use Rattle.multiportgraph.specs.HiddenNodes.{prepare}
+use Rattle.multiportgraph.specs.Cases.{linkRefused, linkPrepared, linkSecond, linkFirst, linkLive}
+use Rattle.multiportgraph.specs.Presumed.{OnBlock, LinkedPort, SplitPort, BothOnBlock}
 
 -- what a prepared end is
-pub is-ready : (m : MultiPortGraph) (p : calls.Prepared) (r : Prepared) → r ≡ preparedAs m p → r .ready ≡ true → p ≡ calls.ready (r .graph) (r .port) (r .offset)
-is-ready m (calls.ready k q o) r e t = ap (λ (s : Prepared). calls.ready (s .graph) (s .port) (s .offset)) (sym e)
-is-ready m calls.full r e t = absurd (zero-is-not-one (let h : r .ready ≡ false = ap (λ (s : Prepared). s .ready) e in cc))
+pub is-ready : (m : MultiPortGraph) (p : hiding.Prepared) (r : Prepared) → r ≡ preparedAs m p → r .ready ≡ true → p ≡ hiding.ready (r .graph) (r .port) (r .offset)
+is-ready m (hiding.ready k q o) r e t = ap (λ (s : Prepared). hiding.ready (s .graph) (s .port) (s .offset)) (sym e)
+is-ready m hiding.full r e t = absurd (zero-is-not-one (let h : r .ready ≡ false = ap (λ (s : Prepared). s .ready) e in cc))
 
-pub is-full : (m : MultiPortGraph) (p : calls.Prepared) (r : Prepared) → r ≡ preparedAs m p → r .ready ≡ false → p ≡ calls.full
-is-full m calls.full r e t = refl
-is-full m (calls.ready k q o) r e t = absurd (zero-is-not-one (let h : r .ready ≡ true = ap (λ (s : Prepared). s .ready) e in cc))
+pub is-full : (m : MultiPortGraph) (p : hiding.Prepared) (r : Prepared) → r ≡ preparedAs m p → r .ready ≡ false → p ≡ hiding.full
+is-full m hiding.full r e t = refl
+is-full m (hiding.ready k q o) r e t = absurd (zero-is-not-one (let h : r .ready ≡ true = ap (λ (s : Prepared). s .ready) e in cc))
 
 -- what stays of other ports of blocks where an end is prepared
 module _ {m : MultiPortGraph} {p : ℕ} {d : Direction} (b : OnBlock m p d) (r : Prepared) (e : r ≡ preparedAs m (prepare m p d)) (t : r .ready ≡ true) where
@@ -95,34 +76,34 @@ first-full m a d b r e t h = h ∙ sym (ap (linkFirst m b) (is-full m (prepare m
 -- Both ports are live.
 
 module _ (m : MultiPortGraph) (a : ℕ) (d : Direction) (b : ℕ) (e : Direction) (r : Prepared) (h : r ≡ preparedAs m (prepare m a d)) where
-  pub both-full : {u : PortsLinked} → r .ready ≡ false → u ≡ linkRefused m NoRoom → u ≡ linkBoth m a d b e (prepare m a d)
-  both-full t g = g ∙ sym (ap (linkBoth m a d b e) (is-full m (prepare m a d) r h t))
+  pub both-full : {u : PortsLinked} → r .ready ≡ false → u ≡ linkRefused m NoRoom → u ≡ linkLive m a d b e (prepare m a d)
+  both-full t g = g ∙ sym (ap (linkLive m a d b e) (is-full m (prepare m a d) r h t))
 
   module _ (t : r .ready ≡ true) (s : Prepared) (k : s ≡ preparedAs (r .graph) (prepare (r .graph) b e)) where
-    pub second-full : {u : PortsLinked} → s .ready ≡ false → u ≡ linkRefused m NoRoom → u ≡ linkBoth m a d b e (prepare m a d)
+    pub second-full : {u : PortsLinked} → s .ready ≡ false → u ≡ linkRefused m NoRoom → u ≡ linkLive m a d b e (prepare m a d)
     second-full v g =
-        g ∙ sym (ap (linkBoth m a d b e) (is-ready m (prepare m a d) r h t)
+        g ∙ sym (ap (linkLive m a d b e) (is-ready m (prepare m a d) r h t)
         ∙ ap (linkSecond m a d (r .port) (r .offset) b e) (is-full (r .graph) (prepare (r .graph) b e) s k v))
 
-    both-ready : s .ready ≡ true → linkBoth m a d b e (prepare m a d) ≡ linkPrepared (s .graph) a d (r .port) (r .offset) b e (s .port) (s .offset)
+    both-ready : s .ready ≡ true → linkLive m a d b e (prepare m a d) ≡ linkPrepared (s .graph) a d (r .port) (r .offset) b e (s .port) (s .offset)
     both-ready v =
-        ap (linkBoth m a d b e) (is-ready m (prepare m a d) r h t)
+        ap (linkLive m a d b e) (is-ready m (prepare m a d) r h t)
         ∙ ap (linkSecond m a d (r .port) (r .offset) b e) (is-ready (r .graph) (prepare (r .graph) b e) s k v)
 
     pub one-side : {u : PortsLinked} → s .ready ≡ true → sameSide d e ≡ true →
-        u ≡ linkRefused (s .graph) (IncompatibleDirections (port# (r .port)) (port# (s .port)) d) → u ≡ linkBoth m a d b e (prepare m a d)
+        u ≡ linkRefused (s .graph) (IncompatibleDirections (port# (r .port)) (port# (s .port)) d) → u ≡ linkLive m a d b e (prepare m a d)
     one-side v c g =
         g ∙ sym (both-ready v
-        ∙ ap (λ (x : Bool). pick x (linkRefused (s .graph) (IncompatibleDirections (port# (r .port)) (port# (s .port)) d))
+        ∙ ap (λ (x : Bool). cond x (linkRefused (s .graph) (IncompatibleDirections (port# (r .port)) (port# (s .port)) d))
         (record { graph = withGraph (s .graph) (linkPorts (s .graph .graph) (r .port) (s .port) .graph); answer = link.Linked (subport# a (r .offset)) (subport# b (s .offset)) })) c)
 
     pub both-linked : (l : lower.PortsLinked) → s .ready ≡ true → sameSide d e ≡ false → l ≡ linkPorts (s .graph .graph) (r .port) (s .port) →
         _≡_ {A = PortsLinked} (record { graph = withGraph (s .graph) (l .graph); answer = link.Linked (subport# a (r .offset)) (subport# b (s .offset)) })
-        (linkBoth m a d b e (prepare m a d))
+        (linkLive m a d b e (prepare m a d))
     both-linked l v c g =
         ap (λ (x : lower.PortsLinked). record { graph = withGraph (s .graph) (x .graph); answer = link.Linked (subport# a (r .offset)) (subport# b (s .offset)) }) g
         ∙ sym (both-ready v
-        ∙ ap (λ (x : Bool). pick x (linkRefused (s .graph) (IncompatibleDirections (port# (r .port)) (port# (s .port)) d))
+        ∙ ap (λ (x : Bool). cond x (linkRefused (s .graph) (IncompatibleDirections (port# (r .port)) (port# (s .port)) d))
         (record { graph = withGraph (s .graph) (linkPorts (s .graph .graph) (r .port) (s .port) .graph); answer = link.Linked (subport# a (r .offset)) (subport# b (s .offset)) })) c)
 
 -- How the two ports are seen.

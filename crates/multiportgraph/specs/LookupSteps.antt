@@ -1,9 +1,9 @@
 -- A node number as the lookups and the starts of walks read it, and what their steps amount to, over plain values.
 use mathlib.Core.Path.{_≡_, refl, sym, ap, _∙_}
-use mathlib.Core.Bool.{Bool, true, false}
+use mathlib.Core.Bool.{Bool, true, false, cond}
 use Prim.Native.Nat.{ℕ}
 use native.Mathlib.Omega.{arith}
-use Rattle.portgraph.specs.Entries.{pick, portsOn}
+use Rattle.portgraph.specs.Entries.{portsOn}
 use Rattle.portgraph.specs.Lookups.{metaAt, portIndex, countIn, capacityIn, isSome}
 use Rattle.portgraph.specs.declared.direction.Direction.{Direction}
 use Rattle.portgraph.specs.declared.index.PortOffset.{PortOffset}
@@ -22,16 +22,9 @@ use Rattle.multiportgraph.specs.declared.lookups.BlockFound.{BlockFound}
 use Rattle.multiportgraph.specs.declared.lookups.BlockFound.the-variants as found
 use Rattle.multiportgraph.specs.declared.lookups.OffsetAnswer.the-variants as offset-of
 use Rattle.multiportgraph.specs.declared.lookups.CountAnswer.the-variants as count-of
+use Rattle.multiportgraph.specs.Forms.{blockIn, blockFound}
 
 -- Nodes.
-
-abbrev blockIn : Bool → MaybeNodeMeta → BlockFound
-blockIn h maybe-meta.None = found.Refused UnknownNode
-blockIn h (maybe-meta.Some k) = pick h (found.Refused HiddenNode) (found.Block k)
-
--- a block's meta data, or why the node is refused
-unfoldable pub blockFound : MultiPortGraph → ℕ → BlockFound
-blockFound m n = blockIn (isHidden m n) (metaAt (m .graph) n)
 
 -- what was found, as a start has it
 abbrev pub startOf : BlockFound → Start
@@ -42,12 +35,12 @@ abbrev pub foundBlock : BlockFound → Bool
 foundBlock (found.Block k) = true
 foundBlock (found.Refused r) = false
 
-start-by : (h : Bool) (k : MaybeNodeMeta) → startOf (blockIn h k) ≡ pick (isSome k) (pick h (refused HiddenNode) started) (refused UnknownNode)
+start-by : (h : Bool) (k : MaybeNodeMeta) → startOf (blockIn h k) ≡ cond (isSome k) (cond h (refused HiddenNode) started) (refused UnknownNode)
 start-by h maybe-meta.None = refl
 start-by true (maybe-meta.Some k) = refl
 start-by false (maybe-meta.Some k) = refl
 
-block-by : (h : Bool) (k : MaybeNodeMeta) → foundBlock (blockIn h k) ≡ pick h false (isSome k)
+block-by : (h : Bool) (k : MaybeNodeMeta) → foundBlock (blockIn h k) ≡ cond h false (isSome k)
 block-by true maybe-meta.None = refl
 block-by false maybe-meta.None = refl
 block-by true (maybe-meta.Some k) = refl
@@ -64,7 +57,7 @@ module _ (m : MultiPortGraph) (n : ℕ) where
   block-unknown e = ap (blockIn (isHidden m n)) e
 
   pub block-flagged : (k : NodeMeta) (q : Bool) → maybe-meta.Some k ≡ metaAt (m .graph) n → isHidden m n ≡ q
-      → pick q (found.Refused HiddenNode) (found.Block k) ≡ blockFound m n
+      → cond q (found.Refused HiddenNode) (found.Block k) ≡ blockFound m n
   unfolding blockFound
   block-flagged k q e h = ap (λ x. blockIn x (maybe-meta.Some k)) (sym h) ∙ ap (blockIn (isHidden m n)) e
 

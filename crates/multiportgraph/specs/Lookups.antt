@@ -9,7 +9,6 @@ use Rattle.portgraph.specs.declared.index.PortOffset.{PortOffset}
 use Rattle.portgraph.specs.declared.index.MaybePortIndex.{MaybePortIndex}
 use Rattle.portgraph.specs.declared.index.MaybePortIndex.the-variants as maybe-port
 use Rattle.multiportgraph.specs.Reading.{positionOf, Port, dead, hidden, visible, seen}
-use Rattle.multiportgraph.specs.Calls.{refusalNumbers}
 use Rattle.multiportgraph.specs.Walks.{fanOut, blockFanOut, Start, started, refused, startAtNode, isSeen}
 use Rattle.multiportgraph.specs.declared.multiportgraph.MultiPortGraph.{MultiPortGraph}
 use Rattle.multiportgraph.specs.declared.multiportgraph.Refusal.the-variants.{UnknownPort, HiddenPort}
@@ -23,6 +22,7 @@ use Rattle.multiportgraph.specs.declared.lookups.PortAnswer.{PortAnswer}
 use Rattle.multiportgraph.specs.declared.lookups.PortAnswer.the-variants as port-of
 use Rattle.multiportgraph.specs.declared.lookups.CountAnswer.{CountAnswer}
 use Rattle.multiportgraph.specs.declared.lookups.CountAnswer.the-variants as count-of
+use Rattle.multiportgraph.specs.Answers.{refusalNumbers}
 
 -- At a port.
 

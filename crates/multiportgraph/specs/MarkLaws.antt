@@ -10,7 +10,7 @@ use lib.Seq.{getD-set-same, getD-set-other}
 use Rattle.portgraph.specs.Tables.{fill}
 use Rattle.portgraph.specs.TableLaws.{length-fill}
 use Rattle.portgraph.specs.declared.node_entry.NodeMeta.{NodeMeta}
-use Rattle.multiportgraph.specs.Calls.{layRange, layMarks}
+use Rattle.multiportgraph.specs.HiddenNodes.{layRange, layMarks}
 
 -- A filled range of any list.
 
@@ -46,7 +46,7 @@ getD-layRange-out (suc n) marks old i j s h =
     getD-layRange-out n (set marks j (getD old i false)) old (suc i) (suc j) s (λ a b. h (omega arith) (omega arith))
     ∙ getD-set-other marks j s _ false (λ e. h (omega arith) (omega arith))
 
-pub getD-layRange-in : (n : ℕ) (marks old : List Bool) (i j k : ℕ) → k < n → j + n ≤ length marks → getD (layRange marks old i j n) (j + k) false ≡ getD old (i + k) false
+pub getD-layRange-in : (n : ℕ) (marks old : List Bool) (i j k : ℕ) → k < n → j + k < length marks → getD (layRange marks old i j n) (j + k) false ≡ getD old (i + k) false
 unfolding layRange
 getD-layRange-in zero marks old i j k h fit = absurd (omega arith)
 getD-layRange-in (suc n) marks old i j zero h fit =
@@ -81,19 +81,20 @@ module _ (marks : List Bool) (a b : NodeMeta) where
   unfolding layMarks cleared laidIn
   length-layMarks = length-layRange (min (a .outgoing) (b .outgoing)) laidIn marks _ _ ∙ length-laidIn
 
-  module _ (fit : b .«first_port» .0 + (b .incoming + b .outgoing) ≤ length marks) where
-    pub lay-kept-in : (i : ℕ) → i < min (a .incoming) (b .incoming) → getD (layMarks marks a b) (b .«first_port» .0 + i) false ≡ getD marks (a .«first_port» .0 + i) false
-    unfolding layMarks cleared laidIn
-    lay-kept-in i h =
-        let long = length-cleared in
-        getD-layRange-out (min (a .outgoing) (b .outgoing)) laidIn marks _ _ (b .«first_port» .0 + i) (λ p q. omega arith)
-        ∙ getD-layRange-in (min (a .incoming) (b .incoming)) cleared marks _ _ i h (omega arith)
+  pub lay-kept-in : (i : ℕ) → b .«first_port» .0 + i < length marks → i < min (a .incoming) (b .incoming)
+      → getD (layMarks marks a b) (b .«first_port» .0 + i) false ≡ getD marks (a .«first_port» .0 + i) false
+  unfolding layMarks cleared laidIn
+  lay-kept-in i fit h =
+      let long = length-cleared in
+      getD-layRange-out (min (a .outgoing) (b .outgoing)) laidIn marks _ _ (b .«first_port» .0 + i) (λ p q. omega arith)
+      ∙ getD-layRange-in (min (a .incoming) (b .incoming)) cleared marks _ _ i h (omega arith)
 
-    pub lay-kept-out : (i : ℕ) → i < min (a .outgoing) (b .outgoing) → getD (layMarks marks a b) (b .«first_port» .0 + b .incoming + i) false ≡ getD marks (a .«first_port» .0 + a .incoming + i) false
-    unfolding layMarks cleared laidIn
-    lay-kept-out i h =
-        let long = length-laidIn in
-        getD-layRange-in (min (a .outgoing) (b .outgoing)) laidIn marks _ _ i h (omega arith)
+  pub lay-kept-out : (i : ℕ) → b .«first_port» .0 + b .incoming + i < length marks → i < min (a .outgoing) (b .outgoing)
+      → getD (layMarks marks a b) (b .«first_port» .0 + b .incoming + i) false ≡ getD marks (a .«first_port» .0 + a .incoming + i) false
+  unfolding layMarks cleared laidIn
+  lay-kept-out i fit h =
+      let long = length-laidIn in
+      getD-layRange-in (min (a .outgoing) (b .outgoing)) laidIn marks _ _ i h (omega arith)
 
   -- a slot into which no mark is laid
   lay-past : (s : ℕ) → (b .«first_port» .0 ≤ s → s < b .«first_port» .0 + min (a .incoming) (b .incoming) → ⊥)
@@ -105,12 +106,12 @@ module _ (marks : List Bool) (a b : NodeMeta) where
       ∙ getD-layRange-out (min (a .incoming) (b .incoming)) cleared marks _ _ s h
 
   -- a new port of the node: within its ports, and no kept one
-  pub lay-new : b .«first_port» .0 + (b .incoming + b .outgoing) ≤ length marks → (s : ℕ) → b .«first_port» .0 ≤ s → s < b .«first_port» .0 + (b .incoming + b .outgoing)
+  pub lay-new : (s : ℕ) → s < length marks → b .«first_port» .0 ≤ s → s < b .«first_port» .0 + (b .incoming + b .outgoing)
       → (b .«first_port» .0 ≤ s → s < b .«first_port» .0 + min (a .incoming) (b .incoming) → ⊥)
       → (b .«first_port» .0 + b .incoming ≤ s → s < b .«first_port» .0 + b .incoming + min (a .outgoing) (b .outgoing) → ⊥)
       → getD (layMarks marks a b) s false ≡ false
   unfolding cleared
-  lay-new fit s p q h k =
+  lay-new s fit p q h k =
       let long = length-fill marks (a .«first_port» .0) (a .incoming + a .outgoing) false in
       lay-past s h k ∙ getD-fill-in (fill marks _ _ false) (b .«first_port» .0) (b .incoming + b .outgoing) s false false (omega arith) p q
 
@@ -122,7 +123,7 @@ module _ (marks : List Bool) (a b : NodeMeta) where
         ∙ getD-fill-out (fill marks _ _ false) (b .«first_port» .0) (b .incoming + b .outgoing) s false false away
 
     -- an old port's slot that is no new port's
-    pub lay-old : a .«first_port» .0 + (a .incoming + a .outgoing) ≤ length marks → a .«first_port» .0 ≤ s → s < a .«first_port» .0 + (a .incoming + a .outgoing)
+    pub lay-old : s < length marks → a .«first_port» .0 ≤ s → s < a .«first_port» .0 + (a .incoming + a .outgoing)
         → getD (layMarks marks a b) s false ≡ false
     lay-old fit p q = lay-away ∙ getD-fill-in marks (a .«first_port» .0) (a .incoming + a .outgoing) s false false (omega arith) p q
 

@@ -2,12 +2,12 @@
 -- What is read off them, and what the steps of a call over them presume and tell.
 use mathlib.Core.Path.{_≡_}
 use mathlib.Core.List.{List}
-use mathlib.Core.Bool.{Bool, true, false}
+use mathlib.Core.Bool.{Bool, true, false, cond}
 use Prim.Native.Nat.{ℕ, _+_, _-_, _*_, _≤_}
 use lib.Dec.{eqb, leb, ltb}
 use lib.ListN.{length}
 use Rattle.portgraph.specs.Limits.{nodeSlots, portSlots, nodePorts}
-use Rattle.portgraph.specs.Entries.{pick, portEntry}
+use Rattle.portgraph.specs.Entries.{portEntry}
 use Rattle.portgraph.specs.Tables.{at}
 use Rattle.portgraph.specs.Lookups.{countIn, metaAt}
 use Rattle.portgraph.specs.Model.{Wf}
@@ -21,9 +21,8 @@ use Rattle.portgraph.specs.declared.node_entry.MaybeNodeMeta.the-variants as ma
 use Rattle.portgraph.specs.declared.port_entry.PortEntry.{PortEntry}
 use Rattle.portgraph.specs.declared.port_entry.PortEntry.the-variants as port-variants
 use Rattle.portgraph.specs.declared.lent.Counts.{Counts}
+use Rattle.multiportgraph.specs.Graph.{multi}
 use Rattle.multiportgraph.specs.Reading.{portNumber, isHidden}
-use Rattle.multiportgraph.specs.Calls as calls
-use Rattle.multiportgraph.specs.Calls.{prepare, linkRefused, linkBoth}
 use Rattle.multiportgraph.specs.Inner.{MultiWf}
 use Rattle.multiportgraph.specs.Forms.{flagAt}
 use Rattle.multiportgraph.specs.Reads.{farIn, ownerIn}
@@ -34,17 +33,13 @@ use Rattle.multiportgraph.specs.declared.multiportgraph.PortsLinked.{Por
 use Rattle.multiportgraph.specs.declared.prepare.Prepared.{Prepared}
 use Rattle.multiportgraph.specs.declared.lent.Held.{Held}
 use Rattle.multiportgraph.specs.declared.lent_prepare.PreparedIn.{PreparedIn}
+use Rattle.multiportgraph.specs.HiddenNodes.{prepare}
+use Rattle.multiportgraph.specs.Cases.{linkRefused, linkLive}
 
 -- the graph that lent tables and numbers are
 abbrev pub multiIn : List ℕ → List ℕ → List ℕ → List ℕ → List Bool → List Bool → Held → MultiPortGraph
 multiIn nodes links owners heads marks flags held =
-    record {
-      graph = graphIn nodes links owners heads (held .counts);
-      multiport = marks;
-      «copy_node» = flags;
-      «copy_node_count» = held .copies;
-      «subport_count» = held .subs;
-    }
+    multi (graphIn nodes links owners heads (held .counts)) marks flags (held .copies) (held .subs)
 
 -- the numbers of the empty graph
 abbrev pub noHeld : Held
@@ -67,8 +62,8 @@ portOfIn nodes n d i = portNumber (portIndexIn nodes n (record { direction = d; 
 -- the side of a hidden node that has its copy port
 unfoldable pub copySideIn : List ℕ → List Bool → ℕ → Direction
 copySideIn nodes marks c =
-    pick (eqb (countIn (metaIn nodes c) Incoming) 1)
-    (pick (eqb (countIn (metaIn nodes c) Outgoing) 1) (pick (flagAt marks portSlots (portOfIn nodes c Incoming 0)) Incoming Outgoing) Incoming)
+    cond (eqb (countIn (metaIn nodes c) Incoming) 1)
+    (cond (eqb (countIn (metaIn nodes c) Outgoing) 1) (cond (flagAt marks portSlots (portOfIn nodes c Incoming 0)) Incoming Outgoing) Incoming)
     Outgoing
 
 abbrev pub farEntry : List ℕ → ℕ → PortEntry → ℕ
@@ -111,12 +106,12 @@ preparedIn m r = record { graph = m; port = r .port; offset = r .offset; ready =
 -- room for both ends of a link, whichever they are: two nodes, and two blocks that hold all subports
 unfoldable pub plenty : Held → Bool
 plenty held =
-    pick (leb (held .counts .«node_len») (nodeSlots - 2))
-    (pick (leb (held .counts .«port_len») portSlots)
-    (pick (leb (held .subs) portSlots) (leb (held .counts .«port_len» + 4 * held .subs + 12) portSlots) false) false)
+    cond (leb (held .counts .«node_len») (nodeSlots - 2))
+    (cond (leb (held .counts .«port_len») portSlots)
+    (cond (leb (held .subs) portSlots) (leb (held .counts .«port_len» + 4 * held .subs + 12) portSlots) false) false)
     false
 
 -- a link that was tried: done or refused as it should; or short of room for the second end
 pub record Tried (m : MultiPortGraph) (a : ℕ) (d : Direction) (b : ℕ) (e : Direction) (m′ : MultiPortGraph) (answer : LinkAnswer) (done : Bool) : Type 0 where
-  pub whole : done ≡ true → _≡_ {A = PortsLinked} (record { graph = m′; answer = answer }) (linkBoth m a d b e (prepare m a d))
-  pub short : done ≡ false → linkBoth m a d b e (prepare m a d) ≡ linkRefused m NoRoom
+  pub whole : done ≡ true → _≡_ {A = PortsLinked} (record { graph = m′; answer = answer }) (linkLive m a d b e (prepare m a d))
+  pub short : done ≡ false → linkLive m a d b e (prepare m a d) ≡ linkRefused m NoRoom

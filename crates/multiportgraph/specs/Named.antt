@@ -1,18 +1,17 @@
 -- What a call names, read off the tables: the inner ports of its ends or the refusal, and what an end needs before it can take a link.
-use mathlib.Core.Bool.{Bool}
+use mathlib.Core.Bool.{Bool, cond}
 use mathlib.Core.List.{List}
 use Prim.Native.Nat.{ℕ, _+_, _-_}
 use lib.Dec.{eqb, leb, ltb}
 use Rattle.portgraph.specs.Limits.{portSlots}
-use Rattle.portgraph.specs.Entries.{pick}
 use Rattle.portgraph.specs.Tables.{at, linkBoth, cut, linkCount}
 use Rattle.portgraph.specs.Meaning.{sameSide}
 use Rattle.portgraph.specs.Lookups.{port#}
 use Rattle.portgraph.specs.Calls.{withLinks}
 use Rattle.portgraph.specs.declared.direction.Direction.{Direction}
 use Rattle.multiportgraph.specs.Reading.{Port, dead, hidden, visible, copyNode, End, inner, lacking, subport#}
-use Rattle.multiportgraph.specs.Calls as calls
-use Rattle.multiportgraph.specs.Calls.{withGraph, goodOffset, cutRefused, linkRefused}
+use Rattle.multiportgraph.specs.HiddenNodes as hiding
+use Rattle.multiportgraph.specs.Cases as cases
 use Rattle.multiportgraph.specs.Forms.{flagAt, lowestUnlinked}
 use Rattle.multiportgraph.specs.Reads.{seenIn, endIn, wireIn, subportsIn, firstIn}
 use Rattle.multiportgraph.specs.declared.multiportgraph.MultiPortGraph.{MultiPortGraph}
@@ -31,13 +30,16 @@ use Rattle.multiportgraph.specs.declared.named.EndNeed.{EndNeed}
 use Rattle.multiportgraph.specs.declared.named.EndNeed.the-variants as need
 use Rattle.multiportgraph.specs.declared.named.LinkNeed.{LinkNeed}
 use Rattle.multiportgraph.specs.declared.named.LinkNeed.the-variants as needs
+use Rattle.multiportgraph.specs.Graph.{withGraph}
+use Rattle.multiportgraph.specs.Refusals.{goodOffset}
+use Rattle.multiportgraph.specs.Cases.{cutRefused, linkRefused}
 
 -- two ends that are there: 12, 13, else they can be linked
 unfoldable pub freeEnds : List ℕ → ℕ → Direction → ℕ → Direction → NamedLink
 freeEnds links x d y e =
-    pick (sameSide d e) (ends.Refused (IncompatibleDirections (port# x) (port# y) d))
-    (pick (eqb (at links x) 0)
-    (pick (eqb (at links y) 0) (ends.Ends x y) (ends.Refused (AlreadyLinked (port# y))))
+    cond (sameSide d e) (ends.Refused (IncompatibleDirections (port# x) (port# y) d))
+    (cond (eqb (at links x) 0)
+    (cond (eqb (at links y) 0) (ends.Ends x y) (ends.Refused (AlreadyLinked (port# y))))
     (ends.Refused (AlreadyLinked (port# x))))
 
 module _ (marks : List Bool) (links owners : List ℕ) (flags : List Bool) where
@@ -53,7 +55,7 @@ module _ (marks : List Bool) (links owners : List ℕ) (flags : List Bool) where
   endSeen p o (visible n d) = endOr p (endIn marks links owners p d o)
 
   unfoldable pub endNamed : ℕ → ℕ → NamedEnd
-  endNamed p o = pick (goodOffset o) (endSeen p o (seenIn owners flags p)) (end.Refused BadOffset)
+  endNamed p o = cond (goodOffset o) (endSeen p o (seenIn owners flags p)) (end.Refused BadOffset)
 
   -- Two subports that a call links: 2, 7, 8, 9, 11, 12, 13, else their inner ports.
 
@@ -86,34 +88,34 @@ module _ (marks : List Bool) (links owners : List ℕ) (flags : List Bool) where
 
   unfoldable pub linkNamed : ℕ → ℕ → ℕ → ℕ → NamedLink
   linkNamed p o q r =
-      pick (goodOffset o)
-      (pick (goodOffset r) (bothSeen p o q r (seenIn owners flags p) (seenIn owners flags q)) (ends.Refused BadOffset))
+      cond (goodOffset o)
+      (cond (goodOffset r) (bothSeen p o q r (seenIn owners flags p) (seenIn owners flags q)) (ends.Refused BadOffset))
       (ends.Refused BadOffset)
 
 -- an end as read: on an unsplit port every offset means the port itself
 unfoldable pub readIn : List Bool → ℕ → ℕ → SubportIndex
-readIn marks p o = subport# p (pick (flagAt marks portSlots p) o 0)
+readIn marks p o = subport# p (cond (flagAt marks portSlots p) o 0)
 
 -- Preparing an end: ready as it is, one more subport, or a split.
 
 unfoldable pub reuseAt : ℕ → ℕ → ℕ → EndNeed
-reuseAt first count o = pick (ltb o count) (need.Ready (first + o) o) need.Grow
+reuseAt first count o = cond (ltb o count) (need.Ready (first + o) o) need.Grow
 
 -- a split port: the lowest unlinked offset, else one more
 unfoldable pub reuseIn : List ℕ → List ℕ → ℕ → Direction → EndNeed
 reuseIn links owners p d =
-    pick (leb (firstIn links owners p d + subportsIn links owners p d) portSlots)
+    cond (leb (firstIn links owners p d + subportsIn links owners p d) portSlots)
     (reuseAt (firstIn links owners p d) (subportsIn links owners p d) (lowestUnlinked links (firstIn links owners p d) 0 (subportsIn links owners p d)))
     need.Grow
 
 unfoldable pub needIn : List Bool → List ℕ → List ℕ → ℕ → Direction → EndNeed
 needIn marks links owners p d =
-    pick (flagAt marks portSlots p) (reuseIn links owners p d) (pick (eqb (at links p) 0) (need.Ready p 0) need.Split)
+    cond (flagAt marks portSlots p) (reuseIn links owners p d) (cond (eqb (at links p) 0) (need.Ready p 0) need.Split)
 
 -- Linking two ports: the refusal, or both ends where they are ready; else which ends have to be prepared.
 
 abbrev pub endsReady : Direction → Direction → ℕ → ℕ → ℕ → ℕ → LinkNeed
-endsReady d e x o y r = pick (sameSide d e) (needs.Refused (IncompatibleDirections (port# x) (port# y) d)) (needs.Ends x o y r)
+endsReady d e x o y r = cond (sameSide d e) (needs.Refused (IncompatibleDirections (port# x) (port# y) d)) (needs.Ends x o y r)
 
 abbrev pub secondReady : Direction → Direction → ℕ → ℕ → EndNeed → LinkNeed
 secondReady d e x o (need.Ready y r) = endsReady d e x o y r
@@ -169,13 +171,13 @@ abbrev pub linkBy : MultiPortGraph → SubportIndex → SubportIndex → NamedLi
 linkBy m s t (ends.Ends x y) = record { graph = joinedAt m x y; answer = link.Linked s t }
 linkBy m s t (ends.Refused r) = linkRefused m r
 
-abbrev pub preparedBy : MultiPortGraph → ℕ → Direction → EndNeed → calls.Prepared
-preparedBy m p d (need.Ready x o) = calls.ready m x o
-preparedBy m p d need.Grow = calls.grow m (copyNode m p) d
-preparedBy m p d need.Split = calls.split m p d
+abbrev pub preparedBy : MultiPortGraph → ℕ → Direction → EndNeed → hiding.Prepared
+preparedBy m p d (need.Ready x o) = hiding.ready m x o
+preparedBy m p d need.Grow = hiding.grow m (copyNode m p) d
+preparedBy m p d need.Split = hiding.split m p d
 
 abbrev pub linkedBy : MultiPortGraph → ℕ → ℕ → LinkNeed → PortsLinked
 linkedBy m a b (needs.Ends x o y r) = record { graph = joinedAt m x y; answer = link.Linked (subport# a o) (subport# b r) }
 linkedBy m a b (needs.Refused r) = linkRefused m r
-linkedBy m a b (needs.First d) = calls.linkFirst m b (calls.prepare m a d)
-linkedBy m a b (needs.Both d e) = calls.linkBoth m a d b e (calls.prepare m a d)
+linkedBy m a b (needs.First d) = cases.linkFirst m b (hiding.prepare m a d)
+linkedBy m a b (needs.Both d e) = cases.linkLive m a d b e (hiding.prepare m a d)

@@ -1,13 +1,13 @@
 -- What a call names by the tables is what it names by the graph, so that each call is what Named makes of it.
 use mathlib.Core.Path.{_≡_, refl, sym, _∙_, ap}
-use mathlib.Core.Bool.{Bool, true, false}
+use mathlib.Core.Bool.{Bool, true, false, cond}
 use mathlib.Core.List.{List}
 use Prim.Native.Nat.{ℕ, _+_, _-_}
 use native.Mathlib.Omega.{arith}
 use lib.Dec.{eqb, leb, ltb}
 use borrow.Author.Tests.{eqb-true, eqb-false, le-leb, ltb-true}
-use Rattle.portgraph.specs.Limits.{nodeSlots, portSlots}
-use Rattle.portgraph.specs.Entries.{pick, reversed}
+use Rattle.portgraph.specs.Limits.{nodeSlots, portSlots, present}
+use Rattle.portgraph.specs.Entries.{reversed}
 use Rattle.portgraph.specs.Tables.{at, linkBoth, cut, linkCount}
 use Rattle.portgraph.specs.Meaning.{sameSide}
 use Rattle.portgraph.specs.Lookups.{port#, portAt, portLink, linkOf, numPorts}
@@ -30,8 +30,9 @@ use Rattle.portgraph.specs.declared.portgraph.PortUnlinked as lower-unlinked
 use Rattle.portgraph.specs.declared.portgraph.LinkAnswer.the-variants as lower-link
 use Rattle.portgraph.specs.declared.slots.NodeRemoved.{NodeRemoved}
 use Rattle.multiportgraph.specs.Reading.{isLinked, hasLink, isSplit, Port, dead, hidden, visible, seen, copyNode, subports, subportAt, End, inner, lacking, endAt, portOf, subport#, asRead, copySide}
-use Rattle.multiportgraph.specs.Calls as calls
-use Rattle.multiportgraph.specs.Calls.{withGraph, goodOffset, unsplit, lowestFree, reuse, prepare, subportLink, linkOfSeen, linkOfEnd, farSubport, cutSub, cutSubSeen, cutEnd, cutPlain, cutPort, cutRefused, linkRefused, linkInner, linkEnds, linkSecondEnd, linkFirstEnd, linkSubSeen, linkSub, linkFirst, linkSecond, linkCall}
+use Rattle.multiportgraph.specs.HiddenNodes as hiding
+use Rattle.multiportgraph.specs.Cases as cases
+use Rattle.multiportgraph.specs.Calls.{subportLink, linkOfEnd, farSubport, cutSub, cutPlain, cutPort, linkSub, linkPair, linkPairUnder}
 use Rattle.multiportgraph.specs.Forms.{preparedAs, seenAs, flagAt, putFlag, lowestUnlinked}
 use Rattle.multiportgraph.specs.Inner.{Fine, MultiWf}
 use Rattle.multiportgraph.specs.Ends.{BlockPort, block-seen, port-of, count-of}
@@ -40,7 +41,7 @@ use Rattle.multiportgraph.specs.CopySteps.{copy-removed, unsplit-split}
 use Rattle.multiportgraph.specs.SplitLaws.{PreparedEnd}
 use Rattle.multiportgraph.specs.PrepareLaws.{prepare-law}
 use Rattle.multiportgraph.specs.PrepareSteps.{lower-wf, first-fits, lowest-same}
-use Rattle.multiportgraph.specs.LinkSteps.{OnBlock, LinkedPort, SplitPort, BothOnBlock, is-ready, others-stay, both-linked}
+use Rattle.multiportgraph.specs.LinkSteps.{is-ready, others-stay, both-linked}
 use Rattle.multiportgraph.specs.Reads.{farIn, ownerIn, seenIn, wireIn, subportsIn, firstIn}
 use Rattle.multiportgraph.specs.ReadLaws.{mark-told, seen-read, owner-read, copy-read, side-read, subports-read, first-read, end-read-off, wire-read, end-is-port}
 use Rattle.multiportgraph.specs.Named.{endOr, endSeen, endNamed, freeEnds, secondOr, secondSeen, secondEnd, firstOr, firstEnd, bothSeen, linkNamed, readIn, reuseAt, reuseIn, needIn, secondReady, bothReady, firstReady, firstNeed, bothNeed, linkSeen, linkNeed, joinedAt, cutAt, readNamed, cutNamed, linkBy, preparedBy, linkedBy}
@@ -63,6 +64,12 @@ use Rattle.multiportgraph.specs.declared.named.EndNeed.{EndNeed}
 use Rattle.multiportgraph.specs.declared.named.EndNeed.the-variants as need
 use Rattle.multiportgraph.specs.declared.named.LinkNeed.{LinkNeed}
 use Rattle.multiportgraph.specs.declared.named.LinkNeed.the-variants as needs
+use Rattle.multiportgraph.specs.Graph.{multi, withGraph}
+use Rattle.multiportgraph.specs.Refusals.{goodOffset}
+use Rattle.multiportgraph.specs.HiddenNodes.{unsplit, lowestFree, reuse, prepare, prepareUnder, reuseUnder}
+use Rattle.multiportgraph.specs.Cases.{linkOfSeen, cutSubSeen, cutEnd, cutRefused, linkRefused, linkInner, linkEnds, linkSecondEnd, linkFirstEnd, linkSubSeen, linkFirst, linkSecond}
+use Rattle.multiportgraph.specs.CaseLaws.{cut-sub-cases, subport-link-cases, link-cases, link-sub-cases}
+use Rattle.multiportgraph.specs.Presumed.{OnBlock, LinkedPort, SplitPort, BothOnBlock}
 
 module _ {m : MultiPortGraph} {M : Model} (f : Fine m M) where
   -- A subport that is named.
@@ -102,20 +109,20 @@ module _ {m : MultiPortGraph} {M : Model} (f : Fine m M) where
         (r .0 ∙ ap (readNamed m) z, r .1 ∙ ap (cutNamed m) z)
 
     pub link-of-named : subportLink m p o ≡ readNamed m (endNamed (m .multiport) (m .graph .«port_link») (m .graph .«port_meta») (m .«copy_node») p o)
-    unfolding subportLink endNamed
-    link-of-named = go (goodOffset o)
+    unfolding endNamed
+    link-of-named = subport-link-cases m p o ∙ go (goodOffset o)
       where
-        go : (b : Bool) → pick b (linkOfSeen m p o (seen m p)) (cutting.Refused BadOffset)
-            ≡ readNamed m (pick b (endSeen (m .multiport) (m .graph .«port_link») (m .graph .«port_meta») (m .«copy_node») p o (seenIn (m .graph .«port_meta») (m .«copy_node») p)) (end.Refused BadOffset))
+        go : (b : Bool) → cond b (linkOfSeen m p o (seen m p)) (cutting.Refused BadOffset)
+            ≡ readNamed m (cond b (endSeen (m .multiport) (m .graph .«port_link») (m .graph .«port_meta») (m .«copy_node») p o (seenIn (m .graph .«port_meta») (m .«copy_node») p)) (end.Refused BadOffset))
         go true = by-seen (seen m p) refl .0 ∙ ap (λ (s : Port). readNamed m (endSeen (m .multiport) (m .graph .«port_link») (m .graph .«port_meta») (m .«copy_node») p o s)) (sym (seen-read f p))
         go false = refl
 
     pub cut-of-named : cutSub m p o ≡ cutNamed m (endNamed (m .multiport) (m .graph .«port_link») (m .graph .«port_meta») (m .«copy_node») p o)
-    unfolding cutSub endNamed
-    cut-of-named = go (goodOffset o)
+    unfolding endNamed
+    cut-of-named = cut-sub-cases m p o ∙ go (goodOffset o)
       where
-        go : (b : Bool) → pick b (cutSubSeen m p o (seen m p)) (cutRefused m BadOffset)
-            ≡ cutNamed m (pick b (endSeen (m .multiport) (m .graph .«port_link») (m .graph .«port_meta») (m .«copy_node») p o (seenIn (m .graph .«port_meta») (m .«copy_node») p)) (end.Refused BadOffset))
+        go : (b : Bool) → cond b (cutSubSeen m p o (seen m p)) (cutRefused m BadOffset)
+            ≡ cutNamed m (cond b (endSeen (m .multiport) (m .graph .«port_link») (m .graph .«port_meta») (m .«copy_node») p o (seenIn (m .graph .«port_meta») (m .«copy_node») p)) (end.Refused BadOffset))
         go true = by-seen (seen m p) refl .1 ∙ ap (λ (s : Port). cutNamed m (endSeen (m .multiport) (m .graph .«port_link») (m .graph .«port_meta») (m .«copy_node») p o s)) (sym (seen-read f p))
         go false = refl
 
@@ -123,7 +130,7 @@ module _ {m : MultiPortGraph} {M : Model} (f : Fine m M) where
 
   read-is : (p o : ℕ) → readIn (m .multiport) p o ≡ asRead m p o
   unfolding readIn asRead
-  read-is p o = ap (λ (b : Bool). subport# p (pick b o 0)) (mark-told f p)
+  read-is p o = ap (λ (b : Bool). subport# p (cond b o 0)) (mark-told f p)
 
   -- two live ports, with their sides, are linked by the tables as by the lower graph
   module _ (s t : SubportIndex) (x y : ℕ) (k l : PortMeta) (h : portAt (m .graph) x ≡ port-variants.Port k) (i : portAt (m .graph) y ≡ port-variants.Port l) where
@@ -136,8 +143,8 @@ module _ {m : MultiPortGraph} {M : Model} (f : Fine m M) where
       where
         go : (a b c : Bool) → sameSide (k .direction) (l .direction) ≡ a → eqb (at (m .graph .«port_link») x) 0 ≡ b → eqb (at (m .graph .«port_link») y) 0 ≡ c →
             linkEnds m s t x y
-            ≡ linkBy m s t (pick a (ends.Refused (IncompatibleDirections (port# x) (port# y) (k .direction)))
-            (pick b (pick c (ends.Ends x y) (ends.Refused (AlreadyLinked (port# y)))) (ends.Refused (AlreadyLinked (port# x)))))
+            ≡ linkBy m s t (cond a (ends.Refused (IncompatibleDirections (port# x) (port# y) (k .direction)))
+            (cond b (cond c (ends.Ends x y) (ends.Refused (AlreadyLinked (port# y)))) (ends.Refused (AlreadyLinked (port# x)))))
         go true b c u v w = sym (ends-by _ (link-by-sides (m .graph) x y k l (sym h) (sym i) true u))
         go false false c u v w = sym (ends-by _ (link-first-taken (m .graph) x y k l (sym h) (sym i) u (eqb-false _ _ v)))
         go false true false u v w = sym (ends-by _ (link-second-taken (m .graph) x y k l (sym h) (sym i) u (eqb-true _ _ v) (eqb-false _ _ w)))
@@ -190,13 +197,14 @@ module _ {m : MultiPortGraph} {M : Model} (f : Fine m M) where
 
     pub sub-of-named : linkSub m p o q r
         ≡ linkBy m (readIn (m .multiport) p o) (readIn (m .multiport) q r) (linkNamed (m .multiport) (m .graph .«port_link») (m .graph .«port_meta») (m .«copy_node») p o q r)
-    unfolding linkSub linkNamed
+    unfolding linkNamed
     sub-of-named =
-        go (goodOffset o) (goodOffset r)
+        link-sub-cases m p o q r
+        ∙ go (goodOffset o) (goodOffset r)
         ∙ (λ i. linkBy m (sym (read-is p o) i) (sym (read-is q r) i) (linkNamed (m .multiport) (m .graph .«port_link») (m .graph .«port_meta») (m .«copy_node») p o q r))
       where
-        go : (a b : Bool) → pick a (pick b (linkSubSeen m p o q r (seen m p) (seen m q)) (linkRefused m BadOffset)) (linkRefused m BadOffset)
-            ≡ both (pick a (pick b (bothSeen (m .multiport) (m .graph .«port_link») (m .graph .«port_meta») (m .«copy_node») p o q r (seenIn (m .graph .«port_meta») (m .«copy_node») p) (seenIn (m .graph .«port_meta») (m .«copy_node») q)) (ends.Refused BadOffset)) (ends.Refused BadOffset))
+        go : (a b : Bool) → cond a (cond b (linkSubSeen m p o q r (seen m p) (seen m q)) (linkRefused m BadOffset)) (linkRefused m BadOffset)
+            ≡ both (cond a (cond b (bothSeen (m .multiport) (m .graph .«port_link») (m .graph .«port_meta») (m .«copy_node») p o q r (seenIn (m .graph .«port_meta») (m .«copy_node») p) (seenIn (m .graph .«port_meta») (m .«copy_node») q)) (ends.Refused BadOffset)) (ends.Refused BadOffset))
         go false b = refl
         go true false = refl
         go true true =
@@ -218,7 +226,7 @@ ready-joined : {m : MultiPortGraph} (d e : Direction) (x y : ℕ) → ReadyEnd m
 ready-joined {m} d e x y u v h k =
     link-made (m .graph) x y (u .meta) (v .meta) (sym (u .live)) (sym (v .live)) _ ((λ i. sameSide (u .side i) (v .side i)) ∙ h) (u .free) (v .free) k
 
-end-ready : {m : MultiPortGraph} {M : Model} → Fine m M → (z : model.Place) → Valid (M .node) z → M .join z ≡ nowhere → {d : Direction} {x : ℕ} → slotOf (M .node) z ≡ x → z .side ≡ d → ReadyEnd m d x
+end-ready : {m : MultiPortGraph} {M : Model} → Fine m M → (z : model.InnerPlace) → Valid (M .node) z → M .join z ≡ nowhere → {d : Direction} {x : ℕ} → slotOf (M .node) z ≡ x → z .side ≡ d → ReadyEnd m d x
 end-ready {m} {M} f z v j q s =
     record {
       meta = metaOfPlace z;
@@ -232,27 +240,27 @@ module _ {m : MultiPortGraph} (w : MultiWf m) where
     block : BlockPort m (w .model) p n d
     block = block-seen (w .fine) p n d s
 
-    has-link : hasLink (m .graph) p ≡ pick (eqb (at (m .graph .«port_link») p) 0) false true
+    has-link : hasLink (m .graph) p ≡ cond (eqb (at (m .graph .«port_link») p) 0) false true
     unfolding hasLink
     has-link =
         ap (λ (e : PortEntry). isLinked (linkOf (m .graph) p e)) (ap (portAt (m .graph)) (sym (block .slot)) ∙ port-of-place (w .fine .good) (w .fine .holds) (block .place) (block .isSeen .0))
         ∙ go (eqb (at (m .graph .«port_link») p) 0)
       where
-        go : (b : Bool) → isLinked (pick b link-variants.Unlinked (link-variants.Linked (port# (at (m .graph .«port_link») p - 1)))) ≡ pick b false true
+        go : (b : Bool) → isLinked (cond b link-variants.Unlinked (link-variants.Linked (port# (at (m .graph .«port_link») p - 1)))) ≡ cond b false true
         go true = refl
         go false = refl
 
-    prepared : (m′ : MultiPortGraph) (x o : ℕ) → prepare m p d ≡ calls.ready m′ x o → (M′ : Model) × PreparedEnd m (w .model) (block .place) m′ M′ x o
+    prepared : (m′ : MultiPortGraph) (x o : ℕ) → prepare m p d ≡ hiding.ready m′ x o → (M′ : Model) × PreparedEnd m (w .model) (block .place) m′ M′ x o
     prepared m′ x o e = prepare-law (w .fine) (block .place) (block .isSeen) m′ x o ((λ i. prepare m (block .slot i) (block .side i)) ∙ e)
 
-    pub ready-end : (m′ : MultiPortGraph) (x o : ℕ) → prepare m p d ≡ calls.ready m′ x o → ReadyEnd m′ d x
+    pub ready-end : (m′ : MultiPortGraph) (x o : ℕ) → prepare m p d ≡ hiding.ready m′ x o → ReadyEnd m′ d x
     ready-end m′ x o e =
         let z = prepared m′ x o e .1 in
         end-ready (z .fine) (z .z) (z .end .valid) (z .free) (z .slot) (z .side ∙ block .side)
 
     reuse-law : isSplit m p ≡ true →
         reuse m (copyNode m p) d (lowestFree (m .graph) (copyNode m p) d 0 (subports m p d)) ≡ preparedBy m p d (reuseIn (m .graph .«port_link») (m .graph .«port_meta») p d)
-    unfolding reuse reuseIn reuseAt subports subportAt
+    unfolding reuseUnder reuseIn reuseAt subports subportAt
     reuse-law t =
         let c = copyNode m p in
         let first : firstIn (m .graph .«port_link») (m .graph .«port_meta») p d ≡ portOf (m .graph) c d 0 = first-read (w .fine) p n d s t in
@@ -261,27 +269,27 @@ module _ {m : MultiPortGraph} (w : MultiWf m) where
         (go (lowestFree (m .graph) c d 0 (numPorts (m .graph) c d)) (ltb (lowestFree (m .graph) c d 0 (numPorts (m .graph) c d)) (numPorts (m .graph) c d)) refl)
       where
         go : (o : ℕ) (b : Bool) → ltb o (numPorts (m .graph) (copyNode m p) d) ≡ b →
-            pick b (calls.ready m (portOf (m .graph) (copyNode m p) d o) o) (calls.grow m (copyNode m p) d)
-            ≡ preparedBy m p d (pick b (need.Ready (portOf (m .graph) (copyNode m p) d 0 + o) o) need.Grow)
+            cond b (hiding.ready m (portOf (m .graph) (copyNode m p) d o) o) (hiding.grow m (copyNode m p) d)
+            ≡ preparedBy m p d (cond b (need.Ready (portOf (m .graph) (copyNode m p) d 0 + o) o) need.Grow)
         go o true e =
             let l = ltb-true o (numPorts (m .graph) (copyNode m p) d) e in
             let k = count-of (w .fine) (copyNode m p) d in
             let a = port-of (w .fine) (copyNode m p) d o (omega arith) in
             let b = port-of (w .fine) (copyNode m p) d 0 (omega arith) in
-            ap (λ (x : ℕ). calls.ready m x o) (omega arith)
+            ap (λ (x : ℕ). hiding.ready m x o) (omega arith)
         go o false e = refl
 
     pub need-law : prepare m p d ≡ preparedBy m p d (needIn (m .multiport) (m .graph .«port_link») (m .graph .«port_meta») p d)
-    unfolding prepare needIn
+    unfolding prepareUnder needIn
     need-law = go (isSplit m p) refl
       where
-        plain : (b : Bool) → pick (pick b false true) (calls.split m p d) (calls.ready m p 0) ≡ preparedBy m p d (pick b (need.Ready p 0) need.Split)
+        plain : (b : Bool) → cond (cond b false true) (hiding.split m p d) (hiding.ready m p 0) ≡ preparedBy m p d (cond b (need.Ready p 0) need.Split)
         plain true = refl
         plain false = refl
 
         go : (b : Bool) → isSplit m p ≡ b →
-            pick (isSplit m p) (reuse m (copyNode m p) d (lowestFree (m .graph) (copyNode m p) d 0 (subports m p d))) (pick (hasLink (m .graph) p) (calls.split m p d) (calls.ready m p 0))
-            ≡ preparedBy m p d (pick (flagAt (m .multiport) portSlots p) (reuseIn (m .graph .«port_link») (m .graph .«port_meta») p d) (pick (eqb (at (m .graph .«port_link») p) 0) (need.Ready p 0) need.Split))
+            cond (isSplit m p) (reuse m (copyNode m p) d (lowestFree (m .graph) (copyNode m p) d 0 (subports m p d))) (cond (hasLink (m .graph) p) (hiding.split m p d) (hiding.ready m p 0))
+            ≡ preparedBy m p d (cond (flagAt (m .multiport) portSlots p) (reuseIn (m .graph .«port_link») (m .graph .«port_meta») p d) (cond (eqb (at (m .graph .«port_link») p) 0) (need.Ready p 0) need.Split))
         go true t = rw (mark-told (w .fine) p, t) (reuse-law t)
         go false t = rw (mark-told (w .fine) p, t, has-link) (plain (eqb (at (m .graph .«port_link») p) 0))
 
@@ -294,29 +302,29 @@ module _ {m : MultiPortGraph} (w : MultiWf m) where
 
       module _ (k : ℕ) (e : Direction) (t : seen m b ≡ visible k e) where
         ends-law : (x o y r : ℕ) (c : Bool) → ReadyEnd m d x → ReadyEnd m e y → sameSide d e ≡ c →
-            pick c (linkRefused m (IncompatibleDirections (port# x) (port# y) d))
+            cond c (linkRefused m (IncompatibleDirections (port# x) (port# y) d))
             (record { graph = withGraph m (linkPorts (m .graph) x y .graph); answer = link.Linked (subport# a o) (subport# b r) })
-            ≡ linkedBy m a b (pick c (needs.Refused (IncompatibleDirections (port# x) (port# y) d)) (needs.Ends x o y r))
+            ≡ linkedBy m a b (cond c (needs.Refused (IncompatibleDirections (port# x) (port# y) d)) (needs.Ends x o y r))
         ends-law x o y r true u v h = refl
         ends-law x o y r false u v h =
             ap (λ (g : PortGraph). record { graph = withGraph m g; answer = link.Linked (subport# a o) (subport# b r) }) (ap (λ (l : lower-linked.PortsLinked). l .graph) (sym (ready-joined d e x y u v h refl)))
 
-        second-law : (x o : ℕ) (v : EndNeed) → prepare m a d ≡ calls.ready m x o → prepare m b e ≡ preparedBy m b e v →
-            calls.linkBoth m a d b e (prepare m a d) ≡ linkedBy m a b (secondReady d e x o v)
+        second-law : (x o : ℕ) (v : EndNeed) → prepare m a d ≡ hiding.ready m x o → prepare m b e ≡ preparedBy m b e v →
+            cases.linkLive m a d b e (prepare m a d) ≡ linkedBy m a b (secondReady d e x o v)
         second-law x o (need.Ready y r) f g =
-            ap (calls.linkBoth m a d b e) f
+            ap (cases.linkLive m a d b e) f
             ∙ (ap (linkSecond m a d x o b e) g ∙ ends-law x o y r (sameSide d e) (ready-end a n d s m x o f) (ready-end b k e t m y r g) refl)
         second-law x o need.Grow f g = refl
         second-law x o need.Split f g = refl
 
         both-law : (u v : EndNeed) → prepare m a d ≡ preparedBy m a d u → prepare m b e ≡ preparedBy m b e v →
-            calls.linkBoth m a d b e (prepare m a d) ≡ linkedBy m a b (bothReady d e u v)
+            cases.linkLive m a d b e (prepare m a d) ≡ linkedBy m a b (bothReady d e u v)
         both-law (need.Ready x o) v f g = second-law x o v f g
         both-law need.Grow v f g = refl
         both-law need.Split v f g = refl
 
     call-by : (u v : Port) → seen m a ≡ u → seen m b ≡ v →
-        calls.linkSeen m a b u v ≡ linkedBy m a b (linkSeen (m .multiport) (m .graph .«port_link») (m .graph .«port_meta») (m .«copy_node») a b u v)
+        cases.linkSeen m a b u v ≡ linkedBy m a b (linkSeen (m .multiport) (m .graph .«port_link») (m .graph .«port_meta») (m .«copy_node») a b u v)
     unfolding firstNeed bothNeed
     call-by dead v e h = refl
     call-by hidden v e h = refl
@@ -324,10 +332,11 @@ module _ {m : MultiPortGraph} (w : MultiWf m) where
     call-by (visible n d) dead e h = first-law n d e (needIn (m .multiport) (m .graph .«port_link») (m .graph .«port_meta») a d) (need-law a n d e)
     call-by (visible n d) (visible k c) e h = both-law n d e k c h (needIn (m .multiport) (m .graph .«port_link») (m .graph .«port_meta») a d) (needIn (m .multiport) (m .graph .«port_link») (m .graph .«port_meta») b c) (need-law a n d e) (need-law b k c h)
 
-    pub call-of-need : linkCall m a b ≡ linkedBy m a b (linkNeed (m .multiport) (m .graph .«port_link») (m .graph .«port_meta») (m .«copy_node») a b)
-    unfolding linkCall linkNeed
+    pub call-of-need : linkPair m a b ≡ linkedBy m a b (linkNeed (m .multiport) (m .graph .«port_link») (m .graph .«port_meta») (m .«copy_node») a b)
+    unfolding linkNeed
     call-of-need =
-        call-by (seen m a) (seen m b) refl refl
+        link-cases present m a b
+        ∙ call-by (seen m a) (seen m b) refl refl
         ∙ (λ i. linkedBy m a b (linkSeen (m .multiport) (m .graph .«port_link») (m .graph .«port_meta») (m .«copy_node») a b (sym (seen-read (w .fine) a) i) (sym (seen-read (w .fine) b) i)))
 
     -- where both ends are to be prepared, both are ports of blocks
@@ -337,7 +346,7 @@ module _ {m : MultiPortGraph} (w : MultiWf m) where
     first-not-both d need.Split i j e = zero-is-not-one (cc)
 
     ends-not-both : (d e : Direction) (x o y r : ℕ) (c : Bool) (i j : Direction) →
-        pick c (needs.Refused (IncompatibleDirections (port# x) (port# y) d)) (needs.Ends x o y r) ≡ needs.Both i j → ⊥
+        cond c (needs.Refused (IncompatibleDirections (port# x) (port# y) d)) (needs.Ends x o y r) ≡ needs.Both i j → ⊥
     ends-not-both d e x o y r true i j h = zero-is-not-one (cc)
     ends-not-both d e x o y r false i j h = zero-is-not-one (cc)
 
@@ -354,7 +363,7 @@ module _ {m : MultiPortGraph} (w : MultiWf m) where
     first-side d need.Split i h = cc
 
     ends-not-first : (d e : Direction) (x o y r : ℕ) (c : Bool) (i : Direction) →
-        pick c (needs.Refused (IncompatibleDirections (port# x) (port# y) d)) (needs.Ends x o y r) ≡ needs.First i → ⊥
+        cond c (needs.Refused (IncompatibleDirections (port# x) (port# y) d)) (needs.Ends x o y r) ≡ needs.First i → ⊥
     ends-not-first d e x o y r true i h = zero-is-not-one (cc)
     ends-not-first d e x o y r false i h = zero-is-not-one (cc)
 
@@ -417,7 +426,7 @@ pub copy-dropped :
     t₃ ≡ putFlag (m .«copy_node») nodeSlots w₃ false →
     copies ≡ m .«copy_node_count» - 1 →
     subs ≡ m .«subport_count» - count →
-    _≡_ {A = MultiPortGraph} (record { graph = r .graph; multiport = t₂; «copy_node» = t₃; «copy_node_count» = copies; «subport_count» = subs }) (unsplit m p)
+    _≡_ {A = MultiPortGraph} (multi (r .graph) t₂ t₃ copies subs) (unsplit m p)
 unfolding subports
 copy-dropped {m} {p} {d} b {copy} {node} {count} s e₀ e₁ e₂ e₃ e₄ f₁ f₂ f₃ f₄ f₅ f₆ g₁ g₂ =
     let f = b .wf .fine in
@@ -446,7 +455,7 @@ module _ {m : MultiPortGraph} (w : MultiWf m) where
   link-refused p o q r x is told = link-done p o q r is told refl refl refl
 
   pub call-done : (a b : ℕ) {e v : LinkNeed} {l : PortsLinked} → e ≡ linkNeed (m .multiport) (m .graph .«port_link») (m .graph .«port_meta») (m .«copy_node») a b → e ≡ v →
-      l ≡ linkedBy m a b v → l ≡ linkCall m a b
+      l ≡ linkedBy m a b v → l ≡ linkPair m a b
   call-done a b is told h = h ∙ (ap (linkedBy m a b) (sym told ∙ is) ∙ sym (call-of-need w a b))
 
 -- the link of an inner port is cut in the tables
@@ -508,7 +517,7 @@ module _ {m : MultiPortGraph} {p : ℕ} {d : Direction} (b : OnBlock m p d) wher
   unfolding needIn
   grow-needs e = record { block = b; split = sym (mark-told (b .wf .fine) p) ∙ go (flagAt (m .multiport) portSlots p) (eqb (at (m .graph .«port_link») p) 0) e }
     where
-      go : (s t : Bool) → pick s (reuseIn (m .graph .«port_link») (m .graph .«port_meta») p d) (pick t (need.Ready p 0) need.Split) ≡ need.Grow → s ≡ true
+      go : (s t : Bool) → cond s (reuseIn (m .graph .«port_link») (m .graph .«port_meta») p d) (cond t (need.Ready p 0) need.Split) ≡ need.Grow → s ≡ true
       go true t h = refl
       go false true h = absurd (zero-is-not-one (cc))
       go false false h = absurd (zero-is-not-one (cc))
@@ -518,7 +527,7 @@ module _ {m : MultiPortGraph} {p : ℕ} {d : Direction} (b : OnBlock m p d) wher
   reuse-no-split e = go (leb (firstIn (m .graph .«port_link») (m .graph .«port_meta») p d + subportsIn (m .graph .«port_link») (m .graph .«port_meta») p d) portSlots)
       (ltb (lowestUnlinked (m .graph .«port_link») (firstIn (m .graph .«port_link») (m .graph .«port_meta») p d) 0 (subportsIn (m .graph .«port_link») (m .graph .«port_meta») p d)) (subportsIn (m .graph .«port_link») (m .graph .«port_meta») p d)) _ _ e
     where
-      go : (s t : Bool) (x o : ℕ) → pick s (pick t (need.Ready x o) need.Grow) need.Grow ≡ need.Split → ⊥
+      go : (s t : Bool) (x o : ℕ) → cond s (cond t (need.Ready x o) need.Grow) need.Grow ≡ need.Split → ⊥
       go true true x o h = zero-is-not-one (cc)
       go true false x o h = zero-is-not-one (cc)
       go false t x o h = zero-is-not-one (cc)
@@ -529,7 +538,7 @@ module _ {m : MultiPortGraph} {p : ℕ} {d : Direction} (b : OnBlock m p d) wher
       let r = go (flagAt (m .multiport) portSlots p) (eqb (at (m .graph .«port_link») p) 0) refl e in
       record { block = b; plain = sym (mark-told (b .wf .fine) p) ∙ r .0; linked = eqb-false _ _ (r .1) }
     where
-      go : (s t : Bool) → eqb (at (m .graph .«port_link») p) 0 ≡ t → pick s (reuseIn (m .graph .«port_link») (m .graph .«port_meta») p d) (pick t (need.Ready p 0) need.Split) ≡ need.Split → (s ≡ false) × (eqb (at (m .graph .«port_link») p) 0 ≡ false)
+      go : (s t : Bool) → eqb (at (m .graph .«port_link») p) 0 ≡ t → cond s (reuseIn (m .graph .«port_link») (m .graph .«port_meta») p d) (cond t (need.Ready p 0) need.Split) ≡ need.Split → (s ≡ false) × (eqb (at (m .graph .«port_link») p) 0 ≡ false)
       go true t q h = absurd (reuse-no-split h)
       go false true q h = absurd (zero-is-not-one (cc))
       go false false q h = (refl, q)
@@ -566,5 +575,5 @@ module _ {m : MultiPortGraph} {a b : ℕ} {d e : Direction} (both : BothOnBlock 
       (record {
         graph = withGraph (s .graph) (withLinks (s .graph .graph) l (s .graph .graph .«link_count» + 1));
         answer = link.Linked (subport# a (r .offset)) (subport# b (s .offset));
-      }) (calls.linkBoth m a d b e (prepare m a d))
+      }) (cases.linkLive m a d b e (prepare m a d))
   both-joined q = both-linked m a d b e r h t s k _ v apart (ready-joined d e (r .port) (s .port) first-ready second-ready apart q)

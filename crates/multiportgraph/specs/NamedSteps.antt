@@ -1,6 +1,6 @@
 -- Steps of the leaves that read what a call names, over plain values.
 use mathlib.Core.Path.{_≡_, refl, sym, _∙_, ap}
-use mathlib.Core.Bool.{Bool, true, false}
+use mathlib.Core.Bool.{Bool, true, false, cond}
 use mathlib.Core.List.{List}
 use mathlib.Core.Logic.{_⊎_, inl, inr}
 use Prim.Native.Nat.{ℕ, _+_, _-_, _≤_, _<_}
@@ -8,7 +8,7 @@ use native.Mathlib.Omega.{arith}
 use lib.Dec.{leb}
 use borrow.Author.Tests.{eq-eqb, ne-eqb, lt-ltb, le-ltb, le-leb, lt-leb, leb-true, leb-false}
 use Rattle.portgraph.specs.Limits.{portSlots}
-use Rattle.portgraph.specs.Entries.{pick, portEntry}
+use Rattle.portgraph.specs.Entries.{portEntry}
 use Rattle.portgraph.specs.Tables.{at, linkCount}
 use Rattle.portgraph.specs.Meaning.{sameSide}
 use Rattle.portgraph.specs.Lookups.{port#, nodeOf}
@@ -17,7 +17,6 @@ use Rattle.portgraph.specs.declared.port_entry.PortMeta.{PortMeta}
 use Rattle.portgraph.specs.declared.port_entry.PortEntry.{PortEntry}
 use Rattle.portgraph.specs.declared.port_entry.PortEntry.the-variants as port-variants
 use Rattle.multiportgraph.specs.Reading.{nodeNumber, Port, visible, End, inner, subport#}
-use Rattle.multiportgraph.specs.Calls.{goodOffset}
 use Rattle.multiportgraph.specs.CallSteps.{bad-offset}
 use Rattle.multiportgraph.specs.Forms.{flagAt, lowestUnlinked}
 use Rattle.multiportgraph.specs.Reads.{ownerIn, seenIn, endIn, subportsIn, firstIn}
@@ -30,16 +29,9 @@ use Rattle.multiportgraph.specs.declared.named.EndNeed.{EndNeed}
 use Rattle.multiportgraph.specs.declared.named.EndNeed.the-variants as need
 use Rattle.multiportgraph.specs.declared.named.LinkNeed.{LinkNeed}
 use Rattle.multiportgraph.specs.declared.named.LinkNeed.the-variants as needs
+use Rattle.multiportgraph.specs.Refusals.{goodOffset}
 
 -- The count of links.
-
-pub none-less : (n far : ℕ) → far ≡ 0 → n ≡ n - linkCount far
-unfolding linkCount
-none-less n far e = rw (eq-eqb far 0 e) (omega arith)
-
-pub one-less : (n far r : ℕ) → (far ≡ 0 → ⊥) → r ≡ n - 1 → r ≡ n - linkCount far
-unfolding linkCount
-one-less n far r e f = rw (ne-eqb far 0 e) f
 
 -- An owner's node.
 module _ (owners : List ℕ) (p w a : ℕ) (e : w ≡ p) (f : a ≡ at owners w) where
@@ -55,11 +47,11 @@ module _ (owners : List ℕ) (p w a : ℕ) (e : w ≡ p) (f : a ≡ at owners w)
 module _ (marks : List Bool) (p o w : ℕ) (e : w ≡ p) (b : Bool) (f : b ≡ flagAt marks portSlots w) where
   pub read-split : b ≡ true → subport# p o ≡ readIn marks p o
   unfolding readIn
-  read-split g = ap (λ (x : Bool). subport# p (pick x o 0)) (sym g ∙ (f ∙ ap (flagAt marks portSlots) e))
+  read-split g = ap (λ (x : Bool). subport# p (cond x o 0)) (sym g ∙ (f ∙ ap (flagAt marks portSlots) e))
 
   pub read-plain : b ≡ false → subport# p 0 ≡ readIn marks p o
   unfolding readIn
-  read-plain g = ap (λ (x : Bool). subport# p (pick x o 0)) (sym g ∙ (f ∙ ap (flagAt marks portSlots) e))
+  read-plain g = ap (λ (x : Bool). subport# p (cond x o 0)) (sym g ∙ (f ∙ ap (flagAt marks portSlots) e))
 
 -- Two ends that are there.
 module _ (links : List ℕ) (x : ℕ) (d : Direction) (y : ℕ) (e : Direction) (c : Bool) (f : c ≡ sameSide d e) where
@@ -154,11 +146,11 @@ fits-outside f n h = sym (lt-leb (f + n) portSlots (omega arith))
 
 -- What an end needs.
 module _ (links owners : List ℕ) (p : ℕ) (d : Direction) {n f : ℕ} (e : n ≡ subportsIn links owners p d) (g : f ≡ firstIn links owners p d) {b : Bool} (h : b ≡ leb (f + n) portSlots) where
-  reuse-by : (c : Bool) → b ≡ c → pick c (reuseAt f n (lowestUnlinked links f 0 n)) need.Grow ≡ reuseIn links owners p d
+  reuse-by : (c : Bool) → b ≡ c → cond c (reuseAt f n (lowestUnlinked links f 0 n)) need.Grow ≡ reuseIn links owners p d
   unfolding reuseIn
   reuse-by c i =
-      ap (λ (x : Bool). pick x (reuseAt f n (lowestUnlinked links f 0 n)) need.Grow) (sym i ∙ h)
-      ∙ (λ j. pick (leb (g j + e j) portSlots) (reuseAt (g j) (e j) (lowestUnlinked links (g j) 0 (e j))) need.Grow)
+      ap (λ (x : Bool). cond x (reuseAt f n (lowestUnlinked links f 0 n)) need.Grow) (sym i ∙ h)
+      ∙ (λ j. cond (leb (g j + e j) portSlots) (reuseAt (g j) (e j) (lowestUnlinked links (g j) 0 (e j))) need.Grow)
 
   pub reuse-outside : b ≡ false → need.Grow ≡ reuseIn links owners p d
   reuse-outside i = reuse-by false i
@@ -167,13 +159,13 @@ module _ (links owners : List ℕ) (p : ℕ) (d : Direction) {n f : ℕ} (e : n 
     pub reuse-found : o < n → need.Ready (f + o) o ≡ reuseIn links owners p d
     unfolding reuseAt
     reuse-found l =
-        ap (λ (c : Bool). pick c (need.Ready (f + o) o) need.Grow) (sym (lt-ltb o n l))
+        ap (λ (c : Bool). cond c (need.Ready (f + o) o) need.Grow) (sym (lt-ltb o n l))
         ∙ (ap (reuseAt f n) k ∙ reuse-by true i)
 
     pub reuse-none : n ≤ o → need.Grow ≡ reuseIn links owners p d
     unfolding reuseAt
     reuse-none l =
-        ap (λ (c : Bool). pick c (need.Ready (f + o) o) need.Grow) (sym (le-ltb o n l))
+        ap (λ (c : Bool). cond c (need.Ready (f + o) o) need.Grow) (sym (le-ltb o n l))
         ∙ (ap (reuseAt f n) k ∙ reuse-by true i)
 
 module _ (marks : List Bool) (links owners : List ℕ) (p : ℕ) (d : Direction) {w : ℕ} (e : w ≡ p) {b : Bool} (f : b ≡ flagAt marks portSlots w) where
@@ -229,8 +221,8 @@ module _ (marks : List Bool) (links owners : List ℕ) where
       module _ (y r₂ : ℕ) (i : s ≡ need.Ready y r₂) {c : Bool} (j : c ≡ sameSide d e) where
         pub one-side : c ≡ true → needs.Refused (IncompatibleDirections (port# x) (port# y) d) ≡ bothNeed marks links owners a d b e
         one-side k =
-            ap (λ (u : Bool). pick u (needs.Refused (IncompatibleDirections (port# x) (port# y) d)) (needs.Ends x o y r₂)) (sym k ∙ j) ∙ by-second (need.Ready y r₂) i
+            ap (λ (u : Bool). cond u (needs.Refused (IncompatibleDirections (port# x) (port# y) d)) (needs.Ends x o y r₂)) (sym k ∙ j) ∙ by-second (need.Ready y r₂) i
 
         pub both-ready : c ≡ false → needs.Ends x o y r₂ ≡ bothNeed marks links owners a d b e
         both-ready k =
-            ap (λ (u : Bool). pick u (needs.Refused (IncompatibleDirections (port# x) (port# y) d)) (needs.Ends x o y r₂)) (sym k ∙ j) ∙ by-second (need.Ready y r₂) i
+            ap (λ (u : Bool). cond u (needs.Refused (IncompatibleDirections (port# x) (port# y) d)) (needs.Ends x o y r₂)) (sym k ∙ j) ∙ by-second (need.Ready y r₂) i

@@ -1,7 +1,7 @@
 -- The empty graph; adding a block; linking two free ends; cutting an end; the calls on subports.
 -- Each leaves a fine graph, with blocks and wires as said.
 use mathlib.Core.Path.{_≡_, refl, sym, _∙_, ap, subst}
-use mathlib.Core.Bool.{Bool, true, false}
+use mathlib.Core.Bool.{Bool, true, false, cond, _||_}
 use mathlib.Core.List.{List, [], _∷_}
 use mathlib.Core.Logic.{_⊎_, inl, inr, ⊎-elim}
 use Prim.Native.Nat.{ℕ, zero, _+_, _-_, _*_, _≤_}
@@ -9,8 +9,8 @@ use native.Mathlib.Omega.{arith}
 use lib.Dec.{eqb, leb, ltb}
 use lib.ListN.{length, getD, replicate, length-replicate, getD-replicate, List·getD-eq-default}
 use borrow.Author.Tests.{eq-eqb, eqb-true, leb-true, ltb-true, ltb-false}
-use Rattle.portgraph.specs.Limits.{nodeSlots, portSlots, nodePorts}
-use Rattle.portgraph.specs.Entries.{pick}
+use Rattle.portgraph.specs.Limits.{nodeSlots, portSlots, nodePorts, present}
+use Rattle.portgraph.specs.Lists.{Member}
 use Rattle.portgraph.specs.Model as model
 use Rattle.portgraph.specs.Model.{Model, Far, nowhere, to, gone, live, Good, Holds, Valid, slotOf, portsOf, total}
 use Rattle.portgraph.specs.Meaning.{linkModel, unlinkModel, addModel, linkJoin, dropJoin, samePlace, sameSide, metaOf, nextSlot, nextBlock, growth}
@@ -34,11 +34,8 @@ use Rattle.portgraph.specs.declared.portgraph.PortLink.the-variants as lower-cu
 use Rattle.portgraph.specs.declared.portgraph.LinkAnswer as lower-link-answer
 use Rattle.portgraph.specs.declared.portgraph.LinkAnswer.the-variants as lower-link
 use Rattle.multiportgraph.specs.Reading.{isHidden, isSplit, copySide, Port, dead, hidden, visible, seen, End, inner, lacking, endAt, asRead}
-use Rattle.multiportgraph.specs.Calls.{withGraph, emptyGraph, addBlock, addedAs, linkSub, linkSubSeen, linkFirstEnd, linkSecondEnd, linkInner, linkRefused, goodOffset, cutSub, cutSubSeen, cutEnd, cutRefused, farSubport}
-use Rattle.multiportgraph.specs.Wires.{Place, Wire}
-use Rattle.multiportgraph.specs.Book.{touches, wireOfSides, atSpot, atEnd, spot, orElse}
-use Rattle.multiportgraph.specs.History.{InWires}
-use Rattle.multiportgraph.specs.Inner.{copyPlace, flag, Fine, BlockIs, Seen, outer, lift, IsEnd, WireIn, SameBlocks, Wiring, SameWires, none}
+use Rattle.multiportgraph.specs.Calls.{addBlock, addedAs, linkSub, cutSub, farSubport, addBlockUnder}
+use Rattle.multiportgraph.specs.Inner.{copyPlace, Fine, BlockIs, Seen, outer, lift, IsEnd, WireIn, SameBlocks, Wiring, SameWires, none}
 use Rattle.multiportgraph.specs.Ends.{BlockPort, EndOf, block-seen, end-read, ends-join-ends, outer-apart}
 use Rattle.multiportgraph.specs.Frame.{same-wire, Alike, end-kept, kept-end, wire-kept, kept-wire, true-or-false, true-not-false, Frame, plain-frame, frame-fine, outer-kept, hidden-below, split-below}
 use Rattle.multiportgraph.specs.declared.multiportgraph.MultiPortGraph.{MultiPortGraph}
@@ -52,10 +49,16 @@ use Rattle.multiportgraph.specs.declared.multiportgraph.PortsLinked.{Por
 use Rattle.multiportgraph.specs.declared.multiportgraph.CutAnswer.{CutAnswer}
 use Rattle.multiportgraph.specs.declared.multiportgraph.CutAnswer.the-variants as cutting
 use Rattle.multiportgraph.specs.declared.multiportgraph.PortUnlinked.{PortUnlinked}
+use Rattle.multiportgraph.specs.Places.{Place, Wire, touches, wireOfSides, atSpot, atEnd, spot, flag}
+use Rattle.multiportgraph.specs.Graph.{withGraph, emptyGraph}
+use Rattle.multiportgraph.specs.Cases.{linkSubSeen, linkFirstEnd, linkSecondEnd, linkInner, linkRefused, cutSubSeen, cutEnd, cutRefused}
+use Rattle.multiportgraph.specs.Refusals.{goodOffset}
+use Rattle.multiportgraph.specs.CaseLaws.{add-cases, link-sub-cases, cut-sub-cases}
+use Rattle.multiportgraph.specs.declared.multiportgraph.NodeAdded as upper-added
 
 -- Other links between the same nodes.
 
-abbrev rejoined : Model → (model.Place → Far) → Model
+abbrev rejoined : Model → (model.InnerPlace → Far) → Model
 rejoined M join =
     record {
       node = M .node;
@@ -67,7 +70,7 @@ rejoined M join =
       who = M .who;
     }
 
-module _ {m : MultiPortGraph} {M : Model} (f : Fine m M) {g : PortGraph} {J : model.Place → Far} (good : Good (rejoined M J)) (holds : Holds g (rejoined M J))
+module _ {m : MultiPortGraph} {M : Model} (f : Fine m M) {g : PortGraph} {J : model.InnerPlace → Far} (good : Good (rejoined M J)) (holds : Holds g (rejoined M J))
     (joins : (c : ℕ) → isHidden m c ≡ true → J (copyPlace m c) ≡ M .join (copyPlace m c)) where
   rejoin-frame : Frame m M (withGraph m g) (rejoined M J)
   rejoin-frame = plain-frame f good holds (λ c h. refl) (λ c x h e. refl) joins
@@ -79,16 +82,16 @@ module _ {m : MultiPortGraph} {M : Model} (f : Fine m M) {g : PortGraph} {J : mo
   unfolding isHidden
   rejoin-blocks = (λ n k b. b, λ n k b. b)
 
-  rejoin-outer : (z : model.Place) → outer (withGraph m g) (rejoined M J) z ≡ outer m M z
+  rejoin-outer : (z : model.InnerPlace) → outer (withGraph m g) (rejoined M J) z ≡ outer m M z
   rejoin-outer z = outer-kept f rejoin-frame z (hidden-below m g (z .node))
 
-  alike : (z : model.Place) → Alike m M (withGraph m g) (rejoined M J) z
+  alike : (z : model.InnerPlace) → Alike m M (withGraph m g) (rejoined M J) z
   alike z = record { node = refl; hidden = hidden-below m g (z .node); split = λ h. split-below m g (slotOf (M .node) z) }
 
-  rejoin-end : (z : model.Place) → IsEnd m M z → IsEnd (withGraph m g) (rejoined M J) z
+  rejoin-end : (z : model.InnerPlace) → IsEnd m M z → IsEnd (withGraph m g) (rejoined M J) z
   rejoin-end z = end-kept f rejoin-frame z (alike z)
 
-  end-rejoin : (z : model.Place) → IsEnd (withGraph m g) (rejoined M J) z → IsEnd m M z
+  end-rejoin : (z : model.InnerPlace) → IsEnd (withGraph m g) (rejoined M J) z → IsEnd m M z
   end-rejoin z = kept-end f rejoin-frame z (alike z)
 
   -- a link that stayed is the same wire
@@ -105,18 +108,18 @@ pub record Joined (m : MultiPortGraph) (M : Model) (m′ : MultiPortGraph) (M′
   pub blocks : SameBlocks m M m′ M′
   pub wires : Wiring m M m′ M′ none more
 
-pub nowhere-not-to : {v : Far} {y : model.Place} → v ≡ nowhere → v ≡ to y → ⊥
+pub nowhere-not-to : {v : Far} {y : model.InnerPlace} → v ≡ nowhere → v ≡ to y → ⊥
 nowhere-not-to p q = zero-is-not-one (cc)
 
-pub to-same : {v : Far} {x y : model.Place} → v ≡ to x → v ≡ to y → x ≡ y
+pub to-same : {v : Far} {x y : model.InnerPlace} → v ≡ to x → v ≡ to y → x ≡ y
 to-same p q = cc
 
-module _ {m : MultiPortGraph} {M : Model} (f : Fine m M) (x y : model.Place) (ex : IsEnd m M x) (ey : IsEnd m M y)
+module _ {m : MultiPortGraph} {M : Model} (f : Fine m M) (x y : model.InnerPlace) (ex : IsEnd m M x) (ey : IsEnd m M y)
     (fx : M .join x ≡ nowhere) (fy : M .join y ≡ nowhere) (apart : x .side ≡ y .side → ⊥) where
   abbrev joinedGraph : MultiPortGraph
   joinedGraph = withGraph m (linkPorts (m .graph) (slotOf (M .node) x) (slotOf (M .node) y) .graph)
 
-  still-joined : (z u : model.Place) → M .join z ≡ to u → linkJoin x y (M .join) z ≡ to u
+  still-joined : (z u : model.InnerPlace) → M .join z ≡ to u → linkJoin x y (M .join) z ≡ to u
   still-joined z u j = link-other x y (M .join) z (λ e. nowhere-not-to fx (ap (M .join) (sym e) ∙ j)) (λ e. nowhere-not-to fy (ap (M .join) (sym e) ∙ j)) ∙ j
 
   good-after : Good (linkModel M x y)
@@ -134,12 +137,12 @@ module _ {m : MultiPortGraph} {M : Model} (f : Fine m M) (x y : model.Place) (ex
   near = link-near x y (M .join)
 
   far : linkJoin x y (M .join) y ≡ to x
-  far = link-far x y (M .join) (λ e. apart (ap (λ (z : model.Place). z .side) (sym e)))
+  far = link-far x y (M .join) (λ e. apart (ap (λ (z : model.InnerPlace). z .side) (sym e)))
 
   new-wire : WireIn joinedGraph (linkModel M x y) (wireOfSides (x .side) (outer m M x) (outer m M y))
   new-wire = go (x .side) (y .side) refl refl
     where
-      o : (z : model.Place) → outer joinedGraph (linkModel M x y) z ≡ outer m M z
+      o : (z : model.InnerPlace) → outer joinedGraph (linkModel M x y) z ≡ outer m M z
       o = rejoin-outer f good-after holds-after copy-joins
 
       go : (d e : Direction) → x .side ≡ d → y .side ≡ e → WireIn joinedGraph (linkModel M x y) (wireOfSides d (outer m M x) (outer m M y))
@@ -150,26 +153,26 @@ module _ {m : MultiPortGraph} {M : Model} (f : Fine m M) (x y : model.Place) (ex
       go Outgoing Incoming p q =
           record { x = x; y = y; joined = near; outgoing = p; end = rejoin-end f good-after holds-after copy-joins x ex; is = same-wire (sym (o x)) (sym (o y)) }
 
-  only-new : (w : Wire) → WireIn joinedGraph (linkModel M x y) w → (WireIn m M w × (touches none w ≡ false)) ⊎ InWires w (wireOfSides (x .side) (outer m M x) (outer m M y) ∷ [])
+  only-new : (w : Wire) → WireIn joinedGraph (linkModel M x y) w → (WireIn m M w × (touches none w ≡ false)) ⊎ Member w (wireOfSides (x .side) (outer m M x) (outer m M y) ∷ [])
   only-new w e =
-      link-elim (λ v. v ≡ to (e .y) → (WireIn m M w × (touches none w ≡ false)) ⊎ InWires w (wireOfSides (x .side) (outer m M x) (outer m M y) ∷ [])) x y (M .join) (e .x)
+      link-elim (λ v. v ≡ to (e .y) → (WireIn m M w × (touches none w ≡ false)) ⊎ Member w (wireOfSides (x .side) (outer m M x) (outer m M y) ∷ [])) x y (M .join) (e .x)
       (λ p j. inr (inl (first p (to-same j refl))))
       (λ n p j. inr (inl (second p (to-same j refl))))
       (λ n k j. inl (kept-rejoin f good-after holds-after copy-joins w e j, refl))
       (e .joined)
     where
-      o : (z : model.Place) → outer joinedGraph (linkModel M x y) z ≡ outer m M z
+      o : (z : model.InnerPlace) → outer joinedGraph (linkModel M x y) z ≡ outer m M z
       o = rejoin-outer f good-after holds-after copy-joins
 
       first : e .x ≡ x → e .y ≡ y → w ≡ wireOfSides (x .side) (outer m M x) (outer m M y)
       first p q =
-          let s : x .side ≡ Outgoing = ap (λ (z : model.Place). z .side) (sym p) ∙ e .outgoing in
+          let s : x .side ≡ Outgoing = ap (λ (z : model.InnerPlace). z .side) (sym p) ∙ e .outgoing in
           e .is ∙ same-wire (o (e .x) ∙ ap (outer m M) p) (o (e .y) ∙ ap (outer m M) q)
           ∙ ap (λ (d : Direction). wireOfSides d (outer m M x) (outer m M y)) (sym s)
 
       second : e .x ≡ y → e .y ≡ x → w ≡ wireOfSides (x .side) (outer m M x) (outer m M y)
       second p q =
-          let s : y .side ≡ Outgoing = ap (λ (z : model.Place). z .side) (sym p) ∙ e .outgoing in
+          let s : y .side ≡ Outgoing = ap (λ (z : model.InnerPlace). z .side) (sym p) ∙ e .outgoing in
           e .is ∙ same-wire (o (e .x) ∙ ap (outer m M) p) (o (e .y) ∙ ap (outer m M) q)
           ∙ ap (λ (d : Direction). wireOfSides d (outer m M x) (outer m M y)) (incoming (x .side) refl s)
         where
@@ -199,14 +202,14 @@ touches-neither t w p q = rw (p, q)
 pub touched-not-out : (t : Place → Bool) (w : Wire) → touches t w ≡ false → t (w .out) ≡ false
 touched-not-out t w = go (t (w .out))
   where
-    go : (b : Bool) → orElse b (t (w .into)) ≡ false → b ≡ false
+    go : (b : Bool) → (b || (t (w .into))) ≡ false → b ≡ false
     go true e = e
     go false e = refl
 
 pub touched-not-into : (t : Place → Bool) (w : Wire) → touches t w ≡ false → t (w .into) ≡ false
 touched-not-into t w = go (t (w .out))
   where
-    go : (b : Bool) → orElse b (t (w .into)) ≡ false → t (w .into) ≡ false
+    go : (b : Bool) → (b || (t (w .into))) ≡ false → t (w .into) ≡ false
     go true e = absurd (true-not-false refl e)
     go false e = e
 
@@ -218,7 +221,7 @@ pub at-spot-is : (n : ℕ) (d : Direction) (i : ℕ) (p : Place) → atSpot (spo
 unfolding atSpot
 at-spot-is n d i p = go (eqb (p .node) n) refl (sameSide (p .side) d) refl
   where
-    go : (a : Bool) → eqb (p .node) n ≡ a → (b : Bool) → sameSide (p .side) d ≡ b → pick a (pick b (eqb (p .pos) i) false) false ≡ true → (p .node ≡ n) × (p .side ≡ d) × (p .pos ≡ i)
+    go : (a : Bool) → eqb (p .node) n ≡ a → (b : Bool) → sameSide (p .side) d ≡ b → cond a (cond b (eqb (p .pos) i) false) false ≡ true → (p .node ≡ n) × (p .side ≡ d) × (p .pos ≡ i)
     go true e true s t = (eqb-true _ _ e, sameSide-true _ _ s, eqb-true _ _ t)
     go true e false s t = absurd (true-not-false t refl)
     go false e b s t = absurd (true-not-false t refl)
@@ -235,7 +238,7 @@ pub end-is-same : (p q : Place) → endIs p q ≡ true → q ≡ p
 unfolding atEnd
 end-is-same p q = go (atSpot (spot (p .node) (p .side) (p .pos)) q) refl
   where
-    go : (a : Bool) → atSpot (spot (p .node) (p .side) (p .pos)) q ≡ a → pick a (eqb (q .offset) (p .offset)) false ≡ true → q ≡ p
+    go : (a : Bool) → atSpot (spot (p .node) (p .side) (p .pos)) q ≡ a → cond a (eqb (q .offset) (p .offset)) false ≡ true → q ≡ p
     go true e t =
         let r = at-spot-is (p .node) (p .side) (p .pos) q e in
         let o : q .offset ≡ p .offset = eqb-true _ _ t in
@@ -252,7 +255,7 @@ pub record Cut (m : MultiPortGraph) (M : Model) (m′ : MultiPortGraph) (M′ : 
   pub blocks : SameBlocks m M m′ M′
   pub wires : Wiring m M m′ M′ dropped []
 
-module _ {m : MultiPortGraph} {M : Model} (f : Fine m M) (x : model.Place) (ex : IsEnd m M x) where
+module _ {m : MultiPortGraph} {M : Model} (f : Fine m M) (x : model.InnerPlace) (ex : IsEnd m M x) where
   abbrev cutGraph : MultiPortGraph
   cutGraph = withGraph m (unlinkPort (m .graph) (slotOf (M .node) x) .graph)
 
@@ -271,17 +274,17 @@ module _ {m : MultiPortGraph} {M : Model} (f : Fine m M) (x : model.Place) (ex :
           subst (λ (r : _). Holds (r .graph) (unlinkModel M x)) (sym (unlink-free (f .good) (f .holds) x (ex .valid) j))
           (subst (λ (h : PortGraph). Holds h (unlinkModel M x)) (λ i. withLinks (m .graph) (a i) (c i)) (unlink-holds (f .good) (f .holds) x (ex .valid)))
 
-  cut-kept : (z u : model.Place) → M .join z ≡ to u → (x ≡ z → ⊥) → (x ≡ u → ⊥) → dropJoin (samePlace x) (M .join) z ≡ to u
+  cut-kept : (z u : model.InnerPlace) → M .join z ≡ to u → (x ≡ z → ⊥) → (x ≡ u → ⊥) → dropJoin (samePlace x) (M .join) z ≡ to u
   cut-kept z u j a b = drop-kept (samePlace x) (M .join) z u j (samePlace-distinct x z a) (samePlace-distinct x u b)
 
   copy-uncut : (c : ℕ) → isHidden m c ≡ true → dropJoin (samePlace x) (M .join) (copyPlace m c) ≡ M .join (copyPlace m c)
   copy-uncut c h =
       let k = f .copy c h in
       cut-kept (copyPlace m c) (k .main) (k .joined)
-      (λ e. ex .subport (ap (λ (z : model.Place). isHidden m (z .node)) e ∙ h) (ap (λ (z : model.Place). z .side) e ∙ ap (λ (z : model.Place). copySide m (z .node)) (sym e)))
+      (λ e. ex .subport (ap (λ (z : model.InnerPlace). isHidden m (z .node)) e ∙ h) (ap (λ (z : model.InnerPlace). z .side) e ∙ ap (λ (z : model.InnerPlace). copySide m (z .node)) (sym e)))
       (λ e.
       true-not-false (f .mainMarked c (k .main) h (k .joined))
-      (ap (λ (z : model.Place). isSplit m (slotOf (M .node) z)) (sym e) ∙ ex .unsplit (ap (λ (z : model.Place). isHidden m (z .node)) e ∙ k .mainSeen)))
+      (ap (λ (z : model.InnerPlace). isSplit m (slotOf (M .node) z)) (sym e) ∙ ex .unsplit (ap (λ (z : model.InnerPlace). isHidden m (z .node)) e ∙ k .mainSeen)))
       ∙ sym (k .joined)
 
   -- the wire at the end goes, if there is one, and nothing else changes
@@ -355,7 +358,7 @@ fine-empty =
       mainMarked = λ c x h e. absurd (true-not-false h (none-hidden c));
       onlyMarked = λ s h. absurd (true-not-false h (none-split s));
       copies = total-none nodeSlots _ (λ n. ap flag (none-hidden n));
-      subs = total-none nodeSlots _ (λ n. ap (λ (b : Bool). pick b (portsOf (emptyModel .node n) - 1) 0) (none-hidden n));
+      subs = total-none nodeSlots _ (λ n. ap (λ (b : Bool). cond b (portsOf (emptyModel .node n) - 1) 0) (none-hidden n));
     }
 
 pub empty-has-no-wire : (w : Wire) → WireIn emptyGraph emptyModel w → ⊥
@@ -384,7 +387,7 @@ module _ {m : MultiPortGraph} {M : Model} (f : Fine m M) (incoming outgoing : �
   live-stays : (n : ℕ) (k : NodeMeta) → M .node n ≡ live k → addModel M incoming outgoing .node n ≡ M .node n
   live-stays n k e = upd-other (M .node) (nextSlot M) _ n (λ q. gone-not-live (next-slot-gone (f .good)) (ap (M .node) (sym q) ∙ e))
 
-  valid-stays : (z : model.Place) → Valid (M .node) z → addModel M incoming outgoing .node (z .node) ≡ M .node (z .node)
+  valid-stays : (z : model.InnerPlace) → Valid (M .node) z → addModel M incoming outgoing .node (z .node) ≡ M .node (z .node)
   valid-stays z v = let r = slot-in-block (f .good) z v in live-stays (z .node) (r .0) (r .1)
 
   add-frame : Frame m M (withGraph m addedGraph) (addModel M incoming outgoing)
@@ -394,7 +397,7 @@ module _ {m : MultiPortGraph} {M : Model} (f : Fine m M) (incoming outgoing : �
       (λ c x h e. valid-stays x (joined-is-valid (f .good) (copyPlace m c) x e))
       (λ c h. refl)
 
-  added-alike : (z : model.Place) → Valid (M .node) z → Alike m M (withGraph m addedGraph) (addModel M incoming outgoing) z
+  added-alike : (z : model.InnerPlace) → Valid (M .node) z → Alike m M (withGraph m addedGraph) (addModel M incoming outgoing) z
   added-alike z v = record { node = valid-stays z v; hidden = hidden-below m addedGraph (z .node); split = λ h. split-below m addedGraph (slotOf (M .node) z) }
 
   add-done : AddDone m M (withGraph m addedGraph) (nextSlot M) (nextBlock M (incoming + outgoing)) incoming outgoing
@@ -430,10 +433,10 @@ AddSaid m M incoming outgoing r = AddSays m M incoming outgoing (withGraph m (r 
 -- an accepted add leaves one block more, with ports numbered on from the first; a refused one nothing
 pub add-block-law : {m : MultiPortGraph} {M : Model} → Fine m M → (incoming outgoing : ℕ)
     → AddSays m M incoming outgoing (addBlock m incoming outgoing .graph) (addBlock m incoming outgoing .answer)
-unfolding addBlock
 add-block-law {m} {M} f incoming outgoing =
-    subst (AddSaid m M incoming outgoing) (sym (add-law (f .good) (f .holds) incoming outgoing))
-    (go (leb (incoming + outgoing) nodePorts) refl (slotRoom M) refl (blockRoom M (incoming + outgoing)) refl)
+    subst (λ (v : upper-added.NodeAdded). AddSays m M incoming outgoing (v .graph) (v .answer)) (sym (add-cases present m incoming outgoing))
+    (subst (AddSaid m M incoming outgoing) (sym (add-law (f .good) (f .holds) incoming outgoing))
+    (go (leb (incoming + outgoing) nodePorts) refl (slotRoom M) refl (blockRoom M (incoming + outgoing)) refl))
   where
     go : (a : Bool) → leb (incoming + outgoing) nodePorts ≡ a → (b : Bool) → slotRoom M ≡ b → (c : Bool) → blockRoom M (incoming + outgoing) ≡ c
         → AddSaid m M incoming outgoing (addWhere (m .graph) M incoming outgoing a b c)
@@ -445,20 +448,20 @@ add-block-law {m} {M} f incoming outgoing =
 -- Linking subports.
 
 pub record LinkSubDone (m : MultiPortGraph) (M : Model) (m′ : MultiPortGraph) (p o q r : ℕ) (s t : SubportIndex) : Type 0 where
-  pub x : model.Place
-  pub y : model.Place
+  pub x : model.InnerPlace
+  pub y : model.InnerPlace
   pub firstSeen : Seen m M x
   pub firstAt : slotOf (M .node) x ≡ p
   pub secondSeen : Seen m M y
   pub secondAt : slotOf (M .node) y ≡ q
   pub opposite : x .side ≡ y .side → ⊥
   -- no wire had one of these ends
-  pub firstFree : (w : Wire) → WireIn m M w → touches (endIs (lift x (pick (isSplit m p) o 0))) w ≡ false
-  pub secondFree : (w : Wire) → WireIn m M w → touches (endIs (lift y (pick (isSplit m q) r 0))) w ≡ false
+  pub firstFree : (w : Wire) → WireIn m M w → touches (endIs (lift x (cond (isSplit m p) o 0))) w ≡ false
+  pub secondFree : (w : Wire) → WireIn m M w → touches (endIs (lift y (cond (isSplit m q) r 0))) w ≡ false
   pub model : Model
   pub fine : Fine m′ model
   pub blocks : SameBlocks m M m′ model
-  pub wires : Wiring m M m′ model none (wireOfSides (x .side) (lift x (pick (isSplit m p) o 0)) (lift y (pick (isSplit m q) r 0)) ∷ [])
+  pub wires : Wiring m M m′ model none (wireOfSides (x .side) (lift x (cond (isSplit m p) o 0)) (lift y (cond (isSplit m q) r 0)) ∷ [])
   pub firstRead : s ≡ asRead m p o
   pub secondRead : t ≡ asRead m q r
 
@@ -471,7 +474,7 @@ LinkSubSaid m M p o q r u = LinkSubSays m M p o q r (u .graph) (u .answer)
 
 module _ {m : MultiPortGraph} {M : Model} (f : Fine m M) where
   -- an end without a link has no wire
-  pub free-end-has-no-wire : (z : model.Place) → IsEnd m M z → M .join z ≡ nowhere → (w : Wire) → WireIn m M w → touches (endIs (outer m M z)) w ≡ false
+  pub free-end-has-no-wire : (z : model.InnerPlace) → IsEnd m M z → M .join z ≡ nowhere → (w : Wire) → WireIn m M w → touches (endIs (outer m M z)) w ≡ false
   free-end-has-no-wire z ez free w e =
       ap (touches (endIs (outer m M z))) (e .is)
       ∙ touches-neither (endIs (outer m M z)) _
@@ -481,7 +484,7 @@ module _ {m : MultiPortGraph} {M : Model} (f : Fine m M) where
       (λ q. nowhere-not-to free
       (ap (M .join) (sym (outer-apart f (e .y) z (ends-join-ends f (e .x) (e .y) (e .end) (e .joined)) ez q)) ∙ f .good .joinBack (e .x) (e .y) (e .joined))))
 
-  ends-linked : (x y : model.Place) (o r a b : ℕ) → Seen m M x → Seen m M y → EndOf m M x o a → EndOf m M y r b → LinkMade M a b (linkPorts (m .graph) a b .graph)
+  ends-linked : (x y : model.InnerPlace) (o r a b : ℕ) → Seen m M x → Seen m M y → EndOf m M x o a → EndOf m M y r b → LinkMade M a b (linkPorts (m .graph) a b .graph)
       → LinkSubDone m M (withGraph m (linkPorts (m .graph) a b .graph)) (slotOf (M .node) x) o (slotOf (M .node) y) r (asRead m (slotOf (M .node) x) o) (asRead m (slotOf (M .node) y) r)
   ends-linked x y o r a b sx sy ex ey k =
       let pz : k .ends .first ≡ ex .end = slots-apart (f .good) (k .ends .first) (ex .end) (k .ends .firstAt .0) (ex .isEnd .valid) (k .ends .firstAt .1 ∙ sym (ex .slot)) in
@@ -489,7 +492,7 @@ module _ {m : MultiPortGraph} {M : Model} (f : Fine m M) where
       let fz : M .join (ex .end) ≡ nowhere = ap (M .join) (sym pz) ∙ k .firstFree in
       let fu : M .join (ey .end) ≡ nowhere = ap (M .join) (sym pu) ∙ k .secondFree in
       let apart : ex .end .side ≡ ey .end .side → ⊥ =
-      λ e. k .opposite (ap (λ (v : model.Place). v .side) pz ∙ (e ∙ ap (λ (v : model.Place). v .side) (sym pu))) in
+      λ e. k .opposite (ap (λ (v : model.InnerPlace). v .side) pz ∙ (e ∙ ap (λ (v : model.InnerPlace). v .side) (sym pu))) in
       let j : Joined m M (withGraph m (linkPorts (m .graph) a b .graph)) (linkModel M (ex .end) (ey .end)) (wireOfSides (ex .end .side) (outer m M (ex .end)) (outer m M (ey .end)) ∷ []) =
       subst (λ (c : ℕ). Joined m M (withGraph m (linkPorts (m .graph) a c .graph)) (linkModel M (ex .end) (ey .end)) (wireOfSides (ex .end .side) (outer m M (ex .end)) (outer m M (ey .end)) ∷ [])) (ey .slot)
       (subst (λ (c : ℕ). Joined m M (withGraph m (linkPorts (m .graph) c (slotOf (M .node) (ey .end)) .graph)) (linkModel M (ex .end) (ey .end)) (wireOfSides (ex .end .side) (outer m M (ex .end)) (outer m M (ey .end)) ∷ [])) (ex .slot)
@@ -510,7 +513,7 @@ module _ {m : MultiPortGraph} {M : Model} (f : Fine m M) where
         wires =
             subst (λ (v : Wire). Wiring m M (withGraph m (linkPorts (m .graph) a b .graph)) (linkModel M (ex .end) (ey .end)) none (v ∷ []))
             (ap (λ (d : Direction). wireOfSides d (outer m M (ex .end)) (outer m M (ey .end))) (ex .side)
-            ∙ (ap (λ (v : Place). wireOfSides (x .side) v (outer m M (ey .end))) (ex .is) ∙ ap (wireOfSides (x .side) (lift x (pick (isSplit m (slotOf (M .node) x)) o 0))) (ey .is)))
+            ∙ (ap (λ (v : Place). wireOfSides (x .side) v (outer m M (ey .end))) (ex .is) ∙ ap (wireOfSides (x .side) (lift x (cond (isSplit m (slotOf (M .node) x)) o 0))) (ey .is)))
             (j .wires);
         firstRead = refl;
         secondRead = refl;
@@ -518,10 +521,9 @@ module _ {m : MultiPortGraph} {M : Model} (f : Fine m M) where
 
   -- accepted: one wire more, between the ends as read, which had none; refused: the graph stays
   pub link-sub-law : (p o q r : ℕ) → LinkSubSays m M p o q r (linkSub m p o q r .graph) (linkSub m p o q r .answer)
-  unfolding linkSub
-  link-sub-law p o q r = offsets (goodOffset o) (goodOffset r)
+  link-sub-law p o q r = subst (LinkSubSaid m M p o q r) (sym (link-sub-cases m p o q r)) (offsets (goodOffset o) (goodOffset r))
     where
-      lower : (a b : ℕ) (p q : ℕ) (x y : model.Place) → slotOf (M .node) x ≡ p → slotOf (M .node) y ≡ q → Seen m M x → Seen m M y → EndOf m M x o a → EndOf m M y r b
+      lower : (a b : ℕ) (p q : ℕ) (x y : model.InnerPlace) → slotOf (M .node) x ≡ p → slotOf (M .node) y ≡ q → Seen m M x → Seen m M y → EndOf m M x o a → EndOf m M y r b
           → (v : lower-link-answer.LinkAnswer) → linkPorts (m .graph) a b .answer ≡ v
           → LinkSubSaid m M p o q r (linkInner m (asRead m p o) (asRead m q r) v (linkPorts (m .graph) a b .graph))
       lower a b p q x y ep eq sx sy ex ey (lower-link.Linked c d) e =
@@ -533,7 +535,7 @@ module _ {m : MultiPortGraph} {M : Model} (f : Fine m M) where
       lower a b p q x y ep eq sx sy ex ey (lower-link.IncompatibleDirections c d s) e = refl
       lower a b p q x y ep eq sx sy ex ey (lower-link.AlreadyLinked c) e = refl
 
-      read : (x : model.Place) (p : ℕ) (d : Direction) (o a : ℕ) → Seen m M x → slotOf (M .node) x ≡ p → x .side ≡ d → endAt m p d o ≡ inner a → EndOf m M x o a
+      read : (x : model.InnerPlace) (p : ℕ) (d : Direction) (o a : ℕ) → Seen m M x → slotOf (M .node) x ≡ p → x .side ≡ d → endAt m p d o ≡ inner a → EndOf m M x o a
       read x p d o a sx ep ed e = end-read f x o a sx (ap (λ (c : ℕ). endAt m c (x .side) o) ep ∙ (ap (λ (c : Direction). endAt m p c o) ed ∙ e))
 
       second : (n k : ℕ) (d s : Direction) → BlockPort m M p n d → BlockPort m M q k s → (a : ℕ) → endAt m p d o ≡ inner a → (v : End) → endAt m q s r ≡ v
@@ -559,15 +561,15 @@ module _ {m : MultiPortGraph} {M : Model} (f : Fine m M) where
       ports (visible n d) hidden e h = refl
       ports (visible n d) (visible k s) e h = first n k d s (block-seen f p n d e) (block-seen f q k s h) (endAt m p d o) refl
 
-      offsets : (b c : Bool) → LinkSubSaid m M p o q r (pick b (pick c (linkSubSeen m p o q r (seen m p) (seen m q)) (linkRefused m BadOffset)) (linkRefused m BadOffset))
+      offsets : (b c : Bool) → LinkSubSaid m M p o q r (cond b (cond c (linkSubSeen m p o q r (seen m p) (seen m q)) (linkRefused m BadOffset)) (linkRefused m BadOffset))
       offsets true true = ports (seen m p) (seen m q) refl refl
       offsets true false = refl
       offsets false c = refl
 
 -- Cutting subports.
 
-pub record CutDone (m : MultiPortGraph) (M : Model) (m′ : MultiPortGraph) (p : ℕ) (dropped : model.Place → Place → Bool) : Type 0 where
-  pub x : model.Place
+pub record CutDone (m : MultiPortGraph) (M : Model) (m′ : MultiPortGraph) (p : ℕ) (dropped : model.InnerPlace → Place → Bool) : Type 0 where
+  pub x : model.InnerPlace
   pub isSeen : Seen m M x
   pub at : slotOf (M .node) x ≡ p
   pub model : Model
@@ -576,42 +578,41 @@ pub record CutDone (m : MultiPortGraph) (M : Model) (m′ : MultiPortGraph) (p :
   pub wires : Wiring m M m′ model (dropped x) []
 
 -- not refused: the wires at the ends named are gone; refused: the graph stays
-abbrev pub CutSays : MultiPortGraph → Model → ℕ → (model.Place → Place → Bool) → MultiPortGraph → CutAnswer → Type 0
+abbrev pub CutSays : MultiPortGraph → Model → ℕ → (model.InnerPlace → Place → Bool) → MultiPortGraph → CutAnswer → Type 0
 CutSays m M p dropped m′ (cutting.Found s) = CutDone m M m′ p dropped
 CutSays m M p dropped m′ cutting.Nothing = CutDone m M m′ p dropped
 CutSays m M p dropped m′ (cutting.Refused r) = m′ ≡ m
 
-abbrev pub CutSaid : MultiPortGraph → Model → ℕ → (model.Place → Place → Bool) → PortUnlinked → Type 0
+abbrev pub CutSaid : MultiPortGraph → Model → ℕ → (model.InnerPlace → Place → Bool) → PortUnlinked → Type 0
 CutSaid m M p dropped u = CutSays m M p dropped (u .graph) (u .answer)
 
 -- the end of a port with this offset
-abbrev pub endNamed : ℕ → model.Place → Place → Bool
+abbrev pub endNamed : ℕ → model.InnerPlace → Place → Bool
 endNamed o x = endIs (lift x o)
 
 module _ {m : MultiPortGraph} {M : Model} (f : Fine m M) where
-  end-cut : (x : model.Place) (o a : ℕ) → Seen m M x → EndOf m M x o a
-      → CutDone m M (withGraph m (unlinkPort (m .graph) a .graph)) (slotOf (M .node) x) (endNamed (pick (isSplit m (slotOf (M .node) x)) o 0))
+  end-cut : (x : model.InnerPlace) (o a : ℕ) → Seen m M x → EndOf m M x o a
+      → CutDone m M (withGraph m (unlinkPort (m .graph) a .graph)) (slotOf (M .node) x) (endNamed (cond (isSplit m (slotOf (M .node) x)) o 0))
   end-cut x o a sx e =
-      let c : Cut m M (withGraph m (unlinkPort (m .graph) a .graph)) (unlinkModel M (e .end)) (endNamed (pick (isSplit m (slotOf (M .node) x)) o 0) x) =
-      subst (λ (b : ℕ). Cut m M (withGraph m (unlinkPort (m .graph) b .graph)) (unlinkModel M (e .end)) (endNamed (pick (isSplit m (slotOf (M .node) x)) o 0) x)) (e .slot)
+      let c : Cut m M (withGraph m (unlinkPort (m .graph) a .graph)) (unlinkModel M (e .end)) (endNamed (cond (isSplit m (slotOf (M .node) x)) o 0) x) =
+      subst (λ (b : ℕ). Cut m M (withGraph m (unlinkPort (m .graph) b .graph)) (unlinkModel M (e .end)) (endNamed (cond (isSplit m (slotOf (M .node) x)) o 0) x)) (e .slot)
       (subst (λ (v : Place). Cut m M (withGraph m (unlinkPort (m .graph) (slotOf (M .node) (e .end)) .graph)) (unlinkModel M (e .end)) (endIs v)) (e .is) (cut-end f (e .end) (e .isEnd))) in
       record { x = x; isSeen = sx; at = refl; model = unlinkModel M (e .end); fine = c .fine; blocks = c .blocks; wires = c .wires }
 
-  pub cut-sub-law : (p o : ℕ) → CutSays m M p (endNamed (pick (isSplit m p) o 0)) (cutSub m p o .graph) (cutSub m p o .answer)
-  unfolding cutSub
-  cut-sub-law p o = offset (goodOffset o)
+  pub cut-sub-law : (p o : ℕ) → CutSays m M p (endNamed (cond (isSplit m p) o 0)) (cutSub m p o .graph) (cutSub m p o .answer)
+  cut-sub-law p o = subst (CutSaid m M p (endNamed (cond (isSplit m p) o 0))) (sym (cut-sub-cases m p o)) (offset (goodOffset o))
     where
-      told : (m′ : MultiPortGraph) → CutDone m M m′ p (endNamed (pick (isSplit m p) o 0)) → (v : PortLink) → CutSays m M p (endNamed (pick (isSplit m p) o 0)) m′ (farSubport m v)
+      told : (m′ : MultiPortGraph) → CutDone m M m′ p (endNamed (cond (isSplit m p) o 0)) → (v : PortLink) → CutSays m M p (endNamed (cond (isSplit m p) o 0)) m′ (farSubport m v)
       told m′ d (lower-cut.Linked q) = d
       told m′ d lower-cut.Unlinked = d
       told m′ d (lower-cut.UnknownPort q) = d
 
-      done : (x : model.Place) (a : ℕ) → Seen m M x → slotOf (M .node) x ≡ p → EndOf m M x o a
-          → CutDone m M (withGraph m (unlinkPort (m .graph) a .graph)) p (endNamed (pick (isSplit m p) o 0))
+      done : (x : model.InnerPlace) (a : ℕ) → Seen m M x → slotOf (M .node) x ≡ p → EndOf m M x o a
+          → CutDone m M (withGraph m (unlinkPort (m .graph) a .graph)) p (endNamed (cond (isSplit m p) o 0))
       done x a sx ep e =
-          subst (λ (c : ℕ). CutDone m M (withGraph m (unlinkPort (m .graph) a .graph)) c (endNamed (pick (isSplit m c) o 0))) ep (end-cut x o a sx e)
+          subst (λ (c : ℕ). CutDone m M (withGraph m (unlinkPort (m .graph) a .graph)) c (endNamed (cond (isSplit m c) o 0))) ep (end-cut x o a sx e)
 
-      ends : (n : ℕ) (d : Direction) → BlockPort m M p n d → (v : End) → endAt m p d o ≡ v → CutSaid m M p (endNamed (pick (isSplit m p) o 0)) (cutEnd m p v)
+      ends : (n : ℕ) (d : Direction) → BlockPort m M p n d → (v : End) → endAt m p d o ≡ v → CutSaid m M p (endNamed (cond (isSplit m p) o 0)) (cutEnd m p v)
       ends n d b lacking e = refl
       ends n d b (inner a) e =
           told (withGraph m (unlinkPort (m .graph) a .graph))
@@ -619,11 +620,11 @@ module _ {m : MultiPortGraph} {M : Model} (f : Fine m M) where
           (end-read f (b .place) o a (b .isSeen) (ap (λ (c : ℕ). endAt m c (b .place .side) o) (b .slot) ∙ (ap (λ (c : Direction). endAt m p c o) (b .side) ∙ e))))
           (unlinkPort (m .graph) a .answer)
 
-      ports : (v : Port) → seen m p ≡ v → CutSaid m M p (endNamed (pick (isSplit m p) o 0)) (cutSubSeen m p o v)
+      ports : (v : Port) → seen m p ≡ v → CutSaid m M p (endNamed (cond (isSplit m p) o 0)) (cutSubSeen m p o v)
       ports dead e = refl
       ports hidden e = refl
       ports (visible n d) e = ends n d (block-seen f p n d e) (endAt m p d o) refl
 
-      offset : (b : Bool) → CutSaid m M p (endNamed (pick (isSplit m p) o 0)) (pick b (cutSubSeen m p o (seen m p)) (cutRefused m BadOffset))
+      offset : (b : Bool) → CutSaid m M p (endNamed (cond (isSplit m p) o 0)) (cond b (cutSubSeen m p o (seen m p)) (cutRefused m BadOffset))
       offset true = ports (seen m p) refl
       offset false = refl

@@ -1,14 +1,14 @@
 -- Preparing an end of a port: the port itself where it is neither split nor linked, else a split, else the lowest free subport,
 -- else one more subport. None is prepared only where a table would pass its limit.
 use mathlib.Core.Path.{_≡_, refl, sym, _∙_, ap, subst}
-use mathlib.Core.Bool.{Bool, true, false}
+use mathlib.Core.Bool.{Bool, true, false, cond}
 use mathlib.Core.Logic.{_⊎_, inl, inr, ⊎-elim}
 use Prim.Native.Nat.{ℕ, zero, suc, _+_, _*_, _≤_, _<_}
 use native.Mathlib.Omega.{arith}
 use lib.Dec.{leb, ltb}
 use borrow.Author.Tests.{ltb-true, ltb-false, lt-ltb, leb-true, leb-false}
 use Rattle.portgraph.specs.Limits.{portSlots, nodePorts}
-use Rattle.portgraph.specs.Entries.{pick, portsOn}
+use Rattle.portgraph.specs.Entries.{portsOn}
 use Rattle.portgraph.specs.Lookups.{numPorts}
 use Rattle.portgraph.specs.Meaning.{growth}
 use Rattle.portgraph.specs.Resize.{roundUp, Plan, refuse, sameCounts, fitsInside, setBy}
@@ -24,13 +24,13 @@ use Rattle.portgraph.specs.Model.{Model, Far, nowhere, to, Slots, live, Valid, 
 use Rattle.portgraph.specs.declared.direction.Direction.{Direction}
 use Rattle.portgraph.specs.declared.direction.Direction.the-variants.{Incoming, Outgoing}
 use Rattle.multiportgraph.specs.Reading.{isHidden, isSplit, hasLink, portOf, copyNode, subports}
-use Rattle.multiportgraph.specs.Calls.{Prepared, ready, full, split, lowestFree, moreIn, moreOut, enough, grownBy, grow, reuse, prepare}
-use Rattle.multiportgraph.specs.Wires.{Place, Wire}
 use Rattle.multiportgraph.specs.Inner.{inner#, Fine, Seen, lift, outer, IsEnd, WireIn}
 use Rattle.multiportgraph.specs.Ends.{Hangs, split-has-copy, port-of, count-of, linked-is, unlinked-is, outer-apart, outer-of-unsplit}
 use Rattle.multiportgraph.specs.SplitLaws.{HasEnd, PreparedEnd, AllLinked, NoSpace, no-subport, PreparedSays, end-of-wire, wire-of-end, split-says}
 use Rattle.multiportgraph.specs.RecountLaws.{grow-law}
 use Rattle.multiportgraph.specs.declared.multiportgraph.MultiPortGraph.{MultiPortGraph}
+use Rattle.multiportgraph.specs.Places.{Place, Wire}
+use Rattle.multiportgraph.specs.HiddenNodes.{Prepared, ready, full, split, lowestFree, moreIn, moreOut, enough, grownBy, grow, reuse, prepare, prepareUnder, reuseUnder, growUnder}
 
 -- Where a hidden node cannot grow.
 
@@ -40,11 +40,11 @@ more-ports k g c Outgoing n = let a = n Incoming in let b = n Outgoing in omega 
 
 not-inside : (k : NodeMeta) (i o : ℕ) → 0 < i + o → fitsInside k i o ≡ false → k .capacity ≤ i + o
 unfolding fitsInside
-not-inside k i o l e = ltb-false (i + o) (k .capacity) (ap (λ b. pick b (ltb (i + o) (k .capacity)) false) (sym (lt-ltb 0 (i + o) l)) ∙ e)
+not-inside k i o l e = ltb-false (i + o) (k .capacity) (ap (λ b. cond b (ltb (i + o) (k .capacity)) false) (sym (lt-ltb 0 (i + o) l)) ∙ e)
 
-module _ {m : MultiPortGraph} {M : Model} (f : Fine m M) (x : model.Place) (sx : Seen m M x) (h : Hangs m M x) (linked : AllLinked M (h .copy) (x .side)) where
+module _ {m : MultiPortGraph} {M : Model} (f : Fine m M) (x : model.InnerPlace) (sx : Seen m M x) (h : Hangs m M x) (linked : AllLinked M (h .copy) (x .side)) where
   grow-full : grow m (h .copy) (x .side) ≡ full → NoSpace m M x
-  unfolding grow
+  unfolding growUnder
   grow-full e =
       let r = f .copy (h .copy) (h .isCopy) in
       few (r .meta) (r .here) (leb (i# + o#) nodePorts) refl (sym (ap (λ (u : PortsSet). grownBy m (h .copy) (x .side) (u .graph) (u .answer))
@@ -75,7 +75,7 @@ module _ {m : MultiPortGraph} {M : Model} (f : Fine m M) (x : model.Place) (sx :
           (leb-false (M .portLen + growth (roundUp (i# + o#)) (M .freeBlocks (roundUp (i# + o#)))) portSlots q))
 
       told : (k : NodeMeta) → M .node (h .copy) ≡ live k → i# + o# ≤ nodePorts → (t : Bool) → leb (3 * (k .incoming + k .outgoing)) enough ≡ t →
-          Answered (pick t (planLive M i# o# k (sameCounts k i# o#) (fitsInside k i# o#) (blockRoom M (roundUp (i# + o#)))) (refuse lower-set.MovesTooShort)) → NoSpace m M x
+          Answered (cond t (planLive M i# o# k (sameCounts k i# o#) (fitsInside k i# o#) (blockRoom M (roundUp (i# + o#)))) (refuse lower-set.MovesTooShort)) → NoSpace m M x
       told k here l true p e = room k here l (sameCounts k i# o#) (fitsInside k i# o#) (blockRoom M (roundUp (i# + o#))) refl refl e
       told k here l false p e =
           absurd
@@ -99,7 +99,7 @@ module _ {m : MultiPortGraph} {M : Model} (f : Fine m M) (x : model.Place) (sx :
 record Lowest (M : Model) (c : ℕ) (d : Direction) (o n r : ℕ) : Type 0 where
   least : o ≤ r
   most : r ≤ o + n
-  linked : (i : ℕ) → o ≤ i → i < r → (y : model.Place) × (M .join (inner# c d i) ≡ to y)
+  linked : (i : ℕ) → o ≤ i → i < r → (y : model.InnerPlace) × (M .join (inner# c d i) ≡ to y)
   free : r < o + n → M .join (inner# c d r) ≡ nowhere
 
 module _ {m : MultiPortGraph} {M : Model} (f : Fine m M) where
@@ -112,7 +112,7 @@ module _ {m : MultiPortGraph} {M : Model} (f : Fine m M) where
       v = omega arith
 
       go : (w : Far) → M .join (inner# c d o) ≡ w → Lowest M c d (suc o) n (lowestFree (m .graph) c d (suc o) n)
-          → Lowest M c d o (suc n) (pick (hasLink (m .graph) (portOf (m .graph) c d o)) (lowestFree (m .graph) c d (suc o) n) o)
+          → Lowest M c d o (suc n) (cond (hasLink (m .graph) (portOf (m .graph) c d o)) (lowestFree (m .graph) c d (suc o) n) o)
       go nowhere j k =
           rw (port-of f c d o v, unlinked-is f (inner# c d o) v j)
           (record { least = omega arith; most = omega arith; linked = λ i a b. absurd (omega arith); free = λ h. j })
@@ -134,7 +134,7 @@ module _ {m : MultiPortGraph} {M : Model} (f : Fine m M) where
               either false e = inl (let q = ltb-false o i e in omega arith)
 
   -- a free end of a port whose lower offsets are all wired
-  end-as-it-is : (x z : model.Place) (o : ℕ) → IsEnd m M z → z .side ≡ x .side → M .join z ≡ nowhere → outer m M z ≡ lift x o →
+  end-as-it-is : (x z : model.InnerPlace) (o : ℕ) → IsEnd m M z → z .side ≡ x .side → M .join z ≡ nowhere → outer m M z ≡ lift x o →
       ((i : ℕ) → i < o → (w : Wire) × WireIn m M w × HasEnd w (lift x i)) → PreparedEnd m M x m M (slotOf (M .node) z) o
   end-as-it-is x z o e d j q lower =
       record {
@@ -157,9 +157,9 @@ module _ {m : MultiPortGraph} {M : Model} (f : Fine m M) where
         keeps = λ v t k n. record { end = t; free = k; slot = refl; is = refl };
       }
 
-  subport-says : (x : model.Place) → Seen m M x → (h : Hangs m M x) (r : ℕ) →
+  subport-says : (x : model.InnerPlace) → Seen m M x → (h : Hangs m M x) (r : ℕ) →
       Lowest M (h .copy) (x .side) 0 (countOf (M .node (h .copy)) (x .side)) r → PreparedSays m M x (reuse m (h .copy) (x .side) r)
-  unfolding reuse
+  unfolding reuseUnder
   subport-says x sx h r k = rw (count-of f (h .copy) (x .side)) (go (ltb r (countOf (M .node (h .copy)) (x .side))) refl)
     where
       grown : (p : Prepared) → grow m (h .copy) (x .side) ≡ p →
@@ -168,7 +168,7 @@ module _ {m : MultiPortGraph} {M : Model} (f : Fine m M) where
       grown full e linked = grow-full f x sx h linked e
 
       go : (b : Bool) → ltb r (countOf (M .node (h .copy)) (x .side)) ≡ b →
-          PreparedSays m M x (pick b (ready m (portOf (m .graph) (h .copy) (x .side) r) r) (grow m (h .copy) (x .side)))
+          PreparedSays m M x (cond b (ready m (portOf (m .graph) (h .copy) (x .side) r) r) (grow m (h .copy) (x .side)))
       go true e =
           let l = ltb-true r (countOf (M .node (h .copy)) (x .side)) e in (
             M,
@@ -183,12 +183,12 @@ module _ {m : MultiPortGraph} {M : Model} (f : Fine m M) where
           let l = ltb-false r (countOf (M .node (h .copy)) (x .side)) e in
           grown (grow m (h .copy) (x .side)) refl (λ j s. k .linked j (omega arith) (omega arith))
 
-  pub prepare-says : (x : model.Place) → Seen m M x → PreparedSays m M x (prepare m (slotOf (M .node) x) (x .side))
-  unfolding prepare
+  pub prepare-says : (x : model.InnerPlace) → Seen m M x → PreparedSays m M x (prepare m (slotOf (M .node) x) (x .side))
+  unfolding prepareUnder
   prepare-says x sx = go (isSplit m (slotOf (M .node) x)) refl
     where
       plain : isSplit m (slotOf (M .node) x) ≡ false → (w : Far) → M .join x ≡ w →
-          PreparedSays m M x (pick (hasLink (m .graph) (slotOf (M .node) x)) (split m (slotOf (M .node) x) (x .side)) (ready m (slotOf (M .node) x) 0))
+          PreparedSays m M x (cond (hasLink (m .graph) (slotOf (M .node) x)) (split m (slotOf (M .node) x) (x .side)) (ready m (slotOf (M .node) x) 0))
       plain e nowhere j =
           rw (unlinked-is f x (sx .0) j)
           (let u = outer-of-unsplit f x sx e in (M, end-as-it-is x x 0 (u .1) refl j (u .0) (λ i l. absurd (omega arith))))
@@ -196,9 +196,9 @@ module _ {m : MultiPortGraph} {M : Model} (f : Fine m M) where
 
       go : (b : Bool) → isSplit m (slotOf (M .node) x) ≡ b →
           PreparedSays m M x
-          (pick (isSplit m (slotOf (M .node) x))
+          (cond (isSplit m (slotOf (M .node) x))
           (reuse m (copyNode m (slotOf (M .node) x)) (x .side) (lowestFree (m .graph) (copyNode m (slotOf (M .node) x)) (x .side) 0 (subports m (slotOf (M .node) x) (x .side))))
-          (pick (hasLink (m .graph) (slotOf (M .node) x)) (split m (slotOf (M .node) x) (x .side)) (ready m (slotOf (M .node) x) 0)))
+          (cond (hasLink (m .graph) (slotOf (M .node) x)) (split m (slotOf (M .node) x) (x .side)) (ready m (slotOf (M .node) x) 0)))
       go true e =
           let h = split-has-copy f x sx e in
           rw (e, h .copyIs, h .count)
@@ -207,10 +207,10 @@ module _ {m : MultiPortGraph} {M : Model} (f : Fine m M) where
       go false e = rw e (plain e (M .join x) refl)
 
   -- an end of a block's port is prepared
-  pub prepare-law : (x : model.Place) → Seen m M x → (m′ : MultiPortGraph) (q o : ℕ) → prepare m (slotOf (M .node) x) (x .side) ≡ ready m′ q o →
+  pub prepare-law : (x : model.InnerPlace) → Seen m M x → (m′ : MultiPortGraph) (q o : ℕ) → prepare m (slotOf (M .node) x) (x .side) ≡ ready m′ q o →
       (M′ : Model) × PreparedEnd m M x m′ M′ q o
   prepare-law x sx m′ q o e = subst (PreparedSays m M x) e (prepare-says x sx)
 
   -- none is prepared only where a table would pass its limit
-  pub prepare-full : (x : model.Place) → Seen m M x → prepare m (slotOf (M .node) x) (x .side) ≡ full → NoSpace m M x
+  pub prepare-full : (x : model.InnerPlace) → Seen m M x → prepare m (slotOf (M .node) x) (x .side) ≡ full → NoSpace m M x
   prepare-full x sx e = subst (PreparedSays m M x) e (prepare-says x sx)

@@ -1,6 +1,6 @@
 -- Preparing an end: what the calls of the code give amounts to the definitions.
 use mathlib.Core.Path.{_≡_, refl, sym, ap, _∙_}
-use mathlib.Core.Bool.{Bool, true, false}
+use mathlib.Core.Bool.{Bool, true, false, cond}
 use mathlib.Core.List.{List}
 use mathlib.Core.Logic.{_⊎_, inl, inr}
 use Prim.Native.Nat.{ℕ, zero, suc, _+_, _-_, _*_, _≤_, _<_}
@@ -8,7 +8,7 @@ use native.Mathlib.Omega.{arith}
 use lib.Dec.{eqb, ltb}
 use borrow.Author.Tests.{eq-eqb, ne-eqb, ltb-false}
 use Rattle.portgraph.specs.Limits.{nodeSlots, portSlots, nodePorts}
-use Rattle.portgraph.specs.Entries.{pick, portsOn}
+use Rattle.portgraph.specs.Entries.{portsOn}
 use Rattle.portgraph.specs.Tables.{at}
 use Rattle.portgraph.specs.Lookups.{metaAt, numPorts, countIn, portIn}
 use Rattle.portgraph.specs.Calls.{addNode}
@@ -28,12 +28,13 @@ use Rattle.portgraph.specs.declared.slots.AddAnswer.{AddAnswer}
 use Rattle.portgraph.specs.declared.slots.AddAnswer.the-variants as lower-add
 use Rattle.portgraph.specs.declared.slots.NodeAdded.{NodeAdded}
 use Rattle.multiportgraph.specs.Reading.{hasLink, portNumber, portOf, isHidden}
-use Rattle.multiportgraph.specs.Calls.{copyIn, copyOut, splitBy, split, lowestFree}
-use Rattle.multiportgraph.specs.Inner.{inner#, flag, subportsIn, MultiWf}
+use Rattle.multiportgraph.specs.Inner.{inner#, MultiWf, subportsOfSlot}
 use Rattle.multiportgraph.specs.Ends.{port-of, count-of, linked-is, unlinked-is}
 use Rattle.multiportgraph.specs.Forms.{lowestUnlinked, preparedAs}
 use Rattle.multiportgraph.specs.declared.multiportgraph.MultiPortGraph.{MultiPortGraph}
 use Rattle.multiportgraph.specs.declared.prepare.Prepared.{Prepared}
+use Rattle.multiportgraph.specs.HiddenNodes.{copyIn, copyOut, splitBy, split, lowestFree, splitUnder}
+use Rattle.multiportgraph.specs.Places.{flag}
 
 -- What a graph of the calls keeps small.
 
@@ -53,10 +54,10 @@ few-copies m w =
 pub few-subs : (m : MultiPortGraph) → MultiWf m → m .«subport_count» ≤ nodeSlots * nodePorts
 few-subs m w =
     let e = w .fine .subs in
-    let h = total-bound nodeSlots nodePorts (subportsIn m (w .model)) (λ i l. small i (isHidden m i) (w .model .node i) refl) in
+    let h = total-bound nodeSlots nodePorts (subportsOfSlot m (w .model)) (λ i l. small i (isHidden m i) (w .model .node i) refl) in
     omega arith
   where
-    small : (i : ℕ) (b : Bool) (v : Slots) → w .model .node i ≡ v → pick b (portsOf v - 1) 0 ≤ nodePorts
+    small : (i : ℕ) (b : Bool) (v : Slots) → w .model .node i ≡ v → cond b (portsOf v - 1) 0 ≤ nodePorts
     small i true gone e = omega arith
     small i true (live k) e = let p = w .fine .good .portsInBlock i k e in let s = w .fine .good .blockSmall i k e in omega arith
     small i false v e = omega arith
@@ -110,8 +111,8 @@ module _ (m : MultiPortGraph) (w : MultiWf m) (c : ℕ) (d : Direction) where
       there = ap (at (m .graph .«port_link»)) (sym (row o v))
 
       go : (y : Far) → w .model .join (inner# c d o) ≡ y → lowestUnlinked (m .graph .«port_link») s (suc o) n ≡ lowestFree (m .graph) c d (suc o) n →
-          pick (eqb (at (m .graph .«port_link») (s + o)) 0) o (lowestUnlinked (m .graph .«port_link») s (suc o) n)
-          ≡ pick (hasLink (m .graph) (portOf (m .graph) c d o)) (lowestFree (m .graph) c d (suc o) n) o
+          cond (eqb (at (m .graph .«port_link») (s + o)) 0) o (lowestUnlinked (m .graph .«port_link») s (suc o) n)
+          ≡ cond (hasLink (m .graph) (portOf (m .graph) c d o)) (lowestFree (m .graph) c d (suc o) n) o
       go nowhere j k =
           rw (port-of (w .fine) c d o v, unlinked-is (w .fine) (inner# c d o) v j, eq-eqb (at (m .graph .«port_link») (s + o)) 0 (there ∙ link-none (w .fine .good) (w .fine .holds) (inner# c d o) v j))
       go (to y) j k =
@@ -132,7 +133,7 @@ module _ (m : MultiPortGraph) (p : ℕ) (d : Direction) {i o : ℕ} {r : NodeAdd
 
   pub split-full : (tag : AddAnswer → ℕ) → ((n : NodeIndex) (f : PortIndex) → tag (lower-add.Added n f) ≡ 0) → (tag (r .answer) ≡ 1) ⊎ (tag (r .answer) ≡ 2) →
       _≡_ {A = Prepared} (record { graph = m; port = 0; offset = 0; ready = false }) (preparedAs m (split m p d))
-  unfolding split
+  unfolding splitUnder
   split-full tag zeroth z = go (r .answer) z ∙ (λ j. preparedAs m (splitBy m p d (added-is j .graph) (added-is j .answer)))
     where
       go : (a : AddAnswer) → (tag a ≡ 1) ⊎ (tag a ≡ 2) → _≡_ {A = Prepared} (record { graph = m; port = 0; offset = 0; ready = false }) (preparedAs m (splitBy m p d (r .graph) a))

@@ -1,13 +1,13 @@
 -- What the tables alone tell of a graph of the calls is what the graph tells: ports, subports, ends and wires.
 use mathlib.Core.Path.{_≡_, refl, sym, _∙_, ap, subst}
-use mathlib.Core.Bool.{Bool, true, false}
+use mathlib.Core.Bool.{Bool, true, false, cond}
 use mathlib.Core.List.{List}
 use Prim.Native.Nat.{ℕ, zero, suc, _+_, _-_, _*_, _/_, _%_, _≤_, _<_, min}
 use native.Mathlib.Omega.{arith}
 use lib.Dec.{eqb, ltb}
 use borrow.Author.Tests.{eq-eqb, ne-eqb, lt-ltb, eqb-true, eqb-false, ltb-true, ltb-false}
 use Rattle.portgraph.specs.Limits.{nodeSlots, portSlots}
-use Rattle.portgraph.specs.Entries.{pick, reversed, ownerNumber, portEntry}
+use Rattle.portgraph.specs.Entries.{reversed, ownerNumber, portEntry}
 use Rattle.portgraph.specs.Tables.{at}
 use Rattle.portgraph.specs.Lookups.{node#, portAt, portLink}
 use Rattle.portgraph.specs.Model as model
@@ -90,7 +90,7 @@ module _ {t : List ℕ} {x start count : ℕ} (r : Row t x start count) where
   row-first Incoming q b l = let e = row-count Incoming q b l in omega arith
   row-first Outgoing q b l = sym b
 
-  pub row-end : (d : Direction) (q o : ℕ) → Beside d q start count → 0 < count → endBeside t q d o ≡ pick (ltb o count) (inner (start + o)) lacking
+  pub row-end : (d : Direction) (q o : ℕ) → Beside d q start count → 0 < count → endBeside t q d o ≡ cond (ltb o count) (inner (start + o)) lacking
   unfolding endBeside
   row-end Incoming q o b l = rw (row-count Incoming q b l, row-first Incoming q b l)
   row-end Outgoing q o b l = go (ltb o count) refl
@@ -99,7 +99,7 @@ module _ {t : List ℕ} {x start count : ℕ} (r : Row t x start count) where
       first = in-row r (q + 1) (omega arith) (omega arith)
 
       go : (c : Bool) → ltb o count ≡ c →
-          pick (ltb (q + 1 + o) portSlots) (pick (eqb (at t (q + 1 + o)) (at t (q + 1))) (inner (q + 1 + o)) lacking) lacking ≡ pick c (inner (start + o)) lacking
+          cond (ltb (q + 1 + o) portSlots) (cond (eqb (at t (q + 1 + o)) (at t (q + 1))) (inner (q + 1 + o)) lacking) lacking ≡ cond c (inner (start + o)) lacking
       go true e =
           let h = ltb-true o count e in
           let ends = r .ends in
@@ -110,7 +110,7 @@ module _ {t : List ℕ} {x start count : ℕ} (r : Row t x start count) where
           let s : at t (q + 1 + o) ≡ at t (q + 1) → ⊥ = λ z. (let k = r .only (q + 1 + o) (z ∙ first) in omega arith) in
           rw (ne-eqb (at t (q + 1 + o)) (at t (q + 1)) s) (none (ltb (q + 1 + o) portSlots))
         where
-          none : (c : Bool) → _≡_ {A = End} (pick c lacking lacking) lacking
+          none : (c : Bool) → _≡_ {A = End} (cond c lacking lacking) lacking
           none true = refl
           none false = refl
 
@@ -140,7 +140,7 @@ unfolding portEntry
 owner-number e n d h = go (eqb e 0) (eqb ((e - 1) % 2) 0) refl refl h
   where
     go : (a b : Bool) → eqb e 0 ≡ a → eqb ((e - 1) % 2) 0 ≡ b →
-        pick a port-variants.Free (port-variants.Port (record { node = record { 0 = (e - 1) / 2 }; direction = pick b Incoming Outgoing }))
+        cond a port-variants.Free (port-variants.Port (record { node = record { 0 = (e - 1) / 2 }; direction = cond b Incoming Outgoing }))
         ≡ port-variants.Port (record { node = node# n; direction = d }) → e ≡ ownerNumber n d
     go true b p q k = absurd (zero-is-not-one (cc))
     go false true p q k =
@@ -167,7 +167,7 @@ abbrev pub rowStart : Model → ℕ → Direction → ℕ
 rowStart M c d = firstOf (M .node c) + sideStart (M .node c) d
 
 module _ {m : MultiPortGraph} {M : Model} (f : Fine m M) where
-  pub owner-at : (x : model.Place) → Valid (M .node) x → at (m .graph .«port_meta») (slotOf (M .node) x) ≡ ownerNumber (x .node) (x .side)
+  pub owner-at : (x : model.InnerPlace) → Valid (M .node) x → at (m .graph .«port_meta») (slotOf (M .node) x) ≡ ownerNumber (x .node) (x .side)
   owner-at x h = owner-number _ (x .node) (x .side) (port-of-place (f .good) (f .holds) x h)
 
   -- the ports of a side lie in a row
@@ -197,7 +197,7 @@ module _ {m : MultiPortGraph} {M : Model} (f : Fine m M) where
       let n : countOf (M .node c) Incoming ≡ 1 = ap (countOf (M .node c)) (sym s) ∙ copy-count f c h in
       omega arith
 
-  pub far-is : (x y : model.Place) → M .join x ≡ to y → farIn (m .graph .«port_link») (slotOf (M .node) x) ≡ slotOf (M .node) y
+  pub far-is : (x y : model.InnerPlace) → M .join x ≡ to y → farIn (m .graph .«port_link») (slotOf (M .node) x) ≡ slotOf (M .node) y
   unfolding farIn
   far-is x y j = let e = link-to (f .good) (f .holds) x y (f .good .joinValid x y j) j in omega arith
 
@@ -217,10 +217,10 @@ module _ {m : MultiPortGraph} {M : Model} (f : Fine m M) where
     where
       go : (e : PortEntry) → seenOwner (m .«copy_node») e ≡ seenEntry m e
       go port-variants.Free = refl
-      go (port-variants.Port k) = ap (λ (b : Bool). pick b hidden (visible (k .node .0) (k .direction))) (flag-told (k .node .0))
+      go (port-variants.Port k) = ap (λ (b : Bool). cond b hidden (visible (k .node .0) (k .direction))) (flag-told (k .node .0))
 
   -- Subports and ends.
-  module _ (x : model.Place) (k : Hangs m M x) where
+  module _ (x : model.InnerPlace) (k : Hangs m M x) where
     pub copy-place : farIn (m .graph .«port_link») (slotOf (M .node) x) ≡ slotOf (M .node) (copyPlace m (k .copy))
     copy-place = far-is x (copyPlace m (k .copy)) (k .back)
 
@@ -251,13 +251,13 @@ module _ {m : MultiPortGraph} {M : Model} (f : Fine m M) where
         (row-end row (x .side) _ o stands some ∙ go (ltb o (countOf (M .node (k .copy)) (x .side))) refl)
       where
         go : (b : Bool) → ltb o (countOf (M .node (k .copy)) (x .side)) ≡ b →
-            pick b (inner (rowStart M (k .copy) (x .side) + o)) lacking ≡ pick b (inner (subportAt m (slotOf (M .node) x) (x .side) o)) lacking
+            cond b (inner (rowStart M (k .copy) (x .side) + o)) lacking ≡ cond b (inner (subportAt m (slotOf (M .node) x) (x .side) o)) lacking
         go true e = ap inner (omega arith ∙ sym (k .reads o (ltb-true o (countOf (M .node (k .copy)) (x .side)) e)))
         go false e = refl
 
   -- An end's subport, and what it is linked with.
 
-  subport-there : (z : model.Place) → IsEnd m M z →
+  subport-there : (z : model.InnerPlace) → IsEnd m M z →
       subportIn (m .graph .«port_link») (m .graph .«port_meta») (m .«copy_node») (slotOf (M .node) z) ≡ subportOf m (slotOf (M .node) z)
   unfolding subportIn
   subport-there z e =
@@ -268,7 +268,7 @@ module _ {m : MultiPortGraph} {M : Model} (f : Fine m M) where
       flagged-as b h = flag-told (z .node) ∙ h
 
       go : (b : Bool) → isHidden m (z .node) ≡ b →
-          pick (flagAt (m .«copy_node») nodeSlots (z .node))
+          cond (flagAt (m .«copy_node») nodeSlots (z .node))
           (subport# (farIn (m .graph .«port_link») (copyBeside (m .graph .«port_meta») (slotOf (M .node) z) (z .side))) (runDown (m .graph .«port_meta») (at (m .graph .«port_meta») (slotOf (M .node) z)) (slotOf (M .node) z)))
           (subport# (slotOf (M .node) z) 0)
           ≡ subportOf m (slotOf (M .node) z)
@@ -285,13 +285,13 @@ module _ {m : MultiPortGraph} {M : Model} (f : Fine m M) where
           rw (flagged-as true h) ((λ i. subport# (c i) (o i)) ∙ sym (subport-of-hidden f z (k .main) v h (k .joined)))
       go false h = rw (flagged-as false h) (sym (subport-of-block f z (e .valid, h)))
 
-  wire-there : (x : model.Place) → IsEnd m M x →
+  wire-there : (x : model.InnerPlace) → IsEnd m M x →
       wireIn (m .graph .«port_link») (m .graph .«port_meta») (m .«copy_node») (slotOf (M .node) x) ≡ farSubport m (portLink (m .graph) (slotOf (M .node) x))
   unfolding wireIn
   wire-there x e = go (M .join x) refl
     where
       go : (y : Far) → M .join x ≡ y →
-          pick (eqb (at (m .graph .«port_link») (slotOf (M .node) x)) 0) cutting.Nothing
+          cond (eqb (at (m .graph .«port_link») (slotOf (M .node) x)) 0) cutting.Nothing
           (cutting.Found (subportIn (m .graph .«port_link») (m .graph .«port_meta») (m .«copy_node») (farIn (m .graph .«port_link») (slotOf (M .node) x))))
           ≡ farSubport m (portLink (m .graph) (slotOf (M .node) x))
       go nowhere j =

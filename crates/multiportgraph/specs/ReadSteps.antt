@@ -1,12 +1,12 @@
 -- Steps of the leaves that read lent tables, over plain values.
 use mathlib.Core.Path.{_≡_, sym, _∙_, ap}
-use mathlib.Core.Bool.{Bool, true, false}
+use mathlib.Core.Bool.{Bool, true, false, cond}
 use mathlib.Core.List.{List}
 use Prim.Native.Nat.{ℕ, zero, suc, _+_, _-_, _≤_, _<_, min}
 use native.Mathlib.Omega.{arith}
 use borrow.Author.Tests.{eq-eqb, ne-eqb, lt-ltb, le-ltb}
 use Rattle.portgraph.specs.Limits.{nodeSlots, portSlots}
-use Rattle.portgraph.specs.Entries.{pick, portEntry}
+use Rattle.portgraph.specs.Entries.{portEntry}
 use Rattle.portgraph.specs.Tables.{at}
 use Rattle.portgraph.specs.declared.direction.Direction.{Direction}
 use Rattle.portgraph.specs.declared.direction.Direction.the-variants.{Incoming, Outgoing}
@@ -28,7 +28,7 @@ unfolding run
 run-bound t i zero = omega arith
 run-bound t i (suc n) = go (t i) (run-bound t (suc i) n)
   where
-    go : (b : Bool) → run t (suc i) n ≤ n → pick b (suc (run t (suc i) n)) 0 ≤ suc n
+    go : (b : Bool) → run t (suc i) n ≤ n → cond b (suc (run t (suc i) n)) 0 ≤ suc n
     go true h = omega arith
     go false h = omega arith
 
@@ -196,13 +196,13 @@ module _ (owners : List ℕ) (flags : List Bool) (p w a : ℕ) (e : w ≡ p) (f 
     pub seen-hidden : b ≡ true → seen-port.Hidden ≡ seenAs (seenIn owners flags p)
     unfolding seenIn
     seen-hidden n =
-        ap (λ (c : Bool). seenAs (pick c hidden (visible (k .node .0) (k .direction)))) (sym (flag-told true n))
+        ap (λ (c : Bool). seenAs (cond c hidden (visible (k .node .0) (k .direction)))) (sym (flag-told true n))
         ∙ ap (λ x. seenAs (seenOwner flags x)) (sym g ∙ owner-is)
 
     pub seen-visible : b ≡ false → seen-port.Visible (k .node) (k .direction) ≡ seenAs (seenIn owners flags p)
     unfolding seenIn
     seen-visible n =
-        ap (λ (c : Bool). seenAs (pick c hidden (visible (k .node .0) (k .direction)))) (sym (flag-told false n))
+        ap (λ (c : Bool). seenAs (cond c hidden (visible (k .node .0) (k .direction)))) (sym (flag-told false n))
         ∙ ap (λ x. seenAs (seenOwner flags x)) (sym g ∙ owner-is)
 
     pub subport-hung : (links : List ℕ) (c o u r : ℕ) → b ≡ true → c ≡ copyBeside owners p (k .direction) → u ≡ p → o ≡ runDown owners a u → r ≡ farIn links c
@@ -212,13 +212,13 @@ module _ (owners : List ℕ) (flags : List Bool) (p w a : ℕ) (e : w ≡ p) (f 
         let x : r ≡ farIn links (copyBeside owners p (k .direction)) = z ∙ ap (farIn links) s in
         let y : o ≡ runDown owners (at owners p) p = rw (t, m, f, e) in
         (λ i. subport# (x i) (y i))
-        ∙ ap (λ (q : Bool). pick q (subport# (farIn links (copyBeside owners p (k .direction))) (runDown owners (at owners p) p)) (subport# p 0)) (sym (flag-told true n))
+        ∙ ap (λ (q : Bool). cond q (subport# (farIn links (copyBeside owners p (k .direction))) (runDown owners (at owners p) p)) (subport# p 0)) (sym (flag-told true n))
         ∙ ap (subportOwned links owners flags p) (sym g ∙ owner-is)
 
     pub subport-plain : (links : List ℕ) → b ≡ false → subport# p 0 ≡ subportIn links owners flags p
     unfolding subportIn
     subport-plain links n =
-        ap (λ (q : Bool). pick q (subport# (farIn links (copyBeside owners p (k .direction))) (runDown owners (at owners p) p)) (subport# p 0)) (sym (flag-told false n))
+        ap (λ (q : Bool). cond q (subport# (farIn links (copyBeside owners p (k .direction))) (runDown owners (at owners p) p)) (subport# p 0)) (sym (flag-told false n))
         ∙ ap (subportOwned links owners flags p) (sym g ∙ owner-is)
 
 module _ (links owners : List ℕ) (flags : List Bool) (p w a : ℕ) (e : w ≡ p) (f : a ≡ at links w) where

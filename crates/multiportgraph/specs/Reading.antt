@@ -1,10 +1,10 @@
 -- How a port number is read: live or not, hidden or not, split or not, and which end a subport is.
-use mathlib.Core.Bool.{Bool, true, false}
+use mathlib.Core.Bool.{Bool, true, false, cond}
 use mathlib.Core.List.{List, [], _∷_}
 use Prim.Native.Nat.{ℕ, zero, suc, _+_, _-_}
 use lib.Dec.{eqb, ltb}
 use lib.ListN.{getD}
-use Rattle.portgraph.specs.Entries.{pick, reversed, sideNumber}
+use Rattle.portgraph.specs.Entries.{reversed, sideNumber}
 use Rattle.portgraph.specs.Lookups.{node#, port#, portAt, portLink, portNode, portIndex, portOffset, numPorts, metaAt}
 use Rattle.portgraph.specs.declared.direction.Direction.{Direction}
 use Rattle.portgraph.specs.declared.direction.Direction.the-variants.{Incoming, Outgoing}
@@ -85,10 +85,16 @@ pub data Port : Type 0 where
 
 abbrev pub seenEntry : MultiPortGraph → PortEntry → Port
 seenEntry m port-variants.Free = dead
-seenEntry m (port-variants.Port k) = pick (isHidden m (k .node .0)) hidden (visible (k .node .0) (k .direction))
+seenEntry m (port-variants.Port k) = cond (isHidden m (k .node .0)) hidden (visible (k .node .0) (k .direction))
 
 unfoldable pub seen : MultiPortGraph → ℕ → Port
 seen m p = seenEntry m (portAt (m .graph) p)
+
+-- the side of a port of a block
+abbrev pub sideOf : Port → Direction
+sideOf dead = Incoming
+sideOf hidden = Incoming
+sideOf (visible n d) = d
 
 -- the hidden node of a split port
 unfoldable pub copyNode : MultiPortGraph → ℕ → ℕ
@@ -108,20 +114,20 @@ pub data End : Type 0 where
   lacking : End
 
 unfoldable pub endAt : MultiPortGraph → ℕ → Direction → ℕ → End
-endAt m p d o = pick (isSplit m p) (pick (ltb o (subports m p d)) (inner (subportAt m p d o)) lacking) (inner p)
+endAt m p d o = cond (isSplit m p) (cond (ltb o (subports m p d)) (inner (subportAt m p d o)) lacking) (inner p)
 
 abbrev pub subport# : ℕ → ℕ → SubportIndex
 subport# p o = record { port = port# p; «subport_offset» = o }
 
 -- an end as read: on an unsplit port every offset means the port itself
 unfoldable pub asRead : MultiPortGraph → ℕ → ℕ → SubportIndex
-asRead m p o = subport# p (pick (isSplit m p) o 0)
+asRead m p o = subport# p (cond (isSplit m p) o 0)
 
 -- the side of a hidden node that has its copy port: the one with a single port, by the mark where both have one
 unfoldable pub copySide : MultiPortGraph → ℕ → Direction
 copySide m c =
-    pick (eqb (numPorts (m .graph) c Incoming) 1)
-    (pick (eqb (numPorts (m .graph) c Outgoing) 1) (pick (isSplit m (portOf (m .graph) c Incoming 0)) Incoming Outgoing) Incoming)
+    cond (eqb (numPorts (m .graph) c Incoming) 1)
+    (cond (eqb (numPorts (m .graph) c Outgoing) 1) (cond (isSplit m (portOf (m .graph) c Incoming 0)) Incoming Outgoing) Incoming)
     Outgoing
 
 -- the split port of a hidden node
@@ -131,6 +137,6 @@ mainPort m c = farPort (m .graph) (portOf (m .graph) c (copySide m c) 0)
 -- the subport that an inner port is
 unfoldable pub subportOf : MultiPortGraph → ℕ → SubportIndex
 subportOf m q =
-    pick (isHidden m (ownerOf (m .graph) q))
+    cond (isHidden m (ownerOf (m .graph) q))
     (subport# (mainPort m (ownerOf (m .graph) q)) (positionOf (m .graph) q))
     (subport# q 0)

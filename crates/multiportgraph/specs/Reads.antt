@@ -1,11 +1,11 @@
 -- What can be read off the tables alone: owners, links, marks and hidden flags, each of which can be lent.
 -- The ports of a hidden node lie in a row: the subports are the slots of one owner beside the copy port.
-use mathlib.Core.Bool.{Bool}
+use mathlib.Core.Bool.{Bool, cond}
 use mathlib.Core.List.{List}
 use Prim.Native.Nat.{ℕ, zero, suc, _+_, _-_, min}
 use lib.Dec.{eqb, ltb}
 use Rattle.portgraph.specs.Limits.{nodeSlots, portSlots}
-use Rattle.portgraph.specs.Entries.{pick, portEntry}
+use Rattle.portgraph.specs.Entries.{portEntry}
 use Rattle.portgraph.specs.Tables.{at, linkBoth, cut}
 use Rattle.portgraph.specs.Lookups.{nodeOf}
 use Rattle.portgraph.specs.declared.direction.Direction.{Direction}
@@ -29,7 +29,7 @@ ownerIn owners p = nodeNumber (nodeOf (portEntry (at owners p)))
 -- a port number: not live, of a hidden node, or of a block
 abbrev pub seenOwner : List Bool → PortEntry → Port
 seenOwner flags port-variants.Free = dead
-seenOwner flags (port-variants.Port k) = pick (flagAt flags nodeSlots (k .node .0)) hidden (visible (k .node .0) (k .direction))
+seenOwner flags (port-variants.Port k) = cond (flagAt flags nodeSlots (k .node .0)) hidden (visible (k .node .0) (k .direction))
 
 unfoldable pub seenIn : List ℕ → List Bool → ℕ → Port
 seenIn owners flags p = seenOwner flags (portEntry (at owners p))
@@ -37,7 +37,7 @@ seenIn owners flags p = seenOwner flags (portEntry (at owners p))
 -- how often in a row a test holds from i on, n times at the most
 unfoldable pub run : (ℕ → Bool) → ℕ → ℕ → ℕ
 run t i zero = 0
-run t i (suc n) = pick (t i) (suc (run t (suc i) n)) 0
+run t i (suc n) = cond (t i) (suc (run t (suc i) n)) 0
 
 -- the k-th slot from i on, and the k-th below i, has this owner
 unfoldable pub ownsUp : List ℕ → ℕ → ℕ → ℕ → Bool
@@ -64,9 +64,9 @@ firstBeside owners q Incoming = q - countBeside owners q Incoming
 firstBeside owners q Outgoing = q + 1
 
 unfoldable pub endBeside : List ℕ → ℕ → Direction → ℕ → End
-endBeside owners q Incoming o = pick (ltb o (countBeside owners q Incoming)) (inner (firstBeside owners q Incoming + o)) lacking
+endBeside owners q Incoming o = cond (ltb o (countBeside owners q Incoming)) (inner (firstBeside owners q Incoming + o)) lacking
 endBeside owners q Outgoing o =
-    pick (ltb (q + 1 + o) portSlots) (pick (eqb (at owners (q + 1 + o)) (at owners (q + 1))) (inner (q + 1 + o)) lacking) lacking
+    cond (ltb (q + 1 + o) portSlots) (cond (eqb (at owners (q + 1 + o)) (at owners (q + 1))) (inner (q + 1 + o)) lacking) lacking
 
 -- The split port p of side d.
 
@@ -78,7 +78,7 @@ firstIn links owners p d = firstBeside owners (farIn links p) d
 
 -- an end that a call names
 unfoldable pub endIn : List Bool → List ℕ → List ℕ → ℕ → Direction → ℕ → End
-endIn marks links owners p d o = pick (flagAt marks portSlots p) (endBeside owners (farIn links p) d o) (inner p)
+endIn marks links owners p d o = cond (flagAt marks portSlots p) (endBeside owners (farIn links p) d o) (inner p)
 
 -- The subport that an inner port is: as many slots of its owner lie below it as its offset says, and the copy port stands
 -- before the first or after the last.
@@ -90,7 +90,7 @@ copyBeside owners q Outgoing = q - runDown owners (at owners q) q - 1
 abbrev pub subportOwned : List ℕ → List ℕ → List Bool → ℕ → PortEntry → SubportIndex
 subportOwned links owners flags q port-variants.Free = subport# q 0
 subportOwned links owners flags q (port-variants.Port k) =
-    pick (flagAt flags nodeSlots (k .node .0))
+    cond (flagAt flags nodeSlots (k .node .0))
     (subport# (farIn links (copyBeside owners q (k .direction))) (runDown owners (at owners q) q))
     (subport# q 0)
 
@@ -99,7 +99,7 @@ subportIn links owners flags q = subportOwned links owners flags q (portEntry (a
 
 -- what an end is linked with
 unfoldable pub wireIn : List ℕ → List ℕ → List Bool → ℕ → CutAnswer
-wireIn links owners flags q = pick (eqb (at links q) 0) cutting.Nothing (cutting.Found (subportIn links owners flags (farIn links q)))
+wireIn links owners flags q = cond (eqb (at links q) 0) cutting.Nothing (cutting.Found (subportIn links owners flags (farIn links q)))
 
 -- What a split does to the links: the port hangs on the copy port, and its old link is at the first subport.
 unfoldable pub hangOn : List ℕ → ℕ → ℕ → ℕ → List ℕ

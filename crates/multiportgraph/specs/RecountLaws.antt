@@ -1,7 +1,7 @@
 -- A node with other counts: what the lower resize makes of the model, that the marks move with the ports, and that a hidden node
 -- which grows keeps its port, its subports and every wire.
 use mathlib.Core.Path.{_≡_, refl, sym, _∙_, ap, subst}
-use mathlib.Core.Bool.{Bool, true, false}
+use mathlib.Core.Bool.{Bool, true, false, cond}
 use mathlib.Core.List.{List}
 use mathlib.Core.Logic.{_⊎_, inl, inr, ⊎-elim}
 use Prim.Native.Nat.{ℕ, _+_, _-_, _*_, _≤_, _<_}
@@ -10,7 +10,7 @@ use lib.Dec.{eqb, leb, ltb}
 use lib.ListN.{getD, length}
 use borrow.Author.Tests.{ltb-true, ltb-false, leb-true, leb-false, eqb-true, eqb-false, lt-leb, eq-eqb}
 use Rattle.portgraph.specs.Limits.{nodeSlots, portSlots, nodePorts}
-use Rattle.portgraph.specs.Entries.{pick, reversed, portsOn}
+use Rattle.portgraph.specs.Entries.{reversed, portsOn}
 use Rattle.portgraph.specs.Lookups.{numPorts}
 use Rattle.portgraph.specs.Model as model
 use Rattle.portgraph.specs.Model.{Model, Far, nowhere, to, Slots, gone, live, Good, Holds, Valid, Within, slotOf, countOf, firstOf, sideStart, portsOf, total}
@@ -33,14 +33,15 @@ use Rattle.portgraph.specs.declared.resize.SetAnswer.{SetAnswer}
 use Rattle.portgraph.specs.declared.resize.SetAnswer.the-variants as lower-set
 use Rattle.portgraph.specs.declared.resize.PortsSet.{PortsSet}
 use Rattle.multiportgraph.specs.Reading.{isHidden, isSplit, copySide, portNumber, portOf}
-use Rattle.multiportgraph.specs.Calls.{recounted, layMarks, ready, moreIn, moreOut, enough, more, grownBy, grow}
-use Rattle.multiportgraph.specs.Wires.{Place, Wire}
 use Rattle.multiportgraph.specs.MarkLaws.{length-layMarks, lay-kept-in, lay-kept-out, lay-new, lay-old, lay-else}
-use Rattle.multiportgraph.specs.Inner.{inner#, copyPlace, Fine, Marked, copy-port, main-port, flag, subportsIn, lift, outer, IsEnd, WireIn, SameBlocks, none, SameWires}
+use Rattle.multiportgraph.specs.MarkMoves.{within-cases}
+use Rattle.multiportgraph.specs.Inner.{inner#, copyPlace, Fine, Marked, copy-port, main-port, lift, outer, IsEnd, WireIn, SameBlocks, none, SameWires, subportsOfSlot}
 use Rattle.multiportgraph.specs.Ends.{Hangs, other-side, count-of, copy-valid, end-side, ends-join-ends, outer-apart}
 use Rattle.multiportgraph.specs.Frame.{copy-side-is, true-not-false}
 use Rattle.multiportgraph.specs.SplitLaws.{HasEnd, KeptEnd, PreparedEnd}
 use Rattle.multiportgraph.specs.declared.multiportgraph.MultiPortGraph.{MultiPortGraph}
+use Rattle.multiportgraph.specs.Places.{Place, Wire, flag}
+use Rattle.multiportgraph.specs.HiddenNodes.{recounted, layMarks, ready, moreIn, moreOut, enough, more, grownBy, grow, growUnder}
 
 -- What the lower resize does to the model: node n has other counts and maybe another block, links of dropped places go.
 
@@ -50,7 +51,7 @@ pub record Recount (g′ : PortGraph) (M M′ : Model) (n : ℕ) (a b : NodeMeta
   pub ins : b .incoming ≡ incoming
   pub outs : b .outgoing ≡ outgoing
   pub others : (k : ℕ) → (k ≡ n → ⊥) → M′ .node k ≡ M .node k
-  pub join : (x : model.Place) → M′ .join x ≡ dropJoin (beyond n incoming outgoing) (M .join) x
+  pub join : (x : model.InnerPlace) → M′ .join x ≡ dropJoin (beyond n incoming outgoing) (M .join) x
   pub good : Good M′
   pub holds : Holds g′ M′
 
@@ -64,20 +65,20 @@ pub same-counts-are : (m : NodeMeta) (i o : ℕ) → sameCounts m i o ≡ true �
 unfolding sameCounts
 same-counts-are m i o = go (eqb i (m .incoming)) (eqb o (m .outgoing)) refl refl
   where
-    go : (a b : Bool) → eqb i (m .incoming) ≡ a → eqb o (m .outgoing) ≡ b → pick a b false ≡ true → (m .incoming ≡ i) × (m .outgoing ≡ o)
+    go : (a b : Bool) → eqb i (m .incoming) ≡ a → eqb o (m .outgoing) ≡ b → cond a b false ≡ true → (m .incoming ≡ i) × (m .outgoing ≡ o)
     go true true p q e = (sym (eqb-true _ _ p), sym (eqb-true _ _ q))
     go true false p q e = absurd (zero-is-not-one (cc))
     go false b p q e = absurd (zero-is-not-one (cc))
 
 -- a place with a port below the counts is not dropped
-pub below-stays : (n i o : ℕ) (x : model.Place) → (x .node ≡ n → x .pos < newCount i o (x .side)) → beyond n i o x ≡ false
+pub below-stays : (n i o : ℕ) (x : model.InnerPlace) → (x .node ≡ n → x .pos < newCount i o (x .side)) → beyond n i o x ≡ false
 below-stays n i o x h = go (eqb (x .node) n) refl
   where
-    go : (b : Bool) → eqb (x .node) n ≡ b → pick b (leb (newCount i o (x .side)) (x .pos)) false ≡ false
+    go : (b : Bool) → eqb (x .node) n ≡ b → cond b (leb (newCount i o (x .side)) (x .pos)) false ≡ false
     go true e = lt-leb (newCount i o (x .side)) (x .pos) (h (eqb-true (x .node) n e))
     go false e = refl
 
-pub stays-below : (n i o : ℕ) (x : model.Place) → beyond n i o x ≡ false → x .node ≡ n → x .pos < newCount i o (x .side)
+pub stays-below : (n i o : ℕ) (x : model.InnerPlace) → beyond n i o x ≡ false → x .node ≡ n → x .pos < newCount i o (x .side)
 stays-below n i o x e h = leb-false (newCount i o (x .side)) (x .pos) (sym (rw (eq-eqb (x .node) n h)) ∙ e)
 
 pub count-new : (m : NodeMeta) (i o : ℕ) (d : Direction) → m .incoming ≡ i → m .outgoing ≡ o → portsOn m d ≡ newCount i o d
@@ -111,13 +112,13 @@ module _ {g : PortGraph} {M : Model} (good : Good M) (holds : Holds g M) (n i o 
             };
           }
         where
-          below : (a .incoming ≡ i) × (a .outgoing ≡ o) → (x : model.Place) → Valid (M .node) x → beyond n i o x ≡ false
+          below : (a .incoming ≡ i) × (a .outgoing ≡ o) → (x : model.InnerPlace) → Valid (M .node) x → beyond n i o x ≡ false
           below c x v = below-stays n i o x (λ h.
               let e : M .node (x .node) ≡ live a = ap (M .node) h ∙ here in
               let k : countOf (M .node (x .node)) (x .side) ≡ newCount i o (x .side) = ap (λ (s : Slots). countOf s (x .side)) e ∙ count-new a i o (x .side) (c .0) (c .1) in
               omega arith)
 
-          stay : (a .incoming ≡ i) × (a .outgoing ≡ o) → (x : model.Place) (w : Far) → M .join x ≡ w → M .join x ≡ dropJoin (beyond n i o) (M .join) x
+          stay : (a .incoming ≡ i) × (a .outgoing ≡ o) → (x : model.InnerPlace) (w : Far) → M .join x ≡ w → M .join x ≡ dropJoin (beyond n i o) (M .join) x
           stay c x nowhere j = j ∙ sym (drop-nowhere (beyond n i o) (M .join) x j)
           stay c x (to y) j =
               j ∙ sym (drop-kept (beyond n i o) (M .join) x y j (below c x (good .joinValid x y j)) (below c y (joined-is-valid good x y j)))
@@ -165,15 +166,15 @@ module _ {g : PortGraph} {M : Model} (good : Good M) (holds : Holds g M) (n i o 
           }
 
       counts : i + o ≤ nodePorts → (a : NodeMeta) → M .node n ≡ live a → (p q r : Bool) → sameCounts a i o ≡ p → fitsInside a i o ≡ q → blockRoom M (roundUp (i + o)) ≡ r
-          → Out (setBy g n i o (pick p same (pick q (inside a) (pick r (anew a (nextBlock M (roundUp (i + o)))) (refuse lower-set.NoRoom)))))
+          → Out (setBy g n i o (cond p same (cond q (inside a) (cond r (anew a (nextBlock M (roundUp (i + o)))) (refuse lower-set.NoRoom)))))
       counts h a here true q r s t u e k = unchanged a here s
       counts h a here false true r s t u e k = within a here t
       counts h a here false false true s t u e k = away h a here u
       counts h a here false false false s t u e k = absurd (zero-is-not-one (cc))
 
       told : i + o ≤ nodePorts → (a : NodeMeta) → M .node n ≡ live a → (b : Bool) → leb (3 * (a .incoming + a .outgoing)) room ≡ b
-          → Out (setBy g n i o (pick b
-          (pick (sameCounts a i o) same (pick (fitsInside a i o) (inside a) (pick (blockRoom M (roundUp (i + o))) (anew a (nextBlock M (roundUp (i + o)))) (refuse lower-set.NoRoom))))
+          → Out (setBy g n i o (cond b
+          (cond (sameCounts a i o) same (cond (fitsInside a i o) (inside a) (cond (blockRoom M (roundUp (i + o))) (anew a (nextBlock M (roundUp (i + o)))) (refuse lower-set.NoRoom))))
           (refuse lower-set.MovesTooShort)))
       told h a here true q = counts h a here (sameCounts a i o) (fitsInside a i o) (blockRoom M (roundUp (i + o))) refl refl refl
       told h a here false q = λ e k. absurd (zero-is-not-one (cc))
@@ -215,14 +216,6 @@ place-among k s h = go (ltb s (k .«first_port» .0 + k .incoming)) refl
         let p = h .1 in
         record { side = Outgoing; pos = s - (k .«first_port» .0 + k .incoming); below = omega arith; slot = omega arith }
 
-within-cases : (f n s : ℕ) → Within f n s ⊎ (f ≤ s → s < f + n → ⊥)
-within-cases f n s = go (leb f s) (ltb s (f + n)) refl refl
-  where
-    go : (a b : Bool) → leb f s ≡ a → ltb s (f + n) ≡ b → Within f n s ⊎ (f ≤ s → s < f + n → ⊥)
-    go true true p q = inl (leb-true f s p, ltb-true s (f + n) q)
-    go true false p q = let h = ltb-false s (f + n) q in inr (λ a b. omega arith)
-    go false b p q = let h = leb-false f s p in inr (λ a b. omega arith)
-
 pub number-cases : (a b : ℕ) → (a ≡ b) ⊎ (a ≡ b → ⊥)
 number-cases a b = go (eqb a b) refl
   where
@@ -232,17 +225,17 @@ number-cases a b = go (eqb a b) refl
 
 -- a place whose slot is marked, before and after
 pub record WasMarked (m : MultiPortGraph) (M M′ : Model) (s : ℕ) : Type 0 where
-  pub place : model.Place
+  pub place : model.InnerPlace
   pub was : Valid (M .node) place
   pub is : Valid (M′ .node) place
   pub slot : slotOf (M′ .node) place ≡ s
   pub marked : isSplit m (slotOf (M .node) place) ≡ true
 
 -- a marked slot is the slot of a place
-pub marked-place : {m : MultiPortGraph} {M : Model} → Fine m M → (s : ℕ) → isSplit m s ≡ true → (x : model.Place) × Valid (M .node) x × (slotOf (M .node) x ≡ s)
+pub marked-place : {m : MultiPortGraph} {M : Model} → Fine m M → (s : ℕ) → isSplit m s ≡ true → (x : model.InnerPlace) × Valid (M .node) x × (slotOf (M .node) x ≡ s)
 marked-place {m} {M} f s e = go (f .onlyMarked s e)
   where
-    go : Marked m M s → (x : model.Place) × Valid (M .node) x × (slotOf (M .node) x ≡ s)
+    go : Marked m M s → (x : model.InnerPlace) × Valid (M .node) x × (slotOf (M .node) x ≡ s)
     go (copy-port c h q) = (copyPlace m c, f .good .joinValid _ _ (f .copy c h .joined), q)
     go (main-port c x h j q) = (x, joined-is-valid (f .good) _ x j, q)
 
@@ -280,16 +273,16 @@ module _ {m : MultiPortGraph} {M : Model} (f : Fine m M) {g′ : PortGraph} {M�
   kept-here Incoming j h k =
       let p : b .«first_port» .0 + (0 + j) ≡ b .«first_port» .0 + j = omega arith in
       let q : a .«first_port» .0 + (0 + j) ≡ a .«first_port» .0 + j = omega arith in
-      mark-is _ ∙ (rw (p, q) (lay-kept-in (m .multiport) a b new-fits j (omega arith)))
+      mark-is _ ∙ (rw (p, q) (lay-kept-in (m .multiport) a b j (omega (arith, new-fits)) (omega arith)))
   kept-here Outgoing j h k =
       let p : b .«first_port» .0 + (b .incoming + j) ≡ b .«first_port» .0 + b .incoming + j = omega arith in
       let q : a .«first_port» .0 + (a .incoming + j) ≡ a .«first_port» .0 + a .incoming + j = omega arith in
-      mark-is _ ∙ (rw (p, q) (lay-kept-out (m .multiport) a b new-fits j (omega arith)))
+      mark-is _ ∙ (rw (p, q) (lay-kept-out (m .multiport) a b j (omega (arith, new-fits)) (omega arith)))
 
   -- a new port of the node itself
   new-here : (d : Direction) (j : ℕ) → portsOn a d ≤ j → j < portsOn b d → isSplit (recounted m n g′) (slotIn (live b) d j) ≡ false
-  new-here Incoming j h k = mark-is _ ∙ lay-new (m .multiport) a b new-fits _ (omega arith) (omega arith) (λ p q. omega arith) (λ p q. omega arith)
-  new-here Outgoing j h k = mark-is _ ∙ lay-new (m .multiport) a b new-fits _ (omega arith) (omega arith) (λ p q. omega arith) (λ p q. omega arith)
+  new-here Incoming j h k = mark-is _ ∙ lay-new (m .multiport) a b _ (omega (arith, new-fits)) (omega arith) (omega arith) (λ p q. omega arith) (λ p q. omega arith)
+  new-here Outgoing j h k = mark-is _ ∙ lay-new (m .multiport) a b _ (omega (arith, new-fits)) (omega arith) (omega arith) (λ p q. omega arith) (λ p q. omega arith)
 
   -- a slot of neither block's ports
   mark-else : (s : ℕ) → (a .«first_port» .0 ≤ s → s < a .«first_port» .0 + (a .incoming + a .outgoing) → ⊥)
@@ -299,29 +292,29 @@ module _ {m : MultiPortGraph} {M : Model} (f : Fine m M) {g′ : PortGraph} {M�
 
   mark-old : (s : ℕ) → Within (a .«first_port» .0) (a .incoming + a .outgoing) s
       → (b .«first_port» .0 ≤ s → s < b .«first_port» .0 + (b .incoming + b .outgoing) → ⊥) → isSplit (recounted m n g′) s ≡ false
-  mark-old s h k = mark-is s ∙ lay-old (m .multiport) a b s k old-fits (h .0) (h .1)
+  mark-old s h k = mark-is s ∙ lay-old (m .multiport) a b s k (omega (arith, old-fits)) (h .0) (h .1)
 
   -- places of other nodes have their slots
-  pub other-slot : (x : model.Place) → (x .node ≡ n → ⊥) → slotOf (M′ .node) x ≡ slotOf (M .node) x
+  pub other-slot : (x : model.InnerPlace) → (x .node ≡ n → ⊥) → slotOf (M′ .node) x ≡ slotOf (M .node) x
   other-slot x h = ap (λ (s : Slots). slotIn s (x .side) (x .pos)) (r .others (x .node) h)
 
   pub other-count : (k : ℕ) (d : Direction) → (k ≡ n → ⊥) → countOf (M′ .node k) d ≡ countOf (M .node k) d
   other-count k d h = ap (λ (s : Slots). countOf s d) (r .others k h)
 
-  pub slot-before : (x : model.Place) → x .node ≡ n → slotOf (M .node) x ≡ slotIn (live a) (x .side) (x .pos)
+  pub slot-before : (x : model.InnerPlace) → x .node ≡ n → slotOf (M .node) x ≡ slotIn (live a) (x .side) (x .pos)
   slot-before x h = ap (λ (s : Slots). slotIn s (x .side) (x .pos)) (ap (M .node) h ∙ r .here)
 
-  pub slot-after : (x : model.Place) → x .node ≡ n → slotOf (M′ .node) x ≡ slotIn (live b) (x .side) (x .pos)
+  pub slot-after : (x : model.InnerPlace) → x .node ≡ n → slotOf (M′ .node) x ≡ slotIn (live b) (x .side) (x .pos)
   slot-after x h = ap (λ (s : Slots). slotIn s (x .side) (x .pos)) (ap (M′ .node) h ∙ r .there)
 
-  pub count-before : (x : model.Place) → x .node ≡ n → countOf (M .node (x .node)) (x .side) ≡ portsOn a (x .side)
+  pub count-before : (x : model.InnerPlace) → x .node ≡ n → countOf (M .node (x .node)) (x .side) ≡ portsOn a (x .side)
   count-before x h = ap (λ (s : Slots). countOf s (x .side)) (ap (M .node) h ∙ r .here)
 
-  pub count-after : (x : model.Place) → x .node ≡ n → countOf (M′ .node (x .node)) (x .side) ≡ portsOn b (x .side)
+  pub count-after : (x : model.InnerPlace) → x .node ≡ n → countOf (M′ .node (x .node)) (x .side) ≡ portsOn b (x .side)
   count-after x h = ap (λ (s : Slots). countOf s (x .side)) (ap (M′ .node) h ∙ r .there)
 
   -- a port's slot lies in its node's block, so not among the ports of another node
-  apart : {N : Model} → Good N → (k : NodeMeta) → N .node n ≡ live k → (x : model.Place) → Valid (N .node) x → (x .node ≡ n → ⊥)
+  apart : {N : Model} → Good N → (k : NodeMeta) → N .node n ≡ live k → (x : model.InnerPlace) → Valid (N .node) x → (x .node ≡ n → ⊥)
       → k .«first_port» .0 ≤ slotOf (N .node) x → slotOf (N .node) x < k .«first_port» .0 + (k .incoming + k .outgoing) → ⊥
   apart {N} good k e x v h p q = go (N .node (x .node)) refl
     where
@@ -338,7 +331,7 @@ module _ {m : MultiPortGraph} {M : Model} (f : Fine m M) {g′ : PortGraph} {M�
           h (block-of-one good (x .node) n l k (slotOf (N .node) x) d e ((omega arith), (omega arith)) ((omega arith), (omega arith)))
 
   -- a port that is there before and after keeps its mark, wherever it moves
-  pub recount-marks : (x : model.Place) → Valid (M .node) x → Valid (M′ .node) x → isSplit (recounted m n g′) (slotOf (M′ .node) x) ≡ isSplit m (slotOf (M .node) x)
+  pub recount-marks : (x : model.InnerPlace) → Valid (M .node) x → Valid (M′ .node) x → isSplit (recounted m n g′) (slotOf (M′ .node) x) ≡ isSplit m (slotOf (M .node) x)
   recount-marks x v u = ⊎-elim itself other (number-cases (x .node) n)
     where
       itself : x .node ≡ n → isSplit (recounted m n g′) (slotOf (M′ .node) x) ≡ isSplit m (slotOf (M .node) x)
@@ -409,12 +402,12 @@ module _ {m : MultiPortGraph} {M : Model} (f : Fine m M) {g′ : PortGraph} {M�
 pub record SameEnds (m : MultiPortGraph) (M : Model) (m′ : MultiPortGraph) (M′ : Model) : Type 0 where
   pub hid : (k : ℕ) → isHidden m′ k ≡ isHidden m k
   pub sides : (k : ℕ) → isHidden m k ≡ true → copySide m′ k ≡ copySide m k
-  pub joins : (y : model.Place) → M′ .join y ≡ M .join y
-  pub valid : (y : model.Place) → Valid (M .node) y → Valid (M′ .node) y
-  pub marks : (y : model.Place) → Valid (M .node) y → isSplit m′ (slotOf (M′ .node) y) ≡ isSplit m (slotOf (M .node) y)
+  pub joins : (y : model.InnerPlace) → M′ .join y ≡ M .join y
+  pub valid : (y : model.InnerPlace) → Valid (M .node) y → Valid (M′ .node) y
+  pub marks : (y : model.InnerPlace) → Valid (M .node) y → isSplit m′ (slotOf (M′ .node) y) ≡ isSplit m (slotOf (M .node) y)
 
 module _ {m : MultiPortGraph} {M : Model} {m′ : MultiPortGraph} {M′ : Model} (f : Fine m M) (t : SameEnds m M m′ M′) where
-  pub end-kept : (y : model.Place) → IsEnd m M y → IsEnd m′ M′ y
+  pub end-kept : (y : model.InnerPlace) → IsEnd m M y → IsEnd m′ M′ y
   end-kept y e =
       record {
         valid = t .valid y (e .valid);
@@ -422,7 +415,7 @@ module _ {m : MultiPortGraph} {M : Model} {m′ : MultiPortGraph} {M′ : Model}
         subport = λ h s. let p = sym (t .hid (y .node)) ∙ h in e .subport p (s ∙ t .sides (y .node) p);
       }
 
-  pub end-was : (y : model.Place) → Valid (M .node) y → IsEnd m′ M′ y → IsEnd m M y
+  pub end-was : (y : model.InnerPlace) → Valid (M .node) y → IsEnd m′ M′ y → IsEnd m M y
   end-was y v e =
       record {
         valid = v;
@@ -433,7 +426,7 @@ module _ {m : MultiPortGraph} {M : Model} {m′ : MultiPortGraph} {M′ : Model}
   pub copy-place-same : (k : ℕ) → isHidden m k ≡ true → copyPlace m′ k ≡ copyPlace m k
   copy-place-same k h = ap (λ (d : Direction). inner# k d 0) (t .sides k h)
 
-  pub outer-same : (y : model.Place) → outer m′ M′ y ≡ outer m M y
+  pub outer-same : (y : model.InnerPlace) → outer m′ M′ y ≡ outer m M y
   unfolding outer
   outer-same y = go (isHidden m (y .node)) refl
     where
@@ -472,7 +465,7 @@ module _ {m : MultiPortGraph} {M : Model} {m′ : MultiPortGraph} {M′ : Model}
             );
       }
     where
-      wires-at : (x y : model.Place) → _≡_ {A = Wire} (record { out = outer m′ M′ x; into = outer m′ M′ y }) (record { out = outer m M x; into = outer m M y })
+      wires-at : (x y : model.InnerPlace) → _≡_ {A = Wire} (record { out = outer m′ M′ x; into = outer m′ M′ y }) (record { out = outer m M x; into = outer m M y })
       wires-at x y = λ q. record { out = outer-same x q; into = outer-same y q }
 
 -- A hidden node grows by one subport.
@@ -497,7 +490,7 @@ pub record Shape (m : MultiPortGraph) (M′ : Model) (k : ℕ) : Type 0 where
   pub single : portsOn meta (copySide m k) ≡ 1
   pub several : 2 ≤ portsOn meta (reversed (copySide m k))
 
-module _ {m : MultiPortGraph} {M : Model} (f : Fine m M) (x : model.Place) (h : Hangs m M x) {g′ : PortGraph} {M′ : Model} {i o : ℕ} {a b : NodeMeta}
+module _ {m : MultiPortGraph} {M : Model} (f : Fine m M) (x : model.InnerPlace) (h : Hangs m M x) {g′ : PortGraph} {M′ : Model} {i o : ℕ} {a b : NodeMeta}
     (r : Recount g′ M M′ (h .copy) a b i o) (longer : portsOn b (x .side) ≡ portsOn a (x .side) + 1)
     (same : portsOn b (reversed (x .side)) ≡ portsOn a (reversed (x .side))) where
   side-grows : (d : Direction) → portsOn a d ≤ portsOn b d
@@ -509,20 +502,20 @@ module _ {m : MultiPortGraph} {M : Model} (f : Fine m M) (x : model.Place) (h : 
       go Outgoing Incoming p q = omega arith
       go Outgoing Outgoing p q = omega arith
 
-  pub valid-kept : (y : model.Place) → Valid (M .node) y → Valid (M′ .node) y
+  pub valid-kept : (y : model.InnerPlace) → Valid (M .node) y → Valid (M′ .node) y
   valid-kept y v = ⊎-elim
       (λ e. let p = count-before f r y e in let q = count-after f r y e in let l = side-grows (y .side) in omega arith)
       (λ e. let p = other-count f r (y .node) (y .side) e in omega arith)
       (number-cases (y .node) (h .copy))
 
-  kept-below : (y : model.Place) → Valid (M .node) y → beyond (h .copy) i o y ≡ false
+  kept-below : (y : model.InnerPlace) → Valid (M .node) y → beyond (h .copy) i o y ≡ false
   kept-below y v = below-stays (h .copy) i o y (λ e.
       let p = count-before f r y e in
       let l = side-grows (y .side) in
       let q = count-new b i o (y .side) (r .ins) (r .outs) in
       omega arith)
 
-  pub joins-same : (y : model.Place) → M′ .join y ≡ M .join y
+  pub joins-same : (y : model.InnerPlace) → M′ .join y ≡ M .join y
   joins-same y = r .join y ∙ go (M .join y) refl
     where
       go : (w : Far) → M .join y ≡ w → dropJoin (beyond (h .copy) i o) (M .join) y ≡ M .join y
@@ -534,7 +527,7 @@ module _ {m : MultiPortGraph} {M : Model} (f : Fine m M) (x : model.Place) (h : 
   unfolding isHidden recounted
   hidden-same k = refl
 
-  split-same : (y : model.Place) → Valid (M .node) y → isSplit (grown m (h .copy) g′) (slotOf (M′ .node) y) ≡ isSplit m (slotOf (M .node) y)
+  split-same : (y : model.InnerPlace) → Valid (M .node) y → isSplit (grown m (h .copy) g′) (slotOf (M′ .node) y) ≡ isSplit m (slotOf (M .node) y)
   unfolding isSplit recounted
   split-same y v = recount-marks f r y v (valid-kept y v)
 
@@ -585,21 +578,21 @@ module _ {m : MultiPortGraph} {M : Model} (f : Fine m M) (x : model.Place) (h : 
   unfolding recounted isHidden
   grown-copies = f .copies
 
-  subs-are : (k : ℕ) (s : Slots) → isHidden m k ≡ true → M .node k ≡ s → subportsIn m M k ≡ portsOf s - 1
+  subs-are : (k : ℕ) (s : Slots) → isHidden m k ≡ true → M .node k ≡ s → subportsOfSlot m M k ≡ portsOf s - 1
   subs-are k s e d = rw (e, d)
 
-  grown-subs-are : (k : ℕ) (s : Slots) → isHidden m k ≡ true → M′ .node k ≡ s → subportsIn (grown m (h .copy) g′) M′ k ≡ portsOf s - 1
+  grown-subs-are : (k : ℕ) (s : Slots) → isHidden m k ≡ true → M′ .node k ≡ s → subportsOfSlot (grown m (h .copy) g′) M′ k ≡ portsOf s - 1
   grown-subs-are k s e d = rw (hidden-same k, e, d)
 
-  other-subs : (k : ℕ) → (k ≡ h .copy → ⊥) → subportsIn m M k ≡ subportsIn (grown m (h .copy) g′) M′ k
+  other-subs : (k : ℕ) → (k ≡ h .copy → ⊥) → subportsOfSlot m M k ≡ subportsOfSlot (grown m (h .copy) g′) M′ k
   other-subs k ne = sym (rw (hidden-same k, r .others k ne))
 
-  grown-subs : grown m (h .copy) g′ .«subport_count» ≡ total nodeSlots (subportsIn (grown m (h .copy) g′) M′)
+  grown-subs : grown m (h .copy) g′ .«subport_count» ≡ total nodeSlots (subportsOfSlot (grown m (h .copy) g′) M′)
   unfolding recounted
   grown-subs =
       let used = f .good .nodeUsed (h .copy) a (r .here) in
       let fit = f .good .nodesFit in
-      let one = total-one nodeSlots (h .copy) (subportsIn m M) (subportsIn (grown m (h .copy) g′) M′) (omega arith) (λ k l ne. other-subs k ne) in
+      let one = total-one nodeSlots (h .copy) (subportsOfSlot m M) (subportsOfSlot (grown m (h .copy) g′) M′) (omega arith) (λ k l ne. other-subs k ne) in
       let p = subs-are (h .copy) (live a) (h .isCopy) (r .here) in
       let q = grown-subs-are (h .copy) (live b) (h .isCopy) (r .there) in
       let u = both-sides a (x .side) in
@@ -645,7 +638,7 @@ module _ {m : MultiPortGraph} {M : Model} (f : Fine m M) (x : model.Place) (h : 
             };
         copyMarked = λ c q.
             let e = sym (hidden-same c) ∙ q in
-            ap (λ (y : model.Place). isSplit (grown m (h .copy) g′) (slotOf (M′ .node) y)) (copy-place-same f ends-same c e)
+            ap (λ (y : model.InnerPlace). isSplit (grown m (h .copy) g′) (slotOf (M′ .node) y)) (copy-place-same f ends-same c e)
             ∙ split-same (copyPlace m c) (copy-valid f c e) ∙ f .copyMarked c e;
         mainMarked = λ c y q j.
             let e = sym (hidden-same c) ∙ q in
@@ -666,7 +659,7 @@ module _ {m : MultiPortGraph} {M : Model} (f : Fine m M) (x : model.Place) (h : 
   )
 
   -- the new subport
-  abbrev pub fresh : model.Place
+  abbrev pub fresh : model.InnerPlace
   fresh = inner# (h .copy) (x .side) (portsOn a (x .side))
 
   pub fresh-valid : Valid (M′ .node) fresh
@@ -684,7 +677,7 @@ module _ {m : MultiPortGraph} {M : Model} (f : Fine m M) (x : model.Place) (h : 
       side-clash d Incoming p q = zero-is-not-one (cc)
       side-clash d Outgoing p q = zero-is-not-one (cc)
 
-  fresh-was-free : (y : model.Place) → M .join fresh ≡ to y → ⊥
+  fresh-was-free : (y : model.InnerPlace) → M .join fresh ≡ to y → ⊥
   fresh-was-free y j = let v = f .good .joinValid fresh y j in let p = count-before f r fresh refl in omega arith
 
   fresh-free : M′ .join fresh ≡ nowhere
@@ -702,7 +695,7 @@ module _ {m : MultiPortGraph} {M : Model} (f : Fine m M) (x : model.Place) (h : 
   fresh-outer = outer-same f ends-same fresh ∙ h .outers (portsOn a (x .side))
 
   -- a linked subport has a wire
-  linked-wire : (j : ℕ) (y : model.Place) → M .join (inner# (h .copy) (x .side) j) ≡ to y → (w : Wire) × WireIn m M w × HasEnd w (lift x j)
+  linked-wire : (j : ℕ) (y : model.InnerPlace) → M .join (inner# (h .copy) (x .side) j) ≡ to y → (w : Wire) × WireIn m M w × HasEnd w (lift x j)
   linked-wire j y e = go (x .side) refl
     where
       go : (d : Direction) → x .side ≡ d → (w : Wire) × WireIn m M w × HasEnd w (lift x j)
@@ -726,12 +719,12 @@ module _ {m : MultiPortGraph} {M : Model} (f : Fine m M) (x : model.Place) (h : 
       (λ q. at-fresh (e .x) (e .y) (e .joined) (e .end) (sym (ap (λ (v : Wire). v .out) (e .is)) ∙ q))
       (λ q. at-fresh (e .y) (e .x) (f .good .joinBack (e .x) (e .y) (e .joined)) (ends-join-ends f (e .x) (e .y) (e .end) (e .joined)) (sym (ap (λ (v : Wire). v .into) (e .is)) ∙ q))
     where
-      at-fresh : (y z : model.Place) → M .join y ≡ to z → IsEnd m M y → outer m M y ≡ lift x (portsOn a (x .side)) → ⊥
+      at-fresh : (y z : model.InnerPlace) → M .join y ≡ to z → IsEnd m M y → outer m M y ≡ lift x (portsOn a (x .side)) → ⊥
       at-fresh y z j d q =
           let s : y ≡ fresh = outer-apart grown-fine y fresh (end-kept f ends-same y d) fresh-end (outer-same f ends-same y ∙ q ∙ sym fresh-outer) in
           fresh-was-free z (ap (M .join) (sym s) ∙ j)
 
-  grown-keeps : (v : model.Place) → IsEnd m M v → M .join v ≡ nowhere → (v .side ≡ x .side → ⊥) → KeptEnd m M (grown m (h .copy) g′) M′ v
+  grown-keeps : (v : model.InnerPlace) → IsEnd m M v → M .join v ≡ nowhere → (v .side ≡ x .side → ⊥) → KeptEnd m M (grown m (h .copy) g′) M′ v
   grown-keeps v e j s =
       record {
         end = end-kept f ends-same v e;
@@ -746,7 +739,7 @@ module _ {m : MultiPortGraph} {M : Model} (f : Fine m M) (x : model.Place) (h : 
           s (t ∙ ap (λ (c : ℕ). reversed (copySide m c)) q ∙ sym (h .side))
 
   -- the new subport is prepared, where all others are linked
-  grown-prepared : ((j : ℕ) → j < portsOn a (x .side) → (y : model.Place) × (M .join (inner# (h .copy) (x .side) j) ≡ to y))
+  grown-prepared : ((j : ℕ) → j < portsOn a (x .side) → (y : model.InnerPlace) × (M .join (inner# (h .copy) (x .side) j) ≡ to y))
       → PreparedEnd m M x (grown m (h .copy) g′) M′ (portOf g′ (h .copy) (x .side) (portsOn a (x .side))) (portsOn a (x .side))
   grown-prepared linked =
       record {
@@ -775,11 +768,11 @@ more-longer a b g c Outgoing n p q = (q ∙ ap (λ (k : ℕ). k + 1) (n Outgoing
 abbrev pub growth# : MultiPortGraph → ℕ → Direction → PortsSet
 growth# m c d = setNumPorts (m .graph) c (moreIn (m .graph) c d) (moreOut (m .graph) c d) enough
 
-module _ {m : MultiPortGraph} {M : Model} (f : Fine m M) (x : model.Place) (h : Hangs m M x)
-    (linked : (j : ℕ) → j < countOf (M .node (h .copy)) (x .side) → (y : model.Place) × (M .join (inner# (h .copy) (x .side) j) ≡ to y)) where
+module _ {m : MultiPortGraph} {M : Model} (f : Fine m M) (x : model.InnerPlace) (h : Hangs m M x)
+    (linked : (j : ℕ) → j < countOf (M .node (h .copy)) (x .side) → (y : model.InnerPlace) × (M .join (inner# (h .copy) (x .side) j) ≡ to y)) where
   -- a hidden node all of whose subports are linked gets one more
   pub grow-law : (m′ : MultiPortGraph) (q o : ℕ) → grow m (h .copy) (x .side) ≡ ready m′ q o → (M′ : Model) × PreparedEnd m M x m′ M′ q o
-  unfolding grow
+  unfolding growUnder
   grow-law m′ q o = go (growth# m (h .copy) (x .side) .answer) refl
     where
       done : SomeRecount (growth# m (h .copy) (x .side) .graph) M (h .copy) (moreIn (m .graph) (h .copy) (x .side)) (moreOut (m .graph) (h .copy) (x .side))

@@ -1,15 +1,16 @@
 -- What the scans over lent tables list is what the walks list: under MultiWf the links of a port, of a row of ports beyond what a
 -- cursor holds, and of all blocks.
 use mathlib.Core.Path.{_≡_, refl, sym, _∙_, ap}
-use mathlib.Core.Bool.{Bool, true, false}
-use mathlib.Core.List.{List, [], _∷_, _++_, append-nil}
+use mathlib.Core.Bool.{Bool, true, false, cond}
+use mathlib.Core.List.{List, [], _∷_, _++_, append-nil, flatMap}
 use Prim.Native.Nat.{ℕ, zero, suc, _+_, _-_, _≤_, _<_, min}
 use native.Mathlib.Omega.{arith}
 use lib.Dec.{eqb, leb, ltb}
 use lib.ListN.{getD}
 use borrow.Author.Tests.{lt-ltb, ltb-true, ltb-false, leb-true, leb-false}
 use Rattle.portgraph.specs.Limits.{nodeSlots, portSlots}
-use Rattle.portgraph.specs.Entries.{pick, freshSlot, portEntry}
+use Rattle.portgraph.specs.Lists.{range, filter}
+use Rattle.portgraph.specs.Entries.{freshSlot, portEntry}
 use Rattle.portgraph.specs.Tables.{at}
 use Rattle.portgraph.specs.TableSteps.{at-outside}
 use Rattle.portgraph.specs.Lookups.{metaAt, metaOfEntry, isSome, portAt, entryAt}
@@ -34,12 +35,12 @@ use Rattle.multiportgraph.specs.Inner.{MultiWf}
 use Rattle.multiportgraph.specs.Ends.{block-seen}
 use Rattle.multiportgraph.specs.Reads.{farIn, countBeside, firstBeside, endBeside, firstIn, endIn, wireIn}
 use Rattle.multiportgraph.specs.ReadLaws.{seen-read, subports-read, end-read-off, wire-read, end-is-port}
-use Rattle.multiportgraph.specs.Wires.{range, gather, those, isBlock, blocks, wireTo, wireOf, sideLinks, allWires, isBeyond, wiresBeyond}
+use Rattle.multiportgraph.specs.Wires.{isBlock, blocks, wireTo, wireOf, sideLinks, allWires, isBeyond, wiresBeyond}
 use Rattle.multiportgraph.specs.Walks.{bySides, portLinksSeen, portLinks, linkBeyond}
-use Rattle.multiportgraph.specs.Listing.{member-range, member-those, those-append}
-use Rattle.multiportgraph.specs.ScanLaws.{linksFromTo, linkPast, gather-same, gather-under, those-swap, offsets-past, wire-stands, links-on, links-end, those-beyond-held, links-of-split, links-of-plain, row-fits, block-links-all, block-links-rest, block-links-none}
+use Rattle.multiportgraph.specs.Listing.{member-range, member-filter, filter-append}
+use Rattle.multiportgraph.specs.ScanLaws.{linksFromTo, linkPast, flatMap-same, flatMap-under, filter-swap, offsets-past, wire-stands, links-on, links-end, filter-beyond-held, links-of-split, links-of-plain, row-fits, block-links-all, block-links-rest, block-links-none}
 use Rattle.multiportgraph.specs.Scans.{spanFirst, spanCount, linksIn, portLinksBy, portLinksIn, linksRest, beyondIn, blockLinksIn, wiresIn}
-use Rattle.multiportgraph.specs.ScanSteps.{those-every}
+use Rattle.multiportgraph.specs.ScanSteps.{filter-every}
 use Rattle.multiportgraph.specs.declared.multiportgraph.MultiPortGraph.{MultiPortGraph}
 use Rattle.multiportgraph.specs.declared.multiportgraph.SubportIndex.{SubportIndex}
 use Rattle.multiportgraph.specs.declared.multiportgraph.SubportLink.{SubportLink}
@@ -49,12 +50,12 @@ end-from-first : (owners : List ℕ) (q o x : ℕ) (d : Direction) → endBeside
 unfolding endBeside firstBeside
 end-from-first owners q o x Incoming e = go (ltb o (countBeside owners q Incoming)) e
   where
-    go : (b : Bool) → pick b (inner (firstBeside owners q Incoming + o)) lacking ≡ inner x → x ≡ firstBeside owners q Incoming + o
+    go : (b : Bool) → cond b (inner (firstBeside owners q Incoming + o)) lacking ≡ inner x → x ≡ firstBeside owners q Incoming + o
     go true h = cc
     go false h = absurd (zero-is-not-one (cc))
 end-from-first owners q o x Outgoing e = go (ltb (q + 1 + o) portSlots) (eqb (at owners (q + 1 + o)) (at owners (q + 1))) e
   where
-    go : (b c : Bool) → pick b (pick c (inner (q + 1 + o)) lacking) lacking ≡ inner x → x ≡ q + 1 + o
+    go : (b c : Bool) → cond b (cond c (inner (q + 1 + o)) lacking) lacking ≡ inner x → x ≡ q + 1 + o
     go true true h = cc
     go true false h = absurd (zero-is-not-one (cc))
     go false c h = absurd (zero-is-not-one (cc))
@@ -90,8 +91,8 @@ module _ (m : MultiPortGraph) (w : MultiWf m) where
       let k = f .good .nodesFit in
       let eq = b .node in
       let t : isSome (metaAt (m .graph) (b .place .node)) ≡ true = rw (meta-of-node (f .good) (f .holds) (b .place .node) (r .0) (r .1)) refl in
-      let h : pick (isHidden m (b .place .node)) false (isSome (metaAt (m .graph) (b .place .node))) ≡ true = rw (b .isSeen .1) t in
-      (sym (ap (λ (x : ℕ). pick (isHidden m x) false (isSome (metaAt (m .graph) x))) eq) ∙ h, omega arith)
+      let h : cond (isHidden m (b .place .node)) false (isSome (metaAt (m .graph) (b .place .node))) ≡ true = rw (b .isSeen .1) t in
+      (sym (ap (λ (x : ℕ). cond (isHidden m x) false (isSome (metaAt (m .graph) x))) eq) ∙ h, omega arith)
 
   module _ (p n : ℕ) (d : Direction) (s : seen m p ≡ visible n d) where
     abbrev first : ℕ
@@ -159,35 +160,35 @@ module _ (m : MultiPortGraph) (w : MultiWf m) where
         let e = end-slot o l in
         ap (λ (x : End). wireTo (subport# p o) (linkOfEnd m p x)) e ∙ ap (wireTo (subport# p o)) (sym (wire-read (w .fine) p n d s o (first + o) e))
 
-    links-once : portLinks m p ≡ wireOf m d (subport# p 0) → portLinks m p ≡ gather (λ i. wireOf m d (subport# p i)) (range 0 1)
-    unfolding range gather
+    links-once : portLinks m p ≡ wireOf m d (subport# p 0) → portLinks m p ≡ flatMap (λ i. wireOf m d (subport# p i)) (range 0 1)
+    unfolding range flatMap
     links-once e = e ∙ sym (append-nil (wireOf m d (subport# p 0)))
 
-    links-by-offset : portLinks m p ≡ gather (λ i. wireOf m d (subport# p i)) (range 0 count)
+    links-by-offset : portLinks m p ≡ flatMap (λ i. wireOf m d (subport# p i)) (range 0 count)
     links-by-offset = go (isSplit m p) refl
       where
-        go : (b : Bool) → isSplit m p ≡ b → portLinks m p ≡ gather (λ i. wireOf m d (subport# p i)) (range 0 count)
-        go true t = links-of-split m p n d s t ∙ ap (λ (c : ℕ). gather (λ i. wireOf m d (subport# p i)) (range 0 c)) (sym (count-split t))
-        go false t = links-once (links-of-plain m p n d s t) ∙ ap (λ (c : ℕ). gather (λ i. wireOf m d (subport# p i)) (range 0 c)) (sym (count-plain t))
+        go : (b : Bool) → isSplit m p ≡ b → portLinks m p ≡ flatMap (λ i. wireOf m d (subport# p i)) (range 0 count)
+        go true t = links-of-split m p n d s t ∙ ap (λ (c : ℕ). flatMap (λ i. wireOf m d (subport# p i)) (range 0 c)) (sym (count-split t))
+        go false t = links-once (links-of-plain m p n d s t) ∙ ap (λ (c : ℕ). flatMap (λ i. wireOf m d (subport# p i)) (range 0 c)) (sym (count-plain t))
 
     -- the links of a port whose offset is in a row of those that there are
-    pub links-under : (t : ℕ → Bool) (a b : ℕ) → those t (range 0 count) ≡ range a b
-        → those (λ (v : SubportLink). t (v .from .«subport_offset»)) (portLinks m p)
+    pub links-under : (t : ℕ → Bool) (a b : ℕ) → filter t (range 0 count) ≡ range a b
+        → filter (λ (v : SubportLink). t (v .from .«subport_offset»)) (portLinks m p)
         ≡ linksIn (m .graph .«port_link») (m .graph .«port_meta») (m .«copy_node») p first a b
     unfolding linksIn
     links-under t a b e =
-        ap (those (λ (v : SubportLink). t (v .from .«subport_offset»))) links-by-offset
-        ∙ (gather-under (λ i. wireOf m d (subport# p i)) (λ (v : SubportLink). t (v .from .«subport_offset»)) t
+        ap (filter (λ (v : SubportLink). t (v .from .«subport_offset»))) links-by-offset
+        ∙ (flatMap-under (λ i. wireOf m d (subport# p i)) (λ (v : SubportLink). t (v .from .«subport_offset»)) t
         (λ i v h. ap (λ (x : SubportIndex). t (x .«subport_offset»)) (wire-stands m d (subport# p i) v h)) (range 0 count)
-        ∙ (gather-same (λ i. wireOf m d (subport# p i)) (λ i. wireTo (subport# p i) (wireIn (m .graph .«port_link») (m .graph .«port_meta») (m .«copy_node») (first + i))) (those t (range 0 count))
-        (λ i h. let r = member-range i 0 count (member-those t i (range 0 count) h .0) in link-read i (omega arith))
-        ∙ ap (gather (λ i. wireTo (subport# p i) (wireIn (m .graph .«port_link») (m .graph .«port_meta») (m .«copy_node») (first + i)))) e))
+        ∙ (flatMap-same (λ i. wireOf m d (subport# p i)) (λ i. wireTo (subport# p i) (wireIn (m .graph .«port_link») (m .graph .«port_meta») (m .«copy_node») (first + i))) (filter t (range 0 count))
+        (λ i h. let r = member-range i 0 count (member-filter t i (range 0 count) h .0) in link-read i (omega arith))
+        ∙ ap (flatMap (λ i. wireTo (subport# p i) (wireIn (m .graph .«port_link») (m .graph .«port_meta») (m .«copy_node») (first + i)))) e))
 
     links-whole : portLinks m p ≡ linksIn (m .graph .«port_link») (m .graph .«port_meta») (m .«copy_node») p first 0 count
     unfolding linksIn
     links-whole =
         links-by-offset
-        ∙ gather-same (λ i. wireOf m d (subport# p i)) (λ i. wireTo (subport# p i) (wireIn (m .graph .«port_link») (m .graph .«port_meta») (m .«copy_node») (first + i))) (range 0 count)
+        ∙ flatMap-same (λ i. wireOf m d (subport# p i)) (λ i. wireTo (subport# p i) (wireIn (m .graph .«port_link») (m .graph .«port_meta») (m .«copy_node») (first + i))) (range 0 count)
         (λ i h. let r = member-range i 0 count h in link-read i (omega arith))
 
   abbrev tableLinks : ℕ → ℕ → List SubportLink
@@ -207,21 +208,21 @@ module _ (m : MultiPortGraph) (w : MultiWf m) where
           rw (seen-read (w .fine) p, e, z) (sym f ∙ ap (portLinksSeen m p) e)
 
   past-none : (p o : ℕ) (s : Port) → seen m p ≡ s → portLinksSeen m p s ≡ [] → portLinksBy (m .multiport) (m .graph .«port_link») (m .graph .«port_meta») (m .«copy_node») p (suc o) s ≡ []
-      → tableLinks p (suc o) ≡ those (linkPast o) (portLinks m p)
-  unfolding portLinksIn portLinks those
+      → tableLinks p (suc o) ≡ filter (linkPast o) (portLinks m p)
+  unfolding portLinksIn portLinks filter
   past-none p o s e f g = rw (seen-read (w .fine) p, e, f, g)
 
-  past-some : (p o n : ℕ) (d : Direction) → seen m p ≡ visible n d → tableLinks p (suc o) ≡ those (linkPast o) (portLinks m p)
+  past-some : (p o n : ℕ) (d : Direction) → seen m p ≡ visible n d → tableLinks p (suc o) ≡ filter (linkPast o) (portLinks m p)
   unfolding portLinksIn
   past-some p o n d e =
       let r = links-under p n d e (ltb o) (suc o) (count p n d e - suc o) (offsets-past o (count p n d e)) in
       rw (seen-read (w .fine) p, e) (sym r)
 
   -- those beyond an offset
-  pub port-links-past : (p o : ℕ) → tableLinks p (suc o) ≡ those (linkPast o) (portLinks m p)
+  pub port-links-past : (p o : ℕ) → tableLinks p (suc o) ≡ filter (linkPast o) (portLinks m p)
   port-links-past p o = go (seen m p) refl
     where
-      go : (s : Port) → seen m p ≡ s → tableLinks p (suc o) ≡ those (linkPast o) (portLinks m p)
+      go : (s : Port) → seen m p ≡ s → tableLinks p (suc o) ≡ filter (linkPast o) (portLinks m p)
       go dead e = past-none p o dead e refl refl
       go hidden e = past-none p o hidden e refl refl
       go (visible n d) e = past-some p o n d e
@@ -241,12 +242,12 @@ module _ (m : MultiPortGraph) (w : MultiWf m) where
     fits : min (portsTo k sides) portSlots ≡ portsTo k sides
     fits = let r = row-fits w n k open-node meta sides in omega arith
 
-    none : those t [] ≡ []
-    unfolding those
+    none : filter t [] ≡ []
+    unfolding filter
     none = refl
 
     abbrev listed : ℕ → ℕ → List SubportLink
-    listed held o = those (linkBeyond held o) (those t (bySides (λ d. sideLinks m d n) sides))
+    listed held o = filter (linkBeyond held o) (filter t (bySides (λ d. sideLinks m d n) sides))
 
     module _ (held o : ℕ) where
       abbrev scanned : List SubportLink
@@ -260,7 +261,7 @@ module _ (m : MultiPortGraph) (w : MultiWf m) where
       unfolding beyondIn
       scanned-rest e = rw (e, fits)
 
-      rest-within : (p : ℕ) → p < portsTo k sides → tableRest p (suc o) (portsTo k sides - p) ≡ those (linkPast o) (portLinks m p) ++ linksFromTo m (suc p) (portsTo k sides - suc p)
+      rest-within : (p : ℕ) → p < portsTo k sides → tableRest p (suc o) (portsTo k sides - p) ≡ filter (linkPast o) (portLinks m p) ++ linksFromTo m (suc p) (portsTo k sides - suc p)
       unfolding linksRest
       rest-within p l =
           let e : portsTo k sides - p ≡ suc (portsTo k sides - suc p) = omega arith in
@@ -276,32 +277,32 @@ module _ (m : MultiPortGraph) (w : MultiWf m) where
       held-is p e = ap (λ (x : ℕ). listed x o) (sym e)
 
       -- the links of a block beyond what a cursor holds, under any test
-      pub beyond-read : those t scanned ≡ listed held o
+      pub beyond-read : filter t scanned ≡ listed held o
       beyond-read = go (leb held (portsFrom k sides)) refl
         where
           beyond : (b : Bool) → ltb (held - 1) (portsTo k sides) ≡ b → leb held (portsFrom k sides) ≡ false
-              → those t (tableRest (held - 1) (suc o) (portsTo k sides - (held - 1))) ≡ listed held o
+              → filter t (tableRest (held - 1) (suc o) (portsTo k sides - (held - 1))) ≡ listed held o
           beyond true e g =
               let l = leb-false held (portsFrom k sides) g in
               let h = ltb-true (held - 1) (portsTo k sides) e in
-              ap (those t) (rest-within (held - 1) h)
-              ∙ (those-append t (those (linkPast o) (portLinks m (held - 1))) (linksFromTo m (suc (held - 1)) (portsTo k sides - suc (held - 1)))
+              ap (filter t) (rest-within (held - 1) h)
+              ∙ (filter-append t (filter (linkPast o) (portLinks m (held - 1))) (linksFromTo m (suc (held - 1)) (portsTo k sides - suc (held - 1)))
               ∙ (sym (block-links-rest w n k open-node meta t sides (held - 1) o (omega arith) h) ∙ held-is (held - 1) (omega arith)))
           beyond false e g =
               let l = leb-false held (portsFrom k sides) g in
               let h = ltb-false (held - 1) (portsTo k sides) e in
-              ap (those t) (rest-after (held - 1) h) ∙ (none ∙ (sym (block-links-none w n k open-node meta t sides (held - 1) o h) ∙ held-is (held - 1) (omega arith)))
+              ap (filter t) (rest-after (held - 1) h) ∙ (none ∙ (sym (block-links-none w n k open-node meta t sides (held - 1) o h) ∙ held-is (held - 1) (omega arith)))
 
-          go : (b : Bool) → leb held (portsFrom k sides) ≡ b → those t scanned ≡ listed held o
+          go : (b : Bool) → leb held (portsFrom k sides) ≡ b → filter t scanned ≡ listed held o
           go true e =
-              ap (those t) (scanned-all e ∙ row-read (portsTo k sides - portsFrom k sides) (portsFrom k sides))
+              ap (filter t) (scanned-all e ∙ row-read (portsTo k sides - portsFrom k sides) (portsFrom k sides))
               ∙ sym (block-links-all w n k open-node meta t sides held o (leb-true held (portsFrom k sides) e))
-          go false e = ap (those t) (scanned-rest e) ∙ beyond (ltb (held - 1) (portsTo k sides)) refl e
+          go false e = ap (filter t) (scanned-rest e) ∙ beyond (ltb (held - 1) (portsTo k sides)) refl e
 
   -- Blocks.
 
   abbrev blockPart : ℕ → ℕ → ℕ → List SubportLink
-  blockPart n held o = pick (isBlock m n) (those (linkBeyond held o) (sideLinks m Outgoing n)) []
+  blockPart n held o = cond (isBlock m n) (filter (linkBeyond held o) (sideLinks m Outgoing n)) []
 
   block-part : (n held o : ℕ)
       → blockLinksIn (m .multiport) (m .graph .«port_link») (m .graph .«port_meta») (m .«copy_node») (getD (m .graph .«node_meta») n freshSlot .entry) (flagAt (m .«copy_node») nodeSlots n) held o
@@ -311,27 +312,27 @@ module _ (m : MultiPortGraph) (w : MultiWf m) where
     where
       go : (e : NodeEntry) → entryAt (m .graph) n ≡ e → (h : Bool) → isHidden m n ≡ h
           → blockLinksIn (m .multiport) (m .graph .«port_link») (m .graph .«port_meta») (m .«copy_node») e h held o
-          ≡ pick (pick h false (isSome (metaOfEntry e))) (those (linkBeyond held o) (sideLinks m Outgoing n)) []
+          ≡ cond (cond h false (isSome (metaOfEntry e))) (filter (linkBeyond held o) (sideLinks m Outgoing n)) []
       go (node-variants.Free f) e true g = refl
       go (node-variants.Free f) e false g = refl
       go (node-variants.Node k) e true g = refl
       go (node-variants.Node k) e false g =
-          sym (those-every (beyondIn (m .multiport) (m .graph .«port_link») (m .graph .«port_meta») (m .«copy_node») (portsFrom k (One Outgoing)) (portsTo k (One Outgoing)) held o))
+          sym (filter-every (beyondIn (m .multiport) (m .graph .«port_link») (m .graph .«port_meta») (m .«copy_node») (portsFrom k (One Outgoing)) (portsTo k (One Outgoing)) held o))
           ∙ (beyond-read n k g (ap metaOfEntry e) (λ v. true) (One Outgoing) held o
-          ∙ ap (those (linkBeyond held o)) (those-every (sideLinks m Outgoing n)))
+          ∙ ap (filter (linkBeyond held o)) (filter-every (sideLinks m Outgoing n)))
 
   abbrev tableWires : ℕ → ℕ → ℕ → ℕ → List SubportLink
   tableWires n held o c = wiresIn (m .multiport) (m .graph .«port_link») (m .graph .«port_meta») (m .«copy_node») (m .graph .«node_meta») n held o c
 
-  wires-later : (c n : ℕ) → tableWires n 0 0 c ≡ gather (sideLinks m Outgoing) (those (isBlock m) (range n c))
-  unfolding wiresIn range gather those
+  wires-later : (c n : ℕ) → tableWires n 0 0 c ≡ flatMap (sideLinks m Outgoing) (filter (isBlock m) (range n c))
+  unfolding wiresIn range flatMap filter
   wires-later zero n = refl
-  wires-later (suc c) n = go (isBlock m n) (block-part n 0 0 ∙ ap (λ (l : List SubportLink). pick (isBlock m n) l []) (those-every (sideLinks m Outgoing n))) (wires-later c (suc n))
+  wires-later (suc c) n = go (isBlock m n) (block-part n 0 0 ∙ ap (λ (l : List SubportLink). cond (isBlock m n) l []) (filter-every (sideLinks m Outgoing n))) (wires-later c (suc n))
     where
-      go : (b : Bool) → blockLinksIn (m .multiport) (m .graph .«port_link») (m .graph .«port_meta») (m .«copy_node») (getD (m .graph .«node_meta») n freshSlot .entry) (flagAt (m .«copy_node») nodeSlots n) 0 0 ≡ pick b (sideLinks m Outgoing n) []
-          → tableWires (suc n) 0 0 c ≡ gather (sideLinks m Outgoing) (those (isBlock m) (range (suc n) c))
+      go : (b : Bool) → blockLinksIn (m .multiport) (m .graph .«port_link») (m .graph .«port_meta») (m .«copy_node») (getD (m .graph .«node_meta») n freshSlot .entry) (flagAt (m .«copy_node») nodeSlots n) 0 0 ≡ cond b (sideLinks m Outgoing n) []
+          → tableWires (suc n) 0 0 c ≡ flatMap (sideLinks m Outgoing) (filter (isBlock m) (range (suc n) c))
           → blockLinksIn (m .multiport) (m .graph .«port_link») (m .graph .«port_meta») (m .«copy_node») (getD (m .graph .«node_meta») n freshSlot .entry) (flagAt (m .«copy_node») nodeSlots n) 0 0 ++ tableWires (suc n) 0 0 c
-          ≡ gather (sideLinks m Outgoing) (pick b (n ∷ those (isBlock m) (range (suc n) c)) (those (isBlock m) (range (suc n) c)))
+          ≡ flatMap (sideLinks m Outgoing) (cond b (n ∷ filter (isBlock m) (range (suc n) c)) (filter (isBlock m) (range (suc n) c)))
       go true e r = λ i. e i ++ r i
       go false e r = λ i. e i ++ r i
 
@@ -345,9 +346,9 @@ module _ (m : MultiPortGraph) (w : MultiWf m) where
   unfolding wiresIn wiresBeyond blocks
   wires-beyond-read p n d o e =
       let b = seen-is-block p n d e in
-      let here = block-part n (suc p) o ∙ (ap (λ (q : Bool). pick q (those (linkBeyond (suc p) o) (sideLinks m Outgoing n)) []) (b .0) ∙ sym (those-beyond-held p o (sideLinks m Outgoing n))) in
+      let here = block-part n (suc p) o ∙ (ap (λ (q : Bool). cond q (filter (linkBeyond (suc p) o) (sideLinks m Outgoing n)) []) (b .0) ∙ sym (filter-beyond-held p o (sideLinks m Outgoing n))) in
       let more = wires-later (nodeSlots - suc n) (suc n) in
       let l : nodeSlots - n ≡ suc (nodeSlots - suc n) = let h = b .1 in omega arith in
-      let later : those (isBlock m) (range (suc n) (nodeSlots - suc n)) ≡ those (ltb n) (those (isBlock m) (range 0 nodeSlots)) =
-      ap (those (isBlock m)) (sym (offsets-past n nodeSlots)) ∙ those-swap (isBlock m) (ltb n) (range 0 nodeSlots) in
-      rw l ((λ i. here i ++ more i) ∙ ap (λ (x : List ℕ). those (isBeyond p o) (sideLinks m Outgoing n) ++ gather (sideLinks m Outgoing) x) later)
+      let later : filter (isBlock m) (range (suc n) (nodeSlots - suc n)) ≡ filter (ltb n) (filter (isBlock m) (range 0 nodeSlots)) =
+      ap (filter (isBlock m)) (sym (offsets-past n nodeSlots)) ∙ filter-swap (isBlock m) (ltb n) (range 0 nodeSlots) in
+      rw l ((λ i. here i ++ more i) ∙ ap (λ (x : List ℕ). filter (isBeyond p o) (sideLinks m Outgoing n) ++ flatMap (sideLinks m Outgoing) x) later)

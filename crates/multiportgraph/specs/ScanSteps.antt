@@ -1,13 +1,14 @@
 -- Steps of the scans over lent tables, over plain values.
 use mathlib.Core.Path.{_≡_, refl, sym, _∙_, ap}
 use mathlib.Core.Bool.{Bool, true, false}
-use mathlib.Core.List.{List, [], _∷_, _++_}
+use mathlib.Core.List.{List, [], _∷_, _++_, flatMap}
 use Prim.Native.Nat.{ℕ, suc, _+_, _-_, _≤_, _<_, min}
 use native.Mathlib.Omega.{arith}
 use lib.Dec.{eqb, leb}
 use lib.ListN.{getD}
 use borrow.Author.Tests.{le-leb, lt-leb, eq-eqb, ne-eqb}
 use Rattle.portgraph.specs.Limits.{nodeSlots, portSlots}
+use Rattle.portgraph.specs.Lists.{range, filter}
 use Rattle.portgraph.specs.Entries.{portEntry, freshSlot}
 use Rattle.portgraph.specs.Tables.{at}
 use Rattle.portgraph.specs.TableSteps.{at-outside}
@@ -29,8 +30,8 @@ use Rattle.multiportgraph.specs.Reading.{nodeNumber, Port, visible, subp
 use Rattle.multiportgraph.specs.Forms.{flagAt, seenAs}
 use Rattle.multiportgraph.specs.Reads.{farIn, seenIn, ownsUp, ownsDown, runUp, runDown, countBeside, subportsIn, firstIn, wireIn}
 use Rattle.multiportgraph.specs.ReadSteps.{run-bound}
-use Rattle.multiportgraph.specs.Wires.{range, gather, those, wireTo}
-use Rattle.multiportgraph.specs.Listing.{those-append}
+use Rattle.multiportgraph.specs.Wires.{wireTo}
+use Rattle.multiportgraph.specs.Listing.{filter-append}
 use Rattle.multiportgraph.specs.Scans.{firstFound, linkPort, spanFirst, spanCount, ownerIn, notOwnOutput, passesIn, linksIn, portLinksBy, portLinksIn, linksRest, beyondIn, blockLinksIn, wiresIn}
 use Rattle.multiportgraph.specs.declared.multiportgraph.SubportIndex.{SubportIndex}
 use Rattle.multiportgraph.specs.declared.multiportgraph.SubportLink.{SubportLink}
@@ -56,17 +57,17 @@ unfolding firstFound
 first-later [] b e = refl
 first-later (x ∷ a) b e = let z : _≡_ {A = ℕ} 0 1 = cc in absurd (omega arith)
 
-pub those-every : (l : List SubportLink) → those (λ w. true) l ≡ l
-unfolding those
-those-every [] = refl
-those-every (w ∷ l) = ap (λ r. w ∷ r) (those-every l)
+pub filter-every : (l : List SubportLink) → filter (λ w. true) l ≡ l
+unfolding filter
+filter-every [] = refl
+filter-every (w ∷ l) = ap (λ r. w ∷ r) (filter-every l)
 
 module _ (t : SubportLink → Bool) where
-  first-those-here : (a b : List SubportLink) (w : SubportLink) → firstFound (those t a) ≡ found.Link w → firstFound (those t (a ++ b)) ≡ found.Link w
-  first-those-here a b w e = ap firstFound (those-append t a b) ∙ first-here (those t a) (those t b) w e
+  first-filter-here : (a b : List SubportLink) (w : SubportLink) → firstFound (filter t a) ≡ found.Link w → firstFound (filter t (a ++ b)) ≡ found.Link w
+  first-filter-here a b w e = ap firstFound (filter-append t a b) ∙ first-here (filter t a) (filter t b) w e
 
-  first-those-later : (a b : List SubportLink) → firstFound (those t a) ≡ found.None → firstFound (those t (a ++ b)) ≡ firstFound (those t b)
-  first-those-later a b e = ap firstFound (those-append t a b) ∙ first-later (those t a) (those t b) e
+  first-filter-later : (a b : List SubportLink) → firstFound (filter t a) ≡ found.None → firstFound (filter t (a ++ b)) ≡ firstFound (filter t b)
+  first-filter-later a b e = ap firstFound (filter-append t a b) ∙ first-later (filter t a) (filter t b) e
 
 -- a link that was found stands at its port
 pub port-below : (p k : ℕ) (r : LinkFound) → linkPort p r ≡ p → p < k → 0 < k → linkPort 0 r < k
@@ -142,32 +143,32 @@ module _ (owners : List ℕ) (flags : List Bool) (f : LinkFilter) (p : ℕ) wher
 -- One end.
 
 module _ (links owners : List ℕ) (flags : List Bool) (t : SubportLink → Bool) (q : SubportIndex) (s : ℕ) where
-  pub end-by : (x : CutAnswer) → x ≡ wireIn links owners flags s → firstFound (those t (wireTo q x)) ≡ firstFound (those t (wireTo q (wireIn links owners flags s)))
-  end-by x e = ap (λ y. firstFound (those t (wireTo q y))) e
+  pub end-by : (x : CutAnswer) → x ≡ wireIn links owners flags s → firstFound (filter t (wireTo q x)) ≡ firstFound (filter t (wireTo q (wireIn links owners flags s)))
+  end-by x e = ap (λ y. firstFound (filter t (wireTo q y))) e
 
-  pub end-outside : portSlots ≤ s → found.None ≡ firstFound (those t (wireTo q (wireIn links owners flags s)))
-  unfolding wireIn firstFound those
+  pub end-outside : portSlots ≤ s → found.None ≡ firstFound (filter t (wireTo q (wireIn links owners flags s)))
+  unfolding wireIn firstFound filter
   end-outside h = rw (eq-eqb (at links s) 0 (sym (at-outside links s h)))
 
-  pub end-nothing : (x : CutAnswer) → x ≡ wireIn links owners flags s → x ≡ cutting.Nothing → found.None ≡ firstFound (those t (wireTo q (wireIn links owners flags s)))
-  unfolding firstFound those
-  end-nothing x e h = ap (λ y. firstFound (those t (wireTo q y))) (sym h) ∙ end-by x e
+  pub end-nothing : (x : CutAnswer) → x ≡ wireIn links owners flags s → x ≡ cutting.Nothing → found.None ≡ firstFound (filter t (wireTo q (wireIn links owners flags s)))
+  unfolding firstFound filter
+  end-nothing x e h = ap (λ y. firstFound (filter t (wireTo q y))) (sym h) ∙ end-by x e
 
   module _ (x : CutAnswer) (to : SubportIndex) (e : x ≡ wireIn links owners flags s) (h : x ≡ cutting.Found to) where
-    end-found : firstFound (those t (record { from = q; to = to } ∷ [])) ≡ firstFound (those t (wireTo q (wireIn links owners flags s)))
-    end-found = ap (λ y. firstFound (those t (wireTo q y))) (sym h) ∙ end-by x e
+    end-found : firstFound (filter t (record { from = q; to = to } ∷ [])) ≡ firstFound (filter t (wireTo q (wireIn links owners flags s)))
+    end-found = ap (λ y. firstFound (filter t (wireTo q y))) (sym h) ∙ end-by x e
 
-    pub end-given : t (record { from = q; to = to }) ≡ true → found.Link (record { from = q; to = to }) ≡ firstFound (those t (wireTo q (wireIn links owners flags s)))
-    unfolding firstFound those
+    pub end-given : t (record { from = q; to = to }) ≡ true → found.Link (record { from = q; to = to }) ≡ firstFound (filter t (wireTo q (wireIn links owners flags s)))
+    unfolding firstFound filter
     end-given g = rw (sym end-found, g)
 
-    pub end-passed : t (record { from = q; to = to }) ≡ false → found.None ≡ firstFound (those t (wireTo q (wireIn links owners flags s)))
-    unfolding firstFound those
+    pub end-passed : t (record { from = q; to = to }) ≡ false → found.None ≡ firstFound (filter t (wireTo q (wireIn links owners flags s)))
+    unfolding firstFound filter
     end-passed g = rw (sym end-found, g)
 
-  pub end-refused : (x : CutAnswer) (r : Refusal) → x ≡ wireIn links owners flags s → x ≡ cutting.Refused r → found.None ≡ firstFound (those t (wireTo q (wireIn links owners flags s)))
-  unfolding firstFound those
-  end-refused x r e h = ap (λ y. firstFound (those t (wireTo q y))) (sym h) ∙ end-by x e
+  pub end-refused : (x : CutAnswer) (r : Refusal) → x ≡ wireIn links owners flags s → x ≡ cutting.Refused r → found.None ≡ firstFound (filter t (wireTo q (wireIn links owners flags s)))
+  unfolding firstFound filter
+  end-refused x r e h = ap (λ y. firstFound (filter t (wireTo q y))) (sym h) ∙ end-by x e
 
 -- One port: a turn over its offsets.
 
@@ -176,67 +177,67 @@ one-less o end h = omega arith
 
 module _ (links owners : List ℕ) (flags : List Bool) (t : SubportLink → Bool) (p first o end : ℕ) where
   abbrev here : LinkFound
-  here = firstFound (those t (wireTo (subport# p o) (wireIn links owners flags (first + o))))
+  here = firstFound (filter t (wireTo (subport# p o) (wireIn links owners flags (first + o))))
 
   pub scan-turn : (r : LinkFound) → o < end → r ≡ here → r ≡ found.None
-      → firstFound (those t (linksIn links owners flags p first (o + 1) (end - (o + 1)))) ≡ firstFound (those t (linksIn links owners flags p first o (end - o)))
-  unfolding linksIn range gather
+      → firstFound (filter t (linksIn links owners flags p first (o + 1) (end - (o + 1)))) ≡ firstFound (filter t (linksIn links owners flags p first o (end - o)))
+  unfolding linksIn range flatMap
   scan-turn r h e n =
       let a : o + 1 ≡ suc o = omega arith in
-      rw (one-less o end h, a) (sym (first-those-later t _ _ (sym e ∙ n)))
+      rw (one-less o end h, a) (sym (first-filter-later t _ _ (sym e ∙ n)))
 
-  pub scan-found : (r : LinkFound) (w : SubportLink) → o < end → r ≡ here → r ≡ found.Link w → r ≡ firstFound (those t (linksIn links owners flags p first o (end - o)))
-  unfolding linksIn range gather
-  scan-found r w h e n = rw (one-less o end h) (n ∙ sym (first-those-here t _ _ w (sym e ∙ n)))
+  pub scan-found : (r : LinkFound) (w : SubportLink) → o < end → r ≡ here → r ≡ found.Link w → r ≡ firstFound (filter t (linksIn links owners flags p first o (end - o)))
+  unfolding linksIn range flatMap
+  scan-found r w h e n = rw (one-less o end h) (n ∙ sym (first-filter-here t _ _ w (sym e ∙ n)))
 
-  pub scan-done : end ≤ o → found.None ≡ firstFound (those t (linksIn links owners flags p first o (end - o)))
-  unfolding linksIn range gather those firstFound
+  pub scan-done : end ≤ o → found.None ≡ firstFound (filter t (linksIn links owners flags p first o (end - o)))
+  unfolding linksIn range flatMap filter firstFound
   scan-done h = let a : end - o ≡ 0 = omega arith in rw a
 
 -- A row of ports.
 
 module _ (marks : List Bool) (links owners : List ℕ) (flags : List Bool) where
   module _ (t : SubportLink → Bool) (p o : ℕ) where
-    pub port-links-at : (s : Port) → seenIn owners flags p ≡ s → firstFound (those t (portLinksBy marks links owners flags p o s)) ≡ firstFound (those t (portLinksIn marks links owners flags p o))
+    pub port-links-at : (s : Port) → seenIn owners flags p ≡ s → firstFound (filter t (portLinksBy marks links owners flags p o s)) ≡ firstFound (filter t (portLinksIn marks links owners flags p o))
     unfolding portLinksIn
-    port-links-at s e = ap (λ x. firstFound (those t (portLinksBy marks links owners flags p o x))) (sym e)
+    port-links-at s e = ap (λ x. firstFound (filter t (portLinksBy marks links owners flags p o x))) (sym e)
 
-    pub port-links-none : (s : Port) → seenIn owners flags p ≡ s → portLinksBy marks links owners flags p o s ≡ [] → found.None ≡ firstFound (those t (portLinksIn marks links owners flags p o))
-    unfolding firstFound those
-    port-links-none s e h = ap (λ l. firstFound (those t l)) (sym h) ∙ port-links-at s e
+    pub port-links-none : (s : Port) → seenIn owners flags p ≡ s → portLinksBy marks links owners flags p o s ≡ [] → found.None ≡ firstFound (filter t (portLinksIn marks links owners flags p o))
+    unfolding firstFound filter
+    port-links-none s e h = ap (λ l. firstFound (filter t l)) (sym h) ∙ port-links-at s e
 
     pub port-links-scanned : (n : ℕ) (d : Direction) (first end : ℕ) (r : LinkFound) → seenIn owners flags p ≡ visible n d
         → first ≡ spanFirst marks links owners p d → end ≡ spanCount marks links owners p d
-        → r ≡ firstFound (those t (linksIn links owners flags p first o (end - o))) → r ≡ firstFound (those t (portLinksIn marks links owners flags p o))
+        → r ≡ firstFound (filter t (linksIn links owners flags p first o (end - o))) → r ≡ firstFound (filter t (portLinksIn marks links owners flags p o))
     port-links-scanned n d first end r e f g h =
-        h ∙ ap (λ x. firstFound (those t (linksIn links owners flags p x o (end - o)))) f
-        ∙ ap (λ x. firstFound (those t (linksIn links owners flags p (spanFirst marks links owners p d) o (x - o)))) g ∙ port-links-at (visible n d) e
+        h ∙ ap (λ x. firstFound (filter t (linksIn links owners flags p x o (end - o)))) f
+        ∙ ap (λ x. firstFound (filter t (linksIn links owners flags p (spanFirst marks links owners p d) o (x - o)))) g ∙ port-links-at (visible n d) e
 
     module _ (stop : ℕ) where
-      pub row-turn : (r : LinkFound) → p < stop → r ≡ firstFound (those t (portLinksIn marks links owners flags p o)) → r ≡ found.None
-          → firstFound (those t (linksRest marks links owners flags (p + 1) 0 (stop - (p + 1)))) ≡ firstFound (those t (linksRest marks links owners flags p o (stop - p)))
+      pub row-turn : (r : LinkFound) → p < stop → r ≡ firstFound (filter t (portLinksIn marks links owners flags p o)) → r ≡ found.None
+          → firstFound (filter t (linksRest marks links owners flags (p + 1) 0 (stop - (p + 1)))) ≡ firstFound (filter t (linksRest marks links owners flags p o (stop - p)))
       unfolding linksRest
       row-turn r h e n =
           let a : p + 1 ≡ suc p = omega arith in
-          rw (one-less p stop h, a) (sym (first-those-later t _ _ (sym e ∙ n)))
+          rw (one-less p stop h, a) (sym (first-filter-later t _ _ (sym e ∙ n)))
 
-      pub row-found : (r : LinkFound) (w : SubportLink) → p < stop → r ≡ firstFound (those t (portLinksIn marks links owners flags p o)) → r ≡ found.Link w
-          → r ≡ firstFound (those t (linksRest marks links owners flags p o (stop - p)))
+      pub row-found : (r : LinkFound) (w : SubportLink) → p < stop → r ≡ firstFound (filter t (portLinksIn marks links owners flags p o)) → r ≡ found.Link w
+          → r ≡ firstFound (filter t (linksRest marks links owners flags p o (stop - p)))
       unfolding linksRest
-      row-found r w h e n = rw (one-less p stop h) (n ∙ sym (first-those-here t _ _ w (sym e ∙ n)))
+      row-found r w h e n = rw (one-less p stop h) (n ∙ sym (first-filter-here t _ _ w (sym e ∙ n)))
 
-      pub row-done : stop ≤ p → found.None ≡ firstFound (those t (linksRest marks links owners flags p o (stop - p)))
-      unfolding linksRest those firstFound
+      pub row-done : stop ≤ p → found.None ≡ firstFound (filter t (linksRest marks links owners flags p o (stop - p)))
+      unfolding linksRest filter firstFound
       row-done h = let a : stop - p ≡ 0 = omega arith in rw a
 
   module _ (t : SubportLink → Bool) (from end held o : ℕ) where
     pub beyond-all : (place : ℕ) → place ≡ held → place ≤ from
-        → firstFound (those t (linksRest marks links owners flags from 0 (min end portSlots - from))) ≡ firstFound (those t (beyondIn marks links owners flags from end held o))
+        → firstFound (filter t (linksRest marks links owners flags from 0 (min end portSlots - from))) ≡ firstFound (filter t (beyondIn marks links owners flags from end held o))
     unfolding beyondIn
     beyond-all place e h = rw (le-leb held from (omega arith))
 
     pub beyond-rest : (place w : ℕ) → place ≡ held → from < place → w ≡ o
-        → firstFound (those t (linksRest marks links owners flags (place - 1) (w + 1) (min end portSlots - (place - 1)))) ≡ firstFound (those t (beyondIn marks links owners flags from end held o))
+        → firstFound (filter t (linksRest marks links owners flags (place - 1) (w + 1) (min end portSlots - (place - 1)))) ≡ firstFound (filter t (beyondIn marks links owners flags from end held o))
     unfolding beyondIn
     beyond-rest place w e h f =
         let a : o + 1 ≡ suc o = omega arith in
@@ -257,10 +258,10 @@ module _ (marks : List Bool) (links owners : List ℕ) (flags : List Bool) where
 
     pub block-scanned : (e x : NodeEntry) (k : NodeMeta) (h : Bool) (a b : ℕ) (r : LinkFound) → x ≡ e → x ≡ node-variants.Node k → h ≡ false
         → a ≡ portsFrom k (One Outgoing) → b ≡ portsTo k (One Outgoing)
-        → r ≡ firstFound (those (λ w. true) (beyondIn marks links owners flags a b held o)) → r ≡ firstFound (blockLinksIn marks links owners flags e h held o)
+        → r ≡ firstFound (filter (λ w. true) (beyondIn marks links owners flags a b held o)) → r ≡ firstFound (blockLinksIn marks links owners flags e h held o)
     block-scanned e x k h a b r g f n ea eb er =
         let node : firstFound (blockLinksIn marks links owners flags (node-variants.Node k) h held o) ≡ firstFound (beyondIn marks links owners flags (portsFrom k (One Outgoing)) (portsTo k (One Outgoing)) held o) = rw n in
-        er ∙ ap firstFound (those-every (beyondIn marks links owners flags a b held o))
+        er ∙ ap firstFound (filter-every (beyondIn marks links owners flags a b held o))
         ∙ ap (λ y. firstFound (beyondIn marks links owners flags y b held o)) ea
         ∙ ap (λ y. firstFound (beyondIn marks links owners flags (portsFrom k (One Outgoing)) y held o)) eb
         ∙ sym node ∙ ap (λ y. firstFound (blockLinksIn marks links owners flags y h held o)) (sym f ∙ g)

@@ -1,11 +1,12 @@
 -- The links of ports as the lent tables tell them, in the order of the walks, and the first of them.
-use mathlib.Core.Bool.{Bool, true}
-use mathlib.Core.List.{List, [], _∷_, _++_}
+use mathlib.Core.Bool.{Bool, true, cond}
+use mathlib.Core.List.{List, [], _∷_, _++_, flatMap}
 use Prim.Native.Nat.{ℕ, zero, suc, _+_, _-_, min}
 use lib.Dec.{eqb, leb}
 use lib.ListN.{getD}
 use Rattle.portgraph.specs.Limits.{nodeSlots, portSlots}
-use Rattle.portgraph.specs.Entries.{pick, portEntry, freshSlot}
+use Rattle.portgraph.specs.Lists.{range}
+use Rattle.portgraph.specs.Entries.{portEntry, freshSlot}
 use Rattle.portgraph.specs.Tables.{at}
 use Rattle.portgraph.specs.Meaning.{sameSide}
 use Rattle.portgraph.specs.Lookups as lookups
@@ -19,7 +20,7 @@ use Rattle.portgraph.specs.declared.node_entry.NodeSlot.{NodeSlot}
 use Rattle.multiportgraph.specs.Reading.{nodeNumber, Port, dead, hidden, visible, subport#}
 use Rattle.multiportgraph.specs.Forms.{flagAt, seenAs}
 use Rattle.multiportgraph.specs.Reads.{seenIn, subportsIn, firstIn, wireIn}
-use Rattle.multiportgraph.specs.Wires.{range, gather, wireTo}
+use Rattle.multiportgraph.specs.Wires.{wireTo}
 use Rattle.multiportgraph.specs.declared.multiportgraph.SubportLink.{SubportLink}
 use Rattle.multiportgraph.specs.declared.ends.SeenPort.{SeenPort}
 use Rattle.multiportgraph.specs.declared.ends.SeenPort.the-variants as seen-port
@@ -40,10 +41,10 @@ linkPort p found.None = p
 -- The ends of a port: their first slot, one slot for each offset, and how many.
 
 unfoldable pub spanFirst : List Bool → List ℕ → List ℕ → ℕ → Direction → ℕ
-spanFirst marks links owners p d = min (pick (flagAt marks portSlots p) (firstIn links owners p d) p) portSlots
+spanFirst marks links owners p d = min (cond (flagAt marks portSlots p) (firstIn links owners p d) p) portSlots
 
 unfoldable pub spanCount : List Bool → List ℕ → List ℕ → ℕ → Direction → ℕ
-spanCount marks links owners p d = pick (flagAt marks portSlots p) (subportsIn links owners p d) 1
+spanCount marks links owners p d = cond (flagAt marks portSlots p) (subportsIn links owners p d) 1
 
 -- Filters.
 
@@ -53,11 +54,11 @@ ownerIn owners p = nodeNumber (lookups.nodeOf (portEntry (at owners p)))
 abbrev pub notOwnOutput : ℕ → SeenPort → Bool
 notOwnOutput n seen-port.Dead = true
 notOwnOutput n seen-port.Hidden = true
-notOwnOutput n (seen-port.Visible k d) = pick (eqb (k .0) n) (sameSide d Incoming) true
+notOwnOutput n (seen-port.Visible k d) = cond (eqb (k .0) n) (sameSide d Incoming) true
 
 abbrev pub passesIn : List ℕ → List Bool → LinkFilter → ℕ → Bool
 passesIn owners flags filters.All p = true
-passesIn owners flags (filters.Skip lo hi) p = pick (leb lo p) (leb hi p) true
+passesIn owners flags (filters.Skip lo hi) p = cond (leb lo p) (leb hi p) true
 passesIn owners flags (filters.NotOutputOf n) p = notOwnOutput (n .0) (seenAs (seenIn owners flags p))
 passesIn owners flags (filters.To n) p = eqb (ownerIn owners p) (n .0)
 
@@ -65,7 +66,7 @@ passesIn owners flags (filters.To n) p = eqb (ownerIn owners p) (n .0)
 
 -- so many offsets of a port from o on; its ends begin at a slot
 unfoldable pub linksIn : List ℕ → List ℕ → List Bool → ℕ → ℕ → ℕ → ℕ → List SubportLink
-linksIn links owners flags p first o count = gather (λ i. wireTo (subport# p i) (wireIn links owners flags (first + i))) (range o count)
+linksIn links owners flags p first o count = flatMap (λ i. wireTo (subport# p i) (wireIn links owners flags (first + i))) (range o count)
 
 abbrev pub portLinksBy : List Bool → List ℕ → List ℕ → List Bool → ℕ → ℕ → Port → List SubportLink
 portLinksBy marks links owners flags p o dead = []
@@ -86,7 +87,7 @@ linksRest marks links owners flags p o (suc c) =
 -- the links of the ports from `from` on and below `end` that lie beyond what a cursor holds
 unfoldable pub beyondIn : List Bool → List ℕ → List ℕ → List Bool → ℕ → ℕ → ℕ → ℕ → List SubportLink
 beyondIn marks links owners flags from end held o =
-    pick (leb held from)
+    cond (leb held from)
     (linksRest marks links owners flags from 0 (min end portSlots - from))
     (linksRest marks links owners flags (held - 1) (suc o) (min end portSlots - (held - 1)))
 
@@ -94,7 +95,7 @@ beyondIn marks links owners flags from end held o =
 abbrev pub blockLinksIn : List Bool → List ℕ → List ℕ → List Bool → NodeEntry → Bool → ℕ → ℕ → List SubportLink
 blockLinksIn marks links owners flags (node-variants.Free f) h held o = []
 blockLinksIn marks links owners flags (node-variants.Node k) h held o =
-    pick h [] (beyondIn marks links owners flags (portsFrom k (One Outgoing)) (portsTo k (One Outgoing)) held o)
+    cond h [] (beyondIn marks links owners flags (portsFrom k (One Outgoing)) (portsTo k (One Outgoing)) held o)
 
 -- those of so many node slots from n on, of n those beyond what a cursor holds
 unfoldable pub wiresIn : List Bool → List ℕ → List ℕ → List Bool → List NodeSlot → ℕ → ℕ → ℕ → ℕ → List SubportLink
@@ -102,3 +103,7 @@ wiresIn marks links owners flags nodes n held o zero = []
 wiresIn marks links owners flags nodes n held o (suc c) =
     blockLinksIn marks links owners flags (getD nodes n freshSlot .entry) (flagAt flags nodeSlots n) held o
     ++ wiresIn marks links owners flags nodes (suc n) 0 0 c
+
+-- the offset after the last one that a back end leaves of c; 0 for a back end that gave none
+abbrev pub endBefore : ℕ → ℕ → ℕ
+endBefore back c = cond (eqb back 0) c (min c (back - 1))

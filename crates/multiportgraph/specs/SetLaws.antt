@@ -1,7 +1,7 @@
 -- Other counts for a block: the lower resize leaves the hidden nodes of dropped ports hanging on nothing (`Loose`), and they go
 -- one after the other. Every wire at a dropped position goes, all others stay.
 use mathlib.Core.Path.{_≡_, refl, sym, _∙_, ap, subst}
-use mathlib.Core.Bool.{Bool, true, false}
+use mathlib.Core.Bool.{Bool, true, false, cond, _||_}
 use mathlib.Core.List.{List, [], _∷_, _++_}
 use mathlib.Core.Logic.{_⊎_, inl, inr, ⊎-elim}
 use Prim.Native.Nat.{ℕ, zero, suc, _+_, _-_, _≤_, _<_, min}
@@ -10,11 +10,12 @@ use lib.Dec.{leb}
 use lib.ListN.{set, length, length-set}
 use lib.Seq.{getD-set-same, getD-set-other}
 use borrow.Author.Tests.{leb-true, leb-false, eqb-false, le-leb, eq-eqb, ne-eqb}
-use Rattle.portgraph.specs.Limits.{nodeSlots, portSlots, nodePorts}
-use Rattle.portgraph.specs.Entries.{pick, reversed, portsOn}
+use Rattle.portgraph.specs.Limits.{nodeSlots, portSlots, nodePorts, present}
+use Rattle.portgraph.specs.Lists.{Member, Once}
+use Rattle.portgraph.specs.Entries.{reversed, portsOn}
 use Rattle.portgraph.specs.Lookups.{metaAt, numPorts, countIn}
 use Rattle.portgraph.specs.Model as model
-use Rattle.portgraph.specs.Model.{Model, Far, nowhere, to, Slots, gone, live, Good, Holds, Valid, In, Uniq, Within, slotOf, countOf, portsOf, total}
+use Rattle.portgraph.specs.Model.{Model, Far, nowhere, to, Slots, gone, live, Good, Holds, Valid, Within, slotOf, countOf, portsOf, total}
 use Rattle.portgraph.specs.Meaning.{beyond, newCount, atNode, removeModel}
 use Rattle.portgraph.specs.Calls.{removeNode}
 use Rattle.portgraph.specs.Resize.{setNumPorts}
@@ -33,10 +34,8 @@ use Rattle.portgraph.specs.declared.portgraph.PortGraph.{PortGraph}
 use Rattle.portgraph.specs.declared.resize.SetAnswer as lower-set-answer
 use Rattle.portgraph.specs.declared.resize.SetAnswer.the-variants as lower-set
 use Rattle.multiportgraph.specs.Reading.{isHidden, isSplit, copySide, copyNode, portNumber, portOf}
-use Rattle.multiportgraph.specs.Calls.{recounted, copiesIn, copiesDropped, removeCopy, removeLone, removeAll, setAs, resized, setMeta, setCounts}
-use Rattle.multiportgraph.specs.Wires.{Place, Wire}
-use Rattle.multiportgraph.specs.Book.{touches, orElse, ofDropped}
-use Rattle.multiportgraph.specs.Inner.{inner#, copyPlace, Fine, Marked, copy-port, main-port, flag, subportsIn, BlockIs, outer, IsEnd, Wiring}
+use Rattle.multiportgraph.specs.Calls.{setAs, setCounts, setCountsUnder}
+use Rattle.multiportgraph.specs.Inner.{inner#, copyPlace, Fine, Marked, copy-port, main-port, BlockIs, outer, IsEnd, Wiring, subportsOfSlot}
 use Rattle.multiportgraph.specs.Ends.{hangs, one-copy, split-has-copy, copy-valid, main-seen, outer-of-subport, outer-of-block}
 use Rattle.multiportgraph.specs.Frame.{copy-side-is, true-not-false}
 use Rattle.multiportgraph.specs.RecountLaws.{Recount, SomeRecount, set-recounts, below-stays, stays-below, count-new, slotIn, PlaceAt, place-among, number-cases, WasMarked, Shape, recount-marks, marked-was, marks-long, other-count, count-after, both-sides}
@@ -46,24 +45,28 @@ use Rattle.multiportgraph.specs.declared.multiportgraph.Refusal.{Refusal
 use Rattle.multiportgraph.specs.declared.multiportgraph.Refusal.the-variants.{TooManyPorts, UnknownNode, HiddenNode}
 use Rattle.multiportgraph.specs.declared.multiportgraph.SetAnswer.{SetAnswer}
 use Rattle.multiportgraph.specs.declared.multiportgraph.SetAnswer.the-variants as resize
+use Rattle.multiportgraph.specs.Places.{Place, Wire, touches, ofDropped, flag}
+use Rattle.multiportgraph.specs.HiddenNodes.{recounted, copiesIn, copiesDropped, removeCopy, removeLone, removeAll}
+use Rattle.multiportgraph.specs.Cases.{resized, setMeta}
+use Rattle.multiportgraph.specs.CaseLaws.{set-cases}
 
 -- Lists.
 
-in-append : (c : ℕ) (l k : List ℕ) → In c (l ++ k) → In c l ⊎ In c k
+in-append : (c : ℕ) (l k : List ℕ) → Member c (l ++ k) → Member c l ⊎ Member c k
 in-append c [] k h = inr h
 in-append c (x ∷ l) k (inl e) = inl (inl e)
 in-append c (x ∷ l) k (inr h) = ⊎-elim (λ t. inl (inr t)) inr (in-append c l k h)
 
-append-left : (c : ℕ) (l k : List ℕ) → In c l → In c (l ++ k)
+append-left : (c : ℕ) (l k : List ℕ) → Member c l → Member c (l ++ k)
 append-left c [] k h = absurd h
 append-left c (x ∷ l) k (inl e) = inl e
 append-left c (x ∷ l) k (inr h) = inr (append-left c l k h)
 
-append-right : (c : ℕ) (l k : List ℕ) → In c k → In c (l ++ k)
+append-right : (c : ℕ) (l k : List ℕ) → Member c k → Member c (l ++ k)
 append-right c [] k h = h
 append-right c (x ∷ l) k h = inr (append-right c l k h)
 
-uniq-append : (l k : List ℕ) → Uniq l → Uniq k → ((c : ℕ) → In c l → In c k → ⊥) → Uniq (l ++ k)
+uniq-append : (l k : List ℕ) → Once l → Once k → ((c : ℕ) → Member c l → Member c k → ⊥) → Once (l ++ k)
 uniq-append [] k u v d = v
 uniq-append (x ∷ l) k u v d =
     ((λ h. ⊎-elim (u .0) (d x (inl refl)) (in-append x l k h)), uniq-append l k (u .1) v (λ c p q. d c (inr p) q))
@@ -77,7 +80,7 @@ record CopyAt (m : MultiPortGraph) (p k c : ℕ) : Type 0 where
   split : isSplit m slot ≡ true
   is : copyNode m slot ≡ c
 
-in-copies : (k : ℕ) (m : MultiPortGraph) (p c : ℕ) → In c (copiesIn m p k) → CopyAt m p k c
+in-copies : (k : ℕ) (m : MultiPortGraph) (p c : ℕ) → Member c (copiesIn m p k) → CopyAt m p k c
 unfolding copiesIn
 in-copies zero m p c h = absurd h
 in-copies (suc k) m p c h = go (isSplit m p) refl (in-copies k m (suc p) c) h
@@ -85,22 +88,22 @@ in-copies (suc k) m p c h = go (isSplit m p) refl (in-copies k m (suc p) c) h
     later : CopyAt m (suc p) k c → CopyAt m p (suc k) c
     later t = let l = t .low in let u = t .high in record { slot = t .slot; low = omega arith; high = omega arith; split = t .split; is = t .is }
 
-    go : (b : Bool) → isSplit m p ≡ b → (In c (copiesIn m (suc p) k) → CopyAt m (suc p) k c) → In c (pick b (copyNode m p ∷ copiesIn m (suc p) k) (copiesIn m (suc p) k)) → CopyAt m p (suc k) c
+    go : (b : Bool) → isSplit m p ≡ b → (Member c (copiesIn m (suc p) k) → CopyAt m (suc p) k c) → Member c (cond b (copyNode m p ∷ copiesIn m (suc p) k) (copiesIn m (suc p) k)) → CopyAt m p (suc k) c
     go true e r (inl q) = record { slot = p; low = omega arith; high = omega arith; split = e; is = sym q }
     go true e r (inr q) = later (r q)
     go false e r q = later (r q)
 
-copies-in : (k : ℕ) (m : MultiPortGraph) (p s : ℕ) → p ≤ s → s < p + k → isSplit m s ≡ true → In (copyNode m s) (copiesIn m p k)
+copies-in : (k : ℕ) (m : MultiPortGraph) (p s : ℕ) → p ≤ s → s < p + k → isSplit m s ≡ true → Member (copyNode m s) (copiesIn m p k)
 unfolding copiesIn
 copies-in zero m p s l u e = absurd (omega arith)
 copies-in (suc k) m p s l u e = ⊎-elim now (λ q. later (isSplit m p) (copies-in k m (suc p) s (omega arith) (omega arith) e)) (number-cases s p)
   where
-    now : s ≡ p → In (copyNode m s) (pick (isSplit m p) (copyNode m p ∷ copiesIn m (suc p) k) (copiesIn m (suc p) k))
+    now : s ≡ p → Member (copyNode m s) (cond (isSplit m p) (copyNode m p ∷ copiesIn m (suc p) k) (copiesIn m (suc p) k))
     now q =
         let t : isSplit m p ≡ true = sym (ap (isSplit m) q) ∙ e in
-        subst (λ (b : Bool). In (copyNode m s) (pick b (copyNode m p ∷ copiesIn m (suc p) k) (copiesIn m (suc p) k))) (sym t) (inl (ap (copyNode m) q))
+        subst (λ (b : Bool). Member (copyNode m s) (cond b (copyNode m p ∷ copiesIn m (suc p) k) (copiesIn m (suc p) k))) (sym t) (inl (ap (copyNode m) q))
 
-    later : (b : Bool) → In (copyNode m s) (copiesIn m (suc p) k) → In (copyNode m s) (pick b (copyNode m p ∷ copiesIn m (suc p) k) (copiesIn m (suc p) k))
+    later : (b : Bool) → Member (copyNode m s) (copiesIn m (suc p) k) → Member (copyNode m s) (cond b (copyNode m p ∷ copiesIn m (suc p) k) (copiesIn m (suc p) k))
     later true h = inr h
     later false h = h
 
@@ -108,14 +111,14 @@ copies-in (suc k) m p s l u e = ⊎-elim now (λ q. later (isSplit m p) (copies-
 Apart : MultiPortGraph → ℕ → ℕ → Type 0
 Apart m p k = (s t : ℕ) → Within p k s → Within p k t → isSplit m s ≡ true → isSplit m t ≡ true → copyNode m s ≡ copyNode m t → s ≡ t
 
-uniq-copies : (k : ℕ) (m : MultiPortGraph) (p : ℕ) → Apart m p k → Uniq (copiesIn m p k)
+uniq-copies : (k : ℕ) (m : MultiPortGraph) (p : ℕ) → Apart m p k → Once (copiesIn m p k)
 unfolding copiesIn Apart
 uniq-copies zero m p a = tt
 uniq-copies (suc k) m p a =
     go (isSplit m p) refl (uniq-copies k m (suc p) (λ s t u v.
     let u0 = u .0 in let u1 = u .1 in let v0 = v .0 in let v1 = v .1 in a s t ((omega arith), (omega arith)) ((omega arith), (omega arith))))
   where
-    go : (b : Bool) → isSplit m p ≡ b → Uniq (copiesIn m (suc p) k) → Uniq (pick b (copyNode m p ∷ copiesIn m (suc p) k) (copiesIn m (suc p) k))
+    go : (b : Bool) → isSplit m p ≡ b → Once (copiesIn m (suc p) k) → Once (cond b (copyNode m p ∷ copiesIn m (suc p) k) (copiesIn m (suc p) k))
     go true e r = (
       (λ h.
           let t = in-copies k m (suc p) (copyNode m p) h in
@@ -137,7 +140,7 @@ droppedOuts m a o = copiesIn m (a .«first_port» .0 + a .incoming + min (a .out
 
 -- a hidden node whose main port is dropped
 pub record DroppedMain (m : MultiPortGraph) (M : Model) (n i o c : ℕ) : Type 0 where
-  pub main : model.Place
+  pub main : model.InnerPlace
   pub isCopy : isHidden m c ≡ true
   pub joined : M .join (copyPlace m c) ≡ to main
   pub node : main .node ≡ n
@@ -163,10 +166,10 @@ module _ {m : MultiPortGraph} {M : Model} (f : Fine m M) (n : ℕ) (a : NodeMeta
       let k = hung-at t r d .1 in
       let w : M .join (copyPlace m (copyNode m s)) ≡ M .join (copyPlace m (copyNode m t)) = ap (λ (c : ℕ). M .join (copyPlace m c)) q in
       let same : inner# n (p .side) (p .pos) ≡ inner# n (r .side) (r .pos) = cc in
-      sym (p .slot) ∙ ap (λ (y : model.Place). slotIn (live a) (y .side) (y .pos)) same ∙ r .slot
+      sym (p .slot) ∙ ap (λ (y : model.InnerPlace). slotIn (live a) (y .side) (y .pos)) same ∙ r .slot
 
   module _ (i o : ℕ) where
-    dropped-has : (c : ℕ) → In c (copiesDropped m a i o) → DroppedMain m M n i o c
+    dropped-has : (c : ℕ) → Member c (copiesDropped m a i o) → DroppedMain m M n i o c
     unfolding copiesDropped
     dropped-has c h = ⊎-elim ins outs (in-append c (droppedIns m a i) (droppedOuts m a o) h)
       where
@@ -181,21 +184,21 @@ module _ {m : MultiPortGraph} {M : Model} (f : Fine m M) (n : ℕ) (a : NodeMeta
               dropped = b;
             }
 
-        ins : In c (droppedIns m a i) → DroppedMain m M n i o c
+        ins : Member c (droppedIns m a i) → DroppedMain m M n i o c
         ins h =
             let t = in-copies _ m _ c h in
             let l = t .low in
             let u = t .high in
             found Incoming (t .slot - a .«first_port» .0) (t .slot) (omega arith) (omega arith) (omega arith) (t .split) (t .is)
 
-        outs : In c (droppedOuts m a o) → DroppedMain m M n i o c
+        outs : Member c (droppedOuts m a o) → DroppedMain m M n i o c
         outs h =
             let t = in-copies _ m _ c h in
             let l = t .low in
             let u = t .high in
             found Outgoing (t .slot - (a .«first_port» .0 + a .incoming)) (t .slot) (omega arith) (omega arith) (omega arith) (t .split) (t .is)
 
-    has-dropped : (c : ℕ) → DroppedMain m M n i o c → In c (copiesDropped m a i o)
+    has-dropped : (c : ℕ) → DroppedMain m M n i o c → Member c (copiesDropped m a i o)
     unfolding copiesDropped
     has-dropped c t = go (t .main .side) refl
       where
@@ -218,22 +221,22 @@ module _ {m : MultiPortGraph} {M : Model} (f : Fine m M) (n : ℕ) (a : NodeMeta
         named : copyNode m (slotOf (M .node) (t .main)) ≡ c
         named = let h = hangs f c (t .main) (t .isCopy) (t .joined) in h .copyIs ∙ one-copy f (h .copy) c (t .main) (h .from) (t .joined)
 
-        go : (d : Direction) → t .main .side ≡ d → In c (droppedIns m a i ++ droppedOuts m a o)
+        go : (d : Direction) → t .main .side ≡ d → Member c (droppedIns m a i ++ droppedOuts m a o)
         go Incoming e =
             let l = count Incoming e in
             let u = beyond-by Incoming e in
             let q = slot-by Incoming e in
-            append-left c (droppedIns m a i) (droppedOuts m a o) (subst (λ (k : ℕ). In k (droppedIns m a i)) named
+            append-left c (droppedIns m a i) (droppedOuts m a o) (subst (λ (k : ℕ). Member k (droppedIns m a i)) named
             (copies-in _ m _ (slotOf (M .node) (t .main)) (omega arith) (omega arith) marked))
         go Outgoing e =
             let l = count Outgoing e in
             let u = beyond-by Outgoing e in
             let q = slot-by Outgoing e in
             append-right c (droppedIns m a i) (droppedOuts m a o)
-            (subst (λ (k : ℕ). In k (droppedOuts m a o)) named
+            (subst (λ (k : ℕ). Member k (droppedOuts m a o)) named
             (copies-in _ m _ (slotOf (M .node) (t .main)) (omega arith) (omega arith) marked))
 
-    uniq-dropped : Uniq (copiesDropped m a i o)
+    uniq-dropped : Once (copiesDropped m a i o)
     unfolding copiesDropped Apart
     uniq-dropped =
         uniq-append (droppedIns m a i) (droppedOuts m a o)
@@ -256,14 +259,14 @@ pub record Loose (m : MultiPortGraph) (M : Model) (cs : List ℕ) : Type 0 where
   pub marksLong : length (m .multiport) ≡ portSlots
   pub flagsLong : length (m .«copy_node») ≡ nodeSlots
   pub shape : (c : ℕ) → isHidden m c ≡ true → Shape m M c
-  pub hung : (c : ℕ) → isHidden m c ≡ true → (In c cs → ⊥) → (x : model.Place) × (M .join (copyPlace m c) ≡ to x) × (isHidden m (x .node) ≡ false)
-  pub loose : (c : ℕ) → In c cs → (isHidden m c ≡ true) × (M .join (copyPlace m c) ≡ nowhere)
-  pub once : Uniq cs
+  pub hung : (c : ℕ) → isHidden m c ≡ true → (Member c cs → ⊥) → (x : model.InnerPlace) × (M .join (copyPlace m c) ≡ to x) × (isHidden m (x .node) ≡ false)
+  pub loose : (c : ℕ) → Member c cs → (isHidden m c ≡ true) × (M .join (copyPlace m c) ≡ nowhere)
+  pub once : Once cs
   pub copyMarked : (c : ℕ) → isHidden m c ≡ true → isSplit m (slotOf (M .node) (copyPlace m c)) ≡ true
-  pub mainMarked : (c : ℕ) (x : model.Place) → isHidden m c ≡ true → M .join (copyPlace m c) ≡ to x → isSplit m (slotOf (M .node) x) ≡ true
+  pub mainMarked : (c : ℕ) (x : model.InnerPlace) → isHidden m c ≡ true → M .join (copyPlace m c) ≡ to x → isSplit m (slotOf (M .node) x) ≡ true
   pub onlyMarked : (s : ℕ) → isSplit m s ≡ true → Marked m M s
   pub copies : m .«copy_node_count» ≡ total nodeSlots (λ n. flag (isHidden m n))
-  pub subs : m .«subport_count» ≡ total nodeSlots (subportsIn m M)
+  pub subs : m .«subport_count» ≡ total nodeSlots (subportsOfSlot m M)
 
 -- with none left it is the invariant
 pub loose-fine : {m : MultiPortGraph} {M : Model} → Loose m M [] → Fine m M
@@ -291,7 +294,7 @@ copy-is-there {m} {M} l k h =
     let e : countOf (M .node k) (copySide m k) ≡ 1 = ap (λ (s : Slots). countOf s (copySide m k)) (t .here) ∙ t .single in
     omega arith
 
-nowhere-not-to : {w : Far} {x : model.Place} → w ≡ nowhere → w ≡ to x → ⊥
+nowhere-not-to : {w : Far} {x : model.InnerPlace} → w ≡ nowhere → w ≡ to x → ⊥
 nowhere-not-to p q = zero-is-not-one (cc)
 
 -- A loose hidden node goes.
@@ -334,7 +337,7 @@ module _ {m : MultiPortGraph} {M : Model} (c : ℕ) (cs : List ℕ) (l : Loose m
   lone-other : (k : ℕ) → (k ≡ c → ⊥) → lone .node k ≡ M .node k
   lone-other k h = upd-other (M .node) c gone k h
 
-  lone-slot : (x : model.Place) → (x .node ≡ c → ⊥) → slotOf (lone .node) x ≡ slotOf (M .node) x
+  lone-slot : (x : model.InnerPlace) → (x .node ≡ c → ⊥) → slotOf (lone .node) x ≡ slotOf (M .node) x
   lone-slot x h = ap (λ (s : Slots). slotIn s (x .side) (x .pos)) (lone-other (x .node) h)
 
   -- hidden nodes
@@ -368,13 +371,13 @@ module _ {m : MultiPortGraph} {M : Model} (c : ℕ) (cs : List ℕ) (l : Loose m
       rw (← e) (getD-set-same (set (m .multiport) (portOf (m .graph) c (copySide m c) 0) false) (portOf (m .graph) c (copySide m c) 0) false false (omega arith))
 
   -- links
-  elsewhere : (x : model.Place) → (x .node ≡ c → ⊥) → atNode c x ≡ false
+  elsewhere : (x : model.InnerPlace) → (x .node ≡ c → ⊥) → atNode c x ≡ false
   elsewhere x h = ne-eqb (x .node) c h
 
-  lone-join : (x y : model.Place) → (x .node ≡ c → ⊥) → (y .node ≡ c → ⊥) → M .join x ≡ to y → lone .join x ≡ to y
+  lone-join : (x y : model.InnerPlace) → (x .node ≡ c → ⊥) → (y .node ≡ c → ⊥) → M .join x ≡ to y → lone .join x ≡ to y
   lone-join x y h k j = drop-kept (atNode c) (M .join) x y j (elsewhere x h) (elsewhere y k)
 
-  lone-joined : (x y : model.Place) → lone .join x ≡ to y → (M .join x ≡ to y) × (x .node ≡ c → ⊥) × (y .node ≡ c → ⊥)
+  lone-joined : (x y : model.InnerPlace) → lone .join x ≡ to y → (M .join x ≡ to y) × (x .node ≡ c → ⊥) × (y .node ≡ c → ⊥)
   lone-joined x y j =
       let t = drop-joined (atNode c) (M .join) x y j in
       (t .0, eqb-false (x .node) c (t .1), eqb-false (y .node) c (t .2))
@@ -394,10 +397,10 @@ module _ {m : MultiPortGraph} {M : Model} (c : ℕ) (cs : List ℕ) (l : Loose m
   lone-place k ne h = ap (λ (d : Direction). inner# k d 0) (lone-side k ne h)
 
   -- a place of another node is not at the copy port's slot
-  not-there : (x : model.Place) → Valid (M .node) x → (x .node ≡ c → ⊥) → slotOf (M .node) x ≡ slotOf (M .node) (copyPlace m c) → ⊥
-  not-there x v ne e = ne (ap (λ (y : model.Place). y .node) (slots-apart (l .good) x (copyPlace m c) v copy-there e))
+  not-there : (x : model.InnerPlace) → Valid (M .node) x → (x .node ≡ c → ⊥) → slotOf (M .node) x ≡ slotOf (M .node) (copyPlace m c) → ⊥
+  not-there x v ne e = ne (ap (λ (y : model.InnerPlace). y .node) (slots-apart (l .good) x (copyPlace m c) v copy-there e))
 
-  lone-mark-at : (x : model.Place) → Valid (M .node) x → (x .node ≡ c → ⊥) → isSplit (removeLone m c) (slotOf (lone .node) x) ≡ isSplit m (slotOf (M .node) x)
+  lone-mark-at : (x : model.InnerPlace) → Valid (M .node) x → (x .node ≡ c → ⊥) → isSplit (removeLone m c) (slotOf (lone .node) x) ≡ isSplit m (slotOf (M .node) x)
   lone-mark-at x v ne = ap (isSplit (removeLone m c)) (lone-slot x ne) ∙ lone-mark (slotOf (M .node) x) (not-there x v ne)
 
   lone-only : (s : ℕ) → isSplit (removeLone m c) s ≡ true → Marked (removeLone m c) lone s
@@ -415,7 +418,7 @@ module _ {m : MultiPortGraph} {M : Model} (c : ℕ) (cs : List ℕ) (l : Loose m
           let t = l .hung k h (λ u. nowhere-not-to (l .loose k u .1) j) in
           let d = t .1 in
           let same : t .0 ≡ x = cc in
-          let xe : (x .node ≡ c → ⊥) = λ u. true-not-false (ap (isHidden m) u ∙ is-hidden) (sym (ap (λ (y : model.Place). isHidden m (y .node)) same) ∙ t .2) in
+          let xe : (x .node ≡ c → ⊥) = λ u. true-not-false (ap (isHidden m) u ∙ is-hidden) (sym (ap (λ (y : model.InnerPlace). isHidden m (y .node)) same) ∙ t .2) in
           main-port k x (lone-hidden k ne ∙ h) (ap (lone .join) (lone-place k ne h) ∙ lone-join (copyPlace m k) x ne xe j) (lone-slot x xe ∙ q)
 
   lone-marks-long : length (removeLone m c .multiport) ≡ portSlots
@@ -438,12 +441,12 @@ module _ {m : MultiPortGraph} {M : Model} (c : ℕ) (cs : List ℕ) (l : Loose m
       let s = l .copies in
       omega arith
 
-  lone-subs : removeLone m c .«subport_count» ≡ total nodeSlots (subportsIn (removeLone m c) lone)
+  lone-subs : removeLone m c .«subport_count» ≡ total nodeSlots (subportsOfSlot (removeLone m c) lone)
   unfolding removeLone removeCopy
   lone-subs =
-      let one = total-one nodeSlots c (subportsIn m M) (subportsIn (removeLone m c) lone) below (λ k h ne. sym (rw (lone-hidden k ne, lone-other k ne))) in
-      let p : subportsIn m M c ≡ (meta-there .incoming + meta-there .outgoing) - 1 = ap (λ (b : Bool). pick b (portsOf (M .node c) - 1) 0) is-hidden ∙ ap (λ (s : Slots). portsOf s - 1) here-there in
-      let q : subportsIn (removeLone m c) lone c ≡ 0 = ap (λ (b : Bool). pick b (portsOf (lone .node c) - 1) 0) lone-shown in
+      let one = total-one nodeSlots c (subportsOfSlot m M) (subportsOfSlot (removeLone m c) lone) below (λ k h ne. sym (rw (lone-hidden k ne, lone-other k ne))) in
+      let p : subportsOfSlot m M c ≡ (meta-there .incoming + meta-there .outgoing) - 1 = ap (λ (b : Bool). cond b (portsOf (M .node c) - 1) 0) is-hidden ∙ ap (λ (s : Slots). portsOf s - 1) here-there in
+      let q : subportsOfSlot (removeLone m c) lone c ≡ 0 = ap (λ (b : Bool). cond b (portsOf (lone .node c) - 1) 0) lone-shown in
       let n : numPorts (m .graph) c (reversed (copySide m c)) ≡ portsOn meta-there (reversed (copySide m c)) = ap (λ k. countIn k (reversed (copySide m c))) (meta-of-node (l .good) (l .holds) c meta-there here-there) in
       let t = both-sides meta-there (copySide m c) in
       let u = l .shape c is-hidden .single in
@@ -474,12 +477,12 @@ module _ {m : MultiPortGraph} {M : Model} (c : ℕ) (cs : List ℕ) (l : Loose m
             (t .0, ap (lone .join) (lone-place k (w .0) (w .1)) ∙ lone-join (copyPlace m k) (t .0) (w .0) xe (t .1), lone-hidden (t .0 .node) xe ∙ t .2);
         loose = λ k h.
             let t = l .loose k (inr h) in
-            let ne : (k ≡ c → ⊥) = λ q. l .once .0 (subst (λ (j : ℕ). In j cs) q h) in
+            let ne : (k ≡ c → ⊥) = λ q. l .once .0 (subst (λ (j : ℕ). Member j cs) q h) in
             (lone-hidden k ne ∙ t .0, ap (lone .join) (lone-place k ne (t .0)) ∙ drop-nowhere (atNode c) (M .join) (copyPlace m k) (t .1));
         once = l .once .1;
         copyMarked = λ k h.
             let w = still k h in
-            ap (λ (y : model.Place). isSplit (removeLone m c) (slotOf (lone .node) y)) (lone-place k (w .0) (w .1))
+            ap (λ (y : model.InnerPlace). isSplit (removeLone m c) (slotOf (lone .node) y)) (lone-place k (w .0) (w .1))
             ∙ lone-mark-at (copyPlace m k) (copy-is-there l k (w .1)) (w .0) ∙ l .copyMarked k (w .1);
         mainMarked = λ k x h j.
             let w = still k h in
@@ -493,25 +496,25 @@ module _ {m : MultiPortGraph} {M : Model} (c : ℕ) (cs : List ℕ) (l : Loose m
 -- What is left of a graph (m, M) while the hidden nodes of `all` go, of which `cs` are still there.
 
 -- a place that stays: not at a dropped position of n, and not of a hidden node that goes
-abbrev pub Stays : ℕ → ℕ → ℕ → List ℕ → model.Place → Type 0
-Stays n i o all x = (x .node ≡ n → x .pos < newCount i o (x .side)) × (In (x .node) all → ⊥)
+abbrev pub Stays : ℕ → ℕ → ℕ → List ℕ → model.InnerPlace → Type 0
+Stays n i o all x = (x .node ≡ n → x .pos < newCount i o (x .side)) × (Member (x .node) all → ⊥)
 
 pub record Tracks (m : MultiPortGraph) (M : Model) (m′ : MultiPortGraph) (M′ : Model) (n i o : ℕ) (b : NodeMeta) (all cs : List ℕ) : Type 0 where
   pub ins : b .incoming ≡ i
   pub outs : b .outgoing ≡ o
   pub here : M′ .node n ≡ live b
-  pub apart : In n all → ⊥
-  pub nodes : (k : ℕ) → (k ≡ n → ⊥) → (In k all → ⊥) → M′ .node k ≡ M .node k
-  pub hid : (k : ℕ) → (In k all → ⊥) → isHidden m′ k ≡ isHidden m k
-  pub went : (k : ℕ) → In k all → In k cs ⊎ (M′ .node k ≡ gone)
-  pub among : (k : ℕ) → In k cs → In k all
-  pub was : (x y : model.Place) → M′ .join x ≡ to y → M .join x ≡ to y
-  pub left : (x y : model.Place) → M .join x ≡ to y → Stays n i o all x → Stays n i o all y → M′ .join x ≡ to y
-  pub marks : (x : model.Place) → Valid (M .node) x → Stays n i o all x → isSplit m′ (slotOf (M′ .node) x) ≡ isSplit m (slotOf (M .node) x)
+  pub apart : Member n all → ⊥
+  pub nodes : (k : ℕ) → (k ≡ n → ⊥) → (Member k all → ⊥) → M′ .node k ≡ M .node k
+  pub hid : (k : ℕ) → (Member k all → ⊥) → isHidden m′ k ≡ isHidden m k
+  pub went : (k : ℕ) → Member k all → Member k cs ⊎ (M′ .node k ≡ gone)
+  pub among : (k : ℕ) → Member k cs → Member k all
+  pub was : (x y : model.InnerPlace) → M′ .join x ≡ to y → M .join x ≡ to y
+  pub left : (x y : model.InnerPlace) → M .join x ≡ to y → Stays n i o all x → Stays n i o all y → M′ .join x ≡ to y
+  pub marks : (x : model.InnerPlace) → Valid (M .node) x → Stays n i o all x → isSplit m′ (slotOf (M′ .node) x) ≡ isSplit m (slotOf (M .node) x)
 
 module _ {m : MultiPortGraph} {M : Model} {m′ : MultiPortGraph} {M′ : Model} {n i o : ℕ} {b : NodeMeta} {all : List ℕ} where
   -- what stays has its port
-  stays-valid : {cs : List ℕ} → Tracks m M m′ M′ n i o b all cs → (x : model.Place) → Stays n i o all x → Valid (M .node) x → Valid (M′ .node) x
+  stays-valid : {cs : List ℕ} → Tracks m M m′ M′ n i o b all cs → (x : model.InnerPlace) → Stays n i o all x → Valid (M .node) x → Valid (M′ .node) x
   stays-valid t x s v = ⊎-elim
       (λ e.
       let p : countOf (M′ .node (x .node)) (x .side) ≡ portsOn b (x .side) = ap (λ (k : Slots). countOf k (x .side)) (ap (M′ .node) e ∙ t .here) in
@@ -522,7 +525,7 @@ module _ {m : MultiPortGraph} {M : Model} {m′ : MultiPortGraph} {M′ : Model}
       (number-cases (x .node) n)
 
   -- in the end what has a port stays
-  valid-stays : Tracks m M m′ M′ n i o b all [] → (x : model.Place) → Valid (M′ .node) x → Stays n i o all x
+  valid-stays : Tracks m M m′ M′ n i o b all [] → (x : model.InnerPlace) → Valid (M′ .node) x → Stays n i o all x
   valid-stays t x v = (
     (λ e.
         let p : countOf (M′ .node (x .node)) (x .side) ≡ portsOn b (x .side) = ap (λ (k : Slots). countOf k (x .side)) (ap (M′ .node) e ∙ t .here) in
@@ -532,8 +535,8 @@ module _ {m : MultiPortGraph} {M : Model} {m′ : MultiPortGraph} {M′ : Model}
   )
 
   module _ (c : ℕ) (cs : List ℕ) (l : Loose m′ M′ (c ∷ cs)) (t : Tracks m M m′ M′ n i o b all (c ∷ cs)) where
-    not-gone : (k : ℕ) → (In k all → ⊥) → k ≡ c → ⊥
-    not-gone k h e = h (subst (λ (j : ℕ). In j all) (sym e) (t .among c (inl refl)))
+    not-gone : (k : ℕ) → (Member k all → ⊥) → k ≡ c → ⊥
+    not-gone k h e = h (subst (λ (j : ℕ). Member j all) (sym e) (t .among c (inl refl)))
 
     tracks-lone : Tracks m M (removeLone m′ c) (lone c cs l) n i o b all cs
     tracks-lone =
@@ -569,10 +572,10 @@ all-go (c ∷ cs) l t = all-go cs (lone-goes c cs l) (tracks-lone c cs l t)
 
 -- The lower resize of block n, with the marks moved: exactly the hidden nodes of dropped ports are loose.
 
-dropped-so : (n i o : ℕ) (y : model.Place) → y .node ≡ n → newCount i o (y .side) ≤ y .pos → beyond n i o y ≡ true
+dropped-so : (n i o : ℕ) (y : model.InnerPlace) → y .node ≡ n → newCount i o (y .side) ≤ y .pos → beyond n i o y ≡ true
 dropped-so n i o y e h = rw (eq-eqb (y .node) n e, le-leb (newCount i o (y .side)) (y .pos) h)
 
-dropped-or-not : (i o : ℕ) (y : model.Place) → (newCount i o (y .side) ≤ y .pos) ⊎ (y .pos < newCount i o (y .side))
+dropped-or-not : (i o : ℕ) (y : model.InnerPlace) → (newCount i o (y .side) ≤ y .pos) ⊎ (y .pos < newCount i o (y .side))
 dropped-or-not i o y = go (leb (newCount i o (y .side)) (y .pos)) refl
   where
     go : (b : Bool) → leb (newCount i o (y .side)) (y .pos) ≡ b → (newCount i o (y .side) ≤ y .pos) ⊎ (y .pos < newCount i o (y .side))
@@ -581,20 +584,20 @@ dropped-or-not i o y = go (leb (newCount i o (y .side)) (y .pos)) refl
 
 module _ {m : MultiPortGraph} {M : Model} (f : Fine m M) (n : ℕ) (a : NodeMeta) (shown : isHidden m n ≡ false) (here : M .node n ≡ live a) (i o : ℕ) where
   -- a block does not go
-  out-of : (k : ℕ) → isHidden m k ≡ false → In k (copiesDropped m a i o) → ⊥
+  out-of : (k : ℕ) → isHidden m k ≡ false → Member k (copiesDropped m a i o) → ⊥
   out-of k e h = true-not-false (dropped-has f n a shown here i o k h .isCopy) e
 
   not-n : (k : ℕ) → isHidden m k ≡ true → k ≡ n → ⊥
   not-n k h e = true-not-false h (ap (isHidden m) e ∙ shown)
 
   -- the main port of a hidden node that does not go stays, and so does its copy port
-  main-stays : (k : ℕ) (y : model.Place) → isHidden m k ≡ true → (In k (copiesDropped m a i o) → ⊥) → M .join (copyPlace m k) ≡ to y → Stays n i o (copiesDropped m a i o) y
+  main-stays : (k : ℕ) (y : model.InnerPlace) → isHidden m k ≡ true → (Member k (copiesDropped m a i o) → ⊥) → M .join (copyPlace m k) ≡ to y → Stays n i o (copiesDropped m a i o) y
   main-stays k y h out j = (
     (λ e. ⊎-elim (λ d. absurd (out (has-dropped f n a shown here i o k (record { main = y; isCopy = h; joined = j; node = e; dropped = d })))) (λ l. l) (dropped-or-not i o y)),
     out-of (y .node) (main-seen f k y h j .1),
   )
 
-  copy-stays : (k : ℕ) → isHidden m k ≡ true → (In k (copiesDropped m a i o) → ⊥) → Stays n i o (copiesDropped m a i o) (copyPlace m k)
+  copy-stays : (k : ℕ) → isHidden m k ≡ true → (Member k (copiesDropped m a i o) → ⊥) → Stays n i o (copiesDropped m a i o) (copyPlace m k)
   copy-stays k h out = ((λ e. absurd (not-n k h e)), out)
 
   module _ {g′ : PortGraph} {M′ : Model} {b : NodeMeta} (r : Recount g′ M M′ n a b i o) where
@@ -614,19 +617,19 @@ module _ {m : MultiPortGraph} {M : Model} (f : Fine m M) (n : ℕ) (a : NodeMeta
     re-place : (k : ℕ) → isHidden m k ≡ true → copyPlace (recounted m n g′) k ≡ copyPlace m k
     re-place k h = ap (λ (d : Direction). inner# k d 0) (re-side k h)
 
-    re-join : (x y : model.Place) → M .join x ≡ to y → (x .node ≡ n → x .pos < newCount i o (x .side)) → (y .node ≡ n → y .pos < newCount i o (y .side)) → M′ .join x ≡ to y
+    re-join : (x y : model.InnerPlace) → M .join x ≡ to y → (x .node ≡ n → x .pos < newCount i o (x .side)) → (y .node ≡ n → y .pos < newCount i o (y .side)) → M′ .join x ≡ to y
     re-join x y j p q = r .join x ∙ drop-kept (beyond n i o) (M .join) x y j (below-stays n i o x p) (below-stays n i o y q)
 
-    re-joined : (x y : model.Place) → M′ .join x ≡ to y → M .join x ≡ to y
+    re-joined : (x y : model.InnerPlace) → M′ .join x ≡ to y → M .join x ≡ to y
     re-joined x y j = drop-joined (beyond n i o) (M .join) x y (sym (r .join x) ∙ j) .0
 
-    re-valid : (x : model.Place) → Valid (M .node) x → (x .node ≡ n → x .pos < newCount i o (x .side)) → Valid (M′ .node) x
+    re-valid : (x : model.InnerPlace) → Valid (M .node) x → (x .node ≡ n → x .pos < newCount i o (x .side)) → Valid (M′ .node) x
     re-valid x v s = ⊎-elim
         (λ e. let p = count-after f r x e in let q = count-new b i o (x .side) (r .ins) (r .outs) in let h = s e in omega arith)
         (λ e. let p = other-count f r (x .node) (x .side) e in omega arith)
         (number-cases (x .node) n)
 
-    valid-below : (x : model.Place) → Valid (M′ .node) x → x .node ≡ n → x .pos < newCount i o (x .side)
+    valid-below : (x : model.InnerPlace) → Valid (M′ .node) x → x .node ≡ n → x .pos < newCount i o (x .side)
     valid-below x v e = let p = count-after f r x e in let q = count-new b i o (x .side) (r .ins) (r .outs) in omega arith
 
     re-flags-long : length (recounted m n g′ .«copy_node») ≡ nodeSlots
@@ -637,13 +640,13 @@ module _ {m : MultiPortGraph} {M : Model} (f : Fine m M) (n : ℕ) (a : NodeMeta
     unfolding isHidden recounted
     re-copies = f .copies
 
-    re-subs-at : (k : ℕ) (t : Bool) → isHidden m k ≡ t → pick t (portsOf (M .node k) - 1) 0 ≡ pick t (portsOf (M′ .node k) - 1) 0
+    re-subs-at : (k : ℕ) (t : Bool) → isHidden m k ≡ t → cond t (portsOf (M .node k) - 1) 0 ≡ cond t (portsOf (M′ .node k) - 1) 0
     re-subs-at k true h = ap (λ (s : Slots). portsOf s - 1) (sym (r .others k (not-n k h)))
     re-subs-at k false h = refl
 
-    re-subs : recounted m n g′ .«subport_count» ≡ total nodeSlots (subportsIn (recounted m n g′) M′)
+    re-subs : recounted m n g′ .«subport_count» ≡ total nodeSlots (subportsOfSlot (recounted m n g′) M′)
     unfolding isHidden recounted
-    re-subs = f .subs ∙ total-same nodeSlots (subportsIn m M) (subportsIn (recounted m n g′) M′) (λ k l. re-subs-at k (isHidden m k) refl)
+    re-subs = f .subs ∙ total-same nodeSlots (subportsOfSlot m M) (subportsOfSlot (recounted m n g′) M′) (λ k l. re-subs-at k (isHidden m k) refl)
 
     re-only : (s : ℕ) → isSplit (recounted m n g′) s ≡ true → Marked (recounted m n g′) M′ s
     re-only s e = go (marked-was f r s e)
@@ -657,7 +660,7 @@ module _ {m : MultiPortGraph} {M : Model} (f : Fine m M) (n : ℕ) (a : NodeMeta
                 copy-port c (re-hidden c ∙ q) (ap (slotOf (M′ .node)) (re-place c q ∙ z) ∙ w .slot)
             by (main-port c y q j t) =
                 let z : y ≡ w .place = slots-apart (f .good) y (w .place) (joined-is-valid (f .good) (copyPlace m c) y j) (w .was) t in
-                let v : Valid (M′ .node) y = subst (λ (u : model.Place). Valid (M′ .node) u) (sym z) (w .is) in
+                let v : Valid (M′ .node) y = subst (λ (u : model.InnerPlace). Valid (M′ .node) u) (sym z) (w .is) in
                 main-port c y (re-hidden c ∙ q) (ap (M′ .join) (re-place c q) ∙ re-join (copyPlace m c) y j (λ u. absurd (not-n c q u)) (valid-below y v))
                 (ap (slotOf (M′ .node)) z ∙ w .slot)
 
@@ -687,7 +690,7 @@ module _ {m : MultiPortGraph} {M : Model} (f : Fine m M) (n : ℕ) (a : NodeMeta
           once = uniq-dropped f n a shown here i o;
           copyMarked = λ k h.
               let e = sym (re-hidden k) ∙ h in
-              ap (λ (y : model.Place). isSplit (recounted m n g′) (slotOf (M′ .node) y)) (re-place k e)
+              ap (λ (y : model.InnerPlace). isSplit (recounted m n g′) (slotOf (M′ .node) y)) (re-place k e)
               ∙ recount-marks f r (copyPlace m k) (copy-valid f k e) (re-valid (copyPlace m k) (copy-valid f k e) (λ u. absurd (not-n k e u))) ∙ f .copyMarked k e;
           mainMarked = λ k x h j.
               let e = sym (re-hidden k) ∙ h in
@@ -717,14 +720,14 @@ module _ {m : MultiPortGraph} {M : Model} (f : Fine m M) (n : ℕ) (a : NodeMeta
 
 -- Wires in the end.
 
-neither : (p q : Bool) → orElse p q ≡ false → (p ≡ false) × (q ≡ false)
+neither : (p q : Bool) → (p || q) ≡ false → (p ≡ false) × (q ≡ false)
 neither true q e = absurd (zero-is-not-one (cc))
 neither false q e = (refl, e)
 
 module _ {m : MultiPortGraph} {M : Model} (f : Fine m M) (n : ℕ) (a : NodeMeta) (shown : isHidden m n ≡ false) (here : M .node n ≡ live a) (i o : ℕ)
     {m′ : MultiPortGraph} {b : NodeMeta} (z : Cleared m M m′ n i o b (copiesDropped m a i o)) where
   -- an end stays exactly if it is not at a dropped position
-  end-not-dropped : (x : model.Place) → Stays n i o (copiesDropped m a i o) x → ofDropped n i o (outer m M x) ≡ false
+  end-not-dropped : (x : model.InnerPlace) → Stays n i o (copiesDropped m a i o) x → ofDropped n i o (outer m M x) ≡ false
   end-not-dropped x s = go (isHidden m (x .node)) refl
     where
       go : (t : Bool) → isHidden m (x .node) ≡ t → ofDropped n i o (outer m M x) ≡ false
@@ -734,7 +737,7 @@ module _ {m : MultiPortGraph} {M : Model} (f : Fine m M) (n : ℕ) (a : NodeMeta
           ∙ below-stays n i o (c .main) (main-stays f n a shown here i o (x .node) (c .main) h (s .1) (c .joined) .0)
       go false h = ap (ofDropped n i o) (outer-of-block f x h) ∙ below-stays n i o x (s .0)
 
-  not-dropped-stays : (x : model.Place) → ofDropped n i o (outer m M x) ≡ false → Stays n i o (copiesDropped m a i o) x
+  not-dropped-stays : (x : model.InnerPlace) → ofDropped n i o (outer m M x) ≡ false → Stays n i o (copiesDropped m a i o) x
   not-dropped-stays x e = go (isHidden m (x .node)) refl
     where
       go : (t : Bool) → isHidden m (x .node) ≡ t → Stays n i o (copiesDropped m a i o) x
@@ -746,13 +749,13 @@ module _ {m : MultiPortGraph} {M : Model} (f : Fine m M) (n : ℕ) (a : NodeMeta
       )
       go false h = (stays-below n i o x (sym (ap (ofDropped n i o) (outer-of-block f x h)) ∙ e), out-of f n a shown here i o (x .node) h)
 
-  left-side : (k : ℕ) → isHidden m k ≡ true → (In k (copiesDropped m a i o) → ⊥) → copySide m′ k ≡ copySide m k
+  left-side : (k : ℕ) → isHidden m k ≡ true → (Member k (copiesDropped m a i o) → ⊥) → copySide m′ k ≡ copySide m k
   left-side k h out =
       let c = f .copy k h in
       copy-side-is m′ k (c .meta) (copySide m k)
       (meta-of-node (z .fine .good) (z .fine .holds) k (c .meta) (z .tracks .nodes k (not-n f n a shown here i o k h) out ∙ c .here)) (c .single) (c .several)
 
-  end-left : (x : model.Place) → IsEnd m M x → Stays n i o (copiesDropped m a i o) x → IsEnd m′ (z .model′) x
+  end-left : (x : model.InnerPlace) → IsEnd m M x → Stays n i o (copiesDropped m a i o) x → IsEnd m′ (z .model′) x
   end-left x e s =
       let same = z .tracks .hid (x .node) (s .1) in
       record {
@@ -761,7 +764,7 @@ module _ {m : MultiPortGraph} {M : Model} (f : Fine m M) (n : ℕ) (a : NodeMeta
         subport = λ h q. e .subport (sym same ∙ h) (q ∙ left-side (x .node) (sym same ∙ h) (s .1));
       }
 
-  end-before : (x : model.Place) → Valid (M .node) x → IsEnd m′ (z .model′) x → Stays n i o (copiesDropped m a i o) x → IsEnd m M x
+  end-before : (x : model.InnerPlace) → Valid (M .node) x → IsEnd m′ (z .model′) x → Stays n i o (copiesDropped m a i o) x → IsEnd m M x
   end-before x v e s =
       let same = z .tracks .hid (x .node) (s .1) in
       record {
@@ -770,7 +773,7 @@ module _ {m : MultiPortGraph} {M : Model} (f : Fine m M) (n : ℕ) (a : NodeMeta
         subport = λ h q. e .subport (same ∙ h) (q ∙ sym (left-side (x .node) h (s .1)));
       }
 
-  outer-left : (x : model.Place) → Stays n i o (copiesDropped m a i o) x → outer m′ (z .model′) x ≡ outer m M x
+  outer-left : (x : model.InnerPlace) → Stays n i o (copiesDropped m a i o) x → outer m′ (z .model′) x ≡ outer m M x
   unfolding outer
   outer-left x s = go (isHidden m (x .node)) refl
     where
@@ -785,7 +788,7 @@ module _ {m : MultiPortGraph} {M : Model} (f : Fine m M) (n : ℕ) (a : NodeMeta
           rw (same, h, p, j)
       go false h = let same = z .tracks .hid (x .node) (s .1) ∙ h in rw (same, h)
 
-  wire-left : (x y : model.Place) → Stays n i o (copiesDropped m a i o) x → Stays n i o (copiesDropped m a i o) y
+  wire-left : (x y : model.InnerPlace) → Stays n i o (copiesDropped m a i o) x → Stays n i o (copiesDropped m a i o) y
       → _≡_ {A = Wire} (record { out = outer m′ (z .model′) x; into = outer m′ (z .model′) y }) (record { out = outer m M x; into = outer m M y })
   wire-left x y s t = λ q. record { out = outer-left x s q; into = outer-left y t q }
 
@@ -819,7 +822,7 @@ module _ {m : MultiPortGraph} {M : Model} (f : Fine m M) (n : ℕ) (a : NodeMeta
                 end = end-before (e .x) (f .good .joinValid (e .x) (e .y) j) (e .end) s;
                 is = k;
               },
-              ap (touches (ofDropped n i o)) k ∙ ap (λ (p : Bool). orElse p (ofDropped n i o (outer m M (e .y)))) (end-not-dropped (e .x) s) ∙ end-not-dropped (e .y) u,
+              ap (touches (ofDropped n i o)) k ∙ ap (λ (p : Bool). (p || (ofDropped n i o (outer m M (e .y))))) (end-not-dropped (e .x) s) ∙ end-not-dropped (e .y) u,
             );
       }
 
@@ -829,7 +832,7 @@ module _ {m : MultiPortGraph} {M : Model} (f : Fine m M) (n : ℕ) (a : NodeMeta
 
   others-before : (k : ℕ) (l : NodeMeta) → (k ≡ n → ⊥) → BlockIs m′ (z .model′) k l → BlockIs m M k l
   others-before k l ne e =
-      let out : (In k (copiesDropped m a i o) → ⊥) = λ h. ⊎-elim (λ q. q) (λ q. gone-not-live q (e .1)) (z .tracks .went k h) in
+      let out : (Member k (copiesDropped m a i o) → ⊥) = λ h. ⊎-elim (λ q. q) (λ q. gone-not-live q (e .1)) (z .tracks .went k h) in
       (sym (z .tracks .hid k out) ∙ e .0, sym (z .tracks .nodes k ne out) ∙ e .1)
 
 -- The call.
@@ -854,8 +857,7 @@ SetSays m M n i o s = ((e : ℕ) → s .answer ≡ resize.Set e → SetDone m M 
 
 module _ {m : MultiPortGraph} {M : Model} (f : Fine m M) (n i o room : ℕ) where
   set-says : SetSays m M n i o (setCounts m n i o room)
-  unfolding setCounts
-  set-says = few (leb (i + o) nodePorts)
+  set-says = subst (SetSays m M n i o) (sym (set-cases present m n i o room)) (few (leb (i + o) nodePorts))
     where
       refused : (x : Refusal) → SetSays m M n i o (record { graph = m; answer = resize.Refused x })
       refused x = ((λ e q. absurd (zero-is-not-one (cc))), (λ y q. refl))
@@ -893,7 +895,7 @@ module _ {m : MultiPortGraph} {M : Model} (f : Fine m M) (n i o room : ℕ) wher
       lower k shown here lower-set.NoRoom q = ((λ e q. absurd (zero-is-not-one (cc))), (λ y q. refl))
 
       block : (k : NodeMeta) → M .node n ≡ live k → (t : Bool) → isHidden m n ≡ t
-          → SetSays m M n i o (pick t (record { graph = m; answer = resize.Refused HiddenNode })
+          → SetSays m M n i o (cond t (record { graph = m; answer = resize.Refused HiddenNode })
           (record {
             graph = resized m n k i o (setNumPorts (m .graph) n i o room .graph) (setNumPorts (m .graph) n i o room .answer);
             answer = setAs (setNumPorts (m .graph) n i o room .answer);
@@ -905,7 +907,7 @@ module _ {m : MultiPortGraph} {M : Model} (f : Fine m M) (n i o room : ℕ) wher
       node maybe-meta.None q = refused UnknownNode
       node (maybe-meta.Some k) q = block k (node-of-meta (f .good) (f .holds) n k q) (isHidden m n) refl
 
-      few : (t : Bool) → SetSays m M n i o (pick t (setMeta m n i o room (metaAt (m .graph) n)) (record { graph = m; answer = resize.Refused TooManyPorts }))
+      few : (t : Bool) → SetSays m M n i o (cond t (setMeta m n i o room (metaAt (m .graph) n)) (record { graph = m; answer = resize.Refused TooManyPorts }))
       few true = node (metaAt (m .graph) n) refl
       few false = refused TooManyPorts
 

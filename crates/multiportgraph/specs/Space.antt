@@ -1,11 +1,10 @@
 -- Refusal 10 by the work it speaks of: the free node slots and blocks with the used lengths (`Room`), what each work takes or
 -- gives back without any limit, and the works of each call, in order, up to the answer that it reaches.
-use mathlib.Core.Bool.{Bool}
-use mathlib.Core.List.{List, [], _∷_, _++_}
+use mathlib.Core.Bool.{Bool, cond, _||_}
+use mathlib.Core.List.{List, [], _∷_, _++_, flatMap}
 use Prim.Native.Nat.{ℕ, _+_, _*_}
 use lib.Dec.{eqb, leb, ltb}
 use Rattle.portgraph.specs.Limits.{nodeSlots, portSlots, nodePorts}
-use Rattle.portgraph.specs.Entries.{pick}
 use Rattle.portgraph.specs.Model.{Model}
 use Rattle.portgraph.specs.Meaning as meaning
 use Rattle.portgraph.specs.Meaning.{upd, rest, growth}
@@ -16,11 +15,8 @@ use Rattle.portgraph.specs.declared.node_entry.NodeMeta.{NodeMeta}
 use Rattle.portgraph.specs.declared.node_entry.MaybeNodeMeta.{MaybeNodeMeta}
 use Rattle.portgraph.specs.declared.node_entry.MaybeNodeMeta.the-variants as maybe-meta
 use Rattle.multiportgraph.specs.Reading.{hasLink, isHidden, isSplit, Port, dead, hidden, visible, seen, copyNode, subports}
-use Rattle.multiportgraph.specs.Calls.{copiesIn, copiesDropped, Prepared, ready, full, lowestFree, prepare}
-use Rattle.multiportgraph.specs.Wires.{gather}
-use Rattle.multiportgraph.specs.Book as book
-use Rattle.multiportgraph.specs.Book.{orElse, Call, addCall, removeCall, setCall, linkSubCall, cutCall, cutSubCall}
 use Rattle.multiportgraph.specs.declared.multiportgraph.MultiPortGraph.{MultiPortGraph}
+use Rattle.multiportgraph.specs.HiddenNodes.{copiesIn, copiesDropped, Prepared, ready, full, lowestFree, prepare}
 
 -- free node slots and free blocks of each size, the one freed last first, and the used lengths of the tables
 pub record Room : Type 0 where
@@ -58,7 +54,7 @@ afterWork r takeNode =
       nodeLen = r .nodeLen + growth 1 (r .freeNodes);
       portLen = r .portLen;
     }
-afterWork r (takeBlock size) = pick (eqb size 0) r (blockTaken r size)
+afterWork r (takeBlock size) = cond (eqb size 0) r (blockTaken r size)
 afterWork r (giveNode n) =
     record { freeNodes = n ∷ r .freeNodes; freeBlocks = r .freeBlocks; nodeLen = r .nodeLen; portLen = r .portLen }
 afterWork r (giveBlock first size) =
@@ -76,7 +72,7 @@ afterWorks r (w ∷ l) = afterWorks (afterWork r w) l
 -- a test holds at the start, or after some of the works
 unfoldable pub onTheWay : (Room → Bool) → Room → List Work → Bool
 onTheWay past r [] = past r
-onTheWay past r (w ∷ l) = orElse (past r) (onTheWay past (afterWork r w) l)
+onTheWay past r (w ∷ l) = past r || onTheWay past (afterWork r w) l
 
 -- a table is longer than its limit
 abbrev pub nodesPast : Room → Bool
@@ -93,7 +89,7 @@ abbrev pub portsShort : Room → List Work → Bool
 portsShort r l = onTheWay portsPast r l
 
 abbrev pub overflows : Room → List Work → Bool
-overflows r l = orElse (nodesShort r l) (portsShort r l)
+overflows r l = nodesShort r l || portsShort r l
 
 -- The works of the calls.
 
@@ -108,7 +104,7 @@ goneWorks n (maybe-meta.Some k) = giveNode n ∷ giveBlock (k .«first_port» .0
 
 -- hidden nodes go, one after the other
 abbrev pub copiesGone : MultiPortGraph → List ℕ → List Work
-copiesGone m l = gather (λ c. goneWorks c (metaAt (m .graph) c)) l
+copiesGone m l = flatMap (λ c. goneWorks c (metaAt (m .graph) c)) l
 
 -- a new block for a total, and only then the old one is free
 abbrev pub moveWorks : NodeMeta → ℕ → List Work
@@ -117,7 +113,7 @@ moveWorks k total = takeBlock (roundUp total) ∷ giveBlock (k .«first_port» .
 -- other counts: nothing if they are equal, nor for a total from 1 to capacity − 1
 unfoldable pub recountWorks : NodeMeta → ℕ → ℕ → List Work
 recountWorks k incoming outgoing =
-    pick (sameCounts k incoming outgoing) [] (pick (fitsInside k incoming outgoing) [] (moveWorks k (incoming + outgoing)))
+    cond (sameCounts k incoming outgoing) [] (cond (fitsInside k incoming outgoing) [] (moveWorks k (incoming + outgoing)))
 
 -- changing a block's counts: then the hidden nodes of dropped ports go
 abbrev pub setMetaWorks : MultiPortGraph → ℕ → ℕ → MaybeNodeMeta → List Work
@@ -134,17 +130,17 @@ splitWorks = takeNode ∷ takeBlock 3 ∷ []
 -- one more subport of a hidden node
 abbrev pub growWorks : MaybeNodeMeta → List Work
 growWorks maybe-meta.None = []
-growWorks (maybe-meta.Some k) = pick (ltb (k .incoming + k .outgoing + 1) (k .capacity)) [] (moveWorks k (k .incoming + k .outgoing + 1))
+growWorks (maybe-meta.Some k) = cond (ltb (k .incoming + k .outgoing + 1) (k .capacity)) [] (moveWorks k (k .incoming + k .outgoing + 1))
 
 -- an end, by the cases of mark and link
 unfoldable pub reuseWorks : MultiPortGraph → ℕ → ℕ → ℕ → List Work
-reuseWorks m c o n = pick (ltb o n) [] (growWorks (metaAt (m .graph) c))
+reuseWorks m c o n = cond (ltb o n) [] (growWorks (metaAt (m .graph) c))
 
 unfoldable pub prepareWorks : MultiPortGraph → ℕ → Direction → List Work
 prepareWorks m p d =
-    pick (isSplit m p)
+    cond (isSplit m p)
     (reuseWorks m (copyNode m p) (lowestFree (m .graph) (copyNode m p) d 0 (subports m p d)) (subports m p d))
-    (pick (hasLink (m .graph) p) splitWorks [])
+    (cond (hasLink (m .graph) p) splitWorks [])
 
 -- the second end, on the graph after the first
 abbrev pub secondWorks : ℕ → Direction → Prepared → List Work
@@ -173,25 +169,16 @@ removeWorks m n = removeMetaWorks m n (metaAt (m .graph) n)
 
 -- cutting a port: the hidden node of a split one goes
 unfoldable pub cutWorks : MultiPortGraph → ℕ → List Work
-cutWorks m p = pick (isSplit m p) (goneWorks (copyNode m p) (metaAt (m .graph) (copyNode m p))) []
+cutWorks m p = cond (isSplit m p) (goneWorks (copyNode m p) (metaAt (m .graph) (copyNode m p))) []
 
 -- The works of every call; none where it is refused before 10.
 
 abbrev pub toldWorks : MultiPortGraph → ℕ → ℕ → ℕ → ℕ → MaybeNodeMeta → List Work
 toldWorks m n incoming outgoing room maybe-meta.None = []
 toldWorks m n incoming outgoing room (maybe-meta.Some k) =
-    pick (leb (3 * (k .incoming + k .outgoing)) room) (setWorks m n incoming outgoing) []
+    cond (leb (3 * (k .incoming + k .outgoing)) room) (setWorks m n incoming outgoing) []
 
 abbrev pub cutSeenWorks : MultiPortGraph → ℕ → Port → List Work
 cutSeenWorks m p dead = []
 cutSeenWorks m p hidden = []
 cutSeenWorks m p (visible n d) = cutWorks m p
-
-unfoldable pub worksOf : MultiPortGraph → Call → List Work
-worksOf m (addCall i o) = pick (leb (i + o) nodePorts) (addWorks i o) []
-worksOf m (removeCall n) = pick (isHidden m n) [] (removeWorks m n)
-worksOf m (setCall n i o room) = pick (leb (i + o) nodePorts) (pick (isHidden m n) [] (toldWorks m n i o room (metaAt (m .graph) n))) []
-worksOf m (book.linkCall a b) = linkWorks m a b
-worksOf m (linkSubCall p o q r) = []
-worksOf m (cutCall p) = cutSeenWorks m p (seen m p)
-worksOf m (cutSubCall p o) = []

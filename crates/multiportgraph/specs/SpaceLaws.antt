@@ -1,8 +1,8 @@
 -- Refusal 10 is given exactly where the works of a call would lengthen a table past its limit, and after an accepted call the
 -- room is that after its works.
 use mathlib.Core.Path.{_≡_, refl, sym, _∙_, ap, subst}
-use mathlib.Core.Bool.{Bool, true, false}
-use mathlib.Core.List.{List, [], _∷_, _++_}
+use mathlib.Core.Bool.{Bool, true, false, cond, not, _||_}
+use mathlib.Core.List.{List, [], _∷_, _++_, flatMap}
 use mathlib.Core.Logic.{_↔_, inl, inr}
 use Prim.Native.Nat.{ℕ, zero, suc, _+_, _*_, _≤_, _<_}
 use native.Mathlib.Omega.{arith}
@@ -10,11 +10,12 @@ use lib.Dec.{eqb, leb, ltb}
 use lib.ListN.{getD, set}
 use lib.Seq.{getD-set-other}
 use borrow.Author.Tests.{ltb-true, leb-true, leb-false, eqb-true, lt-ltb, le-ltb, le-leb, lt-leb, ne-eqb}
-use Rattle.portgraph.specs.Limits.{nodeSlots, portSlots, nodePorts}
-use Rattle.portgraph.specs.Entries.{pick, freshSlot}
+use Rattle.portgraph.specs.Limits.{nodeSlots, portSlots, nodePorts, present}
+use Rattle.portgraph.specs.Lists.{Member, Once}
+use Rattle.portgraph.specs.Entries.{freshSlot}
 use Rattle.portgraph.specs.Tables.{at}
 use Rattle.portgraph.specs.Model as model
-use Rattle.portgraph.specs.Model.{Model, to, Within, Valid, slotOf, firstOf, sideStart, countOf, Good, Holds, In, Uniq, Slots, gone, live, Chain, NodeChain, numberOfFirst}
+use Rattle.portgraph.specs.Model.{Model, to, Within, Valid, slotOf, firstOf, sideStart, countOf, Good, Holds, Slots, gone, live, Chain, NodeChain, numberOfFirst}
 use Rattle.portgraph.specs.Meaning.{upd, rest, growth, addModel, removeModel, linkModel, unlinkModel, resizeModel, moveModel, sameSide, atNode}
 use Rattle.portgraph.specs.Calls.{addNode, removeNode, linkPorts, unlinkPort}
 use Rattle.portgraph.specs.Resize.{roundUp, sameCounts, fitsInside, setNumPorts, setBy, refuse}
@@ -48,7 +49,7 @@ use Rattle.portgraph.specs.declared.resize.SetAnswer as lower-set-answer
 use Rattle.portgraph.specs.declared.resize.SetAnswer.the-variants as lower-set
 use Rattle.portgraph.specs.declared.slots.AddAnswer as lower-add-answer
 use Rattle.portgraph.specs.declared.slots.AddAnswer.the-variants as lower-add
-use Rattle.multiportgraph.specs.Calls.{unsplitRange, dropBlock, removeRefused, removeMeta, removeBlock, copiesIn, addedAs, addBlock, recounted, Prepared, ready, full, copyIn, copyOut, split, splitBy, splitPort, splitGraph, lowestFree, moreIn, moreOut, enough, grow, grownBy, reuse, prepare, linkFirst, linkSecond, linkBoth, linkSeen, linkCall, linkRefused, withGraph, removeCopy, removeLone, removeAll, copiesDropped, setAs, setRefused, resized, setMeta, setCounts, unsplit, cutPlain, cutSeen, cutPort, cutRefused, cutEnd, cutSubSeen, cutSub, farSubport, goodOffset, linkInner, linkSecondEnd, linkFirstEnd, linkSubSeen, linkSub}
+use Rattle.multiportgraph.specs.Calls.{dropBlock, removeBlock, addedAs, addBlock, setAs, setCounts, cutPlain, cutPort, cutSub, farSubport, linkSub, setCountsUnder, addBlockUnder, linkPair, linkPairUnder}
 use Rattle.multiportgraph.specs.Inner.{inner#, copyPlace, Fine, Seen, BlockIs, SameBlocks}
 use Rattle.multiportgraph.specs.Reading.{ownerOf, copySide, hasLink, portOf, isHidden, isSplit, Port, dead, hidden, visible, seen, copyNode, subports, subport#, End, inner, lacking, endAt, asRead}
 use Rattle.multiportgraph.specs.Ends.{Hangs, split-has-copy, block-seen, seen-block, copy-valid, port-of, far-of, owner-of}
@@ -56,15 +57,12 @@ use Rattle.multiportgraph.specs.CopyLaws.{copy-goes, unsplit-split, unsp
 use Rattle.multiportgraph.specs.PrepareLaws.{prepare-law}
 use Rattle.multiportgraph.specs.RecountLaws.{Recount, SomeRecount, set-recounts, slotIn, place-among}
 use Rattle.multiportgraph.specs.SetLaws.{resize-loosens}
-use Rattle.multiportgraph.specs.Wires.{gather}
-use Rattle.multiportgraph.specs.Book as book
-use Rattle.multiportgraph.specs.Book.{orElse, notSo, Call, addCall, removeCall, setCall, linkSubCall, cutCall, cutSubCall, Answer, addAnswer, removeAnswer, setAnswer, linkAnswer, cutAnswer}
-use Rattle.multiportgraph.specs.History.{step}
-use Rattle.multiportgraph.specs.Space.{Room, roomOf, Work, takeNode, takeBlock, giveNode, giveBlock, blockTaken, afterWork, afterWorks, onTheWay, nodesPast, portsPast, nodesShort, portsShort, overflows, addWorks, goneWorks, splitWorks, moveWorks, recountWorks, growWorks, reuseWorks, prepareWorks, secondWorks, linkSeenWorks, linkWorks, copiesGone, setMetaWorks, setWorks, cutWorks, cutSeenWorks, removeWorks, removeMetaWorks, worksOf, toldWorks}
+use Rattle.multiportgraph.specs.Space.{Room, roomOf, Work, takeNode, takeBlock, giveNode, giveBlock, blockTaken, afterWork, afterWorks, onTheWay, nodesPast, portsPast, nodesShort, portsShort, overflows, addWorks, goneWorks, splitWorks, moveWorks, recountWorks, growWorks, reuseWorks, prepareWorks, secondWorks, linkSeenWorks, linkWorks, copiesGone, setMetaWorks, setWorks, cutWorks, cutSeenWorks, removeWorks, removeMetaWorks, toldWorks}
 use Rattle.multiportgraph.specs.declared.multiportgraph.MultiPortGraph.{MultiPortGraph}
 use Rattle.multiportgraph.specs.declared.multiportgraph.Refusal.{Refusal}
 use Rattle.multiportgraph.specs.declared.multiportgraph.Refusal.the-variants.{BadOffset, TooManyPorts, UnknownNode, HiddenNode, MovesTooShort, NoRoom, IncompatibleDirections}
 use Rattle.multiportgraph.specs.declared.multiportgraph.SubportIndex.{SubportIndex}
+use Rattle.multiportgraph.specs.declared.multiportgraph.NodeAdded.{NodeAdded}
 use Rattle.multiportgraph.specs.declared.multiportgraph.NodeRemoved.{NodeRemoved}
 use Rattle.multiportgraph.specs.declared.multiportgraph.RemoveAnswer.the-variants as remove
 use Rattle.multiportgraph.specs.declared.multiportgraph.PortUnlinked.{PortUnlinked}
@@ -74,6 +72,11 @@ use Rattle.multiportgraph.specs.declared.multiportgraph.SetAnswer.the-va
 use Rattle.multiportgraph.specs.declared.multiportgraph.PortsLinked.{PortsLinked}
 use Rattle.multiportgraph.specs.declared.multiportgraph.LinkAnswer.the-variants as link
 use Rattle.multiportgraph.specs.declared.multiportgraph.AddAnswer.the-variants as add
+use Rattle.multiportgraph.specs.HiddenNodes.{unsplitRange, copiesIn, recounted, Prepared, ready, full, copyIn, copyOut, split, splitBy, splitPort, splitGraph, lowestFree, moreIn, moreOut, enough, grow, grownBy, reuse, prepare, removeCopy, removeLone, removeAll, copiesDropped, unsplit, splitUnder, growUnder, prepareUnder, reuseUnder}
+use Rattle.multiportgraph.specs.Cases.{removeRefused, removeMeta, linkFirst, linkSecond, linkSeen, linkRefused, setRefused, resized, setMeta, cutSeen, cutRefused, cutEnd, cutSubSeen, linkInner, linkSecondEnd, linkFirstEnd, linkSubSeen, linkLive}
+use Rattle.multiportgraph.specs.Graph.{withGraph}
+use Rattle.multiportgraph.specs.Refusals.{goodOffset}
+use Rattle.multiportgraph.specs.CaseLaws.{add-cases, set-cases, link-cases, link-sub-cases, cut-cases, cut-sub-cases, remove-cases}
 
 -- Lengths never shrink, so what is passed on the way is passed at the end.
 
@@ -82,7 +85,7 @@ unfolding afterWork
 nodes-grow r takeNode = omega arith
 nodes-grow r (takeBlock size) = go (eqb size 0)
   where
-    go : (b : Bool) → r .nodeLen ≤ pick b r (blockTaken r size) .nodeLen
+    go : (b : Bool) → r .nodeLen ≤ cond b r (blockTaken r size) .nodeLen
     go true = omega arith
     go false = omega arith
 nodes-grow r (giveNode n) = omega arith
@@ -93,7 +96,7 @@ unfolding afterWork
 ports-grow r takeNode = omega arith
 ports-grow r (takeBlock size) = go (eqb size 0)
   where
-    go : (b : Bool) → r .portLen ≤ pick b r (blockTaken r size) .portLen
+    go : (b : Bool) → r .portLen ≤ cond b r (blockTaken r size) .portLen
     go true = omega arith
     go false = omega arith
 ports-grow r (giveNode n) = omega arith
@@ -111,7 +114,7 @@ module _ (past : Room → Bool) (stays : (r : Room) (w : Work) → past r ≡ tr
   at-end (w ∷ l) r = go (past r) refl (at-end l (afterWork r w))
     where
       go : (b : Bool) → past r ≡ b → onTheWay past (afterWork r w) l ≡ past (afterWorks (afterWork r w) l)
-          → orElse b (onTheWay past (afterWork r w) l) ≡ past (afterWorks (afterWork r w) l)
+          → (b || (onTheWay past (afterWork r w) l)) ≡ past (afterWorks (afterWork r w) l)
       go true e ih = sym (stays-past l (afterWork r w) (stays r w e))
       go false e ih = ih
 
@@ -127,10 +130,10 @@ ports-short-at-end r l =
 
 -- a table is past its limit
 abbrev pub overfull : Room → Bool
-overfull r = orElse (nodesPast r) (portsPast r)
+overfull r = nodesPast r || portsPast r
 
 pub overflows-at-end : (r : Room) (l : List Work) → overflows r l ≡ overfull (afterWorks r l)
-overflows-at-end r l = λ i. orElse (nodes-short-at-end r l i) (ports-short-at-end r l i)
+overflows-at-end r l = λ i. ((nodes-short-at-end r l i) || (ports-short-at-end r l i))
 
 pub after-append : (k l : List Work) (r : Room) → afterWorks r (k ++ l) ≡ afterWorks (afterWorks r k) l
 unfolding afterWorks
@@ -216,7 +219,7 @@ no-empty-block {M} good = go (M .freeBlocks 0) refl
   where
     go : (l : List ℕ) → M .freeBlocks 0 ≡ l → l ≡ []
     go [] e = refl
-    go (b ∷ l) e = absurd (let h = good .idleEnds 0 b (subst (In b) (sym e) (inl refl)) .0 in omega arith)
+    go (b ∷ l) e = absurd (let h = good .idleEnds 0 b (subst (Member b) (sym e) (inl refl)) .0 in omega arith)
 
 -- a block taken, said without the case of a size of 0
 block-taken : (r : Room) (size : ℕ) → r .freeBlocks 0 ≡ []
@@ -224,7 +227,7 @@ block-taken : (r : Room) (size : ℕ) → r .freeBlocks 0 ≡ []
 unfolding afterWork
 block-taken r size none = go (eqb size 0) refl
   where
-    go : (z : Bool) → eqb size 0 ≡ z → pick z r (blockTaken r size) ≡ blockTaken r size
+    go : (z : Bool) → eqb size 0 ≡ z → cond z r (blockTaken r size) ≡ blockTaken r size
     go true e =
         let z : size ≡ 0 = eqb-true size 0 e in
         let t : r .freeBlocks size ≡ [] = ap (r .freeBlocks) z ∙ none in
@@ -248,19 +251,19 @@ unfolding afterWorks afterWork
 room-moved {M} good n k incoming outgoing size =
     ap (λ (r : Room). afterWork r (giveBlock (k .«first_port» .0) (k .capacity))) (sym (block-taken (roomOf M) size (no-empty-block good)))
 
-past-not-within : (a b : ℕ) → ltb a b ≡ notSo (leb b a)
+past-not-within : (a b : ℕ) → ltb a b ≡ not (leb b a)
 past-not-within a b = go (leb b a) refl
   where
-    go : (t : Bool) → leb b a ≡ t → ltb a b ≡ notSo t
+    go : (t : Bool) → leb b a ≡ t → ltb a b ≡ not t
     go true e = le-ltb a b (leb-true b a e)
     go false e = lt-ltb a b (leb-false b a e)
 
 pub add-overflows : {M : Model} → Good M → (incoming outgoing : ℕ)
-    → overflows (roomOf M) (addWorks incoming outgoing) ≡ orElse (notSo (slotRoom M)) (notSo (blockRoom M (incoming + outgoing)))
+    → overflows (roomOf M) (addWorks incoming outgoing) ≡ ((not (slotRoom M)) || (not (blockRoom M (incoming + outgoing))))
 add-overflows {M} good incoming outgoing =
     overflows-at-end (roomOf M) (addWorks incoming outgoing)
     ∙ (ap (λ (r : Room). overfull r) (sym (room-added good incoming outgoing))
-    ∙ (λ i. orElse (past-not-within nodeSlots (addModel M incoming outgoing .nodeLen) i) (past-not-within portSlots (addModel M incoming outgoing .portLen) i)))
+    ∙ (λ i. ((past-not-within nodeSlots (addModel M incoming outgoing .nodeLen) i) || (past-not-within portSlots (addModel M incoming outgoing .portLen) i))))
 
 -- Adding.
 
@@ -276,8 +279,8 @@ add-node-space {g} {M} good holds i o few =
     subst (λ (v : lower-added.NodeAdded). AddSpace g (v .graph) M (addWorks i o) (v .answer)) (sym (add-law good holds i o))
     (go (leb (i + o) nodePorts) (slotRoom M) (blockRoom M (i + o)) (le-leb (i + o) nodePorts few) refl refl)
   where
-    said : (s b : Bool) → slotRoom M ≡ s → blockRoom M (i + o) ≡ b → overflows (roomOf M) (addWorks i o) ≡ orElse (notSo s) (notSo b)
-    said s b p q = add-overflows good i o ∙ (λ j. orElse (notSo (p j)) (notSo (q j)))
+    said : (s b : Bool) → slotRoom M ≡ s → blockRoom M (i + o) ≡ b → overflows (roomOf M) (addWorks i o) ≡ ((not s) || (not b))
+    said s b p q = add-overflows good i o ∙ (λ j. ((not (p j)) || (not (q j))))
 
     go : (a s b : Bool) → a ≡ true → slotRoom M ≡ s → blockRoom M (i + o) ≡ b → AddSpace g (addWhere g M i o a s b .graph) M (addWorks i o) (addWhere g M i o a s b .answer)
     go false s b e p q = absurd (zero-is-not-one (cc))
@@ -311,9 +314,9 @@ spaced-refused c e u = record { no-room-iff = (λ t. e, λ t. c); unchanged = λ
 
 pub add-space : {m : MultiPortGraph} {M : Model} → Fine m M → (incoming outgoing : ℕ) → incoming + outgoing ≤ nodePorts
     → Spaced m M (addWorks incoming outgoing) (addBlock m incoming outgoing .answer ≡ add.Refused NoRoom) (addBlock m incoming outgoing .graph)
-unfolding addBlock
 add-space {m} {M} f incoming outgoing few =
-    go (addNode (m .graph) incoming outgoing .graph) (addNode (m .graph) incoming outgoing .answer) (add-node-space (f .good) (f .holds) incoming outgoing few)
+    subst (λ (v : NodeAdded). Spaced m M (addWorks incoming outgoing) (v .answer ≡ add.Refused NoRoom) (v .graph)) (sym (add-cases present m incoming outgoing))
+    (go (addNode (m .graph) incoming outgoing .graph) (addNode (m .graph) incoming outgoing .answer) (add-node-space (f .good) (f .holds) incoming outgoing few))
   where
     go : (g : PortGraph) (a : lower-add-answer.AddAnswer) → AddSpace (m .graph) g M (addWorks incoming outgoing) a → Spaced m M (addWorks incoming outgoing) (addedAs a ≡ add.Refused NoRoom) (withGraph m g)
     go g (lower-add.Added n p) s = spaced-done (λ e. zero-is-not-one (cc)) (s .0) (s .1)
@@ -328,7 +331,7 @@ PreparedSpace M works (ready m′ q o) = (overflows (roomOf M) works ≡ false) 
 PreparedSpace M works full = overflows (roomOf M) works ≡ true
 
 pub split-space : {m : MultiPortGraph} {M : Model} → Fine m M → (p : ℕ) (d : Direction) → PreparedSpace M splitWorks (split m p d)
-unfolding split splitPort splitGraph
+unfolding splitUnder splitPort splitGraph
 split-space {m} {M} f p d =
     subst (λ (l : List Work). PreparedSpace M l (split m p d)) (three d)
     (go (addNode (m .graph) (copyIn d) (copyOut d) .graph) (addNode (m .graph) (copyIn d) (copyOut d) .answer) (add-node-space (f .good) (f .holds) (copyIn d) (copyOut d) (small d)))
@@ -353,11 +356,11 @@ unfolding onTheWay
 fits {M} good = rw (le-ltb nodeSlots (M .nodeLen) (good .nodesFit), le-ltb portSlots (M .portLen) (good .portsFit))
 
 move-overflows : {M : Model} → Good M → (k : NodeMeta) (size : ℕ)
-    → overflows (roomOf M) (takeBlock size ∷ giveBlock (k .«first_port» .0) (k .capacity) ∷ []) ≡ notSo (blockRoom M size)
+    → overflows (roomOf M) (takeBlock size ∷ giveBlock (k .«first_port» .0) (k .capacity) ∷ []) ≡ not (blockRoom M size)
 move-overflows {M} good k size =
     overflows-at-end (roomOf M) (takeBlock size ∷ giveBlock (k .«first_port» .0) (k .capacity) ∷ [])
     ∙ (ap (λ (r : Room). overfull r) (sym (room-moved good 0 k 0 0 size))
-    ∙ (λ i. orElse (le-ltb nodeSlots (M .nodeLen) (good .nodesFit) i) (past-not-within portSlots (M .portLen + growth size (M .freeBlocks size)) i)))
+    ∙ (λ i. ((le-ltb nodeSlots (M .nodeLen) (good .nodesFit) i) || (past-not-within portSlots (M .portLen + growth size (M .freeBlocks size)) i))))
 
 abbrev pub SetSpace : PortGraph → Model → List Work → lower-set-answer.SetAnswer → Type 0
 SetSpace g M works (lower-set.Set e) = (overflows (roomOf M) works ≡ false) × HasRoom g (afterWorks (roomOf M) works)
@@ -370,7 +373,7 @@ inside-fits : (k : NodeMeta) (i o : ℕ) → fitsInside k i o ≡ true → i + o
 unfolding fitsInside
 inside-fits k i o e = go (ltb 0 (i + o)) (ltb (i + o) (k .capacity)) refl e
   where
-    go : (a b : Bool) → ltb (i + o) (k .capacity) ≡ b → pick a b false ≡ true → i + o ≤ k .capacity
+    go : (a b : Bool) → ltb (i + o) (k .capacity) ≡ b → cond a b false ≡ true → i + o ≤ k .capacity
     go true true q e = let h : i + o < k .capacity = ltb-true _ _ q in omega arith
     go true false q e = absurd (zero-is-not-one (cc))
     go false b q e = absurd (zero-is-not-one (cc))
@@ -388,11 +391,11 @@ set-space {g} {M} good holds n k here i o room few told =
     planned =
         set-law good holds n i o room
         ∙ ((λ j. setBy g n i o (planWhere M i o room (le-leb (i + o) nodePorts few j) (here j)))
-        ∙ ap (λ (b : Bool). setBy g n i o (pick b (planLive M i o k (sameCounts k i o) (fitsInside k i o) (blockRoom M (roundUp (i + o)))) (refuse lower-set.MovesTooShort)))
+        ∙ ap (λ (b : Bool). setBy g n i o (cond b (planLive M i o k (sameCounts k i o) (fitsInside k i o) (blockRoom M (roundUp (i + o)))) (refuse lower-set.MovesTooShort)))
         (le-leb (3 * (k .incoming + k .outgoing)) room told))
 
     go : (a b c : Bool) → fitsInside k i o ≡ b → blockRoom M (roundUp (i + o)) ≡ c
-        → SetSpace (setBy g n i o (planLive M i o k a b c) .graph) M (pick a [] (pick b [] (moveWorks k (i + o)))) (setBy g n i o (planLive M i o k a b c) .answer)
+        → SetSpace (setBy g n i o (planLive M i o k a b c) .graph) M (cond a [] (cond b [] (moveWorks k (i + o)))) (setBy g n i o (planLive M i o k a b c) .answer)
     go true b c q r = (fits good, record { model = M; good = good; holds = holds; is = refl })
     go false true c q r =
         let fit = inside-fits k i o q in
@@ -402,7 +405,7 @@ set-space {g} {M} good holds n k here i o room few told =
         let some = round-up-positive (i + o) in
         let small = round-up-fits (i + o) few in
         let space = leb-true (M .portLen + growth (roundUp (i + o)) (M .freeBlocks (roundUp (i + o)))) portSlots r in (
-          move-overflows good k (roundUp (i + o)) ∙ ap notSo r,
+          move-overflows good k (roundUp (i + o)) ∙ ap not r,
           record {
             model = moveModel M n k i o (roundUp (i + o));
             good = good-move good n k here i o (roundUp (i + o)) fit some small space;
@@ -410,7 +413,7 @@ set-space {g} {M} good holds n k here i o room few told =
             is = room-moved good n k i o (roundUp (i + o));
           },
         )
-    go false false false q r = move-overflows good k (roundUp (i + o)) ∙ ap notSo r
+    go false false false q r = move-overflows good k (roundUp (i + o)) ∙ ap not r
 
 -- One more subport.
 
@@ -419,23 +422,23 @@ unfolding recountWorks sameCounts fitsInside
 grow-works k i o e =
     rw (differ (eqb i (k .incoming)) (eqb o (k .outgoing)) refl refl, lt-ltb 0 (i + o) (omega arith), e)
   where
-    differ : (a b : Bool) → eqb i (k .incoming) ≡ a → eqb o (k .outgoing) ≡ b → pick a b false ≡ false
+    differ : (a b : Bool) → eqb i (k .incoming) ≡ a → eqb o (k .outgoing) ≡ b → cond a b false ≡ false
     differ true true p q = absurd (let x = eqb-true i (k .incoming) p in let y = eqb-true o (k .outgoing) q in omega arith)
     differ true false p q = refl
     differ false b p q = refl
 
 -- a node that has as many ports as a node can have gets no more, beside another node's port
-grown-beyond : {M : Model} → Good M → (n : ℕ) (k : NodeMeta) → M .node n ≡ live k → (x : model.Place) → Valid (M .node) x → (x .node ≡ n → ⊥)
+grown-beyond : {M : Model} → Good M → (n : ℕ) (k : NodeMeta) → M .node n ≡ live k → (x : model.InnerPlace) → Valid (M .node) x → (x .node ≡ n → ⊥)
     → nodePorts < k .incoming + k .outgoing + 1 → overflows (roomOf M) (growWorks (maybe-meta.Some k)) ≡ true
 grown-beyond {M} good n k here x valid apart h =
     let b = good .blockSmall n k here in
     let e = none-beyond good n k here x valid apart (k .incoming + k .outgoing + 1) h (omega arith) in
     rw (le-ltb (k .incoming + k .outgoing + 1) (k .capacity) (omega arith))
-    (move-overflows good k (roundUp (k .incoming + k .outgoing + 1)) ∙ ap notSo (lt-leb _ portSlots e))
+    (move-overflows good k (roundUp (k .incoming + k .outgoing + 1)) ∙ ap not (lt-leb _ portSlots e))
 
 module _ {m : MultiPortGraph} {M : Model} (f : Fine m M) where
-  pub grow-space : (c : ℕ) (k : NodeMeta) (d : Direction) → M .node c ≡ live k → (x : model.Place) → Valid (M .node) x → (x .node ≡ c → ⊥) → PreparedSpace M (growWorks (metaAt (m .graph) c)) (grow m c d)
-  unfolding grow recounted
+  pub grow-space : (c : ℕ) (k : NodeMeta) (d : Direction) → M .node c ≡ live k → (x : model.InnerPlace) → Valid (M .node) x → (x .node ≡ c → ⊥) → PreparedSpace M (growWorks (metaAt (m .graph) c)) (grow m c d)
+  unfolding growUnder recounted
   grow-space c k d here x valid apart =
       subst (λ (v : MaybeNodeMeta). PreparedSpace M (growWorks v) (grow m c d)) (sym meta-is)
       (few (leb (moreIn (m .graph) c d + moreOut (m .graph) c d) nodePorts) refl)
@@ -475,27 +478,27 @@ module _ {m : MultiPortGraph} {M : Model} (f : Fine m M) where
   unfolding afterWorks
   nothing-taken q o = (fits (f .good), record { model = M; good = f .good; holds = f .holds; is = refl })
 
-  reuse-space : (c : ℕ) (k : NodeMeta) (d : Direction) (o : ℕ) → M .node c ≡ live k → (x : model.Place) → Valid (M .node) x → (x .node ≡ c → ⊥) → PreparedSpace M (reuseWorks m c o (numPorts (m .graph) c d)) (reuse m c d o)
-  unfolding reuse reuseWorks
+  reuse-space : (c : ℕ) (k : NodeMeta) (d : Direction) (o : ℕ) → M .node c ≡ live k → (x : model.InnerPlace) → Valid (M .node) x → (x .node ≡ c → ⊥) → PreparedSpace M (reuseWorks m c o (numPorts (m .graph) c d)) (reuse m c d o)
+  unfolding reuseUnder reuseWorks
   reuse-space c k d o here x valid apart = go (ltb o (numPorts (m .graph) c d))
     where
-      go : (b : Bool) → PreparedSpace M (pick b [] (growWorks (metaAt (m .graph) c))) (pick b (ready m (portOf (m .graph) c d o) o) (grow m c d))
+      go : (b : Bool) → PreparedSpace M (cond b [] (growWorks (metaAt (m .graph) c))) (cond b (ready m (portOf (m .graph) c d o) o) (grow m c d))
       go true = nothing-taken (portOf (m .graph) c d o) o
       go false = grow-space c k d here x valid apart
 
   -- an end of a block's port
-  pub prepare-space : (x : model.Place) → Seen m M x → PreparedSpace M (prepareWorks m (slotOf (M .node) x) (x .side)) (prepare m (slotOf (M .node) x) (x .side))
-  unfolding prepare prepareWorks subports
+  pub prepare-space : (x : model.InnerPlace) → Seen m M x → PreparedSpace M (prepareWorks m (slotOf (M .node) x) (x .side)) (prepare m (slotOf (M .node) x) (x .side))
+  unfolding prepareUnder prepareWorks subports
   prepare-space x sx = go (isSplit m (slotOf (M .node) x)) refl (hasLink (m .graph) (slotOf (M .node) x))
     where
       go : (a : Bool) → isSplit m (slotOf (M .node) x) ≡ a → (b : Bool)
           → PreparedSpace M
-          (pick a
+          (cond a
           (reuseWorks m (copyNode m (slotOf (M .node) x)) (lowestFree (m .graph) (copyNode m (slotOf (M .node) x)) (x .side) 0 (subports m (slotOf (M .node) x) (x .side))) (subports m (slotOf (M .node) x) (x .side)))
-          (pick b splitWorks []))
-          (pick a
+          (cond b splitWorks []))
+          (cond a
           (reuse m (copyNode m (slotOf (M .node) x)) (x .side) (lowestFree (m .graph) (copyNode m (slotOf (M .node) x)) (x .side) 0 (subports m (slotOf (M .node) x) (x .side))))
-          (pick b (split m (slotOf (M .node) x) (x .side)) (ready m (slotOf (M .node) x) 0)))
+          (cond b (split m (slotOf (M .node) x) (x .side)) (ready m (slotOf (M .node) x) 0)))
       go true e b =
           let h = split-has-copy f x sx e in
           let c = f .copy (h .copy) (h .isCopy) in
@@ -526,9 +529,10 @@ seen-still {m} {M} {m′} {M′} f f′ same p n d e =
     let slot : slotOf (M′ .node) (b .place) ≡ p = ap (λ (t : Slots). firstOf t + (sideStart t (b .place .side) + b .place .pos)) q ∙ b .slot in
     ap (seen m′) (sym slot) ∙ (seen-block f′ (b .place) (v, r .0) ∙ (λ i. visible (b .node i) (b .side i)))
 
-pub link-space : {m : MultiPortGraph} {M : Model} → Fine m M → (a b : ℕ) → Spaced m M (linkWorks m a b) (linkCall m a b .answer ≡ link.Refused NoRoom) (linkCall m a b .graph)
-unfolding linkCall linkWorks
-link-space {m} {M} f a b = go (seen m a) refl (seen m b) refl
+pub link-space : {m : MultiPortGraph} {M : Model} → Fine m M → (a b : ℕ) → Spaced m M (linkWorks m a b) (linkPair m a b .answer ≡ link.Refused NoRoom) (linkPair m a b .graph)
+unfolding linkWorks
+link-space {m} {M} f a b =
+    subst (λ (v : PortsLinked). Spaced m M (linkSeenWorks m a b (seen m a) (seen m b)) (v .answer ≡ link.Refused NoRoom) (v .graph)) (sym (link-cases present m a b)) (go (seen m a) refl (seen m b) refl)
   where
     -- nothing is done
     idle : (r : PortsLinked) → r .graph ≡ m → (r .answer ≡ link.Refused NoRoom → ⊥) → Spaced m M [] (r .answer ≡ link.Refused NoRoom) (r .graph)
@@ -548,13 +552,13 @@ link-space {m} {M} f a b = go (seen m a) refl (seen m b) refl
       where
         ended : (c : Bool) → overflows (roomOf M) (works ++ works₂) ≡ false → HasRoom (m₂ .graph) (afterWorks (roomOf M) (works ++ works₂))
             → Spaced m M (works ++ works₂)
-            (pick c (linkRefused m₂ (IncompatibleDirections (port# x) (port# y) d)) (record { graph = withGraph m₂ (linkPorts (m₂ .graph) x y .graph); answer = link.Linked (subport# a o) (subport# b i) }) .answer ≡ link.Refused NoRoom)
-            (pick c (linkRefused m₂ (IncompatibleDirections (port# x) (port# y) d)) (record { graph = withGraph m₂ (linkPorts (m₂ .graph) x y .graph); answer = link.Linked (subport# a o) (subport# b i) }) .graph)
+            (cond c (linkRefused m₂ (IncompatibleDirections (port# x) (port# y) d)) (record { graph = withGraph m₂ (linkPorts (m₂ .graph) x y .graph); answer = link.Linked (subport# a o) (subport# b i) }) .answer ≡ link.Refused NoRoom)
+            (cond c (linkRefused m₂ (IncompatibleDirections (port# x) (port# y) d)) (record { graph = withGraph m₂ (linkPorts (m₂ .graph) x y .graph); answer = link.Linked (subport# a o) (subport# b i) }) .graph)
         ended true e h = spaced-done (λ q. zero-is-not-one (cc)) e h
         ended false e h = spaced-done (λ q. zero-is-not-one (cc)) e (link-keeps-room h x y)
 
     both : (n : ℕ) (d : Direction) → seen m a ≡ visible n d → (k : ℕ) (e : Direction) → seen m b ≡ visible k e → (t : Prepared) → prepare m a d ≡ t → PreparedSpace M (prepareWorks m a d) t
-        → Spaced m M (prepareWorks m a d ++ secondWorks b e t) (linkBoth m a d b e t .answer ≡ link.Refused NoRoom) (linkBoth m a d b e t .graph)
+        → Spaced m M (prepareWorks m a d ++ secondWorks b e t) (linkLive m a d b e t .answer ≡ link.Refused NoRoom) (linkLive m a d b e t .graph)
     both n d p k e q full u s =
         spaced-refused refl (overflows-no-more (roomOf M) (prepareWorks m a d) ∙ s) refl
     both n d p k e q (ready m₁ x o) u s =
@@ -610,16 +614,16 @@ other-node-stays {g} {M} good holds c n other =
         ∙ (ap metaOfSlots (upd-other (M .node) c gone n other) ∙ sym (meta-by-model good holds n))
 
 module _ (m : MultiPortGraph) where
-  all-gone-room : (cs : List ℕ) (m′ : MultiPortGraph) (r : Room) → HasRoom (m′ .graph) r → Uniq cs → ((c : ℕ) → In c cs → metaAt (m′ .graph) c ≡ metaAt (m .graph) c)
+  all-gone-room : (cs : List ℕ) (m′ : MultiPortGraph) (r : Room) → HasRoom (m′ .graph) r → Once cs → ((c : ℕ) → Member c cs → metaAt (m′ .graph) c ≡ metaAt (m .graph) c)
       → HasRoom (removeAll m′ cs .graph) (afterWorks r (copiesGone m cs))
-  unfolding removeAll removeLone removeCopy gather afterWorks
+  unfolding removeAll removeLone removeCopy flatMap afterWorks
   all-gone-room [] m′ r h once same = h
   all-gone-room (c ∷ cs) m′ r h once same =
       subst (HasRoom (removeAll (removeLone m′ c) cs .graph)) (sym (after-append (goneWorks c (metaAt (m .graph) c)) (copiesGone m cs) r))
       (all-gone-room cs (removeLone m′ c) (afterWorks r (goneWorks c (metaAt (m .graph) c)))
       (subst (λ (v : MaybeNodeMeta). HasRoom (removeNode (m′ .graph) c .graph) (afterWorks r (goneWorks c v))) (same c (inl refl)) (gone-node-room h c))
       (once .1)
-      (λ b i. other-node-stays (h .good) (h .holds) c b (λ q. once .0 (subst (λ (a : ℕ). In a cs) q i)) ∙ same b (inr i)))
+      (λ b i. other-node-stays (h .good) (h .holds) c b (λ q. once .0 (subst (λ (a : ℕ). Member a cs) q i)) ∙ same b (inr i)))
 
 -- what goes lengthens nothing
 gone-lengthens-nothing : (r : Room) (n : ℕ) (v : MaybeNodeMeta) → overfull (afterWorks r (goneWorks n v)) ≡ overfull r
@@ -628,7 +632,7 @@ gone-lengthens-nothing r n maybe-meta.None = refl
 gone-lengthens-nothing r n (maybe-meta.Some k) = refl
 
 copies-lengthen-nothing : (m : MultiPortGraph) (cs : List ℕ) (r : Room) → overfull (afterWorks r (copiesGone m cs)) ≡ overfull r
-unfolding gather afterWorks
+unfolding flatMap afterWorks
 copies-lengthen-nothing m [] r = refl
 copies-lengthen-nothing m (c ∷ cs) r =
     ap (λ (v : Room). overfull v) (after-append (goneWorks c (metaAt (m .graph) c)) (copiesGone m cs) r)
@@ -643,7 +647,7 @@ overflows-before-copies m cs r l =
 
 pub set-counts-space : {m : MultiPortGraph} {M : Model} → Fine m M → (n : ℕ) (k : NodeMeta) → BlockIs m M n k → (i o room : ℕ) → i + o ≤ nodePorts → 3 * (k .incoming + k .outgoing) ≤ room
     → Spaced m M (setWorks m n i o) (setCounts m n i o room .answer ≡ resize.Refused NoRoom) (setCounts m n i o room .graph)
-unfolding setCounts setWorks recounted isHidden
+unfolding setCountsUnder setWorks recounted isHidden
 set-counts-space {m} {M} f n k block i o room few told =
     subst Says (sym called)
     (subst (λ (v : MaybeNodeMeta). Spaced m M (setMetaWorks m i o v) (setAs (setNumPorts (m .graph) n i o room .answer) ≡ resize.Refused NoRoom)
@@ -662,8 +666,9 @@ set-counts-space {m} {M} f n k block i o room few told =
           answer = setAs (setNumPorts (m .graph) n i o room .answer);
         }
     called =
-        (λ j. pick (le-leb (i + o) nodePorts few j) (setMeta m n i o room (meta-is j)) (setRefused m TooManyPorts))
-        ∙ ap (λ (b : Bool). pick b (setRefused m HiddenNode)
+        set-cases present m n i o room
+        ∙ (λ j. cond (le-leb (i + o) nodePorts few j) (setMeta m n i o room (meta-is j)) (setRefused m TooManyPorts))
+        ∙ ap (λ (b : Bool). cond b (setRefused m HiddenNode)
         (record {
           graph = resized m n k i o (setNumPorts (m .graph) n i o room .graph) (setNumPorts (m .graph) n i o room .answer);
           answer = setAs (setNumPorts (m .graph) n i o room .answer);
@@ -711,7 +716,7 @@ module _ {m : MultiPortGraph} {M : Model} (f : Fine m M) where
   unfolding cutWorks afterWorks
   cut-fits p = go (isSplit m p)
     where
-      go : (b : Bool) → overflows (roomOf M) (pick b (goneWorks (copyNode m p) (metaAt (m .graph) (copyNode m p))) []) ≡ false
+      go : (b : Bool) → overflows (roomOf M) (cond b (goneWorks (copyNode m p) (metaAt (m .graph) (copyNode m p))) []) ≡ false
       go true =
           overflows-at-end (roomOf M) (goneWorks (copyNode m p) (metaAt (m .graph) (copyNode m p)))
           ∙ (gone-lengthens-nothing (roomOf M) (copyNode m p) (metaAt (m .graph) (copyNode m p)) ∙ (sym (overflows-at-end (roomOf M) []) ∙ fits (f .good)))
@@ -721,7 +726,7 @@ pub unsplit-room : (m : MultiPortGraph) {r : Room} → HasRoom (m .graph) r → 
 unfolding unsplit removeCopy cutWorks afterWorks
 unsplit-room m {r} h p = go (isSplit m p)
   where
-    go : (b : Bool) → HasRoom (pick b (removeCopy m p (copyNode m p)) m .graph) (afterWorks r (pick b (goneWorks (copyNode m p) (metaAt (m .graph) (copyNode m p))) []))
+    go : (b : Bool) → HasRoom (cond b (removeCopy m p (copyNode m p)) m .graph) (afterWorks r (cond b (goneWorks (copyNode m p) (metaAt (m .graph) (copyNode m p))) []))
     go true = gone-node-room h (copyNode m p)
     go false = h
 
@@ -731,8 +736,7 @@ cuts-nothing m p e = rw e
 
 module _ {m : MultiPortGraph} {M : Model} (f : Fine m M) where
   pub cut-space : (p : ℕ) → Spaced m M (cutSeenWorks m p (seen m p)) (cutPort m p .answer ≡ cutting.Refused NoRoom) (cutPort m p .graph)
-  unfolding cutPort
-  cut-space p = go (seen m p)
+  cut-space p = subst (λ (v : PortUnlinked). Spaced m M (cutSeenWorks m p (seen m p)) (v .answer ≡ cutting.Refused NoRoom) (v .graph)) (sym (cut-cases m p)) (go (seen m p))
     where
       plain : (v : PortLink) → cutPlain v ≡ cutting.Refused NoRoom → ⊥
       plain (lower-cut.Linked q) e = zero-is-not-one (cc)
@@ -743,7 +747,7 @@ module _ {m : MultiPortGraph} {M : Model} (f : Fine m M) where
       Says v = Spaced m M (cutWorks m p) (v .answer ≡ cutting.Refused NoRoom) (v .graph)
 
       port : (b : Bool) → isSplit m p ≡ b
-          → Says (pick b (record { graph = unsplit m p; answer = cutting.Found (subport# p 0) })
+          → Says (cond b (record { graph = unsplit m p; answer = cutting.Found (subport# p 0) })
           (record { graph = withGraph m (unlinkPort (m .graph) p .graph); answer = cutPlain (unlinkPort (m .graph) p .answer) }))
       port true e = spaced-done (λ q. zero-is-not-one (cc)) (cut-fits f p) (unsplit-room m (record { model = M; good = f .good; holds = f .holds; is = refl }) p)
       port false e =
@@ -756,8 +760,7 @@ module _ {m : MultiPortGraph} {M : Model} (f : Fine m M) where
       go (visible n d) = port (isSplit m p) refl
 
   pub cut-sub-space : (p o : ℕ) → Spaced m M [] (cutSub m p o .answer ≡ cutting.Refused NoRoom) (cutSub m p o .graph)
-  unfolding cutSub
-  cut-sub-space p o = offset (goodOffset o)
+  cut-sub-space p o = subst (λ (v : PortUnlinked). Spaced m M [] (v .answer ≡ cutting.Refused NoRoom) (v .graph)) (sym (cut-sub-cases m p o)) (offset (goodOffset o))
     where
       far : (v : PortLink) → farSubport m v ≡ cutting.Refused NoRoom → ⊥
       far (lower-cut.Linked q) e = zero-is-not-one (cc)
@@ -773,13 +776,12 @@ module _ {m : MultiPortGraph} {M : Model} (f : Fine m M) where
       port hidden = no-work f (λ e. zero-is-not-one (cc)) (own-room f)
       port (visible n d) = end (endAt m p d o)
 
-      offset : (b : Bool) → Spaced m M [] (pick b (cutSubSeen m p o (seen m p)) (cutRefused m BadOffset) .answer ≡ cutting.Refused NoRoom) (pick b (cutSubSeen m p o (seen m p)) (cutRefused m BadOffset) .graph)
+      offset : (b : Bool) → Spaced m M [] (cond b (cutSubSeen m p o (seen m p)) (cutRefused m BadOffset) .answer ≡ cutting.Refused NoRoom) (cond b (cutSubSeen m p o (seen m p)) (cutRefused m BadOffset) .graph)
       offset true = port (seen m p)
       offset false = no-work f (λ e. zero-is-not-one (cc)) (own-room f)
 
   pub link-sub-space : (p o q r : ℕ) → Spaced m M [] (linkSub m p o q r .answer ≡ link.Refused NoRoom) (linkSub m p o q r .graph)
-  unfolding linkSub
-  link-sub-space p o q r = offset (goodOffset o)
+  link-sub-space p o q r = subst (λ (v : PortsLinked). Spaced m M [] (v .answer ≡ link.Refused NoRoom) (v .graph)) (sym (link-sub-cases m p o q r)) (offset (goodOffset o))
     where
       Says : PortsLinked → Type 0
       Says v = Spaced m M [] (v .answer ≡ link.Refused NoRoom) (v .graph)
@@ -808,11 +810,11 @@ module _ {m : MultiPortGraph} {M : Model} (f : Fine m M) where
       ports (visible n d) hidden = no-work f (λ e. zero-is-not-one (cc)) (own-room f)
       ports (visible n d) (visible k e) = first (visible k e) (endAt m p d o)
 
-      offsets : (c : Bool) → Says (pick c (linkSubSeen m p o q r (seen m p) (seen m q)) (linkRefused m BadOffset))
+      offsets : (c : Bool) → Says (cond c (linkSubSeen m p o q r (seen m p) (seen m q)) (linkRefused m BadOffset))
       offsets true = ports (seen m p) (seen m q)
       offsets false = no-work f (λ e. zero-is-not-one (cc)) (own-room f)
 
-      offset : (c : Bool) → Says (pick c (pick (goodOffset r) (linkSubSeen m p o q r (seen m p) (seen m q)) (linkRefused m BadOffset)) (linkRefused m BadOffset))
+      offset : (c : Bool) → Says (cond c (cond (goodOffset r) (linkSubSeen m p o q r (seen m p) (seen m q)) (linkRefused m BadOffset)) (linkRefused m BadOffset))
       offset true = offsets (goodOffset r)
       offset false = no-work f (λ e. zero-is-not-one (cc)) (own-room f)
 
@@ -831,7 +833,7 @@ record CopyOut (m : MultiPortGraph) (n : ℕ) (k : NodeMeta) (p : ℕ) (m′ : M
   alike : (s : ℕ) → Within (k .«first_port» .0) (k .incoming + k .outgoing) s → (s ≡ p → ⊥) → Alike m m′ s
 
 module _ {m : MultiPortGraph} {M : Model} (f : Fine m M) (n : ℕ) (k : NodeMeta) (block : BlockIs m M n k) where
-  place-here : (s : ℕ) → Within (k .«first_port» .0) (k .incoming + k .outgoing) s → (x : model.Place) × (x .node ≡ n) × Seen m M x × (slotOf (M .node) x ≡ s)
+  place-here : (s : ℕ) → Within (k .«first_port» .0) (k .incoming + k .outgoing) s → (x : model.InnerPlace) × (x .node ≡ n) × Seen m M x × (slotOf (M .node) x ≡ s)
   place-here s w =
       let a = place-among k s w in (
         inner# n (a .side) (a .pos),
@@ -840,21 +842,21 @@ module _ {m : MultiPortGraph} {M : Model} (f : Fine m M) (n : ℕ) (k : NodeMeta
         ap (λ (v : Slots). slotIn v (a .side) (a .pos)) (block .1) ∙ a .slot,
       )
 
-  module _ (x : model.Place) (at-n : x .node ≡ n) (sx : Seen m M x) (h : Hangs m M x) where
-    other-copy : (y : model.Place) (t : Hangs m M y) → (y ≡ x → ⊥) → t .copy ≡ h .copy → ⊥
+  module _ (x : model.InnerPlace) (at-n : x .node ≡ n) (sx : Seen m M x) (h : Hangs m M x) where
+    other-copy : (y : model.InnerPlace) (t : Hangs m M y) → (y ≡ x → ⊥) → t .copy ≡ h .copy → ⊥
     other-copy y t apart e =
         let a = h .from in
         let b : M .join (copyPlace m (h .copy)) ≡ to y = subst (λ (c : ℕ). M .join (copyPlace m c) ≡ to y) e (t .from) in
         let q : y ≡ x = cc in
         apart q
 
-    block-not-copy : (y : model.Place) → Seen m M y → y .node ≡ h .copy → ⊥
+    block-not-copy : (y : model.InnerPlace) → Seen m M y → y .node ≡ h .copy → ⊥
     block-not-copy y sy e =
         let a = h .isCopy in
         let b : isHidden m (h .copy) ≡ false = subst (λ (c : ℕ). isHidden m c ≡ false) e (sy .1) in
         zero-is-not-one (cc)
 
-    copy-after : (y : model.Place) → Seen m M y → (y ≡ x → ⊥) → isSplit m (slotOf (M .node) y) ≡ true
+    copy-after : (y : model.InnerPlace) → Seen m M y → (y ≡ x → ⊥) → isSplit m (slotOf (M .node) y) ≡ true
         → (copyNode (removeCopy m (slotOf (M .node) x) (h .copy)) (slotOf (M .node) y) ≡ copyNode m (slotOf (M .node) y))
         × (metaAt (removeCopy m (slotOf (M .node) x) (h .copy) .graph) (copyNode m (slotOf (M .node) y)) ≡ metaAt (m .graph) (copyNode m (slotOf (M .node) y)))
     unfolding copyNode removeCopy
@@ -868,13 +870,13 @@ module _ {m : MultiPortGraph} {M : Model} (f : Fine m M) (n : ℕ) (k : NodeMeta
         let a = ap (copyNode (removeCopy m (slotOf (M .node) x) (h .copy))) (sym slot) ∙ (ap (ownerOf (removeNode (m .graph) (h .copy) .graph)) (far-of fine y (copyPlace m (t .copy)) j) ∙ owner-of fine (copyPlace m (t .copy)) valid) in
         (a ∙ sym (t .copyIs), other-node-stays (f .good) (f .holds) (h .copy) (copyNode m (slotOf (M .node) y)) (λ q. other (sym (t .copyIs) ∙ q)))
 
-    alike-after : (y : model.Place) → Seen m M y → (y ≡ x → ⊥) → Alike m (removeCopy m (slotOf (M .node) x) (h .copy)) (slotOf (M .node) y)
+    alike-after : (y : model.InnerPlace) → Seen m M y → (y ≡ x → ⊥) → Alike m (removeCopy m (slotOf (M .node) x) (h .copy)) (slotOf (M .node) y)
     unfolding removeCopy isSplit
     alike-after y sy apart = (
       getD-set-other (set (m .multiport) (portOf (m .graph) (h .copy) (copySide m (h .copy)) 0) false) (slotOf (M .node) x) (slotOf (M .node) y) false false
           (λ e. apart (slots-apart (f .good) y x (sy .0) (sx .0) e))
           ∙ getD-set-other (m .multiport) (portOf (m .graph) (h .copy) (copySide m (h .copy)) 0) (slotOf (M .node) y) false false
-          (λ e. block-not-copy y sy (ap (λ (v : model.Place). v .node)
+          (λ e. block-not-copy y sy (ap (λ (v : model.InnerPlace). v .node)
           (slots-apart (f .good) y (copyPlace m (h .copy)) (sy .0) (copy-valid f (h .copy) (h .isCopy)) (e ∙ port-of f (h .copy) (copySide m (h .copy)) 0 (copy-valid f (h .copy) (h .isCopy)))))),
       copy-after y sy apart,
     )
@@ -898,15 +900,15 @@ module _ {m : MultiPortGraph} {M : Model} (f : Fine m M) (n : ℕ) (k : NodeMeta
       }))
 
 copies-alike : (m m′ : MultiPortGraph) (j q : ℕ) → ((s : ℕ) → q ≤ s → s < q + j → Alike m m′ s) → copiesGone m′ (copiesIn m′ q j) ≡ copiesGone m (copiesIn m q j)
-unfolding copiesIn gather
+unfolding copiesIn flatMap
 copies-alike m m′ zero q same = refl
 copies-alike m m′ (suc j) q same =
     let here = same q (omega arith) (omega arith) in
-    ap (λ (b : Bool). copiesGone m′ (pick b (copyNode m′ q ∷ copiesIn m′ (suc q) j) (copiesIn m′ (suc q) j))) (here .0)
+    ap (λ (b : Bool). copiesGone m′ (cond b (copyNode m′ q ∷ copiesIn m′ (suc q) j) (copiesIn m′ (suc q) j))) (here .0)
     ∙ go (isSplit m q) refl here (copies-alike m m′ j (suc q) (λ s a b. same s (omega arith) (omega arith)))
   where
     go : (b : Bool) → isSplit m q ≡ b → Alike m m′ q → copiesGone m′ (copiesIn m′ (suc q) j) ≡ copiesGone m (copiesIn m (suc q) j)
-        → copiesGone m′ (pick b (copyNode m′ q ∷ copiesIn m′ (suc q) j) (copiesIn m′ (suc q) j)) ≡ copiesGone m (pick b (copyNode m q ∷ copiesIn m (suc q) j) (copiesIn m (suc q) j))
+        → copiesGone m′ (cond b (copyNode m′ q ∷ copiesIn m′ (suc q) j) (copiesIn m′ (suc q) j)) ≡ copiesGone m (cond b (copyNode m q ∷ copiesIn m (suc q) j) (copiesIn m (suc q) j))
     go true e a rest =
         let c = a .1 e .0 in
         (λ i. goneWorks (c i) (metaAt (m′ .graph) (c i)) ++ rest i)
@@ -925,7 +927,7 @@ unfolding removeCopy
 copy-gone-room m p c h = gone-node-room h c
 
 copies-with : (m : MultiPortGraph) (p j : ℕ) → isSplit m p ≡ true → copiesGone m (copiesIn m p (suc j)) ≡ goneWorks (copyNode m p) (metaAt (m .graph) (copyNode m p)) ++ copiesGone m (copiesIn m (suc p) j)
-unfolding copiesIn gather
+unfolding copiesIn flatMap
 copies-with m p j e = rw e
 
 copies-without : (m : MultiPortGraph) (p j : ℕ) → isSplit m p ≡ false → copiesGone m (copiesIn m p (suc j)) ≡ copiesGone m (copiesIn m (suc p) j)
@@ -968,7 +970,7 @@ range-step j ih m M f n k block p low high r h = go (isSplit m p) refl
         (ih m M f n k block (suc p) (omega arith) (omega arith) r h))
 
 range-none : RangeRoom zero
-unfolding unsplitRange copiesIn gather afterWorks
+unfolding unsplitRange copiesIn flatMap afterWorks
 range-none m M f n k block p low high r h = (h, meta-of-node (f .good) (f .holds) n k (block .1))
 
 range-room : (j : ℕ) → RangeRoom j
@@ -993,94 +995,72 @@ remove-fits {m} {M} f n k =
     ∙ (gone-lengthens-nothing (afterWorks (roomOf M) (copiesGone m cs)) n (maybe-meta.Some k)
     ∙ (copies-lengthen-nothing m cs (roomOf M) ∙ (sym (overflows-at-end (roomOf M) []) ∙ fits (f .good)))))
 
-pub remove-space : {m : MultiPortGraph} {M : Model} → Fine m M → (n : ℕ) → Spaced m M (pick (isHidden m n) [] (removeWorks m n)) (removeBlock m n .answer ≡ remove.Refused NoRoom) (removeBlock m n .graph)
-unfolding removeBlock removeWorks
-remove-space {m} {M} f n = go (metaAt (m .graph) n) refl
+pub remove-space : {m : MultiPortGraph} {M : Model} → Fine m M → (n : ℕ) → Spaced m M (cond (isHidden m n) [] (removeWorks m n)) (removeBlock m n .answer ≡ remove.Refused NoRoom) (removeBlock m n .graph)
+unfolding removeWorks
+remove-space {m} {M} f n =
+    subst (λ (v : NodeRemoved). Spaced m M (cond (isHidden m n) [] (removeMetaWorks m n (metaAt (m .graph) n))) (v .answer ≡ remove.Refused NoRoom) (v .graph)) (sym (remove-cases m n)) (go (metaAt (m .graph) n) refl)
   where
     Says : List Work → NodeRemoved → Type 0
     Says works v = Spaced m M works (v .answer ≡ remove.Refused NoRoom) (v .graph)
 
-    idle : (b : Bool) → Says (pick b [] []) (removeRefused m UnknownNode)
+    idle : (b : Bool) → Says (cond b [] []) (removeRefused m UnknownNode)
     idle true = no-work f (λ q. zero-is-not-one (cc)) (own-room f)
     idle false = no-work f (λ q. zero-is-not-one (cc)) (own-room f)
 
     by : (k : NodeMeta) → metaAt (m .graph) n ≡ maybe-meta.Some k → (b : Bool) → isHidden m n ≡ b
-        → Says (pick b [] (removeMetaWorks m n (maybe-meta.Some k))) (pick b (removeRefused m HiddenNode) (record { graph = dropBlock m n k; answer = remove.Removed }))
+        → Says (cond b [] (removeMetaWorks m n (maybe-meta.Some k))) (cond b (removeRefused m HiddenNode) (record { graph = dropBlock m n k; answer = remove.Removed }))
     by k e true h = no-work f (λ q. zero-is-not-one (cc)) (own-room f)
     by k e false h = spaced-done (λ q. zero-is-not-one (cc)) (remove-fits f n k) (drop-block-room f n k (h, node-of-meta (f .good) (f .holds) n k e))
 
-    go : (v : MaybeNodeMeta) → metaAt (m .graph) n ≡ v → Says (pick (isHidden m n) [] (removeMetaWorks m n v)) (removeMeta m n v)
+    go : (v : MaybeNodeMeta) → metaAt (m .graph) n ≡ v → Says (cond (isHidden m n) [] (removeMetaWorks m n v)) (removeMeta m n v)
     go maybe-meta.None e = idle (isHidden m n)
     go (maybe-meta.Some k) e = by k e (isHidden m n) refl
 
 -- Every call.
 
-abbrev pub RefusedForRoom : Answer → Type 0
-RefusedForRoom (addAnswer a) = a ≡ add.Refused NoRoom
-RefusedForRoom (removeAnswer a) = a ≡ remove.Refused NoRoom
-RefusedForRoom (setAnswer a) = a ≡ resize.Refused NoRoom
-RefusedForRoom (linkAnswer a) = a ≡ link.Refused NoRoom
-RefusedForRoom (cutAnswer a) = a ≡ cutting.Refused NoRoom
-
 module _ {m : MultiPortGraph} {M : Model} (f : Fine m M) where
-  add-call-space : (i o : ℕ) → Spaced m M (pick (leb (i + o) nodePorts) (addWorks i o) []) (addBlock m i o .answer ≡ add.Refused NoRoom) (addBlock m i o .graph)
-  unfolding addBlock
+  pub add-call-space : (i o : ℕ) → Spaced m M (cond (leb (i + o) nodePorts) (addWorks i o) []) (addBlock m i o .answer ≡ add.Refused NoRoom) (addBlock m i o .graph)
   add-call-space i o = go (leb (i + o) nodePorts) refl
     where
-      go : (a : Bool) → leb (i + o) nodePorts ≡ a → Spaced m M (pick a (addWorks i o) []) (addBlock m i o .answer ≡ add.Refused NoRoom) (addBlock m i o .graph)
+      go : (a : Bool) → leb (i + o) nodePorts ≡ a → Spaced m M (cond a (addWorks i o) []) (addBlock m i o .answer ≡ add.Refused NoRoom) (addBlock m i o .graph)
       go true e = add-space f i o (leb-true (i + o) nodePorts e)
       go false e =
-          subst (λ (v : lower-added.NodeAdded). Spaced m M [] (addedAs (v .answer) ≡ add.Refused NoRoom) (withGraph m (v .graph)))
+          subst (λ (v : NodeAdded). Spaced m M [] (v .answer ≡ add.Refused NoRoom) (v .graph)) (sym (add-cases present m i o))
+          (subst (λ (v : lower-added.NodeAdded). Spaced m M [] (addedAs (v .answer) ≡ add.Refused NoRoom) (withGraph m (v .graph)))
           (sym (add-law (f .good) (f .holds) i o ∙ ap (λ (a : Bool). addWhere (m .graph) M i o a (slotRoom M) (blockRoom M (i + o))) e))
-          (no-work f (λ q. zero-is-not-one (cc)) (own-room f))
+          (no-work f (λ q. zero-is-not-one (cc)) (own-room f)))
 
-  set-call-space : (n i o room : ℕ)
-      → Spaced m M (pick (leb (i + o) nodePorts) (pick (isHidden m n) [] (toldWorks m n i o room (metaAt (m .graph) n))) [])
+  pub set-call-space : (n i o room : ℕ)
+      → Spaced m M (cond (leb (i + o) nodePorts) (cond (isHidden m n) [] (toldWorks m n i o room (metaAt (m .graph) n))) [])
       (setCounts m n i o room .answer ≡ resize.Refused NoRoom) (setCounts m n i o room .graph)
-  unfolding setCounts
   set-call-space n i o room = few (leb (i + o) nodePorts) refl
     where
       Says : List Work → PortsSet → Type 0
       Says works v = Spaced m M works (v .answer ≡ resize.Refused NoRoom) (v .graph)
 
-      refused : (x : Refusal) → ((q : resize.Refused x ≡ resize.Refused NoRoom) → ⊥) → setCounts m n i o room ≡ setRefused m x → Says [] (setCounts m n i o room)
-      refused x never e = subst (Says []) (sym e) (no-work f never (own-room f))
+      refused : (x : Refusal) → ((q : resize.Refused x ≡ resize.Refused NoRoom) → ⊥) → cond (leb (i + o) nodePorts) (setMeta m n i o room (metaAt (m .graph) n)) (setRefused m TooManyPorts) ≡ setRefused m x → Says [] (setCounts m n i o room)
+      refused x never e = subst (Says []) (sym (set-cases present m n i o room ∙ e)) (no-work f never (own-room f))
 
       done : NodeMeta → lower-set-done.PortsSet → PortsSet
       done k v = record { graph = resized m n k i o (v .graph) (v .answer); answer = setAs (v .answer) }
 
       told : (k : NodeMeta) → leb (i + o) nodePorts ≡ true → metaAt (m .graph) n ≡ maybe-meta.Some k → isHidden m n ≡ false → (c : Bool) → leb (3 * (k .incoming + k .outgoing)) room ≡ c
-          → Says (pick c (setWorks m n i o) []) (setCounts m n i o room)
+          → Says (cond c (setWorks m n i o) []) (setCounts m n i o room)
       told k e q h true t = set-counts-space f n k (h, node-of-meta (f .good) (f .holds) n k q) i o room (leb-true (i + o) nodePorts e) (leb-true (3 * (k .incoming + k .outgoing)) room t)
       told k e q h false t =
           refused MovesTooShort (λ z. zero-is-not-one (cc))
-          ((λ j. pick (e j) (setMeta m n i o room (q j)) (setRefused m TooManyPorts))
-          ∙ (ap (λ (b : Bool). pick b (setRefused m HiddenNode) (done k (setNumPorts (m .graph) n i o room))) h
+          ((λ j. cond (e j) (setMeta m n i o room (q j)) (setRefused m TooManyPorts))
+          ∙ (ap (λ (b : Bool). cond b (setRefused m HiddenNode) (done k (setNumPorts (m .graph) n i o room))) h
           ∙ ap (done k) (set-moves-too-short (f .good) (f .holds) n i o room (leb-true (i + o) nodePorts e) k (node-of-meta (f .good) (f .holds) n k q) (leb-false (3 * (k .incoming + k .outgoing)) room t))))
 
-      node : leb (i + o) nodePorts ≡ true → (v : MaybeNodeMeta) → metaAt (m .graph) n ≡ v → (b : Bool) → isHidden m n ≡ b → Says (pick b [] (toldWorks m n i o room v)) (setCounts m n i o room)
-      node e maybe-meta.None q true h = refused UnknownNode (λ z. zero-is-not-one (cc)) (λ j. pick (e j) (setMeta m n i o room (q j)) (setRefused m TooManyPorts))
-      node e maybe-meta.None q false h = refused UnknownNode (λ z. zero-is-not-one (cc)) (λ j. pick (e j) (setMeta m n i o room (q j)) (setRefused m TooManyPorts))
+      node : leb (i + o) nodePorts ≡ true → (v : MaybeNodeMeta) → metaAt (m .graph) n ≡ v → (b : Bool) → isHidden m n ≡ b → Says (cond b [] (toldWorks m n i o room v)) (setCounts m n i o room)
+      node e maybe-meta.None q true h = refused UnknownNode (λ z. zero-is-not-one (cc)) (λ j. cond (e j) (setMeta m n i o room (q j)) (setRefused m TooManyPorts))
+      node e maybe-meta.None q false h = refused UnknownNode (λ z. zero-is-not-one (cc)) (λ j. cond (e j) (setMeta m n i o room (q j)) (setRefused m TooManyPorts))
       node e (maybe-meta.Some k) q true h =
           refused HiddenNode (λ z. zero-is-not-one (cc))
-          ((λ j. pick (e j) (setMeta m n i o room (q j)) (setRefused m TooManyPorts)) ∙ ap (λ (b : Bool). pick b (setRefused m HiddenNode) (done k (setNumPorts (m .graph) n i o room))) h)
+          ((λ j. cond (e j) (setMeta m n i o room (q j)) (setRefused m TooManyPorts)) ∙ ap (λ (b : Bool). cond b (setRefused m HiddenNode) (done k (setNumPorts (m .graph) n i o room))) h)
       node e (maybe-meta.Some k) q false h = told k e q h (leb (3 * (k .incoming + k .outgoing)) room) refl
 
-      few : (a : Bool) → leb (i + o) nodePorts ≡ a → Says (pick a (pick (isHidden m n) [] (toldWorks m n i o room (metaAt (m .graph) n))) []) (setCounts m n i o room)
+      few : (a : Bool) → leb (i + o) nodePorts ≡ a → Says (cond a (cond (isHidden m n) [] (toldWorks m n i o room (metaAt (m .graph) n))) []) (setCounts m n i o room)
       few true e = node e (metaAt (m .graph) n) refl (isHidden m n) refl
-      few false e = refused TooManyPorts (λ z. zero-is-not-one (cc)) (λ j. pick (e j) (setMeta m n i o room (metaAt (m .graph) n)) (setRefused m TooManyPorts))
-
-  -- every call is refused with 10 exactly if its works overflow, else the room is that after them
-  pub call-space : (c : Call) → Spaced m M (worksOf m c) (RefusedForRoom (step m c .answer)) (step m c .graph)
-  unfolding worksOf
-  call-space (addCall i o) = add-call-space i o
-  call-space (removeCall n) = remove-space f n
-  call-space (setCall n i o room) = set-call-space n i o room
-  call-space (book.linkCall a b) = link-space f a b
-  call-space (linkSubCall p o q r) = link-sub-space f p o q r
-  call-space (cutCall p) = cut-space f p
-  call-space (cutSubCall p o) = cut-sub-space f p o
-
--- in the words of the model that the graph after the call stands for
-pub call-room-after : {m : MultiPortGraph} {M N : Model} → Fine m M → (c : Call) → Fine (step m c .graph) N → overflows (roomOf M) (worksOf m c) ≡ false → roomOf N ≡ afterWorks (roomOf M) (worksOf m c)
-call-room-after f c g e = room-is (call-space f c .room-after e) (g .holds)
+      few false e = refused TooManyPorts (λ z. zero-is-not-one (cc)) (λ j. cond (e j) (setMeta m n i o room (metaAt (m .graph) n)) (setRefused m TooManyPorts))

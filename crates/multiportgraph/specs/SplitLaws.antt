@@ -1,7 +1,7 @@
 -- What preparing an end of a port does (`PreparedEnd`), and its first case: splitting a linked port. A hidden node with two
 -- subports comes, the port's link moves to offset 0, and offset 1 is free.
 use mathlib.Core.Path.{_≡_, refl, sym, _∙_, ap, subst, transport}
-use mathlib.Core.Bool.{Bool, true, false}
+use mathlib.Core.Bool.{Bool, true, false, cond}
 use mathlib.Core.List.{List}
 use mathlib.Core.Logic.{_⊎_, inl, inr, ⊎-elim}
 use Prim.Native.Nat.{ℕ, suc, _+_, _-_, _≤_, _<_}
@@ -11,7 +11,7 @@ use lib.ListN.{length, getD, set, length-set}
 use lib.Seq.{getD-set-same, getD-set-other, lt-length-set}
 use borrow.Author.Tests.{eqb-true, eqb-false, leb-true, leb-false}
 use Rattle.portgraph.specs.Limits.{nodeSlots, portSlots, nodePorts}
-use Rattle.portgraph.specs.Entries.{pick, reversed, portsOn}
+use Rattle.portgraph.specs.Entries.{reversed, portsOn}
 use Rattle.portgraph.specs.Tables.{at, cut, linkBoth, linkCount}
 use Rattle.portgraph.specs.Lookups.{node#, port#, numPorts, countIn}
 use Rattle.portgraph.specs.Sums.{place-cases, total-one, upd-same, upd-other, samePlace-refl, drop-here, drop-there, drop-nowhere, link-near, link-far, link-other, cut-elsewhere}
@@ -36,20 +36,20 @@ use Rattle.portgraph.specs.Model.{Model, Far, nowhere, to, gone, live, Good, Ho
 use Rattle.portgraph.specs.declared.direction.Direction.{Direction}
 use Rattle.portgraph.specs.declared.direction.Direction.the-variants.{Incoming, Outgoing}
 use Rattle.multiportgraph.specs.Reading.{isHidden, isSplit, copySide, portOf, portNumber, farPort, linkNumber}
-use Rattle.multiportgraph.specs.Calls.{copyIn, copyOut, Prepared, ready, full, split, splitBy, splitPort, splitGraph}
 use Rattle.multiportgraph.specs.Reads.{farIn, hangOn, copyAt, subportsAt}
-use Rattle.multiportgraph.specs.Wires.{Place, Wire}
-use Rattle.multiportgraph.specs.Inner.{inner#, copyPlace, Copy, Marked, copy-port, main-port, flag, subportsIn, Fine, Seen, lift, liftFar, outer, IsEnd, WireIn, SameBlocks, none, SameWires}
+use Rattle.multiportgraph.specs.Inner.{inner#, copyPlace, Copy, Marked, copy-port, main-port, Fine, Seen, lift, liftFar, outer, IsEnd, WireIn, SameBlocks, none, SameWires, subportsOfSlot}
 use Rattle.multiportgraph.specs.Ends.{ends-join-ends, unsplit-no-copy, outer-of-subport, outer-of-block}
 use Rattle.multiportgraph.specs.Frame.{same-wire}
 use Rattle.multiportgraph.specs.declared.multiportgraph.MultiPortGraph.{MultiPortGraph}
+use Rattle.multiportgraph.specs.Places.{Place, Wire, flag}
+use Rattle.multiportgraph.specs.HiddenNodes.{copyIn, copyOut, Prepared, ready, full, split, splitBy, splitPort, splitGraph, splitUnder}
 
 -- a wire has an end at a place
 abbrev pub HasEnd : Wire → Place → Type 0
 HasEnd w p = (w .out ≡ p) ⊎ (w .into ≡ p)
 
 -- a free end that stays as it is
-pub record KeptEnd (m : MultiPortGraph) (M : Model) (m′ : MultiPortGraph) (M′ : Model) (v : model.Place) : Type 0 where
+pub record KeptEnd (m : MultiPortGraph) (M : Model) (m′ : MultiPortGraph) (M′ : Model) (v : model.InnerPlace) : Type 0 where
   pub end : IsEnd m′ M′ v
   pub free : M′ .join v ≡ nowhere
   pub slot : slotOf (M′ .node) v ≡ slotOf (M .node) v
@@ -57,11 +57,11 @@ pub record KeptEnd (m : MultiPortGraph) (M : Model) (m′ : MultiPortGraph) (M�
 
 -- An end of the port at x is prepared: q is an inner port that is free, and it is the end of x with the lowest unwired offset o.
 -- Blocks and wires are the same.
-pub record PreparedEnd (m : MultiPortGraph) (M : Model) (x : model.Place) (m′ : MultiPortGraph) (M′ : Model) (q o : ℕ) : Type 0 where
+pub record PreparedEnd (m : MultiPortGraph) (M : Model) (x : model.InnerPlace) (m′ : MultiPortGraph) (M′ : Model) (q o : ℕ) : Type 0 where
   pub fine : Fine m′ M′
   pub wires : SameWires m M m′ M′
   pub blocks : SameBlocks m M m′ M′
-  pub z : model.Place
+  pub z : model.InnerPlace
   pub end : IsEnd m′ M′ z
   pub slot : slotOf (M′ .node) z ≡ q
   pub side : z .side ≡ x .side
@@ -70,7 +70,7 @@ pub record PreparedEnd (m : MultiPortGraph) (M : Model) (x : model.Place) (m′ 
   pub lower : (i : ℕ) → i < o → (w : Wire) × WireIn m M w × HasEnd w (lift x i)
   pub none : (w : Wire) → WireIn m M w → HasEnd w (lift x o) → ⊥
   -- free ends on the other side stay as they are
-  pub keeps : (v : model.Place) → IsEnd m M v → M .join v ≡ nowhere → (v .side ≡ x .side → ⊥) → KeptEnd m M m′ M′ v
+  pub keeps : (v : model.InnerPlace) → IsEnd m M v → M .join v ≡ nowhere → (v .side ≡ x .side → ⊥) → KeptEnd m M m′ M′ v
 
 nat-cases : (a b : ℕ) → (a ≡ b) ⊎ (a ≡ b → ⊥)
 nat-cases a b = go (eqb a b) refl
@@ -91,14 +91,14 @@ not-reversed Outgoing e = zero-is-not-one (cc)
 
 -- Wires and their ends.
 
-lift-same : (x y : model.Place) (o r : ℕ) → lift x o ≡ lift y r → (x ≡ y) × (o ≡ r)
+lift-same : (x y : model.InnerPlace) (o r : ℕ) → lift x o ≡ lift y r → (x ≡ y) × (o ≡ r)
 lift-same x y o r e =
     (same-place x y (ap (λ (w : Place). w .node) e) (ap (λ (w : Place). w .side) e) (ap (λ (w : Place). w .pos) e), ap (λ (w : Place). w .offset) e)
 
 -- a linked end at a place
 pub record LinkedEnd (m : MultiPortGraph) (M : Model) (p : Place) : Type 0 where
-  pub near : model.Place
-  pub far : model.Place
+  pub near : model.InnerPlace
+  pub far : model.InnerPlace
   pub joined : M .join near ≡ to far
   pub end : IsEnd m M near
   pub is : outer m M near ≡ p
@@ -116,7 +116,7 @@ module _ {m : MultiPortGraph} {M : Model} (f : Fine m M) where
         is = sym (ap (λ (v : Wire). v .into) (h .is)) ∙ e;
       }
 
-  pub wire-of-end : (x y : model.Place) → IsEnd m M x → M .join x ≡ to y → (w : Wire) × WireIn m M w × HasEnd w (outer m M x)
+  pub wire-of-end : (x y : model.InnerPlace) → IsEnd m M x → M .join x ≡ to y → (w : Wire) × WireIn m M w × HasEnd w (outer m M x)
   wire-of-end x y e j = go (x .side) (y .side) refl refl
     where
       go : (a b : Direction) → x .side ≡ a → y .side ≡ b → (w : Wire) × WireIn m M w × HasEnd w (outer m M x)
@@ -132,13 +132,13 @@ module _ {m : MultiPortGraph} {M : Model} (f : Fine m M) where
 -- The copy port's side, by the counts and one mark.
 
 abbrev pub sideBy : ℕ → ℕ → Bool → Direction
-sideBy i o mark = pick (eqb i 1) (pick (eqb o 1) (pick mark Incoming Outgoing) Incoming) Outgoing
+sideBy i o mark = cond (eqb i 1) (cond (eqb o 1) (cond mark Incoming Outgoing) Incoming) Outgoing
 
 module _ {g : PortGraph} {M : Model} (good : Good M) (holds : Holds g M) where
   counts-at : (n : ℕ) (k : NodeMeta) → M .node n ≡ live k → (d : Direction) → numPorts g n d ≡ portsOn k d
   counts-at n k e d = ap (λ v. countIn v d) (meta-of-node good holds n k e)
 
-  port-at : (z : model.Place) → Valid (M .node) z → portOf g (z .node) (z .side) (z .pos) ≡ slotOf (M .node) z
+  port-at : (z : model.InnerPlace) → Valid (M .node) z → portOf g (z .node) (z .side) (z .pos) ≡ slotOf (M .node) z
   unfolding portOf
   port-at z v = ap portNumber (port-index-is good holds z v)
 
@@ -158,7 +158,7 @@ module _ (m : MultiPortGraph) {M : Model} (good : Good M) (holds : Holds (m .gra
       go false h = rw h
 
 -- The port at x is split: node c comes, linked with x, and the old link of x, with y, is at the first subport.
-record Divided (m : MultiPortGraph) (M : Model) (x y : model.Place) (m′ : MultiPortGraph) (M′ : Model) (c : ℕ) : Type 0 where
+record Divided (m : MultiPortGraph) (M : Model) (x y : model.InnerPlace) (m′ : MultiPortGraph) (M′ : Model) (c : ℕ) : Type 0 where
   good : Good M′
   holds : Holds (m′ .graph) M′
   marksLong : length (m′ .multiport) ≡ portSlots
@@ -175,7 +175,7 @@ record Divided (m : MultiPortGraph) (M : Model) (x y : model.Place) (m′ : Mult
   atFirst : M′ .join (inner# c (x .side) 0) ≡ to y
   atFar : M′ .join y ≡ to (inner# c (x .side) 0)
   atSecond : M′ .join (inner# c (x .side) 1) ≡ nowhere
-  elsewhere : (z : model.Place) → (z ≡ x → ⊥) → (z ≡ y → ⊥) → (z .node ≡ c → ⊥) → M′ .join z ≡ M .join z
+  elsewhere : (z : model.InnerPlace) → (z ≡ x → ⊥) → (z ≡ y → ⊥) → (z .node ≡ c → ⊥) → M′ .join z ≡ M .join z
   hiddenHere : isHidden m′ c ≡ true
   hiddenElse : (n : ℕ) → (n ≡ c → ⊥) → isHidden m′ n ≡ isHidden m n
   portMarked : isSplit m′ (slotOf (M .node) x) ≡ true
@@ -204,12 +204,12 @@ three-ports : (d : Direction) → copyIn d + copyOut d ≡ 3
 three-ports Incoming = refl
 three-ports Outgoing = refl
 
-module _ {m : MultiPortGraph} {M : Model} {x y : model.Place} {m′ : MultiPortGraph} {M′ : Model} {c : ℕ}
+module _ {m : MultiPortGraph} {M : Model} {x y : model.InnerPlace} {m′ : MultiPortGraph} {M′ : Model} {c : ℕ}
     (f : Fine m M) (s : Divided m M x y m′ M′ c) (sx : Seen m M x) (plain : isSplit m (slotOf (M .node) x) ≡ false) (linked : M .join x ≡ to y) where
-  abbrev copy# : model.Place
+  abbrev copy# : model.InnerPlace
   copy# = inner# c (reversed (x .side)) 0
 
-  abbrev sub# : ℕ → model.Place
+  abbrev sub# : ℕ → model.InnerPlace
   sub# i = inner# c (x .side) i
 
   was-plain : isHidden m c ≡ false
@@ -219,30 +219,30 @@ module _ {m : MultiPortGraph} {M : Model} {x y : model.Place} {m′ : MultiPortG
       go true h = absurd (gone-not-live (s .unused) (f .copy c h .here))
       go false h = h
 
-  not-new : (z : model.Place) → Valid (M .node) z → z .node ≡ c → ⊥
+  not-new : (z : model.InnerPlace) → Valid (M .node) z → z .node ≡ c → ⊥
   not-new z v q = let v′ : z .pos < 0 = subst (λ w. z .pos < countOf w (z .side)) (ap (M .node) q ∙ s .unused) v in omega arith
 
   hidden-not-new : (n : ℕ) → isHidden m n ≡ true → n ≡ c → ⊥
   hidden-not-new n h q = zero-is-not-one (let e = ap (isHidden m) q in let e′ = was-plain in cc)
 
-  slot-same : (z : model.Place) → (z .node ≡ c → ⊥) → slotOf (M′ .node) z ≡ slotOf (M .node) z
+  slot-same : (z : model.InnerPlace) → (z .node ≡ c → ⊥) → slotOf (M′ .node) z ≡ slotOf (M .node) z
   slot-same z n = ap (λ w. firstOf w + (sideStart w (z .side) + z .pos)) (s .node (z .node) n)
 
-  valid-kept : (z : model.Place) → Valid (M .node) z → Valid (M′ .node) z
+  valid-kept : (z : model.InnerPlace) → Valid (M .node) z → Valid (M′ .node) z
   valid-kept z v = subst (λ w. z .pos < countOf w (z .side)) (sym (s .node (z .node) (not-new z v))) v
 
-  valid-back : (z : model.Place) → (z .node ≡ c → ⊥) → Valid (M′ .node) z → Valid (M .node) z
+  valid-back : (z : model.InnerPlace) → (z .node ≡ c → ⊥) → Valid (M′ .node) z → Valid (M .node) z
   valid-back z n v = subst (λ w. z .pos < countOf w (z .side)) (s .node (z .node) n) v
 
   valid-copy : Valid (M′ .node) copy#
   valid-copy = s .good .joinValid copy# x (s .atCopy)
 
-  split-kept : (z : model.Place) → Valid (M .node) z → (z ≡ x → ⊥) → isSplit m′ (slotOf (M′ .node) z) ≡ isSplit m (slotOf (M .node) z)
+  split-kept : (z : model.InnerPlace) → Valid (M .node) z → (z ≡ x → ⊥) → isSplit m′ (slotOf (M′ .node) z) ≡ isSplit m (slotOf (M .node) z)
   split-kept z v n =
       let e = slot-same z (not-new z v) in
       ap (isSplit m′) e
       ∙ s .markedElse (slotOf (M .node) z) (λ q. n (slots-apart (f .good) z x v (sx .0) q))
-      (λ q. not-new z v (ap (λ (w : model.Place). w .node) (slots-apart (s .good) z copy# (valid-kept z v) valid-copy (e ∙ q))))
+      (λ q. not-new z v (ap (λ (w : model.InnerPlace). w .node) (slots-apart (s .good) z copy# (valid-kept z v) valid-copy (e ∙ q))))
 
   split-more : (p : ℕ) → isSplit m p ≡ true → isSplit m′ p ≡ true
   split-more p e = ⊎-elim (λ q. ap (isSplit m′) q ∙ s .portMarked) (λ n. ⊎-elim (λ q. ap (isSplit m′) q ∙ s .copyMarked) (λ k. s .markedElse p n k ∙ e)
@@ -267,7 +267,7 @@ module _ {m : MultiPortGraph} {M : Model} {x y : model.Place} {m′ : MultiPortG
           let one : r .meta .incoming ≡ 1 = eqb-true _ _ e in
           let v : Valid (M .node) (inner# n Incoming 0) = rw (r .here) (omega arith) in
           ap (sideBy (r .meta .incoming) (r .meta .outgoing)) (split-kept (inner# n Incoming 0) v
-          (λ q. zero-is-not-one (let a = ap (λ (w : model.Place). isHidden m (w .node)) q in let b = sx .1 in cc)))
+          (λ q. zero-is-not-one (let a = ap (λ (w : model.InnerPlace). isHidden m (w .node)) q in let b = sx .1 in cc)))
       go false e = rw e
 
   copy-kept : (n : ℕ) → isHidden m n ≡ true → copyPlace m′ n ≡ copyPlace m n
@@ -281,16 +281,16 @@ module _ {m : MultiPortGraph} {M : Model} {x y : model.Place} {m′ : MultiPortG
   copy-joined n h =
       ap (M′ .join) (copy-kept n h)
       ∙ s .elsewhere (copyPlace m n)
-      (λ q. zero-is-not-one (let a = ap (λ (w : model.Place). isHidden m (w .node)) q in let b = sx .1 in cc))
+      (λ q. zero-is-not-one (let a = ap (λ (w : model.InnerPlace). isHidden m (w .node)) q in let b = sx .1 in cc))
       (far-no-copy n h) (hidden-not-new n h)
 
-  outer-kept : (z : model.Place) → (z .node ≡ c → ⊥) → outer m′ M′ z ≡ outer m M z
+  outer-kept : (z : model.InnerPlace) → (z .node ≡ c → ⊥) → outer m′ M′ z ≡ outer m M z
   unfolding outer
   outer-kept z n = go (isHidden m (z .node)) refl
     where
       go : (b : Bool) → isHidden m (z .node) ≡ b →
-          pick (isHidden m′ (z .node)) (liftFar (M′ .join (copyPlace m′ (z .node))) (z .pos) z) (lift z 0)
-          ≡ pick (isHidden m (z .node)) (liftFar (M .join (copyPlace m (z .node))) (z .pos) z) (lift z 0)
+          cond (isHidden m′ (z .node)) (liftFar (M′ .join (copyPlace m′ (z .node))) (z .pos) z) (lift z 0)
+          ≡ cond (isHidden m (z .node)) (liftFar (M .join (copyPlace m (z .node))) (z .pos) z) (lift z 0)
       go true h = rw (s .hiddenElse (z .node) n, h) (ap (λ w. liftFar w (z .pos) z) (copy-joined (z .node) h))
       go false h = rw (s .hiddenElse (z .node) n, h) refl
 
@@ -306,7 +306,7 @@ module _ {m : MultiPortGraph} {M : Model} {x y : model.Place} {m′ : MultiPortG
   unfolding outer
   outer-port = rw (sx .1)
 
-  end-kept : (z : model.Place) → IsEnd m M z → (z ≡ x → ⊥) → IsEnd m′ M′ z
+  end-kept : (z : model.InnerPlace) → IsEnd m M z → (z ≡ x → ⊥) → IsEnd m′ M′ z
   end-kept z e n =
       let new = not-new z (e .valid) in
       let same = s .hiddenElse (z .node) new in
@@ -316,7 +316,7 @@ module _ {m : MultiPortGraph} {M : Model} {x y : model.Place} {m′ : MultiPortG
         subport = λ h q. e .subport (sym same ∙ h) (q ∙ side-kept (z .node) (sym same ∙ h));
       }
 
-  end-back : (z : model.Place) → IsEnd m′ M′ z → (z ≡ x → ⊥) → (z .node ≡ c → ⊥) → IsEnd m M z
+  end-back : (z : model.InnerPlace) → IsEnd m′ M′ z → (z ≡ x → ⊥) → (z .node ≡ c → ⊥) → IsEnd m M z
   end-back z e n new =
       let same = s .hiddenElse (z .node) new in
       let v = valid-back z new (e .valid) in
@@ -354,7 +354,7 @@ module _ {m : MultiPortGraph} {M : Model} {x y : model.Place} {m′ : MultiPortG
   far-valid = far-end .valid
 
   far-other : y ≡ x → ⊥
-  far-other q = f .good .joinSides x y linked (ap (λ (w : model.Place). w .side) (sym q))
+  far-other q = f .good .joinSides x y linked (ap (λ (w : model.InnerPlace). w .side) (sym q))
 
   -- The invariant.
 
@@ -389,7 +389,7 @@ module _ {m : MultiPortGraph} {M : Model} {x y : model.Place} {m′ : MultiPortG
         mainSeen = s .hiddenElse (r .main .node) (not-new (r .main) (joined-is-valid (f .good) (copyPlace m n) (r .main) (r .joined))) ∙ r .mainSeen;
       }
 
-  main-after : (n : ℕ) (z : model.Place) → isHidden m′ n ≡ true → M′ .join (copyPlace m′ n) ≡ to z → isSplit m′ (slotOf (M′ .node) z) ≡ true
+  main-after : (n : ℕ) (z : model.InnerPlace) → isHidden m′ n ≡ true → M′ .join (copyPlace m′ n) ≡ to z → isSplit m′ (slotOf (M′ .node) z) ≡ true
   main-after n z h j = ⊎-elim new old (nat-cases n c)
     where
       new : n ≡ c → isSplit m′ (slotOf (M′ .node) z) ≡ true
@@ -412,10 +412,10 @@ module _ {m : MultiPortGraph} {M : Model} {x y : model.Place} {m′ : MultiPortG
       main-port n z (s .hiddenElse n (hidden-not-new n h) ∙ h) (copy-joined n h ∙ j)
       (slot-same z (not-new z (joined-is-valid (f .good) (copyPlace m n) z j)) ∙ q)
 
-  subports-new : subportsIn m′ M′ c ≡ 2
+  subports-new : subportsOfSlot m′ M′ c ≡ 2
   subports-new = rw (s .hiddenHere, s .here, s .ins, s .outs, three-ports (x .side))
 
-  subports-old : subportsIn m M c ≡ 0
+  subports-old : subportsOfSlot m M c ≡ 0
   subports-old = rw was-plain
 
   split-fine : Fine m′ M′
@@ -447,8 +447,8 @@ module _ {m : MultiPortGraph} {M : Model} {x y : model.Place} {m′ : MultiPortG
             let e = f .copies in
             omega arith;
         subs =
-            let t = total-one nodeSlots c (subportsIn m M) (subportsIn m′ M′) (s .below)
-            (λ i l n. sym (ap (λ b. pick b (portsOf (M′ .node i) - 1) 0) (s .hiddenElse i n) ∙ ap (λ w. pick (isHidden m i) (portsOf w - 1) 0) (s .node i n))) in
+            let t = total-one nodeSlots c (subportsOfSlot m M) (subportsOfSlot m′ M′) (s .below)
+            (λ i l n. sym (ap (λ b. cond b (portsOf (M′ .node i) - 1) 0) (s .hiddenElse i n) ∙ ap (λ w. cond (isHidden m i) (portsOf w - 1) 0) (s .node i n))) in
             let a = subports-old in
             let b = subports-new in
             let d = s .subs in
@@ -458,7 +458,7 @@ module _ {m : MultiPortGraph} {M : Model} {x y : model.Place} {m′ : MultiPortG
 
   -- Wires and blocks.
 
-  place-of-new : (z : model.Place) → z .node ≡ c → Valid (M′ .node) z → (z ≡ copy#) ⊎ ((z ≡ sub# 0) ⊎ (z ≡ sub# 1))
+  place-of-new : (z : model.InnerPlace) → z .node ≡ c → Valid (M′ .node) z → (z ≡ copy#) ⊎ ((z ≡ sub# 0) ⊎ (z ≡ sub# 1))
   place-of-new z q v = ⊎-elim (λ d. inr (sub d)) (λ d. inl (copied d)) (side-cases (z .side) (x .side))
     where
       count : z .pos < countOf (M′ .node c) (z .side)
@@ -486,7 +486,7 @@ module _ {m : MultiPortGraph} {M : Model} {x y : model.Place} {m′ : MultiPortG
             x = sub# 0;
             y = y;
             joined = s .atFirst;
-            outgoing = ap (λ (a : model.Place). a .side) (sym q) ∙ h .outgoing;
+            outgoing = ap (λ (a : model.InnerPlace). a .side) (sym q) ∙ h .outgoing;
             end = sub-end 0 (omega arith);
             is = h .is ∙ same-wire (ap (outer m M) q ∙ (outer-port ∙ sym outer-first)) (ap (outer m M) r ∙ sym (outer-kept y (not-new y far-valid)));
           }
@@ -501,7 +501,7 @@ module _ {m : MultiPortGraph} {M : Model} {x y : model.Place} {m′ : MultiPortG
             x = y;
             y = sub# 0;
             joined = s .atFar;
-            outgoing = ap (λ (a : model.Place). a .side) (sym q) ∙ h .outgoing;
+            outgoing = ap (λ (a : model.InnerPlace). a .side) (sym q) ∙ h .outgoing;
             end = end-kept y far-end far-other;
             is = h .is ∙ same-wire (ap (outer m M) q ∙ sym (outer-kept y (not-new y far-valid))) (ap (outer m M) r ∙ (outer-port ∙ sym outer-first));
           }
@@ -534,7 +534,7 @@ module _ {m : MultiPortGraph} {M : Model} {x y : model.Place} {m′ : MultiPortG
             x = y;
             y = x;
             joined = f .good .joinBack x y linked;
-            outgoing = ap (λ (a : model.Place). a .side) (sym q) ∙ h .outgoing;
+            outgoing = ap (λ (a : model.InnerPlace). a .side) (sym q) ∙ h .outgoing;
             end = far-end;
             is = h .is ∙ same-wire (ap (outer m′ M′) q ∙ outer-kept y (not-new y far-valid)) (ap (outer m′ M′) r ∙ (outer-first ∙ sym outer-port));
           }
@@ -549,14 +549,14 @@ module _ {m : MultiPortGraph} {M : Model} {x y : model.Place} {m′ : MultiPortG
             x = x;
             y = y;
             joined = linked;
-            outgoing = ap (λ (a : model.Place). a .side) (sym q) ∙ h .outgoing;
+            outgoing = ap (λ (a : model.InnerPlace). a .side) (sym q) ∙ h .outgoing;
             end = port-end;
             is = h .is ∙ same-wire (ap (outer m′ M′) q ∙ (outer-first ∙ sym outer-port)) (ap (outer m′ M′) r ∙ outer-kept y (not-new y far-valid));
           }
 
       new : h .x .node ≡ c → (h .x ≡ copy#) ⊎ ((h .x ≡ sub# 0) ⊎ (h .x ≡ sub# 1)) → WireIn m M w
       new n (inl q) =
-          absurd (h .end .subport (ap (isHidden m′) n ∙ s .hiddenHere) (ap (λ (a : model.Place). a .side) q ∙ (sym side-new ∙ ap (copySide m′) (sym n))))
+          absurd (h .end .subport (ap (isHidden m′) n ∙ s .hiddenHere) (ap (λ (a : model.InnerPlace). a .side) q ∙ (sym side-new ∙ ap (copySide m′) (sym n))))
       new n (inr (inl q)) = first q
       new n (inr (inr q)) = absurd (zero-is-not-one (let j = h .joined in let e = ap (M′ .join) q in let b = s .atSecond in cc))
 
@@ -581,7 +581,7 @@ module _ {m : MultiPortGraph} {M : Model} {x y : model.Place} {m′ : MultiPortG
   )
 
   -- the port had offset 0 only
-  no-second : (z : model.Place) → IsEnd m M z → outer m M z ≡ lift x 1 → ⊥
+  no-second : (z : model.InnerPlace) → IsEnd m M z → outer m M z ≡ lift x 1 → ⊥
   no-second z e q = go (isHidden m (z .node)) refl
     where
       go : (b : Bool) → isHidden m (z .node) ≡ b → ⊥
@@ -631,16 +631,16 @@ pub record SplitTables (p : ℕ) (d : Direction) (g : PortGraph) (c first : ℕ)
 -- The lower graph's steps.
 
 module _ {g : PortGraph} {M : Model} (good : Good M) (holds : Holds g M) where
-  cut-step : (x y : model.Place) → M .join x ≡ to y → Holds (unlinkPort g (slotOf (M .node) x) .graph) (unlinkModel M x)
+  cut-step : (x y : model.InnerPlace) → M .join x ≡ to y → Holds (unlinkPort g (slotOf (M .node) x) .graph) (unlinkModel M x)
   cut-step x y j =
       let v = good .joinValid x y j in
       rw (unlink-linked good holds x y v j) (unlink-holds good holds x v)
 
-  pub link-step : (x y : model.Place) → Valid (M .node) x → Valid (M .node) y → M .join x ≡ nowhere → M .join y ≡ nowhere → (x .side ≡ y .side → ⊥) →
+  pub link-step : (x y : model.InnerPlace) → Valid (M .node) x → Valid (M .node) y → M .join x ≡ nowhere → M .join y ≡ nowhere → (x .side ≡ y .side → ⊥) →
       Holds (linkPorts g (slotOf (M .node) x) (slotOf (M .node) y) .graph) (linkModel M x y)
   link-step x y vx vy fx fy d = rw (link-done good holds x y vx vy d fx fy) (link-holds good holds x y vx vy fx fy d)
 
-  far-at : (x y : model.Place) → M .join x ≡ to y → farPort g (slotOf (M .node) x) ≡ slotOf (M .node) y
+  far-at : (x y : model.InnerPlace) → M .join x ≡ to y → farPort g (slotOf (M .node) x) ≡ slotOf (M .node) y
   unfolding farPort
   far-at x y j = ap linkNumber (port-link-to good holds x y (good .joinValid x y j) j)
 
@@ -648,7 +648,7 @@ module _ {g : PortGraph} {M : Model} (good : Good M) (holds : Holds g M) where
 abbrev linked-to : ℕ → ℕ → PortGraph → PortGraph
 linked-to a b g = withLinks g (linkBoth (g .«port_link») a b) (g .«link_count» + 1)
 
-module _ {m : MultiPortGraph} {M : Model} (f : Fine m M) (x y : model.Place) (sx : Seen m M x) (linked : M .join x ≡ to y)
+module _ {m : MultiPortGraph} {M : Model} (f : Fine m M) (x y : model.InnerPlace) (sx : Seen m M x) (linked : M .join x ≡ to y)
     (small : copyIn (x .side) + copyOut (x .side) ≤ nodePorts)
     (nodeRoom : M .nodeLen + growth 1 (M .freeNodes) ≤ nodeSlots)
     (portRoom : M .portLen + growth (copyIn (x .side) + copyOut (x .side)) (M .freeBlocks (copyIn (x .side) + copyOut (x .side))) ≤ portSlots) where
@@ -664,10 +664,10 @@ module _ {m : MultiPortGraph} {M : Model} (f : Fine m M) (x y : model.Place) (sx
   abbrev M₁ : Model
   M₁ = addModel M (copyIn (x .side)) (copyOut (x .side))
 
-  abbrev cp : model.Place
+  abbrev cp : model.InnerPlace
   cp = inner# c# (reversed (x .side)) 0
 
-  abbrev sp : ℕ → model.Place
+  abbrev sp : ℕ → model.InnerPlace
   sp i = inner# c# (x .side) i
 
   abbrev M₂ : Model
@@ -691,7 +691,7 @@ module _ {m : MultiPortGraph} {M : Model} (f : Fine m M) (x y : model.Place) (sx
   is-new : M₁ .node c# ≡ live new#
   is-new = upd-same (M .node) c# (live new#)
 
-  old-place : (z : model.Place) → Valid (M .node) z → z .node ≡ c# → ⊥
+  old-place : (z : model.InnerPlace) → Valid (M .node) z → z .node ≡ c# → ⊥
   old-place z v q = let v′ : z .pos < 0 = subst (λ w. z .pos < countOf w (z .side)) (ap (M .node) q ∙ was-gone) v in omega arith
 
   old-node : (n : ℕ) → (n ≡ c# → ⊥) → M₁ .node n ≡ M .node n
@@ -703,8 +703,8 @@ module _ {m : MultiPortGraph} {M : Model} (f : Fine m M) (x y : model.Place) (sx
   y-old : y .node ≡ c# → ⊥
   y-old = old-place y (joined-is-valid (f .good) x y linked)
 
-  apart-from : (z : model.Place) (d : Direction) (i : ℕ) → (z .node ≡ c# → ⊥) → z ≡ inner# c# d i → ⊥
-  apart-from z d i n q = n (ap (λ (w : model.Place). w .node) q)
+  apart-from : (z : model.InnerPlace) (d : Direction) (i : ℕ) → (z .node ≡ c# → ⊥) → z ≡ inner# c# d i → ⊥
+  apart-from z d i n q = n (ap (λ (w : model.InnerPlace). w .node) q)
 
   slot-of-x : slotOf (M₁ .node) x ≡ slotOf (M .node) x
   slot-of-x = ap (λ w. firstOf w + (sideStart w (x .side) + x .pos)) (old-node (x .node) x-old)
@@ -721,7 +721,7 @@ module _ {m : MultiPortGraph} {M : Model} (f : Fine m M) (x y : model.Place) (sx
   valid-sp : (i : ℕ) → i < 2 → Valid (M₁ .node) (sp i)
   valid-sp i l = rw (is-new, two-subports (x .side) new# refl refl) l
 
-  no-join : (z : model.Place) → z .node ≡ c# → M .join z ≡ nowhere
+  no-join : (z : model.InnerPlace) → z .node ≡ c# → M .join z ≡ nowhere
   no-join z q = go (M .join z) refl
     where
       go : (w : Far) → M .join z ≡ w → M .join z ≡ nowhere
@@ -729,7 +729,7 @@ module _ {m : MultiPortGraph} {M : Model} (f : Fine m M) (x y : model.Place) (sx
       go (to u) e = absurd (old-place z (f .good .joinValid z u e) q)
 
   y-not-x : y ≡ x → ⊥
-  y-not-x q = f .good .joinSides x y linked (ap (λ (w : model.Place). w .side) (sym q))
+  y-not-x q = f .good .joinSides x y linked (ap (λ (w : model.InnerPlace). w .side) (sym q))
 
   x-cut : M₂ .join x ≡ nowhere
   x-cut = drop-here (samePlace x) (M .join) x (samePlace-refl x)
@@ -737,11 +737,11 @@ module _ {m : MultiPortGraph} {M : Model} (f : Fine m M) (x y : model.Place) (sx
   y-cut : M₂ .join y ≡ nowhere
   y-cut = drop-there (samePlace x) (M .join) y x (f .good .joinBack x y linked) (samePlace-refl x)
 
-  new-free : (z : model.Place) → z .node ≡ c# → M₂ .join z ≡ nowhere
+  new-free : (z : model.InnerPlace) → z .node ≡ c# → M₂ .join z ≡ nowhere
   new-free z q = drop-nowhere (samePlace x) (M .join) z (no-join z q)
 
   sub-not-copy : (i : ℕ) → sp i ≡ cp → ⊥
-  sub-not-copy i q = not-reversed (x .side) (ap (λ (w : model.Place). w .side) (sym q))
+  sub-not-copy i q = not-reversed (x .side) (ap (λ (w : model.InnerPlace). w .side) (sym q))
 
   first-free : M₃ .join (sp 0) ≡ nowhere
   first-free = link-other x cp (M₂ .join) (sp 0) (λ q. apart-from x (x .side) 0 x-old (sym q)) (sub-not-copy 0) ∙ new-free (sp 0) refl
@@ -847,7 +847,7 @@ module _ {m : MultiPortGraph} {M : Model} (f : Fine m M) (x y : model.Place) (sx
   cp-slot-apart : slotOf (M₁ .node) cp ≡ slotOf (M .node) x → ⊥
   cp-slot-apart q = apart-from x (reversed (x .side)) 0 x-old (slots-apart good₁ x cp valid-x valid-cp (slot-of-x ∙ sym q))
 
-  join-elsewhere : (z : model.Place) → (z ≡ x → ⊥) → (z ≡ y → ⊥) → (z .node ≡ c# → ⊥) → M₄ .join z ≡ M .join z
+  join-elsewhere : (z : model.InnerPlace) → (z ≡ x → ⊥) → (z ≡ y → ⊥) → (z .node ≡ c# → ⊥) → M₄ .join z ≡ M .join z
   join-elsewhere z a b n =
       link-other (sp 0) y (M₃ .join) z (apart-from z (x .side) 0 n) b
       ∙ (link-other x cp (M₂ .join) z a (apart-from z (reversed (x .side)) 0 n)
@@ -875,7 +875,7 @@ module _ {m : MultiPortGraph} {M : Model} (f : Fine m M) (x y : model.Place) (sx
         atFirst = link-near (sp 0) y (M₃ .join);
         atFar = link-far (sp 0) y (M₃ .join) (apart-from y (x .side) 0 y-old);
         atSecond =
-            link-other (sp 0) y (M₃ .join) (sp 1) (λ q. zero-is-not-one (ap (λ (w : model.Place). w .pos) (sym q))) (λ q. apart-from y (x .side) 1 y-old (sym q))
+            link-other (sp 0) y (M₃ .join) (sp 1) (λ q. zero-is-not-one (ap (λ (w : model.InnerPlace). w .pos) (sym q))) (λ q. apart-from y (x .side) 1 y-old (sym q))
             ∙ (link-other x cp (M₂ .join) (sp 1) (λ q. apart-from x (x .side) 1 x-old (sym q)) (sub-not-copy 1) ∙ new-free (sp 1) refl);
         elsewhere = join-elsewhere;
         hiddenHere = getD-set-same (m .«copy_node») c# true false (rw (f .flagsLong) c-below);
@@ -900,25 +900,25 @@ module _ {m : MultiPortGraph} {M : Model} (f : Fine m M) (x y : model.Place) (sx
 
 -- every subport of a hidden node is linked
 abbrev pub AllLinked : Model → ℕ → Direction → Type 0
-AllLinked M c d = (j : ℕ) → j < countOf (M .node c) d → (y : model.Place) × (M .join (inner# c d j) ≡ to y)
+AllLinked M c d = (j : ℕ) → j < countOf (M .node c) d → (y : model.InnerPlace) × (M .join (inner# c d j) ≡ to y)
 
-pub data NoSpace (m : MultiPortGraph) (M : Model) (x : model.Place) : Type 0 where
+pub data NoSpace (m : MultiPortGraph) (M : Model) (x : model.InnerPlace) : Type 0 where
   -- for a split: a slot, a block of 3
-  no-slot : (y : model.Place) → isSplit m (slotOf (M .node) x) ≡ false → M .join x ≡ to y → nodeSlots < M .nodeLen + growth 1 (M .freeNodes) → NoSpace m M x
-  no-block : (y : model.Place) → isSplit m (slotOf (M .node) x) ≡ false → M .join x ≡ to y → portSlots < M .portLen + growth 3 (M .freeBlocks 3) → NoSpace m M x
+  no-slot : (y : model.InnerPlace) → isSplit m (slotOf (M .node) x) ≡ false → M .join x ≡ to y → nodeSlots < M .nodeLen + growth 1 (M .freeNodes) → NoSpace m M x
+  no-block : (y : model.InnerPlace) → isSplit m (slotOf (M .node) x) ≡ false → M .join x ≡ to y → portSlots < M .portLen + growth 3 (M .freeBlocks 3) → NoSpace m M x
   -- for one more subport: a larger block; none is large enough for more ports than a node may have
   no-subport : (c : ℕ) (k : NodeMeta) → isHidden m c ≡ true → M .join x ≡ to (copyPlace m c) → AllLinked M c (x .side) → M .node c ≡ live k
       → k .capacity ≤ suc (k .incoming + k .outgoing)
       → portSlots < M .portLen + growth (roundUp (suc (k .incoming + k .outgoing))) (M .freeBlocks (roundUp (suc (k .incoming + k .outgoing)))) → NoSpace m M x
 
 -- What a preparation of an end of the port at x says.
-abbrev pub PreparedSays : MultiPortGraph → Model → model.Place → Prepared → Type 0
+abbrev pub PreparedSays : MultiPortGraph → Model → model.InnerPlace → Prepared → Type 0
 PreparedSays m M x (ready m′ q o) = (M′ : Model) × PreparedEnd m M x m′ M′ q o
 PreparedSays m M x full = NoSpace m M x
 
-pub split-says : {m : MultiPortGraph} {M : Model} → Fine m M → (x y : model.Place) → Seen m M x → isSplit m (slotOf (M .node) x) ≡ false → M .join x ≡ to y →
+pub split-says : {m : MultiPortGraph} {M : Model} → Fine m M → (x y : model.InnerPlace) → Seen m M x → isSplit m (slotOf (M .node) x) ≡ false → M .join x ≡ to y →
     PreparedSays m M x (split m (slotOf (M .node) x) (x .side))
-unfolding split
+unfolding splitUnder
 split-says {m} {M} f x y sx plain linked =
     rw (add-law (f .good) (f .holds) (copyIn (x .side)) (copyOut (x .side)))
     (go (leb (copyIn (x .side) + copyOut (x .side)) nodePorts) (slotRoom M) (blockRoom M (copyIn (x .side) + copyOut (x .side))) refl refl refl)
@@ -944,7 +944,7 @@ split-says {m} {M} f x y sx plain linked =
         omega arith)
 
 -- the tables after a split
-pub split-tables : {m : MultiPortGraph} {M : Model} → Fine m M → (x y : model.Place) → Seen m M x → M .join x ≡ to y →
+pub split-tables : {m : MultiPortGraph} {M : Model} → Fine m M → (x y : model.InnerPlace) → Seen m M x → M .join x ≡ to y →
     (r : NodeAdded) → r ≡ addNode (m .graph) (copyIn (x .side)) (copyOut (x .side)) → (n : NodeIndex) (p : PortIndex) → r .answer ≡ lower-add.Added n p →
     SplitTables (slotOf (M .node) x) (x .side) (r .graph) (n .0) (p .0)
 split-tables {m} {M} f x y sx linked r e n p h =

@@ -1,10 +1,9 @@
 -- What the steps of the starts of walks amount to, over plain values.
 use mathlib.Core.Path.{_≡_, refl, sym, ap}
-use mathlib.Core.Bool.{Bool, true, false}
+use mathlib.Core.Bool.{Bool, true, false, cond}
 use Prim.Native.Nat.{ℕ}
 use lib.ListN.{length}
 use Rattle.portgraph.specs.Limits.{nodeSlots}
-use Rattle.portgraph.specs.Entries.{pick}
 use Rattle.portgraph.specs.Lookups.{containsNode, portAt}
 use Rattle.portgraph.specs.declared.port_entry.PortEntry.{PortEntry}
 use Rattle.portgraph.specs.declared.port_entry.PortEntry.the-variants as port-variants
@@ -20,7 +19,7 @@ module _ (m : MultiPortGraph) where
   unfolding isHidden
   owner-by port-variants.Free long = refl
   owner-by (port-variants.Port k) long =
-      ap (λ b. pick b hidden (visible (k .node .0) (k .direction))) (flag-is (m .«copy_node») nodeSlots (k .node .0) long)
+      ap (λ b. cond b hidden (visible (k .node .0) (k .direction))) (flag-is (m .«copy_node») nodeSlots (k .node .0) long)
 
   -- a port number reads as the tables tell it
   pub seen-read : (p : ℕ) → length (m .«copy_node») ≡ nodeSlots → seenIn (m .graph .«port_meta») (m .«copy_node») p ≡ seen m p
@@ -33,9 +32,9 @@ module _ (m : MultiPortGraph) where
 
   -- from one node to another, by whether they are there and hidden
   abbrev pub betweenBy : Bool → Bool → Bool → Bool → Start
-  betweenBy a b h g = pick a (pick b (pick h (refused HiddenNode) (pick g (refused HiddenNode) started)) (refused UnknownNode)) (refused UnknownNode)
+  betweenBy a b h g = cond a (cond b (cond h (refused HiddenNode) (cond g (refused HiddenNode) started)) (refused UnknownNode)) (refused UnknownNode)
 
-  between-by : (a b h g : Bool) → betweenBy a b h g ≡ pick a (pick b (pick h (refused HiddenNode) (pick b (pick g (refused HiddenNode) started) (refused UnknownNode))) (refused UnknownNode)) (refused UnknownNode)
+  between-by : (a b h g : Bool) → betweenBy a b h g ≡ cond a (cond b (cond h (refused HiddenNode) (cond b (cond g (refused HiddenNode) started) (refused UnknownNode))) (refused UnknownNode)) (refused UnknownNode)
   between-by a true h g = refl
   between-by a false h g = refl
 

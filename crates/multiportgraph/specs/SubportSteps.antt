@@ -1,14 +1,14 @@
 -- Steps of the walk over the subports of a block, and of the fan-out of a block, over plain values.
 use mathlib.Core.Path.{_≡_, refl, sym, _∙_, ap}
-use mathlib.Core.Bool.{Bool, true, false}
-use mathlib.Core.List.{List, [], _∷_, _++_}
+use mathlib.Core.Bool.{Bool, true, false, cond}
+use mathlib.Core.List.{List, [], _∷_, _++_, map}
 use mathlib.Core.Logic.{inl, inr}
 use Prim.Native.Nat.{ℕ, zero, suc, _+_, _-_, _≤_, _<_, min}
 use native.Mathlib.Omega.{arith}
 use lib.Dec.{leb, ltb}
 use borrow.Author.Tests.{le-leb, lt-leb, ltb-true, ltb-false, leb-true, leb-false}
 use Rattle.portgraph.specs.Limits.{portSlots}
-use Rattle.portgraph.specs.Entries.{pick}
+use Rattle.portgraph.specs.Lists.{range, filter, onFirst, Member}
 use Rattle.portgraph.specs.Lookups.{metaAt}
 use Rattle.portgraph.specs.Walks.{portsFrom, portsTo}
 use Rattle.portgraph.specs.declared.direction.Direction.{Direction}
@@ -21,12 +21,12 @@ use Rattle.multiportgraph.specs.Reading.{isHidden, isSplit, Port, dead, 
 use Rattle.multiportgraph.specs.Inner.{MultiWf}
 use Rattle.multiportgraph.specs.Reads.{seenIn}
 use Rattle.multiportgraph.specs.ReadLaws.{seen-read}
-use Rattle.multiportgraph.specs.Wires.{range, each, those, portsOfSide}
-use Rattle.multiportgraph.specs.Walks.{fanOut, sumOf, blockFanOut, bothSeen, firstOf, portsOfNode, subportsOf, subportBeyond, stepSubports}
+use Rattle.multiportgraph.specs.Wires.{portsOfSide}
+use Rattle.multiportgraph.specs.Walks.{fanOut, sumOf, blockFanOut, bothSeen, portsOfNode, subportsOf, subportBeyond, stepSubports}
 use Rattle.multiportgraph.specs.Lookups.{counted, portFanOut, nodeFanOut}
-use Rattle.multiportgraph.specs.Listing.{Member, member-range}
+use Rattle.multiportgraph.specs.Listing.{member-range}
 use Rattle.multiportgraph.specs.ScanLaws.{subportsSeen, subportsAt, subportsFromTo, subportPast, subports-on, subports-end, subports-of-split, subports-of-plain, split-subports-rest, plain-subports-rest, block-not-hidden, row-fits, port-seen-there, ports-in-row, block-subports-all, block-subports-rest, block-subports-none}
-use Rattle.multiportgraph.specs.LookupSteps.{blockFound, start-at, block-at, meta-is, fan-out-at}
+use Rattle.multiportgraph.specs.LookupSteps.{start-at, block-at, meta-is, fan-out-at}
 use Rattle.multiportgraph.specs.Scans.{spanCount}
 use Rattle.multiportgraph.specs.ScanReads.{count-split, count-plain}
 use Rattle.multiportgraph.specs.WalkScans.{heldIn, firstSubport, subportPort, portSubportsBy, portSubportsIn, subportsRest, subportsBeyond, fanOutIn}
@@ -41,16 +41,17 @@ use Rattle.multiportgraph.specs.declared.iter.NodeSubportsStep.{NodeSubp
 use Rattle.multiportgraph.specs.declared.iter.NodeSubportsStep.the-variants as subports-step
 use Rattle.multiportgraph.specs.declared.subports.SubportFound.{SubportFound}
 use Rattle.multiportgraph.specs.declared.subports.SubportFound.the-variants as subport-found
+use Rattle.multiportgraph.specs.Forms.{blockFound}
 
 -- The first of two lists, one after the other.
 
 first-here : (a b : List SubportIndex) (s : SubportIndex) → firstSubport a ≡ subport-found.Subport s → firstSubport (a ++ b) ≡ subport-found.Subport s
-unfolding firstSubport firstOf
+unfolding firstSubport onFirst
 first-here [] b s e = let z : _≡_ {A = ℕ} 0 1 = cc in absurd (omega arith)
 first-here (x ∷ a) b s e = e
 
 first-later : (a b : List SubportIndex) → firstSubport a ≡ subport-found.None → firstSubport (a ++ b) ≡ firstSubport b
-unfolding firstSubport firstOf
+unfolding firstSubport onFirst
 first-later [] b e = refl
 first-later (x ∷ a) b e = let z : _≡_ {A = ℕ} 0 1 = cc in absurd (omega arith)
 
@@ -71,22 +72,22 @@ module _ (marks : List Bool) (links owners : List ℕ) (flags : List Bool) where
     subports-by s e = ap (λ (x : Port). firstSubport (portSubportsBy marks links owners p o x)) (sym e)
 
     pub subports-unseen : (s : Port) → seenIn owners flags p ≡ s → portSubportsBy marks links owners p o s ≡ [] → subport-found.None ≡ firstSubport (portSubportsIn marks links owners flags p o)
-    unfolding firstSubport firstOf
+    unfolding firstSubport onFirst
     subports-unseen s e f = ap firstSubport (sym f) ∙ subports-by s e
 
     module _ (n : ℕ) (d : Direction) (c : ℕ) (e : seenIn owners flags p ≡ visible n d) (g : c ≡ spanCount marks links owners p d) where
       pub subport-there : o < c → subport-found.Subport (subport# p o) ≡ firstSubport (portSubportsIn marks links owners flags p o)
-      unfolding firstSubport firstOf each range
+      unfolding firstSubport onFirst range
       subport-there h =
           let l : spanCount marks links owners p d - o ≡ suc (c - (o + 1)) = omega arith in
-          let f : subport-found.Subport (subport# p o) ≡ firstSubport (each (subport# p) (range o (spanCount marks links owners p d - o))) = rw l in
+          let f : subport-found.Subport (subport# p o) ≡ firstSubport (map (subport# p) (range o (spanCount marks links owners p d - o))) = rw l in
           f ∙ subports-by (visible n d) e
 
       pub subport-past : c ≤ o → subport-found.None ≡ firstSubport (portSubportsIn marks links owners flags p o)
-      unfolding firstSubport firstOf each range
+      unfolding firstSubport onFirst range
       subport-past h =
           let l : spanCount marks links owners p d - o ≡ 0 = omega arith in
-          let f : subport-found.None ≡ firstSubport (each (subport# p) (range o (spanCount marks links owners p d - o))) = rw l in
+          let f : subport-found.None ≡ firstSubport (map (subport# p) (range o (spanCount marks links owners p d - o))) = rw l in
           f ∙ subports-by (visible n d) e
 
     -- A row of ports.
@@ -105,7 +106,7 @@ module _ (marks : List Bool) (links owners : List ℕ) (flags : List Bool) where
       subports-found r s h e n = rw (one-less p stop h) (n ∙ sym (first-here _ _ s (sym e ∙ n)))
 
       pub subports-done : stop ≤ p → subport-found.None ≡ firstSubport (subportsRest marks links owners flags p o (stop - p))
-      unfolding subportsRest firstSubport firstOf
+      unfolding subportsRest firstSubport onFirst
       subports-done h = let a : stop - p ≡ 0 = omega arith in rw a
 
   module _ (from end held o : ℕ) where
@@ -151,7 +152,7 @@ module _ (m : MultiPortGraph) (w : MultiWf m) where
   subports-unseen-read p o s e f g = (rw (seen-read (w .fine) p, e) g, rw e f)
 
   module _ (p n : ℕ) (d : Direction) (s : seen m p ≡ visible n d) where
-    table-seen : (o : ℕ) → tablePort p o ≡ each (subport# p) (range o (count p d - o))
+    table-seen : (o : ℕ) → tablePort p o ≡ map (subport# p) (range o (count p d - o))
     unfolding portSubportsIn
     table-seen o = rw (seen-read (w .fine) p, s)
 
@@ -159,27 +160,27 @@ module _ (m : MultiPortGraph) (w : MultiWf m) where
     whole-split t =
         let c = count-split m w p n d s t in
         let e : count p d - 0 ≡ subports m p d = omega arith in
-        table-seen 0 ∙ ap (λ (x : ℕ). each (subport# p) (range 0 x)) e ∙ sym (subports-of-split m p n d s t)
+        table-seen 0 ∙ ap (λ (x : ℕ). map (subport# p) (range 0 x)) e ∙ sym (subports-of-split m p n d s t)
 
     whole-plain : isSplit m p ≡ false → tablePort p 0 ≡ subportsAt m p
-    unfolding each range
+    unfolding range
     whole-plain t =
         let c = count-plain m w p n d s t in
         let e : count p d - 0 ≡ 1 = omega arith in
-        table-seen 0 ∙ ap (λ (x : ℕ). each (subport# p) (range 0 x)) e ∙ sym (subports-of-plain m p n d s t)
+        table-seen 0 ∙ ap (λ (x : ℕ). map (subport# p) (range 0 x)) e ∙ sym (subports-of-plain m p n d s t)
 
-    past-split : (o : ℕ) → isSplit m p ≡ true → tablePort p (suc o) ≡ those (subportPast o) (subportsAt m p)
+    past-split : (o : ℕ) → isSplit m p ≡ true → tablePort p (suc o) ≡ filter (subportPast o) (subportsAt m p)
     past-split o t =
         let c = count-split m w p n d s t in
         let e : count p d - suc o ≡ subports m p d - suc o = omega arith in
-        table-seen (suc o) ∙ ap (λ (x : ℕ). each (subport# p) (range (suc o) x)) e ∙ sym (split-subports-rest m p n d s o t)
+        table-seen (suc o) ∙ ap (λ (x : ℕ). map (subport# p) (range (suc o) x)) e ∙ sym (split-subports-rest m p n d s o t)
 
-    past-plain : (o : ℕ) → isSplit m p ≡ false → tablePort p (suc o) ≡ those (subportPast o) (subportsAt m p)
-    unfolding each range
+    past-plain : (o : ℕ) → isSplit m p ≡ false → tablePort p (suc o) ≡ filter (subportPast o) (subportsAt m p)
+    unfolding range
     past-plain o t =
         let c = count-plain m w p n d s t in
         let e : count p d - suc o ≡ 0 = omega arith in
-        table-seen (suc o) ∙ ap (λ (x : ℕ). each (subport# p) (range (suc o) x)) e ∙ sym (plain-subports-rest m p n d s o t)
+        table-seen (suc o) ∙ ap (λ (x : ℕ). map (subport# p) (range (suc o) x)) e ∙ sym (plain-subports-rest m p n d s o t)
 
   port-read : (p : ℕ) → tablePort p 0 ≡ subportsAt m p
   port-read p = go (seen m p) refl (isSplit m p) refl
@@ -190,16 +191,16 @@ module _ (m : MultiPortGraph) (w : MultiWf m) where
       go (visible n d) e true t = whole-split p n d e t
       go (visible n d) e false t = whole-plain p n d e t
 
-  none-past : (o : ℕ) → those (subportPast o) [] ≡ []
-  unfolding those
+  none-past : (o : ℕ) → filter (subportPast o) [] ≡ []
+  unfolding filter
   none-past o = refl
 
-  port-past : (p o : ℕ) → tablePort p (suc o) ≡ those (subportPast o) (subportsAt m p)
+  port-past : (p o : ℕ) → tablePort p (suc o) ≡ filter (subportPast o) (subportsAt m p)
   port-past p o = go (seen m p) refl (isSplit m p) refl
     where
-      go : (s : Port) → seen m p ≡ s → (b : Bool) → isSplit m p ≡ b → tablePort p (suc o) ≡ those (subportPast o) (subportsAt m p)
-      go dead e b t = let r = subports-unseen-read p (suc o) dead e refl refl in r .0 ∙ sym (ap (those (subportPast o)) (r .1) ∙ none-past o)
-      go hidden e b t = let r = subports-unseen-read p (suc o) hidden e refl refl in r .0 ∙ sym (ap (those (subportPast o)) (r .1) ∙ none-past o)
+      go : (s : Port) → seen m p ≡ s → (b : Bool) → isSplit m p ≡ b → tablePort p (suc o) ≡ filter (subportPast o) (subportsAt m p)
+      go dead e b t = let r = subports-unseen-read p (suc o) dead e refl refl in r .0 ∙ sym (ap (filter (subportPast o)) (r .1) ∙ none-past o)
+      go hidden e b t = let r = subports-unseen-read p (suc o) hidden e refl refl in r .0 ∙ sym (ap (filter (subportPast o)) (r .1) ∙ none-past o)
       go (visible n d) e true t = past-split p n d e o t
       go (visible n d) e false t = past-plain p n d e o t
 
@@ -229,7 +230,7 @@ module _ (m : MultiPortGraph) (w : MultiWf m) where
     unfolding subportsBeyond
     scanned-rest e = rw (e, fits)
 
-    rest-within : (p : ℕ) → p < portsTo k sides → tableRow p (suc o) (portsTo k sides - p) ≡ those (subportPast o) (subportsAt m p) ++ subportsFromTo m (suc p) (portsTo k sides - suc p)
+    rest-within : (p : ℕ) → p < portsTo k sides → tableRow p (suc o) (portsTo k sides - p) ≡ filter (subportPast o) (subportsAt m p) ++ subportsFromTo m (suc p) (portsTo k sides - suc p)
     unfolding subportsRest
     rest-within p l =
         let e : portsTo k sides - p ≡ suc (portsTo k sides - suc p) = omega arith in
@@ -241,15 +242,15 @@ module _ (m : MultiPortGraph) (w : MultiWf m) where
     unfolding subportsRest
     rest-after p l = let e : portsTo k sides - p ≡ 0 = omega arith in rw e
 
-    held-is : (p : ℕ) → held ≡ suc p → those (subportBeyond (suc p) o) (subportsOf m n sides) ≡ those (subportBeyond held o) (subportsOf m n sides)
-    held-is p e = ap (λ (x : ℕ). those (subportBeyond x o) (subportsOf m n sides)) (sym e)
+    held-is : (p : ℕ) → held ≡ suc p → filter (subportBeyond (suc p) o) (subportsOf m n sides) ≡ filter (subportBeyond held o) (subportsOf m n sides)
+    held-is p e = ap (λ (x : ℕ). filter (subportBeyond x o) (subportsOf m n sides)) (sym e)
 
     -- the subports of a block beyond what a cursor holds
-    subports-read : scanned ≡ those (subportBeyond held o) (subportsOf m n sides)
+    subports-read : scanned ≡ filter (subportBeyond held o) (subportsOf m n sides)
     subports-read = go (leb held (portsFrom k sides)) refl
       where
         beyond : (b : Bool) → ltb (held - 1) (portsTo k sides) ≡ b → leb held (portsFrom k sides) ≡ false
-            → tableRow (held - 1) (suc o) (portsTo k sides - (held - 1)) ≡ those (subportBeyond held o) (subportsOf m n sides)
+            → tableRow (held - 1) (suc o) (portsTo k sides - (held - 1)) ≡ filter (subportBeyond held o) (subportsOf m n sides)
         beyond true e g =
             let l = leb-false held (portsFrom k sides) g in
             let h = ltb-true (held - 1) (portsTo k sides) e in
@@ -259,7 +260,7 @@ module _ (m : MultiPortGraph) (w : MultiWf m) where
             let h = ltb-false (held - 1) (portsTo k sides) e in
             rest-after (held - 1) h ∙ (sym (block-subports-none w n k open-node meta sides (held - 1) o h) ∙ held-is (held - 1) (omega arith))
 
-        go : (b : Bool) → leb held (portsFrom k sides) ≡ b → scanned ≡ those (subportBeyond held o) (subportsOf m n sides)
+        go : (b : Bool) → leb held (portsFrom k sides) ≡ b → scanned ≡ filter (subportBeyond held o) (subportsOf m n sides)
         go true e =
             scanned-all e ∙ row-read (portsTo k sides - portsFrom k sides) (portsFrom k sides)
             ∙ sym (block-subports-all w n k open-node meta sides held o (leb-true held (portsFrom k sides) e))
@@ -267,13 +268,13 @@ module _ (m : MultiPortGraph) (w : MultiWf m) where
 
 -- what was found, as a step has it
 module _ {B : Type 0} (end : B) (item : SubportIndex → B) where
-  first-item : (l : List SubportIndex) (r : SubportFound) (s : SubportIndex) → r ≡ firstSubport l → r ≡ subport-found.Subport s → item s ≡ firstOf end item l
-  unfolding firstSubport firstOf
+  first-item : (l : List SubportIndex) (r : SubportFound) (s : SubportIndex) → r ≡ firstSubport l → r ≡ subport-found.Subport s → item s ≡ onFirst end item l
+  unfolding firstSubport onFirst
   first-item [] r s e h = let z : _≡_ {A = ℕ} 0 1 = cc in absurd (omega arith)
   first-item (v ∷ l) r s e h = let q : s ≡ v = cc in ap item q
 
-  first-end : (l : List SubportIndex) (r : SubportFound) → r ≡ firstSubport l → r ≡ subport-found.None → end ≡ firstOf end item l
-  unfolding firstSubport firstOf
+  first-end : (l : List SubportIndex) (r : SubportFound) → r ≡ firstSubport l → r ≡ subport-found.None → end ≡ onFirst end item l
+  unfolding firstSubport onFirst
   first-end [] r e h = refl
   first-end (v ∷ l) r e h = let z : _≡_ {A = ℕ} 0 1 = cc in absurd (omega arith)
 
@@ -288,7 +289,7 @@ module _ (m : MultiPortGraph) (c : NodeSubports) where
   module _ (w : MultiWf m) (k : NodeMeta) (e : blockFound m (c .node .0) ≡ block-found.Block k) (there : heldIn (m .graph .«port_meta») (m .«copy_node») (c .held) ≡ true)
       (a b : ℕ) (r : SubportFound) (ea : a ≡ portsFrom k (c .sides)) (eb : b ≡ portsTo k (c .sides))
       (er : r ≡ firstSubport (subportsBeyond (m .multiport) (m .graph .«port_link») (m .graph .«port_meta») (m .«copy_node») a b (c .held) (c .offset))) where
-    listed : r ≡ firstSubport (those (subportBeyond (c .held) (c .offset)) (subportsOf m (c .node .0) (c .sides)))
+    listed : r ≡ firstSubport (filter (subportBeyond (c .held) (c .offset)) (subportsOf m (c .node .0) (c .sides)))
     listed =
         let read = subports-read m w (c .node .0) k (block-not-hidden m (c .node .0) (sym (block-at m (c .node .0) (block-found.Block k) e))) (meta-is m (c .node .0) k e) (c .sides) (c .held) (c .offset) in
         er
@@ -325,7 +326,7 @@ module _ (m : MultiPortGraph) (w : MultiWf m) (p n : ℕ) (d : Direction) (s : s
   unfolding fanOut
   fan-out-of = go (isSplit m p) refl
     where
-      go : (b : Bool) → isSplit m p ≡ b → spanCount (m .multiport) (m .graph .«port_link») (m .graph .«port_meta») p d ≡ pick b (subports m p d) 1
+      go : (b : Bool) → isSplit m p ≡ b → spanCount (m .multiport) (m .graph .«port_link») (m .graph .«port_meta») p d ≡ cond b (subports m p d) 1
       go true t = count-split m w p n d s t
       go false t = count-plain m w p n d s t
 

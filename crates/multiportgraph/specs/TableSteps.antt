@@ -22,20 +22,21 @@ use Rattle.portgraph.specs.declared.slots.NodeAdded.{NodeAdded}
 use Rattle.portgraph.specs.declared.resize.SetAnswer.{SetAnswer}
 use Rattle.portgraph.specs.declared.resize.SetAnswer.the-variants as lower-set
 use Rattle.portgraph.specs.declared.resize.PortsSet.{PortsSet}
+use Rattle.multiportgraph.specs.Graph.{multi}
 use Rattle.multiportgraph.specs.Reading.{portOf, copyNode, subports}
-use Rattle.multiportgraph.specs.Calls.{copyIn, copyOut, splitGraph, splitPort, splitBy, split, recounted, more, enough, grownBy, grow}
 use Rattle.multiportgraph.specs.Ends.{block-seen}
 use Rattle.multiportgraph.specs.Forms.{putFlag, preparedAs}
 use Rattle.multiportgraph.specs.FormSteps.{put-flag-is}
 use Rattle.multiportgraph.specs.CopySteps.{two-puts}
 use Rattle.multiportgraph.specs.SplitLaws.{SplitTables, split-tables}
 use Rattle.multiportgraph.specs.RecountLaws.{growth#}
-use Rattle.multiportgraph.specs.LinkSteps.{LinkedPort, SplitPort}
 use Rattle.multiportgraph.specs.Reads.{farIn, ownerIn, subportsIn, firstIn, hangOn, copyAt, subportsAt, grownIn, grownOut}
 use Rattle.multiportgraph.specs.ReadLaws.{owner-read, subports-read}
 use Rattle.multiportgraph.specs.GrowLaws.{GrowTables, grow-tables, grown-counts}
 use Rattle.multiportgraph.specs.declared.multiportgraph.MultiPortGraph.{MultiPortGraph}
 use Rattle.multiportgraph.specs.declared.prepare.Prepared.{Prepared}
+use Rattle.multiportgraph.specs.HiddenNodes.{copyIn, copyOut, splitGraph, splitPort, splitBy, split, recounted, more, enough, grownBy, grow, splitUnder, growUnder}
+use Rattle.multiportgraph.specs.Presumed.{LinkedPort, SplitPort}
 
 -- The links of a split.
 pub hung : (t t₁ t₂ t₃ : List ℕ) (p copy first far w v : ℕ) → w ≡ p → far ≡ farIn t w → v ≡ p → t₁ ≡ cut t v → t₂ ≡ linkBoth t₁ p copy → t₃ ≡ linkBoth t₂ first far → t₃ ≡ hangOn t p copy first
@@ -82,18 +83,12 @@ module _ {m : MultiPortGraph} {p : ℕ} {d : Direction} (b : LinkedPort m p d) {
       w₃ ≡ n .0 →
       t₃ ≡ putFlag (m .«copy_node») nodeSlots w₃ true →
       _≡_ {A = Prepared} (record {
-        graph = record {
-          graph = withLinks (r .graph) t (left + 2);
-          multiport = t₂;
-          «copy_node» = t₃;
-          «copy_node_count» = m .«copy_node_count» + 1;
-          «subport_count» = m .«subport_count» + 2;
-        };
+        graph = multi (withLinks (r .graph) t (left + 2)) t₂ t₃ (m .«copy_node_count» + 1) (m .«subport_count» + 2);
         port = old + 1;
         offset = 1;
         ready = true;
       }) (preparedAs m (split m p d))
-  unfolding split splitPort
+  unfolding splitUnder splitPort
   split-done {ca} {copy} {sa} {old} {held} {left} {w₁} {w₂} {w₃} {t} {t₁} {t₂} {t₃} c₁ c₂ c₃ c₄ c₅ c₆ c₇ k₁ k₂ k₃ k₄ k₅ k₆ =
       let w = b .block .wf .fine in
       let s = split-told in
@@ -103,13 +98,7 @@ module _ {m : MultiPortGraph} {p : ℕ} {d : Direction} (b : LinkedPort m p d) {
       let marks-is : t₂ ≡ set (set (m .multiport) (portOf (r .graph) (n .0) (reversed d) 0) true) p true = rw (k₄, k₂, k₃, k₁, copy-is) (two-puts (m .multiport) portSlots _ p true true (w .marksLong)) in
       let flags-is : t₃ ≡ set (m .«copy_node») (n .0) true = rw (k₆, k₅) (put-flag-is (m .«copy_node») nodeSlots (n .0) true (w .flagsLong)) in
       (λ j. record {
-        graph = record {
-          graph = graph-is j;
-          multiport = marks-is j;
-          «copy_node» = flags-is j;
-          «copy_node_count» = m .«copy_node_count» + 1;
-          «subport_count» = m .«subport_count» + 2;
-        };
+        graph = multi (graph-is j) (marks-is j) (flags-is j) (m .«copy_node_count» + 1) (m .«subport_count» + 2);
         port = new-is j;
         offset = 1;
         ready = true;
@@ -137,7 +126,7 @@ module _ {m : MultiPortGraph} {p : ℕ} {d : Direction} (b : SplitPort m p d) {c
 
     pub grow-full : (tag : SetAnswer → ℕ) → ((e : ℕ) → tag (lower-set.Set e) ≡ 0) → (tag (r .answer) ≡ 1) ⊎ ((tag (r .answer) ≡ 2) ⊎ ((tag (r .answer) ≡ 3) ⊎ (tag (r .answer) ≡ 4))) →
         _≡_ {A = Prepared} (record { graph = m; port = 0; offset = 0; ready = false }) (preparedAs m (grow m (copyNode m p) d))
-    unfolding grow
+    unfolding growUnder
     grow-full tag zeroth z = go (r .answer) z ∙ (λ j. preparedAs m (grownBy m (copyNode m p) d (set-is j .graph) (set-is j .answer)))
       where
         go : (x : SetAnswer) → (tag x ≡ 1) ⊎ ((tag x ≡ 2) ⊎ ((tag x ≡ 3) ⊎ (tag x ≡ 4))) →
@@ -166,31 +155,19 @@ module _ {m : MultiPortGraph} {p : ℕ} {d : Direction} (b : SplitPort m p d) {c
           t₂ ≡ putFlag t₁ portSlots w₃ true →
           first ≡ firstIn (r .graph .«port_link») (r .graph .«port_meta») p d →
           _≡_ {A = Prepared} (record {
-            graph = record {
-              graph = r .graph;
-              multiport = t₂;
-              «copy_node» = m .«copy_node»;
-              «copy_node_count» = m .«copy_node_count»;
-              «subport_count» = m .«subport_count» + 1;
-            };
+            graph = multi (r .graph) t₂ (m .«copy_node») (m .«copy_node_count») (m .«subport_count» + 1);
             port = first + count;
             offset = count;
             ready = true;
           }) (preparedAs m (grow m (copyNode m p) d))
-      unfolding grow recounted
+      unfolding growUnder recounted
       grow-done {far} {first} {w₁} {w₂} {w₃} {t₁} {t₂} k₁ k₂ k₃ k₄ k₅ k₆ k₇ =
           let g = grow-told in
           let far-is : far ≡ farIn (r .graph .«port_link») p = k₂ ∙ ap (farIn (r .graph .«port_link»)) k₁ in
           let marks-is : t₂ ≡ recounted m (copyNode m p) (r .graph) .multiport = rw (k₆, k₄, k₅, k₃, far-is, copy-is) (two-puts (m .multiport) portSlots _ _ false true (b .block .wf .fine .marksLong) ∙ sym (g .marks)) in
           let port-is : first + count ≡ portOf (r .graph) (copyNode m p) d count = rw k₇ (sym (g .port)) in
           (λ j. record {
-            graph = record {
-              graph = r .graph;
-              multiport = marks-is j;
-              «copy_node» = m .«copy_node»;
-              «copy_node_count» = m .«copy_node_count»;
-              «subport_count» = m .«subport_count» + 1;
-            };
+            graph = multi (r .graph) (marks-is j) (m .«copy_node») (m .«copy_node_count») (m .«subport_count» + 1);
             port = port-is j;
             offset = count;
             ready = true;

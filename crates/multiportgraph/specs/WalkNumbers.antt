@@ -1,7 +1,6 @@
 -- 01's numbers and values of a walk's answers: a start has no value or its refusal; a step has its item, and nothing at the end.
 use mathlib.Core.List.{List, [], _∷_}
 use Prim.Native.Nat.{ℕ}
-use Rattle.multiportgraph.specs.Calls.{refusalNumbers}
 use Rattle.multiportgraph.specs.declared.multiportgraph.SubportLink.{SubportLink}
 use Rattle.multiportgraph.specs.declared.iter.NodesStep.{NodesStep}
 use Rattle.multiportgraph.specs.declared.iter.NodesStep.the-variants as nodes-step
@@ -33,6 +32,7 @@ use Rattle.multiportgraph.specs.declared.iter.NodeConnectionsStart.{Node
 use Rattle.multiportgraph.specs.declared.iter.NodeConnectionsStart.the-variants as connections-start
 use Rattle.multiportgraph.specs.declared.iter.WiresStep.{WiresStep}
 use Rattle.multiportgraph.specs.declared.iter.WiresStep.the-variants as wires-step
+use Rattle.multiportgraph.specs.Answers.{refusalNumbers}
 
 abbrev pub linkValues : SubportLink → List ℕ
 linkValues w = w .from .port .0 ∷ w .from .«subport_offset» ∷ w .to .port .0 ∷ w .to .«subport_offset» ∷ []

@@ -1,8 +1,8 @@
 -- The walk over all wires: the list of all wires ascends, the cursor gives it whole, and it has exactly the wires of the model,
 -- each once. So it is known by the set of its wires.
 use mathlib.Core.Path.{_≡_, refl, sym, _∙_, ap, subst}
-use mathlib.Core.Bool.{Bool, true, false}
-use mathlib.Core.List.{List, [], _∷_, _++_, append-assoc}
+use mathlib.Core.Bool.{Bool, true, false, cond}
+use mathlib.Core.List.{List, [], _∷_, _++_, append-assoc, map}
 use mathlib.Core.Logic.{_⊎_, inl, inr, ⊎-elim, _↔_}
 use Prim.Native.Nat.{ℕ, zero, suc, _-_, _≤_, _<_}
 use native.Mathlib.Omega.{arith}
@@ -10,7 +10,7 @@ use lib.Dec.{eqb, ltb}
 use lib.ListN.{length}
 use borrow.Author.Tests.{lt-ltb, le-ltb, eq-eqb, ne-eqb}
 use Rattle.portgraph.specs.Limits.{nodeSlots, portSlots}
-use Rattle.portgraph.specs.Entries.{pick}
+use Rattle.portgraph.specs.Lists.{range, filter, Member, Once, Rising}
 use Rattle.portgraph.specs.Lookups.{numPorts, containsNode, isSome, metaAt}
 use Rattle.portgraph.specs.Model as model
 use Rattle.portgraph.specs.Model.{Model, Far, nowhere, to, Valid, slotOf, countOf}
@@ -20,10 +20,9 @@ use Rattle.portgraph.specs.declared.direction.Direction.{Direction}
 use Rattle.portgraph.specs.declared.direction.Direction.the-variants.{Outgoing}
 use Rattle.multiportgraph.specs.Reading.{ownerOf, portOf, isHidden, isSplit, visible, seen, subports, End, inner, lacking, endAt, subport#, subportOf}
 use Rattle.multiportgraph.specs.Calls.{linkOfEnd}
-use Rattle.multiportgraph.specs.Wires.{range, those, each, isBlock, blocks, portsOfSide, subportsOfPort, subportsOfSide, wireTo, wireOf, sideLinks, allWires, isBeyond, firstItem, wiresBeyond, stepWires, startWires, Walked, walkedOn, walkBy, walkWires, Place, Wire, placeOf, wirePlaces, longWalk, walked, wiresWalked}
-use Rattle.multiportgraph.specs.History.{InWires, Once}
+use Rattle.multiportgraph.specs.Wires.{isBlock, blocks, portsOfSide, subportsOfPort, subportsOfSide, wireTo, wireOf, sideLinks, allWires, isBeyond, firstItem, wiresBeyond, stepWires, startWires, Walked, walkedOn, walkBy, walkWires, placeOf, wirePlaces, longWalk, walked, wiresWalked}
 use Rattle.multiportgraph.specs.Inner.{inner#, copyPlace, Fine, Seen, lift, outer, IsEnd, WireIn}
-use Rattle.multiportgraph.specs.Listing.{Member, Rising, Apart, member-right, member-gather, gather-member, member-each, each-member, length-each, member-those, those-member, member-range, range-member, in-wires, wire-member, those-gather, gather-beyond, those-rest, rising-by-items, rising-those, rising-gather, rising-each, range-rises, apart-below, rising-once}
+use Rattle.multiportgraph.specs.Listing.{Apart, member-right, member-flatMap, flatMap-member, member-map, map-member, length-map, member-filter, filter-member, member-range, range-member, in-wires, wire-member, filter-flatMap, flatMap-beyond, filter-rest, rising-by-items, rising-filter, rising-flatMap, rising-map, range-rises, apart-below, rising-once}
 use Rattle.multiportgraph.specs.Ends.{Hangs, ends-join-ends, place-of-sub, subport-of, main-side, owner-of, port-of, count-of, seen-block, main-seen, end-side, split-has-copy, one-copy, outer-of-block, unsplit-is-end}
 use Rattle.multiportgraph.specs.declared.multiportgraph.MultiPortGraph.{MultiPortGraph}
 use Rattle.multiportgraph.specs.declared.multiportgraph.SubportIndex.{SubportIndex}
@@ -31,9 +30,10 @@ use Rattle.multiportgraph.specs.declared.multiportgraph.SubportLink.{Sub
 use Rattle.multiportgraph.specs.declared.multiportgraph.CutAnswer.{CutAnswer}
 use Rattle.multiportgraph.specs.declared.multiportgraph.CutAnswer.the-variants as cutting
 use Rattle.multiportgraph.specs.declared.iter.Wires.{Wires}
+use Rattle.multiportgraph.specs.Places.{Place, Wire}
 
 -- a listed subport: the port x of a block that it stands at, and the end z that it is
-pub record SubportIs (m : MultiPortGraph) (M : Model) (x z : model.Place) (s : SubportIndex) : Type 0 where
+pub record SubportIs (m : MultiPortGraph) (M : Model) (x z : model.InnerPlace) (s : SubportIndex) : Type 0 where
   pub isSeen : Seen m M x
   pub slot : slotOf (M .node) x ≡ s .port .0
   pub end : IsEnd m M z
@@ -44,11 +44,11 @@ pub record SubportIs (m : MultiPortGraph) (M : Model) (x z : model.Place) (s : S
 -- a listed subport, by its block, position and end
 pub record ListedIs (m : MultiPortGraph) (M : Model) (n : ℕ) (s : SubportIndex) : Type 0 where
   pub pos : ℕ
-  pub z : model.Place
+  pub z : model.InnerPlace
   pub is : SubportIs m M (inner# n Outgoing pos) z s
 
 -- an end, by its block and the subport listed there
-pub record EndListed (m : MultiPortGraph) (M : Model) (z : model.Place) : Type 0 where
+pub record EndListed (m : MultiPortGraph) (M : Model) (z : model.InnerPlace) : Type 0 where
   pub node : ℕ
   pub pos : ℕ
   pub subport : SubportIndex
@@ -59,8 +59,8 @@ pub record EndListed (m : MultiPortGraph) (M : Model) (z : model.Place) : Type 0
 -- a listed wire, by its block and the link between its ends
 pub record WireListed (m : MultiPortGraph) (M : Model) (n : ℕ) (w : SubportLink) : Type 0 where
   pub pos : ℕ
-  pub z : model.Place
-  pub y : model.Place
+  pub z : model.InnerPlace
+  pub y : model.InnerPlace
   pub start : SubportIs m M (inner# n Outgoing pos) z (w .from)
   pub joined : M .join z ≡ to y
   pub far : w .to ≡ subportOf m (slotOf (M .node) y)
@@ -120,8 +120,8 @@ subport-at : (m : MultiPortGraph) (p : ℕ) (s : SubportIndex) → Member s (sub
 unfolding subportsOfPort
 subport-at m p s = go (isSplit m p)
   where
-    go : (b : Bool) → Member s (pick b (each (subport# p) (range 0 (subports m p Outgoing))) (subport# p 0 ∷ [])) → s .port .0 ≡ p
-    go true i = ap (λ (t : SubportIndex). t .port .0) (member-each (subport# p) s (range 0 (subports m p Outgoing)) i .2)
+    go : (b : Bool) → Member s (cond b (map (subport# p) (range 0 (subports m p Outgoing))) (subport# p 0 ∷ [])) → s .port .0 ≡ p
+    go true i = ap (λ (t : SubportIndex). t .port .0) (member-map (subport# p) s (range 0 (subports m p Outgoing)) i .2)
     go false (inl e) = ap (λ (t : SubportIndex). t .port .0) e
     go false (inr i) = absurd i
 
@@ -129,15 +129,15 @@ subports-rise : (m : MultiPortGraph) (p : ℕ) → Rising (Ahead m) (subportsOfP
 unfolding subportsOfPort
 subports-rise m p = go (isSplit m p)
   where
-    go : (b : Bool) → Rising (Ahead m) (pick b (each (subport# p) (range 0 (subports m p Outgoing))) (subport# p 0 ∷ []))
+    go : (b : Bool) → Rising (Ahead m) (cond b (map (subport# p) (range 0 (subports m p Outgoing))) (subport# p 0 ∷ []))
     go true =
-        rising-each _<_ (Ahead m) (subport# p) (range 0 (subports m p Outgoing)) (range-rises 0 (subports m p Outgoing))
+        rising-map _<_ (Ahead m) (subport# p) (range 0 (subports m p Outgoing)) (range-rises 0 (subports m p Outgoing))
         (λ a c h k l. inr (refl, inr (refl, l)))
     go false = ((λ y i. absurd i), tt)
 
 -- a wire beyond a node, port and offset
 abbrev isAfter : MultiPortGraph → ℕ → ℕ → ℕ → SubportLink → Bool
-isAfter m n p o v = pick (eqb (ownerOf (m .graph) (v .from .port .0)) n) (isBeyond p o v) (ltb n (ownerOf (m .graph) (v .from .port .0)))
+isAfter m n p o v = cond (eqb (ownerOf (m .graph) (v .from .port .0)) n) (isBeyond p o v) (ltb n (ownerOf (m .graph) (v .from .port .0)))
 
 -- the test answers as the order does
 module _ (m : MultiPortGraph) (w : SubportLink) where
@@ -163,7 +163,7 @@ module _ (m : MultiPortGraph) (w : SubportLink) where
   after-where-ahead v (inr h) = rw (eq-eqb (ownerOf (m .graph) (v .from .port .0)) (ownerOf (m .graph) (w .from .port .0)) (sym (h .0))) (go (h .1))
     where
       go : (w .from .port .0 < v .from .port .0) ⊎ ((w .from .port .0 ≡ v .from .port .0) × (w .from .«subport_offset» < v .from .«subport_offset»)) →
-          pick (eqb (v .from .port .0) (w .from .port .0)) (ltb (w .from .«subport_offset») (v .from .«subport_offset»)) (ltb (w .from .port .0) (v .from .port .0)) ≡ true
+          cond (eqb (v .from .port .0) (w .from .port .0)) (ltb (w .from .«subport_offset») (v .from .«subport_offset»)) (ltb (w .from .port .0) (v .from .port .0)) ≡ true
       go (inl l) = rw (ne-eqb (v .from .port .0) (w .from .port .0) (λ e. omega arith), lt-ltb (w .from .port .0) (v .from .port .0) l)
       go (inr l) = rw (eq-eqb (v .from .port .0) (w .from .port .0) (sym (l .0)), lt-ltb (w .from .«subport_offset») (v .from .«subport_offset») (l .1))
 
@@ -177,7 +177,7 @@ module _ (m : MultiPortGraph) (w : SubportLink) where
   not-after-where-behind v (inr h) = rw (eq-eqb (ownerOf (m .graph) (v .from .port .0)) (ownerOf (m .graph) (w .from .port .0)) (h .0)) (go (h .1))
     where
       go : (v .from .port .0 < w .from .port .0) ⊎ ((v .from .port .0 ≡ w .from .port .0) × (v .from .«subport_offset» < w .from .«subport_offset»)) →
-          pick (eqb (v .from .port .0) (w .from .port .0)) (ltb (w .from .«subport_offset») (v .from .«subport_offset»)) (ltb (w .from .port .0) (v .from .port .0)) ≡ false
+          cond (eqb (v .from .port .0) (w .from .port .0)) (ltb (w .from .«subport_offset») (v .from .«subport_offset»)) (ltb (w .from .port .0) (v .from .port .0)) ≡ false
       go (inl l) = rw (ne-eqb (v .from .port .0) (w .from .port .0) (λ e. omega arith), le-ltb (w .from .port .0) (v .from .port .0) (omega arith))
       go (inr l) = let k = l .1 in rw (eq-eqb (v .from .port .0) (w .from .port .0) (l .0), le-ltb (w .from .«subport_offset») (v .from .«subport_offset») (omega arith))
 
@@ -194,7 +194,7 @@ endNumber (inner q) = q
 endNumber lacking = 0
 
 -- a fact of outgoing places
-by-outgoing : (P : model.Place → Type 0) → ((n i : ℕ) → P (inner# n Outgoing i)) → (x : model.Place) → x .side ≡ Outgoing → P x
+by-outgoing : (P : model.InnerPlace → Type 0) → ((n i : ℕ) → P (inner# n Outgoing i)) → (x : model.InnerPlace) → x .side ≡ Outgoing → P x
 by-outgoing P h x e = subst (λ (d : Direction). P (inner# (x .node) d (x .pos))) (sym e) (h (x .node) (x .pos))
 
 module _ {m : MultiPortGraph} {M : Model} (f : Fine m M) where
@@ -202,27 +202,27 @@ module _ {m : MultiPortGraph} {M : Model} (f : Fine m M) where
 
   block-is : (n : ℕ) → Member n (blocks m) → isHidden m n ≡ false
   unfolding blocks isBlock
-  block-is n i = go (isHidden m n) refl (member-those (isBlock m) n (range 0 nodeSlots) i .1)
+  block-is n i = go (isHidden m n) refl (member-filter (isBlock m) n (range 0 nodeSlots) i .1)
     where
-      go : (b : Bool) → isHidden m n ≡ b → pick b false (containsNode (m .graph) n) ≡ true → b ≡ false
+      go : (b : Bool) → isHidden m n ≡ b → cond b false (containsNode (m .graph) n) ≡ true → b ≡ false
       go true e h = absurd (zero-is-not-one (cc))
       go false e h = refl
 
-  block-listed : (x : model.Place) → Seen m M x → Member (x .node) (blocks m)
+  block-listed : (x : model.InnerPlace) → Seen m M x → Member (x .node) (blocks m)
   unfolding blocks isBlock
   block-listed x s =
       let r = slot-in-block (f .good) x (s .0) in
       let u = f .good .nodeUsed (x .node) (r .0) (r .1) in
       let k = f .good .nodesFit in
       let t : isSome (metaAt (m .graph) (x .node)) ≡ true = rw (meta-of-node (f .good) (f .holds) (x .node) (r .0) (r .1)) refl in
-      those-member (isBlock m) (x .node) (range 0 nodeSlots) (range-member (x .node) 0 nodeSlots (omega arith) (omega arith)) (rw (s .1) t)
+      filter-member (isBlock m) (x .node) (range 0 nodeSlots) (range-member (x .node) 0 nodeSlots (omega arith) (omega arith)) (rw (s .1) t)
 
   -- Ports of a block's outgoing side.
 
   port-is : (n p : ℕ) → Member p (portsOfSide m Outgoing n) → (i : ℕ) × Valid (M .node) (inner# n Outgoing i) × (p ≡ slotOf (M .node) (inner# n Outgoing i))
   unfolding portsOfSide
   port-is n p h =
-      let r = member-each (portOf (m .graph) n Outgoing) p (range 0 (numPorts (m .graph) n Outgoing)) h in
+      let r = member-map (portOf (m .graph) n Outgoing) p (range 0 (numPorts (m .graph) n Outgoing)) h in
       let b = member-range (r .0) 0 (numPorts (m .graph) n Outgoing) (r .1) in
       let c = count-of f n Outgoing in
       let v : Valid (M .node) (inner# n Outgoing (r .0)) = omega arith in
@@ -232,13 +232,13 @@ module _ {m : MultiPortGraph} {M : Model} (f : Fine m M) where
   unfolding portsOfSide
   port-listed n i v =
       let c = count-of f n Outgoing in
-      subst (λ (p : ℕ). Member p (each (portOf (m .graph) n Outgoing) (range 0 (numPorts (m .graph) n Outgoing)))) (port-of f n Outgoing i v)
-      (each-member (portOf (m .graph) n Outgoing) i (range 0 (numPorts (m .graph) n Outgoing)) (range-member i 0 (numPorts (m .graph) n Outgoing) (omega arith) (omega arith)))
+      subst (λ (p : ℕ). Member p (map (portOf (m .graph) n Outgoing) (range 0 (numPorts (m .graph) n Outgoing)))) (port-of f n Outgoing i v)
+      (map-member (portOf (m .graph) n Outgoing) i (range 0 (numPorts (m .graph) n Outgoing)) (range-member i 0 (numPorts (m .graph) n Outgoing) (omega arith) (omega arith)))
 
   ports-rise : (n : ℕ) → Rising _<_ (portsOfSide m Outgoing n)
   unfolding portsOfSide
   ports-rise n =
-      rising-each _<_ _<_ (portOf (m .graph) n Outgoing) (range 0 (numPorts (m .graph) n Outgoing)) (range-rises 0 (numPorts (m .graph) n Outgoing))
+      rising-map _<_ _<_ (portOf (m .graph) n Outgoing) (range 0 (numPorts (m .graph) n Outgoing)) (range-rises 0 (numPorts (m .graph) n Outgoing))
       (λ i j h k l.
       let c = count-of f n Outgoing in
       let a = member-range i 0 (numPorts (m .graph) n Outgoing) h in
@@ -287,10 +287,10 @@ module _ {m : MultiPortGraph} {M : Model} (f : Fine m M) where
       p : ℕ
       p = slotOf (M .node) (inner# n Outgoing i)
 
-      go : (b : Bool) → isSplit m p ≡ b → Member s (pick b (each (subport# p) (range 0 (subports m p Outgoing))) (subport# p 0 ∷ [])) → ListedIs m M n s
+      go : (b : Bool) → isSplit m p ≡ b → Member s (cond b (map (subport# p) (range 0 (subports m p Outgoing))) (subport# p 0 ∷ [])) → ListedIs m M n s
       go true e j =
           let h = split-has-copy f (inner# n Outgoing i) x e in
-          let r = member-each (subport# p) s (range 0 (subports m p Outgoing)) j in
+          let r = member-map (subport# p) s (range 0 (subports m p Outgoing)) j in
           let b = member-range (r .0) 0 (subports m p Outgoing) (r .1) in
           let c : subports m p Outgoing ≡ countOf (M .node (h .copy)) Outgoing = h .count in
           record {
@@ -317,7 +317,7 @@ module _ {m : MultiPortGraph} {M : Model} (f : Fine m M) where
   split-listed n i e h o b =
       let c : subports m (slotOf (M .node) (inner# n Outgoing i)) Outgoing ≡ countOf (M .node (h .copy)) Outgoing = h .count in
       rw e
-      (each-member (subport# (slotOf (M .node) (inner# n Outgoing i))) o (range 0 (subports m (slotOf (M .node) (inner# n Outgoing i)) Outgoing))
+      (map-member (subport# (slotOf (M .node) (inner# n Outgoing i))) o (range 0 (subports m (slotOf (M .node) (inner# n Outgoing i)) Outgoing))
       (range-member o 0 (subports m (slotOf (M .node) (inner# n Outgoing i)) Outgoing) (omega arith) (omega arith)))
 
   -- Subports of a block's outgoing side: all of them are ends, and every outgoing end is one of them.
@@ -325,12 +325,12 @@ module _ {m : MultiPortGraph} {M : Model} (f : Fine m M) where
   side-is : (n : ℕ) → Member n (blocks m) → (s : SubportIndex) → Member s (subportsOfSide m n Outgoing) → ListedIs m M n s
   unfolding subportsOfSide
   side-is n b s h =
-      let r = member-gather (subportsOfPort m Outgoing) s (portsOfSide m Outgoing n) h in
+      let r = member-flatMap (subportsOfPort m Outgoing) s (portsOfSide m Outgoing n) h in
       let q = port-is n (r .0) (r .1) in
       subport-is n (q .0) (q .1, block-is n b) s (subst (λ (p : ℕ). Member s (subportsOfPort m Outgoing p)) (q .2) (r .2))
 
   side-listed : (n i : ℕ) → Seen m M (inner# n Outgoing i) → (s : SubportIndex) → Member s (subportsOfPort m Outgoing (slotOf (M .node) (inner# n Outgoing i))) →
-      (z : model.Place) → SubportIs m M (inner# n Outgoing i) z s → EndListed m M z
+      (z : model.InnerPlace) → SubportIs m M (inner# n Outgoing i) z s → EndListed m M z
   unfolding subportsOfSide
   side-listed n i x s h z e =
       record {
@@ -338,11 +338,11 @@ module _ {m : MultiPortGraph} {M : Model} (f : Fine m M) where
         pos = i;
         subport = s;
         block = block-listed (inner# n Outgoing i) x;
-        listed = gather-member (subportsOfPort m Outgoing) s (slotOf (M .node) (inner# n Outgoing i)) (portsOfSide m Outgoing n) (port-listed n i (x .0)) h;
+        listed = flatMap-member (subportsOfPort m Outgoing) s (slotOf (M .node) (inner# n Outgoing i)) (portsOfSide m Outgoing n) (port-listed n i (x .0)) h;
         is = e;
       }
 
-  subport-listed : (c o : ℕ) → IsEnd m M (inner# c Outgoing o) → isHidden m c ≡ true → (x : model.Place) → x .side ≡ Outgoing → M .join (copyPlace m c) ≡ to x → EndListed m M (inner# c Outgoing o)
+  subport-listed : (c o : ℕ) → IsEnd m M (inner# c Outgoing o) → isHidden m c ≡ true → (x : model.InnerPlace) → x .side ≡ Outgoing → M .join (copyPlace m c) ≡ to x → EndListed m M (inner# c Outgoing o)
   subport-listed c o e t =
       by-outgoing (λ x. M .join (copyPlace m c) ≡ to x → EndListed m M (inner# c Outgoing o))
       (λ n i j.
@@ -354,7 +354,7 @@ module _ {m : MultiPortGraph} {M : Model} (f : Fine m M) where
       side-listed n i s (subport# (slotOf (M .node) (inner# n Outgoing i)) o) (split-listed n i k h o b) (inner# c Outgoing o)
       (subst (λ (d : ℕ). SubportIs m M (inner# n Outgoing i) (inner# d Outgoing o) (subport# (slotOf (M .node) (inner# n Outgoing i)) o)) p (split-is n i s k h o b)))
 
-  end-listed : (z : model.Place) → z .side ≡ Outgoing → IsEnd m M z → EndListed m M z
+  end-listed : (z : model.InnerPlace) → z .side ≡ Outgoing → IsEnd m M z → EndListed m M z
   end-listed =
       by-outgoing (λ z. IsEnd m M z → EndListed m M z) (λ c o e. go c o e (isHidden m c) refl)
     where
@@ -368,12 +368,12 @@ module _ {m : MultiPortGraph} {M : Model} (f : Fine m M) where
 
   -- Wires.
 
-  wire-there : (x z y : model.Place) (s : SubportIndex) → SubportIs m M x z s → M .join z ≡ to y →
+  wire-there : (x z y : model.InnerPlace) (s : SubportIndex) → SubportIs m M x z s → M .join z ≡ to y →
       wireOf m Outgoing s ≡ record { from = s; to = subportOf m (slotOf (M .node) y) } ∷ []
   unfolding wireOf
   wire-there x z y s e j = rw (e .read, port-link-to (f .good) (f .holds) z y (e .end .valid) j) refl
 
-  no-wire-there : (x z : model.Place) (s : SubportIndex) → SubportIs m M x z s → M .join z ≡ nowhere → wireOf m Outgoing s ≡ []
+  no-wire-there : (x z : model.InnerPlace) (s : SubportIndex) → SubportIs m M x z s → M .join z ≡ nowhere → wireOf m Outgoing s ≡ []
   unfolding wireOf
   no-wire-there x z s e j = rw (e .read, port-link-none (f .good) (f .holds) z (e .end .valid) j) refl
 
@@ -382,7 +382,7 @@ module _ {m : MultiPortGraph} {M : Model} (f : Fine m M) where
   side-wire n b w h = go (M .join (r .z)) refl
     where
       g : (s : SubportIndex) × Member s (subportsOfSide m n Outgoing) × Member w (wireOf m Outgoing s)
-      g = member-gather (wireOf m Outgoing) w (subportsOfSide m n Outgoing) h
+      g = member-flatMap (wireOf m Outgoing) w (subportsOfSide m n Outgoing) h
 
       r : ListedIs m M n (g .0)
       r = side-is n b (g .0) (g .1)
@@ -404,7 +404,7 @@ module _ {m : MultiPortGraph} {M : Model} (f : Fine m M) where
   wire-is : (w : SubportLink) → Member w (allWires m) → (n : ℕ) × Member n (blocks m) × WireListed m M n w
   unfolding allWires
   wire-is w i =
-      let g = member-gather (sideLinks m Outgoing) w (blocks m) i in
+      let g = member-flatMap (sideLinks m Outgoing) w (blocks m) i in
       (g .0, g .1, side-wire (g .0) (g .1) w (g .2))
 
   -- a listed wire, as places
@@ -421,7 +421,7 @@ module _ {m : MultiPortGraph} {M : Model} (f : Fine m M) where
       λ i. record { out = a i; into = b i }
 
   -- every link between ends is listed
-  join-listed : (z y : model.Place) → z .side ≡ Outgoing → IsEnd m M z → M .join z ≡ to y →
+  join-listed : (z y : model.InnerPlace) → z .side ≡ Outgoing → IsEnd m M z → M .join z ≡ to y →
       (w : SubportLink) × Member w (allWires m) × (wirePlaces m w ≡ record { out = outer m M z; into = outer m M y })
   unfolding allWires sideLinks
   join-listed z y d e j =
@@ -429,13 +429,13 @@ module _ {m : MultiPortGraph} {M : Model} (f : Fine m M) where
       let w : SubportLink = record { from = r .subport; to = subportOf m (slotOf (M .node) y) } in
       let k : Member w (wireOf m Outgoing (r .subport)) = rw (wire-there (inner# (r .node) Outgoing (r .pos)) z y (r .subport) (r .is) j) (inl refl) in (
         w,
-        gather-member (sideLinks m Outgoing) w (r .node) (blocks m) (r .block) (gather-member (wireOf m Outgoing) w (r .subport) (subportsOfSide m (r .node) Outgoing) (r .listed) k),
+        flatMap-member (sideLinks m Outgoing) w (r .node) (blocks m) (r .block) (flatMap-member (wireOf m Outgoing) w (r .subport) (subportsOfSide m (r .node) Outgoing) (r .listed) k),
         wire-places (r .node) w (record { pos = r .pos; z = z; y = y; start = r .is; joined = j; far = refl }),
       )
 
-  pub listed-is-wire : (w : Wire) → InWires w (each (wirePlaces m) (allWires m)) → WireIn m M w
+  pub listed-is-wire : (w : Wire) → Member w (map (wirePlaces m) (allWires m)) → WireIn m M w
   listed-is-wire w i =
-      let g = member-each (wirePlaces m) w (allWires m) (wire-member w (each (wirePlaces m) (allWires m)) i) in
+      let g = member-map (wirePlaces m) w (allWires m) (wire-member w (map (wirePlaces m) (allWires m)) i) in
       let r = wire-is (g .0) (g .1) in
       let l = r .2 in
       record {
@@ -447,11 +447,11 @@ module _ {m : MultiPortGraph} {M : Model} (f : Fine m M) where
         is = g .2 ∙ wire-places (r .0) (g .0) l;
       }
 
-  pub wire-is-listed : (w : Wire) → WireIn m M w → InWires w (each (wirePlaces m) (allWires m))
+  pub wire-is-listed : (w : Wire) → WireIn m M w → Member w (map (wirePlaces m) (allWires m))
   wire-is-listed w h =
       let r = join-listed (h .x) (h .y) (h .outgoing) (h .end) (h .joined) in
       let e : wirePlaces m (r .0) ≡ w = r .2 ∙ sym (h .is) in
-      in-wires w (each (wirePlaces m) (allWires m)) (subst (λ (v : Wire). Member v (each (wirePlaces m) (allWires m))) e (each-member (wirePlaces m) (r .0) (allWires m) (r .1)))
+      in-wires w (map (wirePlaces m) (allWires m)) (subst (λ (v : Wire). Member v (map (wirePlaces m) (allWires m))) e (map-member (wirePlaces m) (r .0) (allWires m) (r .1)))
 
   -- The listing ascends.
 
@@ -470,7 +470,7 @@ module _ {m : MultiPortGraph} {M : Model} (f : Fine m M) where
   side-subports-rise : (n : ℕ) → Rising (Ahead m) (subportsOfSide m n Outgoing)
   unfolding subportsOfSide
   side-subports-rise n =
-      rising-gather _<_ (Ahead m) (subportsOfPort m Outgoing) (portsOfSide m Outgoing n) (ports-rise n) (λ p i. subports-rise m p)
+      rising-flatMap _<_ (Ahead m) (subportsOfPort m Outgoing) (portsOfSide m Outgoing n) (ports-rise n) (λ p i. subports-rise m p)
       (λ p q s t i j l h k.
       let a = subport-at m p s h in
       let b = subport-at m q t k in
@@ -481,17 +481,17 @@ module _ {m : MultiPortGraph} {M : Model} (f : Fine m M) where
   side-rises : (n : ℕ) → Rising (Before m) (sideLinks m Outgoing n)
   unfolding sideLinks
   side-rises n =
-      rising-gather (Ahead m) (Before m) (wireOf m Outgoing) (subportsOfSide m n Outgoing) (side-subports-rise n) (λ s i. wire-rises (Before m) m Outgoing s)
+      rising-flatMap (Ahead m) (Before m) (wireOf m Outgoing) (subportsOfSide m n Outgoing) (side-subports-rise n) (λ s i. wire-rises (Before m) m Outgoing s)
       (λ s t v w i j l h k. rw (wire-from m Outgoing s v h, wire-from m Outgoing t w k) l)
 
   blocks-rise : Rising _<_ (blocks m)
   unfolding blocks
-  blocks-rise = rising-those _<_ (isBlock m) (range 0 nodeSlots) (range-rises 0 nodeSlots)
+  blocks-rise = rising-filter _<_ (isBlock m) (range 0 nodeSlots) (range-rises 0 nodeSlots)
 
   wires-rise : Rising (Before m) (allWires m)
   unfolding allWires
   wires-rise =
-      rising-gather _<_ (Before m) (sideLinks m Outgoing) (blocks m) blocks-rise (λ n i. side-rises n)
+      rising-flatMap _<_ (Before m) (sideLinks m Outgoing) (blocks m) blocks-rise (λ n i. side-rises n)
       (λ n k v w i j l a b.
       let c = owner-of-wire n v (side-wire n i v a) in
       let d = owner-of-wire k w (side-wire k j w b) in
@@ -516,22 +516,22 @@ module _ {m : MultiPortGraph} {M : Model} (f : Fine m M) where
       (by-place n k (a .pos) (b .pos) (v .from .«subport_offset») (w .from .«subport_offset»)
       (rw (owner-of-wire n v a, owner-of-wire k w b, ← a .start .slot, ← b .start .slot) at l))
 
-  places-rise : Rising Earlier (each (wirePlaces m) (allWires m))
+  places-rise : Rising Earlier (map (wirePlaces m) (allWires m))
   places-rise =
-      rising-each (Before m) Earlier (wirePlaces m) (allWires m) wires-rise
+      rising-map (Before m) Earlier (wirePlaces m) (allWires m) wires-rise
       (λ v w i j l. let a = wire-is v i in let b = wire-is w j in earlier (a .0) (b .0) v w (a .2) (b .2) l)
 
-  pub listed-once : Once (each (wirePlaces m) (allWires m))
-  listed-once = rising-once Earlier (λ w h. lex-asym _ _ _ _ _ _ h h) (each (wirePlaces m) (allWires m)) places-rise
+  pub listed-once : Once (map (wirePlaces m) (allWires m))
+  listed-once = rising-once Earlier (λ w h. lex-asym _ _ _ _ _ _ h h) (map (wirePlaces m) (allWires m)) places-rise
 
   -- The cursor.
 
-  beyond-is : (n : ℕ) → Member n (blocks m) → (p o : ℕ) → wiresBeyond m n p o ≡ those (isAfter m n p o) (allWires m)
+  beyond-is : (n : ℕ) → Member n (blocks m) → (p o : ℕ) → wiresBeyond m n p o ≡ filter (isAfter m n p o) (allWires m)
   unfolding wiresBeyond allWires
   beyond-is n i p o =
       sym
-      (those-gather (isAfter m n p o) (sideLinks m Outgoing) (blocks m)
-      ∙ gather-beyond (sideLinks m Outgoing) n (isAfter m n p o) (isBeyond p o) (blocks m) blocks-rise i
+      (filter-flatMap (isAfter m n p o) (sideLinks m Outgoing) (blocks m)
+      ∙ flatMap-beyond (sideLinks m Outgoing) n (isAfter m n p o) (isBeyond p o) (blocks m) blocks-rise i
       (λ k j l v h.
       let e = owner-of-wire k v (side-wire k j v h) in
       rw (ne-eqb (ownerOf (m .graph) (v .from .port .0)) n (λ q. omega arith), le-ltb n (ownerOf (m .graph) (v .from .port .0)) (omega arith)))
@@ -547,9 +547,9 @@ module _ {m : MultiPortGraph} {M : Model} (f : Fine m M) where
       wiresBeyond m n (w .from .port .0) (w .from .«subport_offset») ≡ rest
   beyond-is-rest a w rest e n i l =
       beyond-is n i (w .from .port .0) (w .from .«subport_offset»)
-      ∙ (ap (λ (k : ℕ). those (isAfter m k (w .from .port .0) (w .from .«subport_offset»)) (allWires m)) (sym (owner-of-wire n w l))
-      ∙ (ap (those (after m w)) e
-      ∙ those-rest (Before m) (after m w) w (not-after-itself m w) (after-where-ahead m w) (not-after-where-behind m w) a rest (subst (Rising (Before m)) e wires-rise)))
+      ∙ (ap (λ (k : ℕ). filter (isAfter m k (w .from .port .0) (w .from .«subport_offset»)) (allWires m)) (sym (owner-of-wire n w l))
+      ∙ (ap (filter (after m w)) e
+      ∙ filter-rest (Before m) (after m w) w (not-after-itself m w) (after-where-ahead m w) (not-after-where-behind m w) a rest (subst (Rising (Before m)) e wires-rise)))
 
   step-after : (a : List SubportLink) (w : SubportLink) (rest : List SubportLink) → allWires m ≡ a ++ (w ∷ rest) → stepWires m (cursorAt w) ≡ firstItem rest
   unfolding stepWires
@@ -600,18 +600,18 @@ module _ {m : MultiPortGraph} {M : Model} (f : Fine m M) where
 
   few-wires : length (allWires m) ≤ portSlots
   few-wires =
-      let h : length (each startPort (allWires m)) ≤ portSlots =
-      apart-below portSlots (each startPort (allWires m))
-      (rising-each (Before m) Apart startPort (allWires m) wires-rise
+      let h : length (map startPort (allWires m)) ≤ portSlots =
+      apart-below portSlots (map startPort (allWires m))
+      (rising-map (Before m) Apart startPort (allWires m) wires-rise
       (λ v w i j l. let a = wire-is v i in let b = wire-is w j in starts-apart (a .0) (b .0) v w (a .2) (b .2) l))
       (λ s i.
-      let g = member-each startPort s (allWires m) i in
+      let g = member-map startPort s (allWires m) i in
       let r = wire-is (g .0) (g .1) in
       let e = start-is (r .0) (g .0) (r .2) in
       let b = slot-in-range (f .good) (r .2 .z) (r .2 .start .end .valid) in
       let q = g .2 in
       omega arith) in
-      let e = length-each startPort (allWires m) in
+      let e = length-map startPort (allWires m) in
       omega arith
 
   -- the walk from the start gives the whole list, and ends
@@ -619,16 +619,16 @@ module _ {m : MultiPortGraph} {M : Model} (f : Fine m M) where
   unfolding walked
   walk-is-listing = let h = few-wires in walk-gives-all (allWires m) refl longWalk (omega arith)
 
-  walked-places : wiresWalked m ≡ each (wirePlaces m) (allWires m)
+  walked-places : wiresWalked m ≡ map (wirePlaces m) (allWires m)
   unfolding wiresWalked
-  walked-places = ap (λ (r : Walked). each (wirePlaces m) (r .items)) walk-is-listing
+  walked-places = ap (λ (r : Walked). map (wirePlaces m) (r .items)) walk-is-listing
 
   pub walk-ends : walked m .ended ≡ true
   walk-ends = ap (λ (r : Walked). r .ended) walk-is-listing
 
-  pub walked-is-wires : (w : Wire) → InWires w (wiresWalked m) ↔ WireIn m M w
+  pub walked-is-wires : (w : Wire) → Member w (wiresWalked m) ↔ WireIn m M w
   walked-is-wires w =
-      ((λ i. listed-is-wire w (subst (InWires w) walked-places i)), (λ h. subst (InWires w) (sym walked-places) (wire-is-listed w h)))
+      ((λ i. listed-is-wire w (subst (Member w) walked-places i)), (λ h. subst (Member w) (sym walked-places) (wire-is-listed w h)))
 
   pub walked-once : Once (wiresWalked m)
   walked-once = subst Once (sym walked-places) listed-once

@@ -1,6 +1,6 @@
 -- Steps of the walks over blocks, ports and a block's ports, over plain values.
 use mathlib.Core.Path.{_≡_, refl, sym, _∙_, ap}
-use mathlib.Core.Bool.{Bool, true, false}
+use mathlib.Core.Bool.{Bool, true, false, cond}
 use mathlib.Core.List.{List, [], _∷_, _++_, append-nil}
 use mathlib.Core.Logic.{inl, inr}
 use Prim.Native.Nat.{ℕ, suc, _+_, _-_, _≤_, _<_, max}
@@ -9,23 +9,24 @@ use lib.Dec.{eqb, leb}
 use lib.ListN.{getD, length}
 use borrow.Author.Tests.{eq-eqb, ne-eqb}
 use Rattle.portgraph.specs.Limits.{nodeSlots, portSlots}
-use Rattle.portgraph.specs.Entries.{pick, freshSlot, isNode}
+use Rattle.portgraph.specs.Lists.{range, filter, onFirst, onLast, Member}
+use Rattle.portgraph.specs.Entries.{freshSlot, isNode}
 use Rattle.portgraph.specs.Lookups.{node#, port#, metaOfEntry, entryAt, isSome}
 use Rattle.portgraph.specs.Walks.{portsFrom, portsTo}
 use Rattle.portgraph.specs.declared.node_entry.NodeMeta.{NodeMeta}
 use Rattle.portgraph.specs.declared.node_entry.NodeEntry.{NodeEntry}
 use Rattle.portgraph.specs.declared.node_entry.NodeEntry.the-variants as node-variants
 use Rattle.multiportgraph.specs.Reading.{isHidden, Port, seen}
-use Rattle.multiportgraph.specs.Forms.{flagAt}
+use Rattle.multiportgraph.specs.Forms.{flagAt, blockFound}
 use Rattle.multiportgraph.specs.FormSteps.{flag-is}
 use Rattle.multiportgraph.specs.Inner.{MultiWf}
 use Rattle.multiportgraph.specs.Reads.{seenIn}
 use Rattle.multiportgraph.specs.ReadLaws.{seen-read}
-use Rattle.multiportgraph.specs.Wires.{range, those, isBlock, blocks}
-use Rattle.multiportgraph.specs.Walks.{isSeen, heldSeen, bothSeen, firstOf, lastOf, between, nodeHeld, blocksLeft, stepNodes, stepNodesBack, allPorts, portsLeft, stepAllPorts, stepAllPortsBack, portsOfNode, stepNodePorts}
-use Rattle.multiportgraph.specs.Listing.{Member, member-those, member-range, those-append, those-same}
-use Rattle.multiportgraph.specs.ScanLaws.{endBefore, range-append, those-swap, range-between, block-not-hidden, block-ports-rest, row-fits}
-use Rattle.multiportgraph.specs.LookupSteps.{blockFound, block-at, meta-is}
+use Rattle.multiportgraph.specs.Wires.{isBlock, blocks}
+use Rattle.multiportgraph.specs.Walks.{isSeen, heldSeen, bothSeen, between, nodeHeld, blocksLeft, stepNodes, stepNodesBack, allPorts, portsLeft, stepAllPorts, stepAllPortsBack, portsOfNode, stepNodePorts}
+use Rattle.multiportgraph.specs.Listing.{member-filter, member-range, filter-append, filter-same}
+use Rattle.multiportgraph.specs.ScanLaws.{range-append, filter-swap, range-between, block-not-hidden, block-ports-rest, row-fits}
+use Rattle.multiportgraph.specs.LookupSteps.{block-at, meta-is}
 use Rattle.multiportgraph.specs.WalkScans.{heldIn, blockSlot, portsIn, firstOr, lastOr}
 use Rattle.multiportgraph.specs.declared.multiportgraph.MultiPortGraph.{MultiPortGraph}
 use Rattle.multiportgraph.specs.declared.multiportgraph.Refusal.{Refusal}
@@ -37,6 +38,7 @@ use Rattle.multiportgraph.specs.declared.iter.PortsStep.the-variants as 
 use Rattle.multiportgraph.specs.declared.iter.NodePorts.{NodePorts}
 use Rattle.multiportgraph.specs.declared.iter.NodePortsStep.{NodePortsStep}
 use Rattle.multiportgraph.specs.declared.iter.NodePortsStep.the-variants as node-ports-step
+use Rattle.multiportgraph.specs.Scans.{endBefore}
 
 -- What a cursor holds.
 
@@ -58,17 +60,17 @@ held-next owners flags p =
 
 pub held-read : (m : MultiPortGraph) → MultiWf m → (held : ℕ) → heldIn (m .graph .«port_meta») (m .«copy_node») held ≡ heldSeen m held
 unfolding heldIn
-held-read m w held = ap (λ (s : Port). pick (eqb held 0) true (isSeen s)) (seen-read (w .fine) (held - 1))
+held-read m w held = ap (λ (s : Port). cond (eqb held 0) true (isSeen s)) (seen-read (w .fine) (held - 1))
 
 -- a block with the port that a cursor holds
 module _ (m : MultiPortGraph) (n : ℕ) where
   pub both-refused : (r : Refusal) (held : ℕ) → blockFound m n ≡ block-found.Refused r → bothSeen m n held ≡ false
-  both-refused r held e = ap (λ (b : Bool). pick b (heldSeen m held) false) (sym (block-at m n (block-found.Refused r) e))
+  both-refused r held e = ap (λ (b : Bool). cond b (heldSeen m held) false) (sym (block-at m n (block-found.Refused r) e))
 
   pub both-found : (k : NodeMeta) (held : ℕ) (b : Bool) → MultiWf m → blockFound m n ≡ block-found.Block k
       → heldIn (m .graph .«port_meta») (m .«copy_node») held ≡ b → bothSeen m n held ≡ b
   both-found k held b w e h =
-      ap (λ (x : Bool). pick x (heldSeen m held) false) (sym (block-at m n (block-found.Block k) e)) ∙ sym (held-read m w held) ∙ h
+      ap (λ (x : Bool). cond x (heldSeen m held) false) (sym (block-at m n (block-found.Block k) e)) ∙ sym (held-read m w held) ∙ h
 
 -- Ends from the back.
 
@@ -89,50 +91,50 @@ less-one : (n end : ℕ) → n < end → end - n ≡ suc (end - (n + 1))
 less-one n end h = omega arith
 
 module _ (t : ℕ → Bool) (n end : ℕ) where
-  pub search-turn : n < end → t n ≡ false → those t (range (n + 1) (end - (n + 1))) ≡ those t (range n (end - n))
-  unfolding range those
+  pub search-turn : n < end → t n ≡ false → filter t (range (n + 1) (end - (n + 1))) ≡ filter t (range n (end - n))
+  unfolding range filter
   search-turn h e =
       let a : n + 1 ≡ suc n = omega arith in
       rw (less-one n end h, e, a)
 
-  pub search-done : end ≤ n → those t (range n (end - n)) ≡ []
-  unfolding range those
+  pub search-done : end ≤ n → filter t (range n (end - n)) ≡ []
+  unfolding range filter
   search-done h = let e : end - n ≡ 0 = omega arith in rw e
 
-  pub search-found : {B : Type 0} (x : B) (f : ℕ → B) → n < end → t n ≡ true → firstOf x f (those t (range n (end - n))) ≡ f n
-  unfolding range those firstOf
+  pub search-found : {B : Type 0} (x : B) (f : ℕ → B) → n < end → t n ≡ true → onFirst x f (filter t (range n (end - n))) ≡ f n
+  unfolding range filter onFirst
   search-found x f h e = rw (less-one n end h, e)
 
-last-append : {B : Type 0} (x : B) (f : ℕ → B) (l : List ℕ) (n : ℕ) → lastOf x f (l ++ (n ∷ [])) ≡ f n
-unfolding lastOf
+last-append : {B : Type 0} (x : B) (f : ℕ → B) (l : List ℕ) (n : ℕ) → onLast x f (l ++ (n ∷ [])) ≡ f n
+unfolding onLast
 last-append x f [] n = refl
 last-append x f (y ∷ l) n = last-append (f y) f l n
 
 module _ (t : ℕ → Bool) (from end : ℕ) (h : from < end) where
-  one-more : those t (range from (end - from)) ≡ those t (range from (end - 1 - from)) ++ those t (range (end - 1) 1)
+  one-more : filter t (range from (end - from)) ≡ filter t (range from (end - 1 - from)) ++ filter t (range (end - 1) 1)
   one-more =
       let a : end - from ≡ (end - 1 - from) + 1 = omega arith in
       let b : from + (end - 1 - from) ≡ end - 1 = omega arith in
-      ap (those t) (range-append from (end - 1 - from) 1 (end - from) a)
-      ∙ those-append t (range from (end - 1 - from)) (range (from + (end - 1 - from)) 1)
-      ∙ ap (λ (x : ℕ). those t (range from (end - 1 - from)) ++ those t (range x 1)) b
+      ap (filter t) (range-append from (end - 1 - from) 1 (end - from) a)
+      ∙ filter-append t (range from (end - 1 - from)) (range (from + (end - 1 - from)) 1)
+      ∙ ap (λ (x : ℕ). filter t (range from (end - 1 - from)) ++ filter t (range x 1)) b
 
-  pub back-turn : t (end - 1) ≡ false → those t (range from (end - 1 - from)) ≡ those t (range from (end - from))
-  unfolding range those
+  pub back-turn : t (end - 1) ≡ false → filter t (range from (end - 1 - from)) ≡ filter t (range from (end - from))
+  unfolding range filter
   back-turn e =
-      let last : those t (range (end - 1) 1) ≡ [] = rw e in
-      sym (one-more ∙ ap (λ (l : List ℕ). those t (range from (end - 1 - from)) ++ l) last ∙ append-nil (those t (range from (end - 1 - from))))
+      let last : filter t (range (end - 1) 1) ≡ [] = rw e in
+      sym (one-more ∙ ap (λ (l : List ℕ). filter t (range from (end - 1 - from)) ++ l) last ∙ append-nil (filter t (range from (end - 1 - from))))
 
-  pub back-found : {B : Type 0} (x : B) (f : ℕ → B) → t (end - 1) ≡ true → lastOf x f (those t (range from (end - from))) ≡ f (end - 1)
-  unfolding range those
+  pub back-found : {B : Type 0} (x : B) (f : ℕ → B) → t (end - 1) ≡ true → onLast x f (filter t (range from (end - from))) ≡ f (end - 1)
+  unfolding range filter
   back-found {B} x f e =
-      let last : those t (range (end - 1) 1) ≡ (end - 1) ∷ [] = rw e in
-      ap (lastOf x f) (one-more ∙ ap (λ (l : List ℕ). those t (range from (end - 1 - from)) ++ l) last)
-      ∙ last-append x f (those t (range from (end - 1 - from))) (end - 1)
+      let last : filter t (range (end - 1) 1) ≡ (end - 1) ∷ [] = rw e in
+      ap (onLast x f) (one-more ∙ ap (λ (l : List ℕ). filter t (range from (end - 1 - from)) ++ l) last)
+      ∙ last-append x f (filter t (range from (end - 1 - from))) (end - 1)
 
 -- what a cursor with two ends has left of the numbers below c that pass a test
-left-between : (t : ℕ → Bool) (front back c : ℕ) → those (between front back) (those t (range 0 c)) ≡ those t (range front (endBefore back c - front))
-left-between t front back c = those-swap (between front back) t (range 0 c) ∙ ap (those t) (range-between front back c)
+left-between : (t : ℕ → Bool) (front back c : ℕ) → filter (between front back) (filter t (range 0 c)) ≡ filter t (range front (endBefore back c - front))
+left-between t front back c = filter-swap (between front back) t (range 0 c) ∙ ap (filter t) (range-between front back c)
 
 -- Blocks.
 
@@ -160,49 +162,49 @@ module _ (m : MultiPortGraph) where
       → r ≡ blockSlot (getD (m .graph .«node_meta») n freshSlot .entry) b → r ≡ isBlock m n
   unfolding isBlock isHidden
   block-told n b r long e f =
-      f ∙ ap (λ (x : Bool). pick x false (isNode (entryAt (m .graph) n))) (e ∙ flag-is (m .«copy_node») nodeSlots n long)
-      ∙ ap (pick (getD (m .«copy_node») n false) false) (sym (node-some (entryAt (m .graph) n)))
+      f ∙ ap (λ (x : Bool). cond x false (isNode (entryAt (m .graph) n))) (e ∙ flag-is (m .«copy_node») nodeSlots n long)
+      ∙ ap (cond (getD (m .«copy_node») n false) false) (sym (node-some (entryAt (m .graph) n)))
 
   module _ (c : Nodes) where
     pub nodes-front-gone : nodeHeld m (c .front) ≡ false → nodes-step.End ≡ stepNodes m c
-    unfolding stepNodes blocksLeft firstOf
+    unfolding stepNodes blocksLeft onFirst
     nodes-front-gone e = rw e
 
     pub nodes-back-gone : nodeHeld m (c .front) ≡ true → nodeHeld m (c .back) ≡ false → nodes-step.End ≡ stepNodes m c
-    unfolding stepNodes blocksLeft firstOf
+    unfolding stepNodes blocksLeft onFirst
     nodes-back-gone e f = rw (e, f)
 
     pub back-front-gone : nodeHeld m (c .front) ≡ false → nodes-step.End ≡ stepNodesBack m c
-    unfolding stepNodesBack blocksLeft lastOf
+    unfolding stepNodesBack blocksLeft onLast
     back-front-gone e = rw e
 
     pub back-back-gone : nodeHeld m (c .front) ≡ true → nodeHeld m (c .back) ≡ false → nodes-step.End ≡ stepNodesBack m c
-    unfolding stepNodesBack blocksLeft lastOf
+    unfolding stepNodesBack blocksLeft onLast
     back-back-gone e f = rw (e, f)
 
     module _ (front end : ℕ) (he : nodeHeld m (c .front) ≡ true) (hf : nodeHeld m (c .back) ≡ true) (ef : front ≡ c .front) (ee : end ≡ endBefore (c .back) nodeSlots) where
-      blocks-left : those (isBlock m) (range front (end - front)) ≡ blocksLeft m c
+      blocks-left : filter (isBlock m) (range front (end - front)) ≡ blocksLeft m c
       unfolding blocksLeft blocks
       blocks-left =
-          ap (λ (x : ℕ). those (isBlock m) (range x (end - x))) ef
-          ∙ ap (λ (x : ℕ). those (isBlock m) (range (c .front) (x - c .front))) ee
+          ap (λ (x : ℕ). filter (isBlock m) (range x (end - x))) ef
+          ∙ ap (λ (x : ℕ). filter (isBlock m) (range (c .front) (x - c .front))) ee
           ∙ rw (he, hf) (sym (left-between (isBlock m) (c .front) (c .back) nodeSlots))
 
-      module _ (n : ℕ) (inv : those (isBlock m) (range n (end - n)) ≡ those (isBlock m) (range front (end - front))) where
+      module _ (n : ℕ) (inv : filter (isBlock m) (range n (end - n)) ≡ filter (isBlock m) (range front (end - front))) where
         pub nodes-item : n < end → isBlock m n ≡ true → nodes-step.Item (node# n) (record { front = n + 1; back = c .back }) ≡ stepNodes m c
         unfolding stepNodes
         nodes-item h e =
             let one : n + 1 ≡ suc n = omega arith in
             ap (λ (x : ℕ). nodes-step.Item (node# n) (record { front = x; back = c .back })) one
             ∙ sym (search-found (isBlock m) n end nodes-step.End (λ x. nodes-step.Item (node# x) (record { front = suc x; back = c .back })) h e)
-            ∙ ap (firstOf nodes-step.End (λ x. nodes-step.Item (node# x) (record { front = suc x; back = c .back }))) (inv ∙ blocks-left)
+            ∙ ap (onFirst nodes-step.End (λ x. nodes-step.Item (node# x) (record { front = suc x; back = c .back }))) (inv ∙ blocks-left)
 
         pub nodes-none : end ≤ n → nodes-step.End ≡ stepNodes m c
-        unfolding stepNodes firstOf
+        unfolding stepNodes onFirst
         nodes-none h =
-            ap (firstOf nodes-step.End (λ x. nodes-step.Item (node# x) (record { front = suc x; back = c .back }))) (sym (search-done (isBlock m) n end h) ∙ inv ∙ blocks-left)
+            ap (onFirst nodes-step.End (λ x. nodes-step.Item (node# x) (record { front = suc x; back = c .back }))) (sym (search-done (isBlock m) n end h) ∙ inv ∙ blocks-left)
 
-      module _ (stop : ℕ) (inv : those (isBlock m) (range front (stop - front)) ≡ those (isBlock m) (range front (end - front))) where
+      module _ (stop : ℕ) (inv : filter (isBlock m) (range front (stop - front)) ≡ filter (isBlock m) (range front (end - front))) where
         pub back-item : front < stop → isBlock m (stop - 1) ≡ true
             → nodes-step.Item (node# (stop - 1)) (record { front = c .front; back = stop - 1 + 1 }) ≡ stepNodesBack m c
         unfolding stepNodesBack
@@ -210,12 +212,12 @@ module _ (m : MultiPortGraph) where
             let one : stop - 1 + 1 ≡ suc (stop - 1) = omega arith in
             ap (λ (x : ℕ). nodes-step.Item (node# (stop - 1)) (record { front = c .front; back = x })) one
             ∙ sym (back-found (isBlock m) front stop h nodes-step.End (λ x. nodes-step.Item (node# x) (record { front = c .front; back = suc x })) e)
-            ∙ ap (lastOf nodes-step.End (λ x. nodes-step.Item (node# x) (record { front = c .front; back = suc x }))) (inv ∙ blocks-left)
+            ∙ ap (onLast nodes-step.End (λ x. nodes-step.Item (node# x) (record { front = c .front; back = suc x }))) (inv ∙ blocks-left)
 
         pub back-none : stop ≤ front → nodes-step.End ≡ stepNodesBack m c
-        unfolding stepNodesBack lastOf
+        unfolding stepNodesBack onLast
         back-none h =
-            ap (lastOf nodes-step.End (λ x. nodes-step.Item (node# x) (record { front = c .front; back = suc x }))) (sym (search-done (isBlock m) front stop h) ∙ inv ∙ blocks-left)
+            ap (onLast nodes-step.End (λ x. nodes-step.Item (node# x) (record { front = c .front; back = suc x }))) (sym (search-done (isBlock m) front stop h) ∙ inv ∙ blocks-left)
 
 -- All ports.
 
@@ -234,7 +236,7 @@ module _ (owners : List ℕ) (flags : List Bool) (from end : ℕ) where
     port-turn h g = search-turn isPortIn p end h (sym (held-next owners flags p) ∙ sym e ∙ g) ∙ inv
 
   pub port-none : (p : ℕ) → portsIn owners flags p end ≡ portsIn owners flags from end → end ≤ p → portSlots ≡ firstOr portSlots (portsIn owners flags from end)
-  unfolding portsIn firstOf
+  unfolding portsIn onFirst
   port-none p inv h = ap (firstOr portSlots) (sym (search-done isPortIn p end h) ∙ inv)
 
   module _ (stop : ℕ) (inv : portsIn owners flags from stop ≡ portsIn owners flags from end) where
@@ -249,7 +251,7 @@ module _ (owners : List ℕ) (flags : List Bool) (from end : ℕ) where
       last-port-turn g = back-turn isPortIn from stop h (sym (held-next owners flags (stop - 1)) ∙ sym e ∙ g) ∙ inv
 
     pub last-port-none : stop ≤ from → portSlots ≡ lastOr portSlots (portsIn owners flags from end)
-    unfolding portsIn lastOf
+    unfolding portsIn onLast
     last-port-none h = ap (lastOr portSlots) (sym (search-done isPortIn from stop h) ∙ inv)
 
 -- the first and the last of a list whose numbers are below a bound, told by the bound itself where there is none
@@ -257,40 +259,40 @@ Below : ℕ → List ℕ → Type 0
 Below k l = (x : ℕ) → Member x l → x < k
 
 module _ {B : Type 0} (x : B) (f : ℕ → B) (k : ℕ) where
-  first-by : (l : List ℕ) (p : ℕ) → p ≡ firstOr k l → p < k → f p ≡ firstOf x f l
-  unfolding firstOf
+  first-by : (l : List ℕ) (p : ℕ) → p ≡ firstOr k l → p < k → f p ≡ onFirst x f l
+  unfolding onFirst
   first-by [] p e h = absurd (omega arith)
   first-by (y ∷ l) p e h = ap f e
 
-  first-lacks : (l : List ℕ) (p : ℕ) → Below k l → p ≡ firstOr k l → k ≤ p → x ≡ firstOf x f l
-  unfolding firstOf Below
+  first-lacks : (l : List ℕ) (p : ℕ) → Below k l → p ≡ firstOr k l → k ≤ p → x ≡ onFirst x f l
+  unfolding onFirst Below
   first-lacks [] p b e h = refl
   first-lacks (y ∷ l) p b e h = let a = b y (inl refl) in absurd (omega arith)
 
-  last-tied : (l : List ℕ) (y : ℕ) → lastOf (f y) f l ≡ f (lastOr y l)
-  unfolding lastOf
+  last-tied : (l : List ℕ) (y : ℕ) → onLast (f y) f l ≡ f (lastOr y l)
+  unfolding onLast
   last-tied [] y = refl
   last-tied (z ∷ l) y = last-tied l z
 
   last-below : (l : List ℕ) (y : ℕ) → y < k → Below k l → lastOr y l < k
-  unfolding lastOf Below
+  unfolding onLast Below
   last-below [] y h b = h
   last-below (z ∷ l) y h b = last-below l z (b z (inl refl)) (λ v i. b v (inr i))
 
-  last-by : (l : List ℕ) (p : ℕ) → p ≡ lastOr k l → p < k → f p ≡ lastOf x f l
-  unfolding lastOf
+  last-by : (l : List ℕ) (p : ℕ) → p ≡ lastOr k l → p < k → f p ≡ onLast x f l
+  unfolding onLast
   last-by [] p e h = absurd (omega arith)
   last-by (y ∷ l) p e h = ap f e ∙ sym (last-tied l y)
 
-  last-lacks : (l : List ℕ) (p : ℕ) → Below k l → p ≡ lastOr k l → k ≤ p → x ≡ lastOf x f l
-  unfolding lastOf Below
+  last-lacks : (l : List ℕ) (p : ℕ) → Below k l → p ≡ lastOr k l → k ≤ p → x ≡ onLast x f l
+  unfolding onLast Below
   last-lacks [] p b e h = refl
   last-lacks (y ∷ l) p b e h = let a = last-below l y (b y (inl refl)) (λ v i. b v (inr i)) in absurd (omega arith)
 
 ports-below : (owners : List ℕ) (flags : List Bool) (from end : ℕ) → end ≤ portSlots → Below portSlots (portsIn owners flags from end)
 unfolding Below portsIn
 ports-below owners flags from end h x i =
-    let r = member-range x from (end - from) (member-those (λ p. isSeen (seenIn owners flags p)) x (range from (end - from)) i .0) in
+    let r = member-range x from (end - from) (member-filter (λ p. isSeen (seenIn owners flags p)) x (range from (end - from)) i .0) in
     omega arith
 
 module _ (m : MultiPortGraph) (w : MultiWf m) (c : Ports) where
@@ -299,11 +301,11 @@ module _ (m : MultiPortGraph) (w : MultiWf m) (c : Ports) where
     front-is q h = sym (held-read m w (c .front)) ∙ sym ea ∙ h
 
     pub ports-front-gone : a ≡ false → ports-step.End ≡ stepAllPorts m c
-    unfolding stepAllPorts portsLeft firstOf
+    unfolding stepAllPorts portsLeft onFirst
     ports-front-gone h = rw (front-is false h)
 
     pub ports-back-front-gone : a ≡ false → ports-step.End ≡ stepAllPortsBack m c
-    unfolding stepAllPortsBack portsLeft lastOf
+    unfolding stepAllPortsBack portsLeft onLast
     ports-back-front-gone h = rw (front-is false h)
 
     module _ (ha : a ≡ true) (b : Bool) (eb : b ≡ heldIn (m .graph .«port_meta») (m .«copy_node») (c .back)) where
@@ -311,11 +313,11 @@ module _ (m : MultiPortGraph) (w : MultiWf m) (c : Ports) where
       back-is q h = sym (held-read m w (c .back)) ∙ sym eb ∙ h
 
       pub ports-back-gone : b ≡ false → ports-step.End ≡ stepAllPorts m c
-      unfolding stepAllPorts portsLeft firstOf
+      unfolding stepAllPorts portsLeft onFirst
       ports-back-gone h = rw (front-is true ha, back-is false h)
 
       pub ports-back-back-gone : b ≡ false → ports-step.End ≡ stepAllPortsBack m c
-      unfolding stepAllPortsBack portsLeft lastOf
+      unfolding stepAllPortsBack portsLeft onLast
       ports-back-back-gone h = rw (front-is true ha, back-is false h)
 
       module _ (hb : b ≡ true) (front end : ℕ) (ef : front ≡ c .front) (ee : end ≡ endBefore (c .back) portSlots) (le : end ≤ portSlots) where
@@ -325,9 +327,9 @@ module _ (m : MultiPortGraph) (w : MultiWf m) (c : Ports) where
         ports-left : scanned ≡ portsLeft m c
         unfolding portsIn portsLeft allPorts
         ports-left =
-            those-same (λ p. isSeen (seenIn (m .graph .«port_meta») (m .«copy_node») p)) (λ p. isSeen (seen m p)) (range front (end - front)) (λ p i. ap isSeen (seen-read (w .fine) p))
-            ∙ ap (λ (x : ℕ). those (λ p. isSeen (seen m p)) (range x (end - x))) ef
-            ∙ ap (λ (x : ℕ). those (λ p. isSeen (seen m p)) (range (c .front) (x - c .front))) ee
+            filter-same (λ p. isSeen (seenIn (m .graph .«port_meta») (m .«copy_node») p)) (λ p. isSeen (seen m p)) (range front (end - front)) (λ p i. ap isSeen (seen-read (w .fine) p))
+            ∙ ap (λ (x : ℕ). filter (λ p. isSeen (seen m p)) (range x (end - x))) ef
+            ∙ ap (λ (x : ℕ). filter (λ p. isSeen (seen m p)) (range (c .front) (x - c .front))) ee
             ∙ rw (front-is true ha, back-is true hb) (sym (left-between (λ p. isSeen (seen m p)) (c .front) (c .back) portSlots))
 
         pub ports-item : (p : ℕ) → p ≡ firstOr portSlots scanned → p < portSlots → ports-step.Item (port# p) (record { front = p + 1; back = c .back }) ≡ stepAllPorts m c
@@ -336,13 +338,13 @@ module _ (m : MultiPortGraph) (w : MultiWf m) (c : Ports) where
             let one : p + 1 ≡ suc p = omega arith in
             ap (λ (x : ℕ). ports-step.Item (port# p) (record { front = x; back = c .back })) one
             ∙ first-by ports-step.End (λ x. ports-step.Item (port# x) (record { front = suc x; back = c .back })) portSlots scanned p e h
-            ∙ ap (firstOf ports-step.End (λ x. ports-step.Item (port# x) (record { front = suc x; back = c .back }))) ports-left
+            ∙ ap (onFirst ports-step.End (λ x. ports-step.Item (port# x) (record { front = suc x; back = c .back }))) ports-left
 
         pub ports-none : (p : ℕ) → p ≡ firstOr portSlots scanned → portSlots ≤ p → ports-step.End ≡ stepAllPorts m c
         unfolding stepAllPorts
         ports-none p e h =
             first-lacks ports-step.End (λ x. ports-step.Item (port# x) (record { front = suc x; back = c .back })) portSlots scanned p (ports-below _ _ front end le) e h
-            ∙ ap (firstOf ports-step.End (λ x. ports-step.Item (port# x) (record { front = suc x; back = c .back }))) ports-left
+            ∙ ap (onFirst ports-step.End (λ x. ports-step.Item (port# x) (record { front = suc x; back = c .back }))) ports-left
 
         pub ports-back-item : (p : ℕ) → p ≡ lastOr portSlots scanned → p < portSlots → ports-step.Item (port# p) (record { front = c .front; back = p + 1 }) ≡ stepAllPortsBack m c
         unfolding stepAllPortsBack
@@ -350,13 +352,13 @@ module _ (m : MultiPortGraph) (w : MultiWf m) (c : Ports) where
             let one : p + 1 ≡ suc p = omega arith in
             ap (λ (x : ℕ). ports-step.Item (port# p) (record { front = c .front; back = x })) one
             ∙ last-by ports-step.End (λ x. ports-step.Item (port# x) (record { front = c .front; back = suc x })) portSlots scanned p e h
-            ∙ ap (lastOf ports-step.End (λ x. ports-step.Item (port# x) (record { front = c .front; back = suc x }))) ports-left
+            ∙ ap (onLast ports-step.End (λ x. ports-step.Item (port# x) (record { front = c .front; back = suc x }))) ports-left
 
         pub ports-back-none : (p : ℕ) → p ≡ lastOr portSlots scanned → portSlots ≤ p → ports-step.End ≡ stepAllPortsBack m c
         unfolding stepAllPortsBack
         ports-back-none p e h =
             last-lacks ports-step.End (λ x. ports-step.Item (port# x) (record { front = c .front; back = suc x })) portSlots scanned p (ports-below _ _ front end le) e h
-            ∙ ap (lastOf ports-step.End (λ x. ports-step.Item (port# x) (record { front = c .front; back = suc x }))) ports-left
+            ∙ ap (onLast ports-step.End (λ x. ports-step.Item (port# x) (record { front = c .front; back = suc x }))) ports-left
 
 -- Ports of a block.
 
@@ -369,7 +371,7 @@ module _ (m : MultiPortGraph) (c : NodePorts) where
   node-ports-gone e = rw e
 
   module _ (w : MultiWf m) (k : NodeMeta) (e : blockFound m (c .node .0) ≡ block-found.Block k) where
-    ports-of-block : those (leb (c .held)) (portsOfNode m (c .node .0) (c .sides)) ≡ range (max (portsFrom k (c .sides)) (c .held)) (portsTo k (c .sides) - max (portsFrom k (c .sides)) (c .held))
+    ports-of-block : filter (leb (c .held)) (portsOfNode m (c .node .0) (c .sides)) ≡ range (max (portsFrom k (c .sides)) (c .held)) (portsTo k (c .sides) - max (portsFrom k (c .sides)) (c .held))
     ports-of-block =
         block-ports-rest w (c .node .0) k (block-not-hidden m (c .node .0) (sym (block-at m (c .node .0) (block-found.Block k) e))) (meta-is m (c .node .0) k e) (c .sides) (c .held)
 
@@ -381,17 +383,17 @@ module _ (m : MultiPortGraph) (c : NodePorts) where
 
     module _ (held-there : heldIn (m .graph .«port_meta») (m .«copy_node») (c .held) ≡ true) (a h p b : ℕ)
         (ea : a ≡ portsFrom k (c .sides)) (eh : h ≡ c .held) (ep : p ≡ max a h) (eb : b ≡ portsTo k (c .sides)) where
-      step-is : firstOf node-ports-step.End portsItem (range p (b - p)) ≡ stepNodePorts m c
+      step-is : onFirst node-ports-step.End portsItem (range p (b - p)) ≡ stepNodePorts m c
       unfolding stepNodePorts
       step-is =
           let q : p ≡ max (portsFrom k (c .sides)) (c .held) = omega arith in
           rw (both-found m (c .node .0) k (c .held) true w e held-there)
-          (ap (λ (x : ℕ). firstOf node-ports-step.End portsItem (range p (x - p))) eb
-          ∙ ap (λ (x : ℕ). firstOf node-ports-step.End portsItem (range x (portsTo k (c .sides) - x))) q
-          ∙ ap (firstOf node-ports-step.End portsItem) (sym ports-of-block))
+          (ap (λ (x : ℕ). onFirst node-ports-step.End portsItem (range p (x - p))) eb
+          ∙ ap (λ (x : ℕ). onFirst node-ports-step.End portsItem (range x (portsTo k (c .sides) - x))) q
+          ∙ ap (onFirst node-ports-step.End portsItem) (sym ports-of-block))
 
       pub node-ports-item : p < b → node-ports-step.Item (port# p) (record { node = c .node; sides = c .sides; held = p + 1 }) ≡ stepNodePorts m c
-      unfolding range firstOf
+      unfolding range onFirst
       node-ports-item l =
           let one : p + 1 ≡ suc p = omega arith in
           let more : b - p ≡ suc (b - (p + 1)) = omega arith in
@@ -399,7 +401,7 @@ module _ (m : MultiPortGraph) (c : NodePorts) where
           ∙ (rw more at step-is)
 
       pub node-ports-none : b ≤ p → node-ports-step.End ≡ stepNodePorts m c
-      unfolding range firstOf
+      unfolding range onFirst
       node-ports-none l =
           let none : b - p ≡ 0 = omega arith in
           (rw none at step-is)

@@ -1,12 +1,12 @@
 -- Every other walk of 01: the list that it gives, and the step of its cursor on any graph.
 -- A step gives the next item of the present listing beyond the port and offset held; a cursor whose node or port is gone or
 -- hidden ends the walk.
-use mathlib.Core.Bool.{Bool, true, false}
-use mathlib.Core.List.{List, [], _∷_, _++_}
+use mathlib.Core.Bool.{Bool, true, false, cond}
+use mathlib.Core.List.{List, [], _∷_, _++_, flatMap, map}
 use Prim.Native.Nat.{ℕ, zero, suc, _+_, _-_}
 use lib.Dec.{eqb, leb, ltb}
 use Rattle.portgraph.specs.Limits.{portSlots}
-use Rattle.portgraph.specs.Entries.{pick}
+use Rattle.portgraph.specs.Lists.{onFirst, onLast, range, filter}
 use Rattle.portgraph.specs.Meaning.{sameSide}
 use Rattle.portgraph.specs.Lookups.{node#, port#, containsNode}
 use Rattle.portgraph.specs.declared.index.NodeIndex.{NodeIndex}
@@ -16,7 +16,7 @@ use Rattle.portgraph.specs.declared.direction.Direction.the-variants.{Incoming,
 use Rattle.portgraph.specs.declared.iter.Sides.{Sides}
 use Rattle.portgraph.specs.declared.iter.Sides.the-variants.{One, Both}
 use Rattle.multiportgraph.specs.Reading.{ownerOf, isHidden, isSplit, Port, dead, hidden, visible, seen, subports}
-use Rattle.multiportgraph.specs.Wires.{range, gather, those, each, isBlock, blocks, portsOfSide, subportsOfSide, subportsOfPort, sideLinks, wireOf, isBeyond}
+use Rattle.multiportgraph.specs.Wires.{isBlock, blocks, portsOfSide, subportsOfSide, subportsOfPort, sideLinks, wireOf, isBeyond}
 use Rattle.multiportgraph.specs.declared.multiportgraph.MultiPortGraph.{MultiPortGraph}
 use Rattle.multiportgraph.specs.declared.multiportgraph.Refusal.{Refusal}
 use Rattle.multiportgraph.specs.declared.multiportgraph.Refusal.the-variants.{UnknownNode, HiddenNode, UnknownPort, HiddenPort}
@@ -62,7 +62,7 @@ use Rattle.multiportgraph.specs.declared.iter.NodeConnectionsStart.the-v
 -- Fan-out: the number of subports, an unsplit port counting as 1; a block's is the sum over its outgoing ports.
 
 unfoldable pub fanOut : MultiPortGraph → ℕ → Direction → ℕ
-fanOut m p d = pick (isSplit m p) (subports m p d) 1
+fanOut m p d = cond (isSplit m p) (subports m p d) 1
 
 unfoldable pub sumOf : (ℕ → ℕ) → List ℕ → ℕ
 sumOf f [] = 0
@@ -80,13 +80,13 @@ pub data Start : Type 0 where
 -- over the blocks or all wires: never refused. At a node: 4, 5
 unfoldable pub startAtNode : MultiPortGraph → ℕ → Start
 startAtNode m n =
-    pick (containsNode (m .graph) n) (pick (isHidden m n) (refused HiddenNode) started) (refused UnknownNode)
+    cond (containsNode (m .graph) n) (cond (isHidden m n) (refused HiddenNode) started) (refused UnknownNode)
 
 -- from one node to another: 4 for either, then 5 for either
 unfoldable pub startBetween : MultiPortGraph → ℕ → ℕ → Start
 startBetween m n k =
-    pick (containsNode (m .graph) n)
-    (pick (containsNode (m .graph) k) (pick (isHidden m n) (refused HiddenNode) (startAtNode m k)) (refused UnknownNode))
+    cond (containsNode (m .graph) n)
+    (cond (containsNode (m .graph) k) (cond (isHidden m n) (refused HiddenNode) (startAtNode m k)) (refused UnknownNode))
     (refused UnknownNode)
 
 abbrev pub startSeen : ℕ → Port → Start
@@ -106,59 +106,51 @@ isSeen hidden = false
 isSeen (visible n d) = true
 
 abbrev pub heldSeen : MultiPortGraph → ℕ → Bool
-heldSeen m held = pick (eqb held 0) true (isSeen (seen m (held - 1)))
+heldSeen m held = cond (eqb held 0) true (isSeen (seen m (held - 1)))
 
 abbrev pub bothSeen : MultiPortGraph → ℕ → ℕ → Bool
-bothSeen m n held = pick (isBlock m n) (heldSeen m held) false
+bothSeen m n held = cond (isBlock m n) (heldSeen m held) false
 
 -- The first and the last of a list, as a step has them.
 
-unfoldable pub firstOf {ℓ κ} : {A : Type ℓ} {B : Type κ} → B → (A → B) → List A → B
-firstOf end f [] = end
-firstOf end f (x ∷ l) = f x
-
-unfoldable pub lastOf {ℓ κ} : {A : Type ℓ} {B : Type κ} → B → (A → B) → List A → B
-lastOf end f [] = end
-lastOf end f (x ∷ l) = lastOf (f x) f l
-
 -- strictly between what was given last from the front and from the back, each one higher and 0 for none
 unfoldable pub between : ℕ → ℕ → ℕ → Bool
-between front back x = pick (leb front x) (pick (eqb back 0) true (ltb (suc x) back)) false
+between front back x = cond (leb front x) (cond (eqb back 0) true (ltb (suc x) back)) false
 
 -- Blocks, from either end.
 
 unfoldable pub nodeHeld : MultiPortGraph → ℕ → Bool
-nodeHeld m held = pick (eqb held 0) true (isBlock m (held - 1))
+nodeHeld m held = cond (eqb held 0) true (isBlock m (held - 1))
 
 -- the blocks that a cursor has left; none where a block that it holds is gone or hidden
 unfoldable pub blocksLeft : MultiPortGraph → Nodes → List ℕ
 blocksLeft m c =
-    pick (nodeHeld m (c .front)) (pick (nodeHeld m (c .back)) (those (between (c .front) (c .back)) (blocks m)) []) []
+    cond (nodeHeld m (c .front)) (cond (nodeHeld m (c .back)) (filter (between (c .front) (c .back)) (blocks m)) []) []
 
 unfoldable pub stepNodes : MultiPortGraph → Nodes → NodesStep
-stepNodes m c = firstOf nodes-step.End (λ n. nodes-step.Item (node# n) (record { front = suc n; back = c .back })) (blocksLeft m c)
+stepNodes m c = onFirst nodes-step.End (λ n. nodes-step.Item (node# n) (record { front = suc n; back = c .back })) (blocksLeft m c)
 
 unfoldable pub stepNodesBack : MultiPortGraph → Nodes → NodesStep
-stepNodesBack m c = lastOf nodes-step.End (λ n. nodes-step.Item (node# n) (record { front = c .front; back = suc n })) (blocksLeft m c)
+stepNodesBack m c = onLast nodes-step.End (λ n. nodes-step.Item (node# n) (record { front = c .front; back = suc n })) (blocksLeft m c)
 
 -- All ports of blocks, by ascending number, from either end.
 
 unfoldable pub allPorts : MultiPortGraph → List ℕ
-allPorts m = those (λ p. isSeen (seen m p)) (range 0 portSlots)
+allPorts m = filter (λ p. isSeen (seen m p)) (range 0 portSlots)
 
 unfoldable pub portsLeft : MultiPortGraph → Ports → List ℕ
 portsLeft m c =
-    pick (heldSeen m (c .front)) (pick (heldSeen m (c .back)) (those (between (c .front) (c .back)) (allPorts m)) []) []
+    cond (heldSeen m (c .front)) (cond (heldSeen m (c .back)) (filter (between (c .front) (c .back)) (allPorts m)) []) []
 
 unfoldable pub stepAllPorts : MultiPortGraph → Ports → PortsStep
-stepAllPorts m c = firstOf ports-step.End (λ p. ports-step.Item (port# p) (record { front = suc p; back = c .back })) (portsLeft m c)
+stepAllPorts m c = onFirst ports-step.End (λ p. ports-step.Item (port# p) (record { front = suc p; back = c .back })) (portsLeft m c)
 
 unfoldable pub stepAllPortsBack : MultiPortGraph → Ports → PortsStep
-stepAllPortsBack m c = lastOf ports-step.End (λ p. ports-step.Item (port# p) (record { front = c .front; back = suc p })) (portsLeft m c)
+stepAllPortsBack m c = onLast ports-step.End (λ p. ports-step.Item (port# p) (record { front = c .front; back = suc p })) (portsLeft m c)
 
 -- the same ports by ascending block, incoming first: what the count of ports counts
 unfoldable pub portsByBlock : MultiPortGraph → List ℕ
-portsByBlock m = gather (λ n. portsOfSide m Incoming n ++ portsOfSide m Outgoing n) (blocks m)
+portsByBlock m = flatMap (λ n. portsOfSide m Incoming n ++ portsOfSide m Outgoing n) (blocks m)
 
 -- Ports of a block, on one side or both.
 
@@ -171,9 +163,9 @@ portsOfNode m n sides = bySides (λ d. portsOfSide m d n) sides
 
 unfoldable pub stepNodePorts : MultiPortGraph → NodePorts → NodePortsStep
 stepNodePorts m c =
-    pick (bothSeen m (c .node .0) (c .held))
-    (firstOf node-ports-step.End (λ p. node-ports-step.Item (port# p) (record { node = c .node; sides = c .sides; held = suc p }))
-    (those (leb (c .held)) (portsOfNode m (c .node .0) (c .sides))))
+    cond (bothSeen m (c .node .0) (c .held))
+    (onFirst node-ports-step.End (λ p. node-ports-step.Item (port# p) (record { node = c .node; sides = c .sides; held = suc p }))
+    (filter (leb (c .held)) (portsOfNode m (c .node .0) (c .sides))))
     node-ports-step.End
 
 -- Subports of a block, on one side or both.
@@ -183,14 +175,14 @@ subportsOf m n sides = bySides (subportsOfSide m n) sides
 
 unfoldable pub subportBeyond : ℕ → ℕ → SubportIndex → Bool
 subportBeyond held o s =
-    pick (eqb held 0) true (pick (eqb (s .port .0) (held - 1)) (ltb o (s .«subport_offset»)) (ltb (held - 1) (s .port .0)))
+    cond (eqb held 0) true (cond (eqb (s .port .0) (held - 1)) (ltb o (s .«subport_offset»)) (ltb (held - 1) (s .port .0)))
 
 unfoldable pub stepSubports : MultiPortGraph → NodeSubports → NodeSubportsStep
 stepSubports m c =
-    pick (bothSeen m (c .node .0) (c .held))
-    (firstOf subports-step.End
+    cond (bothSeen m (c .node .0) (c .held))
+    (onFirst subports-step.End
     (λ s. subports-step.Item s (record { node = c .node; sides = c .sides; held = suc (s .port .0); offset = s .«subport_offset» }))
-    (those (subportBeyond (c .held) (c .offset)) (subportsOf m (c .node .0) (c .sides))))
+    (filter (subportBeyond (c .held) (c .offset)) (subportsOf m (c .node .0) (c .sides))))
     subports-step.End
 
 -- Links of a port, from either end.
@@ -198,35 +190,35 @@ stepSubports m c =
 abbrev pub portLinksSeen : MultiPortGraph → ℕ → Port → List SubportLink
 portLinksSeen m p dead = []
 portLinksSeen m p hidden = []
-portLinksSeen m p (visible n d) = gather (wireOf m d) (subportsOfPort m d p)
+portLinksSeen m p (visible n d) = flatMap (wireOf m d) (subportsOfPort m d p)
 
 unfoldable pub portLinks : MultiPortGraph → ℕ → List SubportLink
 portLinks m p = portLinksSeen m p (seen m p)
 
 -- those strictly between the offsets given from the front and from the back
 unfoldable pub linksLeft : MultiPortGraph → PortLinks → List SubportLink
-linksLeft m c = those (λ w. between (c .front) (c .back) (w .from .«subport_offset»)) (portLinks m (c .port .0))
+linksLeft m c = filter (λ w. between (c .front) (c .back) (w .from .«subport_offset»)) (portLinks m (c .port .0))
 
 unfoldable pub stepFront : MultiPortGraph → PortLinks → PortLinksStep
 stepFront m c =
-    firstOf port-step.End (λ w. port-step.Item w (record { port = c .port; front = suc (w .from .«subport_offset»); back = c .back }))
+    onFirst port-step.End (λ w. port-step.Item w (record { port = c .port; front = suc (w .from .«subport_offset»); back = c .back }))
     (linksLeft m c)
 
 unfoldable pub stepBack : MultiPortGraph → PortLinks → PortLinksStep
 stepBack m c =
-    lastOf port-step.End (λ w. port-step.Item w (record { port = c .port; front = c .front; back = suc (w .from .«subport_offset») }))
+    onLast port-step.End (λ w. port-step.Item w (record { port = c .port; front = c .front; back = suc (w .from .«subport_offset») }))
     (linksLeft m c)
 
 -- Links of a block, on one side or both, without those to a range of ports.
 
 abbrev pub notSkipped : ℕ → ℕ → SubportLink → Bool
-notSkipped lo hi w = pick (leb lo (w .to .port .0)) (leb hi (w .to .port .0)) true
+notSkipped lo hi w = cond (leb lo (w .to .port .0)) (leb hi (w .to .port .0)) true
 
 unfoldable pub nodeLinks : MultiPortGraph → ℕ → Sides → ℕ → ℕ → List SubportLink
-nodeLinks m n sides lo hi = those (notSkipped lo hi) (bySides (λ d. sideLinks m d n) sides)
+nodeLinks m n sides lo hi = filter (notSkipped lo hi) (bySides (λ d. sideLinks m d n) sides)
 
 abbrev pub linkBeyond : ℕ → ℕ → SubportLink → Bool
-linkBeyond held o w = pick (eqb held 0) true (isBeyond (held - 1) o w)
+linkBeyond held o w = cond (eqb held 0) true (isBeyond (held - 1) o w)
 
 abbrev pub linksItem : NodeLinks → SubportLink → NodeLinksStep
 linksItem c w =
@@ -242,9 +234,9 @@ linksItem c w =
 
 unfoldable pub stepLinks : MultiPortGraph → NodeLinks → NodeLinksStep
 stepLinks m c =
-    pick (bothSeen m (c .node .0) (c .held))
-    (firstOf links-step.End (linksItem c)
-    (those (linkBeyond (c .held) (c .offset)) (nodeLinks m (c .node .0) (c .sides) (c .«skip_from») (c .«skip_to»))))
+    cond (bothSeen m (c .node .0) (c .held))
+    (onFirst links-step.End (linksItem c)
+    (filter (linkBeyond (c .held) (c .offset)) (nodeLinks m (c .node .0) (c .sides) (c .«skip_from») (c .«skip_to»))))
     links-step.End
 
 -- Neighbours, one for each link.
@@ -252,17 +244,17 @@ stepLinks m c =
 abbrev pub isOwnOutput : MultiPortGraph → ℕ → Port → Bool
 isOwnOutput m n dead = false
 isOwnOutput m n hidden = false
-isOwnOutput m n (visible k d) = pick (eqb k n) (sameSide d Outgoing) false
+isOwnOutput m n (visible k d) = cond (eqb k n) (sameSide d Outgoing) false
 
 abbrev pub notIgnored : MultiPortGraph → ℕ → Bool → SubportLink → Bool
-notIgnored m n flag w = pick flag (pick (isOwnOutput m n (seen m (w .to .port .0))) false true) true
+notIgnored m n flag w = cond flag (cond (isOwnOutput m n (seen m (w .to .port .0))) false true) true
 
 -- the links that lead to the neighbours
 unfoldable pub neighbourLinks : MultiPortGraph → ℕ → Sides → Bool → List SubportLink
-neighbourLinks m n sides flag = those (notIgnored m n flag) (bySides (λ d. sideLinks m d n) sides)
+neighbourLinks m n sides flag = filter (notIgnored m n flag) (bySides (λ d. sideLinks m d n) sides)
 
 unfoldable pub neighbours : MultiPortGraph → ℕ → Sides → Bool → List ℕ
-neighbours m n sides flag = each (λ (w : SubportLink). ownerOf (m .graph) (w .to .port .0)) (neighbourLinks m n sides flag)
+neighbours m n sides flag = map (λ (w : SubportLink). ownerOf (m .graph) (w .to .port .0)) (neighbourLinks m n sides flag)
 
 abbrev pub neighboursItem : MultiPortGraph → Neighbours → SubportLink → NeighboursStep
 neighboursItem m c w =
@@ -277,15 +269,15 @@ neighboursItem m c w =
 
 unfoldable pub stepNeighbours : MultiPortGraph → Neighbours → NeighboursStep
 stepNeighbours m c =
-    pick (bothSeen m (c .node .0) (c .held))
-    (firstOf neighbours-step.End (neighboursItem m c)
-    (those (linkBeyond (c .held) (c .offset)) (neighbourLinks m (c .node .0) (c .sides) (c .«ignore_self»))))
+    cond (bothSeen m (c .node .0) (c .held))
+    (onFirst neighbours-step.End (neighboursItem m c)
+    (filter (linkBeyond (c .held) (c .offset)) (neighbourLinks m (c .node .0) (c .sides) (c .«ignore_self»))))
     neighbours-step.End
 
 -- Connections from one block's outgoing side to another block, repeated per wire.
 
 unfoldable pub connections : MultiPortGraph → ℕ → ℕ → List SubportLink
-connections m n k = those (λ (w : SubportLink). eqb (ownerOf (m .graph) (w .to .port .0)) k) (sideLinks m Outgoing n)
+connections m n k = filter (λ (w : SubportLink). eqb (ownerOf (m .graph) (w .to .port .0)) k) (sideLinks m Outgoing n)
 
 abbrev pub connectionsItem : NodeConnections → SubportLink → NodeConnectionsStep
 connectionsItem c w =
@@ -295,10 +287,10 @@ connectionsItem c w =
 -- both blocks are still there, and the port held
 unfoldable pub stepConnections : MultiPortGraph → NodeConnections → NodeConnectionsStep
 stepConnections m c =
-    pick (isBlock m (c .target .0))
-    (pick (bothSeen m (c .node .0) (c .held))
-    (firstOf connections-step.End (connectionsItem c)
-    (those (linkBeyond (c .held) (c .offset)) (connections m (c .node .0) (c .target .0))))
+    cond (isBlock m (c .target .0))
+    (cond (bothSeen m (c .node .0) (c .held))
+    (onFirst connections-step.End (connectionsItem c)
+    (filter (linkBeyond (c .held) (c .offset)) (connections m (c .node .0) (c .target .0))))
     connections-step.End)
     connections-step.End
 

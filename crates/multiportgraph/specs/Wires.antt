@@ -1,14 +1,14 @@
 -- The list of all wires, and the cursor that walks it.
-use mathlib.Core.Bool.{Bool, true, false}
-use mathlib.Core.List.{List, [], _∷_, _++_}
+use mathlib.Core.Bool.{Bool, true, false, cond}
+use mathlib.Core.List.{List, [], _∷_, _++_, map, flatMap}
 use Prim.Native.Nat.{ℕ, zero, suc, _+_, _-_}
 use lib.Dec.{eqb, ltb}
 use Rattle.portgraph.specs.Limits.{nodeSlots, portSlots}
-use Rattle.portgraph.specs.Entries.{pick}
+use Rattle.portgraph.specs.Lists.{filter, range}
 use Rattle.portgraph.specs.Lookups.{numPorts, portLink, containsNode, portDirection}
 use Rattle.portgraph.specs.declared.direction.Direction.{Direction}
 use Rattle.portgraph.specs.declared.direction.Direction.the-variants.{Incoming, Outgoing}
-use Rattle.multiportgraph.specs.Reading.{ownerOf, portOf, positionOf, isHidden, isSplit, Port, dead, hidden, visible, seen, subports, endAt, subport#}
+use Rattle.multiportgraph.specs.Reading.{sideOf, ownerOf, portOf, positionOf, isHidden, isSplit, Port, dead, hidden, visible, seen, subports, endAt, subport#}
 use Rattle.multiportgraph.specs.Calls.{linkOfEnd}
 use Rattle.multiportgraph.specs.declared.multiportgraph.MultiPortGraph.{MultiPortGraph}
 use Rattle.multiportgraph.specs.declared.multiportgraph.SubportIndex.{SubportIndex}
@@ -18,48 +18,28 @@ use Rattle.multiportgraph.specs.declared.multiportgraph.CutAnswer.the-va
 use Rattle.multiportgraph.specs.declared.iter.Wires.{Wires}
 use Rattle.multiportgraph.specs.declared.iter.WiresStep.{WiresStep}
 use Rattle.multiportgraph.specs.declared.iter.WiresStep.the-variants.{Item, End}
-
--- Lists.
-
--- n numbers from i on
-unfoldable pub range : ℕ → ℕ → List ℕ
-range i zero = []
-range i (suc n) = i ∷ range (suc i) n
-
--- the lists that f gives, one after the other
-unfoldable pub gather {ℓ κ} : {A : Type ℓ} {B : Type κ} → (A → List B) → List A → List B
-gather f [] = []
-gather f (x ∷ l) = f x ++ gather f l
-
--- those for which a test holds
-unfoldable pub those {ℓ} : {A : Type ℓ} → (A → Bool) → List A → List A
-those f [] = []
-those f (x ∷ l) = pick (f x) (x ∷ those f l) (those f l)
-
-unfoldable pub each {ℓ κ} : {A : Type ℓ} {B : Type κ} → (A → B) → List A → List B
-each f [] = []
-each f (x ∷ l) = f x ∷ each f l
+use Rattle.multiportgraph.specs.Places.{Place, Wire}
 
 -- Listings.
 
 -- the blocks, by ascending number
 unfoldable pub isBlock : MultiPortGraph → ℕ → Bool
-isBlock m n = pick (isHidden m n) false (containsNode (m .graph) n)
+isBlock m n = cond (isHidden m n) false (containsNode (m .graph) n)
 
 unfoldable pub blocks : MultiPortGraph → List ℕ
-blocks m = those (isBlock m) (range 0 nodeSlots)
+blocks m = filter (isBlock m) (range 0 nodeSlots)
 
 -- the ports of a node on a side, by position
 unfoldable pub portsOfSide : MultiPortGraph → Direction → ℕ → List ℕ
-portsOfSide m d n = each (portOf (m .graph) n d) (range 0 (numPorts (m .graph) n d))
+portsOfSide m d n = map (portOf (m .graph) n d) (range 0 (numPorts (m .graph) n d))
 
 -- the subports of a port, by offset, unlinked ones included
 unfoldable pub subportsOfPort : MultiPortGraph → Direction → ℕ → List SubportIndex
-subportsOfPort m d p = pick (isSplit m p) (each (subport# p) (range 0 (subports m p d))) (subport# p 0 ∷ [])
+subportsOfPort m d p = cond (isSplit m p) (map (subport# p) (range 0 (subports m p d))) (subport# p 0 ∷ [])
 
 -- the subports of a node on a side
 unfoldable pub subportsOfSide : MultiPortGraph → ℕ → Direction → List SubportIndex
-subportsOfSide m n d = gather (subportsOfPort m d) (portsOfSide m d n)
+subportsOfSide m n d = flatMap (subportsOfPort m d) (portsOfSide m d n)
 
 abbrev pub wireTo : SubportIndex → CutAnswer → List SubportLink
 wireTo s (cutting.Found t) = record { from = s; to = t } ∷ []
@@ -72,17 +52,17 @@ wireOf m d s = wireTo s (linkOfEnd m (s .port .0) (endAt m (s .port .0) d (s .«
 
 -- the links of a node's side
 unfoldable pub sideLinks : MultiPortGraph → Direction → ℕ → List SubportLink
-sideLinks m d n = gather (wireOf m d) (subportsOfSide m n d)
+sideLinks m d n = flatMap (wireOf m d) (subportsOfSide m n d)
 
 -- all wires: block after block, the links of its outgoing side
 unfoldable pub allWires : MultiPortGraph → List SubportLink
-allWires m = gather (sideLinks m Outgoing) (blocks m)
+allWires m = flatMap (sideLinks m Outgoing) (blocks m)
 
 -- The cursor.
 
 -- an item beyond a port and offset
 unfoldable pub isBeyond : ℕ → ℕ → SubportLink → Bool
-isBeyond p o w = pick (eqb (w .from .port .0) p) (ltb o (w .from .«subport_offset»)) (ltb p (w .from .port .0))
+isBeyond p o w = cond (eqb (w .from .port .0) p) (ltb o (w .from .«subport_offset»)) (ltb p (w .from .port .0))
 
 abbrev pub firstItem : List SubportLink → WiresStep
 firstItem [] = End
@@ -91,7 +71,7 @@ firstItem (w ∷ l) = Item w (record { held = suc (w .from .port .0); offset = w
 -- what is left of the listing beyond a port of block n and an offset: the rest of that block, then later blocks
 unfoldable pub wiresBeyond : MultiPortGraph → ℕ → ℕ → ℕ → List SubportLink
 wiresBeyond m n p o =
-    those (isBeyond p o) (sideLinks m Outgoing n) ++ gather (sideLinks m Outgoing) (those (ltb n) (blocks m))
+    filter (isBeyond p o) (sideLinks m Outgoing n) ++ flatMap (sideLinks m Outgoing) (filter (ltb n) (blocks m))
 
 -- a cursor whose port is gone or hidden ends the walk
 abbrev pub wiresSeen : MultiPortGraph → ℕ → ℕ → Port → WiresStep
@@ -100,7 +80,7 @@ wiresSeen m p o hidden = End
 wiresSeen m p o (visible n d) = firstItem (wiresBeyond m n p o)
 
 unfoldable pub stepWires : MultiPortGraph → Wires → WiresStep
-stepWires m c = pick (eqb (c .held) 0) (firstItem (allWires m)) (wiresSeen m (c .held - 1) (c .offset) (seen m (c .held - 1)))
+stepWires m c = cond (eqb (c .held) 0) (firstItem (allWires m)) (wiresSeen m (c .held - 1) (c .offset) (seen m (c .held - 1)))
 
 abbrev pub startWires : Wires
 startWires = record { held = 0; offset = 0 }
@@ -123,28 +103,11 @@ walkWires m (suc fuel) c = walkBy (walkWires m fuel) (stepWires m c)
 
 -- Places.
 
--- 01's place of an end: node, side, port position on that side, subport offset
-pub record Place : Type 0 where
-  pub node : ℕ
-  pub side : Direction
-  pub pos : ℕ
-  pub offset : ℕ
-
--- a wire between places, the outgoing one first
-pub record Wire : Type 0 where
-  pub out : Place
-  pub into : Place
-
-abbrev pub sideOr : Direction → Port → Direction
-sideOr d dead = d
-sideOr d hidden = d
-sideOr d (visible n e) = e
-
 unfoldable pub placeOf : MultiPortGraph → SubportIndex → Place
 placeOf m s =
     record {
       node = ownerOf (m .graph) (s .port .0);
-      side = sideOr Incoming (seen m (s .port .0));
+      side = sideOf (seen m (s .port .0));
       pos = positionOf (m .graph) (s .port .0);
       offset = s .«subport_offset»;
     }
@@ -161,4 +124,15 @@ unfoldable pub walked : MultiPortGraph → Walked
 walked m = walkWires m longWalk startWires
 
 unfoldable pub wiresWalked : MultiPortGraph → List Wire
-wiresWalked m = each (wirePlaces m) (walked m .items)
+wiresWalked m = map (wirePlaces m) (walked m .items)
+
+-- A node's ports as walked.
+
+abbrev pub isFirst : SubportIndex → Bool
+isFirst s = eqb (s .«subport_offset») 0
+
+-- a node's ports as walked: the walk over its subports, each port once
+unfoldable pub portsWalked : MultiPortGraph → ℕ → List ℕ
+portsWalked m n =
+    map (λ (s : SubportIndex). s .port .0)
+    (filter isFirst (subportsOfSide m n Incoming ++ subportsOfSide m n Outgoing))

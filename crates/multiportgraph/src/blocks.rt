@@ -2,8 +2,6 @@
 use crate::ends::port_of;
 use crate::marks::flagged;
 use crate::marks::marked;
-use crate::marks::wide;
-use crate::marks::wide16;
 use crate::multiportgraph::MultiPortGraph;
 use crate::multiportgraph::NodeRemoved;
 use crate::multiportgraph::PortsSet;
@@ -15,6 +13,9 @@ use portgraph::index::NodeIndex;
 use portgraph::index::PortIndex;
 use portgraph::node_entry::MaybeNodeMeta;
 use portgraph::node_entry::NodeMeta;
+use portgraph::numbers::smaller;
+use portgraph::numbers::wide;
+use portgraph::numbers::wide16;
 use portgraph::resize::SetAnswer as LowerSet;
 ghost use mathlib.Core.Path.{_≡_};
 ghost use Prim.Native.Nat.{_+_, _≤_, min};
@@ -23,8 +24,10 @@ ghost use lib.Seq.{sets};
 ghost use Rattle.portgraph.specs.Limits.{portSlots, nodePorts};
 ghost use Rattle.portgraph.specs.Model.{Wf};
 ghost use Rattle.portgraph.specs.Resize.{BlockFits};
-ghost use Rattle.multiportgraph.specs.Calls.{unsplitRange, removeBlock, removeNumbers, copiesIn, copiesDropped, removeLone, removeAll, setCounts, setNumbers, movesTold};
+ghost use Rattle.multiportgraph.specs.Calls.{removeBlock, setCounts, movesTold};
 ghost use Rattle.multiportgraph.specs.Inner.{MultiWf};
+ghost use Rattle.multiportgraph.specs.HiddenNodes.{unsplitRange, copiesIn, copiesDropped, removeLone, removeAll};
+ghost use Rattle.multiportgraph.specs.Answers.{removeNumbers, setNumbers};
 
 impl MultiPortGraph {
     // `count` ports from `first` on lose their hidden nodes, the first one first.
@@ -206,10 +209,4 @@ impl MultiPortGraph {
         let middle = self.copies_in(list, 0, first + kept_in, old_in - kept_in);
         self.copies_in(list, middle, first + old_in + kept_out, old_out - kept_out)
     }
-}
-
-fn smaller(a: usize, b: usize) -> usize
-    ensures { λ r. ⌜ r ≡ min a b ⌝ }
-{
-    if a <= b { a } else { b }
 }

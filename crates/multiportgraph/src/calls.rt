@@ -1,8 +1,6 @@
 // Adding blocks, linking and cutting, and what a subport is linked with.
-use crate::copies::less;
 use crate::ends::SeenPort;
 use crate::marks::marked;
-use crate::marks::wide;
 use crate::multiportgraph::AddAnswer;
 use crate::multiportgraph::CutAnswer;
 use crate::multiportgraph::LinkAnswer;
@@ -23,39 +21,21 @@ use portgraph::direction::Direction;
 use portgraph::index::NODE_SLOTS;
 use portgraph::index::PORT_SLOTS;
 use portgraph::index::PortIndex;
+use portgraph::numbers::less;
+use portgraph::numbers::wide;
 use portgraph::portgraph::PortGraph;
 use portgraph::slots::AddAnswer as LowerAdd;
 use portgraph::tables::cut;
 use portgraph::tables::link_both as join;
+use portgraph::tables::without_link;
 ghost use mathlib.Core.Path.{_≡_};
 ghost use Prim.Native.Nat.{_-_};
 ghost use Rattle.portgraph.specs.Meaning.{sameSide};
 ghost use Rattle.portgraph.specs.Tables.{linkCount};
-ghost use Rattle.multiportgraph.specs.Calls.{emptyGraph, addBlock, addNumbers, linkNumbers, cutNumbers, linkSub, cutPort, cutSub, subportLink, visibleNodes, visiblePorts, visibleLinks};
+ghost use Rattle.multiportgraph.specs.Calls.{addBlock, linkSub, cutPort, cutSub, subportLink, visibleNodes, visiblePorts, visibleLinks};
 ghost use Rattle.multiportgraph.specs.Inner.{MultiWf};
-
-// Whether two directions are the same.
-pub(crate) fn same_side(a: Direction, b: Direction) -> bool
-    ensures { λ r. ⌜ r ≡ sameSide a b ⌝ }
-{
-    match a {
-        Direction::Incoming => match b {
-            Direction::Incoming => true,
-            Direction::Outgoing => false,
-        },
-        Direction::Outgoing => match b {
-            Direction::Incoming => false,
-            Direction::Outgoing => true,
-        },
-    }
-}
-
-// The number of links after one is cut, by what the link table held; no link is one that was there.
-pub(crate) fn without_link(count: usize, far: u32) -> usize
-    ensures { λ r. ⌜ r ≡ count - linkCount far ⌝ }
-{
-    if far == 0 { count } else { less(count, 1) }
-}
+ghost use Rattle.multiportgraph.specs.Graph.{emptyGraph};
+ghost use Rattle.multiportgraph.specs.Answers.{addNumbers, linkNumbers, cutNumbers};
 
 impl MultiPortGraph {
     // The empty graph.

@@ -4,7 +4,6 @@ use crate::marks::lay_marks;
 use crate::marks::marked;
 use crate::marks::put_flag;
 use crate::marks::put_mark;
-use crate::marks::wide;
 use crate::multiportgraph::MultiPortGraph;
 use crate::reads::far_in;
 use crate::reads::owner_in;
@@ -13,19 +12,14 @@ use portgraph::direction::Direction;
 use portgraph::index::NodeIndex;
 use portgraph::index::PortIndex;
 use portgraph::node_entry::MaybeNodeMeta;
+use portgraph::numbers::less;
+use portgraph::numbers::wide;
 use portgraph::portgraph::PortGraph;
 ghost use mathlib.Core.Path.{_≡_};
 ghost use Prim.Native.Nat.{_-_};
 ghost use Rattle.portgraph.specs.Model.{Wf};
-ghost use Rattle.multiportgraph.specs.Calls.{removeCopy, unsplit, recounted};
-ghost use Rattle.multiportgraph.specs.LinkSteps.{SplitPort};
-
-// The difference, 0 at the least.
-pub(crate) fn less(a: usize, b: usize) -> usize
-    ensures { λ r. ⌜ r ≡ a - b ⌝ }
-{
-    if a < b { 0 } else { a - b }
-}
+ghost use Rattle.multiportgraph.specs.HiddenNodes.{removeCopy, unsplit, recounted};
+ghost use Rattle.multiportgraph.specs.Presumed.{SplitPort};
 
 impl MultiPortGraph {
     // The hidden node of a split port goes, with every link at it.

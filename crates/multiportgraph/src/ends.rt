@@ -1,7 +1,6 @@
 // How a port number is read, and readers of the hidden node of a split port. Where tables can be lent, the leaves of `reads`
 // serve instead.
 use crate::marks::marked;
-use crate::marks::wide;
 use crate::multiportgraph::MultiPortGraph;
 use portgraph::direction::Direction;
 use portgraph::index::MaybeNodeIndex;
@@ -10,6 +9,7 @@ use portgraph::index::MaybePortOffset;
 use portgraph::index::NodeIndex;
 use portgraph::index::PortIndex;
 use portgraph::index::PortOffset;
+use portgraph::numbers::wide;
 use portgraph::portgraph::PortGraph;
 use portgraph::portgraph::PortLink;
 ghost use mathlib.Core.Path.{_≡_};

@@ -1,7 +1,4 @@
 // The calls over lent tables, for a run that copies none of them: adding, linking and cutting, and what a subport is linked with.
-use crate::calls::without_link;
-use crate::copies::less;
-use crate::marks::wide;
 use crate::multiportgraph::AddAnswer;
 use crate::multiportgraph::CutAnswer;
 use crate::multiportgraph::LinkAnswer;
@@ -19,9 +16,12 @@ use portgraph::index::PORT_SLOTS;
 use portgraph::lent::Counts;
 use portgraph::lent::NODE_WORDS;
 use portgraph::lent_slots::add_node_in;
+use portgraph::numbers::less;
+use portgraph::numbers::wide;
 use portgraph::slots::AddAnswer as LowerAdd;
 use portgraph::tables::cut;
 use portgraph::tables::link_both;
+use portgraph::tables::without_link;
 ghost use mathlib.Core.Path.{_≡_};
 ghost use Prim.Native.Nat.{_-_};
 ghost use Rattle.multiportgraph.specs.Calls.{addedAs, addBlock, cutSub, linkSub, subportLink};

@@ -1,5 +1,4 @@
 // Blocks over lent tables: every wire at a port is cut, a block goes, and its counts change.
-use crate::calls::without_link;
 use crate::ends::SeenPort;
 use crate::lent::CutIn;
 use crate::lent::Held;
@@ -12,8 +11,6 @@ use crate::lent_copies::unsplit_range_in;
 use crate::marks::flagged;
 use crate::marks::lay_marks;
 use crate::marks::marked;
-use crate::marks::wide;
-use crate::marks::wide16;
 use crate::multiportgraph::CutAnswer;
 use crate::multiportgraph::Refusal;
 use crate::multiportgraph::RemoveAnswer;
@@ -32,17 +29,22 @@ use portgraph::lent_resize::set_num_ports_in;
 use portgraph::lent_slots::remove_node_in;
 use portgraph::node_entry::MaybeNodeMeta;
 use portgraph::node_entry::NodeMeta;
+use portgraph::numbers::smaller;
+use portgraph::numbers::wide;
+use portgraph::numbers::wide16;
 use portgraph::resize::SetAnswer as LowerSet;
 use portgraph::tables::cut;
+use portgraph::tables::without_link;
 ghost use mathlib.Core.Path.{_≡_};
 ghost use Prim.Native.Nat.{_+_, _≤_, min};
 ghost use lib.ListN.{length};
 ghost use lib.Seq.{sets};
 ghost use Rattle.portgraph.specs.Limits.{portSlots, nodePorts};
 ghost use Rattle.portgraph.specs.Resize.{BlockFits};
-ghost use Rattle.multiportgraph.specs.Calls.{cutPort, removeBlock, marksMoved, copiesIn, copiesDropped, setAs, setCounts, movesTold};
+ghost use Rattle.multiportgraph.specs.Calls.{cutPort, removeBlock, setAs, setCounts, movesTold};
 ghost use Rattle.multiportgraph.specs.Inner.{MultiWf};
 ghost use Rattle.multiportgraph.specs.MultiLent.{multiIn, FitsIf, Sound, Resizes};
+ghost use Rattle.multiportgraph.specs.HiddenNodes.{marksMoved, copiesIn, copiesDropped};
 
 pub struct RemovedIn {
     pub held: Held,
@@ -167,12 +169,6 @@ pub(crate) fn recount(marks: &mut [bool; PORT_SLOTS], before: MaybeNodeMeta, aft
         return;
     };
     lay_marks(marks, a, b);
-}
-
-fn smaller(a: usize, b: usize) -> usize
-    ensures { λ r. ⌜ r ≡ min a b ⌝ }
-{
-    if a <= b { a } else { b }
 }
 
 // Lists the hidden nodes of `count` ports from `first` on, in order, from place `at` on; answers the place after the last.

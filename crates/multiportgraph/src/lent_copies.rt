@@ -1,10 +1,8 @@
 // Hidden nodes over lent tables: what is read of them, and how they go.
-use crate::copies::less;
 use crate::lent::Held;
 use crate::marks::marked;
 use crate::marks::put_flag;
 use crate::marks::put_mark;
-use crate::marks::wide;
 use crate::reads::far_in;
 use crate::reads::owner_in;
 use portgraph::direction::Direction;
@@ -20,14 +18,16 @@ use portgraph::lent::NODE_WORDS;
 use portgraph::lent_reads::num_ports_in;
 use portgraph::lent_reads::port_index_in;
 use portgraph::lent_slots::remove_node_in;
+use portgraph::numbers::less;
+use portgraph::numbers::wide;
 use portgraph::port_entry::PortEntry;
 use portgraph::tables::at;
 ghost use mathlib.Core.Path.{_≡_};
 ghost use Prim.Native.Nat.{_+_, _≤_};
 ghost use lib.ListN.{length, take};
 ghost use Rattle.portgraph.specs.Limits.{portSlots, nodePorts};
-ghost use Rattle.multiportgraph.specs.Calls.{removeCopy, removeLone, removeAll, unsplit, unsplitRange};
 ghost use Rattle.multiportgraph.specs.MultiLent.{multiIn, portOfIn, copySideIn, farPortIn, copyNodeIn, Sound};
+ghost use Rattle.multiportgraph.specs.HiddenNodes.{removeCopy, removeLone, removeAll, unsplit, unsplitRange};
 
 // The port of a node at a side and position; 0 where there is none.
 pub(crate) fn port_of_in(

@@ -1,5 +1,4 @@
 // Linking ports over lent tables: each end is prepared, and the two inner ports are linked.
-use crate::calls::same_side;
 use crate::lent::Held;
 use crate::lent::LinkedIn;
 use crate::lent::with_counts;
@@ -17,13 +16,16 @@ use portgraph::index::PORT_SLOTS;
 use portgraph::index::PortIndex;
 use portgraph::lent::NODE_WORDS;
 use portgraph::lent_links::link_ports_in;
+use portgraph::numbers::same_side;
 use portgraph::tables::link_both;
 ghost use mathlib.Core.Path.{_≡_};
 ghost use lib.ListN.{length};
-ghost use Rattle.multiportgraph.specs.Calls.{enough, prepare, linkFirst, linkBoth, linkCall};
 ghost use Rattle.multiportgraph.specs.Inner.{MultiWf};
-ghost use Rattle.multiportgraph.specs.LinkSteps.{OnBlock, BothOnBlock};
 ghost use Rattle.multiportgraph.specs.MultiLent.{multiIn, plenty, Tried};
+ghost use Rattle.multiportgraph.specs.HiddenNodes.{enough, prepare};
+ghost use Rattle.multiportgraph.specs.Cases.{linkFirst, linkLive};
+ghost use Rattle.multiportgraph.specs.Presumed.{OnBlock, BothOnBlock};
+ghost use Rattle.multiportgraph.specs.Calls.{linkPair};
 
 // A link that was tried: done or refused; or short of room for the second end after the first one was prepared.
 struct TriedIn {
@@ -185,8 +187,8 @@ fn link_full_in(
     moves: &mut [u32],
 ) -> LinkedIn
     requires { ⌜ BothOnBlock (multiIn (now nodes) (now links) (now owners) (now heads) (now marks) (now flags) held) a d b e × (length (now moves) ≡ enough) ⌝ }
-    ensures { λ r. ⌜ (multiIn (now (nodes .exit)) (now (links .exit)) (now (owners .exit)) (now (heads .exit)) (now (marks .exit)) (now (flags .exit)) (r .held) ≡ linkBoth (multiIn (now (nodes .entry)) (now (links .entry)) (now (owners .entry)) (now (heads .entry)) (now (marks .entry)) (now (flags .entry)) held) a d b e (prepare (multiIn (now (nodes .entry)) (now (links .entry)) (now (owners .entry)) (now (heads .entry)) (now (marks .entry)) (now (flags .entry)) held) a d) .graph)
-        × (r .answer ≡ linkBoth (multiIn (now (nodes .entry)) (now (links .entry)) (now (owners .entry)) (now (heads .entry)) (now (marks .entry)) (now (flags .entry)) held) a d b e (prepare (multiIn (now (nodes .entry)) (now (links .entry)) (now (owners .entry)) (now (heads .entry)) (now (marks .entry)) (now (flags .entry)) held) a d) .answer) ⌝ }
+    ensures { λ r. ⌜ (multiIn (now (nodes .exit)) (now (links .exit)) (now (owners .exit)) (now (heads .exit)) (now (marks .exit)) (now (flags .exit)) (r .held) ≡ linkLive (multiIn (now (nodes .entry)) (now (links .entry)) (now (owners .entry)) (now (heads .entry)) (now (marks .entry)) (now (flags .entry)) held) a d b e (prepare (multiIn (now (nodes .entry)) (now (links .entry)) (now (owners .entry)) (now (heads .entry)) (now (marks .entry)) (now (flags .entry)) held) a d) .graph)
+        × (r .answer ≡ linkLive (multiIn (now (nodes .entry)) (now (links .entry)) (now (owners .entry)) (now (heads .entry)) (now (marks .entry)) (now (flags .entry)) held) a d b e (prepare (multiIn (now (nodes .entry)) (now (links .entry)) (now (owners .entry)) (now (heads .entry)) (now (marks .entry)) (now (flags .entry)) held) a d) .answer) ⌝ }
 {
     let old_nodes = *nodes;
     let old_links = *links;
@@ -244,8 +246,8 @@ fn link_both_in(
     moves: &mut [u32],
 ) -> LinkedIn
     requires { ⌜ BothOnBlock (multiIn (now nodes) (now links) (now owners) (now heads) (now marks) (now flags) held) a d b e × (length (now moves) ≡ enough) ⌝ }
-    ensures { λ r. ⌜ (multiIn (now (nodes .exit)) (now (links .exit)) (now (owners .exit)) (now (heads .exit)) (now (marks .exit)) (now (flags .exit)) (r .held) ≡ linkBoth (multiIn (now (nodes .entry)) (now (links .entry)) (now (owners .entry)) (now (heads .entry)) (now (marks .entry)) (now (flags .entry)) held) a d b e (prepare (multiIn (now (nodes .entry)) (now (links .entry)) (now (owners .entry)) (now (heads .entry)) (now (marks .entry)) (now (flags .entry)) held) a d) .graph)
-        × (r .answer ≡ linkBoth (multiIn (now (nodes .entry)) (now (links .entry)) (now (owners .entry)) (now (heads .entry)) (now (marks .entry)) (now (flags .entry)) held) a d b e (prepare (multiIn (now (nodes .entry)) (now (links .entry)) (now (owners .entry)) (now (heads .entry)) (now (marks .entry)) (now (flags .entry)) held) a d) .answer) ⌝ }
+    ensures { λ r. ⌜ (multiIn (now (nodes .exit)) (now (links .exit)) (now (owners .exit)) (now (heads .exit)) (now (marks .exit)) (now (flags .exit)) (r .held) ≡ linkLive (multiIn (now (nodes .entry)) (now (links .entry)) (now (owners .entry)) (now (heads .entry)) (now (marks .entry)) (now (flags .entry)) held) a d b e (prepare (multiIn (now (nodes .entry)) (now (links .entry)) (now (owners .entry)) (now (heads .entry)) (now (marks .entry)) (now (flags .entry)) held) a d) .graph)
+        × (r .answer ≡ linkLive (multiIn (now (nodes .entry)) (now (links .entry)) (now (owners .entry)) (now (heads .entry)) (now (marks .entry)) (now (flags .entry)) held) a d b e (prepare (multiIn (now (nodes .entry)) (now (links .entry)) (now (owners .entry)) (now (heads .entry)) (now (marks .entry)) (now (flags .entry)) held) a d) .answer) ⌝ }
 {
     if plenty(held) {
         let tried = try_both_in(
@@ -299,8 +301,8 @@ pub fn link_in(
     moves: &mut [u32],
 ) -> LinkedIn
     requires { ⌜ MultiWf (multiIn (now nodes) (now links) (now owners) (now heads) (now marks) (now flags) held) × (length (now moves) ≡ enough) ⌝ }
-    ensures { λ r. ⌜ (multiIn (now (nodes .exit)) (now (links .exit)) (now (owners .exit)) (now (heads .exit)) (now (marks .exit)) (now (flags .exit)) (r .held) ≡ linkCall (multiIn (now (nodes .entry)) (now (links .entry)) (now (owners .entry)) (now (heads .entry)) (now (marks .entry)) (now (flags .entry)) held) («port_a» .0) («port_b» .0) .graph)
-        × (r .answer ≡ linkCall (multiIn (now (nodes .entry)) (now (links .entry)) (now (owners .entry)) (now (heads .entry)) (now (marks .entry)) (now (flags .entry)) held) («port_a» .0) («port_b» .0) .answer) ⌝ }
+    ensures { λ r. ⌜ (multiIn (now (nodes .exit)) (now (links .exit)) (now (owners .exit)) (now (heads .exit)) (now (marks .exit)) (now (flags .exit)) (r .held) ≡ linkPair (multiIn (now (nodes .entry)) (now (links .entry)) (now (owners .entry)) (now (heads .entry)) (now (marks .entry)) (now (flags .entry)) held) («port_a» .0) («port_b» .0) .graph)
+        × (r .answer ≡ linkPair (multiIn (now (nodes .entry)) (now (links .entry)) (now (owners .entry)) (now (heads .entry)) (now (marks .entry)) (now (flags .entry)) held) («port_a» .0) («port_b» .0) .answer) ⌝ }
 {
     match link_need(marks, links, owners, flags, port_a, port_b) {
         LinkNeed::Ends(x, o, y, r) => {

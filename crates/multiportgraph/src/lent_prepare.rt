@@ -1,11 +1,9 @@
 // Preparing an end of a link over lent tables: by the cases of mark and link.
-use crate::calls::without_link;
 use crate::lent::Held;
 use crate::lent::with_counts;
 use crate::lent::with_links;
 use crate::marks::put_flag;
 use crate::marks::put_mark;
-use crate::marks::wide;
 use crate::named::EndNeed;
 use crate::named::need_in;
 use crate::prepare::copy_at;
@@ -28,15 +26,17 @@ use portgraph::index::PortIndex;
 use portgraph::lent::NODE_WORDS;
 use portgraph::lent_resize::set_num_ports_in;
 use portgraph::lent_slots::add_node_in;
+use portgraph::numbers::wide;
 use portgraph::resize::SetAnswer as LowerSet;
 use portgraph::slots::AddAnswer as LowerAdd;
+use portgraph::tables::without_link;
 ghost use mathlib.Core.Path.{_≡_};
 ghost use lib.ListN.{length};
 ghost use Rattle.multiportgraph.specs.Reading.{copyNode};
-ghost use Rattle.multiportgraph.specs.Calls.{split, grow, prepare, enough};
 ghost use Rattle.multiportgraph.specs.Forms.{preparedAs};
-ghost use Rattle.multiportgraph.specs.LinkSteps.{OnBlock, LinkedPort, SplitPort};
 ghost use Rattle.multiportgraph.specs.MultiLent.{multiIn, preparedIn};
+ghost use Rattle.multiportgraph.specs.HiddenNodes.{split, grow, prepare, enough};
+ghost use Rattle.multiportgraph.specs.Presumed.{OnBlock, LinkedPort, SplitPort};
 
 // A prepared end: the numbers, the inner port and its offset; or, where there is no room, the graph as it was.
 pub(crate) struct PreparedIn {

@@ -1,5 +1,4 @@
 // Linking ports: each end is prepared, and the two inner ports are linked.
-use crate::calls::same_side;
 use crate::multiportgraph::LinkAnswer;
 use crate::multiportgraph::MultiPortGraph;
 use crate::multiportgraph::PortsLinked;
@@ -12,11 +11,15 @@ use crate::named::need_in;
 use crate::prepare::Prepared;
 use portgraph::direction::Direction;
 use portgraph::index::PortIndex;
+use portgraph::numbers::same_side;
 use portgraph::tables::link_both as join;
 ghost use mathlib.Core.Path.{_≡_};
-ghost use Rattle.multiportgraph.specs.Calls.{linkNumbers, linkCall, linkFirst, linkBoth, prepare};
 ghost use Rattle.multiportgraph.specs.Inner.{MultiWf};
-ghost use Rattle.multiportgraph.specs.LinkSteps.{OnBlock, BothOnBlock};
+ghost use Rattle.multiportgraph.specs.Answers.{linkNumbers};
+ghost use Rattle.multiportgraph.specs.Cases.{linkFirst, linkLive};
+ghost use Rattle.multiportgraph.specs.HiddenNodes.{prepare};
+ghost use Rattle.multiportgraph.specs.Presumed.{OnBlock, BothOnBlock};
+ghost use Rattle.multiportgraph.specs.Calls.{linkPair};
 
 impl MultiPortGraph {
     // The second port is not live: the preparation of the first stays.
@@ -42,7 +45,7 @@ impl MultiPortGraph {
     // Both ports are live: both ends are prepared.
     fn link_both(self, a: u32, d: Direction, b: u32, e: Direction) -> PortsLinked
         requires { ⌜ BothOnBlock self a d b e ⌝ }
-        ensures { λ r. ⌜ r ≡ linkBoth self a d b e (prepare self a d) ⌝ }
+        ensures { λ r. ⌜ r ≡ linkLive self a d b e (prepare self a d) ⌝ }
     {
         let first = match need_in(
             &self.multiport,
@@ -120,7 +123,7 @@ impl MultiPortGraph {
     // Links two ports; each end takes the lowest offset without a wire.
     pub fn link_ports(mut self, port_a: PortIndex, port_b: PortIndex) -> PortsLinked
         requires { ⌜ MultiWf self ⌝ }
-        ensures { λ r. ⌜ (r ≡ linkCall self («port_a» .0) («port_b» .0)) × (linkNumbers (r .answer) ≡ linkNumbers (linkCall self («port_a» .0) («port_b» .0) .answer)) ⌝ }
+        ensures { λ r. ⌜ (r ≡ linkPair self («port_a» .0) («port_b» .0)) × (linkNumbers (r .answer) ≡ linkNumbers (linkPair self («port_a» .0) («port_b» .0) .answer)) ⌝ }
     {
         match link_need(
             &self.multiport,

@@ -2,7 +2,6 @@
 use crate::ends::SeenPort;
 use crate::ends::position_of;
 use crate::marks::flagged;
-use crate::marks::wide;
 use crate::multiportgraph::MultiPortGraph;
 use crate::multiportgraph::Refusal;
 use crate::reads::seen_in;
@@ -14,11 +13,12 @@ use portgraph::index::PortIndex;
 use portgraph::index::PortOffset;
 use portgraph::node_entry::MaybeNodeMeta;
 use portgraph::node_entry::NodeMeta;
+use portgraph::numbers::wide;
 ghost use mathlib.Core.Path.{_≡_};
 ghost use Rattle.multiportgraph.specs.Wires.{isBlock};
 ghost use Rattle.multiportgraph.specs.Lookups.{directionOf, nodeOf, offsetOf, portIndexOf, numPortsOf, capacityOf, portFanOut, containsPortOf, emptyOf, directionNumbers, nodeNumbers, offsetNumbers, portNumbers, countNumbers};
-ghost use Rattle.multiportgraph.specs.LookupSteps.{blockFound};
 ghost use Rattle.multiportgraph.specs.Inner.{MultiWf};
+ghost use Rattle.multiportgraph.specs.Forms.{blockFound};
 
 pub enum DirectionAnswer {
     Found(Direction),

@@ -2,27 +2,18 @@
 use portgraph::index::NODE_SLOTS;
 use portgraph::index::PORT_SLOTS;
 use portgraph::node_entry::NodeMeta;
+use portgraph::numbers::less;
+use portgraph::numbers::smaller;
+use portgraph::numbers::wide;
+use portgraph::numbers::wide16;
 ghost use mathlib.Core.Path.{_≡_};
 ghost use mathlib.Core.Bool.{false};
-ghost use Prim.Native.Nat.{_+_, _≤_};
+ghost use Prim.Native.Nat.{_+_, _≤_, min};
 ghost use Rattle.portgraph.specs.Limits.{nodeSlots, portSlots};
 ghost use Rattle.portgraph.specs.Tables.{fill};
 ghost use Rattle.portgraph.specs.Resize.{BlockFits};
-ghost use Rattle.multiportgraph.specs.Calls.{layRange, layMarks};
-ghost use Rattle.multiportgraph.specs.Forms.{flagAt, putFlag};
-
-// A number as an index.
-pub(crate) fn wide(x: u32) -> usize
-    ensures { λ r. ⌜ r ≡ x ⌝ }
-{
-    x as usize
-}
-
-pub(crate) fn wide16(x: u16) -> usize
-    ensures { λ r. ⌜ r ≡ x ⌝ }
-{
-    x as usize
-}
+ghost use Rattle.multiportgraph.specs.Forms.{flagAt, putFlag, layKept, unmarkNew, unmarkOld};
+ghost use Rattle.multiportgraph.specs.HiddenNodes.{layRange, layMarks};
 
 // The mark of a port; false outside the table.
 pub(crate) fn marked(marks: &[bool; PORT_SLOTS], port: usize) -> bool
@@ -76,54 +67,99 @@ fn unmark(marks: &mut [bool; PORT_SLOTS], first: usize, count: usize)
     }
 }
 
-// Lays `count` marks of the one table, from `from` on, into the other, from `to` on.
-fn lay_range(
-    marks: &mut [bool; PORT_SLOTS],
-    old: &[bool; PORT_SLOTS],
-    from: usize,
-    to: usize,
-    count: usize,
-)
-    requires { ⌜ (from + count ≤ portSlots) × (to + count ≤ portSlots) ⌝ }
-    ensures { λ _. ⌜ now (marks .exit) ≡ layRange (now (marks .entry)) (now (old .entry)) from to count ⌝ }
+// Marks move, the first one first.
+fn move_up(marks: &mut [bool; PORT_SLOTS], old: usize, new: usize, count: usize)
+    requires { ⌜ (new ≤ old) × (old + count ≤ portSlots) ⌝ }
+    ensures { λ _. ⌜ now (marks .exit) ≡ layRange (now (marks .entry)) (now (marks .entry)) old new count ⌝ }
 {
     let mut k: usize = 0;
     while k < count {
-        marks[to + k] = old[from + k];
+        marks[new + k] = marks[old + k];
         k += 1;
     }
 }
 
-fn smaller(a: u16, b: u16) -> usize
-    ensures { λ r. ⌜ r ≡ Prim.Native.Nat.min a b ⌝ }
+// Marks move, the last one first.
+fn move_down(marks: &mut [bool; PORT_SLOTS], old: usize, new: usize, count: usize)
+    requires { ⌜ (old ≤ new) × (new + count ≤ portSlots) ⌝ }
+    ensures { λ _. ⌜ now (marks .exit) ≡ layRange (now (marks .entry)) (now (marks .entry)) old new count ⌝ }
 {
-    if a <= b { wide16(a) } else { wide16(b) }
+    let mut k: usize = count;
+    while 0 < k {
+        k -= 1;
+        marks[new + k] = marks[old + k];
+    }
 }
 
-// The old and the new ports of a node are unmarked, then each kept port has its mark at its new number.
+// Lays `count` marks, from `old` on, from `new` on, in the order in which none is overwritten before it is laid.
+fn move_marks(marks: &mut [bool; PORT_SLOTS], old: usize, new: usize, count: usize)
+    requires { ⌜ (old + count ≤ portSlots) × (new + count ≤ portSlots) ⌝ }
+    ensures { λ _. ⌜ now (marks .exit) ≡ layRange (now (marks .entry)) (now (marks .entry)) old new count ⌝ }
+{
+    if old == new {
+        return;
+    }
+    if new < old {
+        move_up(marks, old, new, count);
+    } else {
+        move_down(marks, old, new, count);
+    }
+}
+
+// The marks of kept ports go to their new numbers; that side goes first which does not go where the other has yet to leave.
+fn move_kept(marks: &mut [bool; PORT_SLOTS], a: NodeMeta, b: NodeMeta)
+    requires { ⌜ BlockFits a × BlockFits b ⌝ }
+    ensures { λ _. ⌜ now (marks .exit) ≡ layKept (now (marks .entry)) (now (marks .entry)) a b ⌝ }
+{
+    let old = wide(a.first_port.0);
+    let new = wide(b.first_port.0);
+    let old_in = wide16(a.incoming);
+    let new_in = wide16(b.incoming);
+    let incoming = smaller(old_in, new_in);
+    let outgoing = smaller(wide16(a.outgoing), wide16(b.outgoing));
+    if new <= old {
+        move_marks(marks, old, new, incoming);
+        move_marks(marks, old + old_in, new + new_in, outgoing);
+    } else {
+        move_marks(marks, old + old_in, new + new_in, outgoing);
+        move_marks(marks, old, new, incoming);
+    }
+}
+
+// Unmarks the ports of each side that were not there before.
+fn unmark_new(marks: &mut [bool; PORT_SLOTS], a: NodeMeta, b: NodeMeta)
+    requires { ⌜ BlockFits a × BlockFits b ⌝ }
+    ensures { λ _. ⌜ now (marks .exit) ≡ unmarkNew (now (marks .entry)) a b ⌝ }
+{
+    let first = wide(b.first_port.0);
+    let new_in = wide16(b.incoming);
+    let new_out = wide16(b.outgoing);
+    let kept_in = smaller(wide16(a.incoming), new_in);
+    let kept_out = smaller(wide16(a.outgoing), new_out);
+    unmark(marks, first + kept_in, new_in - kept_in);
+    unmark(marks, first + new_in + kept_out, new_out - kept_out);
+}
+
+// Unmarks the old ports that come before the first new one, or after the last.
+fn unmark_old(marks: &mut [bool; PORT_SLOTS], a: NodeMeta, b: NodeMeta)
+    requires { ⌜ BlockFits a × BlockFits b ⌝ }
+    ensures { λ _. ⌜ now (marks .exit) ≡ unmarkOld (now (marks .entry)) a b ⌝ }
+{
+    let old = wide(a.first_port.0);
+    let new = wide(b.first_port.0);
+    let count = wide16(a.incoming) + wide16(a.outgoing);
+    let end = new + (wide16(b.incoming) + wide16(b.outgoing));
+    let within = less(end, old);
+    unmark(marks, old, smaller(count, less(new, old)));
+    unmark(marks, old + within, less(count, within));
+}
+
+// Each kept port has its mark at its new number; the node's other ports, old and new, are unmarked.
 pub(crate) fn lay_marks(marks: &mut [bool; PORT_SLOTS], a: NodeMeta, b: NodeMeta)
     requires { ⌜ BlockFits a × BlockFits b ⌝ }
     ensures { λ _. ⌜ now (marks .exit) ≡ layMarks (now (marks .entry)) a b ⌝ }
 {
-    let old = *marks;
-    let old_first = wide(a.first_port.0);
-    let old_in = wide16(a.incoming);
-    let first = wide(b.first_port.0);
-    let new_in = wide16(b.incoming);
-    unmark(marks, old_first, old_in + wide16(a.outgoing));
-    unmark(marks, first, new_in + wide16(b.outgoing));
-    lay_range(
-        marks,
-        &old,
-        old_first,
-        first,
-        smaller(a.incoming, b.incoming),
-    );
-    lay_range(
-        marks,
-        &old,
-        old_first + old_in,
-        first + new_in,
-        smaller(a.outgoing, b.outgoing),
-    );
+    move_kept(marks, a, b);
+    unmark_new(marks, a, b);
+    unmark_old(marks, a, b);
 }

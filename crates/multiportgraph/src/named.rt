@@ -1,20 +1,20 @@
 // What a call names, read off lent tables: the inner ports of its ends, or the refusal.
-use crate::calls::same_side;
 use crate::ends::EndFound;
 use crate::ends::SeenPort;
 use crate::marks::marked;
-use crate::marks::wide;
 use crate::multiportgraph::Refusal;
 use crate::multiportgraph::SubportIndex;
-use crate::prepare::lowest_unlinked;
 use crate::reads::end_in;
 use crate::reads::first_in;
+use crate::reads::lowest_unlinked;
 use crate::reads::seen_in;
 use crate::reads::subports_in;
 use portgraph::direction::Direction;
 use portgraph::index::NODE_SLOTS;
 use portgraph::index::PORT_SLOTS;
 use portgraph::index::PortIndex;
+use portgraph::numbers::same_side;
+use portgraph::numbers::wide;
 use portgraph::tables::at;
 ghost use mathlib.Core.Path.{_≡_};
 ghost use Prim.Native.Nat.{_+_};

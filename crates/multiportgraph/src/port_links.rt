@@ -2,7 +2,6 @@
 use crate::ends::SeenPort;
 use crate::iter::PortLinks;
 use crate::iter::PortLinksStep;
-use crate::marks::wide;
 use crate::multiportgraph::MultiPortGraph;
 use crate::reads::seen_in;
 use crate::scans::LinkFilter;
@@ -15,6 +14,7 @@ use crate::walks::end_before;
 use portgraph::direction::Direction;
 use portgraph::index::NODE_SLOTS;
 use portgraph::index::PORT_SLOTS;
+use portgraph::numbers::wide;
 ghost use mathlib.Core.Path.{_≡_};
 ghost use Prim.Native.Nat.{_-_, _≤_};
 ghost use Rattle.portgraph.specs.Limits.{portSlots};

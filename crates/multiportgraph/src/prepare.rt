@@ -1,8 +1,6 @@
 // Preparing an end of a link: by the cases of mark and link.
-use crate::calls::without_link;
 use crate::marks::put_flag;
 use crate::marks::put_mark;
-use crate::marks::wide;
 use crate::multiportgraph::MultiPortGraph;
 use crate::named::EndNeed;
 use crate::named::need_in;
@@ -14,20 +12,22 @@ use portgraph::direction::Direction;
 use portgraph::index::NODE_PORTS;
 use portgraph::index::NodeIndex;
 use portgraph::index::PORT_SLOTS;
+use portgraph::numbers::wide;
 use portgraph::resize::SetAnswer as LowerSet;
 use portgraph::slots::AddAnswer as LowerAdd;
 use portgraph::tables::at;
 use portgraph::tables::cut;
 use portgraph::tables::link_both;
+use portgraph::tables::without_link;
 ghost use mathlib.Core.Path.{_≡_};
 ghost use Prim.Native.Nat.{_+_, _≤_};
 ghost use Rattle.portgraph.specs.Limits.{portSlots};
 ghost use Rattle.portgraph.specs.Tables.{at};
 ghost use Rattle.multiportgraph.specs.Reading.{copyNode};
-ghost use Rattle.multiportgraph.specs.Calls.{split, grow, prepare, copyIn, copyOut};
 ghost use Rattle.multiportgraph.specs.Reads.{hangOn, copyAt, subportsAt, grownIn, grownOut};
-ghost use Rattle.multiportgraph.specs.LinkSteps.{OnBlock, LinkedPort, SplitPort};
-ghost use Rattle.multiportgraph.specs.Forms.{preparedAs, lowestUnlinked};
+ghost use Rattle.multiportgraph.specs.Forms.{preparedAs};
+ghost use Rattle.multiportgraph.specs.HiddenNodes.{split, grow, prepare, copyIn, copyOut};
+ghost use Rattle.multiportgraph.specs.Presumed.{OnBlock, LinkedPort, SplitPort};
 
 // A move list that is long enough for every node.
 const MOVES: usize = 3 * NODE_PORTS;
@@ -56,21 +56,6 @@ pub(crate) fn copy_out(direction: Direction) -> usize
         Direction::Incoming => 1,
         Direction::Outgoing => 2,
     }
-}
-
-// The lowest offset from 0 whose port, counted from `first`, has no link; `count` where all have.
-pub(crate) fn lowest_unlinked(links: &[u32; PORT_SLOTS], first: usize, count: usize) -> usize
-    requires { ⌜ first + count ≤ portSlots ⌝ }
-    ensures { λ r. ⌜ r ≡ lowestUnlinked (now (links .entry)) first 0 count ⌝ }
-{
-    let mut o: usize = 0;
-    while o < count {
-        if at(links, first + o) == 0 {
-            return o;
-        }
-        o += 1;
-    }
-    o
 }
 
 // The port hangs on the copy port, and its old link is at the first subport. Answers what the table held for the port.

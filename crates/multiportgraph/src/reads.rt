@@ -1,24 +1,24 @@
 // Leaves that read lent tables: what a port number is, the subports of a split port, the ends, and what an end is linked with.
 // No leaf takes the graph, and none asks anything of its port.
-use crate::copies::less;
 use crate::ends::EndFound;
 use crate::ends::SeenPort;
 use crate::marks::flagged;
 use crate::marks::marked;
-use crate::marks::wide;
-use crate::marks::wide16;
 use crate::multiportgraph::CutAnswer;
 use crate::multiportgraph::SubportIndex;
 use portgraph::direction::Direction;
 use portgraph::index::NODE_SLOTS;
 use portgraph::index::PORT_SLOTS;
 use portgraph::index::PortIndex;
+use portgraph::numbers::less;
+use portgraph::numbers::wide;
+use portgraph::numbers::wide16;
 use portgraph::port_entry::PortEntry;
 use portgraph::tables::at;
 ghost use mathlib.Core.Path.{_≡_};
-ghost use Prim.Native.Nat.{_≤_, min};
+ghost use Prim.Native.Nat.{_+_, _≤_, min};
 ghost use Rattle.portgraph.specs.Limits.{portSlots};
-ghost use Rattle.multiportgraph.specs.Forms.{seenAs, endAs};
+ghost use Rattle.multiportgraph.specs.Forms.{seenAs, endAs, lowestUnlinked};
 ghost use Rattle.multiportgraph.specs.Reads.{farIn, ownerIn, seenIn, runUp, runDown, countBeside, firstBeside, endBeside, subportsIn, firstIn, endIn, copyBeside, subportIn, wireIn};
 
 // The slot that a slot is linked with; 0 for none.
@@ -241,4 +241,19 @@ pub(crate) fn wire_in<'a>(
         return CutAnswer::Nothing;
     }
     CutAnswer::Found(subport_in(links, owners, flags, far_in(links, wide(port))))
+}
+
+// The lowest offset from 0 whose port, counted from `first`, has no link; `count` where all have.
+pub(crate) fn lowest_unlinked(links: &[u32; PORT_SLOTS], first: usize, count: usize) -> usize
+    requires { ⌜ first + count ≤ portSlots ⌝ }
+    ensures { λ r. ⌜ r ≡ lowestUnlinked (now (links .entry)) first 0 count ⌝ }
+{
+    let mut o: usize = 0;
+    while o < count {
+        if at(links, first + o) == 0 {
+            return o;
+        }
+        o += 1;
+    }
+    o
 }

@@ -1,8 +1,6 @@
 // The first link that a walk finds from a port and offset on, over lent tables: one offset, one port, a row of ports, a block.
 use crate::ends::SeenPort;
 use crate::marks::marked;
-use crate::marks::wide;
-use crate::marks::wide16;
 use crate::multiportgraph::CutAnswer;
 use crate::multiportgraph::SubportIndex;
 use crate::multiportgraph::SubportLink;
@@ -20,14 +18,17 @@ use portgraph::iter::ports_from;
 use portgraph::iter::ports_to;
 use portgraph::node_entry::NodeEntry;
 use portgraph::node_entry::NodeSlot;
+use portgraph::numbers::wide;
+use portgraph::numbers::wide16;
 use portgraph::port_entry::PortEntry;
 use portgraph::tables::at;
 ghost use mathlib.Core.Path.{_≡_};
 ghost use Prim.Native.Nat.{_+_, _-_, _≤_, _<_, min};
 ghost use Rattle.portgraph.specs.Limits.{portSlots};
+ghost use Rattle.portgraph.specs.Lists.{filter};
 ghost use Rattle.multiportgraph.specs.Reading.{subport#};
 ghost use Rattle.multiportgraph.specs.Reads.{wireIn};
-ghost use Rattle.multiportgraph.specs.Wires.{those, wireTo};
+ghost use Rattle.multiportgraph.specs.Wires.{wireTo};
 ghost use Rattle.multiportgraph.specs.Scans.{firstFound, linkPort, spanFirst, spanCount, ownerIn, notOwnOutput, passesIn, linksIn, portLinksIn, linksRest, beyondIn, blockLinksIn};
 
 // Which links a walk gives, by the port that they lead to.
@@ -116,12 +117,12 @@ fn not_own_output(node: u32, seen: SeenPort) -> bool
 fn passes<'a>(
     owners: &'a [u32; PORT_SLOTS],
     flags: &'a [bool; NODE_SLOTS],
-    filter: LinkFilter,
+    only: LinkFilter,
     port: u32,
 ) -> bool
-    ensures { λ r. ⌜ r ≡ passesIn (now (owners .entry)) (now (flags .entry)) filter port ⌝ }
+    ensures { λ r. ⌜ r ≡ passesIn (now (owners .entry)) (now (flags .entry)) only port ⌝ }
 {
-    match filter {
+    match only {
         LinkFilter::All => true,
         LinkFilter::Skip(from, to) => {
             if from <= port {
@@ -139,12 +140,12 @@ pub(crate) fn link_at<'a>(
     links: &'a [u32; PORT_SLOTS],
     owners: &'a [u32; PORT_SLOTS],
     flags: &'a [bool; NODE_SLOTS],
-    filter: LinkFilter,
+    only: LinkFilter,
     port: u32,
     slot: usize,
     offset: u16,
 ) -> LinkFound
-    ensures { λ r. ⌜ (r ≡ firstFound (those (λ w. passesIn (now (owners .entry)) (now (flags .entry)) filter (w .to .port .0))
+    ensures { λ r. ⌜ (r ≡ firstFound (filter (λ w. passesIn (now (owners .entry)) (now (flags .entry)) only (w .to .port .0))
         (wireTo (subport# port offset) (wireIn (now (links .entry)) (now (owners .entry)) (now (flags .entry)) slot))))
         × (linkPort port r ≡ port) ⌝ }
 {
@@ -155,7 +156,7 @@ pub(crate) fn link_at<'a>(
             CutAnswer::Refused(_) => LinkFound::None,
             CutAnswer::Found(to) => {
                 let far = to.port;
-                if passes(owners, flags, filter, far.0) {
+                if passes(owners, flags, only, far.0) {
                     return LinkFound::Link(SubportLink {
                         from: SubportIndex {
                             port: PortIndex(port),
@@ -176,14 +177,14 @@ pub(crate) fn scan_port<'a>(
     links: &'a [u32; PORT_SLOTS],
     owners: &'a [u32; PORT_SLOTS],
     flags: &'a [bool; NODE_SLOTS],
-    filter: LinkFilter,
+    only: LinkFilter,
     port: u32,
     first: usize,
     from: usize,
     end: usize,
 ) -> LinkFound
     requires { ⌜ (first ≤ portSlots) × (end ≤ portSlots) ⌝ }
-    ensures { λ r. ⌜ (r ≡ firstFound (those (λ w. passesIn (now (owners .entry)) (now (flags .entry)) filter (w .to .port .0))
+    ensures { λ r. ⌜ (r ≡ firstFound (filter (λ w. passesIn (now (owners .entry)) (now (flags .entry)) only (w .to .port .0))
         (linksIn (now (links .entry)) (now (owners .entry)) (now (flags .entry)) port first from (end - from))))
         × (linkPort port r ≡ port) ⌝ }
 {
@@ -193,7 +194,7 @@ pub(crate) fn scan_port<'a>(
             links,
             owners,
             flags,
-            filter,
+            only,
             port,
             first + offset,
             offset as u16,
@@ -216,11 +217,11 @@ fn port_link_from<'a>(
     links: &'a [u32; PORT_SLOTS],
     owners: &'a [u32; PORT_SLOTS],
     flags: &'a [bool; NODE_SLOTS],
-    filter: LinkFilter,
+    only: LinkFilter,
     port: u32,
     from: usize,
 ) -> LinkFound
-    ensures { λ r. ⌜ (r ≡ firstFound (those (λ w. passesIn (now (owners .entry)) (now (flags .entry)) filter (w .to .port .0))
+    ensures { λ r. ⌜ (r ≡ firstFound (filter (λ w. passesIn (now (owners .entry)) (now (flags .entry)) only (w .to .port .0))
         (portLinksIn (now (marks .entry)) (now (links .entry)) (now (owners .entry)) (now (flags .entry)) port from)))
         × (linkPort port r ≡ port) ⌝ }
 {
@@ -231,7 +232,7 @@ fn port_link_from<'a>(
         SeenPort::Visible(_, direction) => {
             let first = span_first(marks, links, owners, port, direction);
             let end = span_count(marks, links, owners, port, direction);
-            scan_port(links, owners, flags, filter, port, first, from, end)
+            scan_port(links, owners, flags, only, port, first, from, end)
         }
     }
 }
@@ -242,12 +243,12 @@ fn next_link<'a>(
     links: &'a [u32; PORT_SLOTS],
     owners: &'a [u32; PORT_SLOTS],
     flags: &'a [bool; NODE_SLOTS],
-    filter: LinkFilter,
+    only: LinkFilter,
     from: usize,
     offset: usize,
     end: usize,
 ) -> LinkFound
-    ensures { λ r. ⌜ (r ≡ firstFound (those (λ w. passesIn (now (owners .entry)) (now (flags .entry)) filter (w .to .port .0))
+    ensures { λ r. ⌜ (r ≡ firstFound (filter (λ w. passesIn (now (owners .entry)) (now (flags .entry)) only (w .to .port .0))
         (linksRest (now (marks .entry)) (now (links .entry)) (now (owners .entry)) (now (flags .entry)) from offset (min end portSlots - from))))
         × (linkPort 0 r < portSlots) ⌝ }
 {
@@ -255,7 +256,7 @@ fn next_link<'a>(
     let mut port = from;
     let mut first = offset;
     while port < stop {
-        let found = port_link_from(marks, links, owners, flags, filter, port as u32, first);
+        let found = port_link_from(marks, links, owners, flags, only, port as u32, first);
         match found {
             LinkFound::Link(_) => {
                 return found;
@@ -275,26 +276,26 @@ pub(crate) fn next_beyond<'a>(
     links: &'a [u32; PORT_SLOTS],
     owners: &'a [u32; PORT_SLOTS],
     flags: &'a [bool; NODE_SLOTS],
-    filter: LinkFilter,
+    only: LinkFilter,
     from: usize,
     end: usize,
     held: u32,
     offset: u16,
 ) -> LinkFound
-    ensures { λ r. ⌜ (r ≡ firstFound (those (λ w. passesIn (now (owners .entry)) (now (flags .entry)) filter (w .to .port .0))
+    ensures { λ r. ⌜ (r ≡ firstFound (filter (λ w. passesIn (now (owners .entry)) (now (flags .entry)) only (w .to .port .0))
         (beyondIn (now (marks .entry)) (now (links .entry)) (now (owners .entry)) (now (flags .entry)) from end held offset)))
         × (linkPort 0 r < portSlots) ⌝ }
 {
     let place = wide(held);
     if place <= from {
-        return next_link(marks, links, owners, flags, filter, from, 0, end);
+        return next_link(marks, links, owners, flags, only, from, 0, end);
     }
     next_link(
         marks,
         links,
         owners,
         flags,
-        filter,
+        only,
         place - 1,
         wide16(offset) + 1,
         end,

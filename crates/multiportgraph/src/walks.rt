@@ -8,25 +8,25 @@ use crate::iter::Ports;
 use crate::iter::PortsStep;
 use crate::lookups::BlockFound;
 use crate::marks::flagged;
-use crate::marks::wide;
 use crate::multiportgraph::MultiPortGraph;
 use crate::reads::seen_in;
 use portgraph::index::NODE_SLOTS;
 use portgraph::index::NodeIndex;
 use portgraph::index::PORT_SLOTS;
 use portgraph::index::PortIndex;
-use portgraph::iter::larger;
 use portgraph::iter::ports_from;
 use portgraph::iter::ports_to;
 use portgraph::node_entry::NodeSlot;
+use portgraph::numbers::larger;
+use portgraph::numbers::wide;
 ghost use mathlib.Core.Path.{_≡_};
 ghost use Prim.Native.Nat.{_≤_};
 ghost use Rattle.portgraph.specs.Limits.{portSlots};
 ghost use Rattle.multiportgraph.specs.Walks.{nodeHeld, stepNodes, stepNodesBack, stepAllPorts, stepAllPortsBack, stepNodePorts};
 ghost use Rattle.multiportgraph.specs.WalkNumbers.{nodesValues, portsValues, nodePortsValues};
 ghost use Rattle.multiportgraph.specs.Inner.{MultiWf};
-ghost use Rattle.multiportgraph.specs.ScanLaws.{endBefore};
 ghost use Rattle.multiportgraph.specs.WalkScans.{heldIn, blockSlot, portsIn, firstOr, lastOr};
+ghost use Rattle.multiportgraph.specs.Scans.{endBefore};
 
 // Whether the port that a cursor holds is still there.
 pub(crate) fn held_seen<'a>(

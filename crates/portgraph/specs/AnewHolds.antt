@@ -1,7 +1,7 @@
 -- A node gets other counts in a new block: the tables then stand for the model in which it has moved there.
 -- Ports that stay go over, incoming ones first; then no slot of the old block has a link, and the old block becomes free.
 use mathlib.Core.Path.{_≡_, refl, sym, _∙_, ap, subst}
-use mathlib.Core.Bool.{Bool, true, false}
+use mathlib.Core.Bool.{Bool, true, false, cond}
 use mathlib.Core.List.{List, [], _∷_}
 use mathlib.Core.Logic.{inr}
 use Prim.Native.Nat.{ℕ, _+_, _-_, _≤_, _<_}
@@ -10,10 +10,10 @@ use lib.Dec.{eqb, ltb}
 use lib.ListN.{length, length-set}
 use borrow.Author.Tests.{ltb-true, ltb-false, eqb-true, eqb-false}
 use Rattle.portgraph.specs.Limits.{portSlots, nodePorts}
-use Rattle.portgraph.specs.Entries.{pick}
+use Rattle.portgraph.specs.Lists.{Member}
 use Rattle.portgraph.specs.Tables.{at, headAt, putHead, fillRange, ownBlock, cutRange, cutCount, transfer, chainBlock}
 use Rattle.portgraph.specs.TableLaws.{length-fillRange, length-ownBlock, length-cutRange, length-chainBlock, at-fill-in, at-fill-outside, at-block-in, at-chain-first, at-chain-other}
-use Rattle.portgraph.specs.Model.{Model, Place, Far, Slots, live, held, idle, In, Valid, Within, Good, Holds, Chain, countOf, slotOf, ownerOfWho}
+use Rattle.portgraph.specs.Model.{Model, Far, Slots, live, held, idle, Valid, Within, Good, Holds, Chain, countOf, slotOf, ownerOfWho, InnerPlace}
 use Rattle.portgraph.specs.Meaning.{upd, sameSide, dropJoin, beyond, newCount, metaOf, rest, growth, nextBlock, giveBlock, handOver, moveModel}
 use Rattle.portgraph.specs.Joins.{upd-elim, upd-same}
 use Rattle.portgraph.specs.Calls.{headAfter}
@@ -30,7 +30,7 @@ use Rattle.portgraph.specs.declared.direction.Direction.the-variants.{In
 use Rattle.portgraph.specs.declared.node_entry.NodeMeta.{NodeMeta}
 use Rattle.portgraph.specs.declared.portgraph.PortGraph.{PortGraph}
 
-rest-in : (l : List ℕ) (b : ℕ) → In b (rest l) → In b l
+rest-in : (l : List ℕ) (b : ℕ) → Member b (rest l) → Member b l
 rest-in [] b h = h
 rest-in (c ∷ l) b h = inr h
 
@@ -45,10 +45,10 @@ module _ {g : PortGraph} {M : Model} (good : Good M) (holds : Holds g M) (n : �
   abbrev node′ : ℕ → Slots
   node′ = upd (M .node) n (live moved)
 
-  abbrev left : Place → Far
+  abbrev left : InnerPlace → Far
   left = dropJoin (beyond n incoming outgoing) (M .join)
 
-  abbrev Staying : Place → Type 0
+  abbrev Staying : InnerPlace → Type 0
   Staying = Stays (M .node) node′
 
   good′ : Good (moveModel M n m incoming outgoing size)
@@ -73,11 +73,11 @@ module _ {g : PortGraph} {M : Model} (good : Good M) (holds : Holds g M) (n : �
       held-not-idle (good′ .heldBy n moved s there w)
       (handed-inside (handOver (M .who) first size (held n)) (firstSlot m) (m .capacity) (idle (firstSlot m) (m .capacity)) s o)
 
-  staying : (y : Place) → Staying y → Stay n m moved y (slotOf (M .node) y) (slotOf node′ y)
+  staying : (y : InnerPlace) → Staying y → Stay n m moved y (slotOf (M .node) y) (slotOf node′ y)
   staying = stay (M .node) n m moved here
 
   -- no port was in the new block
-  was-outside : (y : Place) → Valid (M .node) y → Within first size (slotOf (M .node) y) → ⊥
+  was-outside : (y : InnerPlace) → Valid (M .node) y → Within first size (slotOf (M .node) y) → ⊥
   was-outside y v w = go (eqb (y .node) n) refl
     where
       by-side : Sided m y (slotOf (M .node) y) → ⊥
@@ -92,7 +92,7 @@ module _ {g : PortGraph} {M : Model} (good : Good M) (holds : Holds g M) (n : �
           o (place-in-block good′ n moved y there (other-valid (M .node) n (live moved) y o v) (omega arith, omega arith))
 
   -- no port is in the old block
-  now-outside : (x : Place) → Valid node′ x → Within (firstSlot m) (m .capacity) (slotOf node′ x) → ⊥
+  now-outside : (x : InnerPlace) → Valid node′ x → Within (firstSlot m) (m .capacity) (slotOf node′ x) → ⊥
   now-outside x v w = go (eqb (x .node) n) refl
     where
       by-side : Sided moved x (slotOf node′ x) → ⊥
@@ -118,25 +118,25 @@ module _ {g : PortGraph} {M : Model} (good : Good M) (holds : Holds g M) (n : �
   over = transfer halfway (firstSlot m + m .incoming) (first + incoming) (keptOut m outgoing)
 
   -- the slots when the incoming ports have gone over, and the outgoing ones have not
-  abbrev mid : Place → ℕ
-  mid y = pick (sameSide (y .side) Incoming) (slotOf node′ y) (slotOf (M .node) y)
+  abbrev mid : InnerPlace → ℕ
+  mid y = cond (sameSide (y .side) Incoming) (slotOf node′ y) (slotOf (M .node) y)
 
-  mid-in : (y : Place) → y .side ≡ Incoming → mid y ≡ slotOf node′ y
+  mid-in : (y : InnerPlace) → y .side ≡ Incoming → mid y ≡ slotOf node′ y
   mid-in y q = go (y .side) q
     where
-      go : (d : Direction) → d ≡ Incoming → pick (sameSide d Incoming) (slotOf node′ y) (slotOf (M .node) y) ≡ slotOf node′ y
+      go : (d : Direction) → d ≡ Incoming → cond (sameSide d Incoming) (slotOf node′ y) (slotOf (M .node) y) ≡ slotOf node′ y
       go d e = rw e
 
-  mid-out : (y : Place) → y .side ≡ Outgoing → mid y ≡ slotOf (M .node) y
+  mid-out : (y : InnerPlace) → y .side ≡ Outgoing → mid y ≡ slotOf (M .node) y
   mid-out y q = go (y .side) q
     where
-      go : (d : Direction) → d ≡ Outgoing → pick (sameSide d Incoming) (slotOf node′ y) (slotOf (M .node) y) ≡ slotOf (M .node) y
+      go : (d : Direction) → d ≡ Outgoing → cond (sameSide d Incoming) (slotOf node′ y) (slotOf (M .node) y) ≡ slotOf (M .node) y
       go d e = rw e
 
-  mid-other : (y : Place) → slotOf node′ y ≡ slotOf (M .node) y → mid y ≡ slotOf (M .node) y
+  mid-other : (y : InnerPlace) → slotOf node′ y ≡ slotOf (M .node) y → mid y ≡ slotOf (M .node) y
   mid-other y e = go (sameSide (y .side) Incoming)
     where
-      go : (b : Bool) → pick b (slotOf node′ y) (slotOf (M .node) y) ≡ slotOf (M .node) y
+      go : (b : Bool) → cond b (slotOf node′ y) (slotOf (M .node) y) ≡ slotOf (M .node) y
       go true = e
       go false = refl
 
@@ -152,9 +152,9 @@ module _ {g : PortGraph} {M : Model} (good : Good M) (holds : Holds g M) (n : �
       (record { there = λ i l. (rw here (omega arith), rw there (omega arith)); numbered = λ i l. rw here (omega arith) })
       (omega arith)
       (λ y v a b. was-outside y (v .0) (omega arith, omega arith))
-      (record { those = λ i l. rw there (omega arith); others = λ y v none. same y none (staying y v) })
+      (record { placed = λ i l. rw there (omega arith); others = λ y v none. same y none (staying y v) })
     where
-      same : (y : Place) → NoneOf (sidePlace n Incoming 0) (keptIn m incoming) y → Stay n m moved y (slotOf (M .node) y) (slotOf node′ y) → mid y ≡ slotOf (M .node) y
+      same : (y : InnerPlace) → NoneOf (sidePlace n Incoming 0) (keptIn m incoming) y → Stay n m moved y (slotOf (M .node) y) (slotOf node′ y) → mid y ≡ slotOf (M .node) y
       same y none (elsewhere o e) = mid-other y e
       same y none (coming e q h h′ k k′) = absurd (not-of-side n Incoming 0 (keptIn m incoming) y none e q (omega arith) (omega arith))
       same y none (going e q h h′ k k′) = mid-out y q
@@ -166,14 +166,14 @@ module _ {g : PortGraph} {M : Model} (good : Good M) (holds : Holds g M) (n : �
       (record { there = λ i l. (rw here (omega arith), rw there (omega arith)); numbered = λ i l. rw here (omega arith) })
       (omega arith)
       (λ y v a b. clear y v (staying y v) a b)
-      (record { those = λ i l. rw there (omega arith); others = λ y v none. same y none (staying y v) })
+      (record { placed = λ i l. rw there (omega arith); others = λ y v none. same y none (staying y v) })
     where
-      clear : (y : Place) → Staying y → Stay n m moved y (slotOf (M .node) y) (slotOf node′ y) → first + incoming ≤ mid y → mid y < first + incoming + keptOut m outgoing → ⊥
+      clear : (y : InnerPlace) → Staying y → Stay n m moved y (slotOf (M .node) y) (slotOf node′ y) → first + incoming ≤ mid y → mid y < first + incoming + keptOut m outgoing → ⊥
       clear y v (elsewhere o e) a b = let k = mid-other y e in was-outside y (v .0) (omega arith, omega arith)
       clear y v (coming e q h h′ k k′) a b = let f = mid-in y q in omega arith
       clear y v (going e q h h′ k k′) a b = let f = mid-out y q in was-outside y (v .0) (omega arith, omega arith)
 
-      same : (y : Place) → NoneOf (sidePlace n Outgoing 0) (keptOut m outgoing) y → Stay n m moved y (slotOf (M .node) y) (slotOf node′ y) → slotOf node′ y ≡ mid y
+      same : (y : InnerPlace) → NoneOf (sidePlace n Outgoing 0) (keptOut m outgoing) y → Stay n m moved y (slotOf (M .node) y) (slotOf node′ y) → slotOf node′ y ≡ mid y
       same y none (elsewhere o e) = e ∙ sym (mid-other y e)
       same y none (coming e q h h′ k k′) = sym (mid-in y q)
       same y none (going e q h h′ k k′) = absurd (not-of-side n Outgoing 0 (keptOut m outgoing) y none e q (omega arith) (omega arith))
@@ -209,7 +209,7 @@ module _ {g : PortGraph} {M : Model} (good : Good M) (holds : Holds g M) (n : �
       ∙ at-fill-in (dropLinks (g .«port_link») m incoming outgoing) first size s 0 (drops good holds n m here incoming outgoing .rep .long) new-ends low high)
 
   -- a dropped port's slot holds no link
-  dropped-empty : (x : Place) → Valid (M .node) x → x .node ≡ n → beyond n incoming outgoing x ≡ true → (Valid node′ x → ⊥) → at over (slotOf (M .node) x) ≡ 0
+  dropped-empty : (x : InnerPlace) → Valid (M .node) x → x .node ≡ n → beyond n incoming outgoing x ≡ true → (Valid node′ x → ⊥) → at over (slotOf (M .node) x) ≡ 0
   dropped-empty x v e b out =
       carried (slotOf (M .node) x) (λ y w q. out (subst (Valid node′) (slots-apart good y x (w .0) v q) (w .1))) (was-outside x v)
       ∙ dropped-holds-none (beyond n incoming outgoing) (M .join) (drops good holds n m here incoming outgoing .rep) x v b
@@ -270,7 +270,7 @@ module _ {g : PortGraph} {M : Model} (good : Good M) (holds : Holds g M) (n : �
 
   -- The old block becomes free.
 
-  nothing-cut : (cutRange over (firstSlot m) (m .capacity) ≡ over) × (cutCount over (firstSlot m) (m .capacity) ≡ 0)
+  pub nothing-cut : (cutRange over (firstSlot m) (m .capacity) ≡ over) × (cutCount over (firstSlot m) (m .capacity) ≡ 0)
   nothing-cut = cut-range-none (m .capacity) over (firstSlot m) old-empty
 
   abbrev heads : List ℕ
@@ -309,13 +309,13 @@ module _ {g : PortGraph} {M : Model} (good : Good M) (holds : Holds g M) (n : �
   abbrev blocks : ℕ → List ℕ
   blocks = upd (M .freeBlocks) size (rest (M .freeBlocks size))
 
-  was-free : (k b : ℕ) → In b (blocks k) → In b (M .freeBlocks k)
+  was-free : (k b : ℕ) → Member b (blocks k) → Member b (M .freeBlocks k)
   was-free k b =
-      upd-elim (λ l. In b l → In b (M .freeBlocks k)) (M .freeBlocks) size (rest (M .freeBlocks size)) k
-      (λ e i. subst (λ (j : ℕ). In b (M .freeBlocks j)) (sym e) (rest-in (M .freeBlocks size) b i)) (λ o i. i)
+      upd-elim (λ l. Member b l → Member b (M .freeBlocks k)) (M .freeBlocks) size (rest (M .freeBlocks size)) k
+      (λ e i. subst (λ (j : ℕ). Member b (M .freeBlocks j)) (sym e) (rest-in (M .freeBlocks size) b i)) (λ o i. i)
 
-  still-free : (k b : ℕ) → In b (blocks k) → In b (giveBlock blocks (firstSlot m) (m .capacity) k)
-  still-free k b i = give-elim (In b) blocks (firstSlot m) (m .capacity) k (λ z e. inr (subst (λ (j : ℕ). In b (blocks j)) e i)) i
+  still-free : (k b : ℕ) → Member b (blocks k) → Member b (giveBlock blocks (firstSlot m) (m .capacity) k)
+  still-free k b i = give-elim (Member b) blocks (firstSlot m) (m .capacity) k (λ z e. inr (subst (λ (j : ℕ). Member b (blocks j)) e i)) i
 
   chain-over : (k : ℕ) → Chain over (headAt heads k) (blocks k)
   chain-over =

@@ -1,7 +1,7 @@
 -- Blocks of port slots, tables against model: which block is taken next, the lists of free blocks where one is taken or given back,
 -- the owners and places of the other nodes, and the cut of all links of a node's block.
 use mathlib.Core.Path.{_≡_, refl, sym, _∙_, ap, subst}
-use mathlib.Core.Bool.{Bool, true, false}
+use mathlib.Core.Bool.{Bool, true, false, cond}
 use mathlib.Core.List.{List, [], _∷_}
 use mathlib.Core.Logic.{inl}
 use Prim.Native.Nat.{ℕ, suc, _+_, _-_, _≤_, _<_}
@@ -10,14 +10,14 @@ use lib.Dec.{eqb, leb, ltb, eqb·suc-zero}
 use lib.ListN.{length}
 use borrow.Author.Tests.{eqb-true, eqb-false, eq-eqb, ne-eqb, ltb-true, ltb-false, le-leb}
 use Rattle.portgraph.specs.Limits.{nodeSlots, portSlots, nodePorts, freeLists}
-use Rattle.portgraph.specs.Entries.{pick}
+use Rattle.portgraph.specs.Lists.{Member}
 use Rattle.portgraph.specs.Tables.{at, headAt, putHead, ownBlock, cutRange, cutCount}
 use Rattle.portgraph.specs.TableSteps.{put-head-nothing}
 use Rattle.portgraph.specs.TableLaws.{at-block-before, at-block-after}
-use Rattle.portgraph.specs.Model.{Model, Place, Slots, live, Who, held, idle, unused, In, Valid, Within, Good, Holds, Chain, total, countOf, firstOf, sideStart, slotOf, numberOfFirst, ownerOfWho}
+use Rattle.portgraph.specs.Model.{Model, Slots, live, Who, held, idle, unused, Valid, Within, Good, Holds, Chain, total, countOf, firstOf, sideStart, slotOf, numberOfFirst, ownerOfWho, InnerPlace}
 use Rattle.portgraph.specs.Meaning.{upd, dropJoin, atNode, firstOr, rest, growth, nextBlock, giveBlock}
 use Rattle.portgraph.specs.Joins.{upd-elim, upd-same, upd-other}
-use Rattle.portgraph.specs.Calls.{findBlock, restOf, grown}
+use Rattle.portgraph.specs.Calls.{findBlock, restOf, grown, findBlockUnder}
 use Rattle.portgraph.specs.Sums.{total-one}
 use Rattle.portgraph.specs.Chains.{chain-frame, chain-push, headAt-putHead-same, headAt-putHead-other}
 use Rattle.portgraph.specs.LinkLaws.{Rep, Cleared, cut-range-at, cut-range-none, cut-range-parts, blockPlace, block-run, not-of-block}
@@ -48,8 +48,8 @@ grown-by h len size (b ∷ l) e = rw (e, eqb·suc-zero b) (omega arith)
 
 -- the block of this size freed last, else the end; refused exactly where the tables would grow past their limit
 pub block-found : {g : PortGraph} {M : Model} → Good M → Holds g M → (size : ℕ)
-    → findBlock (g .«port_free») (g .«port_len») size ≡ pick (leb (M .portLen + growth size (M .freeBlocks size)) portSlots) (At (nextBlock M size)) NoRoom
-unfolding findBlock
+    → findBlock (g .«port_free») (g .«port_len») size ≡ cond (leb (M .portLen + growth size (M .freeBlocks size)) portSlots) (At (nextBlock M size)) NoRoom
+unfolding findBlockUnder
 block-found {g} {M} good h size = rw (h .portLen) (go (eqb size 0) refl (M .freeBlocks size) (h .blockChain size))
   where
     fits : size ≡ 0 → (l : List ℕ) → M .portLen + growth size l ≤ portSlots
@@ -57,10 +57,10 @@ block-found {g} {M} good h size = rw (h .portLen) (go (eqb size 0) refl (M .free
     fits e (b ∷ l) = let f : M .portLen ≤ portSlots = good .portsFit in omega arith
 
     go : (z : Bool) → eqb size 0 ≡ z → (l : List ℕ) → Chain (g .«port_link») (headAt (g .«port_free») size) l
-        → pick z (At 0)
-        (pick (eqb (headAt (g .«port_free») size) 0) (pick (leb (M .portLen + size) portSlots) (At (M .portLen)) NoRoom)
+        → cond z (At 0)
+        (cond (eqb (headAt (g .«port_free») size) 0) (cond (leb (M .portLen + size) portSlots) (At (M .portLen)) NoRoom)
         (At (headAt (g .«port_free») size - 1)))
-        ≡ pick (leb (M .portLen + growth size l) portSlots) (At (pick z 0 (firstOr (M .portLen) l))) NoRoom
+        ≡ cond (leb (M .portLen + growth size l) portSlots) (At (cond z 0 (firstOr (M .portLen) l))) NoRoom
     go true e l c = rw (le-leb (M .portLen + growth size l) portSlots (fits (eqb-true size 0 e) l))
     go false e [] c = rw c
     go false e (b ∷ l) c =
@@ -77,7 +77,7 @@ headRest t heads size = restOf (headAt heads size) (at t (headAt heads size - 1)
 module _ (t u heads : List ℕ) (blocks : ℕ → List ℕ) (size : ℕ) (long : length heads ≡ freeLists) (small : size ≤ nodePorts)
     (chains : (k : ℕ) → Chain t (headAt heads k) (blocks k)) where
   -- the first block of a size is taken
-  pub taken-chains : ((b : ℕ) → In b (blocks 0) → ⊥) → ((k b : ℕ) → In b (upd blocks size (rest (blocks size)) k) → at t b ≡ at u b) → (k : ℕ)
+  pub taken-chains : ((b : ℕ) → Member b (blocks 0) → ⊥) → ((k b : ℕ) → Member b (upd blocks size (rest (blocks size)) k) → at t b ≡ at u b) → (k : ℕ)
       → Chain u (headAt (putHead heads size (headRest t heads size)) k) (upd blocks size (rest (blocks size)) k)
   taken-chains none same k =
       chain-frame t u (headAt (putHead heads size (headRest t heads size)) k) (upd blocks size (rest (blocks size)) k) (same k)
@@ -87,7 +87,7 @@ module _ (t u heads : List ℕ) (blocks : ℕ → List ℕ) (size : ℕ) (long :
     where
       empty : size ≡ 0 → (l : List ℕ) → blocks size ≡ l → Chain t (headAt heads size) l → Chain t (headAt heads size) (rest l)
       empty z [] e c = c
-      empty z (b ∷ l) e c = absurd (none b (subst (In b) (sym e ∙ ap blocks z) (inl refl)))
+      empty z (b ∷ l) e c = absurd (none b (subst (Member b) (sym e ∙ ap blocks z) (inl refl)))
 
       go : (z : Bool) → eqb size 0 ≡ z → Chain t (headAt (putHead heads size (headRest t heads size)) size) (rest (blocks size))
       go true e =
@@ -98,11 +98,11 @@ module _ (t u heads : List ℕ) (blocks : ℕ → List ℕ) (size : ℕ) (long :
           rw (headAt-putHead-same heads size (headRest t heads size) long (omega arith) small) (chain-rest t (headAt heads size) (blocks size) (chains size))
 
   -- a block is given back: its first slot holds what was first before
-  pub given-chains : (first : ℕ) → (0 < size → at u first ≡ headAt heads size) → ((k b : ℕ) → In b (blocks k) → at t b ≡ at u b) → (k : ℕ)
+  pub given-chains : (first : ℕ) → (0 < size → at u first ≡ headAt heads size) → ((k b : ℕ) → Member b (blocks k) → at t b ≡ at u b) → (k : ℕ)
       → Chain u (headAt (putHead heads size (first + 1)) k) (giveBlock blocks first size k)
   given-chains first holds same k = go (eqb size 0) refl
     where
-      go : (z : Bool) → eqb size 0 ≡ z → Chain u (headAt (putHead heads size (first + 1)) k) (pick z blocks (upd blocks size (first ∷ blocks size)) k)
+      go : (z : Bool) → eqb size 0 ≡ z → Chain u (headAt (putHead heads size (first + 1)) k) (cond z blocks (upd blocks size (first ∷ blocks size)) k)
       go true e =
           let z : size ≡ 0 = eqb-true size 0 e in
           rw (← put-head-nothing heads size (first + 1) (omega arith)) (chain-frame t u (headAt heads k) (blocks k) (same k) (chains k))
@@ -127,13 +127,13 @@ at-block-outside t n m s fits away = go (ltb s (m .«first_port» .0)) refl (ltb
 
 -- One node slot changes.
 module _ (node : ℕ → Slots) (n : ℕ) (v : Slots) where
-  pub slot-of-other : (x : Place) → (x .node ≡ n → ⊥) → slotOf (upd node n v) x ≡ slotOf node x
+  pub slot-of-other : (x : InnerPlace) → (x .node ≡ n → ⊥) → slotOf (upd node n v) x ≡ slotOf node x
   slot-of-other x other = ap (λ (s : Slots). firstOf s + (sideStart s (x .side) + x .pos)) (upd-other node n v (x .node) other)
 
-  pub valid-other : (x : Place) → (x .node ≡ n → ⊥) → Valid (upd node n v) x → Valid node x
+  pub valid-other : (x : InnerPlace) → (x .node ≡ n → ⊥) → Valid (upd node n v) x → Valid node x
   valid-other x other = subst (λ (s : Slots). x .pos < countOf s (x .side)) (upd-other node n v (x .node) other)
 
-  pub other-valid : (x : Place) → (x .node ≡ n → ⊥) → Valid node x → Valid (upd node n v) x
+  pub other-valid : (x : InnerPlace) → (x .node ≡ n → ⊥) → Valid node x → Valid (upd node n v) x
   other-valid x other = subst (λ (s : Slots). x .pos < countOf s (x .side)) (sym (upd-other node n v (x .node) other))
 
   -- slots that others hold keep their owner
@@ -151,7 +151,7 @@ module _ (node : ℕ → Slots) (n : ℕ) (v : Slots) where
       ∙ ap (λ (c : ℕ). total nodeSlots (λ i. count (node i)) + c) (ap count (upd-same node n v))
 
 -- in a node's block there are places of that node only
-pub place-in-block : {M : Model} → Good M → (n : ℕ) (m : NodeMeta) (y : Place) → M .node n ≡ live m → Valid (M .node) y
+pub place-in-block : {M : Model} → Good M → (n : ℕ) (m : NodeMeta) (y : InnerPlace) → M .node n ≡ live m → Valid (M .node) y
     → Within (m .«first_port» .0) (m .capacity) (slotOf (M .node) y) → y .node ≡ n
 place-in-block {M} good n m y e v w =
     let r = slot-in-block good y v in
@@ -171,7 +171,7 @@ module _ {g : PortGraph} {M : Model} (good : Good M) (h : Holds g M) (n : ℕ) (
       (λ i l. here i (ltb i (m .incoming)))
       (λ y w j none. ne-eqb (y .node) n (not-of-block (M .node) n m e y (good .joinValid y w j) none))
     where
-      here : (i : ℕ) (b : Bool) → atNode n (pick b (record { node = n; side = Incoming; pos = i }) (record { node = n; side = Outgoing; pos = i - m .incoming })) ≡ true
+      here : (i : ℕ) (b : Bool) → atNode n (cond b (record { node = n; side = Incoming; pos = i }) (record { node = n; side = Outgoing; pos = i - m .incoming })) ≡ true
       here i true = eq-eqb n n refl
       here i false = eq-eqb n n refl
 

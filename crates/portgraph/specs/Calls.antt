@@ -1,11 +1,11 @@
 -- Adding and removing nodes, linking and unlinking ports: answer and graph of each call, and each answer's number and values in 01.
-use mathlib.Core.Bool.{Bool, true, false}
+use mathlib.Core.Bool.{Bool, true, false, cond}
 use mathlib.Core.List.{List, [], _∷_}
 use Prim.Native.Nat.{ℕ, _+_, _-_}
 use lib.Dec.{eqb, leb, ltb}
 use lib.ListN.{getD, set, replicate}
-use Rattle.portgraph.specs.Limits.{nodeSlots, portSlots, nodePorts, freeLists}
-use Rattle.portgraph.specs.Entries.{pick, freshSlot, freeSlotOf, nodeSlotOf, nextOf, setPrev, sideNumber}
+use Rattle.portgraph.specs.Limits.{nodeSlots, portSlots, nodePorts, freeLists, Limits, present}
+use Rattle.portgraph.specs.Entries.{freshSlot, freeSlotOf, nodeSlotOf, nextOf, setPrev, sideNumber}
 use Rattle.portgraph.specs.Tables.{at, fillRange, headAt, putHead, ownBlock, linkBoth, cut, cutRange, cutCount, linkCount, chainBlock}
 use Rattle.portgraph.specs.Lookups.{entryAt, portAt, portLink, node#, port#}
 use Rattle.portgraph.specs.Meaning.{metaOf, sameSide}
@@ -50,26 +50,32 @@ newGraph =
 -- Taking slots.
 
 -- the node slot that is taken next: the one freed last, else the next at the end
-unfoldable pub findSlot : ℕ → ℕ → Found
-findSlot free len = pick (eqb free 0) (pick (ltb len nodeSlots) (At len) NoRoom) (At (free - 1))
+unfoldable pub findSlotUnder : Limits → ℕ → ℕ → Found
+findSlotUnder L free len = cond (eqb free 0) (cond (ltb len (L .nodes)) (At len) NoRoom) (At (free - 1))
+
+abbrev pub findSlot : ℕ → ℕ → Found
+findSlot = findSlotUnder present
 
 -- the block that is taken next: the one of exactly this size freed last, else the end; a size of 0 takes none
-unfoldable pub findBlock : List ℕ → ℕ → ℕ → Found
-findBlock heads len size =
-    pick (eqb size 0) (At 0)
-    (pick (eqb (headAt heads size) 0) (pick (leb (len + size) portSlots) (At len) NoRoom) (At (headAt heads size - 1)))
+unfoldable pub findBlockUnder : Limits → List ℕ → ℕ → ℕ → Found
+findBlockUnder L heads len size =
+    cond (eqb size 0) (At 0)
+    (cond (eqb (headAt heads size) 0) (cond (leb (len + size) (L .ports)) (At len) NoRoom) (At (headAt heads size - 1)))
+
+abbrev pub findBlock : List ℕ → ℕ → ℕ → Found
+findBlock = findBlockUnder present
 
 -- the first of a list of free ones after its first is taken, which names the next; an empty list stays empty
 unfoldable pub restOf : ℕ → ℕ → ℕ
-restOf head next = pick (eqb head 0) 0 next
+restOf head next = cond (eqb head 0) 0 next
 
 -- a table's used length, where something of this size is taken: from the list, else at the end
 unfoldable pub grown : ℕ → ℕ → ℕ → ℕ
-grown head len size = pick (eqb head 0) (len + size) len
+grown head len size = cond (eqb head 0) (len + size) len
 
 -- the slot of a free entry that is given one higher than its number, or another slot where there is none
 unfoldable pub slotAfter : ℕ → ℕ → ℕ
-slotAfter code other = pick (eqb code 0) other (pick (leb code nodeSlots) (code - 1) other)
+slotAfter code other = cond (eqb code 0) other (cond (leb code nodeSlots) (code - 1) other)
 
 -- Adding a node.
 
@@ -107,11 +113,14 @@ addFound g incoming outgoing (At n) (At first) =
     record { graph = placeNode g n first incoming outgoing; answer = added.Added (node# n) (port# first) }
 
 -- refused with too many ports, else for lack of space, else done
-unfoldable pub addNode : PortGraph → ℕ → ℕ → NodeAdded
-addNode g incoming outgoing =
-    pick (leb (incoming + outgoing) nodePorts)
-    (addFound g incoming outgoing (findSlot (g .«node_free») (g .«node_len»)) (findBlock (g .«port_free») (g .«port_len») (incoming + outgoing)))
+unfoldable pub addNodeUnder : Limits → PortGraph → ℕ → ℕ → NodeAdded
+addNodeUnder L g incoming outgoing =
+    cond (leb (incoming + outgoing) nodePorts)
+    (addFound g incoming outgoing (findSlotUnder L (g .«node_free») (g .«node_len»)) (findBlockUnder L (g .«port_free») (g .«port_len») (incoming + outgoing)))
     (addRefused g added.TooManyPorts)
+
+abbrev pub addNode : PortGraph → ℕ → ℕ → NodeAdded
+addNode = addNodeUnder present
 
 abbrev pub addNumbers : AddAnswer → List ℕ
 addNumbers (added.Added n p) = 0 ∷ n .0 ∷ p .0 ∷ []
@@ -172,8 +181,8 @@ linkRefused g a = record { graph = g; answer = a }
 -- both ports are live and on opposite sides: each must be free
 abbrev pub linkFree : PortGraph → ℕ → ℕ → PortsLinked
 linkFree g a b =
-    pick (eqb (at (g .«port_link») a) 0)
-    (pick (eqb (at (g .«port_link») b) 0)
+    cond (eqb (at (g .«port_link») a) 0)
+    (cond (eqb (at (g .«port_link») b) 0)
     (record {
       graph = withLinks g (linkBoth (g .«port_link») a b) (g .«link_count» + 1);
       answer = linked.Linked (port# a) (port# b);
@@ -183,7 +192,7 @@ linkFree g a b =
 
 abbrev pub linkSides : PortGraph → ℕ → ℕ → Direction → Direction → PortsLinked
 linkSides g a b d e =
-    pick (sameSide d e) (linkRefused g (linked.IncompatibleDirections (port# a) (port# b) d)) (linkFree g a b)
+    cond (sameSide d e) (linkRefused g (linked.IncompatibleDirections (port# a) (port# b) d)) (linkFree g a b)
 
 abbrev pub linkEntries : PortGraph → ℕ → ℕ → PortEntry → PortEntry → PortsLinked
 linkEntries g a b port-variants.Free second = linkRefused g (linked.UnknownPort (port# a))

@@ -1,7 +1,7 @@
 -- A node gets other counts, in its block or in another one: what both have in common.
 -- The links of dropped ports are cut; a place that stays is told by its old and its new slot; node table and counts follow the model.
 use mathlib.Core.Path.{_≡_, refl, sym, _∙_, ap, subst, fun-ext}
-use mathlib.Core.Bool.{Bool, true, false}
+use mathlib.Core.Bool.{Bool, true, false, cond}
 use mathlib.Core.List.{List}
 use mathlib.Core.Logic.{_⊎_, inl, inr}
 use Prim.Native.Nat.{ℕ, _+_, _-_, _≤_, _<_, min}
@@ -10,9 +10,9 @@ use lib.Dec.{eqb, leb, ltb}
 use lib.ListN.{set}
 use borrow.Author.Tests.{ltb-true, ltb-false, leb-true, leb-false, eqb-true, eqb-false, eq-eqb, le-leb}
 use Rattle.portgraph.specs.Limits.{nodeSlots}
-use Rattle.portgraph.specs.Entries.{pick, portsOn, nodeSlotOf}
+use Rattle.portgraph.specs.Entries.{portsOn, nodeSlotOf}
 use Rattle.portgraph.specs.Tables.{at, cutCount}
-use Rattle.portgraph.specs.Model.{Model, Place, Far, nowhere, to, Slots, live, Valid, Good, Holds, countOf, firstOf, sideStart, slotOf, slotsAt, NodeChain, isLive, portsOf, outPlace, total}
+use Rattle.portgraph.specs.Model.{Model, Far, nowhere, to, Slots, live, Valid, Good, Holds, countOf, firstOf, sideStart, slotOf, slotsAt, NodeChain, isLive, portsOf, outPlace, total, InnerPlace}
 use Rattle.portgraph.specs.Meaning.{upd, sameSide, dropJoin, beyond, newCount, metaOf}
 use Rattle.portgraph.specs.Joins.{drop-joined, drop-twice, zero-is-not-one, upd-same, upd-other}
 use Rattle.portgraph.specs.Resize.{firstSlot, keptIn, keptOut, dropIncoming, dropLinks, dropCount}
@@ -32,11 +32,11 @@ use Rattle.portgraph.specs.declared.portgraph.PortGraph.{PortGraph}
 -- Places of one node.
 
 -- a port of a node, by its side
-pub data Sided (m : NodeMeta) (y : Place) (s : ℕ) : Type 0 where
+pub data Sided (m : NodeMeta) (y : InnerPlace) (s : ℕ) : Type 0 where
   coming : y .side ≡ Incoming → y .pos < m .incoming → s ≡ firstSlot m + y .pos → Sided m y s
   going : y .side ≡ Outgoing → y .pos < m .outgoing → s ≡ firstSlot m + (m .incoming + y .pos) → Sided m y s
 
-pub sided : (node : ℕ → Slots) (n : ℕ) (m : NodeMeta) → node n ≡ live m → (y : Place) → y .node ≡ n → Valid node y → Sided m y (slotOf node y)
+pub sided : (node : ℕ → Slots) (n : ℕ) (m : NodeMeta) → node n ≡ live m → (y : InnerPlace) → y .node ≡ n → Valid node y → Sided m y (slotOf node y)
 sided node n m here y e v =
     go (y .side) refl (subst (λ (s : Slots). y .pos < countOf s (y .side)) is v)
     (ap (λ (s : Slots). firstOf s + (sideStart s (y .side) + y .pos)) is)
@@ -49,21 +49,21 @@ sided node n m here y e v =
     go Outgoing q h k = going q (rw q at h) (k ∙ rw q refl)
 
 -- a place that has a port under the old and the new counts: s is its old slot, s′ its new one
-pub data Stay (n : ℕ) (m l : NodeMeta) (y : Place) (s s′ : ℕ) : Type 0 where
+pub data Stay (n : ℕ) (m l : NodeMeta) (y : InnerPlace) (s s′ : ℕ) : Type 0 where
   elsewhere : (y .node ≡ n → ⊥) → s′ ≡ s → Stay n m l y s s′
   coming : y .node ≡ n → y .side ≡ Incoming → y .pos < m .incoming → y .pos < l .incoming
       → s ≡ firstSlot m + y .pos → s′ ≡ firstSlot l + y .pos → Stay n m l y s s′
   going : y .node ≡ n → y .side ≡ Outgoing → y .pos < m .outgoing → y .pos < l .outgoing
       → s ≡ firstSlot m + (m .incoming + y .pos) → s′ ≡ firstSlot l + (l .incoming + y .pos) → Stay n m l y s s′
 
-abbrev pub Stays : (ℕ → Slots) → (ℕ → Slots) → Place → Type 0
+abbrev pub Stays : (ℕ → Slots) → (ℕ → Slots) → InnerPlace → Type 0
 Stays node other y = Valid node y × Valid other y
 
 sides-differ : {d : Direction} → d ≡ Incoming → d ≡ Outgoing → ⊥
 sides-differ p q = zero-is-not-one (cc)
 
 module _ (node : ℕ → Slots) (n : ℕ) (m l : NodeMeta) (here : node n ≡ live m) where
-  pub stay : (y : Place) → Stays node (upd node n (live l)) y → Stay n m l y (slotOf node y) (slotOf (upd node n (live l)) y)
+  pub stay : (y : InnerPlace) → Stays node (upd node n (live l)) y → Stay n m l y (slotOf node y) (slotOf (upd node n (live l)) y)
   stay y v = go (eqb (y .node) n) refl
     where
       both : y .node ≡ n → Sided m y (slotOf node y) → Sided l y (slotOf (upd node n (live l)) y) → Stay n m l y (slotOf node y) (slotOf (upd node n (live l)) y)
@@ -82,7 +82,7 @@ module _ (node : ℕ → Slots) (n : ℕ) (m l : NodeMeta) (here : node n ≡ li
 
   -- where slots of new ports hold no link: a port of the new counts stays, or its slot holds none
   pub stays-or-new : (t : List ℕ) → ((p : ℕ) → m .incoming ≤ p → p < l .incoming → at t (firstSlot l + p) ≡ 0)
-      → ((p : ℕ) → m .outgoing ≤ p → p < l .outgoing → at t (firstSlot l + (l .incoming + p)) ≡ 0) → (x : Place) → Valid (upd node n (live l)) x
+      → ((p : ℕ) → m .outgoing ≤ p → p < l .outgoing → at t (firstSlot l + (l .incoming + p)) ≡ 0) → (x : InnerPlace) → Valid (upd node n (live l)) x
       → Stays node (upd node n (live l)) x ⊎ ((Stays node (upd node n (live l)) x → ⊥) × (at t (slotOf (upd node n (live l)) x) ≡ 0))
   stays-or-new t noIn noOut x v = go (ltb (x .pos) (countOf (node (x .node)) (x .side))) refl
     where
@@ -109,10 +109,10 @@ same-live p q = cc
 -- Dropped ports.
 
 -- the dropped places of the incoming side
-abbrev beyondIn : ℕ → ℕ → ℕ → Place → Bool
-beyondIn n incoming outgoing z = pick (sameSide (z .side) Incoming) (beyond n incoming outgoing z) false
+abbrev beyondIn : ℕ → ℕ → ℕ → InnerPlace → Bool
+beyondIn n incoming outgoing z = cond (sameSide (z .side) Incoming) (beyond n incoming outgoing z) false
 
-pub is-beyond : (n incoming outgoing : ℕ) (y : Place) → y .node ≡ n → newCount incoming outgoing (y .side) ≤ y .pos → beyond n incoming outgoing y ≡ true
+pub is-beyond : (n incoming outgoing : ℕ) (y : InnerPlace) → y .node ≡ n → newCount incoming outgoing (y .side) ≤ y .pos → beyond n incoming outgoing y ≡ true
 is-beyond n incoming outgoing y e h = rw (eq-eqb (y .node) n e) (le-leb (newCount incoming outgoing (y .side)) (y .pos) h)
 
 -- the links of dropped ports are cut: the table stands for the links that are left, and slots without a port keep their number
@@ -123,7 +123,7 @@ pub record Dropped (M : Model) (n : ℕ) (m : NodeMeta) (incoming outgoing : ℕ
 
 module _ {g : PortGraph} {M : Model} (good : Good M) (holds : Holds g M) (n : ℕ) (m : NodeMeta) (here : M .node n ≡ live m) (incoming outgoing : ℕ) where
   -- a dropped port of a side is one of the cut run
-  of-the-run : (d : Direction) (j : ℕ) (y : Place) → j ≡ min (portsOn m d) (newCount incoming outgoing d) → Valid (M .node) y → y .node ≡ n → y .side ≡ d
+  of-the-run : (d : Direction) (j : ℕ) (y : InnerPlace) → j ≡ min (portsOn m d) (newCount incoming outgoing d) → Valid (M .node) y → y .node ≡ n → y .side ≡ d
       → newCount incoming outgoing (y .side) ≤ y .pos → NoneOf (sidePlace n d j) (portsOn m d - j) y → ⊥
   of-the-run d j y k v e q h none =
       let a : y .pos < portsOn m (y .side) = subst (λ (s : Slots). y .pos < countOf s (y .side)) (ap (M .node) e ∙ here) v in
@@ -141,10 +141,10 @@ module _ {g : PortGraph} {M : Model} (good : Good M) (holds : Holds g M) (n : �
       (λ i l. is-beyond n incoming outgoing (sidePlace n Incoming (keptIn m incoming) i) refl (omega arith))
       out
     where
-      out : (y w : Place) → M .join y ≡ to w → NoneOf (sidePlace n Incoming (keptIn m incoming)) (m .incoming - keptIn m incoming) y → beyondIn n incoming outgoing y ≡ false
+      out : (y w : InnerPlace) → M .join y ≡ to w → NoneOf (sidePlace n Incoming (keptIn m incoming)) (m .incoming - keptIn m incoming) y → beyondIn n incoming outgoing y ≡ false
       out y w e none = go (y .side) (eqb (y .node) n) (leb (newCount incoming outgoing (y .side)) (y .pos)) refl refl refl
         where
-          go : (d : Direction) (a b : Bool) → y .side ≡ d → eqb (y .node) n ≡ a → leb (newCount incoming outgoing (y .side)) (y .pos) ≡ b → pick (sameSide d Incoming) (pick a b false) false ≡ false
+          go : (d : Direction) (a b : Bool) → y .side ≡ d → eqb (y .node) n ≡ a → leb (newCount incoming outgoing (y .side)) (y .pos) ≡ b → cond (sameSide d Incoming) (cond a b false) false ≡ false
           go Outgoing a b q p r = refl
           go Incoming false b q p r = refl
           go Incoming true false q p r = refl
@@ -163,13 +163,13 @@ module _ {g : PortGraph} {M : Model} (good : Good M) (holds : Holds g M) (n : �
       (λ i l. is-beyond n incoming outgoing (sidePlace n Outgoing (keptOut m outgoing) i) refl (omega arith))
       out
     where
-      out : (y w : Place) → dropJoin (beyondIn n incoming outgoing) (M .join) y ≡ to w → NoneOf (sidePlace n Outgoing (keptOut m outgoing)) (m .outgoing - keptOut m outgoing) y → beyond n incoming outgoing y ≡ false
+      out : (y w : InnerPlace) → dropJoin (beyondIn n incoming outgoing) (M .join) y ≡ to w → NoneOf (sidePlace n Outgoing (keptOut m outgoing)) (m .outgoing - keptOut m outgoing) y → beyond n incoming outgoing y ≡ false
       out y w e none = go (y .side) (eqb (y .node) n) (leb (newCount incoming outgoing (y .side)) (y .pos)) refl refl refl (d .1)
         where
           d : (M .join y ≡ to w) × (beyondIn n incoming outgoing y ≡ false) × (beyondIn n incoming outgoing w ≡ false)
           d = drop-joined (beyondIn n incoming outgoing) (M .join) y w e
 
-          go : (c : Direction) (a b : Bool) → y .side ≡ c → eqb (y .node) n ≡ a → leb (newCount incoming outgoing (y .side)) (y .pos) ≡ b → pick (sameSide c Incoming) (pick a b false) false ≡ false → pick a b false ≡ false
+          go : (c : Direction) (a b : Bool) → y .side ≡ c → eqb (y .node) n ≡ a → leb (newCount incoming outgoing (y .side)) (y .pos) ≡ b → cond (sameSide c Incoming) (cond a b false) false ≡ false → cond a b false ≡ false
           go Incoming a b q p r k = k
           go Outgoing false b q p r k = refl
           go Outgoing true false q p r k = refl
@@ -191,13 +191,13 @@ module _ {g : PortGraph} {M : Model} (good : Good M) (holds : Holds g M) (n : �
         count = omega arith;
       }
     where
-      same : (z : Place) → dropJoin (beyond n incoming outgoing) (dropJoin (beyondIn n incoming outgoing) (M .join)) z ≡ dropJoin (beyond n incoming outgoing) (M .join) z
+      same : (z : InnerPlace) → dropJoin (beyond n incoming outgoing) (dropJoin (beyondIn n incoming outgoing) (M .join)) z ≡ dropJoin (beyond n incoming outgoing) (M .join) z
       same = drop-twice (beyondIn n incoming outgoing) (beyond n incoming outgoing) (beyond n incoming outgoing) (M .join) either
         where
-          either : (z : Place) → beyond n incoming outgoing z ≡ pick (beyondIn n incoming outgoing z) true (beyond n incoming outgoing z)
+          either : (z : InnerPlace) → beyond n incoming outgoing z ≡ cond (beyondIn n incoming outgoing z) true (beyond n incoming outgoing z)
           either z = go (sameSide (z .side) Incoming) (beyond n incoming outgoing z)
             where
-              go : (a b : Bool) → b ≡ pick (pick a b false) true b
+              go : (a b : Bool) → b ≡ cond (cond a b false) true b
               go true true = refl
               go true false = refl
               go false b = refl
@@ -246,7 +246,7 @@ module _ {g : PortGraph} {M : Model} (good : Good M) (holds : Holds g M) (n : �
         let c : g .«link_count» ≡ allLinks (M .node) (M .join) = holds .linkCount in
         omega arith
       where
-        J : Place → Far
+        J : InnerPlace → Far
         J = dropJoin (beyond n incoming outgoing) (M .join)
 
         none : (i : ℕ) → min (countOf (M .node n) Outgoing) (countOf (upd (M .node) n (live fresh) n) Outgoing) ≤ i → dropJoin (beyond n incoming outgoing) (M .join) (outPlace n i) ≡ nowhere
@@ -263,7 +263,7 @@ module _ {g : PortGraph} {M : Model} (good : Good M) (holds : Holds g M) (n : �
                 absurd (omega arith)
 
     -- the table after the drops, for the places that stay
-    pub stays-rep : ((x y : Place) → dropJoin (beyond n incoming outgoing) (M .join) x ≡ to y → Valid (upd (M .node) n (live (metaOf first incoming outgoing size))) x)
+    pub stays-rep : ((x y : InnerPlace) → dropJoin (beyond n incoming outgoing) (M .join) x ≡ to y → Valid (upd (M .node) n (live (metaOf first incoming outgoing size))) x)
         → Rep (Stays (M .node) (upd (M .node) n (live (metaOf first incoming outgoing size)))) (slotOf (M .node)) (dropJoin (beyond n incoming outgoing) (M .join)) (dropLinks (g .«port_link») m incoming outgoing)
     stays-rep valid =
         let j = drops .rep .joined in

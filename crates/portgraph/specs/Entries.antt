@@ -1,6 +1,6 @@
 -- What the entries of the tables mean.
 use mathlib.Core.Path.{_≡_}
-use mathlib.Core.Bool.{Bool, true, false}
+use mathlib.Core.Bool.{Bool, true, false, cond}
 use mathlib.Core.List.{List, [], _∷_}
 use Prim.Native.Nat.{ℕ, _+_, _-_, _*_, _/_, _%_}
 use lib.Dec.{eqb}
@@ -13,11 +13,6 @@ use Rattle.portgraph.specs.declared.node_entry.NodeSlot.{NodeSlot}
 use Rattle.portgraph.specs.declared.node_entry.NodeMeta.{NodeMeta}
 use Rattle.portgraph.specs.declared.node_entry.NodeEntry.{NodeEntry}
 use Rattle.portgraph.specs.declared.node_entry.NodeEntry.the-variants.{Free, Node}
-
--- the first where the test holds, else the second
-abbrev pub pick {ℓ} : {A : Type ℓ} → Bool → A → A → A
-pick true a b = a
-pick false a b = b
 
 abbrev pub reversed : Direction → Direction
 reversed Incoming = Outgoing
@@ -36,8 +31,8 @@ ownerNumber n Outgoing = 2 * n + 2
 -- an owner's number, read
 unfoldable pub portEntry : ℕ → PortEntry
 portEntry e =
-    pick (eqb e 0) port-variants.Free
-    (port-variants.Port (record { node = record { 0 = (e - 1) / 2 }; direction = pick (eqb ((e - 1) % 2) 0) Incoming Outgoing }))
+    cond (eqb e 0) port-variants.Free
+    (port-variants.Port (record { node = record { 0 = (e - 1) / 2 }; direction = cond (eqb ((e - 1) % 2) 0) Incoming Outgoing }))
 
 -- a port's owner and side; nothing for a free slot
 abbrev pub portEntryNumbers : PortEntry → List ℕ
@@ -77,4 +72,4 @@ portsOn m Outgoing = m .outgoing
 
 -- the node table where a free entry, given one higher than its number, has another one before it; 0 changes nothing
 unfoldable pub setPrev : List NodeSlot → ℕ → ℕ → List NodeSlot
-setPrev nodes code p = pick (eqb code 0) nodes (set nodes (code - 1) (withPrev (getD nodes (code - 1) freshSlot) p))
+setPrev nodes code p = cond (eqb code 0) nodes (set nodes (code - 1) (withPrev (getD nodes (code - 1) freshSlot) p))

@@ -9,8 +9,9 @@ use native.Mathlib.Omega.{arith}
 use lib.Dec.{eqb}
 use borrow.Author.Tests.{leb-false, eqb-true, eqb-false, eq-eqb}
 use Rattle.portgraph.specs.Limits.{nodeSlots, portSlots, nodePorts}
+use Rattle.portgraph.specs.Lists.{Member, Once}
 use Rattle.portgraph.specs.Entries.{portsOn}
-use Rattle.portgraph.specs.Model.{Model, Place, nowhere, Slots, gone, live, unused, In, Uniq, Valid, Within, Good, countOf}
+use Rattle.portgraph.specs.Model.{Model, nowhere, Slots, gone, live, unused, Valid, Within, Good, countOf, InnerPlace}
 use Rattle.portgraph.specs.Meaning.{upd, samePlace, atNode, newCount, beyond, firstOr, rest, growth, nextSlot, nextBlock, metaOf, addModel, removeModel, linkModel, unlinkModel, resizeModel, moveModel}
 use Rattle.portgraph.specs.Joins.{zero-is-not-one, upd-elim, upd-same, upd-other, Joined, joined-drop, joined-drop-outside, joined-link}
 pub use Rattle.portgraph.specs.Joins.{link-elim, sameSide-true as same-side-is}
@@ -24,10 +25,10 @@ use Rattle.portgraph.specs.declared.node_entry.NodeMeta.{NodeMeta}
 record Nodes (node : ℕ → Slots) (free : List ℕ) (len : ℕ) : Type 0 where
   fits : len ≤ nodeSlots
   used : (n : ℕ) (m : NodeMeta) → node n ≡ live m → n < len
-  listed : (n : ℕ) → n < len → node n ≡ gone → In n free
-  empty : (n : ℕ) → In n free → node n ≡ gone
-  within : (n : ℕ) → In n free → n < len
-  once : Uniq free
+  listed : (n : ℕ) → n < len → node n ≡ gone → Member n free
+  empty : (n : ℕ) → Member n free → node n ≡ gone
+  within : (n : ℕ) → Member n free → n < len
+  once : Once free
 
 record Counts (m : NodeMeta) : Type 0 where
   inBlock : m .incoming + m .outgoing ≤ m .capacity
@@ -99,10 +100,10 @@ blocks-of g =
 
 -- Links.
 
-pub good-unlink : {M : Model} → Good M → (x : Place) → Good (unlinkModel M x)
+pub good-unlink : {M : Model} → Good M → (x : InnerPlace) → Good (unlinkModel M x)
 good-unlink {M} g x = good-of (unlinkModel M x) (nodes-of g) (counts-of g) (blocks-of g) (joined-drop (samePlace x) (links-of g))
 
-pub good-link : {M : Model} → Good M → (x y : Place) → Valid (M .node) x → Valid (M .node) y → M .join x ≡ nowhere → M .join y ≡ nowhere → (x .side ≡ y .side → ⊥) → Good (linkModel M x y)
+pub good-link : {M : Model} → Good M → (x y : InnerPlace) → Valid (M .node) x → Valid (M .node) y → M .join x ≡ nowhere → M .join y ≡ nowhere → (x .side ≡ y .side → ⊥) → Good (linkModel M x y)
 good-link {M} g x y vx vy fx fy apart = good-of (linkModel M x y) (nodes-of g) (counts-of g) (blocks-of g) (joined-link (links-of g) x y vx vy fx fy apart)
 
 -- Other counts.
@@ -112,7 +113,7 @@ nodes-recounted {node} {free} {len} n m m' e nodes =
     record {
       fits = nodes .fits;
       used = λ i l. upd-elim (λ v. v ≡ live l → i < len) node n (live m') i (λ q d. let h = nodes .used n m e in omega arith) (λ q d. nodes .used i l d);
-      listed = λ i h. upd-elim (λ v. v ≡ gone → In i free) node n (live m') i (λ q d. absurd (gone-not-live d refl)) (λ q d. nodes .listed i h d);
+      listed = λ i h. upd-elim (λ v. v ≡ gone → Member i free) node n (live m') i (λ q d. absurd (gone-not-live d refl)) (λ q d. nodes .listed i h d);
       empty = λ i h. upd-other node n (live m') i (λ q. gone-not-live (nodes .empty i h) (ap node q ∙ e)) ∙ nodes .empty i h;
       within = nodes .within;
       once = nodes .once;
@@ -123,7 +124,7 @@ counts-updated {node} n m' c counts i l =
     upd-elim (λ v. v ≡ live l → Counts l) node n (live m') i (λ q d. let a : m' ≡ l = cc in subst Counts a c) (λ q d. counts i l d)
 
 -- a place of n that is not dropped has a port under the new counts
-recounted-valid : (node : ℕ → Slots) (n : ℕ) (m' : NodeMeta) (x : Place) → Valid node x → beyond n (m' .incoming) (m' .outgoing) x ≡ false → Valid (upd node n (live m')) x
+recounted-valid : (node : ℕ → Slots) (n : ℕ) (m' : NodeMeta) (x : InnerPlace) → Valid node x → beyond n (m' .incoming) (m' .outgoing) x ≡ false → Valid (upd node n (live m')) x
 recounted-valid node n m' x v e =
     upd-elim (λ s. x .pos < countOf s (x .side)) node n (live m') (x .node)
     (λ q. kept (x .side) (leb-false (newCount (m' .incoming) (m' .outgoing) (x .side)) (x .pos) (rw (eq-eqb (x .node) n q) at e))) (λ q. v)
@@ -182,7 +183,7 @@ module _ {M : Model} (g : Good M) (n : ℕ) (m : NodeMeta) (e : M .node n ≡ li
       record {
         fits = g .nodesFit;
         used = λ i l. upd-elim (λ v. v ≡ live l → i < M .nodeLen) (M .node) n gone i (λ q d. absurd (gone-not-live refl d)) (λ q d. g .nodeUsed i l d);
-        listed = λ i h. upd-elim (λ v. v ≡ gone → In i (n ∷ M .freeNodes)) (M .node) n gone i (λ q d. inl q) (λ q d. inr (g .freeListed i h d));
+        listed = λ i h. upd-elim (λ v. v ≡ gone → Member i (n ∷ M .freeNodes)) (M .node) n gone i (λ q d. inl q) (λ q d. inr (g .freeListed i h d));
         empty = λ i h. upd-elim (λ v. v ≡ gone) (M .node) n gone i (λ q. refl) (λ q. ⊎-elim (λ r. absurd (q r)) (g .freeGone i) h);
         within = λ i. ⊎-elim (λ q. let h = g .nodeUsed n m e in omega arith) (g .freeUsed i);
         once = ((λ h. gone-not-live (g .freeGone n h) e), g .freeOnce);
@@ -245,7 +246,7 @@ next-slot-gone {M} g = go (M .freeNodes) refl (M .node (M .nodeLen)) refl
     go : (l : List ℕ) → M .freeNodes ≡ l → (s : Slots) → M .node (M .nodeLen) ≡ s → M .node (firstOr (M .nodeLen) l) ≡ gone
     go [] e gone d = d
     go [] e (live m) d = absurd (let h = g .nodeUsed (M .nodeLen) m d in omega arith)
-    go (n ∷ l) e s d = g .freeGone n (subst (In n) (sym e) (inl refl))
+    go (n ∷ l) e s d = g .freeGone n (subst (Member n) (sym e) (inl refl))
 
 nodes-added : {node : ℕ → Slots} {len : ℕ} (free : List ℕ) (m : NodeMeta) → Nodes node free len → len + growth 1 free ≤ nodeSlots → Nodes (upd node (firstOr len free) (live m)) (rest free) (len + growth 1 free)
 nodes-added {node} {len} [] m nodes room =
@@ -261,8 +262,8 @@ nodes-added {node} {len} (n ∷ free) m nodes room =
     record {
       fits = room;
       used = λ i l. upd-elim (λ v. v ≡ live l → i < len + 0) node n (live m) i (λ q d. let h = nodes .within n (inl refl) in omega arith) (λ q d. let h = nodes .used i l d in omega arith);
-      listed = λ i h. upd-elim (λ v. v ≡ gone → In i free) node n (live m) i (λ q d. absurd (gone-not-live d refl)) (λ q d. ⊎-elim (λ r. absurd (q r)) (λ r. r) (nodes .listed i (omega arith) d));
-      empty = λ i h. upd-other node n (live m) i (λ q. nodes .once .0 (subst (λ (j : ℕ). In j free) q h)) ∙ nodes .empty i (inr h);
+      listed = λ i h. upd-elim (λ v. v ≡ gone → Member i free) node n (live m) i (λ q d. absurd (gone-not-live d refl)) (λ q d. ⊎-elim (λ r. absurd (q r)) (λ r. r) (nodes .listed i (omega arith) d));
+      empty = λ i h. upd-other node n (live m) i (λ q. nodes .once .0 (subst (λ (j : ℕ). Member j free) q h)) ∙ nodes .empty i (inr h);
       within = λ i h. let w = nodes .within i (inr h) in omega arith;
       once = nodes .once .1;
     }
@@ -286,7 +287,7 @@ module _ {M : Model} (g : Good M) (incoming outgoing : ℕ) (small : incoming + 
   added-stays : (i f k : ℕ) → Has (M .node) i f k → Has (upd (M .node) (nextSlot M) (live added)) i f k
   added-stays i f k o = has-other (M .node) (nextSlot M) (live added) i f k (λ q. gone-not-live (ap (M .node) q ∙ next-slot-gone g) (o .1)) o
 
-  added-valid : (x : Place) → Valid (M .node) x → Valid (upd (M .node) (nextSlot M) (live added)) x
+  added-valid : (x : InnerPlace) → Valid (M .node) x → Valid (upd (M .node) (nextSlot M) (live added)) x
   added-valid x v =
       upd-elim (λ s. x .pos < countOf s (x .side)) (M .node) (nextSlot M) (live added) (x .node)
       (λ q. absurd (gone-not-valid (x .side) (x .pos) (ap (M .node) q ∙ next-slot-gone g) v)) (λ q. v)

@@ -1,7 +1,7 @@
 -- What a good model says of slots: a slot lies in one block, and two ports never share one.
 -- Then a good model in four parts (nodes, counts, blocks, links), and how a block is taken and given back.
 use mathlib.Core.Path.{_≡_, refl, sym, _∙_, ap, subst}
-use mathlib.Core.Bool.{Bool, true, false}
+use mathlib.Core.Bool.{Bool, true, false, cond}
 use mathlib.Core.List.{List, [], _∷_}
 use mathlib.Core.Logic.{_⊎_, inl, inr, ⊎-elim}
 use Prim.Native.Nat.{ℕ, _+_, _≤_, _<_}
@@ -9,8 +9,8 @@ use native.Mathlib.Omega.{arith}
 use lib.Dec.{eqb, leb, ltb}
 use borrow.Author.Tests.{ltb-true, ltb-false, leb-true, leb-false, eqb-true, eqb-false}
 use Rattle.portgraph.specs.Limits.{portSlots, nodePorts}
-use Rattle.portgraph.specs.Entries.{pick}
-use Rattle.portgraph.specs.Model.{Model, Place, to, Slots, gone, live, Who, held, idle, unused, In, Uniq, Valid, Within, Good, countOf, firstOf, sideStart, slotOf}
+use Rattle.portgraph.specs.Lists.{Member, Once}
+use Rattle.portgraph.specs.Model.{Model, to, Slots, gone, live, Who, held, idle, unused, Valid, Within, Good, countOf, firstOf, sideStart, slotOf, InnerPlace}
 use Rattle.portgraph.specs.Meaning.{upd, handOver, giveBlock, firstOr, rest, growth}
 use Rattle.portgraph.specs.Joins.{place-by-parts}
 pub use Rattle.portgraph.specs.Joins.{zero-is-not-one, upd-elim, upd-same, upd-other, place-by-parts as same-place}
@@ -33,11 +33,11 @@ pub block-of-one : {M : Model} → Good M → (n i : ℕ) (m l : NodeMeta) (s : 
     Within (m .«first_port» .0) (m .capacity) s → Within (l .«first_port» .0) (l .capacity) s → n ≡ i
 block-of-one good n i m l s e d u v = same-held (good .heldBy n m s e u) (good .heldBy i l s d v)
 
-pub free-block-apart : {M : Model} → Good M → (n : ℕ) (m : NodeMeta) (k b s : ℕ) → M .node n ≡ live m → In b (M .freeBlocks k) →
+pub free-block-apart : {M : Model} → Good M → (n : ℕ) (m : NodeMeta) (k b s : ℕ) → M .node n ≡ live m → Member b (M .freeBlocks k) →
     Within (m .«first_port» .0) (m .capacity) s → Within b k s → ⊥
 free-block-apart good n m k b s e i u v = held-not-idle (good .heldBy n m s e u) (good .idleBy k b s i v)
 
-pub free-block-of-one : {M : Model} → Good M → (k b j c s : ℕ) → In b (M .freeBlocks k) → In c (M .freeBlocks j) →
+pub free-block-of-one : {M : Model} → Good M → (k b j c s : ℕ) → Member b (M .freeBlocks k) → Member c (M .freeBlocks j) →
     Within b k s → Within c j s → (b ≡ c) × (k ≡ j)
 free-block-of-one good k b j c s i h u v =
     let p = good .idleBy k b s i u in
@@ -65,7 +65,7 @@ one-position (live m) Outgoing Incoming p q h k o = absurd (omega arith)
 one-position (live m) Outgoing Outgoing p q h k o = (refl, omega arith)
 
 -- a valid place lies in the block of its live node
-pub slot-in-block : {M : Model} → Good M → (x : Place) → Valid (M .node) x →
+pub slot-in-block : {M : Model} → Good M → (x : InnerPlace) → Valid (M .node) x →
     (m : NodeMeta) × (M .node (x .node) ≡ live m) × Within (m .«first_port» .0) (m .capacity) (slotOf (M .node) x)
 slot-in-block {M} good x h =
     let r = valid-is-live (M .node (x .node)) (x .side) (x .pos) h in
@@ -74,12 +74,12 @@ slot-in-block {M} good x h =
     let c : r .0 .incoming + r .0 .outgoing ≤ r .0 .capacity = good .portsInBlock (x .node) (r .0) (r .1) in
     (r .0, r .1, (omega arith, omega arith))
 
-pub slot-held : {M : Model} → Good M → (x : Place) → Valid (M .node) x → M .who (slotOf (M .node) x) ≡ held (x .node)
+pub slot-held : {M : Model} → Good M → (x : InnerPlace) → Valid (M .node) x → M .who (slotOf (M .node) x) ≡ held (x .node)
 slot-held {M} good x h =
     let r = slot-in-block good x h in
     good .heldBy (x .node) (r .0) (slotOf (M .node) x) (r .1) (r .2)
 
-pub slot-in-range : {M : Model} → Good M → (x : Place) → Valid (M .node) x → slotOf (M .node) x < portSlots
+pub slot-in-range : {M : Model} → Good M → (x : InnerPlace) → Valid (M .node) x → slotOf (M .node) x < portSlots
 slot-in-range {M} good x h =
     let r = slot-in-block good x h in
     let w : slotOf (M .node) x < r .0 .«first_port» .0 + r .0 .capacity = r .2 .1 in
@@ -87,20 +87,20 @@ slot-in-range {M} good x h =
     let f : M .portLen ≤ portSlots = good .portsFit in
     omega arith
 
-pub slots-apart : {M : Model} → Good M → (x y : Place) → Valid (M .node) x → Valid (M .node) y → slotOf (M .node) x ≡ slotOf (M .node) y → x ≡ y
+pub slots-apart : {M : Model} → Good M → (x y : InnerPlace) → Valid (M .node) x → Valid (M .node) y → slotOf (M .node) x ≡ slotOf (M .node) y → x ≡ y
 slots-apart {M} good x y h k e =
     let w : M .who (slotOf (M .node) y) ≡ held (x .node) = subst (λ (s : ℕ). M .who s ≡ held (x .node)) e (slot-held good x h) in
     let n : y .node ≡ x .node = same-held (slot-held good y k) w in
-    let z : Place = record { node = x .node; side = y .side; pos = y .pos } in
+    let z : InnerPlace = record { node = x .node; side = y .side; pos = y .pos } in
     let k' : Valid (M .node) z = subst (λ (i : ℕ). Valid (M .node) (record { node = i; side = y .side; pos = y .pos })) n k in
     let e' : slotOf (M .node) x ≡ slotOf (M .node) z = e ∙ ap (λ (i : ℕ). slotOf (M .node) (record { node = i; side = y .side; pos = y .pos })) n in
     let o : (x .side ≡ y .side) × (x .pos ≡ y .pos) = one-position (M .node (x .node)) (x .side) (y .side) (x .pos) (y .pos) h k' (omega arith) in
     place-by-parts x y (sym n) (o .0) (o .1)
 
-pub idle-apart : {M : Model} → Good M → (x : Place) (k b : ℕ) → Valid (M .node) x → In b (M .freeBlocks k) → Within b k (slotOf (M .node) x) → ⊥
+pub idle-apart : {M : Model} → Good M → (x : InnerPlace) (k b : ℕ) → Valid (M .node) x → Member b (M .freeBlocks k) → Within b k (slotOf (M .node) x) → ⊥
 idle-apart {M} good x k b h i v = held-not-idle (slot-held good x h) (good .idleBy k b (slotOf (M .node) x) i v)
 
-pub joined-is-valid : {M : Model} → Good M → (x y : Place) → M .join x ≡ to y → Valid (M .node) y
+pub joined-is-valid : {M : Model} → Good M → (x y : InnerPlace) → M .join x ≡ to y → Valid (M .node) y
 joined-is-valid good x y e = good .joinValid y x (good .joinBack x y e)
 
 -- The two cases of each update, as one rule.
@@ -109,7 +109,7 @@ pub hand-elim {ℓ} : (P : Who → Type ℓ) (who : ℕ → Who) (first size : �
 unfolding handOver
 hand-elim P who first size w s here away = go (leb first s) refl (ltb s (first + size)) refl
   where
-    go : (t : Bool) → leb first s ≡ t → (u : Bool) → ltb s (first + size) ≡ u → P (pick t (pick u w (who s)) (who s))
+    go : (t : Bool) → leb first s ≡ t → (u : Bool) → ltb s (first + size) ≡ u → P (cond t (cond u w (who s)) (who s))
     go true e true d = here (leb-true first s e, ltb-true s (first + size) d)
     go true e false d = away (λ h. let a = ltb-false s (first + size) d in omega arith)
     go false e u d = away (λ h. let a = leb-false first s e in omega arith)
@@ -124,7 +124,7 @@ handed-outside who first size w s h = hand-elim (λ v. v ≡ who s) who first si
 pub give-elim {ℓ} : (P : List ℕ → Type ℓ) (blocks : ℕ → List ℕ) (first size j : ℕ) → (0 < size → j ≡ size → P (first ∷ blocks size)) → P (blocks j) → P (giveBlock blocks first size j)
 give-elim P blocks first size j new old = go (eqb size 0) refl
   where
-    go : (t : Bool) → eqb size 0 ≡ t → P (pick t blocks (upd blocks size (first ∷ blocks size)) j)
+    go : (t : Bool) → eqb size 0 ≡ t → P (cond t blocks (upd blocks size (first ∷ blocks size)) j)
     go true e = old
     go false e =
         let h = eqb-false size 0 e in
@@ -136,10 +136,10 @@ pub record Parted (own : ℕ → ℕ → ℕ → Type 0) (blocks : ℕ → List 
   pub ends : (n f k : ℕ) → own n f k → f + k ≤ len
   pub heldBy : (n f k s : ℕ) → own n f k → Within f k s → who s ≡ held n
   pub heldIn : (s n : ℕ) → who s ≡ held n → (f : ℕ) × (k : ℕ) × own n f k × Within f k s
-  pub idleBy : (k b s : ℕ) → In b (blocks k) → Within b k s → who s ≡ idle b k
-  pub idleIn : (s b k : ℕ) → who s ≡ idle b k → In b (blocks k) × Within b k s
-  pub idleEnds : (k b : ℕ) → In b (blocks k) → (0 < k) × (k ≤ nodePorts) × (b + k ≤ len)
-  pub idleOnce : (k : ℕ) → Uniq (blocks k)
+  pub idleBy : (k b s : ℕ) → Member b (blocks k) → Within b k s → who s ≡ idle b k
+  pub idleIn : (s b k : ℕ) → who s ≡ idle b k → Member b (blocks k) × Within b k s
+  pub idleEnds : (k b : ℕ) → Member b (blocks k) → (0 < k) × (k ≤ nodePorts) × (b + k ≤ len)
+  pub idleOnce : (k : ℕ) → Once (blocks k)
   pub usedHas : (s : ℕ) → s < len → who s ≡ unused → ⊥
   pub unusedBeyond : (s : ℕ) → len ≤ s → who s ≡ unused
 
@@ -166,20 +166,20 @@ module _ {own own' : ℕ → ℕ → ℕ → Type 0} {blocks : ℕ → List ℕ}
     (apart : (i f k s : ℕ) → own' i f k → Within f k s → Within first size s → ⊥)
     (stay : (i f k : ℕ) → own i f k → (own' i f k) ⊎ ((f ≡ first) × (k ≡ size)))
     (p : Parted own blocks len who) where
-  given-listed : (j b : ℕ) → In b (blocks j) → In b (giveBlock blocks first size j)
-  given-listed j b h = give-elim (In b) blocks first size j (λ z e. inr (subst (λ (i : ℕ). In b (blocks i)) e h)) h
+  given-listed : (j b : ℕ) → Member b (blocks j) → Member b (giveBlock blocks first size j)
+  given-listed j b h = give-elim (Member b) blocks first size j (λ z e. inr (subst (λ (i : ℕ). Member b (blocks i)) e h)) h
 
-  given-new : 0 < size → In first (giveBlock blocks first size size)
+  given-new : 0 < size → Member first (giveBlock blocks first size size)
   given-new z = go (eqb size 0) refl
     where
-      go : (t : Bool) → eqb size 0 ≡ t → In first (pick t blocks (upd blocks size (first ∷ blocks size)) size)
+      go : (t : Bool) → eqb size 0 ≡ t → Member first (cond t blocks (upd blocks size (first ∷ blocks size)) size)
       go true e = let h = eqb-true size 0 e in absurd (omega arith)
       go false e = rw upd-same (inl refl)
 
-  given-cases : (j b : ℕ) → In b (giveBlock blocks first size j) → ((0 < size) × (j ≡ size) × (b ≡ first)) ⊎ In b (blocks j)
+  given-cases : (j b : ℕ) → Member b (giveBlock blocks first size j) → ((0 < size) × (j ≡ size) × (b ≡ first)) ⊎ Member b (blocks j)
   given-cases j b =
-      give-elim (λ l. In b l → ((0 < size) × (j ≡ size) × (b ≡ first)) ⊎ In b (blocks j)) blocks first size j
-      (λ z e. ⊎-elim (λ h. inl (z, e, h)) (λ h. inr (subst (λ (i : ℕ). In b (blocks i)) (sym e) h))) (λ h. inr h)
+      give-elim (λ l. Member b l → ((0 < size) × (j ≡ size) × (b ≡ first)) ⊎ Member b (blocks j)) blocks first size j
+      (λ z e. ⊎-elim (λ h. inl (z, e, h)) (λ h. inr (subst (λ (i : ℕ). Member b (blocks i)) (sym e) h))) (λ h. inr h)
 
   give-heldIn : (s i : ℕ) → handOver who first size (idle first size) s ≡ held i → (f : ℕ) × (k : ℕ) × own' i f k × Within f k s
   give-heldIn s i =
@@ -189,24 +189,24 @@ module _ {own own' : ℕ → ℕ → ℕ → Type 0} {blocks : ℕ → List ℕ}
       let r = p .heldIn s i e in
       ⊎-elim (λ o. (r .0, r .1, o, r .3)) (λ q. absurd (away (let a = q .0 in let b = q .1 in let c = r .3 in omega arith))) (stay i (r .0) (r .1) (r .2)))
 
-  give-idleBy : (k b s : ℕ) → In b (giveBlock blocks first size k) → Within b k s → handOver who first size (idle first size) s ≡ idle b k
+  give-idleBy : (k b s : ℕ) → Member b (giveBlock blocks first size k) → Within b k s → handOver who first size (idle first size) s ≡ idle b k
   give-idleBy k b s h w =
       hand-elim (λ v. v ≡ idle b k) who first size (idle first size) s
       (λ i. ⊎-elim (λ q. let a = q .1 in let c = q .2 in cc) (λ o. absurd (held-not-idle (p .heldBy n first size s has i) (p .idleBy k b s o w))) (given-cases k b h))
       (λ away. ⊎-elim (λ q. absurd (away (let a = q .1 in let c = q .2 in omega arith))) (λ o. p .idleBy k b s o w) (given-cases k b h))
 
-  give-idleIn : (s b k : ℕ) → handOver who first size (idle first size) s ≡ idle b k → In b (giveBlock blocks first size k) × Within b k s
+  give-idleIn : (s b k : ℕ) → handOver who first size (idle first size) s ≡ idle b k → Member b (giveBlock blocks first size k) × Within b k s
   give-idleIn s b k =
-      hand-elim (λ v. v ≡ idle b k → In b (giveBlock blocks first size k) × Within b k s) who first size (idle first size) s
+      hand-elim (λ v. v ≡ idle b k → Member b (giveBlock blocks first size k) × Within b k s) who first size (idle first size) s
       (λ h e.
       let a : first ≡ b = cc in
       let c : size ≡ k = cc in
-      (subst (λ (i : ℕ). In i (giveBlock blocks first size k)) a (subst (λ (i : ℕ). In first (giveBlock blocks first size i)) c (given-new (omega arith))), omega arith))
+      (subst (λ (i : ℕ). Member i (giveBlock blocks first size k)) a (subst (λ (i : ℕ). Member first (giveBlock blocks first size i)) c (given-new (omega arith))), omega arith))
       (λ away e. let r = p .idleIn s b k e in (given-listed k b (r .0), r .1))
 
-  give-idleOnce : (k : ℕ) → Uniq (giveBlock blocks first size k)
+  give-idleOnce : (k : ℕ) → Once (giveBlock blocks first size k)
   give-idleOnce k =
-      give-elim Uniq blocks first size k
+      give-elim Once blocks first size k
       (λ z e. ((λ h. held-not-idle (p .heldBy n first size first has (omega arith)) (p .idleBy size first first h (omega arith))), p .idleOnce size))
       (p .idleOnce k)
 
@@ -231,10 +231,10 @@ pub record Takes (blocks : ℕ → List ℕ) (len : ℕ) (who : ℕ → Who) (fi
   pub grows : len ≤ len'
   pub grown : (s : ℕ) → len ≤ s → s < len' → Within first size s
   pub unheld : (s n : ℕ) → Within first size s → who s ≡ held n → ⊥
-  pub less : (k b : ℕ) → In b (blocks' k) → In b (blocks k)
-  pub left : (k b : ℕ) → In b (blocks k) → (In b (blocks' k)) ⊎ ((b ≡ first) × (k ≡ size))
-  pub clear : (k b s : ℕ) → In b (blocks' k) → Within b k s → Within first size s → ⊥
-  pub once : (k : ℕ) → Uniq (blocks' k)
+  pub less : (k b : ℕ) → Member b (blocks' k) → Member b (blocks k)
+  pub left : (k b : ℕ) → Member b (blocks k) → (Member b (blocks' k)) ⊎ ((b ≡ first) × (k ≡ size))
+  pub clear : (k b s : ℕ) → Member b (blocks' k) → Within b k s → Within first size s → ⊥
+  pub once : (k : ℕ) → Once (blocks' k)
 
 -- n gets the block beside its others
 module _ {own own' : ℕ → ℕ → ℕ → Type 0} {blocks blocks' : ℕ → List ℕ} {len len' : ℕ} {who : ℕ → Who} (n first size : ℕ) (fit : len' ≤ portSlots)
@@ -253,9 +253,9 @@ module _ {own own' : ℕ → ℕ → ℕ → Type 0} {blocks blocks' : ℕ → L
       (λ h e. (first, size, subst (λ (j : ℕ). own' j first size) (same-held {w = held n} refl e) new, h))
       (λ away e. let r = p .heldIn s i e in (r .0, r .1, bwd i (r .0) (r .1) (r .2), r .3))
 
-  take-idleIn : (s b k : ℕ) → handOver who first size (held n) s ≡ idle b k → In b (blocks' k) × Within b k s
+  take-idleIn : (s b k : ℕ) → handOver who first size (held n) s ≡ idle b k → Member b (blocks' k) × Within b k s
   take-idleIn s b k =
-      hand-elim (λ v. v ≡ idle b k → In b (blocks' k) × Within b k s) who first size (held n) s
+      hand-elim (λ v. v ≡ idle b k → Member b (blocks' k) × Within b k s) who first size (held n) s
       (λ h e. absurd (held-not-idle refl e))
       (λ away e.
       let r = p .idleIn s b k e in
@@ -292,51 +292,51 @@ module _ {own own' : ℕ → ℕ → ℕ → Type 0} {blocks blocks' : ℕ → L
         unusedBeyond = λ s h. handed-outside who first size (held n) s (λ w. let a = t .ends in omega arith) ∙ p .unusedBeyond s (let a = t .grows in omega arith);
       }
 
-rest-in : (l : List ℕ) (b : ℕ) → In b (rest l) → In b l
+rest-in : (l : List ℕ) (b : ℕ) → Member b (rest l) → Member b l
 rest-in [] b h = h
 rest-in (c ∷ l) b h = inr h
 
-rest-once : (l : List ℕ) → Uniq l → Uniq (rest l)
+rest-once : (l : List ℕ) → Once l → Once (rest l)
 rest-once [] u = u
 rest-once (c ∷ l) u = u .1
 
 -- The block that is taken next: of a size of 0 none, else the free one of this size freed last, else the end.
 module _ {own : ℕ → ℕ → ℕ → Type 0} {blocks : ℕ → List ℕ} {len : ℕ} {who : ℕ → Who} (size : ℕ) (p : Parted own blocks len who) where
-  rest-less : (l : List ℕ) → blocks size ≡ l → (k b : ℕ) → In b (upd blocks size (rest l) k) → In b (blocks k)
+  rest-less : (l : List ℕ) → blocks size ≡ l → (k b : ℕ) → Member b (upd blocks size (rest l) k) → Member b (blocks k)
   rest-less l e k b =
-      upd-elim (λ l'. In b l' → In b (blocks k)) blocks size (rest l) k
-      (λ q h. subst (In b) (sym e ∙ ap blocks (sym q)) (rest-in l b h)) (λ q h. h)
+      upd-elim (λ l'. Member b l' → Member b (blocks k)) blocks size (rest l) k
+      (λ q h. subst (Member b) (sym e ∙ ap blocks (sym q)) (rest-in l b h)) (λ q h. h)
 
-  rest-unique : (l : List ℕ) → blocks size ≡ l → (k : ℕ) → Uniq (upd blocks size (rest l) k)
-  rest-unique l e k = upd-elim Uniq blocks size (rest l) k (λ q. rest-once l (subst Uniq e (p .idleOnce size))) (λ q. p .idleOnce k)
+  rest-unique : (l : List ℕ) → blocks size ≡ l → (k : ℕ) → Once (upd blocks size (rest l) k)
+  rest-unique l e k = upd-elim Once blocks size (rest l) k (λ q. rest-once l (subst Once e (p .idleOnce size))) (λ q. p .idleOnce k)
 
-  rest-left : (l : List ℕ) → blocks size ≡ l → (k b : ℕ) → In b (blocks k) → (In b (upd blocks size (rest l) k)) ⊎ ((b ≡ firstOr len l) × (k ≡ size))
+  rest-left : (l : List ℕ) → blocks size ≡ l → (k b : ℕ) → Member b (blocks k) → (Member b (upd blocks size (rest l) k)) ⊎ ((b ≡ firstOr len l) × (k ≡ size))
   rest-left l e k b h =
-      upd-elim (λ l'. (In b l') ⊎ ((b ≡ firstOr len l) × (k ≡ size))) blocks size (rest l) k
-      (λ q. first-or-rest l q (subst (In b) (ap blocks q ∙ e) h)) (λ q. inl h)
+      upd-elim (λ l'. (Member b l') ⊎ ((b ≡ firstOr len l) × (k ≡ size))) blocks size (rest l) k
+      (λ q. first-or-rest l q (subst (Member b) (ap blocks q ∙ e) h)) (λ q. inl h)
     where
-      first-or-rest : (l : List ℕ) → k ≡ size → In b l → (In b (rest l)) ⊎ ((b ≡ firstOr len l) × (k ≡ size))
+      first-or-rest : (l : List ℕ) → k ≡ size → Member b l → (Member b (rest l)) ⊎ ((b ≡ firstOr len l) × (k ≡ size))
       first-or-rest [] q h = inl h
       first-or-rest (c ∷ l) q (inl h) = inr (h, q)
       first-or-rest (c ∷ l) q (inr h) = inl h
 
   -- the first of the free blocks of this size stays in no list
-  first-clear : (c : ℕ) (l : List ℕ) → blocks size ≡ c ∷ l → (k b s : ℕ) → In b (upd blocks size l k) → Within b k s → Within c size s → ⊥
+  first-clear : (c : ℕ) (l : List ℕ) → blocks size ≡ c ∷ l → (k b s : ℕ) → Member b (upd blocks size l k) → Within b k s → Within c size s → ⊥
   first-clear c l e k b s h w v =
       let u = p .idleBy k b s (rest-less (c ∷ l) e k b h) w in
-      let i = p .idleBy size c s (subst (In c) (sym e) (inl refl)) v in
+      let i = p .idleBy size c s (subst (Member c) (sym e) (inl refl)) v in
       let d : b ≡ c = cc in
       let q : k ≡ size = cc in
-      let h' : In c (upd blocks size l size) = subst (λ (j : ℕ). In j (upd blocks size l size)) d (subst (λ (j : ℕ). In b (upd blocks size l j)) q h) in
-      subst Uniq e (p .idleOnce size) .0 (rw upd-same at h')
+      let h' : Member c (upd blocks size l size) = subst (λ (j : ℕ). Member j (upd blocks size l size)) d (subst (λ (j : ℕ). Member b (upd blocks size l j)) q h) in
+      subst Once e (p .idleOnce size) .0 (rw upd-same at h')
 
-  pub block-taken : Takes blocks len who (pick (eqb size 0) 0 (firstOr len (blocks size))) size (upd blocks size (rest (blocks size))) (len + growth size (blocks size))
+  pub block-taken : Takes blocks len who (cond (eqb size 0) 0 (firstOr len (blocks size))) size (upd blocks size (rest (blocks size))) (len + growth size (blocks size))
   block-taken = go (eqb size 0) refl (blocks size) refl
     where
-      go : (t : Bool) → eqb size 0 ≡ t → (l : List ℕ) → blocks size ≡ l → Takes blocks len who (pick t 0 (firstOr len l)) size (upd blocks size (rest l)) (len + growth size l)
+      go : (t : Bool) → eqb size 0 ≡ t → (l : List ℕ) → blocks size ≡ l → Takes blocks len who (cond t 0 (firstOr len l)) size (upd blocks size (rest l)) (len + growth size l)
       go true z (c ∷ l) e =
           let n = eqb-true size 0 z in
-          let i = p .idleEnds size c (subst (In c) (sym e) (inl refl)) .0 in
+          let i = p .idleEnds size c (subst (Member c) (sym e) (inl refl)) .0 in
           absurd (omega arith)
       go true z [] e =
           let n = eqb-true size 0 z in
@@ -346,7 +346,7 @@ module _ {own : ℕ → ℕ → ℕ → Type 0} {blocks : ℕ → List ℕ} {len
             grown = omega arith;
             unheld = λ s i w. absurd (omega arith);
             less = rest-less [] e;
-            left = λ k b h. upd-elim (λ l. (In b l) ⊎ ((b ≡ 0) × (k ≡ size))) blocks size [] k (λ q. absurd (subst (In b) (ap blocks q ∙ e) h)) (λ q. inl h);
+            left = λ k b h. upd-elim (λ l. (Member b l) ⊎ ((b ≡ 0) × (k ≡ size))) blocks size [] k (λ q. absurd (subst (Member b) (ap blocks q ∙ e) h)) (λ q. inl h);
             clear = λ k b s h w v. omega arith;
             once = rest-unique [] e;
           }
@@ -362,7 +362,7 @@ module _ {own : ℕ → ℕ → ℕ → Type 0} {blocks : ℕ → List ℕ} {len
             once = rest-unique [] e;
           }
       go false z (c ∷ l) e =
-          let i : In c (blocks size) = subst (In c) (sym e) (inl refl) in
+          let i : Member c (blocks size) = subst (Member c) (sym e) (inl refl) in
           let r = p .idleEnds size c i .2 in
           record {
             ends = omega arith;

@@ -11,7 +11,7 @@ use borrow.Author.Tests.{ltb-true, ltb-false, leb-true, leb-false}
 use Rattle.portgraph.specs.Limits.{portSlots}
 use Rattle.portgraph.specs.Tables.{at, headAt, fillRange, ownBlock, shift}
 use Rattle.portgraph.specs.TableLaws.{length-ownBlock, at-fill-in, at-fill-outside, at-block-in}
-use Rattle.portgraph.specs.Model.{Model, Place, Far, Slots, live, Who, Valid, Within, Good, Holds, Chain, slotOf, ownerOfSlots, ownerOfWho}
+use Rattle.portgraph.specs.Model.{Model, Far, Slots, live, Who, Valid, Within, Good, Holds, Chain, slotOf, ownerOfSlots, ownerOfWho, InnerPlace}
 use Rattle.portgraph.specs.Meaning.{upd, dropJoin, beyond, metaOf, resizeModel}
 use Rattle.portgraph.specs.Joins.{upd-elim, upd-same}
 use Rattle.portgraph.specs.Resize.{firstSlot, keptOut, dropLinks, insideLinks, resizeInside}
@@ -33,10 +33,10 @@ module _ {g : PortGraph} {M : Model} (good : Good M) (holds : Holds g M) (n : �
   abbrev node′ : ℕ → Slots
   node′ = upd (M .node) n (live resized)
 
-  abbrev left : Place → Far
+  abbrev left : InnerPlace → Far
   left = dropJoin (beyond n incoming outgoing) (M .join)
 
-  abbrev Staying : Place → Type 0
+  abbrev Staying : InnerPlace → Type 0
   Staying = Stays (M .node) node′
 
   good′ : Good (resizeModel M n m incoming outgoing)
@@ -49,10 +49,10 @@ module _ {g : PortGraph} {M : Model} (good : Good M) (holds : Holds g M) (n : �
   ports : m .incoming + m .outgoing ≤ m .capacity
   ports = good .portsInBlock n m here
 
-  staying : (y : Place) → Staying y → Stay n m resized y (slotOf (M .node) y) (slotOf node′ y)
+  staying : (y : InnerPlace) → Staying y → Stay n m resized y (slotOf (M .node) y) (slotOf node′ y)
   staying = stay (M .node) n m resized here
 
-  outside : (y : Place) → Staying y → (y .node ≡ n → ⊥) → Within (firstSlot m) (m .capacity) (slotOf (M .node) y) → ⊥
+  outside : (y : InnerPlace) → Staying y → (y .node ≡ n → ⊥) → Within (firstSlot m) (m .capacity) (slotOf (M .node) y) → ⊥
   outside y v other w = other (place-in-block good n m y here (v .0) w)
 
   -- The outgoing ports that stay move.
@@ -71,15 +71,15 @@ module _ {g : PortGraph} {M : Model} (good : Good M) (holds : Holds g M) (n : �
       (λ t. let a : m .incoming ≤ incoming = ltb-false _ _ t in omega arith)
       (omega arith)
       (λ y v none. clear y v none (staying y v))
-      (record { those = λ i l. rw (upd-same (M .node) n (live resized)) (omega arith); others = λ y v none. same y none (staying y v) })
+      (record { placed = λ i l. rw (upd-same (M .node) n (live resized)) (omega arith); others = λ y v none. same y none (staying y v) })
     where
-      clear : (y : Place) → Staying y → NoneOf (sidePlace n Outgoing 0) (keptOut m outgoing) y → Stay n m resized y (slotOf (M .node) y) (slotOf node′ y)
+      clear : (y : InnerPlace) → Staying y → NoneOf (sidePlace n Outgoing 0) (keptOut m outgoing) y → Stay n m resized y (slotOf (M .node) y) (slotOf node′ y)
           → firstSlot m + incoming ≤ slotOf (M .node) y → slotOf (M .node) y < firstSlot m + incoming + keptOut m outgoing → ⊥
       clear y v none (elsewhere o e) a b = outside y v o (omega arith, omega arith)
       clear y v none (coming e q h h′ k k′) a b = omega arith
       clear y v none (going e q h h′ k k′) a b = not-of-side n Outgoing 0 (keptOut m outgoing) y none e q (omega arith) (omega arith)
 
-      same : (y : Place) → NoneOf (sidePlace n Outgoing 0) (keptOut m outgoing) y → Stay n m resized y (slotOf (M .node) y) (slotOf node′ y) → slotOf node′ y ≡ slotOf (M .node) y
+      same : (y : InnerPlace) → NoneOf (sidePlace n Outgoing 0) (keptOut m outgoing) y → Stay n m resized y (slotOf (M .node) y) (slotOf node′ y) → slotOf node′ y ≡ slotOf (M .node) y
       same y none (elsewhere o e) = e
       same y none (coming e q h h′ k k′) = k′ ∙ sym k
       same y none (going e q h h′ k k′) = absurd (not-of-side n Outgoing 0 (keptOut m outgoing) y none e q (omega arith) (omega arith))
@@ -99,7 +99,7 @@ module _ {g : PortGraph} {M : Model} (good : Good M) (holds : Holds g M) (n : �
   free : (i k : ℕ) → firstSlot m ≤ i → (0 < k → i + k ≤ firstSlot m + m .capacity)
       → ((p : ℕ) → p < m .incoming → p < incoming → i ≤ firstSlot m + p → firstSlot m + p < i + k → ⊥)
       → ((p : ℕ) → p < m .outgoing → p < outgoing → i ≤ firstSlot m + (incoming + p) → firstSlot m + (incoming + p) < i + k → ⊥)
-      → (y : Place) → Staying y → i ≤ slotOf node′ y → slotOf node′ y < i + k → ⊥
+      → (y : InnerPlace) → Staying y → i ≤ slotOf node′ y → slotOf node′ y < i + k → ⊥
   free i k low high inn out y v a b = go (staying y v)
     where
       go : Stay n m resized y (slotOf (M .node) y) (slotOf node′ y) → ⊥

@@ -1,14 +1,13 @@
 -- Laws of single changes: tests on places, a function changed at one number, links dropped, a link made.
 -- A join says which place is linked with which. Good joins, symmetric and between opposite sides, stay good.
 use mathlib.Core.Path.{_≡_, refl, sym, _∙_, ap}
-use mathlib.Core.Bool.{Bool, true, false, true≢false}
+use mathlib.Core.Bool.{Bool, true, false, true≢false, cond}
 use mathlib.Core.Logic.{_⊎_, inl, inr}
 use Prim.Native.Nat.{ℕ}
 use native.Mathlib.Omega.{arith}
 use lib.Dec.{eqb}
 use borrow.Author.Tests.{eqb-true, eqb-false, eq-eqb}
-use Rattle.portgraph.specs.Entries.{pick}
-use Rattle.portgraph.specs.Model.{Place, Far, nowhere, to}
+use Rattle.portgraph.specs.Model.{Far, nowhere, to, InnerPlace}
 use Rattle.portgraph.specs.Meaning.{upd, sameSide, samePlace, keepFar, dropJoin, linkJoin}
 use Rattle.portgraph.specs.declared.direction.Direction.{Direction}
 use Rattle.portgraph.specs.declared.direction.Direction.the-variants.{Incoming, Outgoing}
@@ -23,7 +22,7 @@ pub upd-elim {ℓ κ} : {A : Type ℓ} (P : A → Type κ) (f : ℕ → A) (n : 
 unfolding upd
 upd-elim P f n v i here away = go (eqb i n) refl
   where
-    go : (t : Bool) → eqb i n ≡ t → P (pick t v (f i))
+    go : (t : Bool) → eqb i n ≡ t → P (cond t v (f i))
     go true e = here (eqb-true i n e)
     go false e = away (eqb-false i n e)
 
@@ -55,54 +54,54 @@ sameSide-false d e t s = true≢false (sym (sameSide-refl d) ∙ ap (sameSide d)
 pub sameSide-distinct : (d e : Direction) → (d ≡ e → ⊥) → sameSide d e ≡ false
 sameSide-distinct d e other = not-so (sameSide d e) (λ t. other (sameSide-true d e t))
 
-pub place-by-parts : (x y : Place) → x .node ≡ y .node → x .side ≡ y .side → x .pos ≡ y .pos → x ≡ y
+pub place-by-parts : (x y : InnerPlace) → x .node ≡ y .node → x .side ≡ y .side → x .pos ≡ y .pos → x ≡ y
 place-by-parts x y p q r = λ i. record { node = p i; side = q i; pos = r i }
 
-pub samePlace-refl : (x : Place) → samePlace x x ≡ true
+pub samePlace-refl : (x : InnerPlace) → samePlace x x ≡ true
 unfolding samePlace
 samePlace-refl x = rw (eq-eqb (x .node) (x .node) refl, sameSide-refl (x .side), eq-eqb (x .pos) (x .pos) refl)
 
-pub samePlace-true : (x y : Place) → samePlace x y ≡ true → x ≡ y
+pub samePlace-true : (x y : InnerPlace) → samePlace x y ≡ true → x ≡ y
 unfolding samePlace
 samePlace-true x y = go (eqb (x .node) (y .node)) refl (sameSide (x .side) (y .side)) refl
   where
-    go : (a : Bool) → eqb (x .node) (y .node) ≡ a → (b : Bool) → sameSide (x .side) (y .side) ≡ b → pick a (pick b (eqb (x .pos) (y .pos)) false) false ≡ true → x ≡ y
+    go : (a : Bool) → eqb (x .node) (y .node) ≡ a → (b : Bool) → sameSide (x .side) (y .side) ≡ b → cond a (cond b (eqb (x .pos) (y .pos)) false) false ≡ true → x ≡ y
     go true p true q r = place-by-parts x y (eqb-true _ _ p) (sameSide-true _ _ q) (eqb-true _ _ r)
     go true p false q r = absurd (zero-is-not-one (cc))
     go false p b q r = absurd (zero-is-not-one (cc))
 
-pub samePlace-false : (x y : Place) → samePlace x y ≡ false → x ≡ y → ⊥
+pub samePlace-false : (x y : InnerPlace) → samePlace x y ≡ false → x ≡ y → ⊥
 samePlace-false x y t s = true≢false (sym (samePlace-refl x) ∙ ap (samePlace x) s ∙ t)
 
-pub samePlace-distinct : (x y : Place) → (x ≡ y → ⊥) → samePlace x y ≡ false
+pub samePlace-distinct : (x y : InnerPlace) → (x ≡ y → ⊥) → samePlace x y ≡ false
 samePlace-distinct x y other = not-so (samePlace x y) (λ t. other (samePlace-true x y t))
 
 -- two places are the same or not
-pub place-cases : (x y : Place) → (x ≡ y) ⊎ (x ≡ y → ⊥)
+pub place-cases : (x y : InnerPlace) → (x ≡ y) ⊎ (x ≡ y → ⊥)
 place-cases x y = go (samePlace x y) refl
   where
     go : (b : Bool) → samePlace x y ≡ b → (x ≡ y) ⊎ (x ≡ y → ⊥)
     go true t = inl (samePlace-true x y t)
     go false t = inr (samePlace-false x y t)
 
-pub to-is-not-nowhere : {f : Far} {y : Place} → f ≡ to y → f ≡ nowhere → ⊥
+pub to-is-not-nowhere : {f : Far} {y : InnerPlace} → f ≡ to y → f ≡ nowhere → ⊥
 to-is-not-nowhere p q = zero-is-not-one (cc)
 
-pub to-once : {f : Far} {x y : Place} → f ≡ to x → f ≡ to y → x ≡ y
+pub to-once : {f : Far} {x y : InnerPlace} → f ≡ to x → f ≡ to y → x ≡ y
 to-once p q = cc
 
 -- Links that go with the places of a test.
 
-either-way : (b : Bool) → pick b nowhere nowhere ≡ nowhere
+either-way : (b : Bool) → cond b nowhere nowhere ≡ nowhere
 either-way true = refl
 either-way false = refl
 
-module _ (f : Place → Bool) (join : Place → Far) (x : Place) where
+module _ (f : InnerPlace → Bool) (join : InnerPlace → Far) (x : InnerPlace) where
   pub drop-here : f x ≡ true → dropJoin f join x ≡ nowhere
   unfolding dropJoin
   drop-here t = rw t
 
-  pub drop-there : (y : Place) → join x ≡ to y → f y ≡ true → dropJoin f join x ≡ nowhere
+  pub drop-there : (y : InnerPlace) → join x ≡ to y → f y ≡ true → dropJoin f join x ≡ nowhere
   unfolding dropJoin
   drop-there y j t = rw (j, t) (either-way (f x))
 
@@ -110,26 +109,26 @@ module _ (f : Place → Bool) (join : Place → Far) (x : Place) where
   unfolding dropJoin
   drop-nowhere j = rw j (either-way (f x))
 
-  pub drop-kept : (y : Place) → join x ≡ to y → f x ≡ false → f y ≡ false → dropJoin f join x ≡ to y
+  pub drop-kept : (y : InnerPlace) → join x ≡ to y → f x ≡ false → f y ≡ false → dropJoin f join x ≡ to y
   unfolding dropJoin
   drop-kept y j a b = rw (a, j, b)
 
   -- a link that is left has neither end among the dropped places, and was there before
-  pub drop-joined : (y : Place) → dropJoin f join x ≡ to y → (join x ≡ to y) × (f x ≡ false) × (f y ≡ false)
+  pub drop-joined : (y : InnerPlace) → dropJoin f join x ≡ to y → (join x ≡ to y) × (f x ≡ false) × (f y ≡ false)
   unfolding dropJoin
   drop-joined y = go (f x) refl (join x) refl
     where
-      far : (w : Place) (b : Bool) → f w ≡ b → pick b nowhere (to w) ≡ to y → (to w ≡ to y) × (f y ≡ false)
+      far : (w : InnerPlace) (b : Bool) → f w ≡ b → cond b nowhere (to w) ≡ to y → (to w ≡ to y) × (f y ≡ false)
       far w true t e = absurd (to-is-not-nowhere e refl)
       far w false t e = (e, sym (ap f (to-once refl e)) ∙ t)
 
-      go : (b : Bool) → f x ≡ b → (w : Far) → join x ≡ w → pick b nowhere (keepFar f w) ≡ to y → (join x ≡ to y) × (f x ≡ false) × (f y ≡ false)
+      go : (b : Bool) → f x ≡ b → (w : Far) → join x ≡ w → cond b nowhere (keepFar f w) ≡ to y → (join x ≡ to y) × (f x ≡ false) × (f y ≡ false)
       go true a w j e = absurd (to-is-not-nowhere e refl)
       go false a nowhere j e = absurd (to-is-not-nowhere e refl)
       go false a (to w) j e = let r = far w (f w) refl e in (j ∙ r .0, a, r .1)
 
   -- a place is left alone where neither it nor its far end is dropped
-  pub drop-leaves : ((y : Place) → join x ≡ to y → (f x ≡ false) × (f y ≡ false)) → dropJoin f join x ≡ join x
+  pub drop-leaves : ((y : InnerPlace) → join x ≡ to y → (f x ≡ false) × (f y ≡ false)) → dropJoin f join x ≡ join x
   drop-leaves h = go (join x) refl
     where
       go : (w : Far) → join x ≡ w → dropJoin f join x ≡ join x
@@ -137,16 +136,16 @@ module _ (f : Place → Bool) (join : Place → Far) (x : Place) where
       go (to y) j = drop-kept y j (h y j .0) (h y j .1) ∙ sym j
 
 -- to drop twice is to drop with either test
-pub drop-twice : (f g h : Place → Bool) (join : Place → Far) → ((z : Place) → h z ≡ pick (f z) true (g z)) → (z : Place)
+pub drop-twice : (f g h : InnerPlace → Bool) (join : InnerPlace → Far) → ((z : InnerPlace) → h z ≡ cond (f z) true (g z)) → (z : InnerPlace)
     → dropJoin g (dropJoin f join) z ≡ dropJoin h join z
 unfolding dropJoin
 drop-twice f g h join either z = rw (either z) (go (f z) (g z) (join z))
   where
-    ends : (w : Place) (c d : Bool) → g w ≡ d → keepFar g (pick c nowhere (to w)) ≡ pick (pick c true d) nowhere (to w)
+    ends : (w : InnerPlace) (c d : Bool) → g w ≡ d → keepFar g (cond c nowhere (to w)) ≡ cond (cond c true d) nowhere (to w)
     ends w true d e = refl
     ends w false d e = rw e
 
-    go : (a b : Bool) (far : Far) → pick b nowhere (keepFar g (pick a nowhere (keepFar f far))) ≡ pick (pick a true b) nowhere (keepFar h far)
+    go : (a b : Bool) (far : Far) → cond b nowhere (keepFar g (cond a nowhere (keepFar f far))) ≡ cond (cond a true b) nowhere (keepFar h far)
     go true true far = refl
     go true false far = refl
     go false true far = refl
@@ -154,23 +153,23 @@ drop-twice f g h join either z = rw (either z) (go (f z) (g z) (join z))
     go false false (to w) = rw (either w) (ends w (f w) (g w) refl)
 
 -- the link of x is dropped: every place but x and its far end is left alone
-pub drop-elsewhere : (join : Place → Far) (x z : Place) → (z ≡ x → ⊥) → (join z ≡ to x → ⊥) → dropJoin (samePlace x) join z ≡ join z
+pub drop-elsewhere : (join : InnerPlace → Far) (x z : InnerPlace) → (z ≡ x → ⊥) → (join z ≡ to x → ⊥) → dropJoin (samePlace x) join z ≡ join z
 drop-elsewhere join x z other apart =
     drop-leaves (samePlace x) join z
     (λ w j. (samePlace-distinct x z (λ e. other (sym e)), samePlace-distinct x w (λ e. apart (j ∙ ap to (sym e)))))
 
 -- A link is made.
 
-pub link-elim {ℓ} : (P : Far → Type ℓ) (x y : Place) (join : Place → Far) (z : Place) → (z ≡ x → P (to y)) → ((z ≡ x → ⊥) → z ≡ y → P (to x)) → ((z ≡ x → ⊥) → (z ≡ y → ⊥) → P (join z)) → P (linkJoin x y join z)
+pub link-elim {ℓ} : (P : Far → Type ℓ) (x y : InnerPlace) (join : InnerPlace → Far) (z : InnerPlace) → (z ≡ x → P (to y)) → ((z ≡ x → ⊥) → z ≡ y → P (to x)) → ((z ≡ x → ⊥) → (z ≡ y → ⊥) → P (join z)) → P (linkJoin x y join z)
 unfolding linkJoin
 link-elim P x y join z first second other = go (samePlace z x) refl (samePlace z y) refl
   where
-    go : (t : Bool) → samePlace z x ≡ t → (u : Bool) → samePlace z y ≡ u → P (pick t (to y) (pick u (to x) (join z)))
+    go : (t : Bool) → samePlace z x ≡ t → (u : Bool) → samePlace z y ≡ u → P (cond t (to y) (cond u (to x) (join z)))
     go true e u d = first (samePlace-true z x e)
     go false e true d = second (samePlace-false z x e) (samePlace-true z y d)
     go false e false d = other (samePlace-false z x e) (samePlace-false z y d)
 
-module _ (x y : Place) (join : Place → Far) where
+module _ (x y : InnerPlace) (join : InnerPlace → Far) where
   pub link-near : linkJoin x y join x ≡ to y
   unfolding linkJoin
   link-near = rw (samePlace-refl x)
@@ -179,22 +178,22 @@ module _ (x y : Place) (join : Place → Far) where
   unfolding linkJoin
   link-far other = rw (samePlace-distinct y x other, samePlace-refl y)
 
-  pub link-other : (z : Place) → (z ≡ x → ⊥) → (z ≡ y → ⊥) → linkJoin x y join z ≡ join z
+  pub link-other : (z : InnerPlace) → (z ≡ x → ⊥) → (z ≡ y → ⊥) → linkJoin x y join z ≡ join z
   unfolding linkJoin
   link-other z a b = rw (samePlace-distinct z x a, samePlace-distinct z y b)
 
 -- Good joins: links of places of P, symmetric, between opposite sides.
 
-pub record Joined (P : Place → Type 0) (J : Place → Far) : Type 0 where
-  pub valid : (x y : Place) → J x ≡ to y → P x
-  pub back : (x y : Place) → J x ≡ to y → J y ≡ to x
-  pub sides : (x y : Place) → J x ≡ to y → x .side ≡ y .side → ⊥
+pub record Joined (P : InnerPlace → Type 0) (J : InnerPlace → Far) : Type 0 where
+  pub valid : (x y : InnerPlace) → J x ≡ to y → P x
+  pub back : (x y : InnerPlace) → J x ≡ to y → J y ≡ to x
+  pub sides : (x y : InnerPlace) → J x ≡ to y → x .side ≡ y .side → ⊥
 
-pub far-valid : {P : Place → Type 0} {J : Place → Far} → Joined P J → (x y : Place) → J x ≡ to y → P y
+pub far-valid : {P : InnerPlace → Type 0} {J : InnerPlace → Far} → Joined P J → (x y : InnerPlace) → J x ≡ to y → P y
 far-valid j x y e = j .valid y x (j .back x y e)
 
 -- what is left joins places that are not dropped
-pub joined-drop-outside : {P Q : Place → Type 0} {J : Place → Far} (g : Place → Bool) → Joined P J → ((x : Place) → P x → g x ≡ false → Q x)
+pub joined-drop-outside : {P Q : InnerPlace → Type 0} {J : InnerPlace → Far} (g : InnerPlace → Bool) → Joined P J → ((x : InnerPlace) → P x → g x ≡ false → Q x)
     → Joined Q (dropJoin g J)
 joined-drop-outside {J} g j stays =
     record {
@@ -203,11 +202,11 @@ joined-drop-outside {J} g j stays =
       sides = λ x y e. j .sides x y (drop-joined g J x y e .0);
     }
 
-pub joined-drop : {P : Place → Type 0} {J : Place → Far} (g : Place → Bool) → Joined P J → Joined P (dropJoin g J)
+pub joined-drop : {P : InnerPlace → Type 0} {J : InnerPlace → Far} (g : InnerPlace → Bool) → Joined P J → Joined P (dropJoin g J)
 joined-drop g j = joined-drop-outside g j (λ x p e. p)
 
 -- dropping the link of a place that has none changes nothing
-pub drop-unlinked : {P : Place → Type 0} {J : Place → Far} → Joined P J → (x : Place) → J x ≡ nowhere → (z : Place) → dropJoin (samePlace x) J z ≡ J z
+pub drop-unlinked : {P : InnerPlace → Type 0} {J : InnerPlace → Far} → Joined P J → (x : InnerPlace) → J x ≡ nowhere → (z : InnerPlace) → dropJoin (samePlace x) J z ≡ J z
 drop-unlinked {J} j x e z =
     drop-leaves (samePlace x) J z
     (λ w f. (
@@ -216,14 +215,14 @@ drop-unlinked {J} j x e z =
     ))
 
 -- two places without links, of opposite sides, are linked
-pub joined-link : {P : Place → Type 0} {J : Place → Far} → Joined P J → (x y : Place) → P x → P y → J x ≡ nowhere → J y ≡ nowhere
+pub joined-link : {P : InnerPlace → Type 0} {J : InnerPlace → Far} → Joined P J → (x y : InnerPlace) → P x → P y → J x ≡ nowhere → J y ≡ nowhere
     → (x .side ≡ y .side → ⊥) → Joined P (linkJoin x y J)
 joined-link {P} {J} j x y px py freeX freeY opposite =
     record {
       valid = λ z w. link-elim (λ f. f ≡ to w → P z) x y J z (λ p e. rw p px) (λ h p e. rw p py) (λ h k. j .valid z w);
       back = λ z w.
           link-elim (λ f. f ≡ to w → linkJoin x y J w ≡ to z) x y J z
-          (λ p e. rw (p, ← to-once refl e) (link-far x y J (λ q. opposite (ap (λ (u : Place). u .side) (sym q)))))
+          (λ p e. rw (p, ← to-once refl e) (link-far x y J (λ q. opposite (ap (λ (u : InnerPlace). u .side) (sym q)))))
           (λ h p e. rw (p, ← to-once refl e) (link-near x y J))
           (λ h k e.
           let b : J w ≡ to z = j .back z w e in

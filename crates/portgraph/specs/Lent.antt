@@ -1,20 +1,26 @@
 -- The graph's tables as a run lends them: each an array of its own, the nodes as numbers, and the counts beside them.
 -- A node slot is five numbers: 0, previous and next free entry, 0, 0; or 1, first port, incoming, outgoing, capacity.
+use mathlib.Core.Path.{_≡_}
 use mathlib.Core.List.{List, [], _∷_}
-use Prim.Native.Nat.{ℕ, _+_, _*_}
+use Prim.Native.Nat.{ℕ, _+_, _*_, _≤_, _<_}
 use lib.Dec.{eqb, ltb}
 use lib.ListN.{getD, set}
-use Rattle.portgraph.specs.Limits.{nodeSlots, portSlots}
-use Rattle.portgraph.specs.Entries.{pick, freshSlot, freeSlotOf, nodeSlotOf, portEntry}
+use mathlib.Core.Bool.{cond}
+use Rattle.portgraph.specs.Limits.{nodeSlots, portSlots, nodePorts}
+use Rattle.portgraph.specs.Entries.{freshSlot, freeSlotOf, nodeSlotOf, portEntry}
 use Rattle.portgraph.specs.Tables.{at}
 use Rattle.portgraph.specs.Meaning.{metaOf}
-use Rattle.portgraph.specs.Lookups.{metaOfEntry, portIn, offsetIn}
+use Rattle.portgraph.specs.Lookups.{entryAt, metaOfEntry, portIn, offsetIn}
+use Rattle.portgraph.specs.Model.{Wf}
+use Rattle.portgraph.specs.Resize.{BlockFits}
 use Rattle.portgraph.specs.declared.index.PortOffset.{PortOffset}
 use Rattle.portgraph.specs.declared.index.MaybePortIndex.{MaybePortIndex}
 use Rattle.portgraph.specs.declared.index.MaybePortIndex.the-variants as maybe-port
 use Rattle.portgraph.specs.declared.index.MaybePortOffset.{MaybePortOffset}
 use Rattle.portgraph.specs.declared.index.MaybePortOffset.the-variants as maybe-offset
+use Rattle.portgraph.specs.declared.node_entry.NodeMeta.{NodeMeta}
 use Rattle.portgraph.specs.declared.node_entry.NodeSlot.{NodeSlot}
+use Rattle.portgraph.specs.declared.node_entry.NodeEntry.the-variants as node-variants
 use Rattle.portgraph.specs.declared.node_entry.MaybeNodeMeta.{MaybeNodeMeta}
 use Rattle.portgraph.specs.declared.port_entry.PortEntry.{PortEntry}
 use Rattle.portgraph.specs.declared.port_entry.PortEntry.the-variants as port-variants
@@ -27,11 +33,11 @@ nodeWords = 5 * nodeSlots
 
 -- a number as a count of ports; 0 for one that is too large
 unfoldable pub narrow : ℕ → ℕ
-narrow x = pick (ltb x 65536) x 0
+narrow x = cond (ltb x 65536) x 0
 
 -- five numbers, read as a slot
 unfoldable pub slotOfWords : ℕ → ℕ → ℕ → ℕ → ℕ → NodeSlot
-slotOfWords kind a b c d = pick (eqb kind 0) (freeSlotOf a b) (nodeSlotOf (metaOf a (narrow b) (narrow c) (narrow d)))
+slotOfWords kind a b c d = cond (eqb kind 0) (freeSlotOf a b) (nodeSlotOf (metaOf a (narrow b) (narrow c) (narrow d)))
 
 -- the node table that the numbers stand for
 unfoldable pub slotsIn : List ℕ → List NodeSlot
@@ -45,13 +51,13 @@ slotsIn (k ∷ a ∷ b ∷ c ∷ d ∷ words) = slotOfWords k a b c d ∷ slotsI
 -- one slot; a free one outside the table
 unfoldable pub slotIn : List ℕ → ℕ → NodeSlot
 slotIn words n =
-    pick (ltb n nodeSlots)
+    cond (ltb n nodeSlots)
     (slotOfWords (getD words (5 * n) 0) (getD words (5 * n + 1) 0) (getD words (5 * n + 2) 0) (getD words (5 * n + 3) 0) (getD words (5 * n + 4) 0))
     freshSlot
 
 -- the node table with another slot; outside nothing changes
 unfoldable pub putSlot : List NodeSlot → ℕ → NodeSlot → List NodeSlot
-putSlot nodes n s = pick (ltb n nodeSlots) (set nodes n s) nodes
+putSlot nodes n s = cond (ltb n nodeSlots) (set nodes n s) nodes
 
 -- the node with a number, if it is live
 abbrev pub metaIn : List ℕ → ℕ → MaybeNodeMeta
@@ -60,7 +66,7 @@ metaIn words n = metaOfEntry (slotIn words n .entry)
 -- a port outside the tables is none
 abbrev pub portWithin : MaybePortIndex → MaybePortIndex
 portWithin maybe-port.None = maybe-port.None
-portWithin (maybe-port.Some p) = pick (ltb (p .0) portSlots) (maybe-port.Some p) maybe-port.None
+portWithin (maybe-port.Some p) = cond (ltb (p .0) portSlots) (maybe-port.Some p) maybe-port.None
 
 -- the port at a side and position of a node
 abbrev pub portIndexIn : List ℕ → ℕ → PortOffset → MaybePortIndex
@@ -101,6 +107,36 @@ countLinks counts links =
       «port_count» = counts .«port_count»;
       «link_count» = links;
     }
+
+-- the counts with another used length of the port tables
+abbrev pub countPorts : Counts → ℕ → Counts
+countPorts counts len =
+    record {
+      «node_free» = counts .«node_free»;
+      «node_len» = counts .«node_len»;
+      «port_len» = len;
+      «node_count» = counts .«node_count»;
+      «port_count» = counts .«port_count»;
+      «link_count» = counts .«link_count»;
+    }
+
+-- a node of a graph of the calls that may get these counts: what of its numbers the steps take
+pub record Resizes (g : PortGraph) (n : ℕ) (m : NodeMeta) (incoming outgoing : ℕ) : Type 0 where
+  pub wf : Wf g
+  pub live : entryAt g n ≡ node-variants.Node m
+  pub few : incoming + outgoing ≤ nodePorts
+  pub fits : BlockFits m
+  pub below : n < nodeSlots
+  pub used : g .«port_len» ≤ portSlots
+  pub counted : g .«port_count» ≤ nodeSlots * nodePorts
+
+-- numbers with which a node gets other counts in a block of a size
+pub record Settles (m : NodeMeta) (n incoming outgoing size : ℕ) (counts : Counts) : Type 0 where
+  pub fits : BlockFits m
+  pub below : n < nodeSlots
+  pub inSize : incoming + outgoing ≤ size
+  pub small : size ≤ nodePorts
+  pub counted : counts .«port_count» ≤ nodeSlots * nodePorts
 
 -- the counts of the empty graph
 abbrev pub noCounts : Counts

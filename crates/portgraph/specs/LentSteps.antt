@@ -14,13 +14,15 @@ use Rattle.portgraph.specs.Tables.{at, fillRange, headAt, putHead, ownBl
 use Rattle.portgraph.specs.Meaning.{metaOf}
 use Rattle.portgraph.specs.Lookups.{entryAt, metaOfEntry, metaAt, startOf, offsetIn, portIn, portIndex, portOffset, node#, port#}
 use Rattle.portgraph.specs.Calls.{newGraph, findSlot, findBlock, restOf, grown, slotAfter, addNode, removeNode, withLinks}
-use Rattle.portgraph.specs.Resize.{BlockFits, Plan, inside, anew, planOf, setBy, toldBy, setNumPorts, movesAfter, roundUp, dropLinks, dropCount, firstSlot, insideLinks, anewLinks}
-use Rattle.portgraph.specs.Lent.{nodeWords, narrow, slotOfWords, slotsIn, slotIn, putSlot, metaIn, portWithin, portIndexIn, offsetOfIn, portOffsetIn, graphIn, countLinks, noCounts}
+use Rattle.portgraph.specs.Resize.{BlockFits, Plan, refuse, same, inside, anew, sameCounts, fitsInside, planOf, setBy, toldBy, setNumPorts, movesAfter, roundUp, dropLinks, dropCount, dropped, keptIn, keptOut, firstSlot, insideLinks, anewLinks, setNumPortsUnder, movesAfterUnder}
+use Rattle.portgraph.specs.Lent.{nodeWords, narrow, slotOfWords, slotsIn, slotIn, putSlot, metaIn, portWithin, portIndexIn, offsetOfIn, portOffsetIn, graphIn, countLinks, countPorts, Resizes, noCounts}
 use Rattle.portgraph.specs.Model.{Wf}
-use Rattle.portgraph.specs.WfFacts.{block-fits, node-below}
+use Rattle.portgraph.specs.WfFacts.{block-fits, node-below, port-len-fits, port-count-fits}
 use Rattle.portgraph.specs.LookupSteps.{side-fits}
 use Rattle.portgraph.specs.SlotSteps.{node-added, node-removed, node-slot-fits}
-use Rattle.portgraph.specs.ResizeSteps.{inside-graph, anew-graph}
+use Rattle.portgraph.specs.ResizeSteps.{round-up-positive, rest-after, plan-same, plan-inside, plan-no-room, plan-anew}
+use Rattle.portgraph.specs.ResizeLaws.{anew-in-steps}
+use Rattle.portgraph.specs.Settle.{takeBlock, dropPorts, settleInside, settleAnew, inside-in-steps}
 use Rattle.portgraph.specs.declared.direction.Direction.{Direction}
 use Rattle.portgraph.specs.declared.index.PortOffset.{PortOffset}
 use Rattle.portgraph.specs.declared.index.MaybePortIndex.the-variants as maybe-port
@@ -43,7 +45,7 @@ use Rattle.portgraph.specs.declared.portgraph.PortUnlinked.{PortUnlinked
 use Rattle.portgraph.specs.declared.resize.SetAnswer.{SetAnswer}
 use Rattle.portgraph.specs.declared.resize.SetAnswer.the-variants as set-variants
 use Rattle.portgraph.specs.declared.resize.PortsSet.{PortsSet}
-use Rattle.portgraph.specs.declared.slots.Found.the-variants.{At}
+use Rattle.portgraph.specs.declared.slots.Found.the-variants.{At, NoRoom}
 use Rattle.portgraph.specs.declared.slots.AddAnswer.{AddAnswer}
 use Rattle.portgraph.specs.declared.slots.AddAnswer.the-variants as added
 use Rattle.portgraph.specs.declared.slots.NodeAdded.{NodeAdded}
@@ -370,60 +372,144 @@ module _ (nodes links owners heads : List ℕ) (counts : Counts) (w : Wf (graphI
       removed-in (rw stored
       (node-removed (graphIn nodes links owners heads counts) n m entry long p e1 e2 (e3 .0) next-to e7 (e9 .0) (e9 .1) e10 e11 e12 e13 e14 e15 e16 e17))
 
--- Changing a node's counts.
+-- Changing a node's counts: what each step leaves.
 
-module _ (nodes links owners heads : List ℕ) (counts : Counts) (m : NodeMeta) (n i o f oi oo ki ko : ℕ) (below : n < nodeSlots)
-    (ef : f ≡ firstSlot m) (ei : oi ≡ m .incoming) (eo : oo ≡ m .outgoing) (eki : ki ≡ min oi i) (eko : ko ≡ min oo o) where
-  pub inside-in : (place cuts count links# : ℕ) (slot : NodeSlot) (nodes′ t t′ owners′ : List ℕ)
-      → t ≡ dropLinks links m i o → cuts ≡ dropCount links m i o → t′ ≡ insideLinks t m i o
-      → owners′ ≡ ownBlock owners n (metaOf (firstSlot m) i o (m .capacity)) → place ≡ n
-      → slot ≡ nodeSlotOf (metaOf (firstSlot m) i o (m .capacity)) → slotsIn nodes′ ≡ putSlot (slotsIn nodes) place slot
-      → count ≡ counts .«port_count» - (oi + oo) → links# ≡ counts .«link_count» - cuts
-      → (graphIn nodes′ t′ owners′ heads (record {
-        «node_free» = counts .«node_free»;
-        «node_len» = counts .«node_len»;
-        «port_len» = counts .«port_len»;
-        «node_count» = counts .«node_count»;
-        «port_count» = count + (i + o);
-        «link_count» = links#;
-      }) ≡ setBy (graphIn nodes links owners heads counts) n i o (inside m) .graph)
-      × (set-variants.Set (((oi - ki) + (oo - ko)) + ko) ≡ setBy (graphIn nodes links owners heads counts) n i o (inside m) .answer)
-  inside-in place cuts count links# slot nodes′ t t′ owners′ et ec et′ eow ep es en ecount elinks =
-      let here : place < nodeSlots = omega arith in
-      let stored : slotsIn nodes′ ≡ set (slotsIn nodes) place slot = en ∙ put-inside (slotsIn nodes) place slot here in
-      set-in (rw stored
-      (inside-graph (graphIn nodes links owners heads counts) m n i o f oi oo ki ko ef ei eo eki eko place cuts count links# slot t t′ owners′ et ec et′ eow ep es ecount elinks))
+module _ (nodes links owners heads : List ℕ) (counts : Counts) where
+  pub taken-in : (size first : ℕ) {heads′ : List ℕ} {counts′ : Counts} → 0 < size → findBlock heads (counts .«port_len») size ≡ At first
+      → counts′ ≡ countPorts counts (grown (headAt heads size) (counts .«port_len») size)
+      → heads′ ≡ putHead heads size (restOf (headAt heads size) (at links first))
+      → graphIn nodes links owners heads′ counts′ ≡ takeBlock (graphIn nodes links owners heads counts) size
+  taken-in size first some found e f =
+      let after = rest-after (graphIn nodes links owners heads counts) size first some found _ _ _ refl refl refl in
+      (λ j. graphIn nodes links owners (f j) (e j))
+      ∙ ap (λ (k : ℕ). graphIn nodes links owners (putHead heads size k) (countPorts counts (grown (headAt heads size) (counts .«port_len») size))) after
 
-  pub anew-in : (cap size first place head next rest cuts more old len count links# links#′ : ℕ) (slot : NodeSlot) (nodes′ t t₁ t₂ t₃ heads′ heads″ owners′ owners″ : List ℕ)
-      → cap ≡ m .capacity → size ≡ roundUp (i + o) → findBlock heads (counts .«port_len») (roundUp (i + o)) ≡ At first
-      → head ≡ headAt heads size → next ≡ at links first → rest ≡ restOf head next
-      → t ≡ dropLinks links m i o → cuts ≡ dropCount links m i o
-      → heads′ ≡ putHead heads size rest
-      → t₁ ≡ anewLinks t m i o first size
-      → owners′ ≡ ownBlock owners n (metaOf first i o size) → place ≡ n → slot ≡ nodeSlotOf (metaOf first i o size)
-      → slotsIn nodes′ ≡ putSlot (slotsIn nodes) place slot
-      → (more ≡ cutCount t₁ f cap) × (t₂ ≡ cutRange t₁ f cap) → old ≡ headAt heads′ cap → t₃ ≡ chainBlock t₂ f cap old
-      → owners″ ≡ fillRange owners′ (firstSlot m) (m .capacity) 0 → heads″ ≡ putHead heads′ cap (firstSlot m + 1)
-      → len ≡ grown head (counts .«port_len») size
-      → count ≡ counts .«port_count» - (oi + oo) → links# ≡ counts .«link_count» - cuts → links#′ ≡ links# - more
-      → (graphIn nodes′ t₃ owners″ heads″ (record {
-        «node_free» = counts .«node_free»;
-        «node_len» = counts .«node_len»;
-        «port_len» = len;
-        «node_count» = counts .«node_count»;
-        «port_count» = count + (i + o);
-        «link_count» = links#′;
-      }) ≡ setBy (graphIn nodes links owners heads counts) n i o (anew m first) .graph)
-      × (set-variants.Set (((oi - ki) + (oo - ko)) + (ki + ko)) ≡ setBy (graphIn nodes links owners heads counts) n i o (anew m first) .answer)
-  anew-in cap size first place head next rest cuts more old len count links# links#′ slot nodes′ t t₁ t₂ t₃ heads′ heads″ owners′ owners″ ecap esize found ehead enext erest et ecuts eheads et₁ eow ep es en ecut eold et₃ eow′ eheads′ elen ecount elinks elinks′ =
-      let here : place < nodeSlots = omega arith in
-      let stored : slotsIn nodes′ ≡ set (slotsIn nodes) place slot = en ∙ put-inside (slotsIn nodes) place slot here in
-      set-in (rw stored
-      (anew-graph (graphIn nodes links owners heads counts) m n i o f oi oo ki ko ef ei eo eki eko cap size first place head next rest cuts more old len count links# links#′ slot t t₁ t₂ t₃ heads′ heads″ owners′ owners″
-      ecap esize found ehead enext erest et ecuts eheads elen et₁ eow ep es (ecut .0) (ecut .1) eold et₃ eow′ eheads′ ecount elinks elinks′))
+  pub dropped-in : (m : NodeMeta) (i o : ℕ) {links′ : List ℕ} {counts′ : Counts} → counts′ ≡ countLinks counts (counts .«link_count» - dropCount links m i o) → links′ ≡ dropLinks links m i o
+      → graphIn nodes links′ owners heads counts′ ≡ dropPorts (graphIn nodes links owners heads counts) m i o
+  dropped-in m i o e f = λ j. graphIn nodes (f j) owners heads (e j)
+
+  module _ (m : NodeMeta) (n i o : ℕ) (below : n < nodeSlots) where
+    pub inside-settled : {place ports count : ℕ} {slot : NodeSlot} (nodes′ : List ℕ) {links′ owners′ : List ℕ}
+        → links′ ≡ insideLinks links m i o → owners′ ≡ ownBlock owners n (metaOf (firstSlot m) i o (m .capacity)) → place ≡ n
+        → slot ≡ nodeSlotOf (metaOf (firstSlot m) i o (m .capacity)) → slotsIn nodes′ ≡ putSlot (slotsIn nodes) place slot
+        → ports ≡ m .incoming + m .outgoing → count ≡ counts .«port_count» - ports
+        → graphIn nodes′ links′ owners′ heads (record {
+          «node_free» = counts .«node_free»;
+          «node_len» = counts .«node_len»;
+          «port_len» = counts .«port_len»;
+          «node_count» = counts .«node_count»;
+          «port_count» = count + (i + o);
+          «link_count» = counts .«link_count»;
+        }) ≡ settleInside (graphIn nodes links owners heads counts) n m i o
+    unfolding settleInside
+    inside-settled {place} {ports} {count} {slot} nodes′ et eo ep es en eq ec =
+        let here : place < nodeSlots = omega arith in
+        let stored : slotsIn nodes′ ≡ set (slotsIn nodes) place slot = en ∙ put-inside (slotsIn nodes) place slot here in
+        rw (stored, et, eo, ep, es, ec, eq)
+
+    pub anew-settled : {first size f cap place ports count old : ℕ} {slot : NodeSlot} (nodes′ : List ℕ) {links₁ links′ owners₁ owners′ heads′ : List ℕ}
+        → f ≡ firstSlot m → cap ≡ m .capacity → links₁ ≡ anewLinks links m i o first size → old ≡ headAt heads cap → links′ ≡ chainBlock links₁ f cap old
+        → heads′ ≡ putHead heads cap (firstSlot m + 1)
+        → owners₁ ≡ ownBlock owners n (metaOf first i o size) → owners′ ≡ fillRange owners₁ (firstSlot m) (m .capacity) 0
+        → place ≡ n → slot ≡ nodeSlotOf (metaOf first i o size) → slotsIn nodes′ ≡ putSlot (slotsIn nodes) place slot
+        → ports ≡ m .incoming + m .outgoing → count ≡ counts .«port_count» - ports
+        → graphIn nodes′ links′ owners′ heads′ (record {
+          «node_free» = counts .«node_free»;
+          «node_len» = counts .«node_len»;
+          «port_len» = counts .«port_len»;
+          «node_count» = counts .«node_count»;
+          «port_count» = count + (i + o);
+          «link_count» = counts .«link_count»;
+        }) ≡ settleAnew (graphIn nodes links owners heads counts) n m i o first size
+    unfolding settleAnew
+    anew-settled {place = place} {slot = slot} nodes′ ef ecap et eold et′ eh eo eo′ ep es en eq ec =
+        let here : place < nodeSlots = omega arith in
+        let stored : slotsIn nodes′ ≡ set (slotsIn nodes) place slot = en ∙ put-inside (slotsIn nodes) place slot here in
+        rw (stored, et′, et, eh, eo′, eo, ep, es, ec, eq, eold, ecap, ef)
+
+-- how many events the code counts
+pub inside-events : (m : NodeMeta) (i o : ℕ) {oi ki ports events : ℕ} → oi ≡ m .incoming → ki ≡ min oi i → ports ≡ m .incoming + m .outgoing → events ≡ ports - ki
+    → set-variants.Set events ≡ set-variants.Set (dropped m i o + keptOut m o)
+inside-events m i o e f g h = ap (λ (k : ℕ). set-variants.Set k) (omega arith)
+
+pub anew-events : (m : NodeMeta) (i o : ℕ) {ports : ℕ} → ports ≡ m .incoming + m .outgoing → set-variants.Set ports ≡ set-variants.Set (dropped m i o + (keptIn m i + keptOut m o))
+anew-events m i o e = ap (λ (k : ℕ). set-variants.Set k) (omega arith)
+
+module _ (m : NodeMeta) (i o : ℕ) {oi oo ki ko : ℕ} (ei : oi ≡ m .incoming) (eo : oo ≡ m .outgoing) (eki : ki ≡ min oi i) (eko : ko ≡ min oo o) where
+  pub inside-told-events : set-variants.Set (((oi - ki) + (oo - ko)) + ko) ≡ set-variants.Set (dropped m i o + keptOut m o)
+  inside-told-events = rw (eki, eko, ei, eo)
+
+  pub anew-told-events : set-variants.Set (((oi - ki) + (oo - ko)) + (ki + ko)) ≡ set-variants.Set (dropped m i o + (keptIn m i + keptOut m o))
+  anew-told-events = rw (eki, eko, ei, eo)
+
+-- the steps together are the change of counts
+module _ (nodes links owners heads : List ℕ) (counts : Counts) (n : ℕ) (m : NodeMeta) (i o : ℕ) where
+  pub inside-done : {links₁ : List ℕ} {counts₁ : Counts} {g : PortGraph} → counts₁ ≡ countLinks counts (counts .«link_count» - dropCount links m i o) → links₁ ≡ dropLinks links m i o
+      → g ≡ settleInside (graphIn nodes links₁ owners heads counts₁) n m i o → g ≡ setBy (graphIn nodes links owners heads counts) n i o (inside m) .graph
+  inside-done e f h =
+      h ∙ (ap (λ (v : PortGraph). settleInside v n m i o) (dropped-in nodes links owners heads counts m i o e f)
+      ∙ sym (inside-in-steps (graphIn nodes links owners heads counts) n m i o))
+
+  pub anew-done : {size first : ℕ} {links₁ heads₁ : List ℕ} {counts₁ counts₂ : Counts} {g : PortGraph} → Resizes (graphIn nodes links owners heads counts) n m i o
+      → size ≡ roundUp (i + o) → findBlock heads (counts .«port_len») (roundUp (i + o)) ≡ At first
+      → counts₁ ≡ countPorts counts (grown (headAt heads size) (counts .«port_len») size) → heads₁ ≡ putHead heads size (restOf (headAt heads size) (at links first))
+      → counts₂ ≡ countLinks counts₁ (counts₁ .«link_count» - dropCount links m i o) → links₁ ≡ dropLinks links m i o
+      → g ≡ settleAnew (graphIn nodes links₁ owners heads₁ counts₂) n m i o first size → g ≡ setBy (graphIn nodes links owners heads counts) n i o (anew m first) .graph
+  anew-done {size} {first} {heads₁ = heads₁} {counts₁ = counts₁} r es found e f h k l =
+      let some : 0 < size = omega (arith, round-up-positive (i + o)) in
+      let g = graphIn nodes links owners heads counts in
+      let taken = taken-in nodes links owners heads counts size first some (rw es found) e f in
+      let cut = dropped-in nodes links owners heads₁ counts₁ m i o h k in
+      l ∙ (ap (λ (v : PortGraph). settleAnew v n m i o first size) (cut ∙ ap (λ (v : PortGraph). dropPorts v m i o) taken)
+      ∙ (ap (λ (s : ℕ). settleAnew (dropPorts (takeBlock g s) m i o) n m i o first s) es
+      ∙ sym (anew-in-steps g n i o (r .wf) m first (r .few) (r .live) found)))
+
+-- graph and answer for a plan
+pub planned-in : (g h : PortGraph) (n i o room : ℕ) (a : SetAnswer) (p : Plan) → planOf g n i o room ≡ p → h ≡ setBy g n i o p .graph → a ≡ setBy g n i o p .answer
+    → (h ≡ setNumPorts g n i o room .graph) × (a ≡ setNumPorts g n i o room .answer)
+unfolding setNumPortsUnder
+planned-in g h n i o room a p e eg ea = (rw e eg, rw e ea)
+
+-- Without a move list: as with one of three numbers for each of the most ports.
+module _ (nodes links owners heads : List ℕ) (counts : Counts) (n : ℕ) (m : NodeMeta) (i o : ℕ) (r : Resizes (graphIn nodes links owners heads counts) n m i o) where
+  abbrev whole : PortGraph
+  whole = graphIn nodes links owners heads counts
+
+  long : 3 * (m .incoming + m .outgoing) ≤ 3 * nodePorts
+  long = let f = r .fits in omega arith
+
+  pub quiet-same : sameCounts m i o ≡ true → (whole ≡ setNumPorts whole n i o (3 * nodePorts) .graph) × (set-variants.Set 0 ≡ setNumPorts whole n i o (3 * nodePorts) .answer)
+  quiet-same s = planned-in whole whole n i o (3 * nodePorts) _ same (plan-same whole n i o (3 * nodePorts) (r .few) m (r .live) long s) refl refl
+
+  module _ (s : sameCounts m i o ≡ false) where
+    pub quiet-inside : {g : PortGraph} {a : SetAnswer} → fitsInside m i o ≡ true → g ≡ setBy whole n i o (inside m) .graph → a ≡ setBy whole n i o (inside m) .answer
+        → (g ≡ setNumPorts whole n i o (3 * nodePorts) .graph) × (a ≡ setNumPorts whole n i o (3 * nodePorts) .answer)
+    quiet-inside {g} t = planned-in whole g n i o (3 * nodePorts) _ (inside m) (plan-inside whole n i o (3 * nodePorts) (r .few) m (r .live) long s t)
+
+    module _ (t : fitsInside m i o ≡ false) where
+      pub quiet-no-room : findBlock heads (counts .«port_len») (roundUp (i + o)) ≡ NoRoom
+          → (whole ≡ setNumPorts whole n i o (3 * nodePorts) .graph) × (set-variants.NoRoom ≡ setNumPorts whole n i o (3 * nodePorts) .answer)
+      quiet-no-room f = planned-in whole whole n i o (3 * nodePorts) _ (refuse set-variants.NoRoom) (plan-no-room whole n i o (3 * nodePorts) (r .few) m (r .live) long s t f) refl refl
+
+      pub quiet-anew : (first : ℕ) {g : PortGraph} {a : SetAnswer} → findBlock heads (counts .«port_len») (roundUp (i + o)) ≡ At first → g ≡ setBy whole n i o (anew m first) .graph → a ≡ setBy whole n i o (anew m first) .answer
+          → (g ≡ setNumPorts whole n i o (3 * nodePorts) .graph) × (a ≡ setNumPorts whole n i o (3 * nodePorts) .answer)
+      quiet-anew first {g} f = planned-in whole g n i o (3 * nodePorts) _ (anew m first) (plan-anew whole n i o (3 * nodePorts) (r .few) m (r .live) long first s t f)
+
+-- a node that is found, with counts that are few enough
+pub resizes : (g : PortGraph) → Wf g → (n : ℕ) (m : NodeMeta) (i o : ℕ) → entryAt g n ≡ node-variants.Node m → i + o ≤ nodePorts → Resizes g n m i o
+resizes g w n m i o e few =
+    record {
+      wf = w;
+      live = e;
+      few = few;
+      fits = block-fits g w n m e;
+      below = node-below g w n m e;
+      used = port-len-fits g w;
+      counted = port-count-fits g w;
+    }
 
 pub answered-in : (g h : PortGraph) (n i o : ℕ) (b b′ : List ℕ) (a : SetAnswer) (p : Plan) → planOf g n i o (length b) ≡ p
     → h ≡ setBy g n i o p .graph → a ≡ setBy g n i o p .answer → b′ ≡ sets b 0 (toldBy g i o p)
     → (h ≡ setNumPorts g n i o (length b) .graph) × (a ≡ setNumPorts g n i o (length b) .answer) × (b′ ≡ movesAfter g n i o b)
-unfolding setNumPorts movesAfter
+unfolding setNumPortsUnder movesAfterUnder
 answered-in g h n i o b b′ a p e eg ea eb = (rw e eg, rw e ea, rw e eb)

@@ -1,9 +1,11 @@
 -- The single-link graph: what it is, what its calls do, and the laws.
 --
--- What must be believed: that the definitions which contracts cite say what document 01 says. They stand in eight files, in this order:
---   Limits, Entries, Tables     the numbers in the tables, and single steps on them
+-- What must be believed: that the definitions which contracts cite say what document 01 says. They stand in this order:
+--   Limits, Lists               the limits of the kit; words about lists
+--   Entries, Tables             the numbers in the tables, and single steps on them
 --   Lookups, Calls, Resize      each call: answer, graph and move list as the contracts cite them
 --   Walks, LinkWalks            the steps of the cursors
+--   Lent                        the same graph as tables apart, each lent to the calls: graphIn puts them together
 -- and three words of Meaning: metaOf, sameSide, newCount.
 --
 -- What is proved, and need not be believed: everything else. A contract presumes of its graph only that it came from these calls
@@ -20,26 +22,20 @@
 --   told-length, told-first, moves-kept, kept-link (ResizeLaws): the move list, and that a kept port keeps its link
 --   walk-gives-all-nodes, walk-gives-all-ports, walk-gives-all-offsets (WalkLaws), walk-gives-all-links, walk-gives-all-neighbours,
 --   walk-gives-all-connections, walk-gives-all-live-ports (LinkWalkLaws)
--- Lent has the same graph as tables apart, each lent to the calls: graphIn puts them together.
 pub mod Limits
+pub mod Lists
 pub mod Entries
 pub mod Tables
 pub mod Lookups
 pub mod Calls
 pub mod Resize
 pub mod Walks
--- what is proved
+pub mod LinkWalks
+pub mod Lent
+-- what is proved: what the tables stand for
 pub mod Model
 pub mod Meaning
--- steps that the functions' proofs cite
-pub mod TableSteps
-pub mod LookupSteps
-pub mod SlotSteps
-pub mod ResizeSteps
-pub mod Lent
-pub mod LentSteps
-pub mod WfFacts
--- single changes; tables, sums and chains; links under any numbering of places; the model stays good
+-- laws: single changes; tables, sums and chains; links under any numbering of places; the model stays good
 pub mod Joins
 pub mod TableLaws
 pub mod Chains
@@ -47,7 +43,7 @@ pub mod Sums
 pub mod LinkLaws
 pub mod GoodSlots
 pub mod GoodLaws
--- tables against model
+-- laws: tables against model, and walks
 pub mod PlaceLaws
 pub mod LinkHolds
 pub mod BlockHolds
@@ -57,7 +53,14 @@ pub mod InsideHolds
 pub mod AnewHolds
 pub mod ResizeLaws
 pub mod WalkLaws
--- walks over links and over all ports, with their laws
-pub mod LinkWalks
-pub mod LinkWalkSteps
 pub mod LinkWalkLaws
+-- steps that the functions' proofs cite
+pub mod TableSteps
+pub mod LookupSteps
+pub mod SlotSteps
+pub mod ResizeSteps
+pub mod Settle
+pub mod LentSteps
+pub mod LentGraph
+pub mod WfFacts
+pub mod LinkWalkSteps

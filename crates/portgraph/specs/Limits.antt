@@ -23,6 +23,15 @@ freeLists = nodePorts + 1
 abbrev pub noPort : ℕ
 noPort = 4294967295
 
+-- The limits of a kit: a call is refused with 10 where a table's used length would pass them.
+pub record Limits : Type 0 where
+  pub nodes : ℕ
+  pub ports : ℕ
+
+-- those of this kit
+abbrev pub present : Limits
+present = record { nodes = nodeSlots; ports = portSlots }
+
 -- What a raise of the limits proves again, besides that the numbers in the tables fit their widths.
 
 -- the most ports are a power of two, so that a total rounded up is a block that a node may have

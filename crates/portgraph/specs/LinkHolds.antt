@@ -1,7 +1,7 @@
 -- The empty graph, and graphs after ports are linked and unlinked: their tables stand for the models that the calls mean.
 -- What each answer of linking and unlinking says of the places of the ports, and that well-formed graphs stay so.
 use mathlib.Core.Path.{_≡_, refl, sym, _∙_, ap, subst}
-use mathlib.Core.Bool.{Bool, true, false}
+use mathlib.Core.Bool.{Bool, true, false, cond}
 use mathlib.Core.List.{List}
 use mathlib.Core.Logic.{_⊎_, inl, inr}
 use Prim.Native.Nat.{ℕ, zero, suc, _+_, _-_, _≤_, _<_}
@@ -11,9 +11,10 @@ use lib.Dec.{leb, ltb}
 use lib.ListN.{length, getD, replicate, length-replicate}
 use borrow.Author.Tests.{eq-eqb, ne-eqb}
 use Rattle.portgraph.specs.Limits.{nodeSlots, portSlots, nodePorts, freeLists}
-use Rattle.portgraph.specs.Entries.{pick, freshSlot}
+use Rattle.portgraph.specs.Lists.{Member}
+use Rattle.portgraph.specs.Entries.{freshSlot}
 use Rattle.portgraph.specs.Tables.{at, headAt, linkBoth, cut, linkCount}
-use Rattle.portgraph.specs.Model.{Model, Place, Far, nowhere, to, gone, In, Valid, Within, Good, Holds, Wf, slotOf, slotsOfEntry, total, linksOut}
+use Rattle.portgraph.specs.Model.{Model, Far, nowhere, to, gone, Valid, Within, Good, Holds, Wf, slotOf, slotsOfEntry, total, linksOut, InnerPlace}
 use Rattle.portgraph.specs.Meaning.{sameSide, samePlace, dropJoin, linkJoin, linkModel, unlinkModel}
 use Rattle.portgraph.specs.Joins.{sameSide-true, sameSide-false, sameSide-distinct, sameSide-refl, zero-is-not-one}
 use Rattle.portgraph.specs.Lookups.{port#, portAt}
@@ -49,7 +50,7 @@ at-zeros : (t : List ℕ) (s : ℕ) → getD t s 0 ≡ 0 → at t s ≡ 0
 unfolding at
 at-zeros t s e = go (ltb s portSlots)
   where
-    go : (b : Bool) → pick b (getD t s 0) 0 ≡ 0
+    go : (b : Bool) → cond b (getD t s 0) 0 ≡ 0
     go true = e
     go false = refl
 
@@ -57,7 +58,7 @@ head-of-zeros : (t : List ℕ) (k : ℕ) → getD t k 0 ≡ 0 → headAt t k ≡
 unfolding headAt
 head-of-zeros t k e = go (leb k nodePorts)
   where
-    go : (b : Bool) → pick b (getD t k 0) 0 ≡ 0
+    go : (b : Bool) → cond b (getD t k 0) 0 ≡ 0
     go true = e
     go false = refl
 
@@ -66,7 +67,7 @@ unfolding total
 total-none zero f none = refl
 total-none (suc n) f none = let a = total-none n f none in let b = none n in omega arith
 
-no-links : (n : ℕ) → linksOut (λ (i : ℕ). gone) (λ (x : Place). nowhere) n ≡ 0
+no-links : (n : ℕ) → linksOut (λ (i : ℕ). gone) (λ (x : InnerPlace). nowhere) n ≡ 0
 unfolding total
 no-links n = refl
 
@@ -120,7 +121,7 @@ wf-new = record { model = emptyModel; good = good-empty; holds = new-holds }
 
 -- Other links between the same nodes.
 
-abbrev withJoin : Model → (Place → Far) → Model
+abbrev withJoin : Model → (InnerPlace → Far) → Model
 withJoin M join =
     record {
       node = M .node;
@@ -136,7 +137,7 @@ none-less : (a : ℕ) → a - 0 ≡ a
 none-less a = omega arith
 
 module _ {g : PortGraph} {M : Model} (good : Good M) (holds : Holds g M) where
-  links-hold : (t : List ℕ) (count : ℕ) (join : Place → Far) → Rep (Valid (M .node)) (slotOf (M .node)) join t →
+  links-hold : (t : List ℕ) (count : ℕ) (join : InnerPlace → Far) → Rep (Valid (M .node)) (slotOf (M .node)) join t →
       ((s : ℕ) → Vacant (Valid (M .node)) (slotOf (M .node)) s → at t s ≡ at (g .«port_link») s) →
       count ≡ allLinks (M .node) join → Holds (withLinks g t count) (withJoin M join)
   links-hold t count join rep kept counted =
@@ -162,28 +163,28 @@ module _ {g : PortGraph} {M : Model} (good : Good M) (holds : Holds g M) where
         linkCount = counted;
       }
     where
-      first-within : (k b : ℕ) → In b (M .freeBlocks k) → Within b k b
+      first-within : (k b : ℕ) → Member b (M .freeBlocks k) → Within b k b
       first-within k b i = let p : 0 < k = good .idleEnds k b i .0 in (omega arith, omega arith)
 
-  pub node-in-range : (z : Place) → Valid (M .node) z → z .node < nodeSlots
+  pub node-in-range : (z : InnerPlace) → Valid (M .node) z → z .node < nodeSlots
   node-in-range z v =
       let r = slot-in-block good z v in
       let a : z .node < M .nodeLen = good .nodeUsed (z .node) (r .0) (r .1) in
       let b : M .nodeLen ≤ nodeSlots = good .nodesFit in
       omega arith
 
-  pub link-holds : (x y : Place) → Valid (M .node) x → Valid (M .node) y → M .join x ≡ nowhere → M .join y ≡ nowhere → (x .side ≡ y .side → ⊥) →
+  pub link-holds : (x y : InnerPlace) → Valid (M .node) x → Valid (M .node) y → M .join x ≡ nowhere → M .join y ≡ nowhere → (x .side ≡ y .side → ⊥) →
       Holds (withLinks g (linkBoth (g .«port_link») (slotOf (M .node) x) (slotOf (M .node) y)) (g .«link_count» + 1)) (linkModel M x y)
   link-holds x y vx vy fx fy opposite =
       links-hold _ _ (linkJoin x y (M .join)) (link-at (rep-of good holds) x y vx vy fx fy opposite) (link-elsewhere (rep-of good holds) x y vx vy)
       (add-one (g .«link_count») ∙ (ap suc (holds .linkCount) ∙ sym (link-counts-one (M .node) (M .join) node-in-range x y vx vy opposite fx fy)))
 
-  cut-count : (x : Place) → Valid (M .node) x →
+  cut-count : (x : InnerPlace) → Valid (M .node) x →
       g .«link_count» - linkCount (at (g .«port_link») (slotOf (M .node) x)) ≡ allLinks (M .node) (dropJoin (samePlace x) (M .join))
   cut-count x v =
       omega (arith, cut-counts (rep-of good holds) x v, one-link-less (M .node) (M .join) node-in-range (rep-of good holds .joined) x, holds .linkCount)
 
-  pub unlink-holds : (x : Place) → Valid (M .node) x →
+  pub unlink-holds : (x : InnerPlace) → Valid (M .node) x →
       Holds (withLinks g (cut (g .«port_link») (slotOf (M .node) x)) (g .«link_count» - linkCount (at (g .«port_link») (slotOf (M .node) x)))) (unlinkModel M x)
   unlink-holds x v =
       links-hold _ _ (dropJoin (samePlace x) (M .join)) (cut-at (rep-of good holds) x v) (cut-elsewhere (rep-of good holds) x v) (cut-count x v)
@@ -191,7 +192,7 @@ module _ {g : PortGraph} {M : Model} (good : Good M) (holds : Holds g M) where
 -- The calls.
 
 -- the port p is at the place x; no port has the number p
-abbrev pub IsPort : Model → ℕ → Place → Type 0
+abbrev pub IsPort : Model → ℕ → InnerPlace → Type 0
 IsPort M p x = Valid (M .node) x × (slotOf (M .node) x ≡ p)
 
 abbrev pub Dead : Model → ℕ → Type 0
@@ -199,8 +200,8 @@ Dead M p = Vacant (Valid (M .node)) (slotOf (M .node)) p
 
 -- two live ports
 pub record Ends (M : Model) (a b : ℕ) : Type 0 where
-  pub first : Place
-  pub second : Place
+  pub first : InnerPlace
+  pub second : InnerPlace
   pub firstAt : IsPort M a first
   pub secondAt : IsPort M b second
 
@@ -217,7 +218,7 @@ pub record LinkMade (M : Model) (a b : ℕ) (h : PortGraph) : Type 0 where
 abbrev pub LinkSays : PortGraph → Model → ℕ → ℕ → PortGraph → LinkAnswer → Type 0
 LinkSays g M a b h (linked.Linked p q) = LinkMade M a b h × (p ≡ port# a) × (q ≡ port# b)
 LinkSays g M a b h (linked.UnknownPort p) = (h ≡ g) × (p ≡ port# a) × Dead M a
-LinkSays g M a b h (linked.UnknownSecondPort q) = (h ≡ g) × (q ≡ port# b) × ((x : Place) × IsPort M a x) × Dead M b
+LinkSays g M a b h (linked.UnknownSecondPort q) = (h ≡ g) × (q ≡ port# b) × ((x : InnerPlace) × IsPort M a x) × Dead M b
 LinkSays g M a b h (linked.IncompatibleDirections p q d) =
     (h ≡ g) × (p ≡ port# a) × (q ≡ port# b) × ((e : Ends M a b) × (e .first .side ≡ d) × (e .second .side ≡ d))
 LinkSays g M a b h (linked.AlreadyLinked p) =
@@ -227,8 +228,8 @@ LinkSays g M a b h (linked.AlreadyLinked p) =
 
 -- what each answer to unlinking p says
 pub record LinkCut (M : Model) (p q : ℕ) (h : PortGraph) : Type 0 where
-  pub near : Place
-  pub far : Place
+  pub near : InnerPlace
+  pub far : InnerPlace
   pub nearAt : IsPort M p near
   pub farAt : IsPort M q far
   pub joined : M .join near ≡ to far
@@ -237,7 +238,7 @@ pub record LinkCut (M : Model) (p q : ℕ) (h : PortGraph) : Type 0 where
 
 abbrev pub UnlinkSays : PortGraph → Model → ℕ → PortGraph → PortLink → Type 0
 UnlinkSays g M p h (link-variants.Linked q) = LinkCut M p (q .0) h
-UnlinkSays g M p h link-variants.Unlinked = (h ≡ g) × ((x : Place) × IsPort M p x × (M .join x ≡ nowhere))
+UnlinkSays g M p h link-variants.Unlinked = (h ≡ g) × ((x : InnerPlace) × IsPort M p x × (M .join x ≡ nowhere))
 UnlinkSays g M p h (link-variants.UnknownPort q) = (h ≡ g) × (q ≡ port# p) × Dead M p
 
 module _ (g : PortGraph) (a b : ℕ) (d e : Direction) where
@@ -273,14 +274,14 @@ module _ {g : PortGraph} {M : Model} (good : Good M) (holds : Holds g M) where
   unfolding linkPorts
   link-first-dead a b none = ap (λ (v : PortEntry). linkEntries g a b v (portAt g b)) (vacant-is-dead good holds a none)
 
-  pub link-second-dead : (x : Place) (b : ℕ) → Valid (M .node) x → Dead M b →
+  pub link-second-dead : (x : InnerPlace) (b : ℕ) → Valid (M .node) x → Dead M b →
       linkPorts g (slotOf (M .node) x) b ≡ linkRefused g (linked.UnknownSecondPort (port# b))
   unfolding linkPorts
   link-second-dead x b v none =
       ap (λ (w : PortEntry). linkEntries g (slotOf (M .node) x) b w (portAt g b)) (port-of-place good holds x v)
       ∙ ap (linkEntries g (slotOf (M .node) x) b (port-variants.Port (metaOfPlace x))) (vacant-is-dead good holds b none)
 
-  module _ (x y : Place) (vx : Valid (M .node) x) (vy : Valid (M .node) y) where
+  module _ (x y : InnerPlace) (vx : Valid (M .node) x) (vy : Valid (M .node) y) where
     link-live : linkPorts g (slotOf (M .node) x) (slotOf (M .node) y) ≡ linkSides g (slotOf (M .node) x) (slotOf (M .node) y) (x .side) (y .side)
     unfolding linkPorts
     link-live =
@@ -317,7 +318,7 @@ module _ {g : PortGraph} {M : Model} (good : Good M) (holds : Holds g M) where
   pub link-law : (a b : ℕ) → LinkSays g M a b (linkPorts g a b .graph) (linkPorts g a b .answer)
   link-law a b = first (slot-cases good holds a)
     where
-      sides : (x y : Place) → Valid (M .node) x → Valid (M .node) y → (t : Bool) → sameSide (x .side) (y .side) ≡ t →
+      sides : (x y : InnerPlace) → Valid (M .node) x → Valid (M .node) y → (t : Bool) → sameSide (x .side) (y .side) ≡ t →
           (M .join x ≡ nowhere) ⊎ (M .join x ≡ nowhere → ⊥) → (M .join y ≡ nowhere) ⊎ (M .join y ≡ nowhere → ⊥) →
           LinkSaid (slotOf (M .node) x) (slotOf (M .node) y) (linkPorts g (slotOf (M .node) x) (slotOf (M .node) y))
       sides x y vx vy true t i j =
@@ -347,7 +348,7 @@ module _ {g : PortGraph} {M : Model} (good : Good M) (holds : Holds g M) where
             refl,
           )
 
-      second : (x : Place) → Valid (M .node) x → ((y : Place) × Valid (M .node) y × (slotOf (M .node) y ≡ b)) ⊎ (portAt g b ≡ port-variants.Free) →
+      second : (x : InnerPlace) → Valid (M .node) x → ((y : InnerPlace) × Valid (M .node) y × (slotOf (M .node) y ≡ b)) ⊎ (portAt g b ≡ port-variants.Free) →
           LinkSaid (slotOf (M .node) x) b (linkPorts g (slotOf (M .node) x) b)
       second x vx (inr f) =
           let none : Dead M b = dead-port good holds b f in
@@ -356,7 +357,7 @@ module _ {g : PortGraph} {M : Model} (good : Good M) (holds : Holds g M) where
           subst (λ (c : ℕ). LinkSaid (slotOf (M .node) x) c (linkPorts g (slotOf (M .node) x) c)) (r .2)
           (sides x (r .0) vx (r .1) (sameSide (x .side) (r .0 .side)) refl (is-nowhere (M .join x)) (is-nowhere (M .join (r .0))))
 
-      first : ((x : Place) × Valid (M .node) x × (slotOf (M .node) x ≡ a)) ⊎ (portAt g a ≡ port-variants.Free) → LinkSaid a b (linkPorts g a b)
+      first : ((x : InnerPlace) × Valid (M .node) x × (slotOf (M .node) x ≡ a)) ⊎ (portAt g a ≡ port-variants.Free) → LinkSaid a b (linkPorts g a b)
       first (inr f) =
           let none : Dead M a = dead-port good holds a f in
           subst (LinkSaid a b) (sym (link-first-dead a b none)) (refl, refl, none)
@@ -383,7 +384,7 @@ module _ {g : PortGraph} {M : Model} (good : Good M) (holds : Holds g M) where
   unfolding unlinkPort
   unlink-dead p none = λ i. record { graph = unlinkEntry g p (vacant-is-dead good holds p none i); answer = port-link-dead good holds p none i }
 
-  pub unlink-linked : (x y : Place) → Valid (M .node) x → M .join x ≡ to y →
+  pub unlink-linked : (x y : InnerPlace) → Valid (M .node) x → M .join x ≡ to y →
       unlinkPort g (slotOf (M .node) x)
       ≡ record {
         graph = withLinks g (cut (g .«port_link») (slotOf (M .node) x)) (g .«link_count» - linkCount (at (g .«port_link») (slotOf (M .node) x)));
@@ -393,7 +394,7 @@ module _ {g : PortGraph} {M : Model} (good : Good M) (holds : Holds g M) where
   unlink-linked x y v e =
       λ i. record { graph = unlinkEntry g (slotOf (M .node) x) (port-of-place good holds x v i); answer = port-link-to good holds x y v e i }
 
-  pub unlink-free : (x : Place) → Valid (M .node) x → M .join x ≡ nowhere → unlinkPort g (slotOf (M .node) x) ≡ record { graph = g; answer = link-variants.Unlinked }
+  pub unlink-free : (x : InnerPlace) → Valid (M .node) x → M .join x ≡ nowhere → unlinkPort g (slotOf (M .node) x) ≡ record { graph = g; answer = link-variants.Unlinked }
   unfolding unlinkPort
   unlink-free x v e =
       let z : at (g .«port_link») (slotOf (M .node) x) ≡ 0 = link-none good holds x v e in
@@ -409,7 +410,7 @@ module _ {g : PortGraph} {M : Model} (good : Good M) (holds : Holds g M) where
   pub unlink-law : (p : ℕ) → UnlinkSays g M p (unlinkPort g p .graph) (unlinkPort g p .answer)
   unlink-law p = go (slot-cases good holds p)
     where
-      far : (x : Place) → Valid (M .node) x → (f : Far) → M .join x ≡ f → UnlinkSaid (slotOf (M .node) x) (unlinkPort g (slotOf (M .node) x))
+      far : (x : InnerPlace) → Valid (M .node) x → (f : Far) → M .join x ≡ f → UnlinkSaid (slotOf (M .node) x) (unlinkPort g (slotOf (M .node) x))
       far x v nowhere e = subst (UnlinkSaid (slotOf (M .node) x)) (sym (unlink-free x v e)) (refl, (x, (v, refl), e))
       far x v (to y) e =
           subst (UnlinkSaid (slotOf (M .node) x)) (sym (unlink-linked x y v e))
@@ -423,7 +424,7 @@ module _ {g : PortGraph} {M : Model} (good : Good M) (holds : Holds g M) where
             holds = unlink-holds good holds x v;
           })
 
-      go : ((x : Place) × Valid (M .node) x × (slotOf (M .node) x ≡ p)) ⊎ (portAt g p ≡ port-variants.Free) → UnlinkSaid p (unlinkPort g p)
+      go : ((x : InnerPlace) × Valid (M .node) x × (slotOf (M .node) x ≡ p)) ⊎ (portAt g p ≡ port-variants.Free) → UnlinkSaid p (unlinkPort g p)
       go (inr f) =
           let none : Dead M p = dead-port good holds p f in
           subst (UnlinkSaid p) (sym (unlink-dead p none)) (refl, refl, none)

@@ -1,24 +1,25 @@
 -- Laws of the walks over links and over all ports: from its start a walk gives the whole listing, in order, and comes to its end.
 -- Each item is a link of the model; a cursor whose node or port is gone ends the walk.
 use mathlib.Core.Path.{_≡_, refl, sym, ap, _∙_}
-use mathlib.Core.Bool.{Bool, true, false}
-use mathlib.Core.List.{List, [], _∷_}
+use mathlib.Core.Bool.{Bool, true, false, cond}
+use mathlib.Core.List.{List, [], _∷_, map}
 use mathlib.Core.Logic.{_⊎_, inl, inr}
 use Prim.Native.Nat.{ℕ, zero, suc, _+_, _-_, _≤_, _<_, max}
 use native.Mathlib.Omega.{arith}
 use lib.Dec.{eqb, leb, ltb}
 use borrow.Author.Tests.{ne-eqb, eqb-true, ltb-true, ltb-false}
 use Rattle.portgraph.specs.Limits.{portSlots, nodePorts}
-use Rattle.portgraph.specs.Entries.{pick, portEntry}
+use Rattle.portgraph.specs.Lists.{Member, Once, range, filter, onFirst}
+use Rattle.portgraph.specs.Entries.{portEntry}
 use Rattle.portgraph.specs.Tables.{at}
-use Rattle.portgraph.specs.Model.{Model, Good, Holds, Place, to, Slots, gone, live, Valid, slotOf, farNumber, countOf, sideStart, In, Uniq}
+use Rattle.portgraph.specs.Model.{Model, Good, Holds, to, Slots, gone, live, Valid, slotOf, farNumber, countOf, sideStart, InnerPlace}
 use Rattle.portgraph.specs.Lookups.{node#, port#, metaAt, portAt, nodeOf, isSome, containsNode, isPort, containsPort}
 use Rattle.portgraph.specs.PlaceLaws.{metaOfPlace, meta-of-node, port-of-place, slot-cases}
 use Rattle.portgraph.specs.Walks.{portsFrom, portsTo}
-use Rattle.portgraph.specs.WalkLaws.{Walked, whole, unfinished, more, numbersFrom, portsOfNode, ports-alive, Ascending, ascending-once}
-use Rattle.portgraph.specs.LinkWalks.{those, each, firstOf, beyond, farIn, nodeNumber, ownerIn, isPortIn, heldIn, linkKept, isNodeOf, isOf, linkTo, portsIn, linkAt, nodeLinks, linksItem, stepLinks, ownFrom, ownTo, neighbourAt, neighbours, neighboursItem, stepNeighbours, connections, connectionsItem, stepConnections, allPorts, allPortsItem, stepAllPorts}
+use Rattle.portgraph.specs.WalkLaws.{Walked, whole, unfinished, more, portsOfNode, ports-alive, Ascending, ascending-once}
+use Rattle.portgraph.specs.LinkWalks.{beyond, farIn, nodeNumber, ownerIn, isPortIn, heldIn, linkKept, isNodeOf, isOf, linkTo, portsIn, linkAt, nodeLinks, linksItem, stepLinks, ownFrom, ownTo, neighbourAt, neighbours, neighboursItem, stepNeighbours, connections, connectionsItem, stepConnections, allPorts, allPortsItem, stepAllPorts}
 use Rattle.portgraph.specs.TableSteps.{at-outside}
-use Rattle.portgraph.specs.LinkWalkSteps.{those-beyond, all-beyond, no-node-no-step}
+use Rattle.portgraph.specs.LinkWalkSteps.{filter-beyond, all-beyond, no-node-no-step}
 use Rattle.portgraph.specs.declared.direction.Direction.{Direction}
 use Rattle.portgraph.specs.declared.direction.Direction.the-variants.{Incoming, Outgoing}
 use Rattle.portgraph.specs.declared.index.NodeIndex.{NodeIndex}
@@ -47,26 +48,26 @@ use Rattle.portgraph.specs.declared.link_iter.PortsStep.the-variants as 
 
 -- the next slot of the listing heads what is left of it
 record Next (f : ℕ → Bool) (p k m : ℕ) : Type 0 where
-  pub listed : those f (numbersFrom p k) ≡ m ∷ those f (numbersFrom (suc m) (p + k - suc m))
+  pub listed : filter f (range p k) ≡ m ∷ filter f (range (suc m) (p + k - suc m))
   pub after : p ≤ m
   pub before : m < p + k
   pub holds : f m ≡ true
 
-next-or-none : (f : ℕ → Bool) (p k : ℕ) → ((m : ℕ) × Next f p k m) ⊎ (those f (numbersFrom p k) ≡ [])
-unfolding those numbersFrom
+next-or-none : (f : ℕ → Bool) (p k : ℕ) → ((m : ℕ) × Next f p k m) ⊎ (filter f (range p k) ≡ [])
+unfolding filter range
 next-or-none f p zero = inr refl
 next-or-none f p (suc k) = go (f p) refl (next-or-none f (suc p) k)
   where
-    same : (n i j : ℕ) → i ≡ j → those f (numbersFrom n i) ≡ those f (numbersFrom n j)
-    same n i j e = ap (λ r. those f (numbersFrom n r)) e
+    same : (n i j : ℕ) → i ≡ j → filter f (range n i) ≡ filter f (range n j)
+    same n i j e = ap (λ r. filter f (range n r)) e
 
-    passed : f p ≡ false → those f (numbersFrom p (suc k)) ≡ those f (numbersFrom (suc p) k)
+    passed : f p ≡ false → filter f (range p (suc k)) ≡ filter f (range (suc p) k)
     passed e = rw e
 
-    here : f p ≡ true → those f (numbersFrom p (suc k)) ≡ p ∷ those f (numbersFrom (suc p) k)
+    here : f p ≡ true → filter f (range p (suc k)) ≡ p ∷ filter f (range (suc p) k)
     here e = rw e
 
-    go : (b : Bool) → f p ≡ b → ((m : ℕ) × Next f (suc p) k m) ⊎ (those f (numbersFrom (suc p) k) ≡ []) → ((m : ℕ) × Next f p (suc k) m) ⊎ (those f (numbersFrom p (suc k)) ≡ [])
+    go : (b : Bool) → f p ≡ b → ((m : ℕ) × Next f (suc p) k m) ⊎ (filter f (range (suc p) k) ≡ []) → ((m : ℕ) × Next f p (suc k) m) ⊎ (filter f (range p (suc k)) ≡ [])
     go true e x = inl (p, record { listed = here e ∙ ap (λ r. p ∷ r) (same (suc p) k (p + suc k - suc p) (omega arith)); after = omega arith; before = omega arith; holds = e })
     go false e (inl x) =
         let m = x .0 in
@@ -75,23 +76,21 @@ next-or-none f p (suc k) = go (f p) refl (next-or-none f (suc p) k)
         inl (m, record { listed = passed e ∙ (x .1 .listed ∙ ap (λ r. m ∷ r) (same (suc m) (suc p + k - suc m) (p + suc k - suc m) (omega arith))); after = omega arith; before = omega arith; holds = x .1 .holds })
     go false e (inr x) = inr (passed e ∙ x)
 
-first-there {ℓ κ} : {A : Type ℓ} {B : Type κ} (end : B) (g : A → B) (l : List A) (x : A) (r : List A) → l ≡ x ∷ r → firstOf end g l ≡ g x
-unfolding firstOf
+first-there {ℓ κ} : {A : Type ℓ} {B : Type κ} (end : B) (g : A → B) (l : List A) (x : A) (r : List A) → l ≡ x ∷ r → onFirst end g l ≡ g x
+unfolding onFirst
 first-there end g l x r e = rw e
 
-first-none {ℓ κ} : {A : Type ℓ} {B : Type κ} (end : B) (g : A → B) (l : List A) → l ≡ [] → firstOf end g l ≡ end
-unfolding firstOf
+first-none {ℓ κ} : {A : Type ℓ} {B : Type κ} (end : B) (g : A → B) (l : List A) → l ≡ [] → onFirst end g l ≡ end
+unfolding onFirst
 first-none end g l e = rw e
 
-each-there : {A : Type 0} (f : ℕ → A) (l : List ℕ) (x : ℕ) (r : List ℕ) → l ≡ x ∷ r → f x ∷ each f r ≡ each f l
-unfolding each
-each-there f l x r e = rw e
+map-there : {A : Type 0} (f : ℕ → A) (l : List ℕ) (x : ℕ) (r : List ℕ) → l ≡ x ∷ r → f x ∷ map f r ≡ map f l
+map-there f l x r e = rw e
 
-each-none : {A : Type 0} (f : ℕ → A) (l : List ℕ) → l ≡ [] → [] ≡ each f l
-unfolding each
-each-none f l e = rw e
+map-none : {A : Type 0} (f : ℕ → A) (l : List ℕ) → l ≡ [] → [] ≡ map f l
+map-none f l e = rw e
 
-step-there {ℓ} : {A : Type ℓ} (there : Bool) (held : ℕ) (end : A) (item : ℕ → A) (l : List ℕ) → there ≡ true → beyond there held end item l ≡ firstOf end item (those (leb held) l)
+step-there {ℓ} : {A : Type ℓ} (there : Bool) (held : ℕ) (end : A) (item : ℕ → A) (l : List ℕ) → there ≡ true → beyond there held end item l ≡ onFirst end item (filter (leb held) l)
 unfolding beyond
 step-there there held end item l e = rw e
 
@@ -100,61 +99,61 @@ unfolding beyond
 step-gone there held end item l e = rw e
 
 nothing-beyond {ℓ} : {A : Type ℓ} (there : Bool) (held : ℕ) (end : A) (item : ℕ → A) → end ≡ beyond there held end item []
-unfolding beyond firstOf those
+unfolding beyond onFirst filter
 nothing-beyond true held end item = refl
 nothing-beyond false held end item = refl
 
-none-of : (f : ℕ → Bool) (l : List ℕ) → ((p : ℕ) → f p ≡ false) → those f l ≡ []
-unfolding those
+none-of : (f : ℕ → Bool) (l : List ℕ) → ((p : ℕ) → f p ≡ false) → filter f l ≡ []
+unfolding filter
 none-of f [] h = refl
 none-of f (x ∷ l) h = rw (h x) (none-of f l h)
 
 -- what follows a step is what follows its item, or its end
 step-then {ℓ κ} : {A : Type ℓ} {B : Type κ} (f : A → B) (there : Bool) (held : ℕ) (end : A) (item : ℕ → A) (l : List ℕ) → f (beyond there held end item l) ≡ beyond there held (f end) (λ p. f (item p)) l
-unfolding beyond firstOf
-step-then f true held end item l = go (those (leb held) l)
+unfolding beyond onFirst
+step-then f true held end item l = go (filter (leb held) l)
   where
-    go : (r : List ℕ) → f (firstOf end item r) ≡ firstOf (f end) (λ p. f (item p)) r
+    go : (r : List ℕ) → f (onFirst end item r) ≡ onFirst (f end) (λ p. f (item p)) r
     go [] = refl
     go (x ∷ r) = refl
 step-then f false held end item l = refl
 
 module _ {A : Type 0} (item : ℕ → A) (f : ℕ → Bool) (there : ℕ → Bool) (first count : ℕ) (walk : ℕ → ℕ → Walked A)
-    (on : (fuel held : ℕ) → walk (suc fuel) held ≡ beyond (there held) held (whole []) (λ p. more (item p) (walk fuel (suc p))) (those f (numbersFrom first count)))
+    (on : (fuel held : ℕ) → walk (suc fuel) held ≡ beyond (there held) held (whole []) (λ p. more (item p) (walk fuel (suc p))) (filter f (range first count)))
     (alive : (p : ℕ) → first ≤ p → p < first + count → f p ≡ true → there (suc p) ≡ true) where
   -- from any position that is still there the rest of the listing, and then the end
-  rest-walked : (fuel held : ℕ) → first + count - max first held < fuel → there held ≡ true → walk fuel held ≡ whole (each item (those (leb held) (those f (numbersFrom first count))))
+  rest-walked : (fuel held : ℕ) → first + count - max first held < fuel → there held ≡ true → walk fuel held ≡ whole (map item (filter (leb held) (filter f (range first count))))
   rest-walked zero held l h = absurd (omega arith)
   rest-walked (suc fuel) held l h = go (rest-walked fuel) (next-or-none f (max first held) (first + count - max first held))
     where
-      left : those (leb held) (those f (numbersFrom first count)) ≡ those f (numbersFrom (max first held) (first + count - max first held))
-      left = those-beyond f held first count
+      left : filter (leb held) (filter f (range first count)) ≡ filter f (range (max first held) (first + count - max first held))
+      left = filter-beyond f held first count
 
-      stepped : walk (suc fuel) held ≡ firstOf (whole []) (λ p. more (item p) (walk fuel (suc p))) (those (leb held) (those f (numbersFrom first count)))
+      stepped : walk (suc fuel) held ≡ onFirst (whole []) (λ p. more (item p) (walk fuel (suc p))) (filter (leb held) (filter f (range first count)))
       stepped = on fuel held ∙ step-there (there held) held _ _ _ h
 
-      same : (a b i j : ℕ) → a ≡ b → i ≡ j → those f (numbersFrom a i) ≡ those f (numbersFrom b j)
+      same : (a b i j : ℕ) → a ≡ b → i ≡ j → filter f (range a i) ≡ filter f (range b j)
       same a b i j d e = rw (d, e)
 
-      go : ((h : ℕ) → first + count - max first h < fuel → there h ≡ true → walk fuel h ≡ whole (each item (those (leb h) (those f (numbersFrom first count)))))
-          → ((m : ℕ) × Next f (max first held) (first + count - max first held) m) ⊎ (those f (numbersFrom (max first held) (first + count - max first held)) ≡ [])
-          → walk (suc fuel) held ≡ whole (each item (those (leb held) (those f (numbersFrom first count))))
+      go : ((h : ℕ) → first + count - max first h < fuel → there h ≡ true → walk fuel h ≡ whole (map item (filter (leb h) (filter f (range first count)))))
+          → ((m : ℕ) × Next f (max first held) (first + count - max first held) m) ⊎ (filter f (range (max first held) (first + count - max first held)) ≡ [])
+          → walk (suc fuel) held ≡ whole (map item (filter (leb held) (filter f (range first count))))
       go ih (inl x) =
           let m = x .0 in
           let a : max first held ≤ m = x .1 .after in
           let b : m < max first held + (first + count - max first held) = x .1 .before in
-          let ends : those (leb (suc m)) (those f (numbersFrom first count)) ≡ those f (numbersFrom (suc m) (max first held + (first + count - max first held) - suc m)) =
-          those-beyond f (suc m) first count ∙ same (max first (suc m)) (suc m) (first + count - max first (suc m)) (max first held + (first + count - max first held) - suc m) (omega arith) (omega arith) in
+          let ends : filter (leb (suc m)) (filter f (range first count)) ≡ filter f (range (suc m) (max first held + (first + count - max first held) - suc m)) =
+          filter-beyond f (suc m) first count ∙ same (max first (suc m)) (suc m) (first + count - max first (suc m)) (max first held + (first + count - max first held) - suc m) (omega arith) (omega arith) in
           stepped ∙
           (first-there (whole []) (λ p. more (item p) (walk fuel (suc p))) _ m _ (left ∙ x .1 .listed) ∙
-          (ap (more (item m)) (ih (suc m) (omega arith) (alive m (omega arith) (omega arith) (x .1 .holds)) ∙ ap (λ r. whole (each item r)) ends) ∙
-          ap whole (each-there item _ m _ (left ∙ x .1 .listed))))
+          (ap (more (item m)) (ih (suc m) (omega arith) (alive m (omega arith) (omega arith) (x .1 .holds)) ∙ ap (λ r. whole (map item r)) ends) ∙
+          ap whole (map-there item _ m _ (left ∙ x .1 .listed))))
       go ih (inr x) =
-          stepped ∙ (first-none (whole []) (λ p. more (item p) (walk fuel (suc p))) _ (left ∙ x) ∙ ap whole (each-none item _ (left ∙ x)))
+          stepped ∙ (first-none (whole []) (λ p. more (item p) (walk fuel (suc p))) _ (left ∙ x) ∙ ap whole (map-none item _ (left ∙ x)))
 
   -- from the start the whole listing, and then the end
-  all-walked : (fuel : ℕ) → count < fuel → there 0 ≡ true → walk fuel 0 ≡ whole (each item (those f (numbersFrom first count)))
-  all-walked fuel l h = rest-walked fuel 0 (omega arith) h ∙ ap (λ r. whole (each item r)) (all-beyond f 0 first count (omega arith))
+  all-walked : (fuel : ℕ) → count < fuel → there 0 ≡ true → walk fuel 0 ≡ whole (map item (filter f (range first count)))
+  all-walked fuel l h = rest-walked fuel 0 (omega arith) h ∙ ap (λ r. whole (map item r)) (all-beyond f 0 first count (omega arith))
 
 -- The walks of at most so many steps.
 
@@ -216,14 +215,13 @@ contained-is-held g p e = held-is-port (g .«port_meta») p ∙ e
 
 -- All ports.
 
-each-itself : (l : List ℕ) → each (λ p. p) l ≡ l
-unfolding each
-each-itself [] = refl
-each-itself (x ∷ l) = ap (λ r. x ∷ r) (each-itself l)
+map-itself : (l : List ℕ) → map (λ p. p) l ≡ l
+map-itself [] = refl
+map-itself (x ∷ l) = ap (λ r. x ∷ r) (map-itself l)
 
 all-ports-on : (g : PortGraph) (fuel held : ℕ)
     → walkAllPorts g (suc fuel) (portsCursor held)
-    ≡ beyond (heldIn (g .«port_meta») held) held (whole []) (λ p. more p (walkAllPorts g fuel (portsCursor (suc p)))) (those (isPortIn (g .«port_meta»)) (numbersFrom 0 portSlots))
+    ≡ beyond (heldIn (g .«port_meta») held) held (whole []) (λ p. more p (walkAllPorts g fuel (portsCursor (suc p)))) (filter (isPortIn (g .«port_meta»)) (range 0 portSlots))
 unfolding walkAllPorts stepAllPorts allPorts
 all-ports-on g fuel held = step-then (afterAnyPort (walkAllPorts g fuel)) _ held all-step.End allPortsItem _
 
@@ -233,47 +231,47 @@ unfolding allPorts
 walk-gives-all-live-ports g =
     all-walked (λ p. p) (isPortIn (g .«port_meta»)) (heldIn (g .«port_meta»)) 0 portSlots (λ fuel held. walkAllPorts g fuel (portsCursor held)) (all-ports-on g)
     (λ p a b h. held-is-port (g .«port_meta») p ∙ h) (portSlots + 1) (omega arith) (held-at-start (g .«port_meta»))
-    ∙ ap whole (each-itself _)
+    ∙ ap whole (map-itself _)
 
 -- The walks over the links of a node.
 
 module _ (g : PortGraph) (n : ℕ) (m : NodeMeta) (meta : metaAt g n ≡ maybe-meta.Some m) where
   links-on : (sides : Sides) (lo hi fuel held : ℕ)
       → walkLinks g (suc fuel) (linksCursor n sides lo hi held)
-      ≡ beyond (heldIn (g .«port_meta») held) held (whole []) (λ p. more (linkAt g p) (walkLinks g fuel (linksCursor n sides lo hi (suc p)))) (those (linkKept (g .«port_link») lo hi) (portsOfNode m sides))
+      ≡ beyond (heldIn (g .«port_meta») held) held (whole []) (λ p. more (linkAt g p) (walkLinks g fuel (linksCursor n sides lo hi (suc p)))) (filter (linkKept (g .«port_link») lo hi) (portsOfNode m sides))
   unfolding walkLinks stepLinks
   links-on sides lo hi fuel held =
       step-then (afterLink (walkLinks g fuel)) _ held links-step.End (linksItem g (linksCursor n sides lo hi held)) _ ∙
-      ap (λ x. beyond (heldIn (g .«port_meta») held) held (whole []) (λ p. more (linkAt g p) (walkLinks g fuel (linksCursor n sides lo hi (suc p)))) (those (linkKept (g .«port_link») lo hi) (portsIn x sides))) meta
+      ap (λ x. beyond (heldIn (g .«port_meta») held) held (whole []) (λ p. more (linkAt g p) (walkLinks g fuel (linksCursor n sides lo hi (suc p)))) (filter (linkKept (g .«port_link») lo hi) (portsIn x sides))) meta
 
   neighbours-on : (sides : Sides) (flag : Bool) (fuel held : ℕ)
       → walkNeighbours g (suc fuel) (neighboursCursor n sides flag held)
       ≡ beyond (heldIn (g .«port_meta») held) held (whole []) (λ p. more (neighbourAt g p) (walkNeighbours g fuel (neighboursCursor n sides flag (suc p))))
-      (those (linkKept (g .«port_link») (ownFrom flag (maybe-meta.Some m)) (ownTo flag (maybe-meta.Some m))) (portsOfNode m sides))
+      (filter (linkKept (g .«port_link») (ownFrom flag (maybe-meta.Some m)) (ownTo flag (maybe-meta.Some m))) (portsOfNode m sides))
   unfolding walkNeighbours stepNeighbours
   neighbours-on sides flag fuel held =
       step-then (afterNeighbour (walkNeighbours g fuel)) _ held neighbours-step.End (neighboursItem g (neighboursCursor n sides flag held)) _ ∙
-      ap (λ x. beyond (heldIn (g .«port_meta») held) held (whole []) (λ p. more (neighbourAt g p) (walkNeighbours g fuel (neighboursCursor n sides flag (suc p)))) (those (linkKept (g .«port_link») (ownFrom flag x) (ownTo flag x)) (portsIn x sides))) meta
+      ap (λ x. beyond (heldIn (g .«port_meta») held) held (whole []) (λ p. more (neighbourAt g p) (walkNeighbours g fuel (neighboursCursor n sides flag (suc p)))) (filter (linkKept (g .«port_link») (ownFrom flag x) (ownTo flag x)) (portsIn x sides))) meta
 
   connections-on : (k fuel held : ℕ)
       → walkConnections g (suc fuel) (connectionsCursor n k held)
-      ≡ beyond (heldIn (g .«port_meta») held) held (whole []) (λ p. more (linkAt g p) (walkConnections g fuel (connectionsCursor n k (suc p)))) (those (linkTo (g .«port_link») (g .«port_meta») k) (portsOfNode m (One Outgoing)))
+      ≡ beyond (heldIn (g .«port_meta») held) held (whole []) (λ p. more (linkAt g p) (walkConnections g fuel (connectionsCursor n k (suc p)))) (filter (linkTo (g .«port_link») (g .«port_meta») k) (portsOfNode m (One Outgoing)))
   unfolding walkConnections stepConnections
   connections-on k fuel held =
       step-then (afterConnection (walkConnections g fuel)) _ held connections-step.End (connectionsItem g (connectionsCursor n k held)) _ ∙
-      ap (λ x. beyond (heldIn (g .«port_meta») held) held (whole []) (λ p. more (linkAt g p) (walkConnections g fuel (connectionsCursor n k (suc p)))) (those (linkTo (g .«port_link») (g .«port_meta») k) (portsIn x (One Outgoing)))) meta
+      ap (λ x. beyond (heldIn (g .«port_meta») held) held (whole []) (λ p. more (linkAt g p) (walkConnections g fuel (connectionsCursor n k (suc p)))) (filter (linkTo (g .«port_link») (g .«port_meta») k) (portsIn x (One Outgoing)))) meta
 
-  listed-links : (sides : Sides) (lo hi : ℕ) → each (linkAt g) (those (linkKept (g .«port_link») lo hi) (portsOfNode m sides)) ≡ nodeLinks g n sides lo hi
+  listed-links : (sides : Sides) (lo hi : ℕ) → map (linkAt g) (filter (linkKept (g .«port_link») lo hi) (portsOfNode m sides)) ≡ nodeLinks g n sides lo hi
   unfolding nodeLinks
-  listed-links sides lo hi = sym (ap (λ x. each (linkAt g) (those (linkKept (g .«port_link») lo hi) (portsIn x sides))) meta)
+  listed-links sides lo hi = sym (ap (λ x. map (linkAt g) (filter (linkKept (g .«port_link») lo hi) (portsIn x sides))) meta)
 
-  listed-neighbours : (sides : Sides) (flag : Bool) → each (neighbourAt g) (those (linkKept (g .«port_link») (ownFrom flag (maybe-meta.Some m)) (ownTo flag (maybe-meta.Some m))) (portsOfNode m sides)) ≡ neighbours g n sides flag
+  listed-neighbours : (sides : Sides) (flag : Bool) → map (neighbourAt g) (filter (linkKept (g .«port_link») (ownFrom flag (maybe-meta.Some m)) (ownTo flag (maybe-meta.Some m))) (portsOfNode m sides)) ≡ neighbours g n sides flag
   unfolding neighbours
-  listed-neighbours sides flag = sym (ap (λ x. each (neighbourAt g) (those (linkKept (g .«port_link») (ownFrom flag x) (ownTo flag x)) (portsIn x sides))) meta)
+  listed-neighbours sides flag = sym (ap (λ x. map (neighbourAt g) (filter (linkKept (g .«port_link») (ownFrom flag x) (ownTo flag x)) (portsIn x sides))) meta)
 
-  listed-connections : (k : ℕ) → each (linkAt g) (those (linkTo (g .«port_link») (g .«port_meta») k) (portsOfNode m (One Outgoing))) ≡ connections g n k
+  listed-connections : (k : ℕ) → map (linkAt g) (filter (linkTo (g .«port_link») (g .«port_meta») k) (portsOfNode m (One Outgoing))) ≡ connections g n k
   unfolding connections
-  listed-connections k = sym (ap (λ x. each (linkAt g) (those (linkTo (g .«port_link») (g .«port_meta») k) (portsIn x (One Outgoing)))) meta)
+  listed-connections k = sym (ap (λ x. map (linkAt g) (filter (linkTo (g .«port_link») (g .«port_meta») k) (portsIn x (One Outgoing)))) meta)
 
 -- the ports on these sides lie within the node's ports, which are few
 within : (m : NodeMeta) (sides : Sides) (p : ℕ) → portsFrom m sides ≤ p → p < portsFrom m sides + (portsTo m sides - portsFrom m sides) → (m .«first_port» .0 ≤ p) × (p < m .«first_port» .0 + (m .incoming + m .outgoing))
@@ -326,15 +324,15 @@ module _ (g : PortGraph) (M : Model) (good : Good M) (holds : Holds g M) where
   -- What the items are, in the model.
 
   -- a linked port's item is the link between the two places' ports, and its neighbour is the node at the far end
-  pub link-of-place : (x y : Place) → M .join x ≡ to y → linkAt g (slotOf (M .node) x) ≡ record { from = port# (slotOf (M .node) x); to = port# (slotOf (M .node) y) }
+  pub link-of-place : (x y : InnerPlace) → M .join x ≡ to y → linkAt g (slotOf (M .node) x) ≡ record { from = port# (slotOf (M .node) x); to = port# (slotOf (M .node) y) }
   link-of-place x y e = let h = far-of-place x y e in ap (λ q. record { from = port# (slotOf (M .node) x); to = port# q }) h
     where
-      far-of-place : (x y : Place) → M .join x ≡ to y → farIn (g .«port_link») (slotOf (M .node) x) ≡ slotOf (M .node) y
+      far-of-place : (x y : InnerPlace) → M .join x ≡ to y → farIn (g .«port_link») (slotOf (M .node) x) ≡ slotOf (M .node) y
       far-of-place x y e =
           let h : at (g .«port_link») (slotOf (M .node) x) ≡ suc (slotOf (M .node) y) = holds .links x (good .joinValid x y e) ∙ ap (farNumber (M .node)) e in
           omega arith
 
-  pub neighbour-of-place : (x y : Place) → M .join x ≡ to y → neighbourAt g (slotOf (M .node) x) ≡ node# (y .node)
+  pub neighbour-of-place : (x y : InnerPlace) → M .join x ≡ to y → neighbourAt g (slotOf (M .node) x) ≡ node# (y .node)
   unfolding ownerIn
   neighbour-of-place x y e =
       ap (λ q. node# (ownerIn (g .«port_meta») q)) (ap (λ (w : Link). w .to .0) (link-of-place x y e)) ∙
@@ -346,7 +344,7 @@ module _ (g : PortGraph) (M : Model) (good : Good M) (holds : Holds g M) where
     skipped-is-own-output a b =
         ap (portAt g) (go (M .node n) node) ∙ port-of-place good holds x (valid (M .node n) node)
       where
-        x : Place
+        x : InnerPlace
         x = record { node = n; side = Outgoing; pos = q - (m .«first_port» .0 + m .incoming) }
 
         go : (s : Slots) → s ≡ live m → q ≡ slotOf (λ k. s) x
@@ -358,14 +356,14 @@ module _ (g : PortGraph) (M : Model) (good : Good M) (holds : Holds g M) where
     pub own-output-is-skipped : portAt g q ≡ port-variants.Port (record { node = node# n; direction = Outgoing }) → (portsFrom m (One Outgoing) ≤ q) × (q < portsTo m (One Outgoing))
     own-output-is-skipped e = go (slot-cases good holds q)
       where
-        at-place : (x : Place) → x .node ≡ n → x .side ≡ Outgoing → x .pos < countOf (live m) Outgoing → slotOf (λ k. live m) x ≡ q → (portsFrom m (One Outgoing) ≤ q) × (q < portsTo m (One Outgoing))
+        at-place : (x : InnerPlace) → x .node ≡ n → x .side ≡ Outgoing → x .pos < countOf (live m) Outgoing → slotOf (λ k. live m) x ≡ q → (portsFrom m (One Outgoing) ≤ q) × (q < portsTo m (One Outgoing))
         at-place x a b v s = by (x .side) b s
           where
             by : (d : Direction) → d ≡ Outgoing → m .«first_port» .0 + (sideStart (live m) d + x .pos) ≡ q → (portsFrom m (One Outgoing) ≤ q) × (q < portsTo m (One Outgoing))
             by Incoming h t = let z : _≡_ {A = ℕ} 0 1 = cc in absurd (omega arith)
             by Outgoing h t = (omega arith, omega arith)
 
-        go : ((x : Place) × Valid (M .node) x × (slotOf (M .node) x ≡ q)) ⊎ (portAt g q ≡ port-variants.Free) → (portsFrom m (One Outgoing) ≤ q) × (q < portsTo m (One Outgoing))
+        go : ((x : InnerPlace) × Valid (M .node) x × (slotOf (M .node) x ≡ q)) ⊎ (portAt g q ≡ port-variants.Free) → (portsFrom m (One Outgoing) ≤ q) × (q < portsTo m (One Outgoing))
         go (inl r) =
             let x = r .0 in
             let t : port-variants.Port (metaOfPlace x) ≡ port-variants.Port (record { node = node# n; direction = Outgoing }) = sym (port-of-place good holds x (r .1)) ∙ (ap (portAt g) (r .2) ∙ e) in
@@ -383,11 +381,11 @@ module _ (g : PortGraph) (M : Model) (good : Good M) (holds : Holds g M) where
   unfolding isOf
   owner-live k q e = go (slot-cases good holds q)
     where
-      meta-of-slots : (j : ℕ) (s : Slots) (p : ℕ) (x : Place) → M .node j ≡ s → p < countOf s (x .side) → containsNode g j ≡ true
+      meta-of-slots : (j : ℕ) (s : Slots) (p : ℕ) (x : InnerPlace) → M .node j ≡ s → p < countOf s (x .side) → containsNode g j ≡ true
       meta-of-slots j gone p x h l = absurd (omega arith)
       meta-of-slots j (live m) p x h l = ap isSome (meta-of-node good holds j m h)
 
-      go : ((x : Place) × Valid (M .node) x × (slotOf (M .node) x ≡ q)) ⊎ (portAt g q ≡ port-variants.Free) → containsNode g k ≡ true
+      go : ((x : InnerPlace) × Valid (M .node) x × (slotOf (M .node) x ≡ q)) ⊎ (portAt g q ≡ port-variants.Free) → containsNode g k ≡ true
       go (inl r) =
           let x = r .0 in
           let t : eqb (x .node) k ≡ true = ap (λ w. isNodeOf k (nodeOf w)) (sym (port-of-place good holds x (r .1)) ∙ ap (portAt g) (r .2)) ∙ e in
@@ -405,7 +403,7 @@ module _ (g : PortGraph) (M : Model) (good : Good M) (holds : Holds g M) where
       none : (p : ℕ) → linkTo (g .«port_link») (g .«port_meta») (c .target .0) p ≡ false
       none p = go (eqb (at (g .«port_link») p) 0) (isOf (c .target .0) (at (g .«port_meta») (farIn (g .«port_link») p))) refl
         where
-          go : (z o : Bool) → isOf (c .target .0) (at (g .«port_meta») (farIn (g .«port_link») p)) ≡ o → pick z false o ≡ false
+          go : (z o : Bool) → isOf (c .target .0) (at (g .«port_meta») (farIn (g .«port_link») p)) ≡ o → cond z false o ≡ false
           go true o e = refl
           go false false e = refl
           go false true e =
@@ -446,21 +444,21 @@ module _ (g : PortGraph) where
 
 -- What the listings hold: exactly the slots for which the test holds, ascending, so that none comes twice.
 
-pub in-those : (f : ℕ → Bool) (x : ℕ) (l : List ℕ) → In x (those f l) → In x l × (f x ≡ true)
-unfolding those
-in-those f x [] i = absurd i
-in-those f x (y ∷ l) i = go (f y) refl (in-those f x l) i
+pub in-filter : (f : ℕ → Bool) (x : ℕ) (l : List ℕ) → Member x (filter f l) → Member x l × (f x ≡ true)
+unfolding filter
+in-filter f x [] i = absurd i
+in-filter f x (y ∷ l) i = go (f y) refl (in-filter f x l) i
   where
-    go : (b : Bool) → f y ≡ b → (In x (those f l) → In x l × (f x ≡ true)) → In x (pick b (y ∷ those f l) (those f l)) → In x (y ∷ l) × (f x ≡ true)
+    go : (b : Bool) → f y ≡ b → (Member x (filter f l) → Member x l × (f x ≡ true)) → Member x (cond b (y ∷ filter f l) (filter f l)) → Member x (y ∷ l) × (f x ≡ true)
     go true e rest (inl h) = (inl h, ap f h ∙ e)
     go true e rest (inr j) = let r = rest j in (inr (r .0), r .1)
     go false e rest j = let r = rest j in (inr (r .0), r .1)
 
-pub those-in : (f : ℕ → Bool) (x : ℕ) (l : List ℕ) → In x l → f x ≡ true → In x (those f l)
-unfolding those
-those-in f x (y ∷ l) i h = go (f y) refl (λ j. those-in f x l j h) i
+pub filter-in : (f : ℕ → Bool) (x : ℕ) (l : List ℕ) → Member x l → f x ≡ true → Member x (filter f l)
+unfolding filter
+filter-in f x (y ∷ l) i h = go (f y) refl (λ j. filter-in f x l j h) i
   where
-    go : (b : Bool) → f y ≡ b → (In x l → In x (those f l)) → In x (y ∷ l) → In x (pick b (y ∷ those f l) (those f l))
+    go : (b : Bool) → f y ≡ b → (Member x l → Member x (filter f l)) → Member x (y ∷ l) → Member x (cond b (y ∷ filter f l) (filter f l))
     go true e rest (inl p) = inl p
     go true e rest (inr j) = inr (rest j)
     go false e rest (inl p) =
@@ -469,18 +467,18 @@ those-in f x (y ∷ l) i h = go (f y) refl (λ j. those-in f x l j h) i
         absurd (omega arith)
     go false e rest (inr j) = rest j
 
-pub in-numbers : (x p k : ℕ) → In x (numbersFrom p k) → (p ≤ x) × (x < p + k)
-unfolding numbersFrom
+pub in-numbers : (x p k : ℕ) → Member x (range p k) → (p ≤ x) × (x < p + k)
+unfolding range
 in-numbers x p zero i = absurd i
 in-numbers x p (suc k) (inl e) = (omega arith, omega arith)
 in-numbers x p (suc k) (inr j) = let r = in-numbers x (suc p) k j in let a = r .0 in let b = r .1 in (omega arith, omega arith)
 
-pub numbers-in : (x p k : ℕ) → p ≤ x → x < p + k → In x (numbersFrom p k)
-unfolding numbersFrom
+pub numbers-in : (x p k : ℕ) → p ≤ x → x < p + k → Member x (range p k)
+unfolding range
 numbers-in x p zero a b = absurd (omega arith)
 numbers-in x p (suc k) a b = go (ltb p x) refl (λ l. numbers-in x (suc p) k l (omega arith))
   where
-    go : (c : Bool) → ltb p x ≡ c → (suc p ≤ x → In x (numbersFrom (suc p) k)) → (x ≡ p) ⊎ In x (numbersFrom (suc p) k)
+    go : (c : Bool) → ltb p x ≡ c → (suc p ≤ x → Member x (range (suc p) k)) → (x ≡ p) ⊎ Member x (range (suc p) k)
     go true e rest = let h : p < x = ltb-true _ _ e in inr (rest (omega arith))
     go false e rest = let h : x ≤ p = ltb-false _ _ e in inl (omega arith)
 
@@ -488,31 +486,31 @@ later-ascends : (n : ℕ) (l : List ℕ) → Ascending (suc n) l → Ascending n
 later-ascends n [] a = a
 later-ascends n (x ∷ l) a = ((let b : suc n ≤ x = a .0 in omega arith), a .1)
 
-pub listing-ascends : (f : ℕ → Bool) (p k : ℕ) → Ascending p (those f (numbersFrom p k))
-unfolding those numbersFrom
+pub listing-ascends : (f : ℕ → Bool) (p k : ℕ) → Ascending p (filter f (range p k))
+unfolding filter range
 listing-ascends f p zero = tt
 listing-ascends f p (suc k) = go (f p) (listing-ascends f (suc p) k)
   where
-    go : (b : Bool) → Ascending (suc p) (those f (numbersFrom (suc p) k)) → Ascending p (pick b (p ∷ those f (numbersFrom (suc p) k)) (those f (numbersFrom (suc p) k)))
+    go : (b : Bool) → Ascending (suc p) (filter f (range (suc p) k)) → Ascending p (cond b (p ∷ filter f (range (suc p) k)) (filter f (range (suc p) k)))
     go true a = (omega arith, a)
-    go false a = later-ascends p (those f (numbersFrom (suc p) k)) a
+    go false a = later-ascends p (filter f (range (suc p) k)) a
 
-pub no-link-twice : (m : NodeMeta) (sides : Sides) (f : ℕ → Bool) → Uniq (those f (portsOfNode m sides))
-no-link-twice m sides f = ascending-once (portsFrom m sides) (those f (portsOfNode m sides)) (listing-ascends f (portsFrom m sides) (portsTo m sides - portsFrom m sides))
+pub no-link-twice : (m : NodeMeta) (sides : Sides) (f : ℕ → Bool) → Once (filter f (portsOfNode m sides))
+no-link-twice m sides f = ascending-once (portsFrom m sides) (filter f (portsOfNode m sides)) (listing-ascends f (portsFrom m sides) (portsTo m sides - portsFrom m sides))
 
 -- the walk over all ports gives exactly the live ports, each once
 module _ (g : PortGraph) where
-  pub no-live-port-twice : Uniq (allPorts g)
+  pub no-live-port-twice : Once (allPorts g)
   unfolding allPorts
   no-live-port-twice = ascending-once 0 (allPorts g) (listing-ascends (isPortIn (g .«port_meta»)) 0 portSlots)
 
-  pub listed-port-is-live : (p : ℕ) → In p (allPorts g) → containsPort g p ≡ true
+  pub listed-port-is-live : (p : ℕ) → Member p (allPorts g) → containsPort g p ≡ true
   unfolding allPorts isPortIn
-  listed-port-is-live p i = in-those (isPortIn (g .«port_meta»)) p _ i .1
+  listed-port-is-live p i = in-filter (isPortIn (g .«port_meta»)) p _ i .1
 
-  pub live-port-is-listed : (p : ℕ) → containsPort g p ≡ true → In p (allPorts g)
+  pub live-port-is-listed : (p : ℕ) → containsPort g p ≡ true → Member p (allPorts g)
   unfolding allPorts isPortIn portEntry
-  live-port-is-listed p h = those-in (isPortIn (g .«port_meta»)) p _ (numbers-in p 0 portSlots (omega arith) (inside (ltb p portSlots) refl)) h
+  live-port-is-listed p h = filter-in (isPortIn (g .«port_meta»)) p _ (numbers-in p 0 portSlots (omega arith) (inside (ltb p portSlots) refl)) h
     where
       inside : (b : Bool) → ltb p portSlots ≡ b → p < 0 + portSlots
       inside true e = let l : p < portSlots = ltb-true _ _ e in omega arith

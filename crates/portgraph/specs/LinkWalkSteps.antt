@@ -1,6 +1,6 @@
 -- What the code of a step finds: a search over consecutive slots stops at the first port of the listing beyond the port held.
 use mathlib.Core.Path.{_≡_, refl, sym, ap, _∙_}
-use mathlib.Core.Bool.{Bool, true, false}
+use mathlib.Core.Bool.{Bool, true, false, cond}
 use mathlib.Core.List.{List, _∷_}
 use Prim.Native.Nat.{ℕ, zero, suc, _+_, _-_, _/_, _%_, _≤_, _<_, max}
 use native.Mathlib.Omega.{arith}
@@ -9,14 +9,15 @@ use lib.Dec.{eqb, leb, ltb}
 use lib.ListN.{length}
 use borrow.Author.Tests.{lt-ltb, le-ltb, le-leb, lt-leb, eq-eqb, ne-eqb, leb-true, leb-false, eqb-true, eqb-false}
 use Rattle.portgraph.specs.Limits.{nodeSlots, portSlots}
-use Rattle.portgraph.specs.Entries.{pick, portEntry}
+use Rattle.portgraph.specs.Lists.{range, filter, onFirst}
+use Rattle.portgraph.specs.Entries.{portEntry}
 use Rattle.portgraph.specs.Tables.{at}
 use Rattle.portgraph.specs.Model.{Wf}
 use Rattle.portgraph.specs.Lookups.{node#, port#, entryAt, metaAt, metaOfEntry, isPort}
 use Rattle.portgraph.specs.LookupSteps.{node-outside}
 use Rattle.portgraph.specs.Walks.{portsFrom, portsTo}
-use Rattle.portgraph.specs.WalkLaws.{numbersFrom, portsOfNode, ports-end-inside}
-use Rattle.portgraph.specs.LinkWalks.{those, firstOf, beyond, farIn, ownerIn, isPortIn, heldIn, isKept, linkKept, isOf, linkTo, portsIn, ownFrom, ownTo, linksItem, stepLinks, neighboursItem, stepNeighbours, connectionsItem, stepConnections, allPorts, allPortsItem, stepAllPorts}
+use Rattle.portgraph.specs.WalkLaws.{portsOfNode, ports-end-inside}
+use Rattle.portgraph.specs.LinkWalks.{beyond, farIn, ownerIn, isPortIn, heldIn, isKept, linkKept, isOf, linkTo, portsIn, ownFrom, ownTo, linksItem, stepLinks, neighboursItem, stepNeighbours, connectionsItem, stepConnections, allPorts, allPortsItem, stepAllPorts, firstWhere, span, portsLeft, ownPorts}
 use Rattle.portgraph.specs.declared.direction.Direction.the-variants.{Incoming, Outgoing}
 use Rattle.portgraph.specs.declared.node_entry.NodeMeta.{NodeMeta}
 use Rattle.portgraph.specs.declared.node_entry.FreeNodeEntry.{FreeNodeEntry}
@@ -37,23 +38,6 @@ use Rattle.portgraph.specs.declared.link_iter.NodeConnections.{NodeConne
 use Rattle.portgraph.specs.declared.link_iter.NodeConnectionsStep.the-variants as connections-step
 use Rattle.portgraph.specs.declared.link_iter.Ports.{Ports}
 use Rattle.portgraph.specs.declared.link_iter.PortsStep.the-variants as all-step
-
--- the first number from p on, among k, for which a test holds; p + k for none
-unfoldable pub firstWhere : (ℕ → Bool) → ℕ → ℕ → ℕ
-firstWhere f p zero = p
-firstWhere f p (suc k) = pick (f p) p (firstWhere f (suc p) k)
-
-abbrev pub span : ℕ → ℕ → Span
-span a b = record { from = a; to = b }
-
--- the ports that a walk over a node's ports has left; none where the port that it holds is gone
-unfoldable pub portsLeft : NodeEntry → Sides → ℕ → Bool → Span
-portsLeft (Free f) sides held there = span 0 0
-portsLeft (Node m) sides held there = pick there (span (max (portsFrom m sides) held) (portsTo m sides)) (span 0 0)
-
--- a node's outgoing ports, where the flag asks for them
-unfoldable pub ownPorts : NodeEntry → Bool → Span
-ownPorts e flag = span (ownFrom flag (metaOfEntry e)) (ownTo flag (metaOfEntry e))
 
 -- A turn of a search.
 
@@ -94,53 +78,53 @@ unfolding firstWhere
 where-bounds f p zero = (omega arith, omega arith)
 where-bounds f p (suc k) = go (f p) (where-bounds f (suc p) k)
   where
-    go : (b : Bool) → (suc p ≤ firstWhere f (suc p) k) × (firstWhere f (suc p) k ≤ suc p + k) → (p ≤ pick b p (firstWhere f (suc p) k)) × (pick b p (firstWhere f (suc p) k) ≤ p + suc k)
+    go : (b : Bool) → (suc p ≤ firstWhere f (suc p) k) × (firstWhere f (suc p) k ≤ suc p + k) → (p ≤ cond b p (firstWhere f (suc p) k)) × (cond b p (firstWhere f (suc p) k) ≤ p + suc k)
     go true h = (omega arith, omega arith)
     go false h = let a = h .0 in let b = h .1 in (omega arith, omega arith)
 
-first-of-those {ℓ} : {A : Type ℓ} (end : A) (item : ℕ → A) (f : ℕ → Bool) (p k n : ℕ) → n ≡ p + k
-    → firstOf end item (those f (numbersFrom p k)) ≡ pick (ltb (firstWhere f p k) n) (item (firstWhere f p k)) end
-unfolding firstOf those numbersFrom firstWhere
-first-of-those end item f p zero n e = rw (le-ltb p n (omega arith))
-first-of-those end item f p (suc k) n e = go (f p) (first-of-those end item f (suc p) k n (omega arith))
+first-of-filter {ℓ} : {A : Type ℓ} (end : A) (item : ℕ → A) (f : ℕ → Bool) (p k n : ℕ) → n ≡ p + k
+    → onFirst end item (filter f (range p k)) ≡ cond (ltb (firstWhere f p k) n) (item (firstWhere f p k)) end
+unfolding onFirst filter range firstWhere
+first-of-filter end item f p zero n e = rw (le-ltb p n (omega arith))
+first-of-filter end item f p (suc k) n e = go (f p) (first-of-filter end item f (suc p) k n (omega arith))
   where
-    go : (b : Bool) → firstOf end item (those f (numbersFrom (suc p) k)) ≡ pick (ltb (firstWhere f (suc p) k) n) (item (firstWhere f (suc p) k)) end
-        → firstOf end item (pick b (p ∷ those f (numbersFrom (suc p) k)) (those f (numbersFrom (suc p) k)))
-        ≡ pick (ltb (pick b p (firstWhere f (suc p) k)) n) (item (pick b p (firstWhere f (suc p) k))) end
+    go : (b : Bool) → onFirst end item (filter f (range (suc p) k)) ≡ cond (ltb (firstWhere f (suc p) k) n) (item (firstWhere f (suc p) k)) end
+        → onFirst end item (cond b (p ∷ filter f (range (suc p) k)) (filter f (range (suc p) k)))
+        ≡ cond (ltb (cond b p (firstWhere f (suc p) k)) n) (item (cond b p (firstWhere f (suc p) k))) end
     go true h = rw (lt-ltb p n (omega arith))
     go false h = h
 
 -- what lies beyond the port held is the listing from there on
-pub all-beyond : (f : ℕ → Bool) (held p k : ℕ) → held ≤ p → those (leb held) (those f (numbersFrom p k)) ≡ those f (numbersFrom p k)
-unfolding those numbersFrom
+pub all-beyond : (f : ℕ → Bool) (held p k : ℕ) → held ≤ p → filter (leb held) (filter f (range p k)) ≡ filter f (range p k)
+unfolding filter range
 all-beyond f held p zero l = refl
 all-beyond f held p (suc k) l = go (f p) (all-beyond f held (suc p) k (omega arith))
   where
-    go : (b : Bool) → those (leb held) (those f (numbersFrom (suc p) k)) ≡ those f (numbersFrom (suc p) k)
-        → those (leb held) (pick b (p ∷ those f (numbersFrom (suc p) k)) (those f (numbersFrom (suc p) k))) ≡ pick b (p ∷ those f (numbersFrom (suc p) k)) (those f (numbersFrom (suc p) k))
+    go : (b : Bool) → filter (leb held) (filter f (range (suc p) k)) ≡ filter f (range (suc p) k)
+        → filter (leb held) (cond b (p ∷ filter f (range (suc p) k)) (filter f (range (suc p) k))) ≡ cond b (p ∷ filter f (range (suc p) k)) (filter f (range (suc p) k))
     go true h = rw (le-leb held p l) (ap (λ r. p ∷ r) h)
     go false h = h
 
-pub those-beyond : (f : ℕ → Bool) (held p k : ℕ) → those (leb held) (those f (numbersFrom p k)) ≡ those f (numbersFrom (max p held) (p + k - max p held))
-unfolding those numbersFrom
-those-beyond f held p zero = ends (p + 0 - max p held) (omega arith)
+pub filter-beyond : (f : ℕ → Bool) (held p k : ℕ) → filter (leb held) (filter f (range p k)) ≡ filter f (range (max p held) (p + k - max p held))
+unfolding filter range
+filter-beyond f held p zero = ends (p + 0 - max p held) (omega arith)
   where
-    ends : (j : ℕ) → j ≡ 0 → those (leb held) (those f (numbersFrom p zero)) ≡ those f (numbersFrom (max p held) j)
+    ends : (j : ℕ) → j ≡ 0 → filter (leb held) (filter f (range p zero)) ≡ filter f (range (max p held) j)
     ends j e = rw e
-those-beyond f held p (suc k) = go (leb held p) refl (those-beyond f held (suc p) k)
+filter-beyond f held p (suc k) = go (leb held p) refl (filter-beyond f held (suc p) k)
   where
-    passed : leb held p ≡ false → those (leb held) (those f (numbersFrom p (suc k))) ≡ those (leb held) (those f (numbersFrom (suc p) k))
+    passed : leb held p ≡ false → filter (leb held) (filter f (range p (suc k))) ≡ filter (leb held) (filter f (range (suc p) k))
     passed e = by (f p)
       where
-        by : (b : Bool) → those (leb held) (pick b (p ∷ those f (numbersFrom (suc p) k)) (those f (numbersFrom (suc p) k))) ≡ those (leb held) (those f (numbersFrom (suc p) k))
+        by : (b : Bool) → filter (leb held) (cond b (p ∷ filter f (range (suc p) k)) (filter f (range (suc p) k))) ≡ filter (leb held) (filter f (range (suc p) k))
         by true = rw e
         by false = refl
 
-    same : (a b i j : ℕ) → a ≡ b → i ≡ j → those f (numbersFrom a i) ≡ those f (numbersFrom b j)
+    same : (a b i j : ℕ) → a ≡ b → i ≡ j → filter f (range a i) ≡ filter f (range b j)
     same a b i j d e = rw (d, e)
 
-    go : (b : Bool) → leb held p ≡ b → those (leb held) (those f (numbersFrom (suc p) k)) ≡ those f (numbersFrom (max (suc p) held) (suc p + k - max (suc p) held))
-        → those (leb held) (those f (numbersFrom p (suc k))) ≡ those f (numbersFrom (max p held) (p + suc k - max p held))
+    go : (b : Bool) → leb held p ≡ b → filter (leb held) (filter f (range (suc p) k)) ≡ filter f (range (max (suc p) held) (suc p + k - max (suc p) held))
+        → filter (leb held) (filter f (range p (suc k))) ≡ filter f (range (max p held) (p + suc k - max p held))
     go true e h =
         let l : held ≤ p = leb-true _ _ e in
         all-beyond f held p (suc k) l ∙ same p (max p held) (suc k) (p + suc k - max p held) (omega arith) (omega arith)
@@ -150,30 +134,30 @@ those-beyond f held p (suc k) = go (leb held p) refl (those-beyond f held (suc p
 
 -- nothing is left past the end
 past {ℓ} : {A : Type ℓ} (end : A) (item : ℕ → A) (f : ℕ → Bool) (p k n : ℕ) → k ≡ 0 → n ≤ p
-    → firstOf end item (those f (numbersFrom p k)) ≡ pick (ltb (firstWhere f p k) n) (item (firstWhere f p k)) end
-unfolding firstOf those numbersFrom firstWhere
+    → onFirst end item (filter f (range p k)) ≡ cond (ltb (firstWhere f p k) n) (item (firstWhere f p k)) end
+unfolding onFirst filter range firstWhere
 past end item f p k n e l = rw e (rw (le-ltb p n l))
 
 module _ {ℓ} {A : Type ℓ} (end : A) (item : ℕ → A) (f : ℕ → Bool) where
   found-in-node : (m : NodeMeta) (sides : Sides) (held p : ℕ) → portsFrom m sides ≤ portsTo m sides → p ≡ max (portsFrom m sides) held
-      → firstOf end item (those (leb held) (those f (portsOfNode m sides))) ≡ pick (ltb (firstWhere f p (portsTo m sides - p)) (portsTo m sides)) (item (firstWhere f p (portsTo m sides - p))) end
-  found-in-node m sides held p l e = ap (firstOf end item) (those-beyond f held (portsFrom m sides) (portsTo m sides - portsFrom m sides)) ∙ go (max (portsFrom m sides) held) (portsFrom m sides + (portsTo m sides - portsFrom m sides) - max (portsFrom m sides) held) (sym e) (omega arith)
+      → onFirst end item (filter (leb held) (filter f (portsOfNode m sides))) ≡ cond (ltb (firstWhere f p (portsTo m sides - p)) (portsTo m sides)) (item (firstWhere f p (portsTo m sides - p))) end
+  found-in-node m sides held p l e = ap (onFirst end item) (filter-beyond f held (portsFrom m sides) (portsTo m sides - portsFrom m sides)) ∙ go (max (portsFrom m sides) held) (portsFrom m sides + (portsTo m sides - portsFrom m sides) - max (portsFrom m sides) held) (sym e) (omega arith)
     where
-      there : (k : ℕ) → k ≡ portsTo m sides - p → firstOf end item (those f (numbersFrom p k)) ≡ pick (ltb (firstWhere f p k) (portsTo m sides)) (item (firstWhere f p k)) end
+      there : (k : ℕ) → k ≡ portsTo m sides - p → onFirst end item (filter f (range p k)) ≡ cond (ltb (firstWhere f p k) (portsTo m sides)) (item (firstWhere f p k)) end
       there k h = by (leb p (portsTo m sides)) refl
         where
-          by : (b : Bool) → leb p (portsTo m sides) ≡ b → firstOf end item (those f (numbersFrom p k)) ≡ pick (ltb (firstWhere f p k) (portsTo m sides)) (item (firstWhere f p k)) end
-          by true t = let a : p ≤ portsTo m sides = leb-true _ _ t in first-of-those end item f p k (portsTo m sides) (omega arith)
+          by : (b : Bool) → leb p (portsTo m sides) ≡ b → onFirst end item (filter f (range p k)) ≡ cond (ltb (firstWhere f p k) (portsTo m sides)) (item (firstWhere f p k)) end
+          by true t = let a : p ≤ portsTo m sides = leb-true _ _ t in first-of-filter end item f p k (portsTo m sides) (omega arith)
           by false t = let a : portsTo m sides < p = leb-false _ _ t in past end item f p k (portsTo m sides) (omega arith) (omega arith)
 
-      go : (q k : ℕ) → q ≡ p → k ≡ portsTo m sides - p → firstOf end item (those f (numbersFrom q k)) ≡ pick (ltb (firstWhere f p (portsTo m sides - p)) (portsTo m sides)) (item (firstWhere f p (portsTo m sides - p))) end
+      go : (q k : ℕ) → q ≡ p → k ≡ portsTo m sides - p → onFirst end item (filter f (range q k)) ≡ cond (ltb (firstWhere f p (portsTo m sides - p)) (portsTo m sides)) (item (firstWhere f p (portsTo m sides - p))) end
       go q k a b = rw (a, b) (there (portsTo m sides - p) refl)
 
 -- a step of a walk that stops at some ports of a node: l is what the walk has left, r where the search stops
 pub step-by-search {ℓ} : {A : Type ℓ} (end : A) (item : ℕ → A) (f : ℕ → Bool) (e : NodeEntry) (sides : Sides) (held : ℕ) (there : Bool) (l : Span) (r : ℕ)
     → l ≡ portsLeft e sides held there → r ≡ firstWhere f (l .from) (l .to - l .from)
-    → beyond there held end item (those f (portsIn (metaOfEntry e) sides)) ≡ pick (ltb r (l .to)) (item r) end
-unfolding beyond portsLeft firstOf those firstWhere
+    → beyond there held end item (filter f (portsIn (metaOfEntry e) sides)) ≡ cond (ltb r (l .to)) (item r) end
+unfolding beyond portsLeft onFirst filter firstWhere
 step-by-search end item f e sides held there l r a b = rw (b, a) (go e there)
   where
     ordered : (m : NodeMeta) (s : Sides) → portsFrom m s ≤ portsTo m s
@@ -181,8 +165,8 @@ step-by-search end item f e sides held there l r a b = rw (b, a) (go e there)
     ordered m (One Outgoing) = omega arith
     ordered m Both = omega arith
 
-    go : (e : NodeEntry) (there : Bool) → beyond there held end item (those f (portsIn (metaOfEntry e) sides))
-        ≡ pick (ltb (firstWhere f (portsLeft e sides held there .from) (portsLeft e sides held there .to - portsLeft e sides held there .from)) (portsLeft e sides held there .to)) (item (firstWhere f (portsLeft e sides held there .from) (portsLeft e sides held there .to - portsLeft e sides held there .from))) end
+    go : (e : NodeEntry) (there : Bool) → beyond there held end item (filter f (portsIn (metaOfEntry e) sides))
+        ≡ cond (ltb (firstWhere f (portsLeft e sides held there .from) (portsLeft e sides held there .to - portsLeft e sides held there .from)) (portsLeft e sides held there .to)) (item (firstWhere f (portsLeft e sides held there .from) (portsLeft e sides held there .to - portsLeft e sides held there .from))) end
     go (Free x) true = refl
     go (Free x) false = refl
     go (Node m) true = found-in-node end item f m sides held (max (portsFrom m sides) held) (ordered m sides) refl
@@ -203,7 +187,7 @@ module _ (t : List ℕ) (p e : ℕ) (read : e ≡ at t p) where
   unfolding isPortIn portEntry
   port-told = ap (ltb 0) read ∙ go (eqb (at t p) 0) refl
     where
-      go : (b : Bool) → eqb (at t p) 0 ≡ b → ltb 0 (at t p) ≡ isPort (pick b port-variants.Free (port-variants.Port (record { node = record { 0 = (at t p - 1) / 2 }; direction = pick (eqb ((at t p - 1) % 2) 0) Incoming Outgoing })))
+      go : (b : Bool) → eqb (at t p) 0 ≡ b → ltb 0 (at t p) ≡ isPort (cond b port-variants.Free (port-variants.Port (record { node = record { 0 = (at t p - 1) / 2 }; direction = cond (eqb ((at t p - 1) % 2) 0) Incoming Outgoing })))
       go true z = le-ltb 0 (at t p) (let h : at t p ≡ 0 = eqb-true _ _ z in omega arith)
       go false z = lt-ltb 0 (at t p) (let h : at t p ≡ 0 → ⊥ = eqb-false _ _ z in omega arith)
 
@@ -285,27 +269,27 @@ module _ (e : NodeEntry) where
 
 -- Choices, with their numbers.
 
-pub chosen-first : {A B : Type 0} (f : A → B) (x y : A) (r b : Bool) → r ≡ b → r ≡ true → (x ≡ pick b x y) × (f x ≡ f (pick b x y))
-chosen-first f x y r b e t = let h : x ≡ pick b x y = rw (sym e, t) in (h, ap f h)
+pub chosen-first : {A B : Type 0} (f : A → B) (x y : A) (r b : Bool) → r ≡ b → r ≡ true → (x ≡ cond b x y) × (f x ≡ f (cond b x y))
+chosen-first f x y r b e t = let h : x ≡ cond b x y = rw (sym e, t) in (h, ap f h)
 
-pub chosen-second : {A B : Type 0} (f : A → B) (x y : A) (r b : Bool) → r ≡ b → r ≡ false → (y ≡ pick b x y) × (f y ≡ f (pick b x y))
-chosen-second f x y r b e t = let h : y ≡ pick b x y = rw (sym e, t) in (h, ap f h)
+pub chosen-second : {A B : Type 0} (f : A → B) (x y : A) (r b : Bool) → r ≡ b → r ≡ false → (y ≡ cond b x y) × (f y ≡ f (cond b x y))
+chosen-second f x y r b e t = let h : y ≡ cond b x y = rw (sym e, t) in (h, ap f h)
 
 module _ {A B : Type 0} (f : A → B) (x y : A) (r b s d : Bool) (first : r ≡ b) (taken : r ≡ true) (second : s ≡ d) where
-  pub chosen-both : s ≡ true → (x ≡ pick b (pick d x y) y) × (f x ≡ f (pick b (pick d x y) y))
-  chosen-both t = let h : x ≡ pick b (pick d x y) y = rw (sym first, taken, sym second, t) in (h, ap f h)
+  pub chosen-both : s ≡ true → (x ≡ cond b (cond d x y) y) × (f x ≡ f (cond b (cond d x y) y))
+  chosen-both t = let h : x ≡ cond b (cond d x y) y = rw (sym first, taken, sym second, t) in (h, ap f h)
 
-  pub chosen-one : s ≡ false → (y ≡ pick b (pick d x y) y) × (f y ≡ f (pick b (pick d x y) y))
-  chosen-one t = let h : y ≡ pick b (pick d x y) y = rw (sym first, taken, sym second, t) in (h, ap f h)
+  pub chosen-one : s ≡ false → (y ≡ cond b (cond d x y) y) × (f y ≡ f (cond b (cond d x y) y))
+  chosen-one t = let h : y ≡ cond b (cond d x y) y = rw (sym first, taken, sym second, t) in (h, ap f h)
 
 -- Steps, from what the code has computed: the node's place w, whether the port held is there, the ports left l, and where the
 -- search stops, r.
 
-pub no-node-no-step {ℓ} : {A : Type ℓ} (end : A) (item : ℕ → A) (f : ℕ → Bool) (there : Bool) (held : ℕ) (sides : Sides) (m : MaybeNodeMeta) → maybe-meta.None ≡ m → end ≡ beyond there held end item (those f (portsIn m sides))
-unfolding beyond firstOf those
+pub no-node-no-step {ℓ} : {A : Type ℓ} (end : A) (item : ℕ → A) (f : ℕ → Bool) (there : Bool) (held : ℕ) (sides : Sides) (m : MaybeNodeMeta) → maybe-meta.None ≡ m → end ≡ beyond there held end item (filter f (portsIn m sides))
+unfolding beyond onFirst filter
 no-node-no-step end item f there held sides m e = rw (sym e) (go there)
   where
-    go : (b : Bool) → end ≡ pick b end end
+    go : (b : Bool) → end ≡ cond b end end
     go true = refl
     go false = refl
 
@@ -338,7 +322,7 @@ module _ (g : PortGraph) (w : ℕ) (there : Bool) (l : Span) (r : ℕ) where
 
   pub links-by-search : (c : NodeLinks) (lo hi : ℕ) → w ≡ c .node .0 → there ≡ heldIn (g .«port_meta») (c .held) → l ≡ portsLeft (entryAt g w) (c .sides) (c .held) there
       → lo ≡ c .«skip_from» → hi ≡ c .«skip_to» → r ≡ firstWhere (linkKept (g .«port_link») lo hi) (l .from) (l .to - l .from)
-      → stepLinks g c ≡ pick (ltb r (l .to)) (linksItem g c r) links-step.End
+      → stepLinks g c ≡ cond (ltb r (l .to)) (linksItem g c r) links-step.End
   unfolding stepLinks
   links-by-search c lo hi hw ht hl ha hb hr =
       step-by-search links-step.End (linksItem g c) (linkKept (g .«port_link») (c .«skip_from») (c .«skip_to»)) (entryAt g (c .node .0)) (c .sides) (c .held) (heldIn (g .«port_meta») (c .held)) l r
@@ -349,7 +333,7 @@ module _ (g : PortGraph) (w : ℕ) (there : Bool) (l : Span) (r : ℕ) where
 
   pub neighbours-by-search : (c : Neighbours) (skip : Span) → w ≡ c .node .0 → there ≡ heldIn (g .«port_meta») (c .held) → l ≡ portsLeft (entryAt g w) (c .sides) (c .held) there
       → skip ≡ ownPorts (entryAt g w) (c .«ignore_self») → r ≡ firstWhere (linkKept (g .«port_link») (skip .from) (skip .to)) (l .from) (l .to - l .from)
-      → stepNeighbours g c ≡ pick (ltb r (l .to)) (neighboursItem g c r) neighbours-step.End
+      → stepNeighbours g c ≡ cond (ltb r (l .to)) (neighboursItem g c r) neighbours-step.End
   unfolding stepNeighbours ownPorts
   neighbours-by-search c skip hw ht hl hs hr =
       step-by-search neighbours-step.End (neighboursItem g c) (linkKept (g .«port_link») (ownFrom (c .«ignore_self») (metaAt g (c .node .0))) (ownTo (c .«ignore_self») (metaAt g (c .node .0))))
@@ -359,33 +343,33 @@ module _ (g : PortGraph) (w : ℕ) (there : Bool) (l : Span) (r : ℕ) where
 
   pub connections-by-search : (c : NodeConnections) → w ≡ c .node .0 → there ≡ heldIn (g .«port_meta») (c .held) → l ≡ portsLeft (entryAt g w) (One Outgoing) (c .held) there
       → r ≡ firstWhere (linkTo (g .«port_link») (g .«port_meta») (c .target .0)) (l .from) (l .to - l .from)
-      → stepConnections g c ≡ pick (ltb r (l .to)) (connectionsItem g c r) connections-step.End
+      → stepConnections g c ≡ cond (ltb r (l .to)) (connectionsItem g c r) connections-step.End
   unfolding stepConnections
   connections-by-search c hw ht hl hr =
       step-by-search connections-step.End (connectionsItem g c) (linkTo (g .«port_link») (g .«port_meta») (c .target .0)) (entryAt g (c .node .0)) (One Outgoing) (c .held) (heldIn (g .«port_meta») (c .held)) l r
       (left-at (c .node .0) (One Outgoing) (c .held) (heldIn (g .«port_meta») (c .held)) hw ht hl) hr
 
 module _ (g : PortGraph) (end r : ℕ) where
-  pub links-given : (c : NodeLinks) (far : ℕ) → stepLinks g c ≡ pick (ltb r end) (linksItem g c r) links-step.End → r < end → far ≡ farIn (g .«port_link») r
+  pub links-given : (c : NodeLinks) (far : ℕ) → stepLinks g c ≡ cond (ltb r end) (linksItem g c r) links-step.End → r < end → far ≡ farIn (g .«port_link») r
       → links-step.Item (record { from = port# r; to = port# far }) (record { node = c .node; sides = c .sides; «skip_from» = c .«skip_from»; «skip_to» = c .«skip_to»; held = r + 1 }) ≡ stepLinks g c
   links-given c far s h e = rw (s, lt-ltb r end h, add-one, e)
 
-  pub links-over : (c : NodeLinks) → stepLinks g c ≡ pick (ltb r end) (linksItem g c r) links-step.End → end ≤ r → links-step.End ≡ stepLinks g c
+  pub links-over : (c : NodeLinks) → stepLinks g c ≡ cond (ltb r end) (linksItem g c r) links-step.End → end ≤ r → links-step.End ≡ stepLinks g c
   links-over c s h = rw (s, le-ltb r end h)
 
-  pub neighbours-given : (c : Neighbours) (far v n : ℕ) → stepNeighbours g c ≡ pick (ltb r end) (neighboursItem g c r) neighbours-step.End → r < end
+  pub neighbours-given : (c : Neighbours) (far v n : ℕ) → stepNeighbours g c ≡ cond (ltb r end) (neighboursItem g c r) neighbours-step.End → r < end
       → far ≡ farIn (g .«port_link») r → v ≡ far → n ≡ ownerIn (g .«port_meta») v
       → neighbours-step.Item (node# n) (record { node = c .node; sides = c .sides; «ignore_self» = c .«ignore_self»; held = r + 1 }) ≡ stepNeighbours g c
   neighbours-given c far v n s h e d o = rw (s, lt-ltb r end h, add-one, o, d, e)
 
-  pub neighbours-over : (c : Neighbours) → stepNeighbours g c ≡ pick (ltb r end) (neighboursItem g c r) neighbours-step.End → end ≤ r → neighbours-step.End ≡ stepNeighbours g c
+  pub neighbours-over : (c : Neighbours) → stepNeighbours g c ≡ cond (ltb r end) (neighboursItem g c r) neighbours-step.End → end ≤ r → neighbours-step.End ≡ stepNeighbours g c
   neighbours-over c s h = rw (s, le-ltb r end h)
 
-  pub connections-given : (c : NodeConnections) (far : ℕ) → stepConnections g c ≡ pick (ltb r end) (connectionsItem g c r) connections-step.End → r < end → far ≡ farIn (g .«port_link») r
+  pub connections-given : (c : NodeConnections) (far : ℕ) → stepConnections g c ≡ cond (ltb r end) (connectionsItem g c r) connections-step.End → r < end → far ≡ farIn (g .«port_link») r
       → connections-step.Item (record { from = port# r; to = port# far }) (record { node = c .node; target = c .target; held = r + 1 }) ≡ stepConnections g c
   connections-given c far s h e = rw (s, lt-ltb r end h, add-one, e)
 
-  pub connections-over : (c : NodeConnections) → stepConnections g c ≡ pick (ltb r end) (connectionsItem g c r) connections-step.End → end ≤ r → connections-step.End ≡ stepConnections g c
+  pub connections-over : (c : NodeConnections) → stepConnections g c ≡ cond (ltb r end) (connectionsItem g c r) connections-step.End → end ≤ r → connections-step.End ≡ stepConnections g c
   connections-over c s h = rw (s, le-ltb r end h)
 
 -- the walk over all ports
@@ -395,16 +379,16 @@ ports-gone g c there e h = rw (sym e, h)
 
 module _ (g : PortGraph) (c : Ports) (there : Bool) (w r : ℕ) (held : there ≡ heldIn (g .«port_meta») (c .held)) (t : there ≡ true) (at-held : w ≡ c .held)
     (search : r ≡ firstWhere (isPortIn (g .«port_meta»)) w (portSlots - w)) where
-  ports-by-search : stepAllPorts g c ≡ pick (ltb r portSlots) (allPortsItem r) all-step.End
+  ports-by-search : stepAllPorts g c ≡ cond (ltb r portSlots) (allPortsItem r) all-step.End
   unfolding stepAllPorts allPorts beyond
   ports-by-search =
       rw (sym held, t, search, at-held)
-      (ap (firstOf all-step.End allPortsItem) (those-beyond (isPortIn (g .«port_meta»)) (c .held) 0 portSlots) ∙ go (max 0 (c .held)) (0 + portSlots - max 0 (c .held)) (omega arith) (omega arith) (leb (c .held) portSlots) refl)
+      (ap (onFirst all-step.End allPortsItem) (filter-beyond (isPortIn (g .«port_meta»)) (c .held) 0 portSlots) ∙ go (max 0 (c .held)) (0 + portSlots - max 0 (c .held)) (omega arith) (omega arith) (leb (c .held) portSlots) refl)
     where
       go : (p k : ℕ) → p ≡ c .held → k ≡ portSlots - c .held → (b : Bool) → leb (c .held) portSlots ≡ b
-          → firstOf all-step.End allPortsItem (those (isPortIn (g .«port_meta»)) (numbersFrom p k))
-          ≡ pick (ltb (firstWhere (isPortIn (g .«port_meta»)) (c .held) (portSlots - c .held)) portSlots) (allPortsItem (firstWhere (isPortIn (g .«port_meta»)) (c .held) (portSlots - c .held))) all-step.End
-      go p k a b true e = let i : c .held ≤ portSlots = leb-true _ _ e in rw (a, b) (first-of-those _ _ _ _ _ portSlots (omega arith))
+          → onFirst all-step.End allPortsItem (filter (isPortIn (g .«port_meta»)) (range p k))
+          ≡ cond (ltb (firstWhere (isPortIn (g .«port_meta»)) (c .held) (portSlots - c .held)) portSlots) (allPortsItem (firstWhere (isPortIn (g .«port_meta»)) (c .held) (portSlots - c .held))) all-step.End
+      go p k a b true e = let i : c .held ≤ portSlots = leb-true _ _ e in rw (a, b) (first-of-filter _ _ _ _ _ portSlots (omega arith))
       go p k a b false e = let i : portSlots < c .held = leb-false _ _ e in rw (a, b) (past _ _ _ _ _ portSlots (omega arith) (omega arith))
 
   pub ports-given : r < portSlots → all-step.Item (port# r) (record { held = r + 1 }) ≡ stepAllPorts g c

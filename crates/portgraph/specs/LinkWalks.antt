@@ -1,15 +1,16 @@
 -- Walks over the links of a node and over all ports: the list that each gives, and the step of its cursor on any graph.
 -- A step gives the next item of the present listing beyond the port held; a cursor whose node or port is gone ends the walk.
-use mathlib.Core.Bool.{Bool, true, false}
-use mathlib.Core.List.{List, [], _∷_}
-use Prim.Native.Nat.{ℕ, suc, _-_}
+use mathlib.Core.Bool.{Bool, true, false, cond}
+use mathlib.Core.List.{List, [], _∷_, map}
+use Prim.Native.Nat.{ℕ, suc, _-_, zero, max}
 use lib.Dec.{eqb, leb}
 use Rattle.portgraph.specs.Limits.{portSlots}
-use Rattle.portgraph.specs.Entries.{pick, portEntry}
+use Rattle.portgraph.specs.Lists.{filter, onFirst, range}
+use Rattle.portgraph.specs.Entries.{portEntry}
 use Rattle.portgraph.specs.Tables.{at}
-use Rattle.portgraph.specs.Lookups.{node#, port#, metaAt, nodeOf, containsNode, isPort}
+use Rattle.portgraph.specs.Lookups.{node#, port#, metaAt, nodeOf, containsNode, isPort, metaOfEntry}
 use Rattle.portgraph.specs.Walks.{portsFrom, portsTo}
-use Rattle.portgraph.specs.WalkLaws.{numbersFrom, portsOfNode}
+use Rattle.portgraph.specs.WalkLaws.{portsOfNode}
 use Rattle.portgraph.specs.declared.direction.Direction.the-variants.{Outgoing}
 use Rattle.portgraph.specs.declared.index.NodeIndex.{NodeIndex}
 use Rattle.portgraph.specs.declared.index.MaybeNodeIndex.{MaybeNodeIndex}
@@ -38,26 +39,13 @@ use Rattle.portgraph.specs.declared.link_iter.NodeConnectionsStart.the-v
 use Rattle.portgraph.specs.declared.link_iter.Ports.{Ports}
 use Rattle.portgraph.specs.declared.link_iter.PortsStep.{PortsStep}
 use Rattle.portgraph.specs.declared.link_iter.PortsStep.the-variants as all-step
-
--- Lists.
-
--- those for which a test holds
-unfoldable pub those : (ℕ → Bool) → List ℕ → List ℕ
-those f [] = []
-those f (x ∷ l) = pick (f x) (x ∷ those f l) (those f l)
-
-unfoldable pub each {ℓ κ} : {A : Type ℓ} {B : Type κ} → (A → B) → List A → List B
-each f [] = []
-each f (x ∷ l) = f x ∷ each f l
-
--- what f gives for the first, or the end
-unfoldable pub firstOf {ℓ κ} : {A : Type ℓ} {B : Type κ} → B → (A → B) → List A → B
-firstOf end f [] = end
-firstOf end f (x ∷ l) = f x
+use Rattle.portgraph.specs.declared.link_iter.Span.{Span}
+use Rattle.portgraph.specs.declared.node_entry.NodeEntry.{NodeEntry}
+use Rattle.portgraph.specs.declared.node_entry.NodeEntry.the-variants.{Free, Node}
 
 -- A step: the first of the ports at which the walk stops, beyond the port held, if that one is still there.
 unfoldable pub beyond {ℓ} : {A : Type ℓ} → Bool → ℕ → A → (ℕ → A) → List ℕ → A
-beyond there held end item ports = pick there (firstOf end item (those (leb held) ports)) end
+beyond there held end item ports = cond there (onFirst end item (filter (leb held) ports)) end
 
 -- What the tables say of a port: the links in the one, the owners in the other.
 
@@ -78,11 +66,11 @@ isPortIn owners p = isPort (portEntry (at owners p))
 
 -- what the cursor holds is still there
 unfoldable pub heldIn : List ℕ → ℕ → Bool
-heldIn owners held = pick (eqb held 0) true (isPortIn owners (held - 1))
+heldIn owners held = cond (eqb held 0) true (isPortIn owners (held - 1))
 
 -- a link, its far port one higher than its number, leads to none of the ports from lo on, hi excluded
 unfoldable pub isKept : ℕ → ℕ → ℕ → Bool
-isKept far lo hi = pick (eqb far 0) false (pick (leb lo (far - 1)) (leb hi (far - 1)) true)
+isKept far lo hi = cond (eqb far 0) false (cond (leb lo (far - 1)) (leb hi (far - 1)) true)
 
 unfoldable pub linkKept : List ℕ → ℕ → ℕ → ℕ → Bool
 linkKept links lo hi p = isKept (at links p) lo hi
@@ -96,7 +84,7 @@ isOf n owner = isNodeOf n (nodeOf (portEntry owner))
 
 -- a port is linked with a port of a node
 unfoldable pub linkTo : List ℕ → List ℕ → ℕ → ℕ → Bool
-linkTo links owners n p = pick (eqb (at links p) 0) false (isOf n (at owners (farIn links p)))
+linkTo links owners n p = cond (eqb (at links p) 0) false (isOf n (at owners (farIn links p)))
 
 -- the ports of a node on these sides; none where it is not live
 abbrev pub portsIn : MaybeNodeMeta → Sides → List ℕ
@@ -110,10 +98,10 @@ linkAt g p = record { from = port# p; to = port# (farIn (g .«port_link») p) }
 
 -- the ports that have such a link
 abbrev pub linkedPorts : PortGraph → ℕ → Sides → ℕ → ℕ → List ℕ
-linkedPorts g n sides lo hi = those (linkKept (g .«port_link») lo hi) (portsIn (metaAt g n) sides)
+linkedPorts g n sides lo hi = filter (linkKept (g .«port_link») lo hi) (portsIn (metaAt g n) sides)
 
 unfoldable pub nodeLinks : PortGraph → ℕ → Sides → ℕ → ℕ → List Link
-nodeLinks g n sides lo hi = each (linkAt g) (linkedPorts g n sides lo hi)
+nodeLinks g n sides lo hi = map (linkAt g) (linkedPorts g n sides lo hi)
 
 abbrev pub linksItem : PortGraph → NodeLinks → ℕ → NodeLinksStep
 linksItem g c p =
@@ -146,7 +134,7 @@ abbrev pub neighbourAt : PortGraph → ℕ → NodeIndex
 neighbourAt g p = node# (ownerIn (g .«port_meta») (farIn (g .«port_link») p))
 
 unfoldable pub neighbours : PortGraph → ℕ → Sides → Bool → List NodeIndex
-neighbours g n sides flag = each (neighbourAt g) (neighbourPorts g n sides flag)
+neighbours g n sides flag = map (neighbourAt g) (neighbourPorts g n sides flag)
 
 abbrev pub neighboursItem : PortGraph → Neighbours → ℕ → NeighboursStep
 neighboursItem g c p =
@@ -161,10 +149,10 @@ stepNeighbours g c =
 -- Connections: the links from one node's outgoing side to another node.
 
 abbrev pub connectedPorts : PortGraph → ℕ → ℕ → List ℕ
-connectedPorts g n k = those (linkTo (g .«port_link») (g .«port_meta») k) (portsIn (metaAt g n) (One Outgoing))
+connectedPorts g n k = filter (linkTo (g .«port_link») (g .«port_meta») k) (portsIn (metaAt g n) (One Outgoing))
 
 unfoldable pub connections : PortGraph → ℕ → ℕ → List Link
-connections g n k = each (linkAt g) (connectedPorts g n k)
+connections g n k = map (linkAt g) (connectedPorts g n k)
 
 abbrev pub connectionsItem : PortGraph → NodeConnections → ℕ → NodeConnectionsStep
 connectionsItem g c p = connections-step.Item (linkAt g p) (record { node = c .node; target = c .target; held = suc p })
@@ -177,7 +165,7 @@ stepConnections g c =
 -- All live ports, by ascending number.
 
 unfoldable pub allPorts : PortGraph → List ℕ
-allPorts g = those (isPortIn (g .«port_meta»)) (numbersFrom 0 portSlots)
+allPorts g = filter (isPortIn (g .«port_meta»)) (range 0 portSlots)
 
 abbrev pub allPortsItem : ℕ → PortsStep
 allPortsItem p = all-step.Item (port# p) (record { held = suc p })
@@ -189,20 +177,20 @@ stepAllPorts g c = beyond (heldIn (g .«port_meta») (c .held)) (c .held) all-st
 
 abbrev pub startLinks : PortGraph → NodeIndex → Sides → ℕ → ℕ → NodeLinksStart
 startLinks g n sides lo hi =
-    pick (containsNode g (n .0))
+    cond (containsNode g (n .0))
     (links-start.Started (record { node = n; sides = sides; «skip_from» = lo; «skip_to» = hi; held = 0 }))
     links-start.UnknownNode
 
 abbrev pub startNeighbours : PortGraph → NodeIndex → Sides → Bool → NeighboursStart
 startNeighbours g n sides flag =
-    pick (containsNode g (n .0))
+    cond (containsNode g (n .0))
     (neighbours-start.Started (record { node = n; sides = sides; «ignore_self» = flag; held = 0 }))
     neighbours-start.UnknownNode
 
 abbrev pub startConnections : PortGraph → NodeIndex → NodeIndex → NodeConnectionsStart
 startConnections g n k =
-    pick (containsNode g (n .0))
-    (pick (containsNode g (k .0)) (connections-start.Started (record { node = n; target = k; held = 0 })) connections-start.UnknownNode)
+    cond (containsNode g (n .0))
+    (cond (containsNode g (k .0)) (connections-start.Started (record { node = n; target = k; held = 0 })) connections-start.UnknownNode)
     connections-start.UnknownNode
 
 -- 01's numbers: a start answers no value, or refusal 4; a step has its item, and nothing at the end.
@@ -234,3 +222,22 @@ connectionsNumbers connections-step.End = []
 abbrev pub allPortsNumbers : PortsStep → List ℕ
 allPortsNumbers (all-step.Item p c) = p .0 ∷ []
 allPortsNumbers all-step.End = []
+
+-- How the code goes over ports: the first for which a test holds, and the ports that are left.
+
+-- the first number from p on, among k, for which a test holds; p + k for none
+unfoldable pub firstWhere : (ℕ → Bool) → ℕ → ℕ → ℕ
+firstWhere f p zero = p
+firstWhere f p (suc k) = cond (f p) p (firstWhere f (suc p) k)
+
+abbrev pub span : ℕ → ℕ → Span
+span a b = record { from = a; to = b }
+
+-- the ports that a walk over a node's ports has left; none where the port that it holds is gone
+unfoldable pub portsLeft : NodeEntry → Sides → ℕ → Bool → Span
+portsLeft (Free f) sides held there = span 0 0
+portsLeft (Node m) sides held there = cond there (span (max (portsFrom m sides) held) (portsTo m sides)) (span 0 0)
+
+-- a node's outgoing ports, where the flag asks for them
+unfoldable pub ownPorts : NodeEntry → Bool → Span
+ownPorts e flag = span (ownFrom flag (metaOfEntry e)) (ownTo flag (metaOfEntry e))

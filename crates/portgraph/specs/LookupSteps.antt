@@ -1,14 +1,14 @@
 -- What the code reads of a graph, said of the definitions: the entries that it reads are those of the lookups,
 -- and each way out of a lookup, of a link or of an unlink gives what the definition gives.
 use mathlib.Core.Path.{_≡_, sym, ap, _∙_}
-use mathlib.Core.Bool.{Bool, false}
+use mathlib.Core.Bool.{Bool, false, cond}
 use mathlib.Core.List.{List, map}
 use Prim.Native.Nat.{ℕ, _+_, _-_, _≤_, _<_}
 use native.Mathlib.Omega.{arith}
 use lib.ListN.{length, length-map, getD, replicate, List·getD-eq-default}
 use borrow.Author.Tests.{lt-ltb, le-ltb, eq-eqb, ne-eqb}
 use Rattle.portgraph.specs.Limits.{nodeSlots, portSlots, freeLists}
-use Rattle.portgraph.specs.Entries.{pick, freshSlot, portEntry, portsOn}
+use Rattle.portgraph.specs.Entries.{freshSlot, portEntry, portsOn}
 use Rattle.portgraph.specs.Tables.{at, cut, linkBoth, linkCount}
 use Rattle.portgraph.specs.TableSteps.{at-outside}
 use Rattle.portgraph.specs.Model.{Wf}
@@ -157,9 +157,9 @@ module _ (g : PortGraph) (a b : ℕ) (m k : PortMeta) (first : port-variants.Por
 
   -- both ports are live: their sides decide
   pub link-by-sides : (t : Bool) → sameSide (m .direction) (k .direction) ≡ t
-      → pick t (linkRefused g (linked.IncompatibleDirections (port# a) (port# b) (m .direction))) (linkFree g a b) ≡ linkPorts g a b
+      → cond t (linkRefused g (linked.IncompatibleDirections (port# a) (port# b) (m .direction))) (linkFree g a b) ≡ linkPorts g a b
   link-by-sides t h =
-      ap (λ (x : Bool). pick x (linkRefused g (linked.IncompatibleDirections (port# a) (port# b) (m .direction))) (linkFree g a b)) (sym h) ∙ both-live
+      ap (λ (x : Bool). cond x (linkRefused g (linked.IncompatibleDirections (port# a) (port# b) (m .direction))) (linkFree g a b)) (sym h) ∙ both-live
 
   pub link-first-taken : sameSide (m .direction) (k .direction) ≡ false → (at (g .«port_link») a ≡ 0 → ⊥)
       → linkRefused g (linked.AlreadyLinked (port# a)) ≡ linkPorts g a b

@@ -1,10 +1,10 @@
 -- What the lookups answer, and each answer's number and values in 01.
-use mathlib.Core.Bool.{Bool, true, false}
+use mathlib.Core.Bool.{Bool, true, false, cond}
 use mathlib.Core.List.{List, [], _∷_}
 use Prim.Native.Nat.{ℕ, _+_, _-_}
 use lib.Dec.{eqb, ltb}
 use lib.ListN.{getD}
-use Rattle.portgraph.specs.Entries.{pick, freshSlot, portEntry, portsOn, sideNumber}
+use Rattle.portgraph.specs.Entries.{freshSlot, portEntry, portsOn, sideNumber}
 use Rattle.portgraph.specs.Tables.{at}
 use Rattle.portgraph.specs.declared.direction.Direction.{Direction}
 use Rattle.portgraph.specs.declared.direction.Direction.the-variants.{Incoming, Outgoing}
@@ -110,7 +110,7 @@ maybeOffsetNumbers (maybe-offset.Some o) = offsetNumbers o
 abbrev pub portIn : MaybeNodeMeta → PortOffset → MaybePortIndex
 portIn maybe-meta.None o = maybe-port.None
 portIn (maybe-meta.Some m) o =
-    pick (ltb (o .index) (portsOn m (o .direction)))
+    cond (ltb (o .index) (portsOn m (o .direction)))
     (maybe-port.Some (port# (m .«first_port» .0 + startOf m (o .direction) + o .index)))
     maybe-port.None
 
@@ -125,7 +125,7 @@ maybePortNumbers (maybe-port.Some p) = p .0 ∷ []
 abbrev pub linkOf : PortGraph → ℕ → PortEntry → PortLink
 linkOf g p port-variants.Free = UnknownPort (port# p)
 linkOf g p (port-variants.Port m) =
-    pick (eqb (at (g .«port_link») p) 0) Unlinked (Linked (port# (at (g .«port_link») p - 1)))
+    cond (eqb (at (g .«port_link») p) 0) Unlinked (Linked (port# (at (g .«port_link») p - 1)))
 
 -- the port that a port is linked with
 abbrev pub portLink : PortGraph → ℕ → PortLink
@@ -166,4 +166,4 @@ abbrev pub containsPort : PortGraph → ℕ → Bool
 containsPort g p = isPort (portAt g p)
 
 abbrev pub isEmpty : PortGraph → Bool
-isEmpty g = pick (eqb (g .«node_count») 0) (eqb (g .«port_count») 0) false
+isEmpty g = cond (eqb (g .«node_count») 0) (eqb (g .«port_count») 0) false

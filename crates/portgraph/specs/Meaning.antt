@@ -1,20 +1,19 @@
 -- What each call does, said of the model: which places are linked, which node slot and which block are taken or given back.
 -- No table stands here. The laws of each call say that its tables then stand for the model given here.
 use mathlib.Core.Path.{_≡_}
-use mathlib.Core.Bool.{Bool, true, false}
+use mathlib.Core.Bool.{Bool, true, false, cond}
 use mathlib.Core.List.{List, [], _∷_}
 use Prim.Native.Nat.{ℕ, zero, suc, _+_, _-_, _*_, _≤_, _<_}
 use lib.Dec.{eqb, leb, ltb}
 use Rattle.portgraph.specs.Limits.{nodeSlots, portSlots, nodePorts}
-use Rattle.portgraph.specs.Entries.{pick}
-use Rattle.portgraph.specs.Model.{Model, Place, Far, nowhere, to, Slots, gone, live, Who, held, idle, unused}
+use Rattle.portgraph.specs.Model.{Model, Far, nowhere, to, Slots, gone, live, Who, held, idle, unused, InnerPlace}
 use Rattle.portgraph.specs.declared.direction.Direction.{Direction}
 use Rattle.portgraph.specs.declared.direction.Direction.the-variants.{Incoming, Outgoing}
 use Rattle.portgraph.specs.declared.node_entry.NodeMeta.{NodeMeta}
 
 -- a function with another value at one number
 unfoldable pub upd {ℓ} : {A : Type ℓ} → (ℕ → A) → ℕ → A → ℕ → A
-upd f n v m = pick (eqb m n) v (f m)
+upd f n v m = cond (eqb m n) v (f m)
 
 abbrev pub sameSide : Direction → Direction → Bool
 sameSide Incoming Incoming = true
@@ -22,25 +21,25 @@ sameSide Incoming Outgoing = false
 sameSide Outgoing Incoming = false
 sameSide Outgoing Outgoing = true
 
-unfoldable pub samePlace : Place → Place → Bool
-samePlace x y = pick (eqb (x .node) (y .node)) (pick (sameSide (x .side) (y .side)) (eqb (x .pos) (y .pos)) false) false
+unfoldable pub samePlace : InnerPlace → InnerPlace → Bool
+samePlace x y = cond (eqb (x .node) (y .node)) (cond (sameSide (x .side) (y .side)) (eqb (x .pos) (y .pos)) false) false
 
 -- Links.
 
-abbrev pub keepFar : (Place → Bool) → Far → Far
+abbrev pub keepFar : (InnerPlace → Bool) → Far → Far
 keepFar gone? nowhere = nowhere
-keepFar gone? (to y) = pick (gone? y) nowhere (to y)
+keepFar gone? (to y) = cond (gone? y) nowhere (to y)
 
 -- every link with an end among these places goes, the others stay
-unfoldable pub dropJoin : (Place → Bool) → (Place → Far) → Place → Far
-dropJoin gone? join x = pick (gone? x) nowhere (keepFar gone? (join x))
+unfoldable pub dropJoin : (InnerPlace → Bool) → (InnerPlace → Far) → InnerPlace → Far
+dropJoin gone? join x = cond (gone? x) nowhere (keepFar gone? (join x))
 
 -- one link more
-unfoldable pub linkJoin : Place → Place → (Place → Far) → Place → Far
-linkJoin x y join z = pick (samePlace z x) (to y) (pick (samePlace z y) (to x) (join z))
+unfoldable pub linkJoin : InnerPlace → InnerPlace → (InnerPlace → Far) → InnerPlace → Far
+linkJoin x y join z = cond (samePlace z x) (to y) (cond (samePlace z y) (to x) (join z))
 
 -- the places of a node
-abbrev pub atNode : ℕ → Place → Bool
+abbrev pub atNode : ℕ → InnerPlace → Bool
 atNode n x = eqb (x .node) n
 
 abbrev pub newCount : ℕ → ℕ → Direction → ℕ
@@ -48,8 +47,8 @@ newCount incoming outgoing Incoming = incoming
 newCount incoming outgoing Outgoing = outgoing
 
 -- the places of a node that are dropped where it is left with these counts: the highest positions of each side
-abbrev pub beyond : ℕ → ℕ → ℕ → Place → Bool
-beyond n incoming outgoing x = pick (eqb (x .node) n) (leb (newCount incoming outgoing (x .side)) (x .pos)) false
+abbrev pub beyond : ℕ → ℕ → ℕ → InnerPlace → Bool
+beyond n incoming outgoing x = cond (eqb (x .node) n) (leb (newCount incoming outgoing (x .side)) (x .pos)) false
 
 -- Slots. Free node slots and free blocks are stacks: the one freed last is taken first.
 
@@ -72,15 +71,15 @@ nextSlot M = firstOr (M .nodeLen) (M .freeNodes)
 
 -- the first slot of the block that is taken next: the one of exactly this size freed last, else the end; 0 for a size of 0
 abbrev pub nextBlock : Model → ℕ → ℕ
-nextBlock M size = pick (eqb size 0) 0 (firstOr (M .portLen) (M .freeBlocks size))
+nextBlock M size = cond (eqb size 0) 0 (firstOr (M .portLen) (M .freeBlocks size))
 
 -- a block becomes free: it is listed under its size; a size of 0 is no block
 abbrev pub giveBlock : (ℕ → List ℕ) → ℕ → ℕ → ℕ → List ℕ
-giveBlock blocks first size = pick (eqb size 0) blocks (upd blocks size (first ∷ blocks size))
+giveBlock blocks first size = cond (eqb size 0) blocks (upd blocks size (first ∷ blocks size))
 
 -- the slots of a block change hands
 unfoldable pub handOver : (ℕ → Who) → ℕ → ℕ → Who → ℕ → Who
-handOver who first size w s = pick (leb first s) (pick (ltb s (first + size)) w (who s)) (who s)
+handOver who first size w s = cond (leb first s) (cond (ltb s (first + size)) w (who s)) (who s)
 
 -- a node's block and counts
 abbrev pub metaOf : ℕ → ℕ → ℕ → ℕ → NodeMeta
@@ -116,7 +115,7 @@ removeModel M n m =
     }
 
 -- two places are linked
-abbrev pub linkModel : Model → Place → Place → Model
+abbrev pub linkModel : Model → InnerPlace → InnerPlace → Model
 linkModel M x y =
     record {
       node = M .node;
@@ -129,7 +128,7 @@ linkModel M x y =
     }
 
 -- the link of a place goes
-abbrev pub unlinkModel : Model → Place → Model
+abbrev pub unlinkModel : Model → InnerPlace → Model
 unlinkModel M x =
     record {
       node = M .node;

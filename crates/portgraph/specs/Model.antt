@@ -1,13 +1,14 @@
 -- What a graph means, apart from its tables: which nodes there are, which place is linked with which, and who holds each slot.
 use mathlib.Core.Path.{_≡_}
-use mathlib.Core.Bool.{Bool, true, false}
+use mathlib.Core.Bool.{Bool, true, false, cond}
 use mathlib.Core.List.{List, [], _∷_}
 use mathlib.Core.Logic.{_⊎_}
 use Prim.Native.Nat.{ℕ, zero, suc, _+_, _-_, _≤_, _<_}
 use lib.Dec.{eqb, leb, ltb}
 use lib.ListN.{length, getD}
 use Rattle.portgraph.specs.Limits.{nodeSlots, portSlots, nodePorts, freeLists}
-use Rattle.portgraph.specs.Entries.{pick, ownerNumber, freshSlot, portsOn}
+use Rattle.portgraph.specs.Lists.{Member, Once}
+use Rattle.portgraph.specs.Entries.{ownerNumber, freshSlot, portsOn}
 use Rattle.portgraph.specs.Tables.{at, headAt}
 use Rattle.portgraph.specs.declared.direction.Direction.{Direction}
 use Rattle.portgraph.specs.declared.direction.Direction.the-variants.{Incoming, Outgoing}
@@ -17,22 +18,13 @@ use Rattle.portgraph.specs.declared.node_entry.NodeEntry.{NodeEntry}
 use Rattle.portgraph.specs.declared.node_entry.NodeEntry.the-variants.{Free, Node}
 use Rattle.portgraph.specs.declared.portgraph.PortGraph.{PortGraph}
 
--- Lists. An element stands in a list; no element stands in it twice.
-abbrev pub In : ℕ → List ℕ → Type 0
-In x [] = ⊥
-In x (y ∷ l) = (x ≡ y) ⊎ In x l
-
-abbrev pub Uniq : List ℕ → Type 0
-Uniq [] = Unit {0}
-Uniq (x ∷ l) = (In x l → ⊥) × Uniq l
-
 -- the sum of f over the numbers below n
 unfoldable pub total : ℕ → (ℕ → ℕ) → ℕ
 total zero f = 0
 total (suc n) f = total n f + f n
 
 -- 01's inner place: node, side, port position on that side
-pub record Place : Type 0 where
+pub record InnerPlace : Type 0 where
   pub node : ℕ
   pub side : Direction
   pub pos : ℕ
@@ -40,7 +32,7 @@ pub record Place : Type 0 where
 -- the far end of a link
 pub data Far : Type 0 where
   nowhere : Far
-  to : Place → Far
+  to : InnerPlace → Far
 
 -- a node slot: no node, or a node with its block and counts
 pub data Slots : Type 0 where
@@ -57,7 +49,7 @@ pub record Model : Type 0 where
   -- the nodes
   pub node : ℕ → Slots
   -- which place is linked with which
-  pub join : Place → Far
+  pub join : InnerPlace → Far
   -- free node slots, the one freed last first
   pub freeNodes : List ℕ
   -- free blocks of each size, the one freed last first
@@ -78,7 +70,7 @@ firstOf gone = 0
 firstOf (live m) = m .«first_port» .0
 
 -- a place that has a port
-abbrev pub Valid : (ℕ → Slots) → Place → Type 0
+abbrev pub Valid : (ℕ → Slots) → InnerPlace → Type 0
 Valid node x = x .pos < countOf (node (x .node)) (x .side)
 
 -- the position of a node's first port of a side within its block
@@ -87,7 +79,7 @@ sideStart s Incoming = 0
 sideStart s Outgoing = countOf s Incoming
 
 -- the slot of the port at a place: incoming ports first, then outgoing
-abbrev pub slotOf : (ℕ → Slots) → Place → ℕ
+abbrev pub slotOf : (ℕ → Slots) → InnerPlace → ℕ
 slotOf node x = firstOf (node (x .node)) + (sideStart (node (x .node)) (x .side) + x .pos)
 
 -- a slot lies within n slots from f on
@@ -105,23 +97,23 @@ pub record Good (M : Model) : Type 0 where
   pub blockEnds : (n : ℕ) (m : NodeMeta) → M .node n ≡ live m → m .«first_port» .0 + m .capacity ≤ M .portLen
   pub portless : (n : ℕ) (m : NodeMeta) → M .node n ≡ live m → m .capacity ≡ 0 → m .«first_port» .0 ≡ 0
   -- the free node slots are exactly the used ones without a node, each listed once
-  pub freeListed : (n : ℕ) → n < M .nodeLen → M .node n ≡ gone → In n (M .freeNodes)
-  pub freeGone : (n : ℕ) → In n (M .freeNodes) → M .node n ≡ gone
-  pub freeUsed : (n : ℕ) → In n (M .freeNodes) → n < M .nodeLen
-  pub freeOnce : Uniq (M .freeNodes)
+  pub freeListed : (n : ℕ) → n < M .nodeLen → M .node n ≡ gone → Member n (M .freeNodes)
+  pub freeGone : (n : ℕ) → Member n (M .freeNodes) → M .node n ≡ gone
+  pub freeUsed : (n : ℕ) → Member n (M .freeNodes) → n < M .nodeLen
+  pub freeOnce : Once (M .freeNodes)
   -- every slot of the used length lies in exactly one block: of a live node, or listed once as free under its size
   pub heldBy : (n : ℕ) (m : NodeMeta) (s : ℕ) → M .node n ≡ live m → Within (m .«first_port» .0) (m .capacity) s → M .who s ≡ held n
   pub heldIn : (s n : ℕ) → M .who s ≡ held n → (m : NodeMeta) × (M .node n ≡ live m) × Within (m .«first_port» .0) (m .capacity) s
-  pub idleBy : (k b s : ℕ) → In b (M .freeBlocks k) → Within b k s → M .who s ≡ idle b k
-  pub idleIn : (s b k : ℕ) → M .who s ≡ idle b k → In b (M .freeBlocks k) × Within b k s
-  pub idleEnds : (k b : ℕ) → In b (M .freeBlocks k) → (0 < k) × (k ≤ nodePorts) × (b + k ≤ M .portLen)
-  pub idleOnce : (k : ℕ) → Uniq (M .freeBlocks k)
+  pub idleBy : (k b s : ℕ) → Member b (M .freeBlocks k) → Within b k s → M .who s ≡ idle b k
+  pub idleIn : (s b k : ℕ) → M .who s ≡ idle b k → Member b (M .freeBlocks k) × Within b k s
+  pub idleEnds : (k b : ℕ) → Member b (M .freeBlocks k) → (0 < k) × (k ≤ nodePorts) × (b + k ≤ M .portLen)
+  pub idleOnce : (k : ℕ) → Once (M .freeBlocks k)
   pub usedHas : (s : ℕ) → s < M .portLen → M .who s ≡ unused → ⊥
   pub unusedBeyond : (s : ℕ) → M .portLen ≤ s → M .who s ≡ unused
   -- links are symmetric, and join ports of opposite sides
-  pub joinValid : (x y : Place) → M .join x ≡ to y → Valid (M .node) x
-  pub joinBack : (x y : Place) → M .join x ≡ to y → M .join y ≡ to x
-  pub joinSides : (x y : Place) → M .join x ≡ to y → x .side ≡ y .side → ⊥
+  pub joinValid : (x y : InnerPlace) → M .join x ≡ to y → Valid (M .node) x
+  pub joinBack : (x y : InnerPlace) → M .join x ≡ to y → M .join y ≡ to x
+  pub joinSides : (x y : InnerPlace) → M .join x ≡ to y → x .side ≡ y .side → ⊥
 
 -- How the tables stand for a model.
 
@@ -156,8 +148,8 @@ NodeChain nodes prev (n ∷ l) =
 -- the owner's number of a slot of a node's block: by its position
 abbrev pub ownerInBlock : ℕ → NodeMeta → ℕ → ℕ
 ownerInBlock n m s =
-    pick (ltb s (m .«first_port» .0 + m .incoming)) (ownerNumber n Incoming)
-    (pick (ltb s (m .«first_port» .0 + (m .incoming + m .outgoing))) (ownerNumber n Outgoing) 0)
+    cond (ltb s (m .«first_port» .0 + m .incoming)) (ownerNumber n Incoming)
+    (cond (ltb s (m .«first_port» .0 + (m .incoming + m .outgoing))) (ownerNumber n Outgoing) 0)
 
 abbrev pub ownerOfSlots : ℕ → Slots → ℕ → ℕ
 ownerOfSlots n gone s = 0
@@ -181,11 +173,11 @@ abbrev pub isLinked : Far → ℕ
 isLinked nowhere = 0
 isLinked (to y) = 1
 
-abbrev pub outPlace : ℕ → ℕ → Place
+abbrev pub outPlace : ℕ → ℕ → InnerPlace
 outPlace n i = record { node = n; side = Outgoing; pos = i }
 
 -- every link joins one outgoing port, so the links are counted there
-abbrev pub linksOut : (ℕ → Slots) → (Place → Far) → ℕ → ℕ
+abbrev pub linksOut : (ℕ → Slots) → (InnerPlace → Far) → ℕ → ℕ
 linksOut node join n = total (countOf (node n) Outgoing) (λ i. isLinked (join (outPlace n i)))
 
 pub record Holds (g : PortGraph) (M : Model) : Type 0 where
@@ -200,7 +192,7 @@ pub record Holds (g : PortGraph) (M : Model) : Type 0 where
   pub nodeChain : NodeChain (g .«node_meta») 0 (M .freeNodes)
   pub blockChain : (k : ℕ) → Chain (g .«port_link») (headAt (g .«port_free») k) (M .freeBlocks k)
   pub owners : (s : ℕ) → at (g .«port_meta») s ≡ ownerOfWho (M .node) (M .who s) s
-  pub links : (x : Place) → Valid (M .node) x → at (g .«port_link») (slotOf (M .node) x) ≡ farNumber (M .node) (M .join x)
+  pub links : (x : InnerPlace) → Valid (M .node) x → at (g .«port_link») (slotOf (M .node) x) ≡ farNumber (M .node) (M .join x)
   -- a block's slots that no port uses hold no link
   pub spare : (n : ℕ) (m : NodeMeta) (s : ℕ) → M .node n ≡ live m → m .«first_port» .0 + (m .incoming + m .outgoing) ≤ s → s < m .«first_port» .0 + m .capacity → at (g .«port_link») s ≡ 0
   pub nodeCount : g .«node_count» ≡ total nodeSlots (λ n. isLive (M .node n))

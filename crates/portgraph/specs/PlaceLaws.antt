@@ -1,15 +1,16 @@
 -- Which place a port number is: a slot of the tables is the slot of one valid place, or of none and then no port is live there.
 -- With this the lookups answer for places, and the link table stands for the links of the model.
 use mathlib.Core.Path.{_≡_, refl, sym, _∙_, ap}
-use mathlib.Core.Bool.{Bool, true, false}
+use mathlib.Core.Bool.{Bool, true, false, cond}
 use mathlib.Core.Logic.{_⊎_, inl, inr, ⊎-elim}
 use Prim.Native.Nat.{ℕ, suc, _+_, _-_, _*_, _/_, _%_, _≤_, _<_}
 use native.Mathlib.Omega.{arith}
 use lib.Dec.{eqb, ltb}
 use borrow.Author.Tests.{ltb-true, ltb-false, lt-ltb, le-ltb, eq-eqb, ne-eqb}
-use Rattle.portgraph.specs.Entries.{pick, ownerNumber, portEntry, portsOn}
+use Rattle.portgraph.specs.Lists.{Member}
+use Rattle.portgraph.specs.Entries.{ownerNumber, portEntry, portsOn}
 use Rattle.portgraph.specs.Tables.{at}
-use Rattle.portgraph.specs.Model.{Model, Place, Far, nowhere, to, Slots, gone, live, Who, held, idle, unused, In, Valid, Within, Good, Holds, countOf, firstOf, sideStart, slotOf, farNumber, slotsOfEntry, ownerOfSlots, ownerOfWho}
+use Rattle.portgraph.specs.Model.{Model, Far, nowhere, to, Slots, gone, live, Who, held, idle, unused, Valid, Within, Good, Holds, countOf, firstOf, sideStart, slotOf, farNumber, slotsOfEntry, ownerOfSlots, ownerOfWho, InnerPlace}
 use Rattle.portgraph.specs.Lookups.{node#, port#, entryAt, metaAt, metaOfEntry, portAt, portIn, portIndex, offsetIn, offsetOf, portOffset, linkOf, portLink}
 use Rattle.portgraph.specs.Joins.{zero-is-not-one}
 use Rattle.portgraph.specs.LinkLaws.{Rep, Vacant, farNumber-is-farIs}
@@ -31,15 +32,15 @@ use Rattle.portgraph.specs.declared.portgraph.PortGraph.{PortGraph}
 use Rattle.portgraph.specs.declared.portgraph.PortLink.the-variants as link-variants
 
 -- the node and side of a place, as a port's entry names them
-abbrev pub metaOfPlace : Place → PortMeta
+abbrev pub metaOfPlace : InnerPlace → PortMeta
 metaOfPlace x = record { node = node# (x .node); direction = x .side }
 
-abbrev pub offsetOfPlace : Place → PortOffset
+abbrev pub offsetOfPlace : InnerPlace → PortOffset
 offsetOfPlace x = record { direction = x .side; index = x .pos }
 
 -- a live port's place
 pub record PlaceOf (M : Model) (p : ℕ) (k : PortMeta) : Type 0 where
-  pub place : Place
+  pub place : InnerPlace
   pub valid : Valid (M .node) place
   pub slot : slotOf (M .node) place ≡ p
   pub node : place .node ≡ k .node .0
@@ -70,10 +71,10 @@ owner-at n (live m) Outgoing p h =
     )
 
 -- a link's number, told
-told-unlinked : (far : ℕ) → far ≡ 0 → pick (eqb far 0) link-variants.Unlinked (link-variants.Linked (port# (far - 1))) ≡ link-variants.Unlinked
+told-unlinked : (far : ℕ) → far ≡ 0 → cond (eqb far 0) link-variants.Unlinked (link-variants.Linked (port# (far - 1))) ≡ link-variants.Unlinked
 told-unlinked far z = rw (eq-eqb far 0 z)
 
-told-linked : (far s : ℕ) → far ≡ suc s → pick (eqb far 0) link-variants.Unlinked (link-variants.Linked (port# (far - 1))) ≡ link-variants.Linked (port# s)
+told-linked : (far s : ℕ) → far ≡ suc s → cond (eqb far 0) link-variants.Unlinked (link-variants.Linked (port# (far - 1))) ≡ link-variants.Linked (port# s)
 told-linked far s e =
     let d : far - 1 ≡ s = omega arith in
     rw (ne-eqb far 0 (λ z. omega arith), d)
@@ -81,21 +82,21 @@ told-linked far s e =
 module _ {g : PortGraph} {M : Model} (good : Good M) (holds : Holds g M) where
   -- Ports.
 
-  owner-of-place : (x : Place) → Valid (M .node) x → at (g .«port_meta») (slotOf (M .node) x) ≡ ownerNumber (x .node) (x .side)
+  owner-of-place : (x : InnerPlace) → Valid (M .node) x → at (g .«port_meta») (slotOf (M .node) x) ≡ ownerNumber (x .node) (x .side)
   owner-of-place x h =
       holds .owners (slotOf (M .node) x)
       ∙ (ap (λ (w : Who). ownerOfWho (M .node) w (slotOf (M .node) x)) (slot-held good x h)
       ∙ owner-at (x .node) (M .node (x .node)) (x .side) (x .pos) h)
 
-  pub port-of-place : (x : Place) → Valid (M .node) x → portAt g (slotOf (M .node) x) ≡ port-variants.Port (metaOfPlace x)
+  pub port-of-place : (x : InnerPlace) → Valid (M .node) x → portAt g (slotOf (M .node) x) ≡ port-variants.Port (metaOfPlace x)
   port-of-place x h = ap portEntry (owner-of-place x h) ∙ entry-of-owner (x .node) (x .side)
 
   in-block : (n : ℕ) (m : NodeMeta) (s : ℕ) → M .node n ≡ live m → Within (m .«first_port» .0) (m .capacity) s →
-      ((x : Place) × Valid (M .node) x × (slotOf (M .node) x ≡ s)) ⊎ (ownerOfSlots n (M .node n) s ≡ 0)
+      ((x : InnerPlace) × Valid (M .node) x × (slotOf (M .node) x ≡ s)) ⊎ (ownerOfSlots n (M .node n) s ≡ 0)
   in-block n m s e w = go (ltb s (m .«first_port» .0 + m .incoming)) (ltb s (m .«first_port» .0 + (m .incoming + m .outgoing))) refl refl
     where
       go : (a b : Bool) → ltb s (m .«first_port» .0 + m .incoming) ≡ a → ltb s (m .«first_port» .0 + (m .incoming + m .outgoing)) ≡ b →
-          ((x : Place) × Valid (M .node) x × (slotOf (M .node) x ≡ s)) ⊎ (ownerOfSlots n (M .node n) s ≡ 0)
+          ((x : InnerPlace) × Valid (M .node) x × (slotOf (M .node) x ≡ s)) ⊎ (ownerOfSlots n (M .node n) s ≡ 0)
       go true b p q =
           let l : s < m .«first_port» .0 + m .incoming = ltb-true _ _ p in
           inl (record { node = n; side = Incoming; pos = s - m .«first_port» .0 }, rw e (omega arith), rw e (omega arith))
@@ -106,7 +107,7 @@ module _ {g : PortGraph} {M : Model} (good : Good M) (holds : Holds g M) where
       go false false p q = inr (rw (e, p, q))
 
   -- a slot is a valid place's, or it has no owner
-  pub slot-cases : (s : ℕ) → ((x : Place) × Valid (M .node) x × (slotOf (M .node) x ≡ s)) ⊎ (portAt g s ≡ port-variants.Free)
+  pub slot-cases : (s : ℕ) → ((x : InnerPlace) × Valid (M .node) x × (slotOf (M .node) x ≡ s)) ⊎ (portAt g s ≡ port-variants.Free)
   slot-cases s = go (M .who s) refl
     where
       free : at (g .«port_meta») s ≡ 0 → portAt g s ≡ port-variants.Free
@@ -115,7 +116,7 @@ module _ {g : PortGraph} {M : Model} (good : Good M) (holds : Holds g M) where
       owned : (w : Who) → M .who s ≡ w → at (g .«port_meta») s ≡ ownerOfWho (M .node) w s
       owned w e = holds .owners s ∙ ap (λ (v : Who). ownerOfWho (M .node) v s) e
 
-      go : (w : Who) → M .who s ≡ w → ((x : Place) × Valid (M .node) x × (slotOf (M .node) x ≡ s)) ⊎ (portAt g s ≡ port-variants.Free)
+      go : (w : Who) → M .who s ≡ w → ((x : InnerPlace) × Valid (M .node) x × (slotOf (M .node) x ≡ s)) ⊎ (portAt g s ≡ port-variants.Free)
       go (held n) e = let r = good .heldIn s n e in ⊎-elim inl (λ z. inr (free (owned (held n) e ∙ z))) (in-block n (r .0) s (r .1) (r .2))
       go (idle b k) e = inr (free (owned (idle b k) e))
       go unused e = inr (free (owned unused e))
@@ -123,7 +124,7 @@ module _ {g : PortGraph} {M : Model} (good : Good M) (holds : Holds g M) where
   pub place-of-port : (p : ℕ) (k : PortMeta) → portAt g p ≡ port-variants.Port k → PlaceOf M p k
   place-of-port p k e = ⊎-elim found (λ f. absurd (zero-is-not-one (cc))) (slot-cases p)
     where
-      found : (x : Place) × Valid (M .node) x × (slotOf (M .node) x ≡ p) → PlaceOf M p k
+      found : (x : InnerPlace) × Valid (M .node) x × (slotOf (M .node) x ≡ p) → PlaceOf M p k
       found r =
           let q : portAt g p ≡ port-variants.Port (metaOfPlace (r .0)) = ap (λ (s : ℕ). portAt g s) (sym (r .2)) ∙ port-of-place (r .0) (r .1) in
           let same : metaOfPlace (r .0) ≡ k = cc in
@@ -149,7 +150,7 @@ module _ {g : PortGraph} {M : Model} (good : Good M) (holds : Holds g M) where
       dead-port s (ap portEntry (holds .owners s ∙ (ap (λ (v : Who). ownerOfWho (M .node) v s) e ∙ z)) ∙ entry-of-none)
 
   -- free blocks and spare slots belong to no valid place
-  pub idle-vacant : (k b s : ℕ) → In b (M .freeBlocks k) → Within b k s → Vacant (Valid (M .node)) (slotOf (M .node)) s
+  pub idle-vacant : (k b s : ℕ) → Member b (M .freeBlocks k) → Within b k s → Vacant (Valid (M .node)) (slotOf (M .node)) s
   idle-vacant k b s i w = unowned-is-vacant s (idle b k) (good .idleBy k b s i w) refl
 
   pub spare-vacant : (n : ℕ) (m : NodeMeta) (s : ℕ) → M .node n ≡ live m → m .«first_port» .0 + (m .incoming + m .outgoing) ≤ s → s < m .«first_port» .0 + m .capacity →
@@ -170,13 +171,13 @@ module _ {g : PortGraph} {M : Model} (good : Good M) (holds : Holds g M) where
         links = λ x h. holds .links x h ∙ farNumber-is-farIs (M .node) (M .join x);
       }
 
-  pub link-to : (x y : Place) → Valid (M .node) x → M .join x ≡ to y → at (g .«port_link») (slotOf (M .node) x) ≡ suc (slotOf (M .node) y)
+  pub link-to : (x y : InnerPlace) → Valid (M .node) x → M .join x ≡ to y → at (g .«port_link») (slotOf (M .node) x) ≡ suc (slotOf (M .node) y)
   link-to x y h e = holds .links x h ∙ ap (farNumber (M .node)) e
 
-  pub link-none : (x : Place) → Valid (M .node) x → M .join x ≡ nowhere → at (g .«port_link») (slotOf (M .node) x) ≡ 0
+  pub link-none : (x : InnerPlace) → Valid (M .node) x → M .join x ≡ nowhere → at (g .«port_link») (slotOf (M .node) x) ≡ 0
   link-none x h e = holds .links x h ∙ ap (farNumber (M .node)) e
 
-  pub none-linked : (x : Place) → Valid (M .node) x → at (g .«port_link») (slotOf (M .node) x) ≡ 0 → M .join x ≡ nowhere
+  pub none-linked : (x : InnerPlace) → Valid (M .node) x → at (g .«port_link») (slotOf (M .node) x) ≡ 0 → M .join x ≡ nowhere
   none-linked x h z = go (M .join x) refl
     where
       go : (f : Far) → M .join x ≡ f → M .join x ≡ nowhere
@@ -184,20 +185,20 @@ module _ {g : PortGraph} {M : Model} (good : Good M) (holds : Holds g M) where
       go (to y) e = let k = link-to x y h e in absurd (omega arith)
 
   -- a link's number is its far end's
-  pub linked-far : (x : Place) (s : ℕ) → Valid (M .node) x → at (g .«port_link») (slotOf (M .node) x) ≡ suc s → (y : Place) × (M .join x ≡ to y) × (slotOf (M .node) y ≡ s)
+  pub linked-far : (x : InnerPlace) (s : ℕ) → Valid (M .node) x → at (g .«port_link») (slotOf (M .node) x) ≡ suc s → (y : InnerPlace) × (M .join x ≡ to y) × (slotOf (M .node) y ≡ s)
   linked-far x s h k = go (M .join x) refl
     where
-      go : (f : Far) → M .join x ≡ f → (y : Place) × (M .join x ≡ to y) × (slotOf (M .node) y ≡ s)
+      go : (f : Far) → M .join x ≡ f → (y : InnerPlace) × (M .join x ≡ to y) × (slotOf (M .node) y ≡ s)
       go nowhere e = let z = link-none x h e in absurd (omega arith)
       go (to y) e = let z = link-to x y h e in (y, e, omega arith)
 
   pub port-link-dead : (p : ℕ) → Vacant (Valid (M .node)) (slotOf (M .node)) p → portLink g p ≡ link-variants.UnknownPort (port# p)
   port-link-dead p none = ap (linkOf g p) (vacant-is-dead p none)
 
-  pub port-link-none : (x : Place) → Valid (M .node) x → M .join x ≡ nowhere → portLink g (slotOf (M .node) x) ≡ link-variants.Unlinked
+  pub port-link-none : (x : InnerPlace) → Valid (M .node) x → M .join x ≡ nowhere → portLink g (slotOf (M .node) x) ≡ link-variants.Unlinked
   port-link-none x h e = ap (linkOf g (slotOf (M .node) x)) (port-of-place x h) ∙ told-unlinked (at (g .«port_link») (slotOf (M .node) x)) (link-none x h e)
 
-  pub port-link-to : (x y : Place) → Valid (M .node) x → M .join x ≡ to y → portLink g (slotOf (M .node) x) ≡ link-variants.Linked (port# (slotOf (M .node) y))
+  pub port-link-to : (x y : InnerPlace) → Valid (M .node) x → M .join x ≡ to y → portLink g (slotOf (M .node) x) ≡ link-variants.Linked (port# (slotOf (M .node) y))
   port-link-to x y h e =
       ap (linkOf g (slotOf (M .node) x)) (port-of-place x h) ∙ told-linked (at (g .«port_link») (slotOf (M .node) x)) (slotOf (M .node) y) (link-to x y h e)
 
@@ -241,7 +242,7 @@ module _ {g : PortGraph} {M : Model} (good : Good M) (holds : Holds g M) where
   index-in m Incoming p h = rw (lt-ltb p (m .incoming) h) (ap (λ (s : ℕ). maybe-port.Some (port# s)) (omega arith))
   index-in m Outgoing p h = rw (lt-ltb p (m .outgoing) h) (ap (λ (s : ℕ). maybe-port.Some (port# s)) (omega arith))
 
-  pub port-index-is : (x : Place) → Valid (M .node) x → portIndex g (x .node) (offsetOfPlace x) ≡ maybe-port.Some (port# (slotOf (M .node) x))
+  pub port-index-is : (x : InnerPlace) → Valid (M .node) x → portIndex g (x .node) (offsetOfPlace x) ≡ maybe-port.Some (port# (slotOf (M .node) x))
   port-index-is x h =
       let r = slot-in-block good x h in
       let k : x .pos < portsOn (r .0) (x .side) = rw (r .1) at h in
@@ -250,7 +251,7 @@ module _ {g : PortGraph} {M : Model} (good : Good M) (holds : Holds g M) where
       ∙ ap (λ (v : Slots). maybe-port.Some (port# (firstOf v + (sideStart v (x .side) + x .pos)))) (sym (r .1)))
 
   -- an answered port is the port of that valid place
-  pub place-of-index : (x : Place) (p : PortIndex) → portIndex g (x .node) (offsetOfPlace x) ≡ maybe-port.Some p → Valid (M .node) x × (slotOf (M .node) x ≡ p .0)
+  pub place-of-index : (x : InnerPlace) (p : PortIndex) → portIndex g (x .node) (offsetOfPlace x) ≡ maybe-port.Some p → Valid (M .node) x × (slotOf (M .node) x ≡ p .0)
   place-of-index x p e = go (metaAt g (x .node)) refl
     where
       slot : Valid (M .node) x → slotOf (M .node) x ≡ p .0
@@ -281,7 +282,7 @@ module _ {g : PortGraph} {M : Model} (good : Good M) (holds : Holds g M) where
   offset-in m Incoming p = ap (λ (i : ℕ). maybe-offset.Some (record { direction = Incoming; index = i })) (omega arith)
   offset-in m Outgoing p = ap (λ (i : ℕ). maybe-offset.Some (record { direction = Outgoing; index = i })) (omega arith)
 
-  pub port-offset-is : (x : Place) → Valid (M .node) x → portOffset g (slotOf (M .node) x) ≡ maybe-offset.Some (offsetOfPlace x)
+  pub port-offset-is : (x : InnerPlace) → Valid (M .node) x → portOffset g (slotOf (M .node) x) ≡ maybe-offset.Some (offsetOfPlace x)
   port-offset-is x h =
       let r = slot-in-block good x h in
       ap (offsetOf g (slotOf (M .node) x)) (port-of-place x h)

@@ -1,16 +1,16 @@
 -- Changing a node's counts: where a new block is taken, what happens to links and owners, and the move list.
-use mathlib.Core.Bool.{Bool, true, false}
+use mathlib.Core.Bool.{Bool, true, false, cond}
 use mathlib.Core.List.{List, [], _∷_, _++_}
 use Prim.Native.Nat.{ℕ, zero, suc, _+_, _-_, _*_, _≤_, min}
 use lib.Dec.{eqb, leb, ltb}
 use lib.ListN.{getD, set, length}
 use lib.Seq.{sets}
-use Rattle.portgraph.specs.Limits.{nodePorts, portSlots}
-use Rattle.portgraph.specs.Entries.{pick, nodeSlotOf}
+use Rattle.portgraph.specs.Limits.{nodePorts, portSlots, Limits, present}
+use Rattle.portgraph.specs.Entries.{nodeSlotOf}
 use Rattle.portgraph.specs.Tables.{at, fillRange, headAt, putHead, ownBlock, cutRange, cutCount, shift, transfer, chainBlock, dropEvents, moveUpEvents, shiftEvents}
 use Rattle.portgraph.specs.Lookups.{entryAt}
 use Rattle.portgraph.specs.Meaning.{metaOf}
-use Rattle.portgraph.specs.Calls.{findBlock, headAfter, grown}
+use Rattle.portgraph.specs.Calls.{findBlock, findBlockUnder, headAfter, grown}
 use Rattle.portgraph.specs.declared.node_entry.NodeMeta.{NodeMeta}
 use Rattle.portgraph.specs.declared.node_entry.NodeEntry.{NodeEntry}
 use Rattle.portgraph.specs.declared.node_entry.NodeEntry.the-variants as node-variants
@@ -24,7 +24,7 @@ use Rattle.portgraph.specs.declared.resize.PortsSet.{PortsSet}
 -- the first power of two from p on that is at least n, doubling p at most as often as said
 unfoldable pub doubled : ℕ → ℕ → ℕ → ℕ
 doubled zero p n = p
-doubled (suc times) p n = pick (leb n p) p (doubled times (p * 2) n)
+doubled (suc times) p n = cond (leb n p) p (doubled times (p * 2) n)
 
 -- a total rounded up to a power of two; 1 for a total of 0
 unfoldable pub roundUp : ℕ → ℕ
@@ -39,31 +39,40 @@ pub data Plan : Type 0 where
 
 -- equal counts change nothing
 unfoldable pub sameCounts : NodeMeta → ℕ → ℕ → Bool
-sameCounts m incoming outgoing = pick (eqb incoming (m .incoming)) (eqb outgoing (m .outgoing)) false
+sameCounts m incoming outgoing = cond (eqb incoming (m .incoming)) (eqb outgoing (m .outgoing)) false
 
 -- a total from 1 to capacity - 1 is done within the block
 unfoldable pub fitsInside : NodeMeta → ℕ → ℕ → Bool
-fitsInside m incoming outgoing = pick (ltb 0 (incoming + outgoing)) (ltb (incoming + outgoing) (m .capacity)) false
+fitsInside m incoming outgoing = cond (ltb 0 (incoming + outgoing)) (ltb (incoming + outgoing) (m .capacity)) false
 
 abbrev pub planBlock : NodeMeta → Found → Plan
 planBlock m (found.At first) = anew m first
 planBlock m found.NoRoom = refuse set-variants.NoRoom
 
+abbrev pub planCountsUnder : Limits → PortGraph → NodeMeta → ℕ → ℕ → Plan
+planCountsUnder L g m incoming outgoing =
+    cond (sameCounts m incoming outgoing) same
+    (cond (fitsInside m incoming outgoing) (inside m)
+    (planBlock m (findBlockUnder L (g .«port_free») (g .«port_len») (roundUp (incoming + outgoing)))))
+
 abbrev pub planCounts : PortGraph → NodeMeta → ℕ → ℕ → Plan
-planCounts g m incoming outgoing =
-    pick (sameCounts m incoming outgoing) same
-    (pick (fitsInside m incoming outgoing) (inside m)
-    (planBlock m (findBlock (g .«port_free») (g .«port_len») (roundUp (incoming + outgoing)))))
+planCounts = planCountsUnder present
 
 -- the move list has to hold three numbers for each port of the node
-abbrev pub planEntry : PortGraph → ℕ → ℕ → ℕ → NodeEntry → Plan
-planEntry g incoming outgoing room (node-variants.Free f) = refuse set-variants.UnknownNode
-planEntry g incoming outgoing room (node-variants.Node m) =
-    pick (leb (3 * (m .incoming + m .outgoing)) room) (planCounts g m incoming outgoing) (refuse set-variants.MovesTooShort)
+abbrev pub planEntryUnder : Limits → PortGraph → ℕ → ℕ → ℕ → NodeEntry → Plan
+planEntryUnder L g incoming outgoing room (node-variants.Free f) = refuse set-variants.UnknownNode
+planEntryUnder L g incoming outgoing room (node-variants.Node m) =
+    cond (leb (3 * (m .incoming + m .outgoing)) room) (planCountsUnder L g m incoming outgoing) (refuse set-variants.MovesTooShort)
 
-unfoldable pub planOf : PortGraph → ℕ → ℕ → ℕ → ℕ → Plan
-planOf g n incoming outgoing room =
-    pick (leb (incoming + outgoing) nodePorts) (planEntry g incoming outgoing room (entryAt g n)) (refuse set-variants.TooManyPorts)
+abbrev pub planEntry : PortGraph → ℕ → ℕ → ℕ → NodeEntry → Plan
+planEntry = planEntryUnder present
+
+unfoldable pub planOfUnder : Limits → PortGraph → ℕ → ℕ → ℕ → ℕ → Plan
+planOfUnder L g n incoming outgoing room =
+    cond (leb (incoming + outgoing) nodePorts) (planEntryUnder L g incoming outgoing room (entryAt g n)) (refuse set-variants.TooManyPorts)
+
+abbrev pub planOf : PortGraph → ℕ → ℕ → ℕ → ℕ → Plan
+planOf = planOfUnder present
 
 -- a block within the tables that has room for its ports
 pub record BlockFits (m : NodeMeta) : Type 0 where
@@ -200,12 +209,18 @@ toldBy g incoming outgoing (inside m) = insideTold g m incoming outgoing
 toldBy g incoming outgoing (anew m first) = anewTold g m incoming outgoing first
 
 -- answer and graph; room is the length of the move list
-unfoldable pub setNumPorts : PortGraph → ℕ → ℕ → ℕ → ℕ → PortsSet
-setNumPorts g n incoming outgoing room = setBy g n incoming outgoing (planOf g n incoming outgoing room)
+unfoldable pub setNumPortsUnder : Limits → PortGraph → ℕ → ℕ → ℕ → ℕ → PortsSet
+setNumPortsUnder L g n incoming outgoing room = setBy g n incoming outgoing (planOfUnder L g n incoming outgoing room)
+
+abbrev pub setNumPorts : PortGraph → ℕ → ℕ → ℕ → ℕ → PortsSet
+setNumPorts = setNumPortsUnder present
 
 -- the move list afterwards: the events in their order, then what it held before
-unfoldable pub movesAfter : PortGraph → ℕ → ℕ → ℕ → List ℕ → List ℕ
-movesAfter g n incoming outgoing moves = sets moves 0 (toldBy g incoming outgoing (planOf g n incoming outgoing (length moves)))
+unfoldable pub movesAfterUnder : Limits → PortGraph → ℕ → ℕ → ℕ → List ℕ → List ℕ
+movesAfterUnder L g n incoming outgoing moves = sets moves 0 (toldBy g incoming outgoing (planOfUnder L g n incoming outgoing (length moves)))
+
+abbrev pub movesAfter : PortGraph → ℕ → ℕ → ℕ → List ℕ → List ℕ
+movesAfter = movesAfterUnder present
 
 abbrev pub setNumbers : SetAnswer → List ℕ
 setNumbers (set-variants.Set events) = 0 ∷ events ∷ []

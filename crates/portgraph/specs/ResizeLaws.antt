@@ -1,24 +1,24 @@
 -- Changing a node's counts, said of the call: what it answers and leaves in each case, that a well-formed graph stays one,
 -- what the move list holds afterwards, and that a kept port keeps its link.
 use mathlib.Core.Path.{_≡_, refl, sym, _∙_, ap, subst}
-use mathlib.Core.Bool.{Bool, true, false}
+use mathlib.Core.Bool.{Bool, true, false, cond}
 use mathlib.Core.List.{List, [], _∷_}
 use mathlib.Core.Logic.{inl}
-use Prim.Native.Nat.{ℕ, zero, suc, _+_, _*_, _≤_, _<_}
+use Prim.Native.Nat.{ℕ, zero, suc, _+_, _-_, _*_, _≤_, _<_}
 use native.Mathlib.Omega.{arith}
 use lib.Dec.{eqb, leb, ltb}
 use lib.ListN.{length, getD, set, take, length-append}
 use lib.Seq.{sets, sets-eq, length-sets, getD-set-other, take-at}
 use borrow.Author.Tests.{ltb-true, ltb-false, leb-true, leb-false, eqb-true, lt-ltb, le-leb, lt-leb, eq-eqb}
 use Rattle.portgraph.specs.Limits.{nodePorts, portSlots, no-double-block}
-use Rattle.portgraph.specs.Entries.{pick}
+use Rattle.portgraph.specs.Lists.{Member}
 use Rattle.portgraph.specs.Tables.{at, moveUpEvents, moveDownEvents, shiftEvents}
 use Rattle.portgraph.specs.Lookups.{entryAt}
 use Rattle.portgraph.specs.Calls.{findBlock}
-use Rattle.portgraph.specs.Model.{Model, Place, Far, to, Slots, gone, live, Good, Holds, Wf, In, Valid, Within, slotOf, slotsOfEntry}
+use Rattle.portgraph.specs.Model.{Model, Far, to, Slots, gone, live, Good, Holds, Wf, Valid, Within, slotOf, slotsOfEntry, InnerPlace}
 use Rattle.portgraph.specs.Meaning.{dropJoin, beyond, newCount, growth, nextBlock, resizeModel, moveModel}
 use Rattle.portgraph.specs.Joins.{zero-is-not-one, drop-kept}
-use Rattle.portgraph.specs.Resize.{roundUp, Plan, refuse, same, inside, anew, sameCounts, fitsInside, planBlock, planCounts, planEntry, planOf, firstSlot, keptIn, keptOut, dropped, dropTold, resizeInside, insideTold, resizeAnew, anewTold, setBy, toldBy, setNumPorts, movesAfter}
+use Rattle.portgraph.specs.Resize.{roundUp, Plan, refuse, same, inside, anew, sameCounts, fitsInside, planBlock, planCounts, planEntry, planOf, firstSlot, keptIn, keptOut, dropped, dropCount, dropTold, resizeInside, insideTold, anewLinks, resizeAnew, anewTold, setBy, toldBy, setNumPorts, movesAfter, setNumPortsUnder, planOfUnder, movesAfterUnder}
 use Rattle.portgraph.specs.ResizeSteps.{round-up-reaches, round-up-positive, round-up-fits, round-up-beyond, length-moveUpEvents, length-dropTold}
 use Rattle.portgraph.specs.GoodSlots.{block-of-one, slot-in-block}
 use Rattle.portgraph.specs.GoodLaws.{good-resize, good-move}
@@ -27,7 +27,8 @@ use Rattle.portgraph.specs.PlaceLaws.{link-to}
 use Rattle.portgraph.specs.BlockHolds.{block-found}
 use Rattle.portgraph.specs.SlotHolds.{blockRoom}
 use Rattle.portgraph.specs.InsideHolds.{inside-holds}
-use Rattle.portgraph.specs.AnewHolds.{anew-holds}
+use Rattle.portgraph.specs.AnewHolds.{nothing-cut, anew-holds}
+use Rattle.portgraph.specs.Settle.{takeBlock, dropPorts, settleAnew}
 use Rattle.portgraph.specs.declared.node_entry.NodeMeta.{NodeMeta}
 use Rattle.portgraph.specs.declared.node_entry.NodeEntry.{NodeEntry}
 use Rattle.portgraph.specs.declared.node_entry.NodeEntry.the-variants as node-variants
@@ -47,7 +48,7 @@ other-counts : (m : NodeMeta) (i o : ℕ) → (i ≡ m .incoming → o ≡ m .ou
 unfolding sameCounts
 other-counts m i o h = go (eqb i (m .incoming)) (eqb o (m .outgoing)) refl refl
   where
-    go : (a b : Bool) → eqb i (m .incoming) ≡ a → eqb o (m .outgoing) ≡ b → pick a b false ≡ false
+    go : (a b : Bool) → eqb i (m .incoming) ≡ a → eqb o (m .outgoing) ≡ b → cond a b false ≡ false
     go true true p q = absurd (h (eqb-true _ _ p) (eqb-true _ _ q))
     go true false p q = refl
     go false b p q = refl
@@ -60,7 +61,7 @@ fits-not : (m : NodeMeta) (i o : ℕ) → (0 < i + o → i + o < m .capacity →
 unfolding fitsInside
 fits-not m i o h = go (ltb 0 (i + o)) (ltb (i + o) (m .capacity)) refl refl
   where
-    go : (a b : Bool) → ltb 0 (i + o) ≡ a → ltb (i + o) (m .capacity) ≡ b → pick a b false ≡ false
+    go : (a b : Bool) → ltb 0 (i + o) ≡ a → ltb (i + o) (m .capacity) ≡ b → cond a b false ≡ false
     go true true p q = absurd (h (ltb-true _ _ p) (ltb-true _ _ q))
     go true false p q = refl
     go false b p q = refl
@@ -69,7 +70,7 @@ fits-below : (m : NodeMeta) (i o : ℕ) → fitsInside m i o ≡ true → i + o 
 unfolding fitsInside
 fits-below m i o e = go (ltb 0 (i + o)) (ltb (i + o) (m .capacity)) refl e
   where
-    go : (a b : Bool) → ltb (i + o) (m .capacity) ≡ b → pick a b false ≡ true → i + o ≤ m .capacity
+    go : (a b : Bool) → ltb (i + o) (m .capacity) ≡ b → cond a b false ≡ true → i + o ≤ m .capacity
     go true true q e = let h : i + o < m .capacity = ltb-true _ _ q in omega arith
     go true false q e = absurd (zero-is-not-one (cc))
     go false b q e = absurd (zero-is-not-one (cc))
@@ -79,37 +80,37 @@ fits-below m i o e = go (ltb 0 (i + o)) (ltb (i + o) (m .capacity)) refl e
 -- of a live node whose ports fit the move list
 abbrev pub planLive : Model → ℕ → ℕ → NodeMeta → Bool → Bool → Bool → Plan
 planLive M incoming outgoing m equal fits room =
-    pick equal same (pick fits (inside m) (pick room (anew m (nextBlock M (roundUp (incoming + outgoing)))) (refuse set-variants.NoRoom)))
+    cond equal same (cond fits (inside m) (cond room (anew m (nextBlock M (roundUp (incoming + outgoing)))) (refuse set-variants.NoRoom)))
 
 abbrev pub planSlots : Model → ℕ → ℕ → ℕ → Slots → Plan
 planSlots M incoming outgoing room gone = refuse set-variants.UnknownNode
 planSlots M incoming outgoing room (live m) =
-    pick (leb (3 * (m .incoming + m .outgoing)) room)
+    cond (leb (3 * (m .incoming + m .outgoing)) room)
     (planLive M incoming outgoing m (sameCounts m incoming outgoing) (fitsInside m incoming outgoing) (blockRoom M (roundUp (incoming + outgoing))))
     (refuse set-variants.MovesTooShort)
 
 abbrev pub planWhere : Model → ℕ → ℕ → ℕ → Bool → Slots → Plan
-planWhere M incoming outgoing room few s = pick few (planSlots M incoming outgoing room s) (refuse set-variants.TooManyPorts)
+planWhere M incoming outgoing room few s = cond few (planSlots M incoming outgoing room s) (refuse set-variants.TooManyPorts)
 
 module _ {g : PortGraph} {M : Model} (good : Good M) (holds : Holds g M) (n incoming outgoing room : ℕ) where
   pub plan-law : planOf g n incoming outgoing room ≡ planWhere M incoming outgoing room (leb (incoming + outgoing) nodePorts) (M .node n)
-  unfolding planOf
-  plan-law = rw (← holds .nodes n) (ap (λ (p : Plan). pick (leb (incoming + outgoing) nodePorts) p (refuse set-variants.TooManyPorts)) (go (entryAt g n)))
+  unfolding planOfUnder
+  plan-law = rw (← holds .nodes n) (ap (λ (p : Plan). cond (leb (incoming + outgoing) nodePorts) p (refuse set-variants.TooManyPorts)) (go (entryAt g n)))
     where
-      block : (m : NodeMeta) (f : Found) (c : Bool) → f ≡ pick c (found.At (nextBlock M (roundUp (incoming + outgoing)))) found.NoRoom
-          → planBlock m f ≡ pick c (anew m (nextBlock M (roundUp (incoming + outgoing)))) (refuse set-variants.NoRoom)
+      block : (m : NodeMeta) (f : Found) (c : Bool) → f ≡ cond c (found.At (nextBlock M (roundUp (incoming + outgoing)))) found.NoRoom
+          → planBlock m f ≡ cond c (anew m (nextBlock M (roundUp (incoming + outgoing)))) (refuse set-variants.NoRoom)
       block m f true e = rw e
       block m f false e = rw e
 
       go : (e : NodeEntry) → planEntry g incoming outgoing room e ≡ planSlots M incoming outgoing room (slotsOfEntry e)
       go (node-variants.Free f) = refl
       go (node-variants.Node m) =
-          ap (λ (p : Plan). pick (leb (3 * (m .incoming + m .outgoing)) room) (pick (sameCounts m incoming outgoing) same (pick (fitsInside m incoming outgoing) (inside m) p)) (refuse set-variants.MovesTooShort))
+          ap (λ (p : Plan). cond (leb (3 * (m .incoming + m .outgoing)) room) (cond (sameCounts m incoming outgoing) same (cond (fitsInside m incoming outgoing) (inside m) p)) (refuse set-variants.MovesTooShort))
           (block m (findBlock (g .«port_free») (g .«port_len») (roundUp (incoming + outgoing))) (blockRoom M (roundUp (incoming + outgoing))) (block-found good holds (roundUp (incoming + outgoing))))
 
   -- the call does what the plan says
   pub set-law : setNumPorts g n incoming outgoing room ≡ setBy g n incoming outgoing (planWhere M incoming outgoing room (leb (incoming + outgoing) nodePorts) (M .node n))
-  unfolding setNumPorts
+  unfolding setNumPortsUnder
   set-law = ap (setBy g n incoming outgoing) plan-law
 
   -- Case by case.
@@ -168,7 +169,7 @@ plan-elim {ℓ} : (P : Plan → Type ℓ) (g : PortGraph) (n incoming outgoing r
     → ((m : NodeMeta) (first : ℕ) → incoming + outgoing ≤ nodePorts → entryAt g n ≡ node-variants.Node m → 3 * (m .incoming + m .outgoing) ≤ room
     → findBlock (g .«port_free») (g .«port_len») (roundUp (incoming + outgoing)) ≡ found.At first → P (anew m first))
     → P (planOf g n incoming outgoing room)
-unfolding planOf
+unfolding planOfUnder
 plan-elim P g n incoming outgoing room many unknown short full none within away = few (leb (incoming + outgoing) nodePorts) refl
   where
     block : incoming + outgoing ≤ nodePorts → (m : NodeMeta) → entryAt g n ≡ node-variants.Node m → 3 * (m .incoming + m .outgoing) ≤ room → (f : Found)
@@ -178,13 +179,13 @@ plan-elim P g n incoming outgoing room many unknown short full none within away 
 
     counts : incoming + outgoing ≤ nodePorts → (m : NodeMeta) → entryAt g n ≡ node-variants.Node m → 3 * (m .incoming + m .outgoing) ≤ room
         → (a b : Bool) → fitsInside m incoming outgoing ≡ b
-        → P (pick a same (pick b (inside m) (planBlock m (findBlock (g .«port_free») (g .«port_len») (roundUp (incoming + outgoing))))))
+        → P (cond a same (cond b (inside m) (planBlock m (findBlock (g .«port_free») (g .«port_len») (roundUp (incoming + outgoing))))))
     counts h m e k true b q = none
     counts h m e k false true q = within m e k q
     counts h m e k false false q = block h m e k (findBlock (g .«port_free») (g .«port_len») (roundUp (incoming + outgoing))) refl
 
     told : incoming + outgoing ≤ nodePorts → (m : NodeMeta) → entryAt g n ≡ node-variants.Node m → (b : Bool) → leb (3 * (m .incoming + m .outgoing)) room ≡ b
-        → P (pick b (planCounts g m incoming outgoing) (refuse set-variants.MovesTooShort))
+        → P (cond b (planCounts g m incoming outgoing) (refuse set-variants.MovesTooShort))
     told h m e true q = counts h m e (leb-true _ _ q) (sameCounts m incoming outgoing) (fitsInside m incoming outgoing) refl
     told h m e false q = short
 
@@ -192,7 +193,7 @@ plan-elim P g n incoming outgoing room many unknown short full none within away 
     entry h (node-variants.Free f) e = unknown
     entry h (node-variants.Node m) e = told h m e (leb (3 * (m .incoming + m .outgoing)) room) refl
 
-    few : (b : Bool) → leb (incoming + outgoing) nodePorts ≡ b → P (pick b (planEntry g incoming outgoing room (entryAt g n)) (refuse set-variants.TooManyPorts))
+    few : (b : Bool) → leb (incoming + outgoing) nodePorts ≡ b → P (cond b (planEntry g incoming outgoing room (entryAt g n)) (refuse set-variants.TooManyPorts))
     few true q = entry (leb-true _ _ q) (entryAt g n) refl
     few false q = many
 
@@ -216,7 +217,7 @@ module _ (g : PortGraph) (n incoming outgoing : ℕ) (w : Wf g) where
       size : ℕ
       size = roundUp (incoming + outgoing)
 
-      go : (b : Bool) → blockRoom (w .model) size ≡ b → pick b (found.At (nextBlock (w .model) size)) found.NoRoom ≡ found.At first → Wf (resizeAnew g n m incoming outgoing first size)
+      go : (b : Bool) → blockRoom (w .model) size ≡ b → cond b (found.At (nextBlock (w .model) size)) found.NoRoom ≡ found.At first → Wf (resizeAnew g n m incoming outgoing first size)
       go true q k =
           let here : w .model .node n ≡ live m = node-of-entry g w n m e in
           let at-next : nextBlock (w .model) size ≡ first = cc in
@@ -232,8 +233,34 @@ module _ (g : PortGraph) (n incoming outgoing : ℕ) (w : Wf g) where
           })
       go false q k = absurd (zero-is-not-one (cc))
 
+  -- taken, cut and settled: nothing is left to cut in the old block
+  pub anew-in-steps : (m : NodeMeta) (first : ℕ) → incoming + outgoing ≤ nodePorts → entryAt g n ≡ node-variants.Node m
+      → findBlock (g .«port_free») (g .«port_len») (roundUp (incoming + outgoing)) ≡ found.At first
+      → resizeAnew g n m incoming outgoing first (roundUp (incoming + outgoing))
+      ≡ settleAnew (dropPorts (takeBlock g (roundUp (incoming + outgoing))) m incoming outgoing) n m incoming outgoing first (roundUp (incoming + outgoing))
+  unfolding resizeAnew settleAnew anewLinks
+  anew-in-steps m first few e f = go (blockRoom (w .model) size) refl (sym (block-found (w .good) (w .holds) size) ∙ f)
+    where
+      size : ℕ
+      size = roundUp (incoming + outgoing)
+
+      go : (b : Bool) → blockRoom (w .model) size ≡ b → cond b (found.At (nextBlock (w .model) size)) found.NoRoom ≡ found.At first
+          → resizeAnew g n m incoming outgoing first size ≡ settleAnew (dropPorts (takeBlock g size) m incoming outgoing) n m incoming outgoing first size
+      go true q k =
+          let here : w .model .node n ≡ live m = node-of-entry g w n m e in
+          let at-next : nextBlock (w .model) size ≡ first = cc in
+          let fit = round-up-reaches (incoming + outgoing) in
+          let some = round-up-positive (incoming + outgoing) in
+          let small = round-up-fits (incoming + outgoing) few in
+          let room = leb-true (w .model .portLen + growth size (w .model .freeBlocks size)) portSlots q in
+          let none = nothing-cut (w .good) (w .holds) n m here incoming outgoing size fit some small room in
+          subst (λ (b : ℕ). resizeAnew g n m incoming outgoing b size ≡ settleAnew (dropPorts (takeBlock g size) m incoming outgoing) n m incoming outgoing b size) at-next
+          (let all : g .«link_count» - dropCount (g .«port_link») m incoming outgoing - 0 ≡ g .«link_count» - dropCount (g .«port_link») m incoming outgoing = omega arith in
+          rw (none .0, none .1, all))
+      go false q k = absurd (zero-is-not-one (cc))
+
 pub wf-set : (g : PortGraph) (n incoming outgoing room : ℕ) → Wf g → Wf (setNumPorts g n incoming outgoing room .graph)
-unfolding setNumPorts
+unfolding setNumPortsUnder
 wf-set g n incoming outgoing room w =
     plan-elim (λ p. Wf (setBy g n incoming outgoing p .graph)) g n incoming outgoing room w w w w w
     (λ m e k f. wf-inside g n incoming outgoing w m e f)
@@ -262,7 +289,7 @@ eventsOf set-variants.NoRoom = 0
 module _ (g : PortGraph) (n incoming outgoing room : ℕ) where
   -- three numbers for each event
   pub told-length : length (toldBy g incoming outgoing (planOf g n incoming outgoing room)) ≡ 3 * eventsOf (setNumPorts g n incoming outgoing room .answer)
-  unfolding setNumPorts insideTold anewTold
+  unfolding setNumPortsUnder insideTold anewTold
   told-length =
       plan-elim (λ p. length (toldBy g incoming outgoing p) ≡ 3 * eventsOf (setBy g n incoming outgoing p .answer)) g n incoming outgoing room refl refl refl refl refl
       (λ m e k f.
@@ -278,7 +305,7 @@ module _ (g : PortGraph) (n incoming outgoing room : ℕ) where
 
   -- at most one event for each port that the node had
   pub events-few : (m : NodeMeta) → entryAt g n ≡ node-variants.Node m → eventsOf (setNumPorts g n incoming outgoing room .answer) ≤ m .incoming + m .outgoing
-  unfolding setNumPorts
+  unfolding setNumPortsUnder
   events-few m e =
       plan-elim (λ p. eventsOf (setBy g n incoming outgoing p .answer) ≤ m .incoming + m .outgoing) g n incoming outgoing room
       (omega arith) (omega arith) (omega arith) (omega arith) (omega arith)
@@ -287,7 +314,7 @@ module _ (g : PortGraph) (n incoming outgoing room : ℕ) where
 
   -- the events fit the move list
   pub events-fit : 3 * eventsOf (setNumPorts g n incoming outgoing room .answer) ≤ room
-  unfolding setNumPorts
+  unfolding setNumPortsUnder
   events-fit =
       plan-elim (λ p. 3 * eventsOf (setBy g n incoming outgoing p .answer) ≤ room) g n incoming outgoing room
       (omega arith) (omega arith) (omega arith) (omega arith) (omega arith)
@@ -301,19 +328,19 @@ getD-sets-past (v ∷ vs) l i k h = getD-sets-past vs (set l i v) (suc i) k (ome
 
 module _ (g : PortGraph) (n incoming outgoing : ℕ) (moves : List ℕ) where
   pub moves-length : length (movesAfter g n incoming outgoing moves) ≡ length moves
-  unfolding movesAfter
+  unfolding movesAfterUnder
   moves-length = length-sets moves 0 (toldBy g incoming outgoing (planOf g n incoming outgoing (length moves)))
 
   -- past the last event the numbers stay
   pub moves-kept : (i : ℕ) → 3 * eventsOf (setNumPorts g n incoming outgoing (length moves) .answer) ≤ i → getD (movesAfter g n incoming outgoing moves) i 0 ≡ getD moves i 0
-  unfolding movesAfter
+  unfolding movesAfterUnder
   moves-kept i h =
       let long = told-length g n incoming outgoing (length moves) in
       getD-sets-past (toldBy g incoming outgoing (planOf g n incoming outgoing (length moves))) moves 0 i (omega arith)
 
   -- the list starts with the events
   pub told-first : take (3 * eventsOf (setNumPorts g n incoming outgoing (length moves) .answer)) (movesAfter g n incoming outgoing moves) ≡ toldBy g incoming outgoing (planOf g n incoming outgoing (length moves))
-  unfolding movesAfter
+  unfolding movesAfterUnder
   told-first =
       let long = told-length g n incoming outgoing (length moves) in
       let fit = events-fit g n incoming outgoing (length moves) in
@@ -323,21 +350,21 @@ module _ (g : PortGraph) (n incoming outgoing : ℕ) (moves : List ℕ) where
 -- A kept port keeps its link.
 
 -- a place is of another node, or below the new count of its side
-abbrev pub Kept : ℕ → ℕ → ℕ → Place → Type 0
+abbrev pub Kept : ℕ → ℕ → ℕ → InnerPlace → Type 0
 Kept n incoming outgoing x = x .node ≡ n → x .pos < newCount incoming outgoing (x .side)
 
-kept-stays : (n incoming outgoing : ℕ) (x : Place) → Kept n incoming outgoing x → beyond n incoming outgoing x ≡ false
+kept-stays : (n incoming outgoing : ℕ) (x : InnerPlace) → Kept n incoming outgoing x → beyond n incoming outgoing x ≡ false
 kept-stays n incoming outgoing x h = go (eqb (x .node) n) refl
   where
-    go : (b : Bool) → eqb (x .node) n ≡ b → pick b (leb (newCount incoming outgoing (x .side)) (x .pos)) false ≡ false
+    go : (b : Bool) → eqb (x .node) n ≡ b → cond b (leb (newCount incoming outgoing (x .side)) (x .pos)) false ≡ false
     go true e = lt-leb (newCount incoming outgoing (x .side)) (x .pos) (h (eqb-true _ _ e))
     go false e = refl
 
-pub kept-link : (join : Place → Far) (n incoming outgoing : ℕ) (x y : Place) → join x ≡ to y → Kept n incoming outgoing x → Kept n incoming outgoing y → dropJoin (beyond n incoming outgoing) join x ≡ to y
+pub kept-link : (join : InnerPlace → Far) (n incoming outgoing : ℕ) (x y : InnerPlace) → join x ≡ to y → Kept n incoming outgoing x → Kept n incoming outgoing y → dropJoin (beyond n incoming outgoing) join x ≡ to y
 kept-link join n incoming outgoing x y e h k = drop-kept (beyond n incoming outgoing) join x y e (kept-stays n incoming outgoing x h) (kept-stays n incoming outgoing y k)
 
 module _ {g : PortGraph} {M : Model} (good : Good M) (holds : Holds g M) (n : ℕ) (m : NodeMeta) (here : M .node n ≡ live m) (incoming outgoing : ℕ)
-    (x y : Place) (linked : M .join x ≡ to y) (keptX : Kept n incoming outgoing x) (keptY : Kept n incoming outgoing y) where
+    (x y : InnerPlace) (linked : M .join x ≡ to y) (keptX : Kept n incoming outgoing x) (keptY : Kept n incoming outgoing y) where
   pub kept-link-inside : incoming + outgoing ≤ m .capacity
       → at (resizeInside g n m incoming outgoing .«port_link») (slotOf (resizeModel M n m incoming outgoing .node) x) ≡ suc (slotOf (resizeModel M n m incoming outgoing .node) y)
   kept-link-inside fit =
@@ -353,7 +380,7 @@ module _ {g : PortGraph} {M : Model} (good : Good M) (holds : Holds g M) (n : �
       link-to good′ (anew-holds good holds n m here incoming outgoing size fit some small room) x y (good′ .joinValid x y still) still
 
 -- A node that has the most ports, beside another node's port: no block is free for one port more, nor does one fit.
-pub none-beyond : {M : Model} → Good M → (n : ℕ) (m : NodeMeta) → M .node n ≡ live m → (x : Place) → Valid (M .node) x → (x .node ≡ n → ⊥)
+pub none-beyond : {M : Model} → Good M → (n : ℕ) (m : NodeMeta) → M .node n ≡ live m → (x : InnerPlace) → Valid (M .node) x → (x .node ≡ n → ⊥)
     → (total : ℕ) → nodePorts < total → total ≤ suc (m .incoming + m .outgoing) → portSlots < M .portLen + growth (roundUp total) (M .freeBlocks (roundUp total))
 none-beyond {M} good n m here x valid apart total many few = go (M .freeBlocks (roundUp total)) refl
   where
@@ -386,4 +413,4 @@ none-beyond {M} good n m here x valid apart total many few = go (M .freeBlocks (
 
     go : (l : List ℕ) → M .freeBlocks (roundUp total) ≡ l → portSlots < M .portLen + growth (roundUp total) l
     go [] e = let a = large in let b = used in let c = no-double-block in omega arith
-    go (b ∷ l) e = absurd (let a = large in let q = good .idleEnds (roundUp total) b (subst (In b) (sym e) (inl refl)) .1 in omega arith)
+    go (b ∷ l) e = absurd (let a = large in let q = good .idleEnds (roundUp total) b (subst (Member b) (sym e) (inl refl)) .1 in omega arith)

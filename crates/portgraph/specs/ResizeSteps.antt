@@ -1,7 +1,7 @@
 -- What the code of a change of counts takes from the definitions: the rounded total, the choices of the plan,
 -- and the events, which go one run after the other into the move list.
 use mathlib.Core.Path.{_≡_, refl, sym, ap, _∙_}
-use mathlib.Core.Bool.{Bool, true, false, false≢true}
+use mathlib.Core.Bool.{Bool, true, false, false≢true, cond}
 use mathlib.Core.List.{List, [], _∷_, _++_, append-assoc}
 use Prim.Native.Nat.{ℕ, zero, suc, _+_, _-_, _*_, _^_, _≤_, _<_, min}
 use native.Mathlib.Nat.{pow-suc, pow-le-pow-right}
@@ -11,15 +11,15 @@ use lib.ListN.{length, length-append, set, List·getD-eq-default}
 use lib.Seq.{sets}
 use borrow.Author.Tests.{lt-ltb, le-ltb, le-leb, lt-leb, eq-eqb, ne-eqb, leb-true, leb-false, ltb-true, eqb-false}
 use Rattle.portgraph.specs.Limits.{nodePorts, portSlots, most-ports-are-a-power}
-use Rattle.portgraph.specs.Entries.{pick, nodeSlotOf, freshSlot}
+use Rattle.portgraph.specs.Entries.{nodeSlotOf, freshSlot}
 use Rattle.portgraph.specs.Tables.{at, headAt, putHead, fillRange, ownBlock, cut, cutRange, cutCount, shift, transfer, chainBlock, dropEvents, moveUpEvents, shiftEvents}
 use Rattle.portgraph.specs.TableSteps.{link-count-at-most-one}
 use Rattle.portgraph.specs.Lookups.{entryAt}
 use Rattle.portgraph.specs.Meaning.{metaOf}
 use Rattle.portgraph.specs.Model.{Wf}
 use Rattle.portgraph.specs.WfFacts.{head-fits}
-use Rattle.portgraph.specs.Calls.{findBlock, restOf, grown, headAfter}
-use Rattle.portgraph.specs.Resize.{Plan, refuse, same, inside, anew, planOf, setBy, toldBy, setNumPorts, movesAfter, setNumbers, doubled, roundUp, sameCounts, fitsInside, dropIncoming, dropLinks, dropCount, dropTold, dropped, keptIn, keptOut, firstSlot, insideLinks, resizeInside, insideTold, anewLinks, resizeAnew, anewTold}
+use Rattle.portgraph.specs.Calls.{findBlock, restOf, grown, headAfter, findBlockUnder}
+use Rattle.portgraph.specs.Resize.{Plan, refuse, same, inside, anew, planOf, setBy, toldBy, setNumPorts, movesAfter, setNumbers, doubled, roundUp, sameCounts, fitsInside, dropIncoming, dropLinks, dropCount, dropTold, dropped, keptIn, keptOut, firstSlot, insideLinks, resizeInside, insideTold, anewLinks, resizeAnew, anewTold, setNumPortsUnder, planOfUnder, movesAfterUnder}
 use Rattle.portgraph.specs.declared.node_entry.NodeMeta.{NodeMeta}
 use Rattle.portgraph.specs.declared.node_entry.FreeNodeEntry.{FreeNodeEntry}
 use Rattle.portgraph.specs.declared.node_entry.NodeSlot.{NodeSlot}
@@ -51,7 +51,7 @@ unfolding doubled
 doubled-power zero a n = (a, omega arith, omega arith, refl)
 doubled-power (suc t) a n = go (leb n (2 ^ a)) (doubled-power t (suc a) n)
   where
-    go : (b : Bool) → (k : ℕ) × (suc a ≤ k) × (k ≤ suc a + t) × (doubled t (2 ^ suc a) n ≡ 2 ^ k) → (k : ℕ) × (a ≤ k) × (k ≤ a + suc t) × (pick b (2 ^ a) (doubled t (2 ^ a * 2) n) ≡ 2 ^ k)
+    go : (b : Bool) → (k : ℕ) × (suc a ≤ k) × (k ≤ suc a + t) × (doubled t (2 ^ suc a) n ≡ 2 ^ k) → (k : ℕ) × (a ≤ k) × (k ≤ a + suc t) × (cond b (2 ^ a) (doubled t (2 ^ a * 2) n) ≡ 2 ^ k)
     go true r = (a, omega arith, omega arith, refl)
     go false r = (r .0, omega arith, omega arith, rw (← pow-suc 2 a) (r .3))
 
@@ -61,7 +61,7 @@ unfolding doubled
 doubled-reaches zero p n some h = omega arith
 doubled-reaches (suc t) p n some h = go (leb n p) refl (doubled-reaches t (p * 2) n (omega arith) (omega arith))
   where
-    go : (b : Bool) → leb n p ≡ b → n ≤ doubled t (p * 2) n → n ≤ pick b p (doubled t (p * 2) n)
+    go : (b : Bool) → leb n p ≡ b → n ≤ doubled t (p * 2) n → n ≤ cond b p (doubled t (p * 2) n)
     go true e r = leb-true n p e
     go false e r = r
 
@@ -77,7 +77,7 @@ unfolding doubled
 doubled-least zero a n j l h = powers-rise a j l
 doubled-least (suc t) a n j l h = go (leb n (2 ^ a)) refl (λ i. doubled-least t (suc a) n j i h)
   where
-    go : (b : Bool) → leb n (2 ^ a) ≡ b → (suc a ≤ j → doubled t (2 ^ suc a) n ≤ 2 ^ j) → pick b (2 ^ a) (doubled t (2 ^ a * 2) n) ≤ 2 ^ j
+    go : (b : Bool) → leb n (2 ^ a) ≡ b → (suc a ≤ j → doubled t (2 ^ suc a) n ≤ 2 ^ j) → cond b (2 ^ a) (doubled t (2 ^ a * 2) n) ≤ 2 ^ j
     go true e r = powers-rise a j l
     go false e r = rw (← pow-suc 2 a) (r (past-power a n j (leb-false n (2 ^ a) e) h))
 
@@ -188,15 +188,15 @@ fits-not-empty m i o h = rw (le-ltb 0 (i + o) h)
 
 module _ (heads : List ℕ) (len size head : ℕ) (some : size ≡ 0 → ⊥) (first : head ≡ headAt heads size) where
   pub block-at-end : head ≡ 0 → len + size ≤ portSlots → At len ≡ findBlock heads len size
-  unfolding findBlock
+  unfolding findBlockUnder
   block-at-end e h = rw (ne-eqb size 0 some, ← first, eq-eqb head 0 e, le-leb (len + size) portSlots h)
 
   pub no-block : head ≡ 0 → portSlots < len + size → NoRoom ≡ findBlock heads len size
-  unfolding findBlock
+  unfolding findBlockUnder
   no-block e h = rw (ne-eqb size 0 some, ← first, eq-eqb head 0 e, lt-leb (len + size) portSlots h)
 
   pub block-of-list : (place : ℕ) → (head ≡ 0 → ⊥) → place ≡ head - 1 → At place ≡ findBlock heads len size
-  unfolding findBlock
+  unfolding findBlockUnder
   block-of-list place e f = rw (ne-eqb size 0 some, ← first, ne-eqb head 0 e, f)
 
 cut-count-small : (t : List ℕ) (p n : ℕ) → cutCount t p n ≤ n
@@ -212,18 +212,30 @@ few-cuts t p n a e = let h = cut-count-small t p n in omega arith
 
 -- What the leaves leave, from what each of their calls leaves. The numbers that the code reads off the node: f, oi, oo and ki, ko, the ports that stay.
 
+pub drop-done : (t t′ t″ : List ℕ) (m : NodeMeta) (i o f oi oo ki ko a z : ℕ)
+    → f ≡ firstSlot m → oi ≡ m .incoming → oo ≡ m .outgoing → ki ≡ min oi i → ko ≡ min oo o
+    → (a ≡ cutCount t (f + ki) (oi - ki)) × (t′ ≡ cutRange t (f + ki) (oi - ki))
+    → (z ≡ cutCount t′ (f + oi + ko) (oo - ko)) × (t″ ≡ cutRange t′ (f + oi + ko) (oo - ko))
+    → (a + z ≡ dropCount t m i o) × (t″ ≡ dropLinks t m i o)
+unfolding dropCount dropLinks dropIncoming
+drop-done t t′ t″ m i o f oi oo ki ko a z ef ei eo eki eko first second = (
+  rw (← ef, ← ei, ← eo, ← eki, ← eko, first .0, second .0, first .1),
+  rw (← ef, ← ei, ← eo, ← eki, ← eko, second .1, first .1),
+)
+
 pub drop-both-done : (t t′ t″ b b′ b″ : List ℕ) (m : NodeMeta) (i o f oi oo ki ko a z : ℕ)
     → f ≡ firstSlot m → oi ≡ m .incoming → oo ≡ m .outgoing → ki ≡ min oi i → ko ≡ min oo o
     → (a ≡ cutCount t (f + ki) (oi - ki)) × (t′ ≡ cutRange t (f + ki) (oi - ki)) × (b′ ≡ sets b (3 * 0) (dropEvents t (f + ki) (oi - ki)))
     → (z ≡ cutCount t′ (f + oi + ko) (oo - ko)) × (t″ ≡ cutRange t′ (f + oi + ko) (oo - ko)) × (b″ ≡ sets b′ (3 * (oi - ki)) (dropEvents t′ (f + oi + ko) (oo - ko)))
     → (a + z ≡ dropCount t m i o) × (t″ ≡ dropLinks t m i o) × (b″ ≡ sets b 0 (dropTold t m i o))
-unfolding dropCount dropLinks dropTold dropIncoming
-drop-both-done t t′ t″ b b′ b″ m i o f oi oo ki ko a z ef ei eo eki eko first second = (
-  rw (← ef, ← ei, ← eo, ← eki, ← eko, first .0, second .0, first .1),
-  rw (← ef, ← ei, ← eo, ← eki, ← eko, second .1, first .1),
-  rw (← ef, ← ei, ← eo, ← eki, ← eko, ← first .1)
-      (told-after b b′ b″ (oi - ki) (dropEvents t (f + ki) (oi - ki)) (dropEvents t′ (f + oi + ko) (oo - ko)) (length-dropEvents t (f + ki) (oi - ki)) (first .2) (second .2)),
-)
+unfolding dropTold dropIncoming
+drop-both-done t t′ t″ b b′ b″ m i o f oi oo ki ko a z ef ei eo eki eko first second =
+    let done = drop-done t t′ t″ m i o f oi oo ki ko a z ef ei eo eki eko (first .0, first .1) (second .0, second .1) in (
+      done .0,
+      done .1,
+      rw (← ef, ← ei, ← eo, ← eki, ← eko, ← first .1)
+          (told-after b b′ b″ (oi - ki) (dropEvents t (f + ki) (oi - ki)) (dropEvents t′ (f + oi + ko) (oo - ko)) (length-dropEvents t (f + ki) (oi - ki)) (first .2) (second .2)),
+    )
 
 pub inside-links-done : (t t₁ t₂ t₃ t₄ : List ℕ) (m : NodeMeta) (i o f oi oo ko x y z : ℕ)
     → f ≡ firstSlot m → oi ≡ m .incoming → oo ≡ m .outgoing → ko ≡ min oo o
@@ -247,8 +259,8 @@ anew-links-done t t₁ t₂ t₃ m i o f oi oo ki ko first size ef ei eo eki eko
 -- The block that is found.
 
 module _ (g : PortGraph) (size first : ℕ) (some : 0 < size) (found : findBlock (g .«port_free») (g .«port_len») size ≡ At first) where
-  found-cases : (size ≡ 0 → ⊥) → (b : Bool) → eqb (headAt (g .«port_free») size) 0 ≡ b → (c : Bool) → leb (g .«port_len» + size) portSlots ≡ c → pick b (pick c (At (g .«port_len»)) NoRoom) (At (headAt (g .«port_free») size - 1)) ≡ At first
-  unfolding findBlock
+  found-cases : (size ≡ 0 → ⊥) → (b : Bool) → eqb (headAt (g .«port_free») size) 0 ≡ b → (c : Bool) → leb (g .«port_len» + size) portSlots ≡ c → cond b (cond c (At (g .«port_len»)) NoRoom) (At (headAt (g .«port_free») size - 1)) ≡ At first
+  unfolding findBlockUnder
   found-cases h b e c f = rw (ne-eqb size 0 h, e, f) at found
 
   -- its list goes on where its first slot says
@@ -378,7 +390,7 @@ pub fits-below : (m : NodeMeta) (i o : ℕ) → fitsInside m i o ≡ true → i 
 unfolding fitsInside
 fits-below m i o h = go (ltb 0 (i + o)) h
   where
-    go : (b : Bool) → pick b (ltb (i + o) (m .capacity)) false ≡ true → i + o ≤ m .capacity
+    go : (b : Bool) → cond b (ltb (i + o) (m .capacity)) false ≡ true → i + o ≤ m .capacity
     go true e = omega (arith, ltb-true (i + o) (m .capacity) e)
     go false e = absurd (false≢true e)
 
@@ -386,12 +398,12 @@ fits-below m i o h = go (ltb 0 (i + o)) h
 
 module _ (g : PortGraph) (n i o room : ℕ) where
   pub plan-too-many : nodePorts < i + o → planOf g n i o room ≡ refuse set-variants.TooManyPorts
-  unfolding planOf
+  unfolding planOfUnder
   plan-too-many h = rw (lt-leb (i + o) nodePorts h)
 
   module _ (few : i + o ≤ nodePorts) where
     pub plan-unknown : (x : FreeNodeEntry) → entryAt g n ≡ node-variants.Free x → planOf g n i o room ≡ refuse set-variants.UnknownNode
-    unfolding planOf
+    unfolding planOfUnder
     plan-unknown x e = rw (le-leb (i + o) nodePorts few, e)
 
     pub plan-outside : length (g .«node_meta») ≤ n → planOf g n i o room ≡ refuse set-variants.UnknownNode
@@ -399,27 +411,27 @@ module _ (g : PortGraph) (n i o room : ℕ) where
 
     module _ (m : NodeMeta) (e : entryAt g n ≡ node-variants.Node m) where
       pub plan-short : room < 3 * (m .incoming + m .outgoing) → planOf g n i o room ≡ refuse set-variants.MovesTooShort
-      unfolding planOf
+      unfolding planOfUnder
       plan-short h = rw (le-leb (i + o) nodePorts few, e, lt-leb (3 * (m .incoming + m .outgoing)) room h)
 
       module _ (h : 3 * (m .incoming + m .outgoing) ≤ room) where
         pub plan-same : sameCounts m i o ≡ true → planOf g n i o room ≡ same
-        unfolding planOf
+        unfolding planOfUnder
         plan-same s = rw (le-leb (i + o) nodePorts few, e, le-leb (3 * (m .incoming + m .outgoing)) room h, s)
 
         pub plan-inside : sameCounts m i o ≡ false → fitsInside m i o ≡ true → planOf g n i o room ≡ inside m
-        unfolding planOf
+        unfolding planOfUnder
         plan-inside s t = rw (le-leb (i + o) nodePorts few, e, le-leb (3 * (m .incoming + m .outgoing)) room h, s, t)
 
         pub plan-no-room : sameCounts m i o ≡ false → fitsInside m i o ≡ false → findBlock (g .«port_free») (g .«port_len») (roundUp (i + o)) ≡ NoRoom → planOf g n i o room ≡ refuse set-variants.NoRoom
-        unfolding planOf
+        unfolding planOfUnder
         plan-no-room s t f = rw (le-leb (i + o) nodePorts few, e, le-leb (3 * (m .incoming + m .outgoing)) room h, s, t, f)
 
         pub plan-anew : (first : ℕ) → sameCounts m i o ≡ false → fitsInside m i o ≡ false → findBlock (g .«port_free») (g .«port_len») (roundUp (i + o)) ≡ At first → planOf g n i o room ≡ anew m first
-        unfolding planOf
+        unfolding planOfUnder
         plan-anew first s t f = rw (le-leb (i + o) nodePorts few, e, le-leb (3 * (m .incoming + m .outgoing)) room h, s, t, f)
 
 pub answered : (g : PortGraph) (n i o : ℕ) (b b′ : List ℕ) (r : PortsSet) (p : Plan) → planOf g n i o (length b) ≡ p → r ≡ setBy g n i o p → b′ ≡ sets b 0 (toldBy g i o p)
     → (r ≡ setNumPorts g n i o (length b)) × (b′ ≡ movesAfter g n i o b) × (setNumbers (r .answer) ≡ setNumbers (setNumPorts g n i o (length b) .answer))
-unfolding setNumPorts movesAfter
+unfolding setNumPortsUnder movesAfterUnder
 answered g n i o b b′ r p e er eb = (rw e er, rw e eb, rw e (ap (λ (x : PortsSet). setNumbers (x .answer)) er))

@@ -1,7 +1,7 @@
 -- Adding and removing nodes, tables against model: which node slot is taken next, what the tables stand for after each call,
 -- what each call answers, and that a well-formed graph stays so.
 use mathlib.Core.Path.{_≡_, refl, sym, _∙_, ap, subst}
-use mathlib.Core.Bool.{Bool, true, false}
+use mathlib.Core.Bool.{Bool, true, false, cond}
 use mathlib.Core.List.{List, [], _∷_}
 use mathlib.Core.Logic.{_⊎_, inl, inr}
 use Prim.Native.Nat.{ℕ, suc, _+_, _-_, _≤_, _<_}
@@ -10,14 +10,15 @@ use lib.Dec.{eqb, leb, ltb, eqb·suc-zero}
 use lib.ListN.{length, set, length-set}
 use borrow.Author.Tests.{eqb-true, eqb-false, eq-eqb, ltb-true, ltb-false, leb-true, le-leb, lt-leb}
 use Rattle.portgraph.specs.Limits.{nodeSlots, portSlots, nodePorts}
-use Rattle.portgraph.specs.Entries.{pick, freeSlotOf, nodeSlotOf, nextOf, setPrev}
+use Rattle.portgraph.specs.Lists.{Member, Once}
+use Rattle.portgraph.specs.Entries.{freeSlotOf, nodeSlotOf, nextOf, setPrev}
 use Rattle.portgraph.specs.Tables.{at, fillRange, headAt, putHead, ownBlock, cutRange, cutCount, chainBlock}
 use Rattle.portgraph.specs.TableLaws.{length-fillRange, length-ownBlock, length-chainBlock, length-cutRange, at-fill-in, at-fill-outside, at-chain-first, at-chain-other, at-block-in}
 use Rattle.portgraph.specs.Lookups.{entryAt, node#, port#}
-use Rattle.portgraph.specs.Model.{Model, Place, Far, nowhere, to, Slots, gone, live, held, idle, In, Uniq, Valid, Within, Good, Holds, Wf, Chain, NodeChain, slotsOfEntry, slotsAt, numberOfFirst, countOf, slotOf, ownerOfWho, isLive, portsOf, outPlace}
+use Rattle.portgraph.specs.Model.{Model, Far, nowhere, to, Slots, gone, live, held, idle, Valid, Within, Good, Holds, Wf, Chain, NodeChain, slotsOfEntry, slotsAt, numberOfFirst, countOf, slotOf, ownerOfWho, isLive, portsOf, outPlace, InnerPlace}
 use Rattle.portgraph.specs.Meaning.{upd, dropJoin, atNode, firstOr, rest, growth, nextSlot, nextBlock, giveBlock, handOver, metaOf, addModel, removeModel}
 use Rattle.portgraph.specs.Joins.{drop-here, joined-drop-outside, upd-elim, upd-same, upd-other}
-use Rattle.portgraph.specs.Calls.{findSlot, restOf, freeAfter, headAfter, placeNode, addRefused, addFound, addNode, freeNode, removeEntry, removeNode}
+use Rattle.portgraph.specs.Calls.{findSlot, restOf, freeAfter, headAfter, placeNode, addRefused, addFound, addNode, freeNode, removeEntry, removeNode, findSlotUnder, addNodeUnder}
 use Rattle.portgraph.specs.Sums.{allLinks, one-link-less, links-after-recount}
 use Rattle.portgraph.specs.Chains.{length-putHead, slotsAt-set-same, slotsAt-set-other, setPrev-keeps-slots, length-setPrev, nodeChain-pop, nodeChain-push}
 use Rattle.portgraph.specs.LinkLaws.{Rep, rep-same, rep-weaken, rep-extend, rep-chain-vacant, farNumber-is-farIs}
@@ -49,12 +50,12 @@ below-is-one-more a b = go (ltb a b) refl
 
 -- the slot freed last, else the next at the end; refused exactly where the table would grow past its limit
 pub slot-found : {g : PortGraph} {M : Model} → Good M → Holds g M
-    → findSlot (g .«node_free») (g .«node_len») ≡ pick (leb (M .nodeLen + growth 1 (M .freeNodes)) nodeSlots) (At (nextSlot M)) NoRoom
-unfolding findSlot
+    → findSlot (g .«node_free») (g .«node_len») ≡ cond (leb (M .nodeLen + growth 1 (M .freeNodes)) nodeSlots) (At (nextSlot M)) NoRoom
+unfolding findSlotUnder
 slot-found {g} {M} good h = rw (h .nodeHead, h .nodeLen) (go (M .freeNodes))
   where
-    go : (l : List ℕ) → pick (eqb (numberOfFirst l) 0) (pick (ltb (M .nodeLen) nodeSlots) (At (M .nodeLen)) NoRoom) (At (numberOfFirst l - 1))
-        ≡ pick (leb (M .nodeLen + growth 1 l) nodeSlots) (At (firstOr (M .nodeLen) l)) NoRoom
+    go : (l : List ℕ) → cond (eqb (numberOfFirst l) 0) (cond (ltb (M .nodeLen) nodeSlots) (At (M .nodeLen)) NoRoom) (At (numberOfFirst l - 1))
+        ≡ cond (leb (M .nodeLen + growth 1 l) nodeSlots) (At (firstOr (M .nodeLen) l)) NoRoom
     go [] = rw (below-is-one-more (M .nodeLen) nodeSlots)
     go (n ∷ l) =
         let d : suc n - 1 ≡ n = omega arith in
@@ -62,7 +63,7 @@ slot-found {g} {M} good h = rw (h .nodeHead, h .nodeLen) (go (M .freeNodes))
         let k : M .nodeLen + 0 ≤ nodeSlots = omega arith in
         rw (eqb·suc-zero n, d, le-leb (M .nodeLen + 0) nodeSlots k)
 
-next-slot-below : (len : ℕ) (l : List ℕ) → ((n : ℕ) → In n l → n < len) → len ≤ nodeSlots → len + growth 1 l ≤ nodeSlots → firstOr len l < nodeSlots
+next-slot-below : (len : ℕ) (l : List ℕ) → ((n : ℕ) → Member n l → n < len) → len ≤ nodeSlots → len + growth 1 l ≤ nodeSlots → firstOr len l < nodeSlots
 next-slot-below len [] used fits room = omega arith
 next-slot-below len (n ∷ l) used fits room = let u : n < len = used n (inl refl) in omega arith
 
@@ -79,13 +80,13 @@ nodes-as-long : (nodes : List NodeSlot) (c p n : ℕ) (s : NodeSlot) → length 
 nodes-as-long nodes c p n s = length-set (setPrev nodes c p) n s ∙ length-setPrev nodes c p
 
 -- the first of the free entries is taken, if there is one
-node-chain-rest : (nodes : List NodeSlot) (len : ℕ) (s : NodeSlot) (l : List ℕ) → length nodes ≡ nodeSlots → ((k : ℕ) → In k l → k < nodeSlots)
-    → Uniq l → NodeChain nodes 0 l → NodeChain (set (setPrev nodes (numberOfFirst (rest l)) 0) (firstOr len l) s) 0 (rest l)
+node-chain-rest : (nodes : List NodeSlot) (len : ℕ) (s : NodeSlot) (l : List ℕ) → length nodes ≡ nodeSlots → ((k : ℕ) → Member k l → k < nodeSlots)
+    → Once l → NodeChain nodes 0 l → NodeChain (set (setPrev nodes (numberOfFirst (rest l)) 0) (firstOr len l) s) 0 (rest l)
 node-chain-rest nodes len s [] long below once c = tt
 node-chain-rest nodes len s (n ∷ l) long below once c = nodeChain-pop nodes n s l long (λ k i. below k (inr i)) once c
 
 module _ {g : PortGraph} {M : Model} (good : Good M) (h : Holds g M) where
-  free-below : (k : ℕ) → In k (M .freeNodes) → k < nodeSlots
+  free-below : (k : ℕ) → Member k (M .freeNodes) → k < nodeSlots
   free-below k i =
       let u : k < M .nodeLen = good .freeUsed k i in
       let f : M .nodeLen ≤ nodeSlots = good .nodesFit in
@@ -135,20 +136,20 @@ module _ {g : PortGraph} {M : Model} (good : Good M) (h : Holds g M) (incoming o
       omega arith
 
   -- no port was there before
-  not-here : (x : Place) → Valid (M .node) x → x .node ≡ slot → ⊥
+  not-here : (x : InnerPlace) → Valid (M .node) x → x .node ≡ slot → ⊥
   not-here x v q = gone-not-live (ap (M .node) q ∙ next-slot-gone good) (slot-in-block good x v .1)
 
-  still-valid : (x : Place) → Valid (M .node) x → Valid with-new x
+  still-valid : (x : InnerPlace) → Valid (M .node) x → Valid with-new x
   still-valid x v = other-valid (M .node) slot (live new) x (not-here x v) v
 
-  same-slot : (x : Place) → Valid (M .node) x → slotOf (M .node) x ≡ slotOf with-new x
+  same-slot : (x : InnerPlace) → Valid (M .node) x → slotOf (M .node) x ≡ slotOf with-new x
   same-slot x v = sym (slot-of-other (M .node) slot (live new) x (not-here x v))
 
   -- the block has the slots of the new node's ports, and of no other
-  outside : (x : Place) → Valid (M .node) x → Within first size (slotOf with-new x) → ⊥
+  outside : (x : InnerPlace) → Valid (M .node) x → Within first size (slotOf with-new x) → ⊥
   outside x v w = not-here x v (place-in-block good-after slot new x new-here (still-valid x v) w)
 
-  inside : (x : Place) → Valid with-new x → x .node ≡ slot → Within first size (slotOf with-new x)
+  inside : (x : InnerPlace) → Valid with-new x → x .node ≡ slot → Within first size (slotOf with-new x)
   inside x v q =
       let r = slot-in-block good-after x v in
       let n : with-new (x .node) ≡ live new = ap with-new q ∙ new-here in
@@ -166,7 +167,7 @@ module _ {g : PortGraph} {M : Model} (good : Good M) (h : Holds g M) (incoming o
       (slot-in-range good-after)
       (slots-apart good-after)
     where
-      go : (x : Place) → Valid with-new x → (b : Bool) → eqb (x .node) slot ≡ b
+      go : (x : InnerPlace) → Valid with-new x → (b : Bool) → eqb (x .node) slot ≡ b
           → Valid (M .node) x ⊎ ((Valid (M .node) x → ⊥) × (at (fillRange (g .«port_link») first size 0) (slotOf with-new x) ≡ 0))
       go x v true e =
           let q : x .node ≡ slot = eqb-true (x .node) slot e in
@@ -269,7 +270,7 @@ module _ {g : PortGraph} {M : Model} (good : Good M) (h : Holds g M) (n : ℕ) (
   abbrev without : ℕ → Slots
   without = upd (M .node) n gone
 
-  abbrev left : Place → Far
+  abbrev left : InnerPlace → Far
   left = dropJoin (atNode n) (M .join)
 
   abbrev cleared : List ℕ
@@ -296,7 +297,7 @@ module _ {g : PortGraph} {M : Model} (good : Good M) (h : Holds g M) (n : ℕ) (
       upd-elim (λ v. v ≡ live k → (i ≡ n → ⊥) × (M .node i ≡ live k)) (M .node) n gone i
       (λ q e. absurd (gone-not-live refl e)) (λ other e. (other, e))
 
-  left-valid : (x : Place) → Valid without x → (x .node ≡ n → ⊥) × Valid (M .node) x
+  left-valid : (x : InnerPlace) → Valid without x → (x .node ≡ n → ⊥) × Valid (M .node) x
   left-valid x =
       upd-elim (λ s. x .pos < countOf s (x .side) → (x .node ≡ n → ⊥) × Valid (M .node) x) (M .node) n gone (x .node)
       (λ q v. absurd (omega arith)) (λ other v. (other, v))
@@ -314,7 +315,7 @@ module _ {g : PortGraph} {M : Model} (good : Good M) (h : Holds g M) (n : ℕ) (
       let s = same x v in
       r .0 (place-in-block good n m x here (r .1) (omega arith, omega arith)))
     where
-      same : (x : Place) → Valid without x → slotOf (M .node) x ≡ slotOf without x
+      same : (x : InnerPlace) → Valid without x → slotOf (M .node) x ≡ slotOf without x
       same x v = sym (slot-of-other (M .node) n gone x (left-valid x v .0))
 
   block-chain-left : (k : ℕ) → Chain links-after (headAt (putHead (g .«port_free») (m .capacity) (start + 1)) k) (giveBlock (M .freeBlocks) start (m .capacity) k)
@@ -417,9 +418,9 @@ blockRoom M size = leb (M .portLen + growth size (M .freeBlocks size)) portSlots
 -- a node and its block, where the ports are few enough and there is room for both; else the graph stays as it is
 abbrev pub addWhere : PortGraph → Model → ℕ → ℕ → Bool → Bool → Bool → NodeAdded
 addWhere g M incoming outgoing few slot block =
-    pick few
-    (pick slot
-    (pick block
+    cond few
+    (cond slot
+    (cond block
     (record {
       graph = placeNode g (nextSlot M) (nextBlock M (incoming + outgoing)) incoming outgoing;
       answer = added.Added (node# (nextSlot M)) (port# (nextBlock M (incoming + outgoing)));
@@ -430,13 +431,13 @@ addWhere g M incoming outgoing few slot block =
 
 pub add-law : {g : PortGraph} {M : Model} → Good M → Holds g M → (incoming outgoing : ℕ)
     → addNode g incoming outgoing ≡ addWhere g M incoming outgoing (leb (incoming + outgoing) nodePorts) (slotRoom M) (blockRoom M (incoming + outgoing))
-unfolding addNode
+unfolding addNodeUnder
 add-law {g} {M} good h incoming outgoing =
     rw (slot-found good h, block-found good h (incoming + outgoing))
     (go (leb (incoming + outgoing) nodePorts) (slotRoom M) (blockRoom M (incoming + outgoing)))
   where
     go : (a b c : Bool)
-        → pick a (addFound g incoming outgoing (pick b (At (nextSlot M)) NoRoom) (pick c (At (nextBlock M (incoming + outgoing))) NoRoom))
+        → cond a (addFound g incoming outgoing (cond b (At (nextSlot M)) NoRoom) (cond c (At (nextBlock M (incoming + outgoing))) NoRoom))
         (addRefused g added.TooManyPorts)
         ≡ addWhere g M incoming outgoing a b c
     go true true true = refl

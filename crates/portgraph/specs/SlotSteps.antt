@@ -1,7 +1,7 @@
 -- Taking and giving back node slots and blocks: what a found slot or block is, and which definition the stores of a call amount to.
 -- A law of a found slot takes the equation that says so; the last laws give the graph and answer of a whole call, field by field.
 use mathlib.Core.Path.{_≡_, refl, ap, _∙_}
-use mathlib.Core.Bool.{Bool, true, false}
+use mathlib.Core.Bool.{Bool, true, false, cond}
 use mathlib.Core.List.{List}
 use Prim.Native.Nat.{ℕ, _+_, _-_, _≤_, _<_}
 use native.Mathlib.Omega.{arith}
@@ -10,11 +10,11 @@ use lib.ListN.{length, getD, set, List·getD-eq-default}
 use lib.Seq.{set-set, set-out}
 use borrow.Author.Tests.{lt-ltb, le-ltb, le-leb, lt-leb, eq-eqb, ne-eqb, ltb-true, leb-true, leb-false, eqb-true, eqb-false}
 use Rattle.portgraph.specs.Limits.{nodeSlots, portSlots, nodePorts}
-use Rattle.portgraph.specs.Entries.{pick, freshSlot, withPrev, setPrev, nextOf, nodeSlotOf, freeSlotOf}
+use Rattle.portgraph.specs.Entries.{freshSlot, withPrev, setPrev, nextOf, nodeSlotOf, freeSlotOf}
 use Rattle.portgraph.specs.Tables.{at, fillRange, headAt, putHead, ownBlock, cutRange, cutCount, chainBlock}
 use Rattle.portgraph.specs.Meaning.{metaOf}
 use Rattle.portgraph.specs.Lookups.{entryAt, node#, port#}
-use Rattle.portgraph.specs.Calls.{findSlot, findBlock, restOf, grown, slotAfter, freeAfter, headAfter, placeNode, addRefused, addNode, addNumbers, freeNode, removeNode, removeNumbers}
+use Rattle.portgraph.specs.Calls.{findSlot, findBlock, restOf, grown, slotAfter, freeAfter, headAfter, placeNode, addRefused, addNode, addNumbers, freeNode, removeNode, removeNumbers, findBlockUnder, findSlotUnder, addNodeUnder}
 use Rattle.portgraph.specs.Model.{Wf}
 use Rattle.portgraph.specs.WfFacts.{node-free-fits, head-fits}
 use Rattle.portgraph.specs.declared.node_entry.NodeMeta.{NodeMeta}
@@ -30,31 +30,31 @@ use Rattle.portgraph.specs.declared.slots.NodeRemoved.{NodeRemoved}
 
 -- Which case of a definition applies.
 pub slot-at-end : (free len : ℕ) → free ≡ 0 → len < nodeSlots → At len ≡ findSlot free len
-unfolding findSlot
+unfolding findSlotUnder
 slot-at-end free len e h = rw (eq-eqb free 0 e, lt-ltb len nodeSlots h)
 
 pub slot-nowhere : (free len : ℕ) → free ≡ 0 → nodeSlots ≤ len → NoRoom ≡ findSlot free len
-unfolding findSlot
+unfolding findSlotUnder
 slot-nowhere free len e h = rw (eq-eqb free 0 e, le-ltb len nodeSlots h)
 
 pub slot-from-list : (free len : ℕ) → (free ≡ 0 → ⊥) → At (free - 1) ≡ findSlot free len
-unfolding findSlot
+unfolding findSlotUnder
 slot-from-list free len n = rw (ne-eqb free 0 n)
 
 pub block-of-nothing : (heads : List ℕ) (len size : ℕ) → size ≡ 0 → At 0 ≡ findBlock heads len size
-unfolding findBlock
+unfolding findBlockUnder
 block-of-nothing heads len size e = rw (eq-eqb size 0 e)
 
 pub block-at-end : (heads : List ℕ) (len size : ℕ) → (size ≡ 0 → ⊥) → headAt heads size ≡ 0 → len + size ≤ portSlots → At len ≡ findBlock heads len size
-unfolding findBlock
+unfolding findBlockUnder
 block-at-end heads len size n e h = rw (ne-eqb size 0 n, eq-eqb (headAt heads size) 0 e, le-leb (len + size) portSlots h)
 
 pub block-nowhere : (heads : List ℕ) (len size : ℕ) → (size ≡ 0 → ⊥) → headAt heads size ≡ 0 → portSlots < len + size → NoRoom ≡ findBlock heads len size
-unfolding findBlock
+unfolding findBlockUnder
 block-nowhere heads len size n e h = rw (ne-eqb size 0 n, eq-eqb (headAt heads size) 0 e, lt-leb (len + size) portSlots h)
 
 pub block-from-list : (heads : List ℕ) (len size : ℕ) → (size ≡ 0 → ⊥) → (headAt heads size ≡ 0 → ⊥) → At (headAt heads size - 1) ≡ findBlock heads len size
-unfolding findBlock
+unfolding findBlockUnder
 block-from-list heads len size n e = rw (ne-eqb size 0 n, ne-eqb (headAt heads size) 0 e)
 
 pub rest-of-none : (head next : ℕ) → head ≡ 0 → 0 ≡ restOf head next
@@ -91,10 +91,10 @@ pub data SlotIs (free len n : ℕ) : Type 0 where
   listed : (free ≡ 0 → ⊥) → n ≡ free - 1 → SlotIs free len n
 
 pub slot-found : (free len n : ℕ) → findSlot free len ≡ At n → SlotIs free len n
-unfolding findSlot
+unfolding findSlotUnder
 slot-found free len n e = go (eqb free 0) refl
   where
-    inner : free ≡ 0 → (b : Bool) → ltb len nodeSlots ≡ b → pick b (At len) NoRoom ≡ At n → SlotIs free len n
+    inner : free ≡ 0 → (b : Bool) → ltb len nodeSlots ≡ b → cond b (At len) NoRoom ≡ At n → SlotIs free len n
     inner z true f q = at-end z (cc) (ltb-true len nodeSlots f)
     inner z false f q = let k : _≡_ {A = ℕ} 0 1 = cc in absurd (omega arith)
 
@@ -119,14 +119,14 @@ pub data BlockIs (head len size b : ℕ) : Type 0 where
   listed : (head ≡ 0 → ⊥) → b ≡ head - 1 → BlockIs head len size b
 
 pub block-found : (heads : List ℕ) (len size b : ℕ) → findBlock heads len size ≡ At b → BlockIs (headAt heads size) len size b
-unfolding findBlock
+unfolding findBlockUnder
 block-found heads len size b e = go (eqb size 0) refl
   where
-    room : headAt heads size ≡ 0 → (t : Bool) → leb (len + size) portSlots ≡ t → pick t (At len) NoRoom ≡ At b → BlockIs (headAt heads size) len size b
+    room : headAt heads size ≡ 0 → (t : Bool) → leb (len + size) portSlots ≡ t → cond t (At len) NoRoom ≡ At b → BlockIs (headAt heads size) len size b
     room z true f q = BlockIs.at-end z (cc) (leb-true (len + size) portSlots f)
     room z false f q = let k : _≡_ {A = ℕ} 0 1 = cc in absurd (omega arith)
 
-    list : (t : Bool) → eqb (headAt heads size) 0 ≡ t → pick t (pick (leb (len + size) portSlots) (At len) NoRoom) (At (headAt heads size - 1)) ≡ At b → BlockIs (headAt heads size) len size b
+    list : (t : Bool) → eqb (headAt heads size) 0 ≡ t → cond t (cond (leb (len + size) portSlots) (At len) NoRoom) (At (headAt heads size - 1)) ≡ At b → BlockIs (headAt heads size) len size b
     list true f q = room (eqb-true (headAt heads size) 0 f) (leb (len + size) portSlots) refl q
     list false f q = BlockIs.listed (eqb-false (headAt heads size) 0 f) (cc)
 
@@ -151,7 +151,7 @@ pub stores-after : (nodes : List NodeSlot) (code n p : ℕ) (s : NodeSlot) → l
 unfolding slotAfter setPrev
 stores-after nodes code n p s e = go (eqb code 0) refl
   where
-    inside : (code ≡ 0 → ⊥) → (b : Bool) → leb code nodeSlots ≡ b → set (set nodes (pick b (code - 1) n) (withPrev (getD nodes (pick b (code - 1) n) freshSlot) p)) n s ≡ set (set nodes (code - 1) (withPrev (getD nodes (code - 1) freshSlot) p)) n s
+    inside : (code ≡ 0 → ⊥) → (b : Bool) → leb code nodeSlots ≡ b → set (set nodes (cond b (code - 1) n) (withPrev (getD nodes (cond b (code - 1) n) freshSlot) p)) n s ≡ set (set nodes (code - 1) (withPrev (getD nodes (code - 1) freshSlot) p)) n s
     inside z true f = refl
     inside z false f =
         let l = leb-false code nodeSlots f in
@@ -164,19 +164,19 @@ stores-after nodes code n p s e = go (eqb code 0) refl
 
 -- Adding a node. Refusals first.
 pub too-many-ports : (g : PortGraph) (i o : ℕ) → nodePorts < i + o → addRefused g added.TooManyPorts ≡ addNode g i o
-unfolding addNode
+unfolding addNodeUnder
 too-many-ports g i o h = rw (lt-leb (i + o) nodePorts h)
 
 pub no-node-slot : (g : PortGraph) (i o : ℕ) → i + o ≤ nodePorts → findSlot (g .«node_free») (g .«node_len») ≡ NoRoom → addRefused g added.NoRoom ≡ addNode g i o
-unfolding addNode
+unfolding addNodeUnder
 no-node-slot g i o h e = rw (le-leb (i + o) nodePorts h, e)
 
 pub no-block : (g : PortGraph) (i o n : ℕ) → i + o ≤ nodePorts → findSlot (g .«node_free») (g .«node_len») ≡ At n → findBlock (g .«port_free») (g .«port_len») (i + o) ≡ NoRoom → addRefused g added.NoRoom ≡ addNode g i o
-unfolding addNode
+unfolding addNodeUnder
 no-block g i o n h e f = rw (le-leb (i + o) nodePorts h, e, f)
 
 node-placed : (g : PortGraph) (i o n b : ℕ) → i + o ≤ nodePorts → findSlot (g .«node_free») (g .«node_len») ≡ At n → findBlock (g .«port_free») (g .«port_len») (i + o) ≡ At b → _≡_ {A = NodeAdded} (record { graph = placeNode g n b i o; answer = added.Added (node# n) (port# b) }) (addNode g i o)
-unfolding addNode
+unfolding addNodeUnder
 node-placed g i o n b h e f = rw (le-leb (i + o) nodePorts h, e, f)
 
 pub added-numbers : {r s : NodeAdded} → r ≡ s → (r ≡ s) × (addNumbers (r .answer) ≡ addNumbers (s .answer))

@@ -9,7 +9,7 @@ use native.Mathlib.Omega.{arith}
 use lib.Dec.{eqb, leb}
 use borrow.Author.Tests.{eqb-true, eqb-false, leb-true, leb-false}
 use Rattle.portgraph.specs.Limits.{nodeSlots, nodePorts}
-use Rattle.portgraph.specs.Model.{Place, Far, nowhere, to, Slots, total, countOf, Valid, isLinked, outPlace, linksOut}
+use Rattle.portgraph.specs.Model.{Far, nowhere, to, Slots, total, countOf, Valid, isLinked, outPlace, linksOut, InnerPlace}
 use Rattle.portgraph.specs.Meaning.{samePlace, dropJoin, linkJoin}
 use Rattle.portgraph.specs.Joins.{to-once, drop-elsewhere, drop-unlinked, Joined, far-valid}
 pub use Rattle.portgraph.specs.Joins.{upd-same, upd-other, sameSide-refl, sameSide-true, sameSide-false, sameSide-distinct, place-by-parts, samePlace-refl, samePlace-true, samePlace-false, samePlace-distinct, place-cases, drop-here, drop-there, drop-nowhere, drop-kept, drop-joined, link-near, link-far, link-other, drop-elsewhere as cut-elsewhere}
@@ -87,17 +87,17 @@ total-alike a b f none =
 
 -- How many links there are.
 
-abbrev pub allLinks : (ℕ → Slots) → (Place → Far) → ℕ
+abbrev pub allLinks : (ℕ → Slots) → (InnerPlace → Far) → ℕ
 allLinks node join = total nodeSlots (linksOut node join)
 
-pub links-same : (node other : ℕ → Slots) (j k : Place → Far) → ((z : Place) → j z ≡ k z) → ((n : ℕ) → countOf (node n) Outgoing ≡ countOf (other n) Outgoing) → allLinks node j ≡ allLinks other k
+pub links-same : (node other : ℕ → Slots) (j k : InnerPlace → Far) → ((z : InnerPlace) → j z ≡ k z) → ((n : ℕ) → countOf (node n) Outgoing ≡ countOf (other n) Outgoing) → allLinks node j ≡ allLinks other k
 links-same node other j k same counts =
     total-same nodeSlots (linksOut node j) (linksOut other k)
     (λ n h. total-same (countOf (node n) Outgoing) _ (λ i. isLinked (k (outPlace n i))) (λ i b. ap isLinked (same (outPlace n i)))
     ∙ ap (λ (c : ℕ). total c (λ i. isLinked (k (outPlace n i)))) (counts n))
 
 -- a node has other counts, and no links beyond the smaller of the two
-pub links-after-recount : (node other : ℕ → Slots) (join : Place → Far) (n : ℕ) → ((k : ℕ) → (k ≡ n → ⊥) → countOf (node k) Outgoing ≡ countOf (other k) Outgoing) → ((i : ℕ) → min (countOf (node n) Outgoing) (countOf (other n) Outgoing) ≤ i → join (outPlace n i) ≡ nowhere) → allLinks other join ≡ allLinks node join
+pub links-after-recount : (node other : ℕ → Slots) (join : InnerPlace → Far) (n : ℕ) → ((k : ℕ) → (k ≡ n → ⊥) → countOf (node k) Outgoing ≡ countOf (other k) Outgoing) → ((i : ℕ) → min (countOf (node n) Outgoing) (countOf (other n) Outgoing) ≤ i → join (outPlace n i) ≡ nowhere) → allLinks other join ≡ allLinks node join
 links-after-recount node other join n counts none =
     total-same nodeSlots (linksOut other join) (linksOut node join) (λ k h. go k (eqb k n) refl)
   where
@@ -107,7 +107,7 @@ links-after-recount node other join n counts none =
         (sym (total-alike (countOf (node n) Outgoing) (countOf (other n) Outgoing) (λ i. isLinked (join (outPlace n i))) (λ i h. ap isLinked (none i h))))
     go k false e = ap (λ (c : ℕ). total c (λ i. isLinked (join (outPlace k i)))) (sym (counts k (eqb-false k n e)))
 
-pub links-bound : (node : ℕ → Slots) (join : Place → Far) → ((n : ℕ) → n < nodeSlots → countOf (node n) Outgoing ≤ nodePorts) → allLinks node join ≤ nodeSlots * nodePorts
+pub links-bound : (node : ℕ → Slots) (join : InnerPlace → Far) → ((n : ℕ) → n < nodeSlots → countOf (node n) Outgoing ≤ nodePorts) → allLinks node join ≤ nodeSlots * nodePorts
 links-bound node join small =
     total-bound nodeSlots nodePorts (linksOut node join)
     (λ n h. few n (total-bound (countOf (node n) Outgoing) 1 (λ i. isLinked (join (outPlace n i))) (λ i b. one (join (outPlace n i)))) (small n h))
@@ -119,27 +119,27 @@ links-bound node join small =
     few : (n : ℕ) → linksOut node join n ≤ countOf (node n) Outgoing * 1 → countOf (node n) Outgoing ≤ nodePorts → linksOut node join n ≤ nodePorts
     few n a b = omega arith
 
-module _ (node : ℕ → Slots) (j k : Place → Far) where
+module _ (node : ℕ → Slots) (j k : InnerPlace → Far) where
   -- k has a link more, whose outgoing end is x
-  outgoing-end-counts : (x y : Place) → x .side ≡ Outgoing → y .side ≡ Incoming → Valid node x → x .node < nodeSlots → ((z : Place) → (z ≡ x → ⊥) → (z ≡ y → ⊥) → j z ≡ k z) → j x ≡ nowhere → k x ≡ to y → allLinks node k ≡ suc (allLinks node j)
+  outgoing-end-counts : (x y : InnerPlace) → x .side ≡ Outgoing → y .side ≡ Incoming → Valid node x → x .node < nodeSlots → ((z : InnerPlace) → (z ≡ x → ⊥) → (z ≡ y → ⊥) → j z ≡ k z) → j x ≡ nowhere → k x ≡ to y → allLinks node k ≡ suc (allLinks node j)
   outgoing-end-counts x y out incoming valid below same before after =
-      let inner : linksOut node k (x .node) + isLinked (j here) ≡ linksOut node j (x .node) + isLinked (k here) = total-one (countOf (node (x .node)) Outgoing) (x .pos) (λ i. isLinked (j (outPlace (x .node) i))) (λ i. isLinked (k (outPlace (x .node) i))) (subst (λ (d : Direction). x .pos < countOf (node (x .node)) d) out valid) (λ i b other. elsewhere (x .node) i (λ e. other (ap (λ (z : Place). z .pos) e))) in
-      let outer : allLinks node k + linksOut node j (x .node) ≡ allLinks node j + linksOut node k (x .node) = total-one nodeSlots (x .node) (linksOut node j) (linksOut node k) below (λ n b other. total-same (countOf (node n) Outgoing) _ _ (λ i h. elsewhere n i (λ e. other (ap (λ (z : Place). z .node) e)))) in
-      let a : isLinked (j here) ≡ 0 = ap (λ (z : Place). isLinked (j z)) is-here ∙ ap isLinked before in
-      let b : isLinked (k here) ≡ 1 = ap (λ (z : Place). isLinked (k z)) is-here ∙ ap isLinked after in
+      let inner : linksOut node k (x .node) + isLinked (j here) ≡ linksOut node j (x .node) + isLinked (k here) = total-one (countOf (node (x .node)) Outgoing) (x .pos) (λ i. isLinked (j (outPlace (x .node) i))) (λ i. isLinked (k (outPlace (x .node) i))) (subst (λ (d : Direction). x .pos < countOf (node (x .node)) d) out valid) (λ i b other. elsewhere (x .node) i (λ e. other (ap (λ (z : InnerPlace). z .pos) e))) in
+      let outer : allLinks node k + linksOut node j (x .node) ≡ allLinks node j + linksOut node k (x .node) = total-one nodeSlots (x .node) (linksOut node j) (linksOut node k) below (λ n b other. total-same (countOf (node n) Outgoing) _ _ (λ i h. elsewhere n i (λ e. other (ap (λ (z : InnerPlace). z .node) e)))) in
+      let a : isLinked (j here) ≡ 0 = ap (λ (z : InnerPlace). isLinked (j z)) is-here ∙ ap isLinked before in
+      let b : isLinked (k here) ≡ 1 = ap (λ (z : InnerPlace). isLinked (k z)) is-here ∙ ap isLinked after in
       omega arith
     where
-      here : Place
+      here : InnerPlace
       here = outPlace (x .node) (x .pos)
 
       is-here : here ≡ x
       is-here = place-by-parts here x refl (sym out) refl
 
       elsewhere : (n i : ℕ) → (outPlace n i ≡ x → ⊥) → isLinked (j (outPlace n i)) ≡ isLinked (k (outPlace n i))
-      elsewhere n i other = ap isLinked (same (outPlace n i) other (λ e. let d : Outgoing ≡ Incoming = ap (λ (z : Place). z .side) e ∙ incoming in let z : _≡_ {A = ℕ} 0 1 = cc in omega arith))
+      elsewhere n i other = ap isLinked (same (outPlace n i) other (λ e. let d : Outgoing ≡ Incoming = ap (λ (z : InnerPlace). z .side) e ∙ incoming in let z : _≡_ {A = ℕ} 0 1 = cc in omega arith))
 
   -- k has a link more
-  pub pair-counts : (x y : Place) → (x .side ≡ y .side → ⊥) → Valid node x → Valid node y → x .node < nodeSlots → y .node < nodeSlots → ((z : Place) → (z ≡ x → ⊥) → (z ≡ y → ⊥) → j z ≡ k z) → j x ≡ nowhere → j y ≡ nowhere → k x ≡ to y → k y ≡ to x → allLinks node k ≡ suc (allLinks node j)
+  pub pair-counts : (x y : InnerPlace) → (x .side ≡ y .side → ⊥) → Valid node x → Valid node y → x .node < nodeSlots → y .node < nodeSlots → ((z : InnerPlace) → (z ≡ x → ⊥) → (z ≡ y → ⊥) → j z ≡ k z) → j x ≡ nowhere → j y ≡ nowhere → k x ≡ to y → k y ≡ to x → allLinks node k ≡ suc (allLinks node j)
   pair-counts x y differ vx vy bx by same jx jy kx ky = go (x .side) (y .side) refl refl
     where
       go : (d e : Direction) → x .side ≡ d → y .side ≡ e → allLinks node k ≡ suc (allLinks node j)
@@ -148,8 +148,8 @@ module _ (node : ℕ → Slots) (j k : Place → Far) where
       go Outgoing Incoming p q = outgoing-end-counts x y p q vx bx same jx kx
       go Outgoing Outgoing p q = absurd (differ (p ∙ sym q))
 
-module _ (node : ℕ → Slots) (join : Place → Far) (below : (z : Place) → Valid node z → z .node < nodeSlots) where
-  cut-counts-one : Joined (Valid node) join → (x y : Place) → join x ≡ to y → suc (allLinks node (dropJoin (samePlace x) join)) ≡ allLinks node join
+module _ (node : ℕ → Slots) (join : InnerPlace → Far) (below : (z : InnerPlace) → Valid node z → z .node < nodeSlots) where
+  cut-counts-one : Joined (Valid node) join → (x y : InnerPlace) → join x ≡ to y → suc (allLinks node (dropJoin (samePlace x) join)) ≡ allLinks node join
   cut-counts-one l x y j =
       sym
       (pair-counts node (dropJoin (samePlace x) join) join x y (l .sides x y j) vx vy (below x vx) (below y vy)
@@ -166,18 +166,18 @@ module _ (node : ℕ → Slots) (join : Place → Far) (below : (z : Place) → 
       vy = far-valid l x y j
 
   -- a link that is cut is one link less
-  pub one-link-less : Joined (Valid node) join → (x : Place) → isLinked (join x) + allLinks node (dropJoin (samePlace x) join) ≡ allLinks node join
+  pub one-link-less : Joined (Valid node) join → (x : InnerPlace) → isLinked (join x) + allLinks node (dropJoin (samePlace x) join) ≡ allLinks node join
   one-link-less l x = go (join x) refl
     where
       go : (w : Far) → join x ≡ w → isLinked w + allLinks node (dropJoin (samePlace x) join) ≡ allLinks node join
       go nowhere e = omega (arith, links-same node node (dropJoin (samePlace x) join) join (drop-unlinked l x e) (λ n. refl))
       go (to y) e = omega (arith, cut-counts-one l x y e)
 
-  pub link-counts-one : (x y : Place) → Valid node x → Valid node y → (x .side ≡ y .side → ⊥) → join x ≡ nowhere → join y ≡ nowhere → allLinks node (linkJoin x y join) ≡ suc (allLinks node join)
+  pub link-counts-one : (x y : InnerPlace) → Valid node x → Valid node y → (x .side ≡ y .side → ⊥) → join x ≡ nowhere → join y ≡ nowhere → allLinks node (linkJoin x y join) ≡ suc (allLinks node join)
   link-counts-one x y vx vy differ jx jy =
       pair-counts node join (linkJoin x y join) x y differ vx vy (below x vx) (below y vy)
       (λ z a b. sym (link-other x y join z a b))
       jx
       jy
       (link-near x y join)
-      (link-far x y join (λ e. differ (ap (λ (z : Place). z .side) (sym e))))
+      (link-far x y join (λ e. differ (ap (λ (z : InnerPlace). z .side) (sym e))))

@@ -1,7 +1,7 @@
 -- Laws of the port tables: what a slot holds after a number is stored, a range is filled, or a block gets its owners.
 -- No step changes a table's length.
 use mathlib.Core.Path.{_≡_, refl, sym, _∙_, ap}
-use mathlib.Core.Bool.{Bool, true, false}
+use mathlib.Core.Bool.{Bool, true, false, cond}
 use mathlib.Core.List.{List, [], _∷_}
 use Prim.Native.Nat.{ℕ, zero, suc, _+_, _-_, _≤_, _<_}
 use native.Mathlib.Omega.{arith}
@@ -10,7 +10,7 @@ use lib.ListN.{length, getD, set, length-set, List·getD-eq-default}
 use lib.Seq.{getD-set-same, getD-set-other}
 use borrow.Author.Tests.{ltb-true, ltb-false, eqb-false, lt-ltb, le-ltb, le-leb, ne-eqb}
 use Rattle.portgraph.specs.Limits.{portSlots}
-use Rattle.portgraph.specs.Entries.{pick, ownerNumber}
+use Rattle.portgraph.specs.Entries.{ownerNumber}
 use Rattle.portgraph.specs.Tables.{at, put, fill, fillRange, ownBlock, linkBoth, cutFar, cut, cutRange, relink, movePort, moveUp, moveDown, shift, transfer, chainBlock}
 use Rattle.portgraph.specs.Model.{ownerInBlock}
 use Rattle.portgraph.specs.declared.direction.Direction.the-variants.{Incoming, Outgoing}
@@ -18,13 +18,13 @@ use Rattle.portgraph.specs.declared.node_entry.NodeMeta.{NodeMeta}
 
 -- Lengths.
 
-length-pick : (b : Bool) (t u w : List ℕ) → length u ≡ length t → length w ≡ length t → length (pick b u w) ≡ length t
-length-pick true t u w p q = p
-length-pick false t u w p q = q
+length-cond : (b : Bool) (t u w : List ℕ) → length u ≡ length t → length w ≡ length t → length (cond b u w) ≡ length t
+length-cond true t u w p q = p
+length-cond false t u w p q = q
 
 pub length-put : (t : List ℕ) (s v : ℕ) → length (put t s v) ≡ length t
 unfolding put
-length-put t s v = length-pick (ltb s portSlots) t (set t s v) t (length-set t s v) refl
+length-put t s v = length-cond (ltb s portSlots) t (set t s v) t (length-set t s v) refl
 
 pub length-fill {ℓ} : {A : Type ℓ} (l : List A) (i n : ℕ) (v : A) → length (fill l i n v) ≡ length l
 unfolding fill
@@ -35,7 +35,7 @@ length-fill (x ∷ l) (suc i) n v = ap suc (length-fill l i n v)
 
 pub length-fillRange : (t : List ℕ) (i n v : ℕ) → length (fillRange t i n v) ≡ length t
 unfolding fillRange
-length-fillRange t i n v = length-pick (leb (i + n) portSlots) t (fill t i n v) t (length-fill t i n v) refl
+length-fillRange t i n v = length-cond (leb (i + n) portSlots) t (fill t i n v) t (length-fill t i n v) refl
 
 pub length-ownBlock : (t : List ℕ) (n : ℕ) (m : NodeMeta) → length (ownBlock t n m) ≡ length t
 unfolding ownBlock
@@ -44,13 +44,13 @@ length-ownBlock t n m = simp length-fillRange
 pub length-linkBoth : (t : List ℕ) (a b : ℕ) → length (linkBoth t a b) ≡ length t
 unfolding linkBoth
 length-linkBoth t a b =
-    length-pick (ltb a portSlots) t _ t
-    (length-pick (ltb b portSlots) t _ t (simp length-put) refl)
+    length-cond (ltb a portSlots) t _ t
+    (length-cond (ltb b portSlots) t _ t (simp length-put) refl)
     refl
 
 pub length-cut : (t : List ℕ) (p : ℕ) → length (cut t p) ≡ length t
 unfolding cut cutFar
-length-cut t p = length-pick (eqb (at t p) 0) t t _ refl (simp length-put)
+length-cut t p = length-cond (eqb (at t p) 0) t t _ refl (simp length-put)
 
 pub length-cutRange : (t : List ℕ) (p n : ℕ) → length (cutRange t p n) ≡ length t
 unfolding cutRange
@@ -59,7 +59,7 @@ length-cutRange t p (suc n) = length-cutRange (cut t p) (suc p) n ∙ length-cut
 
 pub length-movePort : (t : List ℕ) (old new : ℕ) → length (movePort t old new) ≡ length t
 unfolding movePort relink
-length-movePort t old new = length-pick (eqb (at t old) 0) t _ _ (simp length-put) (simp length-put)
+length-movePort t old new = length-cond (eqb (at t old) 0) t _ _ (simp length-put) (simp length-put)
 
 pub length-moveUp : (t : List ℕ) (old new n : ℕ) → length (moveUp t old new n) ≡ length t
 unfolding moveUp
@@ -74,7 +74,7 @@ length-moveDown t old new (suc n) =
 
 pub length-shift : (t : List ℕ) (b : Bool) (old new n : ℕ) → length (shift t b old new n) ≡ length t
 unfolding shift
-length-shift t b old new n = length-pick b t _ _ (length-moveUp t old new n) (length-moveDown t old new n)
+length-shift t b old new n = length-cond b t _ _ (length-moveUp t old new n) (length-moveDown t old new n)
 
 pub length-transfer : (t : List ℕ) (old new n : ℕ) → length (transfer t old new n) ≡ length t
 unfolding transfer
@@ -85,7 +85,7 @@ length-transfer t old new (suc n) =
 
 pub length-chainBlock : (t : List ℕ) (first size head : ℕ) → length (chainBlock t first size head) ≡ length t
 unfolding chainBlock
-length-chainBlock t first size head = length-pick (eqb size 0) t t _ refl (length-put t first head)
+length-chainBlock t first size head = length-cond (eqb size 0) t t _ refl (length-put t first head)
 
 -- One slot.
 
@@ -114,7 +114,7 @@ pub at-put-other : (t : List ℕ) (s r v : ℕ) → (s ≡ r → ⊥) → at (pu
 unfolding at put
 at-put-other t s r v apart = go (ltb s portSlots) (ltb r portSlots)
   where
-    go : (b c : Bool) → pick c (getD (pick b (set t s v) t) r 0) 0 ≡ pick c (getD t r 0) 0
+    go : (b c : Bool) → cond c (getD (cond b (set t s v) t) r 0) 0 ≡ cond c (getD t r 0) 0
     go true true = getD-set-other t s r v 0 (λ e. apart (sym e))
     go true false = refl
     go false true = refl
@@ -157,7 +157,7 @@ at-fill-kept : (t : List ℕ) (i n s v : ℕ) → getD (fill t i n v) s 0 ≡ ge
 unfolding at fillRange
 at-fill-kept t i n s v e = go (leb (i + n) portSlots) (ltb s portSlots)
   where
-    go : (b c : Bool) → pick c (getD (pick b (fill t i n v) t) s 0) 0 ≡ pick c (getD t s 0) 0
+    go : (b c : Bool) → cond c (getD (cond b (fill t i n v) t) s 0) 0 ≡ cond c (getD t s 0) 0
     go true true = e
     go true false = refl
     go false true = refl
@@ -191,7 +191,7 @@ pub at-chain-other : (t : List ℕ) (first size head s : ℕ) → (0 < size → 
 unfolding chainBlock
 at-chain-other t first size head s out = go (eqb size 0) refl
   where
-    go : (b : Bool) → eqb size 0 ≡ b → at (pick b t (put t first head)) s ≡ at t s
+    go : (b : Bool) → eqb size 0 ≡ b → at (cond b t (put t first head)) s ≡ at t s
     go true e = refl
     go false e = let n : size ≡ 0 → ⊥ = eqb-false size 0 e in at-put-other t first s head (out (omega arith))
 
@@ -213,7 +213,7 @@ module _ (t : List ℕ) (n : ℕ) (m : NodeMeta) where
   at-block-in s long ends fits low high = go (ltb s (m .«first_port» .0 + m .incoming)) (ltb s (m .«first_port» .0 + (m .incoming + m .outgoing))) refl refl
     where
       go : (b c : Bool) → ltb s (m .«first_port» .0 + m .incoming) ≡ b → ltb s (m .«first_port» .0 + (m .incoming + m .outgoing)) ≡ c
-          → at (ownBlock t n m) s ≡ pick b (ownerNumber n Incoming) (pick c (ownerNumber n Outgoing) 0)
+          → at (ownBlock t n m) s ≡ cond b (ownerNumber n Incoming) (cond c (ownerNumber n Outgoing) 0)
       go true c e f =
           let h : s < m .«first_port» .0 + m .incoming = ltb-true _ _ e in
           at-fill-before _ _ _ s _ (omega arith) ∙ (at-fill-before _ _ _ s _ h ∙ at-fill-in t _ _ s _ long (omega arith) low h)

@@ -2,7 +2,7 @@
 -- A law of a step says which definition its stores amount to; a law of a turn takes one port off the work that is left.
 use mathlib.Core.Path.{_≡_, refl, ap}
 use mathlib.Core.List.{List, [], _∷_}
-use mathlib.Core.Bool.{Bool, true, false}
+use mathlib.Core.Bool.{Bool, true, false, cond}
 use Prim.Native.Nat.{ℕ, zero, suc, _+_, _-_, _*_, _≤_, _<_}
 use native.Mathlib.Omega.{arith}
 use native.Mathlib.Nat.{suc-add, zero-add}
@@ -11,7 +11,6 @@ use lib.ListN.{getD, set}
 use lib.Seq.{sets}
 use borrow.Author.Tests.{lt-ltb, le-ltb, le-leb, lt-leb, eq-eqb, ne-eqb}
 use Rattle.portgraph.specs.Limits.{portSlots, nodePorts, noPort}
-use Rattle.portgraph.specs.Entries.{pick}
 use Rattle.portgraph.specs.Tables.{at, put, fill, fillRange, headAt, putHead, linkBoth, cutFar, cut, cutRange, linkCount, cutCount, relink, movePort, moveUp, moveDown, transfer, chainBlock, toldLink, dropEvents, moveUpEvents, moveDownEvents}
 
 -- Reading and storing.
@@ -109,7 +108,7 @@ pub link-count-at-most-one : (far : ℕ) → linkCount far ≤ 1
 unfolding linkCount
 link-count-at-most-one far = go (eqb far 0)
   where
-    go : (b : Bool) → pick b 0 1 ≤ 1
+    go : (b : Bool) → cond b 0 1 ≤ 1
     go true = omega arith
     go false = omega arith
 
@@ -231,3 +230,11 @@ pub move-down-done : (k : ℕ) → k ≤ 0 → (t : List ℕ) (old new : ℕ) �
 unfolding moveDown
 move-down-done zero h t old new = refl
 move-down-done (suc k) h t old new = absurd (omega arith)
+
+pub no-link-less : (n far : ℕ) → far ≡ 0 → n ≡ n - linkCount far
+unfolding linkCount
+no-link-less n far e = rw (eq-eqb far 0 e) (omega arith)
+
+pub one-link-less : (n far r : ℕ) → (far ≡ 0 → ⊥) → r ≡ n - 1 → r ≡ n - linkCount far
+unfolding linkCount
+one-link-less n far r e f = rw (ne-eqb far 0 e) f

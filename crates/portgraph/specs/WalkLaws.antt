@@ -1,7 +1,7 @@
 -- Laws of the walks: a walk from its start gives the whole listing, in order, each item once, and comes to its end.
 -- From any position that is still there it gives the rest of the listing; where that is gone it ends.
 use mathlib.Core.Path.{_≡_, refl, sym, ap, _∙_}
-use mathlib.Core.Bool.{Bool, true, false}
+use mathlib.Core.Bool.{Bool, true, false, cond}
 use mathlib.Core.List.{List, [], _∷_}
 use mathlib.Core.Logic.{_⊎_, inl, inr}
 use Prim.Native.Nat.{ℕ, zero, suc, _+_, _-_, _≤_, _<_, max}
@@ -11,8 +11,9 @@ use lib.Dec.{eqb, ltb}
 use lib.ListN.{getD}
 use borrow.Author.Tests.{lt-ltb, le-ltb, ne-eqb, ltb-true, ltb-false, eqb-true, eqb-false}
 use Rattle.portgraph.specs.Limits.{nodeSlots, portSlots, nodePorts}
-use Rattle.portgraph.specs.Entries.{pick, freshSlot, isNode, portEntry, ownerNumber}
-use Rattle.portgraph.specs.Model.{Model, Good, Holds, Wf, live, held as held-by, ownerInBlock, ownerOfSlots, ownerOfWho, In, Uniq}
+use Rattle.portgraph.specs.Lists.{range, Member, Once}
+use Rattle.portgraph.specs.Entries.{freshSlot, isNode, portEntry, ownerNumber}
+use Rattle.portgraph.specs.Model.{Model, Good, Holds, Wf, live, held as held-by, ownerInBlock, ownerOfSlots, ownerOfWho}
 use Rattle.portgraph.specs.Lookups.{node#, port#, entryAt, metaAt, metaOfEntry, isSome, containsNode, portAt, isPort, containsPort, startOf, offsetIn, offsetOf, portOffset}
 use Rattle.portgraph.specs.Resize.{BlockFits}
 use Rattle.portgraph.specs.WfFacts.{block-fits}
@@ -62,7 +63,7 @@ more n w = record { items = n ∷ w .items; ended = w .ended }
 -- the live nodes from n on, among k slots
 unfoldable pub nodesFrom : List NodeSlot → ℕ → ℕ → List ℕ
 nodesFrom nodes n zero = []
-nodesFrom nodes n (suc k) = pick (isNode (getD nodes n freshSlot .entry)) (n ∷ nodesFrom nodes (suc n) k) (nodesFrom nodes (suc n) k)
+nodesFrom nodes n (suc k) = cond (isNode (getD nodes n freshSlot .entry)) (n ∷ nodesFrom nodes (suc n) k) (nodesFrom nodes (suc n) k)
 
 -- the live nodes of a graph
 abbrev pub nodesOf : PortGraph → List ℕ
@@ -218,42 +219,42 @@ unfolding nodesFrom
 nodes-ascend nodes n zero = tt
 nodes-ascend nodes n (suc k) = go (isNode (getD nodes n freshSlot .entry)) (nodes-ascend nodes (suc n) k)
   where
-    go : (b : Bool) → Ascending (suc n) (nodesFrom nodes (suc n) k) → Ascending n (pick b (n ∷ nodesFrom nodes (suc n) k) (nodesFrom nodes (suc n) k))
+    go : (b : Bool) → Ascending (suc n) (nodesFrom nodes (suc n) k) → Ascending n (cond b (n ∷ nodesFrom nodes (suc n) k) (nodesFrom nodes (suc n) k))
     go true a = (omega arith, a)
     go false a = ascending-from-less n (nodesFrom nodes (suc n) k) a
 
-ascending-in : (n x : ℕ) (l : List ℕ) → Ascending n l → In x l → n ≤ x
+ascending-in : (n x : ℕ) (l : List ℕ) → Ascending n l → Member x l → n ≤ x
 ascending-in n x (y ∷ l) a (inl e) = let b : n ≤ y = a .0 in omega arith
 ascending-in n x (y ∷ l) a (inr i) = let b : n ≤ y = a .0 in let c = ascending-in (suc y) x l (a .1) i in omega arith
 
 -- what ascends has no item twice
-pub ascending-once : (n : ℕ) (l : List ℕ) → Ascending n l → Uniq l
+pub ascending-once : (n : ℕ) (l : List ℕ) → Ascending n l → Once l
 ascending-once n [] a = tt
 ascending-once n (x ∷ l) a = ((λ i. let c = ascending-in (suc x) x l (a .1) i in omega arith), ascending-once (suc x) l (a .1))
 
-pub no-node-twice : (g : PortGraph) → Uniq (nodesOf g)
+pub no-node-twice : (g : PortGraph) → Once (nodesOf g)
 no-node-twice g = ascending-once 0 (nodesOf g) (nodes-ascend (g .«node_meta») 0 nodeSlots)
 
 -- The listing has exactly the live nodes.
 
-listed-live : (nodes : List NodeSlot) (n k m : ℕ) → In m (nodesFrom nodes n k) → isNode (getD nodes m freshSlot .entry) ≡ true
+listed-live : (nodes : List NodeSlot) (n k m : ℕ) → Member m (nodesFrom nodes n k) → isNode (getD nodes m freshSlot .entry) ≡ true
 unfolding nodesFrom
 listed-live nodes n zero m i = absurd i
 listed-live nodes n (suc k) m i = go (isNode (getD nodes n freshSlot .entry)) refl (listed-live nodes (suc n) k m) i
   where
-    go : (b : Bool) → isNode (getD nodes n freshSlot .entry) ≡ b → (In m (nodesFrom nodes (suc n) k) → isNode (getD nodes m freshSlot .entry) ≡ true)
-        → In m (pick b (n ∷ nodesFrom nodes (suc n) k) (nodesFrom nodes (suc n) k)) → isNode (getD nodes m freshSlot .entry) ≡ true
+    go : (b : Bool) → isNode (getD nodes n freshSlot .entry) ≡ b → (Member m (nodesFrom nodes (suc n) k) → isNode (getD nodes m freshSlot .entry) ≡ true)
+        → Member m (cond b (n ∷ nodesFrom nodes (suc n) k) (nodesFrom nodes (suc n) k)) → isNode (getD nodes m freshSlot .entry) ≡ true
     go true e rest (inl p) = ap (λ x. isNode (getD nodes x freshSlot .entry)) p ∙ e
     go true e rest (inr j) = rest j
     go false e rest j = rest j
 
-live-listed : (nodes : List NodeSlot) (n k m : ℕ) → n ≤ m → m < n + k → isNode (getD nodes m freshSlot .entry) ≡ true → In m (nodesFrom nodes n k)
+live-listed : (nodes : List NodeSlot) (n k m : ℕ) → n ≤ m → m < n + k → isNode (getD nodes m freshSlot .entry) ≡ true → Member m (nodesFrom nodes n k)
 unfolding nodesFrom
 live-listed nodes n zero m a b h = absurd (omega arith)
 live-listed nodes n (suc k) m a b h = go (isNode (getD nodes n freshSlot .entry)) refl (eqb m n) refl (λ l. live-listed nodes (suc n) k m l (omega arith) h)
   where
-    go : (b : Bool) → isNode (getD nodes n freshSlot .entry) ≡ b → (same : Bool) → eqb m n ≡ same → (suc n ≤ m → In m (nodesFrom nodes (suc n) k))
-        → In m (pick b (n ∷ nodesFrom nodes (suc n) k) (nodesFrom nodes (suc n) k))
+    go : (b : Bool) → isNode (getD nodes n freshSlot .entry) ≡ b → (same : Bool) → eqb m n ≡ same → (suc n ≤ m → Member m (nodesFrom nodes (suc n) k))
+        → Member m (cond b (n ∷ nodesFrom nodes (suc n) k) (nodesFrom nodes (suc n) k))
     go true e true s rest = inl (eqb-true _ _ s)
     go true e false s rest = let d : m ≡ n → ⊥ = eqb-false _ _ s in inr (rest (omega arith))
     go false e true s rest =
@@ -262,22 +263,17 @@ live-listed nodes n (suc k) m a b h = go (isNode (getD nodes n freshSlot .entry)
         absurd (omega arith)
     go false e false s rest = let d : m ≡ n → ⊥ = eqb-false _ _ s in rest (omega arith)
 
-pub listed-is-live : (g : PortGraph) (n : ℕ) → In n (nodesOf g) → containsNode g n ≡ true
+pub listed-is-live : (g : PortGraph) (n : ℕ) → Member n (nodesOf g) → containsNode g n ≡ true
 listed-is-live g n i = some-is-node (entryAt g n) ∙ listed-live (g .«node_meta») 0 nodeSlots n i
 
-pub live-is-listed : (g : PortGraph) (n : ℕ) → n < nodeSlots → containsNode g n ≡ true → In n (nodesOf g)
+pub live-is-listed : (g : PortGraph) (n : ℕ) → n < nodeSlots → containsNode g n ≡ true → Member n (nodesOf g)
 live-is-listed g n l h = live-listed (g .«node_meta») 0 nodeSlots n (omega arith) (omega arith) (sym (some-is-node (entryAt g n)) ∙ h)
 
 -- Ports of a node.
 
--- k numbers from p on
-unfoldable pub numbersFrom : ℕ → ℕ → List ℕ
-numbersFrom p zero = []
-numbersFrom p (suc k) = p ∷ numbersFrom (suc p) k
-
 -- the ports of a node on these sides
 abbrev pub portsOfNode : NodeMeta → Sides → List ℕ
-portsOfNode m sides = numbersFrom (portsFrom m sides) (portsTo m sides - portsFrom m sides)
+portsOfNode m sides = range (portsFrom m sides) (portsTo m sides - portsFrom m sides)
 
 abbrev pub portsCursor : ℕ → Sides → ℕ → NodePorts
 portsCursor n sides held = record { node = node# n; sides = sides; held = held }
@@ -294,12 +290,12 @@ walk-ports-on : (g : PortGraph) (fuel : ℕ) (c : NodePorts) → walkPorts g (su
 unfolding walkPorts
 walk-ports-on g fuel c = refl
 
-numbers-on : (p k j : ℕ) → k ≡ suc j → numbersFrom p k ≡ p ∷ numbersFrom (suc p) j
-unfolding numbersFrom
+numbers-on : (p k j : ℕ) → k ≡ suc j → range p k ≡ p ∷ range (suc p) j
+unfolding range
 numbers-on p k j e = rw e
 
-no-numbers : (p k : ℕ) → k ≡ 0 → numbersFrom p k ≡ []
-unfolding numbersFrom
+no-numbers : (p k : ℕ) → k ≡ 0 → range p k ≡ []
+unfolding range
 no-numbers p k e = rw e
 
 -- a step of a walk over a live node's ports, from a position that is still there
@@ -319,7 +315,7 @@ item-beyond n sides p end l = rw (le-ltb p end l)
 
 module _ (g : PortGraph) (n : ℕ) (sides : Sides) (m : NodeMeta) (node : metaAt g n ≡ maybe-meta.Some m)
     (alive : (p : ℕ) → portsFrom m sides ≤ p → p < portsTo m sides → containsPort g p ≡ true) where
-  ports-rest : (fuel held p : ℕ) → p ≡ max (portsFrom m sides) held → portsTo m sides - p < fuel → portHeld g held ≡ true → walkPorts g fuel (portsCursor n sides held) ≡ whole (numbersFrom p (portsTo m sides - p))
+  ports-rest : (fuel held p : ℕ) → p ≡ max (portsFrom m sides) held → portsTo m sides - p < fuel → portHeld g held ≡ true → walkPorts g fuel (portsCursor n sides held) ≡ whole (range p (portsTo m sides - p))
   ports-rest zero held p e l h = absurd (omega arith)
   ports-rest (suc fuel) held p e l h = go (ltb p (portsTo m sides)) refl (ports-rest fuel (suc p) (suc p))
     where
@@ -329,11 +325,11 @@ module _ (g : PortGraph) (n : ℕ) (sides : Sides) (m : NodeMeta) (node : metaAt
           ap (afterPort (walkPorts g fuel)) (step-of-node g (portsCursor n sides held) m node h ∙ (ap (λ q. portsItem n sides q (portsTo m sides)) (sym e) ∙ d))
 
       go : (b : Bool) → ltb p (portsTo m sides) ≡ b
-          → (suc p ≡ max (portsFrom m sides) (suc p) → portsTo m sides - suc p < fuel → portHeld g (suc p) ≡ true → walkPorts g fuel (portsCursor n sides (suc p)) ≡ whole (numbersFrom (suc p) (portsTo m sides - suc p)))
-          → walkPorts g (suc fuel) (portsCursor n sides held) ≡ whole (numbersFrom p (portsTo m sides - p))
+          → (suc p ≡ max (portsFrom m sides) (suc p) → portsTo m sides - suc p < fuel → portHeld g (suc p) ≡ true → walkPorts g fuel (portsCursor n sides (suc p)) ≡ whole (range (suc p) (portsTo m sides - suc p)))
+          → walkPorts g (suc fuel) (portsCursor n sides held) ≡ whole (range p (portsTo m sides - p))
       go true t rest =
           let a : p < portsTo m sides = ltb-true _ _ t in
-          let ih : walkPorts g fuel (portsCursor n sides (suc p)) ≡ whole (numbersFrom (suc p) (portsTo m sides - suc p)) =
+          let ih : walkPorts g fuel (portsCursor n sides (suc p)) ≡ whole (range (suc p) (portsTo m sides - suc p)) =
           rest (omega arith) (omega arith) (held-is-port g p ∙ alive p (omega arith) a) in
           to-step (ports-step.Item (port# p) (portsCursor n sides (suc p))) (item-there n sides p (portsTo m sides) a) ∙
           (ap (more p) ih ∙ ap whole (sym (numbers-on p (portsTo m sides - p) (portsTo m sides - suc p) (omega arith))))
@@ -355,7 +351,7 @@ ports-few m Both = omega arith
 
 -- the side of a node's port, and its offset, by its slot
 abbrev pub sideAt : NodeMeta → ℕ → Direction
-sideAt m p = pick (ltb p (m .«first_port» .0 + m .incoming)) Incoming Outgoing
+sideAt m p = cond (ltb p (m .«first_port» .0 + m .incoming)) Incoming Outgoing
 
 abbrev pub offsetAt : NodeMeta → ℕ → PortOffset
 offsetAt m p = record { direction = sideAt m p; index = p - m .«first_port» .0 - startOf m (sideAt m p) }
@@ -387,7 +383,7 @@ no-fuel g m c = refl
 owner-in-block : (n : ℕ) (m : NodeMeta) (p : ℕ) → p < m .«first_port» .0 + (m .incoming + m .outgoing) → ownerInBlock n m p ≡ ownerNumber n (sideAt m p)
 owner-in-block n m p l = go (ltb p (m .«first_port» .0 + m .incoming))
   where
-    go : (b : Bool) → pick b (ownerNumber n Incoming) (pick (ltb p (m .«first_port» .0 + (m .incoming + m .outgoing))) (ownerNumber n Outgoing) 0) ≡ ownerNumber n (pick b Incoming Outgoing)
+    go : (b : Bool) → cond b (ownerNumber n Incoming) (cond (ltb p (m .«first_port» .0 + (m .incoming + m .outgoing))) (ownerNumber n Outgoing) 0) ≡ ownerNumber n (cond b Incoming Outgoing)
     go true = refl
     go false = rw (lt-ltb p (m .«first_port» .0 + (m .incoming + m .outgoing)) l)
 
@@ -410,7 +406,7 @@ module _ (g : PortGraph) (M : Model) (good : Good M) (holds : Holds g M) (n : �
   offset-of-port p a b = ap (offsetOf g p) (port-of-node p a b) ∙ ap (offsetIn p (sideAt m p)) live-meta
 
   -- from any position that is still there a walk gives the rest of the node's ports, and ends
-  pub walk-gives-rest-of-ports : (sides : Sides) (fuel held : ℕ) → portsTo m sides - max (portsFrom m sides) held < fuel → portHeld g held ≡ true → walkPorts g fuel (portsCursor n sides held) ≡ whole (numbersFrom (max (portsFrom m sides) held) (portsTo m sides - max (portsFrom m sides) held))
+  pub walk-gives-rest-of-ports : (sides : Sides) (fuel held : ℕ) → portsTo m sides - max (portsFrom m sides) held < fuel → portHeld g held ≡ true → walkPorts g fuel (portsCursor n sides held) ≡ whole (range (max (portsFrom m sides) held) (portsTo m sides - max (portsFrom m sides) held))
   walk-gives-rest-of-ports sides fuel held l h =
       ports-rest g n sides m live-meta (λ p a b. let w = ports-within m sides p a b in ports-alive p (w .0) (w .1)) fuel held (max (portsFrom m sides) held) refl l h
 
@@ -465,12 +461,12 @@ module _ (g : PortGraph) (M : Model) (good : Good M) (holds : Holds g M) (n : �
   pub walk-gives-all-offsets : (sides : Sides) → walkOffsets g (nodePorts + 1) (record { ports = portsCursor n sides 0 }) ≡ whole (offsetsAt m (portsOfNode m sides))
   walk-gives-all-offsets sides = offsets-walk-with-ports sides (nodePorts + 1) 0 ∙ ap (eachOffset m) (walk-gives-all-ports sides)
 
-pub numbers-ascend : (p k : ℕ) → Ascending p (numbersFrom p k)
-unfolding numbersFrom
+pub numbers-ascend : (p k : ℕ) → Ascending p (range p k)
+unfolding range
 numbers-ascend p zero = tt
 numbers-ascend p (suc k) = (omega arith, numbers-ascend (suc p) k)
 
-pub no-port-twice : (m : NodeMeta) (sides : Sides) → Uniq (portsOfNode m sides)
+pub no-port-twice : (m : NodeMeta) (sides : Sides) → Once (portsOfNode m sides)
 no-port-twice m sides = ascending-once (portsFrom m sides) (portsOfNode m sides) (numbers-ascend (portsFrom m sides) (portsTo m sides - portsFrom m sides))
 
 -- A cursor whose node or port is gone ends the walk.
@@ -481,14 +477,14 @@ gone-node-ends-walk g n e = step-where-gone g (suc n) (held-is-node g n ∙ e)
 pub gone-port-ends-walk : (g : PortGraph) (n : ℕ) (sides : Sides) (p : ℕ) → containsPort g p ≡ false → stepPorts g (portsCursor n sides (suc p)) ≡ ports-step.End
 gone-port-ends-walk g n sides p e = step-where-port-gone g (portsCursor n sides (suc p)) (held-is-port g p ∙ e)
 
-either-way {ℓ} : {A : Type ℓ} (b : Bool) (x : A) → pick b x x ≡ x
+either-way {ℓ} : {A : Type ℓ} (b : Bool) (x : A) → cond b x x ≡ x
 either-way true x = refl
 either-way false x = refl
 
 pub gone-node-ends-its-ports : (g : PortGraph) (c : NodePorts) → metaAt g (c .node .0) ≡ maybe-meta.None → stepPorts g c ≡ ports-step.End
 unfolding stepPorts
 gone-node-ends-its-ports g c e =
-    ap (λ x. pick (portHeld g (c .held)) (portsBeyond (c .node .0) (c .sides) (c .held) x) ports-step.End) e ∙ either-way (portHeld g (c .held)) ports-step.End
+    ap (λ x. cond (portHeld g (c .held)) (portsBeyond (c .node .0) (c .sides) (c .held) x) ports-step.End) e ∙ either-way (portHeld g (c .held)) ports-step.End
 
 -- What the code of a step finds.
 

@@ -1,12 +1,12 @@
 -- Walks: for any cursor a step gives the next item of the present listing beyond what the cursor holds.
 -- A cursor holds the number given last, one higher than it; 0 at the start. It ends where what it holds is gone.
-use mathlib.Core.Bool.{Bool, true, false}
+use mathlib.Core.Bool.{Bool, true, false, cond}
 use mathlib.Core.List.{List, [], _∷_}
 use Prim.Native.Nat.{ℕ, zero, suc, _+_, _-_, max}
 use lib.Dec.{eqb, ltb}
 use lib.ListN.{getD}
 use Rattle.portgraph.specs.Limits.{nodeSlots}
-use Rattle.portgraph.specs.Entries.{pick, freshSlot, isNode}
+use Rattle.portgraph.specs.Entries.{freshSlot, isNode}
 use Rattle.portgraph.specs.Lookups.{node#, port#, metaAt, containsNode, containsPort, portOffset, offsetNumbers}
 use Rattle.portgraph.specs.declared.direction.Direction.{Direction}
 use Rattle.portgraph.specs.declared.direction.Direction.the-variants.{Incoming, Outgoing}
@@ -41,14 +41,14 @@ unfoldable pub nodeFrom : List NodeSlot → ℕ → ℕ → NodesStep
 nodeFrom nodes n zero = nodes-step.End
 nodeFrom nodes n (suc k) =
     let next = nodeFrom nodes (suc n) k in
-    pick (isNode (getD nodes n freshSlot .entry)) (nodes-step.Item (node# n) (record { held = suc n })) next
+    cond (isNode (getD nodes n freshSlot .entry)) (nodes-step.Item (node# n) (record { held = suc n })) next
 
 -- what the cursor holds is still there
 abbrev pub nodeHeld : PortGraph → ℕ → Bool
-nodeHeld g held = pick (eqb held 0) true (containsNode g (held - 1))
+nodeHeld g held = cond (eqb held 0) true (containsNode g (held - 1))
 
 unfoldable pub stepNodes : PortGraph → ℕ → NodesStep
-stepNodes g held = pick (nodeHeld g held) (nodeFrom (g .«node_meta») held (nodeSlots - held)) nodes-step.End
+stepNodes g held = cond (nodeHeld g held) (nodeFrom (g .«node_meta») held (nodeSlots - held)) nodes-step.End
 
 -- a step is never refused: the item, and nothing at the end
 abbrev pub nodesStepNumbers : NodesStep → List ℕ
@@ -69,18 +69,18 @@ portsTo m (One Outgoing) = m .«first_port» .0 + m .incoming + m .outgoing
 portsTo m Both = m .«first_port» .0 + m .incoming + m .outgoing
 
 abbrev pub portHeld : PortGraph → ℕ → Bool
-portHeld g held = pick (eqb held 0) true (containsPort g (held - 1))
+portHeld g held = cond (eqb held 0) true (containsPort g (held - 1))
 
 abbrev pub portsItem : ℕ → Sides → ℕ → ℕ → NodePortsStep
 portsItem n sides p end =
-    pick (ltb p end) (ports-step.Item (port# p) (record { node = node# n; sides = sides; held = suc p })) ports-step.End
+    cond (ltb p end) (ports-step.Item (port# p) (record { node = node# n; sides = sides; held = suc p })) ports-step.End
 
 abbrev pub portsBeyond : ℕ → Sides → ℕ → MaybeNodeMeta → NodePortsStep
 portsBeyond n sides held maybe-meta.None = ports-step.End
 portsBeyond n sides held (maybe-meta.Some m) = portsItem n sides (max (portsFrom m sides) held) (portsTo m sides)
 
 unfoldable pub stepPorts : PortGraph → NodePorts → NodePortsStep
-stepPorts g c = pick (portHeld g (c .held)) (portsBeyond (c .node .0) (c .sides) (c .held) (metaAt g (c .node .0))) ports-step.End
+stepPorts g c = cond (portHeld g (c .held)) (portsBeyond (c .node .0) (c .sides) (c .held) (metaAt g (c .node .0))) ports-step.End
 
 abbrev pub portsStepNumbers : NodePortsStep → List ℕ
 portsStepNumbers (ports-step.Item p c) = p .0 ∷ []

@@ -6,9 +6,10 @@ use Prim.Native.Nat.{ℕ, zero, suc, _+_, _-_, _*_, _≤_, _<_}
 use native.Mathlib.Omega.{arith}
 use lib.ListN.{length}
 use Rattle.portgraph.specs.Limits.{nodeSlots, portSlots, nodePorts}
+use Rattle.portgraph.specs.Lists.{Member}
 use Rattle.portgraph.specs.Tables.{at, headAt}
 use Rattle.portgraph.specs.Lookups.{entryAt}
-use Rattle.portgraph.specs.Model.{Model, Good, Holds, Wf, Slots, gone, live, slotsAt, slotsOfEntry, In, numberOfFirst, Chain, countOf, portsOf, isLive, total, linksOut}
+use Rattle.portgraph.specs.Model.{Model, Good, Holds, Wf, Slots, gone, live, slotsAt, slotsOfEntry, numberOfFirst, Chain, countOf, portsOf, isLive, total, linksOut}
 use Rattle.portgraph.specs.Resize.{BlockFits}
 use Rattle.portgraph.specs.Sums.{total-bound, links-bound}
 use Rattle.portgraph.specs.declared.direction.Direction.the-variants.{Incoming, Outgoing}
@@ -40,7 +41,7 @@ module _ (g : PortGraph) (w : Wf g) where
   pub port-len-fits : g .«port_len» ≤ portSlots
   port-len-fits = let e = w .holds .portLen in let h = w .good .portsFit in omega arith
 
-  node-free-go : (l : List ℕ) → ((n : ℕ) → In n l → n < w .model .nodeLen) → numberOfFirst l ≤ w .model .nodeLen
+  node-free-go : (l : List ℕ) → ((n : ℕ) → Member n l → n < w .model .nodeLen) → numberOfFirst l ≤ w .model .nodeLen
   node-free-go [] h = omega arith
   node-free-go (n ∷ l) h = h n (inl refl)
 
@@ -51,7 +52,7 @@ module _ (g : PortGraph) (w : Wf g) where
       let all = w .good .nodesFit in
       omega arith
 
-  head-go : (k h : ℕ) (l : List ℕ) → ((b : ℕ) → In b l → (0 < k) × (k ≤ nodePorts) × (b + k ≤ w .model .portLen)) → Chain (g .«port_link») h l → (h ≡ 0 → ⊥) → (h - 1) + k ≤ portSlots
+  head-go : (k h : ℕ) (l : List ℕ) → ((b : ℕ) → Member b l → (0 < k) × (k ≤ nodePorts) × (b + k ≤ w .model .portLen)) → Chain (g .«port_link») h l → (h ≡ 0 → ⊥) → (h - 1) + k ≤ portSlots
   head-go k h [] f c n = absurd (n c)
   head-go k h (b ∷ l) f c n =
       let e = c .0 in

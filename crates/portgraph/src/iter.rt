@@ -6,10 +6,11 @@ use crate::index::NODE_SLOTS;
 use crate::index::NodeIndex;
 use crate::index::PortIndex;
 use crate::index::PortOffset;
-use crate::index::wide;
-use crate::index::wide16;
 use crate::node_entry::MaybeNodeMeta;
 use crate::node_entry::NodeMeta;
+use crate::numbers::larger;
+use crate::numbers::wide;
+use crate::numbers::wide16;
 use crate::portgraph::PortGraph;
 ghost use mathlib.Core.Path.{_≡_};
 ghost use Prim.Native.Nat.{max};
@@ -63,13 +64,6 @@ pub enum NodePortOffsetsStep {
 pub enum OffsetsStart {
     Started(NodePortOffsets),
     UnknownNode,
-}
-
-// The larger of two numbers.
-pub fn larger(a: usize, b: usize) -> usize
-    ensures { λ r. ⌜ r ≡ max a b ⌝ }
-{
-    if a <= b { b } else { a }
 }
 
 // The first slot of a node's ports on these sides.

@@ -2,11 +2,11 @@
 // 0, previous and next free entry, 0, 0; or 1, first port, incoming, outgoing, capacity.
 use crate::index::NODE_SLOTS;
 use crate::index::PortIndex;
-use crate::index::wide;
 use crate::node_entry::MaybeNodeMeta;
 use crate::node_entry::NodeEntry;
 use crate::node_entry::NodeMeta;
 use crate::node_entry::NodeSlot;
+use crate::numbers::wide;
 ghost use mathlib.Core.Path.{_≡_};
 ghost use Rattle.portgraph.specs.Lent.{narrow, slotOfWords, slotsIn, slotIn, putSlot, metaIn};
 

@@ -2,14 +2,14 @@
 use crate::index::FREE_LISTS;
 use crate::index::PORT_SLOTS;
 use crate::index::PortIndex;
-use crate::index::wide;
 use crate::lent::Counts;
 use crate::lent::NODE_WORDS;
+use crate::numbers::less;
+use crate::numbers::same_side;
+use crate::numbers::wide;
 use crate::port_entry::PortEntry;
 use crate::portgraph::LinkAnswer;
 use crate::portgraph::PortLink;
-use crate::portgraph::less;
-use crate::portgraph::same_side;
 use crate::tables::at;
 use crate::tables::cut;
 use crate::tables::link_both;
@@ -30,7 +30,7 @@ pub struct PortUnlinkedIn {
 }
 
 // The counts with another number of links.
-fn count_links(counts: Counts, links: usize) -> Counts
+pub(crate) fn count_links(counts: Counts, links: usize) -> Counts
     ensures { λ r. ⌜ r ≡ countLinks counts links ⌝ }
 {
     Counts {

@@ -1,19 +1,21 @@
-// Changing a node's counts of ports over lent tables, within its block or in a new one, with the list of moves.
+// Changing a node's counts of ports over lent tables, within its block or in a new one: with the list of moves, or without.
 use crate::index::FREE_LISTS;
 use crate::index::NODE_PORTS;
 use crate::index::NodeIndex;
 use crate::index::PORT_SLOTS;
 use crate::index::PortIndex;
-use crate::index::wide;
-use crate::index::wide16;
 use crate::lent::Counts;
 use crate::lent::NODE_WORDS;
 use crate::lent::meta_in;
 use crate::lent::put_slot;
+use crate::lent_links::count_links;
 use crate::node_entry::MaybeNodeMeta;
 use crate::node_entry::NodeMeta;
 use crate::node_entry::NodeSlot;
-use crate::portgraph::less;
+use crate::numbers::less;
+use crate::numbers::smaller;
+use crate::numbers::wide;
+use crate::numbers::wide16;
 use crate::resize::SetAnswer;
 use crate::resize::anew_links;
 use crate::resize::drop_both;
@@ -21,7 +23,6 @@ use crate::resize::fits_inside;
 use crate::resize::inside_links;
 use crate::resize::round_up;
 use crate::resize::same_counts;
-use crate::resize::smaller;
 use crate::slots::Found;
 use crate::slots::find_block;
 use crate::slots::grown;
@@ -35,18 +36,145 @@ use crate::tables::own_block;
 use crate::tables::put_head;
 use crate::tables::tell_moves;
 ghost use mathlib.Core.Path.{_≡_};
-ghost use Prim.Native.Nat.{_+_, _≤_, _<_};
+ghost use Prim.Native.Nat.{_+_, _-_, _*_, _≤_};
 ghost use lib.ListN.{length};
 ghost use lib.Seq.{sets};
-ghost use Rattle.portgraph.specs.Limits.{nodeSlots, nodePorts};
+ghost use Rattle.portgraph.specs.Limits.{portSlots, nodePorts};
+ghost use Rattle.portgraph.specs.Tables.{at, headAt, putHead};
 ghost use Rattle.portgraph.specs.Model.{Wf};
-ghost use Rattle.portgraph.specs.Calls.{findBlock};
-ghost use Rattle.portgraph.specs.Resize.{setBy, insideTold, anewTold, inside, anew, BlockFits, roundUp, setNumPorts, movesAfter};
-ghost use Rattle.portgraph.specs.Lent.{graphIn};
+ghost use Rattle.portgraph.specs.Calls.{findBlock, restOf, grown};
+ghost use Rattle.portgraph.specs.Resize.{setBy, insideTold, anewTold, inside, anew, roundUp, dropLinks, dropCount, setNumPorts, movesAfter};
+ghost use Rattle.portgraph.specs.Settle.{settleInside, settleAnew};
+ghost use Rattle.portgraph.specs.Lent.{graphIn, countLinks, countPorts, Resizes, Settles};
 
 pub struct PortsSetIn {
     pub counts: Counts,
     pub answer: SetAnswer,
+}
+
+// Cuts the links of the ports that are dropped, incoming ones first, and tells nothing. Gives the counts that are left.
+fn drop_quiet(
+    links: &mut [u32; PORT_SLOTS],
+    counts: Counts,
+    meta: NodeMeta,
+    incoming: usize,
+    outgoing: usize,
+) -> Counts
+    requires { ⌜ (meta .«first_port» .0 + meta .capacity ≤ portSlots) × (meta .incoming + meta .outgoing ≤ meta .capacity) ⌝ }
+    ensures { λ r. ⌜ (r ≡ countLinks counts (counts .«link_count» - dropCount (now (links .entry)) meta incoming outgoing))
+        × (now (links .exit) ≡ dropLinks (now (links .entry)) meta incoming outgoing) ⌝ }
+{
+    let first = wide(meta.first_port.0);
+    let old_in = wide16(meta.incoming);
+    let old_out = wide16(meta.outgoing);
+    let kept_in = smaller(old_in, incoming);
+    let kept_out = smaller(old_out, outgoing);
+    let a = cut_range(links, first + kept_in, old_in - kept_in);
+    let b = cut_range(links, first + old_in + kept_out, old_out - kept_out);
+    count_links(counts, less(counts.link_count, a + b))
+}
+
+// Takes the block that was found for a size: another one is the first free block then, or the tables are longer.
+fn take_block(
+    links: &[u32; PORT_SLOTS],
+    heads: &mut [u32; FREE_LISTS],
+    counts: Counts,
+    first: usize,
+    size: usize,
+) -> Counts
+    requires { ⌜ (counts .«port_len» ≤ portSlots) × (size ≤ portSlots) ⌝ }
+    ensures { λ r. ⌜ (r ≡ countPorts counts (grown (headAt (now (heads .entry)) size) (counts .«port_len») size))
+        × (now (heads .exit) ≡ putHead (now (heads .entry)) size (restOf (headAt (now (heads .entry)) size) (at (now (links .entry)) first))) ⌝ }
+{
+    let head = head_at(heads, size);
+    put_head(heads, size, rest_of(head, at(links, first)));
+    Counts {
+        node_free: counts.node_free,
+        node_len: counts.node_len,
+        port_len: grown(head, counts.port_len, size),
+        node_count: counts.node_count,
+        port_count: counts.port_count,
+        link_count: counts.link_count,
+    }
+}
+
+// The node, and the ports that stay, take their places within the block; dropped ports are cut before.
+fn settle_inside_in(
+    nodes: &mut [u32; NODE_WORDS],
+    links: &mut [u32; PORT_SLOTS],
+    owners: &mut [u32; PORT_SLOTS],
+    heads: &mut [u32; FREE_LISTS],
+    counts: Counts,
+    node: NodeIndex,
+    meta: NodeMeta,
+    incoming: usize,
+    outgoing: usize,
+) -> Counts
+    requires { ⌜ Settles meta (node .0) incoming outgoing (meta .capacity) counts ⌝ }
+    ensures { λ r. ⌜ graphIn (now (nodes .exit)) (now (links .exit)) (now (owners .exit)) (now (heads .exit)) r
+        ≡ settleInside (graphIn (now (nodes .entry)) (now (links .entry)) (now (owners .entry)) (now (heads .entry)) counts) (node .0) meta incoming outgoing ⌝ }
+{
+    let first_port = meta.first_port;
+    let new_meta = NodeMeta {
+        first_port: first_port,
+        incoming: incoming as u16,
+        outgoing: outgoing as u16,
+        capacity: meta.capacity,
+    };
+    inside_links(links, meta, incoming, outgoing);
+    own_block(owners, node.0, new_meta);
+    put_slot(nodes, wide(node.0), NodeSlot::new_node(new_meta));
+    Counts {
+        node_free: counts.node_free,
+        node_len: counts.node_len,
+        port_len: counts.port_len,
+        node_count: counts.node_count,
+        port_count: less(counts.port_count, meta.port_count()) + (incoming + outgoing),
+        link_count: counts.link_count,
+    }
+}
+
+// The node, and the ports that stay, take their places in a new block, and the old one is free; the block is taken, and dropped
+// ports are cut before.
+fn settle_anew_in(
+    nodes: &mut [u32; NODE_WORDS],
+    links: &mut [u32; PORT_SLOTS],
+    owners: &mut [u32; PORT_SLOTS],
+    heads: &mut [u32; FREE_LISTS],
+    counts: Counts,
+    node: NodeIndex,
+    meta: NodeMeta,
+    incoming: usize,
+    outgoing: usize,
+    new_first: usize,
+    size: usize,
+) -> Counts
+    requires { ⌜ Settles meta (node .0) incoming outgoing size counts × («new_first» + size ≤ portSlots) ⌝ }
+    ensures { λ r. ⌜ graphIn (now (nodes .exit)) (now (links .exit)) (now (owners .exit)) (now (heads .exit)) r
+        ≡ settleAnew (graphIn (now (nodes .entry)) (now (links .entry)) (now (owners .entry)) (now (heads .entry)) counts) (node .0) meta incoming outgoing «new_first» size ⌝ }
+{
+    let first = wide(meta.first_port.0);
+    let capacity = wide16(meta.capacity);
+    let new_meta = NodeMeta {
+        first_port: PortIndex(new_first as u32),
+        incoming: incoming as u16,
+        outgoing: outgoing as u16,
+        capacity: size as u16,
+    };
+    anew_links(links, meta, incoming, outgoing, new_first, size);
+    chain_block(links, first, capacity, head_at(heads, capacity));
+    put_head(heads, capacity, meta.first_port.0 + 1);
+    own_block(owners, node.0, new_meta);
+    fill(owners, meta.first_port.0, meta.capacity, 0);
+    put_slot(nodes, wide(node.0), NodeSlot::new_node(new_meta));
+    Counts {
+        node_free: counts.node_free,
+        node_len: counts.node_len,
+        port_len: counts.port_len,
+        node_count: counts.node_count,
+        port_count: less(counts.port_count, meta.port_count()) + (incoming + outgoing),
+        link_count: counts.link_count,
+    }
 }
 
 // Gives a node other counts within its block.
@@ -62,8 +190,7 @@ fn resize_inside_in(
     outgoing: usize,
     moves: &mut [u32],
 ) -> PortsSetIn
-    requires { ⌜ Wf (graphIn (now nodes) (now links) (now owners) (now heads) counts)
-        × (node .0 < nodeSlots) × (incoming + outgoing ≤ meta .capacity) × BlockFits meta ⌝ }
+    requires { ⌜ Resizes (graphIn (now nodes) (now links) (now owners) (now heads) counts) (node .0) meta incoming outgoing × (incoming + outgoing ≤ meta .capacity) ⌝ }
     ensures { λ r. ⌜ (graphIn (now (nodes .exit)) (now (links .exit)) (now (owners .exit)) (now (heads .exit)) (r .counts)
         ≡ setBy (graphIn (now (nodes .entry)) (now (links .entry)) (now (owners .entry)) (now (heads .entry)) counts) (node .0) incoming outgoing (inside meta) .graph)
         × (r .answer ≡ setBy (graphIn (now (nodes .entry)) (now (links .entry)) (now (owners .entry)) (now (heads .entry)) counts) (node .0) incoming outgoing (inside meta) .answer)
@@ -75,13 +202,6 @@ fn resize_inside_in(
     let kept_in = smaller(old_in, incoming);
     let kept_out = smaller(old_out, outgoing);
     let events = (old_in - kept_in) + (old_out - kept_out);
-    let first_port = meta.first_port;
-    let new_meta = NodeMeta {
-        first_port: first_port,
-        incoming: incoming as u16,
-        outgoing: outgoing as u16,
-        capacity: meta.capacity,
-    };
     let cuts = drop_both(links, moves, meta, incoming, outgoing);
     tell_moves(
         moves,
@@ -91,18 +211,20 @@ fn resize_inside_in(
         first + incoming,
         kept_out,
     );
-    inside_links(links, meta, incoming, outgoing);
-    own_block(owners, node.0, new_meta);
-    put_slot(nodes, wide(node.0), NodeSlot::new_node(new_meta));
+    let left = count_links(counts, less(counts.link_count, cuts));
+    let after = settle_inside_in(
+        nodes,
+        links,
+        owners,
+        heads,
+        left,
+        node,
+        meta,
+        incoming,
+        outgoing,
+    );
     PortsSetIn {
-        counts: Counts {
-            node_free: counts.node_free,
-            node_len: counts.node_len,
-            port_len: counts.port_len,
-            node_count: counts.node_count,
-            port_count: less(counts.port_count, old_in + old_out) + (incoming + outgoing),
-            link_count: less(counts.link_count, cuts),
-        },
+        counts: after,
         answer: SetAnswer::Set(events + kept_out),
     }
 }
@@ -121,8 +243,8 @@ fn resize_anew_in(
     new_first: usize,
     moves: &mut [u32],
 ) -> PortsSetIn
-    requires { ⌜ Wf (graphIn (now nodes) (now links) (now owners) (now heads) counts)
-        × (node .0 < nodeSlots) × (incoming + outgoing ≤ nodePorts) × BlockFits meta × (findBlock (now heads) (counts .«port_len») (roundUp (incoming + outgoing)) ≡ Found.At «new_first») ⌝ }
+    requires { ⌜ Resizes (graphIn (now nodes) (now links) (now owners) (now heads) counts) (node .0) meta incoming outgoing
+        × (findBlock (now heads) (counts .«port_len») (roundUp (incoming + outgoing)) ≡ Found.At «new_first») ⌝ }
     ensures { λ r. ⌜ (graphIn (now (nodes .exit)) (now (links .exit)) (now (owners .exit)) (now (heads .exit)) (r .counts)
         ≡ setBy (graphIn (now (nodes .entry)) (now (links .entry)) (now (owners .entry)) (now (heads .entry)) counts) (node .0) incoming outgoing (anew meta «new_first») .graph)
         × (r .answer ≡ setBy (graphIn (now (nodes .entry)) (now (links .entry)) (now (owners .entry)) (now (heads .entry)) counts) (node .0) incoming outgoing (anew meta «new_first») .answer)
@@ -131,19 +253,11 @@ fn resize_anew_in(
     let first = wide(meta.first_port.0);
     let old_in = wide16(meta.incoming);
     let old_out = wide16(meta.outgoing);
-    let capacity = wide16(meta.capacity);
     let size = round_up(incoming + outgoing);
     let kept_in = smaller(old_in, incoming);
     let kept_out = smaller(old_out, outgoing);
     let events = (old_in - kept_in) + (old_out - kept_out);
-    let new_meta = NodeMeta {
-        first_port: PortIndex(new_first as u32),
-        incoming: incoming as u16,
-        outgoing: outgoing as u16,
-        capacity: size as u16,
-    };
-    let head = head_at(heads, size);
-    let rest = rest_of(head, at(links, new_first));
+    let taken = take_block(links, heads, counts, new_first, size);
     let cuts = drop_both(links, moves, meta, incoming, outgoing);
     tell_moves(moves, events, true, first, new_first, kept_in);
     tell_moves(
@@ -154,24 +268,22 @@ fn resize_anew_in(
         new_first + incoming,
         kept_out,
     );
-    put_head(heads, size, rest);
-    anew_links(links, meta, incoming, outgoing, new_first, size);
-    own_block(owners, node.0, new_meta);
-    put_slot(nodes, wide(node.0), NodeSlot::new_node(new_meta));
-    let more = cut_range(links, first, capacity);
-    let old_head = head_at(heads, capacity);
-    chain_block(links, first, capacity, old_head);
-    fill(owners, meta.first_port.0, meta.capacity, 0);
-    put_head(heads, capacity, meta.first_port.0 + 1);
+    let left = count_links(taken, less(taken.link_count, cuts));
+    let after = settle_anew_in(
+        nodes,
+        links,
+        owners,
+        heads,
+        left,
+        node,
+        meta,
+        incoming,
+        outgoing,
+        new_first,
+        size,
+    );
     PortsSetIn {
-        counts: Counts {
-            node_free: counts.node_free,
-            node_len: counts.node_len,
-            port_len: grown(head, counts.port_len, size),
-            node_count: counts.node_count,
-            port_count: less(counts.port_count, old_in + old_out) + (incoming + outgoing),
-            link_count: less(less(counts.link_count, cuts), more),
-        },
+        counts: after,
         answer: SetAnswer::Set(events + (kept_in + kept_out)),
     }
 }
@@ -257,5 +369,122 @@ pub fn set_num_ports_in(
         outgoing,
         new_first,
         moves,
+    )
+}
+
+// Gives a node with these meta data other counts, and tells nothing.
+fn resize_quiet_in(
+    nodes: &mut [u32; NODE_WORDS],
+    links: &mut [u32; PORT_SLOTS],
+    owners: &mut [u32; PORT_SLOTS],
+    heads: &mut [u32; FREE_LISTS],
+    counts: Counts,
+    node: NodeIndex,
+    meta: NodeMeta,
+    incoming: usize,
+    outgoing: usize,
+) -> PortsSetIn
+    requires { ⌜ Resizes (graphIn (now nodes) (now links) (now owners) (now heads) counts) (node .0) meta incoming outgoing ⌝ }
+    ensures { λ r. ⌜ (graphIn (now (nodes .exit)) (now (links .exit)) (now (owners .exit)) (now (heads .exit)) (r .counts)
+        ≡ setNumPorts (graphIn (now (nodes .entry)) (now (links .entry)) (now (owners .entry)) (now (heads .entry)) counts) (node .0) incoming outgoing (3 * nodePorts) .graph)
+        × (r .answer ≡ setNumPorts (graphIn (now (nodes .entry)) (now (links .entry)) (now (owners .entry)) (now (heads .entry)) counts) (node .0) incoming outgoing (3 * nodePorts) .answer) ⌝ }
+{
+    if same_counts(meta, incoming, outgoing) {
+        return PortsSetIn {
+            counts: counts,
+            answer: SetAnswer::Set(0),
+        };
+    }
+    if fits_inside(meta, incoming, outgoing) {
+        let kept_in = smaller(wide16(meta.incoming), incoming);
+        let left = drop_quiet(links, counts, meta, incoming, outgoing);
+        let after = settle_inside_in(
+            nodes,
+            links,
+            owners,
+            heads,
+            left,
+            node,
+            meta,
+            incoming,
+            outgoing,
+        );
+        return PortsSetIn {
+            counts: after,
+            answer: SetAnswer::Set(less(meta.port_count(), kept_in)),
+        };
+    }
+    let size = round_up(incoming + outgoing);
+    let Found::At(new_first) = find_block(heads, counts.port_len, size) else {
+        return PortsSetIn {
+            counts: counts,
+            answer: SetAnswer::NoRoom,
+        };
+    };
+    let taken = take_block(links, heads, counts, new_first, size);
+    let left = drop_quiet(links, taken, meta, incoming, outgoing);
+    let after = settle_anew_in(
+        nodes,
+        links,
+        owners,
+        heads,
+        left,
+        node,
+        meta,
+        incoming,
+        outgoing,
+        new_first,
+        size,
+    );
+    PortsSetIn {
+        counts: after,
+        answer: SetAnswer::Set(meta.port_count()),
+    }
+}
+
+// PortGraph::set_num_ports over lent tables for a caller who does not read the move list: what it gives for one that is long enough.
+pub fn set_num_ports_quiet_in(
+    nodes: &mut [u32; NODE_WORDS],
+    links: &mut [u32; PORT_SLOTS],
+    owners: &mut [u32; PORT_SLOTS],
+    heads: &mut [u32; FREE_LISTS],
+    counts: Counts,
+    node: NodeIndex,
+    incoming: usize,
+    outgoing: usize,
+) -> PortsSetIn
+    requires { ⌜ Wf (graphIn (now nodes) (now links) (now owners) (now heads) counts) ⌝ }
+    ensures { λ r. ⌜ (graphIn (now (nodes .exit)) (now (links .exit)) (now (owners .exit)) (now (heads .exit)) (r .counts)
+        ≡ setNumPorts (graphIn (now (nodes .entry)) (now (links .entry)) (now (owners .entry)) (now (heads .entry)) counts) (node .0) incoming outgoing (3 * nodePorts) .graph)
+        × (r .answer ≡ setNumPorts (graphIn (now (nodes .entry)) (now (links .entry)) (now (owners .entry)) (now (heads .entry)) counts) (node .0) incoming outgoing (3 * nodePorts) .answer) ⌝ }
+{
+    if NODE_PORTS < incoming {
+        return PortsSetIn {
+            counts: counts,
+            answer: SetAnswer::TooManyPorts,
+        };
+    }
+    if NODE_PORTS - incoming < outgoing {
+        return PortsSetIn {
+            counts: counts,
+            answer: SetAnswer::TooManyPorts,
+        };
+    }
+    let MaybeNodeMeta::Some(meta) = meta_in(nodes, node.0) else {
+        return PortsSetIn {
+            counts: counts,
+            answer: SetAnswer::UnknownNode,
+        };
+    };
+    resize_quiet_in(
+        nodes,
+        links,
+        owners,
+        heads,
+        counts,
+        node,
+        meta,
+        incoming,
+        outgoing,
     )
 }

@@ -5,21 +5,20 @@ use crate::index::NODE_SLOTS;
 use crate::index::NodeIndex;
 use crate::index::PORT_SLOTS;
 use crate::index::PortIndex;
-use crate::index::wide;
 use crate::iter::Sides;
-use crate::iter::larger;
 use crate::iter::ports_from;
 use crate::iter::ports_to;
 use crate::node_entry::NodeEntry;
 use crate::node_entry::NodeSlot;
+use crate::numbers::larger;
+use crate::numbers::wide;
 use crate::portgraph::PortGraph;
 use crate::tables::at;
 ghost use mathlib.Core.Path.{_≡_};
 ghost use Prim.Native.Nat.{_-_};
 ghost use Rattle.portgraph.specs.Limits.{portSlots};
 ghost use Rattle.portgraph.specs.Model.{Wf};
-ghost use Rattle.portgraph.specs.LinkWalks.{farIn, ownerIn, isPortIn, heldIn, isKept, linkKept, isOf, linkTo, stepLinks, linksNumbers, startLinks, linksStartNumbers, stepNeighbours, neighboursNumbers, startNeighbours, neighboursStartNumbers, stepConnections, connectionsNumbers, startConnections, connectionsStartNumbers, stepAllPorts, allPortsNumbers};
-ghost use Rattle.portgraph.specs.LinkWalkSteps.{firstWhere, portsLeft, ownPorts};
+ghost use Rattle.portgraph.specs.LinkWalks.{farIn, ownerIn, isPortIn, heldIn, isKept, linkKept, isOf, linkTo, stepLinks, linksNumbers, startLinks, linksStartNumbers, stepNeighbours, neighboursNumbers, startNeighbours, neighboursStartNumbers, stepConnections, connectionsNumbers, startConnections, connectionsStartNumbers, stepAllPorts, allPortsNumbers, firstWhere, portsLeft, ownPorts};
 
 // A link, from the port where it was found.
 pub struct Link {

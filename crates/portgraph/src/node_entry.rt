@@ -1,7 +1,7 @@
 // What the node table holds: a node with its block of slots, or a free entry with its two neighbours in the list of free entries.
 use crate::direction::Direction;
 use crate::index::PortIndex;
-use crate::index::wide16;
+use crate::numbers::wide16;
 ghost use mathlib.Core.Path.{_≡_};
 ghost use Prim.Native.Nat.{_+_};
 ghost use Rattle.portgraph.specs.Entries.{isNode, nextOf, withPrev, freeSlotOf, nodeSlotOf, portsOn};

@@ -10,12 +10,14 @@ use crate::index::NodeIndex;
 use crate::index::PORT_SLOTS;
 use crate::index::PortIndex;
 use crate::index::PortOffset;
-use crate::index::wide;
-use crate::index::wide16;
 use crate::node_entry::MaybeNodeMeta;
 use crate::node_entry::NodeEntry;
 use crate::node_entry::NodeMeta;
 use crate::node_entry::NodeSlot;
+use crate::numbers::less;
+use crate::numbers::same_side;
+use crate::numbers::wide;
+use crate::numbers::wide16;
 use crate::port_entry::PortEntry;
 use crate::tables::at;
 use crate::tables::cut;
@@ -78,29 +80,6 @@ pub struct PortsLinked {
 pub struct PortUnlinked {
     pub graph: PortGraph,
     pub answer: PortLink,
-}
-
-// Whether two directions are the same.
-pub(crate) fn same_side(a: Direction, b: Direction) -> bool
-    ensures { λ r. ⌜ r ≡ sameSide a b ⌝ }
-{
-    match a {
-        Direction::Incoming => match b {
-            Direction::Incoming => true,
-            Direction::Outgoing => false,
-        },
-        Direction::Outgoing => match b {
-            Direction::Incoming => false,
-            Direction::Outgoing => true,
-        },
-    }
-}
-
-// The difference, 0 at the least.
-pub(crate) fn less(a: usize, b: usize) -> usize
-    ensures { λ r. ⌜ r ≡ a - b ⌝ }
-{
-    if a < b { 0 } else { a - b }
 }
 
 impl PortGraph {

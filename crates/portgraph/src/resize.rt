@@ -4,13 +4,14 @@ use crate::index::NODE_SLOTS;
 use crate::index::NodeIndex;
 use crate::index::PORT_SLOTS;
 use crate::index::PortIndex;
-use crate::index::wide;
-use crate::index::wide16;
 use crate::node_entry::NodeEntry;
 use crate::node_entry::NodeMeta;
 use crate::node_entry::NodeSlot;
+use crate::numbers::less;
+use crate::numbers::smaller;
+use crate::numbers::wide;
+use crate::numbers::wide16;
 use crate::portgraph::PortGraph;
-use crate::portgraph::less;
 use crate::slots::Found;
 use crate::slots::find_block;
 use crate::slots::grown;
@@ -51,13 +52,6 @@ pub enum SetAnswer {
 pub struct PortsSet {
     pub graph: PortGraph,
     pub answer: SetAnswer,
-}
-
-// The smaller of two numbers.
-pub(crate) fn smaller(a: usize, b: usize) -> usize
-    ensures { λ r. ⌜ r ≡ min a b ⌝ }
-{
-    if a <= b { a } else { b }
 }
 
 // A total rounded up to a power of two; 1 for a total of 0.

@@ -3,9 +3,10 @@
 use crate::index::FREE_LISTS;
 use crate::index::NODE_PORTS;
 use crate::index::PORT_SLOTS;
-use crate::index::wide;
-use crate::index::wide16;
 use crate::node_entry::NodeMeta;
+use crate::numbers::less;
+use crate::numbers::wide;
+use crate::numbers::wide16;
 ghost use mathlib.Core.Path.{_≡_};
 ghost use Prim.Native.Nat.{_+_, _-_, _*_, _≤_};
 ghost use lib.ListN.{set};
@@ -29,6 +30,13 @@ pub(crate) fn put(table: &mut [u32; PORT_SLOTS], slot: usize, value: u32)
     if slot < PORT_SLOTS {
         table[slot] = value;
     }
+}
+
+// The number of links after one is cut, by what the link table held; no link is one that was there.
+pub fn without_link(count: usize, far: u32) -> usize
+    ensures { λ r. ⌜ r ≡ count - linkCount far ⌝ }
+{
+    if far == 0 { count } else { less(count, 1) }
 }
 
 // Sets `count` slots from `first` on; a range that runs past the table is left alone.

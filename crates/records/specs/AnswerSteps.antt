@@ -1,16 +1,16 @@
 -- What the requests' tests say, and numbers that fit a word.
-use mathlib.Core.Path.{_≡_, refl, subst}
-use mathlib.Core.Bool.{Bool, true, false}
+use mathlib.Core.Path.{_≡_, refl, sym, subst}
+use mathlib.Core.Bool.{Bool, true, false, cond}
 use mathlib.Core.List.{List, [], _∷_}
 use Prim.Native.Nat.{ℕ, _+_, _*_, _≤_, _<_}
 use native.Mathlib.Omega.{arith}
 use lib.Dec.{leb}
 use borrow.Author.Tests.{leb-true, lt-ltb, le-ltb, eq-eqb, ne-eqb}
-use Rattle.portgraph.specs.Limits.{nodePorts}
-use Rattle.portgraph.specs.Entries.{pick, sideNumber}
+use Rattle.portgraph.specs.Limits.{nodePorts, present}
+use Rattle.portgraph.specs.Entries.{sideNumber}
 use Rattle.portgraph.specs.Lookups.{entryAt, metaAt}
 use Rattle.portgraph.specs.Calls.{findBlock}
-use Rattle.portgraph.specs.Resize.{Plan, refuse, same, inside, anew, planBlock, planCounts, planEntry, planOf, sameCounts, fitsInside, roundUp, setBy, setNumPorts}
+use Rattle.portgraph.specs.Resize.{Plan, refuse, same, inside, anew, planBlock, planCounts, planEntry, planOf, sameCounts, fitsInside, roundUp, setBy, setNumPorts, setNumPortsUnder, planOfUnder}
 use Rattle.portgraph.specs.WfFacts.{node-count-fits, port-count-fits, link-count-fits}
 use Rattle.portgraph.specs.declared.direction.Direction.{Direction}
 use Rattle.portgraph.specs.declared.index.PortIndex.{PortIndex}
@@ -25,10 +25,11 @@ use Rattle.portgraph.specs.declared.slots.Found.the-variants as found
 use Rattle.portgraph.specs.declared.resize.SetAnswer as lower-set-answer
 use Rattle.portgraph.specs.declared.resize.SetAnswer.the-variants as lower-set
 use Rattle.multiportgraph.specs.Reading.{isHidden}
-use Rattle.multiportgraph.specs.Calls.{refusalNumbers, enough, setRefused, setAs, setMeta, setCounts, visibleNodes, visiblePorts, visibleLinks}
-use Rattle.multiportgraph.specs.Book.{addCall, removeCall, setCall, linkCall, linkSubCall, cutCall, cutSubCall}
+use Rattle.multiportgraph.specs.Calls.{setAs, setCounts, visibleNodes, visiblePorts, visibleLinks, setCountsUnder}
+use Rattle.theorems.specs.Book.{addCall, removeCall, setCall, linkCall, linkSubCall, cutCall, cutSubCall}
 use Rattle.multiportgraph.specs.Inner.{MultiWf}
 use Rattle.multiportgraph.specs.PrepareSteps.{lower-wf}
+use Rattle.multiportgraph.specs.declared.multiportgraph.PortsSet.{PortsSet}
 use Rattle.multiportgraph.specs.declared.multiportgraph.MultiPortGraph.{MultiPortGraph}
 use Rattle.multiportgraph.specs.declared.multiportgraph.Refusal.{Refusal}
 use Rattle.multiportgraph.specs.declared.multiportgraph.Refusal.the-variants.{TooManyPorts, HiddenNode, IncompatibleDirections}
@@ -37,10 +38,14 @@ use Rattle.multiportgraph.specs.declared.multiportgraph.SetAnswer.the-variants 
 use Rattle.records.specs.Words.{wordAt, requestAt}
 use Rattle.records.specs.Run.{Asked, call, linkOf, counts, refused, allZero, offsets, asked, askedBy, numbers, five}
 use Rattle.records.specs.Forms.{EventsFit}
+use Rattle.multiportgraph.specs.Answers.{refusalNumbers}
+use Rattle.multiportgraph.specs.HiddenNodes.{enough}
+use Rattle.multiportgraph.specs.Cases.{setRefused, setMeta}
+use Rattle.multiportgraph.specs.CaseLaws.{set-cases}
 
 -- Event counts: a resize tells each port of the node at most once, and the move list has room for three numbers each.
 
-either : {A : Type 0} (P : A → Type 0) (t : Bool) (x y : A) → (t ≡ true → P x) → P y → P (pick t x y)
+either : {A : Type 0} (P : A → Type 0) (t : Bool) (x y : A) → (t ≡ true → P x) → P y → P (cond t x y)
 either P true x y h k = h refl
 either P false x y h k = k
 
@@ -74,7 +79,7 @@ module _ (g : PortGraph) (n incoming outgoing room : ℕ) (small : room < 429496
       tt
 
   plan-fits : PlanFits room (planOf g n incoming outgoing room)
-  unfolding planOf
+  unfolding planOfUnder
   plan-fits =
       either (PlanFits room) (leb (incoming + outgoing) nodePorts) (planEntry g incoming outgoing room (entryAt g n)) (refuse lower-set.TooManyPorts)
       (λ _. entry-fits (entryAt g n)) tt
@@ -86,7 +91,7 @@ module _ (g : PortGraph) (n incoming outgoing room : ℕ) (small : room < 429496
   by-fits (anew k first) h = omega arith
 
   lower-fits : LowerFit (setNumPorts g n incoming outgoing room .answer)
-  unfolding setNumPorts
+  unfolding setNumPortsUnder
   lower-fits = by-fits (planOf g n incoming outgoing room) plan-fits
 
 as-fits : (a : lower-set-answer.SetAnswer) → LowerFit a → EventsFit (setAs a)
@@ -104,10 +109,10 @@ module _ (m : MultiPortGraph) (n incoming outgoing room : ℕ) (small : room < 4
       (as-fits (setNumPorts (m .graph) n incoming outgoing room .answer) (lower-fits (m .graph) n incoming outgoing room small))
 
   pub events-fit : EventsFit (setCounts m n incoming outgoing room .answer)
-  unfolding setCounts
   events-fit =
-      either (λ s. EventsFit (s .answer)) (leb (incoming + outgoing) nodePorts) (setMeta m n incoming outgoing room (metaAt (m .graph) n)) (setRefused m TooManyPorts)
-      (λ _. meta-fits (metaAt (m .graph) n)) tt
+      subst (λ (s : PortsSet). EventsFit (s .answer)) (sym (set-cases present m n incoming outgoing room))
+      (either (λ s. EventsFit (s .answer)) (leb (incoming + outgoing) nodePorts) (setMeta m n incoming outgoing room (metaAt (m .graph) n)) (setRefused m TooManyPorts)
+      (λ _. meta-fits (metaAt (m .graph) n)) tt)
 
 -- The visible counts fit a word.
 module _ (m : MultiPortGraph) (w : MultiWf m) where
@@ -131,7 +136,7 @@ zero-not w l h = rw (ne-eqb w 0 h)
 pub zero-so : (w : ℕ) (l : List ℕ) (r : Bool) → w ≡ 0 → r ≡ allZero l → r ≡ allZero (w ∷ l)
 zero-so w l r h e = rw (eq-eqb w 0 h) e
 
-pub zero-last : (t : Bool) → t ≡ pick t true false
+pub zero-last : (t : Bool) → t ≡ cond t true false
 zero-last true = refl
 zero-last false = refl
 
@@ -143,23 +148,23 @@ offset-good o l x y h e = rw (lt-ltb o 65535 h) e
 
 -- What each code asks.
 module _ (code a b c d : ℕ) (x : Asked) where
-  pub asks-add : (t : Bool) → code ≡ 1 → t ≡ allZero (0 ∷ 0 ∷ c ∷ d ∷ []) → x ≡ pick t (call (addCall a b)) refused → x ≡ askedBy code a b c d
+  pub asks-add : (t : Bool) → code ≡ 1 → t ≡ allZero (0 ∷ 0 ∷ c ∷ d ∷ []) → x ≡ cond t (call (addCall a b)) refused → x ≡ askedBy code a b c d
   unfolding askedBy
   asks-add t p e h = rw (p, ← e) h
 
-  pub asks-remove : (t : Bool) → code ≡ 2 → t ≡ allZero (0 ∷ b ∷ c ∷ d ∷ []) → x ≡ pick t (call (removeCall a)) refused → x ≡ askedBy code a b c d
+  pub asks-remove : (t : Bool) → code ≡ 2 → t ≡ allZero (0 ∷ b ∷ c ∷ d ∷ []) → x ≡ cond t (call (removeCall a)) refused → x ≡ askedBy code a b c d
   unfolding askedBy
   asks-remove t p e h = rw (p, ← e) h
 
-  pub asks-resize : (t : Bool) → code ≡ 3 → t ≡ allZero (0 ∷ 0 ∷ 0 ∷ d ∷ []) → x ≡ pick t (call (setCall a b c enough)) refused → x ≡ askedBy code a b c d
+  pub asks-resize : (t : Bool) → code ≡ 3 → t ≡ allZero (0 ∷ 0 ∷ 0 ∷ d ∷ []) → x ≡ cond t (call (setCall a b c enough)) refused → x ≡ askedBy code a b c d
   unfolding askedBy
   asks-resize t p e h = rw (p, ← e) h
 
-  pub asks-link : (t : Bool) → code ≡ 4 → t ≡ allZero (0 ∷ 0 ∷ c ∷ d ∷ []) → x ≡ pick t (call (linkCall a b)) refused → x ≡ askedBy code a b c d
+  pub asks-link : (t : Bool) → code ≡ 4 → t ≡ allZero (0 ∷ 0 ∷ c ∷ d ∷ []) → x ≡ cond t (call (linkCall a b)) refused → x ≡ askedBy code a b c d
   unfolding askedBy
   asks-link t p e h = rw (p, ← e) h
 
-  pub asks-unlink : (t : Bool) → code ≡ 5 → t ≡ allZero (0 ∷ b ∷ c ∷ d ∷ []) → x ≡ pick t (call (cutCall a)) refused → x ≡ askedBy code a b c d
+  pub asks-unlink : (t : Bool) → code ≡ 5 → t ≡ allZero (0 ∷ b ∷ c ∷ d ∷ []) → x ≡ cond t (call (cutCall a)) refused → x ≡ askedBy code a b c d
   unfolding askedBy
   asks-unlink t p e h = rw (p, ← e) h
 
@@ -167,15 +172,15 @@ module _ (code a b c d : ℕ) (x : Asked) where
   unfolding askedBy
   asks-link-subports p h = rw p h
 
-  pub asks-unlink-subport : (t : Bool) (y : Asked) → code ≡ 7 → t ≡ allZero (0 ∷ 0 ∷ c ∷ d ∷ []) → y ≡ offsets (b ∷ []) (call (cutSubCall a b)) → x ≡ pick t y refused → x ≡ askedBy code a b c d
+  pub asks-unlink-subport : (t : Bool) (y : Asked) → code ≡ 7 → t ≡ allZero (0 ∷ 0 ∷ c ∷ d ∷ []) → y ≡ offsets (b ∷ []) (call (cutSubCall a b)) → x ≡ cond t y refused → x ≡ askedBy code a b c d
   unfolding askedBy
   asks-unlink-subport t y p e f h = rw (p, ← e, ← f) h
 
-  pub asks-subport-link : (t : Bool) (y : Asked) → code ≡ 8 → t ≡ allZero (0 ∷ 0 ∷ c ∷ d ∷ []) → y ≡ offsets (b ∷ []) (linkOf a b) → x ≡ pick t y refused → x ≡ askedBy code a b c d
+  pub asks-subport-link : (t : Bool) (y : Asked) → code ≡ 8 → t ≡ allZero (0 ∷ 0 ∷ c ∷ d ∷ []) → y ≡ offsets (b ∷ []) (linkOf a b) → x ≡ cond t y refused → x ≡ askedBy code a b c d
   unfolding askedBy
   asks-subport-link t y p e f h = rw (p, ← e, ← f) h
 
-  pub asks-counts : (t : Bool) → code ≡ 9 → t ≡ allZero (a ∷ b ∷ c ∷ d ∷ []) → x ≡ pick t counts refused → x ≡ askedBy code a b c d
+  pub asks-counts : (t : Bool) → code ≡ 9 → t ≡ allZero (a ∷ b ∷ c ∷ d ∷ []) → x ≡ cond t counts refused → x ≡ askedBy code a b c d
   unfolding askedBy
   asks-counts t p e h = rw (p, ← e) h
 

@@ -1,54 +1,48 @@
--- One request on a graph: what it answers and leaves, and that what it leaves is again a graph of the calls.
-use mathlib.Core.Path.{_≡_, sym, subst, ap, _∙_}
-use mathlib.Core.List.{List}
+-- One request on a graph: what is asked is answered, and what it leaves is again a graph of the calls.
+use mathlib.Core.Path.{_≡_, refl, sym, ap, subst, _∙_}
+use mathlib.Core.List.{List, [], _∷_}
 use Prim.Native.Nat.{ℕ, _<_}
-use Rattle.multiportgraph.specs.Calls.{emptyGraph, setCounts, enough, setNumbers}
-use Rattle.multiportgraph.specs.Book.{setCall}
+use Rattle.multiportgraph.specs.Calls.{setCounts, visibleNodes, visiblePorts, visibleLinks}
+use Rattle.theorems.specs.Book.{setCall}
 use Rattle.multiportgraph.specs.Inner.{MultiWf}
-use Rattle.multiportgraph.specs.Kept.{empty-kept, set-kept, step-kept}
+use Rattle.theorems.specs.CallLaws.{empty-kept, step-kept}
 use Rattle.multiportgraph.specs.declared.multiportgraph.MultiPortGraph.{MultiPortGraph}
 use Rattle.multiportgraph.specs.declared.multiportgraph.PortsSet.{PortsSet}
-use Rattle.records.specs.Run.{Asked, call, linkOf, counts, refused, after, numbers, five}
-use Rattle.records.specs.Forms.{meant, EventsFit}
-use Rattle.records.specs.AnswerSteps.{events-fit}
-use Rattle.records.specs.RunSteps.{Done}
-use Rattle.records.specs.declared.requests.Ask.{Ask}
-use Rattle.records.specs.declared.requests.Ask.the-variants as ask
+use Rattle.multiportgraph.specs.declared.multiportgraph.SetAnswer.{SetAnswer}
+use Rattle.records.specs.Run.{Asked, call, linkOf, counts, refused, after, numbers, five, Answered}
+use Rattle.records.specs.Forms.{EventsFit}
+use Rattle.records.specs.AnswerSteps.{events-fit, counts-told}
+use Rattle.multiportgraph.specs.Graph.{emptyGraph}
+use Rattle.multiportgraph.specs.Answers.{setNumbers}
+use Rattle.multiportgraph.specs.HiddenNodes.{enough}
 
-pub record Answered (m : MultiPortGraph) (x : Asked) (words : List ℕ) (m′ : MultiPortGraph) : Type 0 where
-  pub told : words ≡ five (numbers m x)
-  pub graph : m′ ≡ after m x
-  pub kept : MultiWf m′
+after-kept : {m : MultiPortGraph} → MultiWf m → (x : Asked) → MultiWf (after m x)
+after-kept {m} w (call c) = step-kept m c w
+after-kept w (linkOf p o) = w
+after-kept w counts = w
+after-kept w refused = w
 
-after-kept : (m : MultiPortGraph) (x : Asked) → MultiWf m → MultiWf (after m x)
-after-kept m (call c) w = step-kept m c w
-after-kept m (linkOf p o) w = w
-after-kept m counts w = w
-after-kept m refused w = w
+-- the words and the graph are those of what is asked
+pub answered : {m m′ : MultiPortGraph} {ws : List ℕ} {x y : Asked} → MultiWf m → x ≡ y → ws ≡ five (numbers m y) → m′ ≡ after m y → Answered m x ws m′
+answered {y = y} w e t g = record { told = rw e t; graph = rw e g; kept = subst MultiWf (sym g) (after-kept w y) }
 
--- what the run does with a request is what is asked
-pub answered : {m m′ : MultiPortGraph} {ws : List ℕ} {a : Ask} {x : Asked} → MultiWf m → meant a ≡ x → Done m a ws m′ → Answered m x ws m′
-answered {m} {m′} {ws} {a} w e d =
-    record {
-      told = rw (← e) (d .told);
-      graph = rw (← e) (d .graph);
-      kept = subst MultiWf (sym (d .graph)) (after-kept m (meant a) w);
-    }
+pub counts-answered : {m : MultiPortGraph} {ws : List ℕ} {x : Asked} {n p l : ℕ} → MultiWf m → x ≡ counts
+    → n ≡ visibleNodes m → p ≡ visiblePorts m → l ≡ visibleLinks m → ws ≡ 0 ∷ n ∷ p ∷ l ∷ 0 ∷ [] → Answered m x ws m
+counts-answered {m} w e f g h t = answered w e (counts-told m _ _ _ _ f g h t) refl
 
-pub resize-answered : {m m′ : MultiPortGraph} {ws : List ℕ} {a : Ask} {x : Asked} {n i o : ℕ} → meant a ≡ x → a ≡ ask.Resize n i o → Answered m (call (setCall n i o enough)) ws m′ → Answered m x ws m′
-resize-answered {m} {m′} {ws} e f r = subst (λ (y : Asked). Answered m y ws m′) (sym (ap meant f) ∙ e) r
+-- a resize with a move list that is long enough
+pub set-answered : {m m′ : MultiPortGraph} {ws : List ℕ} {x : Asked} {n i o room : ℕ} {a : SetAnswer} → MultiWf m → x ≡ call (setCall n i o enough)
+    → room ≡ enough → a ≡ setCounts m n i o room .answer → ws ≡ five (setNumbers a) → m′ ≡ setCounts m n i o room .graph → Answered m x ws m′
+set-answered {m} {n = n} {i = i} {o = o} w e q f t g =
+    let z = ap (setCounts m n i o) q in
+    answered w e (t ∙ ap (λ (k : SetAnswer). five (setNumbers k)) f ∙ ap (λ (r : PortsSet). five (setNumbers (r .answer))) z) (g ∙ ap (λ (r : PortsSet). r .graph) z)
 
 pub empty-wf : (m : MultiPortGraph) → m ≡ emptyGraph → MultiWf m
 empty-wf m e = rw e empty-kept
 
 pub set-wf : (m : MultiPortGraph) (n i o room : ℕ) (r : PortsSet) → MultiWf m → r ≡ setCounts m n i o room → MultiWf (r .graph)
-set-wf m n i o room r w e = rw e (set-kept m n i o room w)
+set-wf m n i o room r w e = rw e (step-kept m (setCall n i o room) w)
 
-pub set-fits : (m : MultiPortGraph) (n i o room : ℕ) (r : PortsSet) → r ≡ setCounts m n i o room → room < 4294967296 → EventsFit (r .answer)
-set-fits m n i o room r e small = rw e (events-fit m n i o room small)
-
-pub set-answered : (m : MultiPortGraph) (n i o room : ℕ) (r : PortsSet) (ws : List ℕ) → r ≡ setCounts m n i o room → room ≡ enough → ws ≡ five (setNumbers (r .answer)) → MultiWf (r .graph)
-    → Answered m (call (setCall n i o enough)) ws (r .graph)
-set-answered m n i o room r ws e q h w =
-    let z : r ≡ setCounts m n i o enough = rw q at e in
-    record { told = rw (← z) h; graph = rw z; kept = w }
+-- the event count of a resize fits a word
+pub set-fits : (m : MultiPortGraph) (n i o room : ℕ) {a : SetAnswer} → a ≡ setCounts m n i o room .answer → room < 4294967296 → EventsFit a
+set-fits m n i o room e small = rw e (events-fit m n i o room small)

@@ -1,22 +1,31 @@
 -- The record run: request bytes in, answer bytes out.
 --
--- Where to begin, over the definitions of the multiport graph:
---   Words       bytes, words and requests
---   Run         what a request asks, its answer, the run from the empty graph, and refusal 1
--- Forms has the enum and the struct in which the code holds what these say.
--- Then the laws, each over every list of requests with no other premise:
---   run-is-history, run-obeys-wire-rule, answer-of-history (RunLaws): the graphs of a run are those of the history of its
---   calls, with refused and reading requests left out, so that the wire rule speaks of them
---   six-never-given (RoomLaws): the run's own move list is long enough
---   words-read-back (WordSteps): the words are read back from their bytes
+-- What must be believed: that these definitions, over those of the multiport graph, say what document 01 says.
+--   Words         bytes, words and requests
+--   Run           what a request asks, its answer, the run from the empty graph, the calls of a list, and refusal 1
+--   Forms         the enum and the struct in which the code holds what Run says
+--
+-- What is proved, and need not be believed: everything else. The laws hold of every list of requests, with no other premise:
+--   WordLaws      words-read-back: the words are read back from their bytes
+--   RunLaws       run-is-history, run-obeys-wire-rule, answer-of-history: the graphs of a run are those of the history of its
+--                 calls, with refused and reading requests left out, so that the wire rule speaks of them
+--   RoomLaws      six-never-given: the run's own move list is long enough
+-- Steps that the functions' proofs cite:
+--   WordSteps     the bytes that the leaves lay
+--   AnswerSteps   what the tests on a request say, and numbers that fit a word
+--   AskSteps      one request on a graph
+--   RunSteps      the turns of a run, with what stays true in them (Running), and refusal 1
+--   LentSteps     the tables that the run over lent tables starts with
 pub mod Words
 pub mod Run
 pub mod Forms
+-- laws
+pub mod WordLaws
 pub mod RunLaws
 pub mod RoomLaws
--- steps that the functions' proofs cite
+-- steps
 pub mod WordSteps
 pub mod AnswerSteps
-pub mod RunSteps
 pub mod AskSteps
+pub mod RunSteps
 pub mod LentSteps

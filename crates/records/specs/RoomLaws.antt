@@ -1,23 +1,20 @@
 -- The move list of a run is long enough for every node, so refusal 6 is never given in a run.
 use mathlib.Core.Path.{_≡_, refl, ap}
-use mathlib.Core.Bool.{Bool, true, false}
+use mathlib.Core.Bool.{Bool, true, false, cond}
 use mathlib.Core.List.{List, [], _∷_}
 use Prim.Native.Nat.{ℕ}
 use native.Mathlib.Omega.{arith}
 use lib.Dec.{eqb}
 use lib.ListN.{getD}
-use Rattle.portgraph.specs.Entries.{pick}
 use Rattle.portgraph.specs.Model.{Model}
 use Rattle.portgraph.specs.GoodSlots.{zero-is-not-one}
-use Rattle.multiportgraph.specs.Calls.{enough, refusalNumbers, cutNumbers, subportLink}
-use Rattle.multiportgraph.specs.Book as book
-use Rattle.multiportgraph.specs.Book.{Call, Answer, addAnswer, removeAnswer, setAnswer, linkAnswer, cutAnswer}
-use Rattle.multiportgraph.specs.History.{step, run}
-use Rattle.multiportgraph.specs.Bench.{numbersOf}
+use Rattle.multiportgraph.specs.Calls.{subportLink}
+use Rattle.theorems.specs.Book as book
+use Rattle.theorems.specs.Book.{Call, AnswerOf}
+use Rattle.theorems.specs.History.{step, run, numbersOf}
 use Rattle.multiportgraph.specs.Inner.{Fine}
-use Rattle.multiportgraph.specs.WireRule.{rel-run}
-use Rattle.multiportgraph.specs.RefusalLaws as laws
-use Rattle.multiportgraph.specs.RefusalLaws.{AddRefused, RemoveRefused, SetRefused, CutRefused, SubRefused, LinkRefused, LinkSubRefused, RefusedBy, Condition, refused-under-no-other, subport-link-refused}
+use Rattle.theorems.specs.CallLaws.{rel-run, refused-under-no-other}
+use Rattle.theorems.specs.Conditions as laws
 use Rattle.multiportgraph.specs.declared.multiportgraph.MultiPortGraph.{MultiPortGraph}
 use Rattle.multiportgraph.specs.declared.multiportgraph.Refusal.{Refusal}
 use Rattle.multiportgraph.specs.declared.multiportgraph.Refusal.the-variants.{BadOffset, TooManyPorts, UnknownNode, HiddenNode, MovesTooShort, UnknownPort, HiddenPort, UnknownOffset, NoRoom, UnknownSecondPort, IncompatibleDirections, AlreadyLinked}
@@ -28,8 +25,11 @@ use Rattle.multiportgraph.specs.declared.multiportgraph.LinkAnswer.the-variants
 use Rattle.multiportgraph.specs.declared.multiportgraph.CutAnswer.{CutAnswer}
 use Rattle.multiportgraph.specs.declared.multiportgraph.CutAnswer.the-variants as cutting
 use Rattle.records.specs.Words.{Request}
-use Rattle.records.specs.Run.{Asked, call, linkOf, counts, refused, allZero, goodOffsets, asked, askedBy, numbers}
-use Rattle.records.specs.RunLaws.{callsOf}
+use Rattle.records.specs.Run.{Asked, call, linkOf, counts, refused, allZero, goodOffsets, asked, askedBy, numbers, callsOf}
+use Rattle.multiportgraph.specs.HiddenNodes.{enough}
+use Rattle.multiportgraph.specs.Answers.{refusalNumbers, cutNumbers}
+use Rattle.theorems.specs.Conditions.{AddRefused, RemoveRefused, SetRefused, CutRefused, SubRefused, LinkRefused, LinkSubRefused, RefusedBy, Condition}
+use Rattle.theorems.specs.CutSubCall.{subport-link-refused}
 
 -- the refusal with number 6
 refusal-six : (r : Refusal) → getD (refusalNumbers r) 0 0 ≡ 6 → r ≡ MovesTooShort
@@ -51,16 +51,19 @@ cut-six (cutting.Found s) h = absurd (omega arith)
 cut-six cutting.Nothing h = absurd (omega arith)
 cut-six (cutting.Refused r) h = ap cutting.Refused (refusal-six r h)
 
-answer-six : (a : Answer) → getD (numbersOf a) 0 0 ≡ 6 → RefusedBy a MovesTooShort
-answer-six (addAnswer (add.Added n p)) h = absurd (omega arith)
-answer-six (addAnswer (add.Refused r)) h = ap add.Refused (refusal-six r h)
-answer-six (removeAnswer remove.Removed) h = absurd (omega arith)
-answer-six (removeAnswer (remove.Refused r)) h = ap remove.Refused (refusal-six r h)
-answer-six (setAnswer (resize.Set e)) h = absurd (omega arith)
-answer-six (setAnswer (resize.Refused r)) h = ap resize.Refused (refusal-six r h)
-answer-six (linkAnswer (link.Linked s t)) h = absurd (omega arith)
-answer-six (linkAnswer (link.Refused r)) h = ap link.Refused (refusal-six r h)
-answer-six (cutAnswer a) h = cut-six a h
+answer-six : (c : Call) (v : AnswerOf c) → getD (numbersOf c v) 0 0 ≡ 6 → RefusedBy c v MovesTooShort
+answer-six (book.addCall i o) (add.Added n p) h = absurd (omega arith)
+answer-six (book.addCall i o) (add.Refused r) h = ap add.Refused (refusal-six r h)
+answer-six (book.removeCall n) remove.Removed h = absurd (omega arith)
+answer-six (book.removeCall n) (remove.Refused r) h = ap remove.Refused (refusal-six r h)
+answer-six (book.setCall n i o room) (resize.Set e) h = absurd (omega arith)
+answer-six (book.setCall n i o room) (resize.Refused r) h = ap resize.Refused (refusal-six r h)
+answer-six (book.linkCall a b) (link.Linked s t) h = absurd (omega arith)
+answer-six (book.linkCall a b) (link.Refused r) h = ap link.Refused (refusal-six r h)
+answer-six (book.linkSubCall p o q r) (link.Linked s t) h = absurd (omega arith)
+answer-six (book.linkSubCall p o q r) (link.Refused z) h = ap link.Refused (refusal-six z h)
+answer-six (book.cutCall p) v h = cut-six v h
+answer-six (book.cutSubCall p o) v h = cut-six v h
 
 -- only a resize gives it, and only with a shorter move list
 abbrev Roomy : Call → Type 0
@@ -141,12 +144,12 @@ AskedRoomy refused = Unit {0}
 record HasRoom (x : Asked) : Type 0 where
   roomy : AskedRoomy x
 
-either : (t : Bool) {x y : Asked} → HasRoom x → HasRoom y → HasRoom (pick t x y)
+either : (t : Bool) {x y : Asked} → HasRoom x → HasRoom y → HasRoom (cond t x y)
 either true h k = h
 either false h k = k
 
 -- refusal 2 unless a test holds
-tested : (t : Bool) {x : Asked} → HasRoom x → HasRoom (pick t x refused)
+tested : (t : Bool) {x : Asked} → HasRoom x → HasRoom (cond t x refused)
 tested t h = either t h (record { roomy = tt })
 
 free : (c : Call) → Roomy c → HasRoom (call c)
@@ -166,7 +169,7 @@ asked-has-room code a b c d =
     (tested (eqb code 9) (tested (allZero (a ∷ b ∷ c ∷ d ∷ [])) {x = counts} (record { roomy = tt }))))))))))
 
 numbers-not-six : {m : MultiPortGraph} {M : Model} → Fine m M → (x : Asked) → AskedRoomy x → getD (numbers m x) 0 0 ≡ 6 → ⊥
-numbers-not-six {m} f (call c) z h = never f c z (refused-under-no-other f c MovesTooShort (answer-six (step m c .answer) h))
+numbers-not-six {m} f (call c) z h = never f c z (refused-under-no-other f c MovesTooShort (answer-six c (step m c .answer) h))
 numbers-not-six {m} f (linkOf p o) z h = sub-never f p o MovesTooShort (subport-link-refused f p o MovesTooShort (cut-six (subportLink m p o) h)) refl
 numbers-not-six f counts z h = omega arith
 numbers-not-six f refused z h = omega arith

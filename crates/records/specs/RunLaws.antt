@@ -2,27 +2,14 @@
 -- so that the wire rule speaks of them.
 use mathlib.Core.Path.{_≡_, refl, sym, ap, _∙_, subst}
 use mathlib.Core.List.{List, [], _∷_, _++_}
-use Rattle.portgraph.specs.Model.{Model}
-use Rattle.multiportgraph.specs.Calls.{emptyGraph}
-use Rattle.multiportgraph.specs.Inner.{MultiWf}
-use Rattle.multiportgraph.specs.Book.{Call, Book, emptyBook}
-use Rattle.multiportgraph.specs.History.{State, step, next, run, runFrom, WireRule}
-use Rattle.multiportgraph.specs.WireRule.{Rel, rel-start, rel-step}
-use Rattle.multiportgraph.specs.Theorems.{wire-rule}
+use Rattle.theorems.specs.Book.{emptyBook}
+use Rattle.theorems.specs.History.{State, next, run, runFrom}
+use Rattle.theorems.specs.Theorems.{wire-rule}
 use Rattle.multiportgraph.specs.declared.multiportgraph.MultiPortGraph.{MultiPortGraph}
 use Rattle.records.specs.Words.{Request}
-use Rattle.records.specs.Run.{Asked, call, linkOf, counts, refused, asked, after, numbers, five, answersFrom, graphFrom}
-
--- the calls that give back a graph
-abbrev pub callThen : Asked → List Call → List Call
-callThen (call x) l = x ∷ l
-callThen (linkOf p o) l = l
-callThen counts l = l
-callThen refused l = l
-
-unfoldable pub callsOf : List Request → List Call
-callsOf [] = []
-callsOf (q ∷ l) = callThen (asked q) (callsOf l)
+use Rattle.records.specs.Run.{Asked, call, linkOf, counts, refused, asked, after, numbers, five, answersFrom, graphFrom, callThen, callsOf}
+use Rattle.multiportgraph.specs.Graph.{emptyGraph}
+use Rattle.theorems.specs.Claims.{WireRule}
 
 -- from any state of a history
 run-from : (l : List Request) (s : State) → graphFrom (s .graph) l ≡ runFrom s (callsOf l) .graph
@@ -62,24 +49,3 @@ unfolding answersFrom
 answer-of-history l q k =
     answers-go-on emptyGraph l (q ∷ k)
     ∙ ap (λ m. answersFrom emptyGraph l ++ (five (numbers m (asked q)) ++ answersFrom (after m (asked q)) k)) (run-is-history l)
-
--- What the run keeps: a graph with a book that goes with it.
-pub record Kept (m : MultiPortGraph) : Type 0 where
-  pub model : Model
-  pub book : Book
-  pub rel : Rel m model book
-
-pub kept-empty : Kept emptyGraph
-kept-empty = record { model = _; book = emptyBook; rel = rel-start }
-
-pub kept-step : {m : MultiPortGraph} → Kept m → (c : Call) → Kept (step m c .graph)
-kept-step k c = let r = rel-step (k .rel) c in record { model = r .0; book = _; rel = r .1 }
-
-pub kept-after : {m : MultiPortGraph} → Kept m → (x : Asked) → Kept (after m x)
-kept-after k (call c) = kept-step k c
-kept-after k (linkOf p o) = k
-kept-after k counts = k
-kept-after k refused = k
-
-pub kept-wf : {m : MultiPortGraph} → Kept m → MultiWf m
-kept-wf k = record { model = k .model; fine = k .rel .fine }

@@ -14,11 +14,11 @@ ghost use Prim.Native.Nat.{_+_, _≤_};
 ghost use lib.ListN.{length};
 ghost use lib.Seq.{sets};
 ghost use Rattle.portgraph.specs.Entries.{sideNumber};
-ghost use Rattle.multiportgraph.specs.Calls.{refusalNumbers, addNumbers, removeNumbers, setNumbers, linkNumbers, cutNumbers};
 ghost use Rattle.multiportgraph.specs.Inner.{MultiWf};
 ghost use Rattle.records.specs.Words.{bytesOf};
 ghost use Rattle.records.specs.Run.{counts, numbers, five};
 ghost use Rattle.records.specs.Forms.{words5, EventsFit};
+ghost use Rattle.multiportgraph.specs.Answers.{refusalNumbers, addNumbers, removeNumbers, setNumbers, linkNumbers, cutNumbers};
 
 // 0 or the refusal, then values, the rest 0.
 pub struct Answer5 {

@@ -1,5 +1,5 @@
-// One request on a graph that the caller holds, for the programs: what the run does with each record of a list. The calls here
-// also tell that the graph stays one that came from the calls, which is what every call presumes.
+// One request on a graph that the caller holds, by the calls that take the graph by value. Each function here also tells that the
+// graph stays one that came from the calls, which is what every call presumes.
 use crate::answers::Answer5;
 use crate::answers::add_words;
 use crate::answers::count_words;
@@ -9,21 +9,20 @@ use crate::answers::link_words;
 use crate::answers::remove_words;
 use crate::answers::set_words;
 use crate::requests::Ask;
+use crate::requests::MOVES;
 use crate::requests::ask_of;
-use crate::run::MOVES;
-use crate::run::subport;
 use multiportgraph::multiportgraph::MultiPortGraph;
 use multiportgraph::multiportgraph::PortsSet;
 use portgraph::index::NodeIndex;
-use portgraph::index::PortIndex;
 ghost use mathlib.Core.Path.{_≡_};
 ghost use lib.ListN.{length};
-ghost use Rattle.multiportgraph.specs.Calls.{emptyGraph, setCounts, movesTold, enough};
-ghost use Rattle.multiportgraph.specs.Book.{setCall};
+ghost use Rattle.multiportgraph.specs.Calls.{setCounts, movesTold};
+ghost use Rattle.theorems.specs.Book.{setCall};
 ghost use Rattle.multiportgraph.specs.Inner.{MultiWf};
-ghost use Rattle.records.specs.Run.{call, askedBy};
-ghost use Rattle.records.specs.Forms.{words5};
-ghost use Rattle.records.specs.AskSteps.{Answered};
+ghost use Rattle.records.specs.Run.{call, askedBy, Answered};
+ghost use Rattle.records.specs.Forms.{meant, words5};
+ghost use Rattle.multiportgraph.specs.Graph.{emptyGraph};
+ghost use Rattle.multiportgraph.specs.HiddenNodes.{enough};
 
 // The graph afterwards, and the five words of the answer.
 pub struct Asked {
@@ -55,12 +54,12 @@ pub fn resize(
 }
 
 // A resize as a request: its move list is its own, and long enough.
-fn ask_resize(graph: MultiPortGraph, node: u32, incoming: u32, outgoing: u32) -> Asked
+fn answer_resize(graph: MultiPortGraph, node: NodeIndex, incoming: u32, outgoing: u32) -> Asked
     requires { ⌜ MultiWf graph ⌝ }
-    ensures { λ r. ⌜ Answered graph (call (setCall node incoming outgoing enough)) (words5 (r .answer)) (r .graph) ⌝ }
+    ensures { λ r. ⌜ Answered graph (call (setCall (node .0) incoming outgoing enough)) (words5 (r .answer)) (r .graph) ⌝ }
 {
     let mut moves = [0u32; MOVES];
-    let sized = resize(graph, node, incoming, outgoing, &mut moves);
+    let sized = graph.set_num_ports(node, incoming as usize, outgoing as usize, &mut moves);
     let answer = sized.answer;
     let after = sized.graph;
     Asked {
@@ -69,12 +68,11 @@ fn ask_resize(graph: MultiPortGraph, node: u32, incoming: u32, outgoing: u32) ->
     }
 }
 
-// A code with its four arguments, asked of a graph.
-pub fn ask(graph: MultiPortGraph, code: u32, a: u32, b: u32, c: u32, d: u32) -> Asked
+// What is asked of a graph: the call, and its answer.
+pub(crate) fn answer(graph: MultiPortGraph, asked: Ask) -> Asked
     requires { ⌜ MultiWf graph ⌝ }
-    ensures { λ r. ⌜ Answered graph (askedBy code a b c d) (words5 (r .answer)) (r .graph) ⌝ }
+    ensures { λ r. ⌜ Answered graph (meant asked) (words5 (r .answer)) (r .graph) ⌝ }
 {
-    let asked = ask_of(code, a, b, c, d);
     match asked {
         Ask::Add(incoming, outgoing) => {
             let added = graph.add_node(incoming as usize, outgoing as usize);
@@ -86,7 +84,7 @@ pub fn ask(graph: MultiPortGraph, code: u32, a: u32, b: u32, c: u32, d: u32) -> 
             }
         }
         Ask::Remove(node) => {
-            let removed = graph.remove_node(NodeIndex(node));
+            let removed = graph.remove_node(node);
             let answer = removed.answer;
             let after = removed.graph;
             Asked {
@@ -94,9 +92,9 @@ pub fn ask(graph: MultiPortGraph, code: u32, a: u32, b: u32, c: u32, d: u32) -> 
                 answer: remove_words(answer),
             }
         }
-        Ask::Resize(node, incoming, outgoing) => ask_resize(graph, node, incoming, outgoing),
+        Ask::Resize(node, incoming, outgoing) => answer_resize(graph, node, incoming, outgoing),
         Ask::Link(p, q) => {
-            let linked = graph.link_ports(PortIndex(p), PortIndex(q));
+            let linked = graph.link_ports(p, q);
             let answer = linked.answer;
             let after = linked.graph;
             Asked {
@@ -105,7 +103,7 @@ pub fn ask(graph: MultiPortGraph, code: u32, a: u32, b: u32, c: u32, d: u32) -> 
             }
         }
         Ask::Unlink(port) => {
-            let cut = graph.unlink_port(PortIndex(port));
+            let cut = graph.unlink_port(port);
             let answer = cut.answer;
             let after = cut.graph;
             Asked {
@@ -113,8 +111,8 @@ pub fn ask(graph: MultiPortGraph, code: u32, a: u32, b: u32, c: u32, d: u32) -> 
                 answer: cut_words(answer),
             }
         }
-        Ask::LinkSubports(p, o, q, r) => {
-            let linked = graph.link_subports(subport(p, o), subport(q, r));
+        Ask::LinkSubports(from, to) => {
+            let linked = graph.link_subports(from, to);
             let answer = linked.answer;
             let after = linked.graph;
             Asked {
@@ -122,8 +120,8 @@ pub fn ask(graph: MultiPortGraph, code: u32, a: u32, b: u32, c: u32, d: u32) -> 
                 answer: link_words(answer),
             }
         }
-        Ask::UnlinkSubport(p, o) => {
-            let cut = graph.unlink_subport(subport(p, o));
+        Ask::UnlinkSubport(subport) => {
+            let cut = graph.unlink_subport(subport);
             let answer = cut.answer;
             let after = cut.graph;
             Asked {
@@ -131,9 +129,9 @@ pub fn ask(graph: MultiPortGraph, code: u32, a: u32, b: u32, c: u32, d: u32) -> 
                 answer: cut_words(answer),
             }
         }
-        Ask::SubportLink(p, o) => Asked {
+        Ask::SubportLink(subport) => Asked {
             graph: graph,
-            answer: cut_words(graph.subport_link(subport(p, o))),
+            answer: cut_words(graph.subport_link(subport)),
         },
         Ask::Counts => Asked {
             graph: graph,
@@ -144,4 +142,12 @@ pub fn ask(graph: MultiPortGraph, code: u32, a: u32, b: u32, c: u32, d: u32) -> 
             answer: five_words(2, 0, 0, 0, 0),
         },
     }
+}
+
+// A code with its four arguments, asked of a graph.
+pub fn ask(graph: MultiPortGraph, code: u32, a: u32, b: u32, c: u32, d: u32) -> Asked
+    requires { ⌜ MultiWf graph ⌝ }
+    ensures { λ r. ⌜ Answered graph (askedBy code a b c d) (words5 (r .answer)) (r .graph) ⌝ }
+{
+    answer(graph, ask_of(code, a, b, c, d))
 }

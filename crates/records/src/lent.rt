@@ -8,9 +8,8 @@ use crate::answers::put_answer;
 use crate::answers::remove_words;
 use crate::answers::set_words;
 use crate::requests::Ask;
+use crate::requests::MOVES;
 use crate::requests::ask_at;
-use crate::run::MOVES;
-use crate::run::subport;
 use multiportgraph::lent::Held;
 use multiportgraph::lent::add_in;
 use multiportgraph::lent::cut_sub_in;
@@ -26,20 +25,16 @@ use multiportgraph::lent_blocks::set_in;
 use multiportgraph::lent_links::link_in;
 use portgraph::index::FREE_LISTS;
 use portgraph::index::NODE_SLOTS;
-use portgraph::index::NodeIndex;
 use portgraph::index::PORT_SLOTS;
-use portgraph::index::PortIndex;
 use portgraph::lent::NODE_WORDS;
 ghost use mathlib.Core.Path.{_≡_};
 ghost use Prim.Native.Nat.{_%_};
 ghost use lib.ListN.{length};
-ghost use Rattle.multiportgraph.specs.Calls.{emptyGraph, enough};
 ghost use Rattle.multiportgraph.specs.Inner.{MultiWf};
 ghost use Rattle.multiportgraph.specs.MultiLent.{multiIn};
-ghost use Rattle.records.specs.Words.{bytesOf, requestsOf};
-ghost use Rattle.records.specs.Run.{answersFrom};
-ghost use Rattle.records.specs.Forms.{words5};
-ghost use Rattle.records.specs.RunSteps.{Done};
+ghost use Rattle.records.specs.Run.{answerBytes, Answered};
+ghost use Rattle.records.specs.Forms.{meant, words5};
+ghost use Rattle.multiportgraph.specs.HiddenNodes.{enough};
 
 // What stands outside the tables afterwards, and the five words of the answer.
 struct Told {
@@ -60,7 +55,7 @@ fn one_request(
     ask: Ask,
 ) -> Told
     requires { ⌜ MultiWf (multiIn (now nodes) (now links) (now owners) (now heads) (now marks) (now flags) held) × (length (now moves) ≡ enough) ⌝ }
-    ensures { λ r. ⌜ Done (multiIn (now (nodes .entry)) (now (links .entry)) (now (owners .entry)) (now (heads .entry)) (now (marks .entry)) (now (flags .entry)) held) ask (words5 (r .words)) (multiIn (now (nodes .exit)) (now (links .exit)) (now (owners .exit)) (now (heads .exit)) (now (marks .exit)) (now (flags .exit)) (r .held)) ⌝ }
+    ensures { λ r. ⌜ Answered (multiIn (now (nodes .entry)) (now (links .entry)) (now (owners .entry)) (now (heads .entry)) (now (marks .entry)) (now (flags .entry)) held) (meant ask) (words5 (r .words)) (multiIn (now (nodes .exit)) (now (links .exit)) (now (owners .exit)) (now (heads .exit)) (now (marks .exit)) (now (flags .exit)) (r .held)) ⌝ }
 {
     match ask {
         Ask::Add(incoming, outgoing) => {
@@ -83,16 +78,7 @@ fn one_request(
             }
         }
         Ask::Remove(node) => {
-            let removed = remove_in(
-                nodes,
-                links,
-                owners,
-                heads,
-                marks,
-                flags,
-                held,
-                NodeIndex(node),
-            );
+            let removed = remove_in(nodes, links, owners, heads, marks, flags, held, node);
             let after = removed.held;
             let answer = removed.answer;
             Told {
@@ -109,7 +95,7 @@ fn one_request(
                 marks,
                 flags,
                 held,
-                NodeIndex(node),
+                node,
                 incoming as usize,
                 outgoing as usize,
                 moves,
@@ -122,18 +108,7 @@ fn one_request(
             }
         }
         Ask::Link(a, b) => {
-            let linked = link_in(
-                nodes,
-                links,
-                owners,
-                heads,
-                marks,
-                flags,
-                held,
-                PortIndex(a),
-                PortIndex(b),
-                moves,
-            );
+            let linked = link_in(nodes, links, owners, heads, marks, flags, held, a, b, moves);
             let after = linked.held;
             let answer = linked.answer;
             Told {
@@ -142,16 +117,7 @@ fn one_request(
             }
         }
         Ask::Unlink(port) => {
-            let cut = cut_port_in(
-                nodes,
-                links,
-                owners,
-                heads,
-                marks,
-                flags,
-                held,
-                PortIndex(port),
-            );
+            let cut = cut_port_in(nodes, links, owners, heads, marks, flags, held, port);
             let after = cut.held;
             let answer = cut.answer;
             Told {
@@ -159,18 +125,8 @@ fn one_request(
                 words: cut_words(answer),
             }
         }
-        Ask::LinkSubports(p, o, q, r) => {
-            let linked = link_sub_in(
-                nodes,
-                links,
-                owners,
-                heads,
-                marks,
-                flags,
-                held,
-                subport(p, o),
-                subport(q, r),
-            );
+        Ask::LinkSubports(from, to) => {
+            let linked = link_sub_in(nodes, links, owners, heads, marks, flags, held, from, to);
             let after = linked.held;
             let answer = linked.answer;
             Told {
@@ -178,17 +134,8 @@ fn one_request(
                 words: link_words(answer),
             }
         }
-        Ask::UnlinkSubport(p, o) => {
-            let cut = cut_sub_in(
-                nodes,
-                links,
-                owners,
-                heads,
-                marks,
-                flags,
-                held,
-                subport(p, o),
-            );
+        Ask::UnlinkSubport(subport) => {
+            let cut = cut_sub_in(nodes, links, owners, heads, marks, flags, held, subport);
             let after = cut.held;
             let answer = cut.answer;
             Told {
@@ -196,17 +143,8 @@ fn one_request(
                 words: cut_words(answer),
             }
         }
-        Ask::SubportLink(p, o) => {
-            let answer = subport_link_in(
-                nodes,
-                links,
-                owners,
-                heads,
-                marks,
-                flags,
-                held,
-                subport(p, o),
-            );
+        Ask::SubportLink(subport) => {
+            let answer = subport_link_in(nodes, links, owners, heads, marks, flags, held, subport);
             Told {
                 held: held,
                 words: cut_words(answer),
@@ -228,10 +166,10 @@ fn one_request(
     }
 }
 
-// Runs a list from an empty graph, past refused calls, and lays every answer: what `run_all` does.
+// Runs a list from an empty graph, past refused calls, and lays every answer: as the run by value does.
 pub(crate) fn run_list(requests: &[u8], answers: &mut [u8])
     requires { ⌜ (length (now answers) ≡ length (now requests)) × (length (now requests) % 20 ≡ 0) ⌝ }
-    ensures { λ _. ⌜ now (answers .exit) ≡ bytesOf (answersFrom emptyGraph (requestsOf (now (requests .entry)))) ⌝ }
+    ensures { λ _. ⌜ now (answers .exit) ≡ answerBytes (now (requests .entry)) ⌝ }
 {
     let mut nodes = [0u32; NODE_WORDS];
     let mut links = [0u32; PORT_SLOTS];

@@ -1,11 +1,16 @@
 // What a request of five words asks.
 use crate::words::word_at;
+use multiportgraph::multiportgraph::SubportIndex;
+use portgraph::index::NODE_PORTS;
+use portgraph::index::NodeIndex;
+use portgraph::index::PortIndex;
 ghost use mathlib.Core.Path.{_≡_};
 ghost use mathlib.Core.List.{[], _∷_};
 ghost use Prim.Native.Nat.{_+_, _≤_};
 ghost use lib.ListN.{length};
-ghost use Rattle.portgraph.specs.Entries.{pick};
-ghost use Rattle.multiportgraph.specs.Book.{linkSubCall, cutSubCall};
+ghost use mathlib.Core.Bool.{cond};
+ghost use Rattle.multiportgraph.specs.Reading.{subport#};
+ghost use Rattle.theorems.specs.Book.{linkSubCall, cutSubCall};
 ghost use Rattle.records.specs.Words.{requestAt};
 ghost use Rattle.records.specs.Run.{call, linkOf, refused, allZero, offsets, asked, askedBy};
 ghost use Rattle.records.specs.Forms.{meant};
@@ -14,17 +19,20 @@ ghost use Rattle.records.specs.Forms.{meant};
 pub(crate) enum Ask {
     // incoming, outgoing
     Add(u32, u32),
-    Remove(u32),
+    Remove(NodeIndex),
     // node, incoming, outgoing
-    Resize(u32, u32, u32),
-    Link(u32, u32),
-    Unlink(u32),
-    LinkSubports(u32, u16, u32, u16),
-    UnlinkSubport(u32, u16),
-    SubportLink(u32, u16),
+    Resize(NodeIndex, u32, u32),
+    Link(PortIndex, PortIndex),
+    Unlink(PortIndex),
+    LinkSubports(SubportIndex, SubportIndex),
+    UnlinkSubport(SubportIndex),
+    SubportLink(SubportIndex),
     Counts,
     Refused,
 }
+
+// Numbers of the move list that a resize is asked with: three for each port of the largest node.
+pub(crate) const MOVES: usize = 3 * NODE_PORTS;
 
 // Whether four words are 0.
 fn all_zero(a: u32, b: u32, c: u32, d: u32) -> bool
@@ -43,12 +51,21 @@ fn all_zero(a: u32, b: u32, c: u32, d: u32) -> bool
 }
 
 fn ask_if(good: bool, ask: Ask) -> Ask
-    ensures { λ r. ⌜ meant r ≡ pick good (meant ask) refused ⌝ }
+    ensures { λ r. ⌜ meant r ≡ cond good (meant ask) refused ⌝ }
 {
     if good {
         return ask;
     }
     Ask::Refused
+}
+
+fn subport(port: u32, offset: u16) -> SubportIndex
+    ensures { λ r. ⌜ r ≡ subport# port offset ⌝ }
+{
+    SubportIndex {
+        port: PortIndex(port),
+        subport_offset: offset,
+    }
 }
 
 fn ask_link_subports(p: u32, o: u32, q: u32, r: u32) -> Ask
@@ -60,7 +77,7 @@ fn ask_link_subports(p: u32, o: u32, q: u32, r: u32) -> Ask
     if r >= 65535 {
         return Ask::Refused;
     }
-    Ask::LinkSubports(p, o as u16, q, r as u16)
+    Ask::LinkSubports(subport(p, o as u16), subport(q, r as u16))
 }
 
 fn ask_unlink_subport(p: u32, o: u32) -> Ask
@@ -69,7 +86,7 @@ fn ask_unlink_subport(p: u32, o: u32) -> Ask
     if o >= 65535 {
         return Ask::Refused;
     }
-    Ask::UnlinkSubport(p, o as u16)
+    Ask::UnlinkSubport(subport(p, o as u16))
 }
 
 fn ask_subport_link(p: u32, o: u32) -> Ask
@@ -78,7 +95,7 @@ fn ask_subport_link(p: u32, o: u32) -> Ask
     if o >= 65535 {
         return Ask::Refused;
     }
-    Ask::SubportLink(p, o as u16)
+    Ask::SubportLink(subport(p, o as u16))
 }
 
 // What a code asks of its four arguments.
@@ -87,10 +104,10 @@ pub(crate) fn ask_of(code: u32, a: u32, b: u32, c: u32, d: u32) -> Ask
 {
     match code {
         1 => ask_if(all_zero(0, 0, c, d), Ask::Add(a, b)),
-        2 => ask_if(all_zero(0, b, c, d), Ask::Remove(a)),
-        3 => ask_if(all_zero(0, 0, 0, d), Ask::Resize(a, b, c)),
-        4 => ask_if(all_zero(0, 0, c, d), Ask::Link(a, b)),
-        5 => ask_if(all_zero(0, b, c, d), Ask::Unlink(a)),
+        2 => ask_if(all_zero(0, b, c, d), Ask::Remove(NodeIndex(a))),
+        3 => ask_if(all_zero(0, 0, 0, d), Ask::Resize(NodeIndex(a), b, c)),
+        4 => ask_if(all_zero(0, 0, c, d), Ask::Link(PortIndex(a), PortIndex(b))),
+        5 => ask_if(all_zero(0, b, c, d), Ask::Unlink(PortIndex(a))),
         6 => ask_link_subports(a, b, c, d),
         7 => ask_if(all_zero(0, 0, c, d), ask_unlink_subport(a, b)),
         8 => ask_if(all_zero(0, 0, c, d), ask_subport_link(a, b)),

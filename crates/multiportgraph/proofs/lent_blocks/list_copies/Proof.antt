@@ -7,13 +7,13 @@ use lib.ListN.{length}
 use lib.Seq.{sets}
 use borrow.Author.Needs.{needs}
 use Rattle.multiportgraph.specs.LentSteps.{copies-held}
-use Rattle.multiportgraph.specs.Calls.{copiesIn}
 use Rattle.multiportgraph.specs.MultiLent.{multiIn, noHeld}
 use Rattle.multiportgraph.specs.LentLaws.{copy-node-read}
 use Rattle.multiportgraph.specs.FormSteps.{split-told}
 use Rattle.multiportgraph.specs.BlockSteps.{copies-begun, copies-turn-split, copies-turn-plain, copies-counted, copies-listed}
 use Rattle.multiportgraph.proofs.lent_blocks.list_copies.Statement.{statement}
 use Rattle.multiportgraph.proofs.lent_blocks.list_copies.Tie as tie
+use Rattle.multiportgraph.specs.HiddenNodes.{copiesIn}
 
 abbrev Inv-loop : tie.InvT-loop
 Inv-loop nodes links owners heads marks flags list₀ at first count place₀ k₀ list place k =

@@ -5,11 +5,11 @@ use native.Mathlib.Omega.{arith}
 use lib.ListN.{length, take, drop}
 use borrow.Author.Needs.{needs}
 use Rattle.multiportgraph.specs.BlockSteps.{remove-begun, remove-turn, remove-done}
-use Rattle.multiportgraph.specs.Calls.{removeAll}
 use Rattle.multiportgraph.specs.LentLaws.{sound-lone, sound-is}
 use Rattle.multiportgraph.specs.MultiLent.{multiIn, Sound}
 use Rattle.multiportgraph.proofs.lent_copies.remove_all_in.Statement.{statement}
 use Rattle.multiportgraph.proofs.lent_copies.remove_all_in.Tie as tie
+use Rattle.multiportgraph.specs.HiddenNodes.{removeAll}
 
 abbrev Inv-loop : tie.InvT-loop
 Inv-loop nodes₀ links₀ owners₀ heads₀ marks₀ flags₀ list count left₀ k₀ nodes links owners heads marks flags left k =

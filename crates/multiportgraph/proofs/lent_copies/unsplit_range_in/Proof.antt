@@ -6,10 +6,10 @@ use native.Mathlib.Omega.{arith}
 use borrow.Author.Needs.{needs}
 use Rattle.multiportgraph.specs.BlockSteps.{unsplit-turn, unsplit-done}
 use Rattle.multiportgraph.specs.LentLaws.{sound-unsplit, sound-is}
-use Rattle.multiportgraph.specs.Calls.{unsplitRange}
 use Rattle.multiportgraph.specs.MultiLent.{multiIn, Sound}
 use Rattle.multiportgraph.proofs.lent_copies.unsplit_range_in.Statement.{statement}
 use Rattle.multiportgraph.proofs.lent_copies.unsplit_range_in.Tie as tie
+use Rattle.multiportgraph.specs.HiddenNodes.{unsplitRange}
 
 abbrev Inv-loop : tie.InvT-loop
 Inv-loop nodes₀ links₀ owners₀ heads₀ marks₀ flags₀ first count left₀ k₀ nodes links owners heads marks flags left k =

@@ -4,11 +4,11 @@ use mathlib.Core.Path.{_≡_, sym, _∙_}
 use Prim.Native.Nat.{_<_}
 use borrow.Author.Needs.{needs}
 use Rattle.multiportgraph.specs.NamedSteps.{named-bad, named-seen, named-end}
-use Rattle.multiportgraph.specs.Calls.{goodOffset}
 use Rattle.multiportgraph.specs.Reading.{dead, hidden, lacking, inner}
 use Rattle.multiportgraph.specs.CallSteps.{good-offset, was-dead, was-hidden, was-visible, was-at, was-lacking}
 use Rattle.multiportgraph.proofs.named.end_named.Statement.{statement}
 use Rattle.multiportgraph.proofs.named.end_named.Tie as tie
+use Rattle.multiportgraph.specs.Refusals.{goodOffset}
 
 offset-fits : (c : tie.Start) → c .args .subport .«subport_offset» < 65536
 offset-fits c = search needs

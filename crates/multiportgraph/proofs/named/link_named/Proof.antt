@@ -4,11 +4,11 @@ use mathlib.Core.Path.{_≡_, refl, sym, _∙_}
 use Prim.Native.Nat.{_<_}
 use borrow.Author.Needs.{needs}
 use Rattle.multiportgraph.specs.NamedSteps.{link-bad, link-bad-second, link-seen, link-first}
-use Rattle.multiportgraph.specs.Calls.{goodOffset}
 use Rattle.multiportgraph.specs.CallSteps.{good-offset, was-dead, was-hidden, was-visible}
 use Rattle.multiportgraph.specs.Reading.{dead, hidden, visible}
 use Rattle.multiportgraph.proofs.named.link_named.Statement.{statement}
 use Rattle.multiportgraph.proofs.named.link_named.Tie as tie
+use Rattle.multiportgraph.specs.Refusals.{goodOffset}
 
 offsets-fit : (c : tie.Start) → (c .args .from .«subport_offset» < 65536) × (c .args .to .«subport_offset» < 65536)
 offsets-fit c = search needs

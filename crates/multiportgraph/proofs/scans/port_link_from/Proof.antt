@@ -30,13 +30,13 @@ scan-port-requires : tie.Need-scan-port-requires
 scan-port-requires c κs = (c .before .span-first .ensures .1, c .span-count .ensures .1)
 
 returns : tie.Need-returns
-returns c = (port-links-none (c .before .before .before .args .marks .now) (c .before .before .before .args .links .now) (c .before .before .before .args .owners .now) (c .before .before .before .args .flags .now) (λ w. passesIn (c .before .before .before .args .owners .now) (c .before .before .before .args .flags .now) (c .before .before .before .args .filter) (w .to .port .0)) (c .before .before .before .args .port) (c .before .before .before .args .from) dead (was-dead _ (sym (c .before .before .seen-in .ensures) ∙ c .enum-told .given .1)) refl, refl)
+returns c = (port-links-none (c .before .before .before .args .marks .now) (c .before .before .before .args .links .now) (c .before .before .before .args .owners .now) (c .before .before .before .args .flags .now) (λ w. passesIn (c .before .before .before .args .owners .now) (c .before .before .before .args .flags .now) (c .before .before .before .args .only) (w .to .port .0)) (c .before .before .before .args .port) (c .before .before .before .args .from) dead (was-dead _ (sym (c .before .before .seen-in .ensures) ∙ c .enum-told .given .1)) refl, refl)
 
 returns-2 : tie.Need-returns-2
-returns-2 c = (port-links-none (c .before .before .before .args .marks .now) (c .before .before .before .args .links .now) (c .before .before .before .args .owners .now) (c .before .before .before .args .flags .now) (λ w. passesIn (c .before .before .before .args .owners .now) (c .before .before .before .args .flags .now) (c .before .before .before .args .filter) (w .to .port .0)) (c .before .before .before .args .port) (c .before .before .before .args .from) hidden (was-hidden _ (sym (c .before .before .seen-in .ensures) ∙ c .enum-told2 .given .1)) refl, refl)
+returns-2 c = (port-links-none (c .before .before .before .args .marks .now) (c .before .before .before .args .links .now) (c .before .before .before .args .owners .now) (c .before .before .before .args .flags .now) (λ w. passesIn (c .before .before .before .args .owners .now) (c .before .before .before .args .flags .now) (c .before .before .before .args .only) (w .to .port .0)) (c .before .before .before .args .port) (c .before .before .before .args .from) hidden (was-hidden _ (sym (c .before .before .seen-in .ensures) ∙ c .enum-told2 .given .1)) refl, refl)
 
 returns-3 : tie.Need-returns-3
-returns-3 c = (port-links-scanned (c .before .before .before .before .before .before .before .args .marks .now) (c .before .before .before .before .before .before .before .args .links .now) (c .before .before .before .before .before .before .before .args .owners .now) (c .before .before .before .before .before .before .before .args .flags .now) (λ w. passesIn (c .before .before .before .before .before .before .before .args .owners .now) (c .before .before .before .before .before .before .before .args .flags .now) (c .before .before .before .before .before .before .before .args .filter) (w .to .port .0)) (c .before .before .before .before .before .before .before .args .port) (c .before .before .before .before .before .before .before .args .from) _ _ _ _ _ (was-visible _ _ _ (sym (c .before .before .before .before .before .before .seen-in .ensures) ∙ c .before .before .before .before .seen .given .1)) (c .before .before .span-first .ensures .0) (c .before .span-count .ensures .0) (c .scan-port .ensures .0), c .scan-port .ensures .1)
+returns-3 c = (port-links-scanned (c .before .before .before .before .before .before .before .args .marks .now) (c .before .before .before .before .before .before .before .args .links .now) (c .before .before .before .before .before .before .before .args .owners .now) (c .before .before .before .before .before .before .before .args .flags .now) (λ w. passesIn (c .before .before .before .before .before .before .before .args .owners .now) (c .before .before .before .before .before .before .before .args .flags .now) (c .before .before .before .before .before .before .before .args .only) (w .to .port .0)) (c .before .before .before .before .before .before .before .args .port) (c .before .before .before .before .before .before .before .args .from) _ _ _ _ _ (was-visible _ _ _ (sym (c .before .before .before .before .before .before .seen-in .ensures) ∙ c .before .before .before .before .seen .given .1)) (c .before .before .span-first .ensures .0) (c .before .span-count .ensures .0) (c .scan-port .ensures .0), c .scan-port .ensures .1)
 
 pub port-link-from-spec : {M : Type 1} → statement M
 port-link-from-spec =

@@ -1,10 +1,12 @@
--- `portgraph::lent_resize::resize_inside_in` meets its contract: what each step leaves is what the definition says.
+-- `portgraph::lent_resize::resize_inside_in` meets its contract: the ports that go are cut and told, those that move are told, and then they move.
+use mathlib.Core.Path.{_∙_, ap}
+use Prim.Native.Nat.{ℕ, _-_}
 use native.Mathlib.Omega.{arith}
 use borrow.Author.Needs.{needs}
-use Rattle.portgraph.specs.Lent.{graphIn}
-use Rattle.portgraph.specs.WfFacts.{port-count-fits}
+use Rattle.portgraph.specs.Lent.{graphIn, countLinks}
 use Rattle.portgraph.specs.ResizeSteps.{inside-told}
-use Rattle.portgraph.specs.LentSteps.{inside-in}
+use Rattle.portgraph.specs.LentSteps.{inside-done, inside-told-events}
+use Rattle.portgraph.specs.declared.lent.Counts.{Counts}
 use Rattle.portgraph.proofs.lent_resize.resize_inside_in.Statement.{statement}
 use Rattle.portgraph.proofs.lent_resize.resize_inside_in.Tie as tie
 
@@ -32,12 +34,6 @@ sub-events-2 c = search needs
 add-events : tie.Need-add-events
 add-events c = search needs
 
-cast-t22 : tie.Need-cast-t22
-cast-t22 c = search needs
-
-cast-t23 : tie.Need-cast-t23
-cast-t23 c = search needs
-
 drop-both-requires : tie.Need-drop-both-requires
 drop-both-requires c κs = search needs
 
@@ -50,70 +46,36 @@ add-tell-moves-2 c = search needs
 tell-moves-requires : tie.Need-tell-moves-requires
 tell-moves-requires c κs = search needs
 
-inside-links-requires : tie.Need-inside-links-requires
-inside-links-requires c κs = search needs
-
-own-block-requires : tie.Need-own-block-requires
-own-block-requires c κs = search needs
-
-wide-requires-2 : tie.Need-wide-requires-2
-wide-requires-2 c κs = search needs
-
-new-node-requires : tie.Need-new-node-requires
-new-node-requires c κs = search needs
-
-put-slot-requires : tie.Need-put-slot-requires
-put-slot-requires c κs = search needs
-
-add-less : tie.Need-add-less
-add-less c = omega (arith, c .before .before .before .before .before .before .before .before .before .before .before .before .before .before .before .before .before .before, c .before .before .before .before .before .before .before .before .before .before .before .before .before .before .before .before .before .before .before .before .before .before .before .before .pre)
-
 less-requires : tie.Need-less-requires
 less-requires c κs = search needs
 
-add-t35 : tie.Need-add-t35
-add-t35 c = omega (arith, c .before .before .before .before .before .before .before .before .before .before .before .before .before .before .before .before .before .before .before .before .before .before .before .before .before .pre)
+count-links-requires : tie.Need-count-links-requires
+count-links-requires c κs = search needs
 
-add-t36 : tie.Need-add-t36
-add-t36 c =
-    let a = c .before .before .before .before .before .before .before .before .before .before .before .before .before .before .before .before .before .before .before .before .before .before .before .before .before .args in
-    omega (arith, c .before .before .before .before .before .before .before .before .before .before .before .before .before .before .before .before .before .before .before .before .before .before .before .before .before .pre, c .less .ensures, port-count-fits (graphIn (a .nodes .now) (a .links .now) (a .owners .now) (a .heads .now) (a .counts)) (c .before .before .before .before .before .before .before .before .before .before .before .before .before .before .before .before .before .before .before .before .before .before .before .before .before .pre .0))
+settle-inside-in-requires : tie.Need-settle-inside-in-requires
+settle-inside-in-requires c κs =
+    let r = c .before .before .before .before .before .before .before .before .before .before .before .before .before .before .before .before .before .before .before .before .before .pre .0 in
+    record { fits = r .fits; below = r .below; inSize = c .before .before .before .before .before .before .before .before .before .before .before .before .before .before .before .before .before .before .before .before .before .pre .1; small = r .fits .small; counted = omega (arith, r .counted, ap (λ (k : Counts). k .«port_count») (c .before .before .before .before .count-links .ensures)) }
 
-less-requires-2 : tie.Need-less-requires-2
-less-requires-2 c κs = search needs
-
-add-t39 : tie.Need-add-t39
-add-t39 c = omega (arith, c .before .before .before .before .before .before .before .before .before .before .before .before .before .before .before .before .before .before .before .before, c .before .before .before .before .before .before .before .before .before .before .before .before .before .before .before .before .before .before .before .before .before .before .before .before .before .before .pre)
+add-t21 : tie.Need-add-t21
+add-t21 c = omega (arith, c .before .before .before .before .before .before .before .before .before .before .before .before .before .before .before .before .before .before .before .before .before .before .pre, c .before .before .before .before .before .before .before .before .before .before .before .before .before .before .before .before .before .before .before .wide16 .ensures, c .before .before .before .before .before .before .before .before .before .before .before .before .before .before .before .before .before .before .wide162 .ensures, c .before .before .before .before .before .before .before .before .before .before .before .before .before .before .before .before .before .smaller .ensures, c .before .before .before .before .before .before .before .before .before .before .before .before .before .before .before .before .smaller2 .ensures)
 
 same-length : tie.Need-same-length
 same-length c = search needs
 
 returns : tie.Need-returns
 returns c =
-    let a = c .before .before .before .before .before .before .before .before .before .before .before .before .before .before .before .before .before .before .before .before .before .before .before .before .before .before .args in
-    let f = c .before .before .before .before .before .before .before .before .before .before .before .before .before .before .before .before .before .before .before .before .before .before .before .before .wide .ensures in
-    let oi = c .before .before .before .before .before .before .before .before .before .before .before .before .before .before .before .before .before .before .before .before .before .before .before .wide16 .ensures in
-    let oo = c .before .before .before .before .before .before .before .before .before .before .before .before .before .before .before .before .before .before .before .before .before .before .wide162 .ensures in
-    let ki = c .before .before .before .before .before .before .before .before .before .before .before .before .before .before .before .before .before .before .before .before .before .smaller .ensures in
-    let ko = c .before .before .before .before .before .before .before .before .before .before .before .before .before .before .before .before .before .before .before .before .smaller2 .ensures in
-    let drop = c .before .before .before .before .before .before .before .before .before .before .before .before .before .before .before .before .drop-both .ensures in
-    let done = inside-in (a .nodes .now) (a .links .now) (a .owners .now) (a .heads .now) (a .counts) (a .meta) (a .node .0) (a .incoming) (a .outgoing) _ _ _ _ _ (c .before .before .before .before .before .before .before .before .before .before .before .before .before .before .before .before .before .before .before .before .before .before .before .before .before .before .pre .1) f oi oo ki ko
-    _ _ _ _ _ _ _ _ _
-    (drop .1)
-    (drop .0)
-    (c .before .before .before .before .before .before .before .before .inside-links .ensures)
-    (c .before .before .before .before .before .before .own-block .ensures)
-    (c .before .before .before .before .wide2 .ensures)
-    (c .before .before .before .new-node .ensures)
-    (c .before .before .put-slot .ensures)
-    (c .before .less .ensures)
-    (c .less2 .ensures) in (
-      done .0,
-      done .1,
-      inside-told (graphIn (a .nodes .now) (a .links .now) (a .owners .now) (a .heads .now) (a .counts)) (a .meta) 0 (a .incoming) (a .outgoing) _ _ _ _ _ f oi oo ki ko
-          _ _ _
-          (drop .2)
-          (c .before .before .before .before .before .before .before .before .before .before .before .before .tell-moves .ensures),
+    let a = c .before .before .before .before .before .before .before .before .before .before .before .before .before .before .before .before .before .before .before .before .before .before .args in
+    let drop = c .before .before .before .before .before .before .before .before .before .before .before .before .before .drop-both .ensures in
+    let oi = c .before .before .before .before .before .before .before .before .before .before .before .before .before .before .before .before .before .before .before .wide16 .ensures in
+    let oo = c .before .before .before .before .before .before .before .before .before .before .before .before .before .before .before .before .before .before .wide162 .ensures in
+    let ki = c .before .before .before .before .before .before .before .before .before .before .before .before .before .before .before .before .before .smaller .ensures in
+    let ko = c .before .before .before .before .before .before .before .before .before .before .before .before .before .before .before .before .smaller2 .ensures in (
+      inside-done (a .nodes .now) (a .links .now) (a .owners .now) (a .heads .now) (a .counts) (a .node .0) (a .meta) (a .incoming) (a .outgoing)
+          (c .before .before .before .before .before .count-links .ensures ∙ ap (λ (k : ℕ). countLinks (a .counts) k) (c .before .before .before .before .before .before .less .ensures ∙ ap (λ (k : ℕ). a .counts .«link_count» - k) (drop .0)))
+          (drop .1) (c .settle-inside-in .ensures),
+      inside-told-events (a .meta) (a .incoming) (a .outgoing) oi oo ki ko,
+      inside-told (graphIn (a .nodes .now) (a .links .now) (a .owners .now) (a .heads .now) (a .counts)) (a .meta) 0 (a .incoming) (a .outgoing) _ _ _ _ _ (c .before .before .before .before .before .before .before .before .before .before .before .before .before .before .before .before .before .before .before .before .wide .ensures) oi oo ki ko _ _ _ (drop .2) (c .before .before .before .before .before .before .before .before .before .tell-moves .ensures),
     )
 
 pub resize-inside-in-spec : {M : Type 1} → statement M
@@ -128,22 +90,13 @@ resize-inside-in-spec =
     sub-events
     sub-events-2
     add-events
-    cast-t22
-    cast-t23
     drop-both-requires
     add-tell-moves
     add-tell-moves-2
     tell-moves-requires
-    inside-links-requires
-    own-block-requires
-    wide-requires-2
-    new-node-requires
-    put-slot-requires
-    add-less
     less-requires
-    add-t35
-    add-t36
-    less-requires-2
-    add-t39
+    count-links-requires
+    settle-inside-in-requires
+    add-t21
     same-length
     returns)

@@ -8,9 +8,9 @@ use Rattle.portgraph.specs.Limits.{nodePorts}
 use Rattle.portgraph.specs.Lookups.{entryAt}
 use Rattle.portgraph.specs.Resize.{refuse, same, inside, anew}
 use Rattle.portgraph.specs.Lent.{graphIn}
-use Rattle.portgraph.specs.WfFacts.{block-fits, node-below, port-len-fits}
+use Rattle.portgraph.specs.WfFacts.{port-len-fits}
 use Rattle.portgraph.specs.ResizeSteps.{round-up-fits, block-found, fits-below, plan-too-many, plan-unknown, plan-short, plan-same, plan-inside, plan-no-room, plan-anew}
-use Rattle.portgraph.specs.LentSteps.{unknown-in, found-in, answered-in}
+use Rattle.portgraph.specs.LentSteps.{unknown-in, found-in, answered-in, resizes}
 use Rattle.portgraph.specs.declared.node_entry.NodeEntry.the-variants as node-variants
 use Rattle.portgraph.specs.declared.resize.SetAnswer.the-variants as set-variants
 use Rattle.portgraph.proofs.lent_resize.set_num_ports_in.Statement.{statement}
@@ -89,11 +89,8 @@ fits-inside-requires c κs = search needs
 resize-inside-in-requires : tie.Need-resize-inside-in-requires
 resize-inside-in-requires c κs =
     let a = c .before .before .before .before .before .before .before .before .before .before .before .before .before .before .before .before .before .before .before .args in
-    let m = c .before .before .before .before .before .before .before .before .before .before .before .before .meta .given .0 .0 in
-    let e = live (c .before .before .before .before .before .before .before .before .before .before .before) in
-    let t = sym (c .before .before .before .before .before .before .fits-inside .ensures) ∙ c .before .before .before .before .before .if5 .taken in
-    let w = c .before .before .before .before .before .before .before .before .before .before .before .before .before .before .before .before .before .before .before .pre in
-    (w, node-below (graphIn (a .nodes .now) (a .links .now) (a .owners .now) (a .heads .now) (a .counts)) w (a .node .0) m e, fits-below m _ _ t, block-fits (graphIn (a .nodes .now) (a .links .now) (a .owners .now) (a .heads .now) (a .counts)) w (a .node .0) m e)
+    let few : a .incoming + a .outgoing ≤ nodePorts = omega (arith, c .before .before .before .before .before .before .before .before .before .before .before .before .before .before .before .before .before .if1 .left, c .before .before .before .before .before .before .before .before .before .before .before .before .before .before .before .before .if2 .left) in
+    (resizes (graphIn (a .nodes .now) (a .links .now) (a .owners .now) (a .heads .now) (a .counts)) (c .before .before .before .before .before .before .before .before .before .before .before .before .before .before .before .before .before .before .before .pre) (a .node .0) _ (a .incoming) (a .outgoing) (live (c .before .before .before .before .before .before .before .before .before .before .before)) few, fits-below _ _ _ (sym (c .before .before .before .before .before .before .fits-inside .ensures) ∙ c .before .before .before .before .before .if5 .taken))
 
 same-length : tie.Need-same-length
 same-length c = search needs
@@ -148,11 +145,7 @@ resize-anew-in-requires : tie.Need-resize-anew-in-requires
 resize-anew-in-requires c κs =
     let a = c .before .before .before .before .before .before .before .before .before .before .before .before .before .before .before .before .before .before .before .before .before .before .before .before .before .args in
     let few : a .incoming + a .outgoing ≤ nodePorts = omega (arith, c .before .before .before .before .before .before .before .before .before .before .before .before .before .before .before .before .before .before .before .before .before .before .before .if1 .left, c .before .before .before .before .before .before .before .before .before .before .before .before .before .before .before .before .before .before .before .before .before .before .if2 .left) in
-    let m = c .before .before .before .before .before .before .before .before .before .before .before .before .before .before .before .before .before .before .meta .given .0 .0 in
-    let e = live (c .before .before .before .before .before .before .before .before .before .before .before .before .before .before .before .before .before) in
-    let found = block-found _ _ _ _ _ _ (c .before .before .before .before .before .before .before .before .before .before .round-up .ensures) (c .before .before .before .before .before .before .before .before .find-block .ensures) (c .before .before .before .before .before .before .new-first .given .1) in
-    let w = c .before .before .before .before .before .before .before .before .before .before .before .before .before .before .before .before .before .before .before .before .before .before .before .before .before .pre in
-    (w, node-below (graphIn (a .nodes .now) (a .links .now) (a .owners .now) (a .heads .now) (a .counts)) w (a .node .0) m e, few, block-fits (graphIn (a .nodes .now) (a .links .now) (a .owners .now) (a .heads .now) (a .counts)) w (a .node .0) m e, found)
+    (resizes (graphIn (a .nodes .now) (a .links .now) (a .owners .now) (a .heads .now) (a .counts)) (c .before .before .before .before .before .before .before .before .before .before .before .before .before .before .before .before .before .before .before .before .before .before .before .before .before .pre) (a .node .0) _ (a .incoming) (a .outgoing) (live (c .before .before .before .before .before .before .before .before .before .before .before .before .before .before .before .before .before)) few, block-found _ _ _ _ _ _ (c .before .before .before .before .before .before .before .before .before .before .round-up .ensures) (c .before .before .before .before .before .before .before .before .find-block .ensures) (c .before .before .before .before .before .before .new-first .given .1))
 
 same-length-2 : tie.Need-same-length-2
 same-length-2 c = search needs

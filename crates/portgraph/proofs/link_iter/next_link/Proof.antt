@@ -3,8 +3,8 @@
 use mathlib.Core.Path.{_≡_, refl, _∙_}
 use Prim.Native.Nat.{_-_}
 use borrow.Author.Needs.{needs}
-use Rattle.portgraph.specs.LinkWalks.{linkKept}
-use Rattle.portgraph.specs.LinkWalkSteps.{firstWhere, search-turn, search-stops, search-ends, kept-read}
+use Rattle.portgraph.specs.LinkWalks.{linkKept, firstWhere}
+use Rattle.portgraph.specs.LinkWalkSteps.{search-turn, search-stops, search-ends, kept-read}
 use Rattle.portgraph.proofs.link_iter.next_link.Statement.{statement}
 use Rattle.portgraph.proofs.link_iter.next_link.Tie as tie
 

@@ -3,8 +3,8 @@
 use mathlib.Core.Path.{_≡_, refl, _∙_}
 use Prim.Native.Nat.{_-_}
 use borrow.Author.Needs.{needs}
-use Rattle.portgraph.specs.LinkWalks.{linkTo}
-use Rattle.portgraph.specs.LinkWalkSteps.{firstWhere, search-turn, search-stops, search-ends}
+use Rattle.portgraph.specs.LinkWalks.{linkTo, firstWhere}
+use Rattle.portgraph.specs.LinkWalkSteps.{search-turn, search-stops, search-ends}
 use Rattle.portgraph.proofs.link_iter.next_link_to.Statement.{statement}
 use Rattle.portgraph.proofs.link_iter.next_link_to.Tie as tie
 

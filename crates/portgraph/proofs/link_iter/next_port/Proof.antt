@@ -4,8 +4,8 @@ use mathlib.Core.Path.{_≡_, refl, _∙_}
 use Prim.Native.Nat.{_-_}
 use borrow.Author.Needs.{needs}
 use Rattle.portgraph.specs.Limits.{portSlots}
-use Rattle.portgraph.specs.LinkWalks.{isPortIn}
-use Rattle.portgraph.specs.LinkWalkSteps.{firstWhere, search-turn, search-stops, search-ends}
+use Rattle.portgraph.specs.LinkWalks.{isPortIn, firstWhere}
+use Rattle.portgraph.specs.LinkWalkSteps.{search-turn, search-stops, search-ends}
 use Rattle.portgraph.proofs.link_iter.next_port.Statement.{statement}
 use Rattle.portgraph.proofs.link_iter.next_port.Tie as tie
 

@@ -1,9 +1,9 @@
 -- `records::answers::cut_words` meets its contract: one arm for each answer.
 use borrow.Author.Needs.{needs}
-use Rattle.multiportgraph.specs.Calls.{cutNumbers}
 use Rattle.records.specs.AnswerSteps.{told}
 use Rattle.records.proofs.answers.cut_words.Statement.{statement}
 use Rattle.records.proofs.answers.cut_words.Tie as tie
+use Rattle.multiportgraph.specs.Answers.{cutNumbers}
 
 enum-known-answer : tie.Need-enum-known-answer
 enum-known-answer c = search needs

@@ -1,9 +1,9 @@
 -- `records::answers::link_words` meets its contract: one arm for each answer.
 use borrow.Author.Needs.{needs}
-use Rattle.multiportgraph.specs.Calls.{linkNumbers}
 use Rattle.records.specs.AnswerSteps.{told}
 use Rattle.records.proofs.answers.link_words.Statement.{statement}
 use Rattle.records.proofs.answers.link_words.Tie as tie
+use Rattle.multiportgraph.specs.Answers.{linkNumbers}
 
 enum-known-answer : tie.Need-enum-known-answer
 enum-known-answer c = search needs

@@ -1,9 +1,9 @@
 -- `records::answers::refusal_words` meets its contract: one arm for each refusal.
 use borrow.Author.Needs.{needs}
-use Rattle.multiportgraph.specs.Calls.{refusalNumbers}
 use Rattle.records.specs.AnswerSteps.{told, told-side}
 use Rattle.records.proofs.answers.refusal_words.Statement.{statement}
 use Rattle.records.proofs.answers.refusal_words.Tie as tie
+use Rattle.multiportgraph.specs.Answers.{refusalNumbers}
 
 enum-told : tie.Need-enum-told
 enum-told c = search needs

@@ -1,9 +1,9 @@
 -- `records::answers::remove_words` meets its contract: one arm for each answer.
 use borrow.Author.Needs.{needs}
-use Rattle.multiportgraph.specs.Calls.{removeNumbers}
 use Rattle.records.specs.AnswerSteps.{told}
 use Rattle.records.proofs.answers.remove_words.Statement.{statement}
 use Rattle.records.proofs.answers.remove_words.Tie as tie
+use Rattle.multiportgraph.specs.Answers.{removeNumbers}
 
 enum-told : tie.Need-enum-told
 enum-told c = search needs

@@ -1,10 +1,10 @@
 -- `records::answers::set_words` meets its contract: one arm for each answer.
 use native.Mathlib.Omega.{arith}
 use borrow.Author.Needs.{needs}
-use Rattle.multiportgraph.specs.Calls.{setNumbers}
 use Rattle.records.specs.AnswerSteps.{told, events-word}
 use Rattle.records.proofs.answers.set_words.Statement.{statement}
 use Rattle.records.proofs.answers.set_words.Tie as tie
+use Rattle.multiportgraph.specs.Answers.{setNumbers}
 
 enum-known-answer : tie.Need-enum-known-answer
 enum-known-answer c = search needs

@@ -1,18 +1,15 @@
--- `records::lent::one_request` meets its contract, by what is asked. Assumes nothing.
-use mathlib.Core.Path.{refl, sym, ap, _∙_, subst}
-use Prim.Native.Nat.{_<_}
+-- `records::lent::one_request` meets its contract: each arm is the call that is asked. Assumes nothing.
+use mathlib.Core.Path.{refl, ap, _∙_}
 use native.Mathlib.Omega.{arith}
-use lib.ListN.{length}
 use borrow.Author.Needs.{needs}
+use Rattle.multiportgraph.specs.Calls.{visibleNodes, visiblePorts, visibleLinks}
 use Rattle.records.specs.Run.{five}
-use Rattle.records.specs.LentSteps.{nodes-in, ports-in, links-in}
-use Rattle.multiportgraph.specs.MultiLent.{multiIn}
-use Rattle.records.specs.RunSteps.{done-add, done-remove, done-resize, done-link, done-unlink, done-link-subports, done-unlink-subport, done-subport-link, done-counts, done-refused}
-use Rattle.records.specs.AnswerSteps.{events-fit, nodes-fit, ports-fit, links-fit, counts-told}
-use Rattle.records.specs.Forms.{EventsFit}
-use Rattle.multiportgraph.specs.Calls.{addNumbers, removeNumbers, setNumbers, linkNumbers, cutNumbers}
+use Rattle.records.specs.Forms.{meant}
+use Rattle.records.specs.AnswerSteps.{nodes-fit, ports-fit, links-fit}
+use Rattle.records.specs.AskSteps.{answered, counts-answered, set-answered, set-fits}
 use Rattle.records.proofs.lent.one_request.Statement.{statement}
 use Rattle.records.proofs.lent.one_request.Tie as tie
+use Rattle.multiportgraph.specs.Answers.{addNumbers, removeNumbers, linkNumbers, cutNumbers}
 
 enum-known-ask : tie.Need-enum-known-ask
 enum-known-ask c = search needs
@@ -24,7 +21,7 @@ cast-add-in-2 : tie.Need-cast-add-in-2
 cast-add-in-2 c = search needs
 
 add-in-requires : tie.Need-add-in-requires
-add-in-requires c κs = c .before .before .before .before .before .before .before .before .before .before .pre .0
+add-in-requires c κs = search needs
 
 add-words-requires : tie.Need-add-words-requires
 add-words-requires c κs = search needs
@@ -33,7 +30,7 @@ enum-known-ask-2 : tie.Need-enum-known-ask-2
 enum-known-ask-2 c = search needs
 
 remove-in-requires : tie.Need-remove-in-requires
-remove-in-requires c κs = c .before .before .before .before .before .before .before .before .before .before .pre .0
+remove-in-requires c κs = search needs
 
 remove-words-requires : tie.Need-remove-words-requires
 remove-words-requires c κs = search needs
@@ -48,16 +45,16 @@ cast-set-in-2 : tie.Need-cast-set-in-2
 cast-set-in-2 c = search needs
 
 set-in-requires : tie.Need-set-in-requires
-set-in-requires c κs = c .before .before .before .before .before .before .before .before .before .before .before .pre .0
+set-in-requires c κs = search needs
 
 set-words-requires : tie.Need-set-words-requires
-set-words-requires c κs = subst EventsFit (sym (c .before .before .before .set-in .ensures .1)) (events-fit (multiIn (c .before .before .before .before .before .before .before .before .before .before .before .before .before .before .before .args .nodes .now) (c .before .before .before .before .before .before .before .before .before .before .before .before .before .before .before .args .links .now) (c .before .before .before .before .before .before .before .before .before .before .before .before .before .before .before .args .owners .now) (c .before .before .before .before .before .before .before .before .before .before .before .before .before .before .before .args .heads .now) (c .before .before .before .before .before .before .before .before .before .before .before .before .before .before .before .args .marks .now) (c .before .before .before .before .before .before .before .before .before .before .before .before .before .before .before .args .flags .now) (c .before .before .before .before .before .before .before .before .before .before .before .before .before .before .before .args .held)) _ _ _ (length (c .before .before .before .before .before .before .before .before .before .before .before .before .before .before .before .args .moves .now)) (omega (arith, c .before .before .before .before .before .before .before .before .before .before .before .before .before .before .before .pre .1)))
+set-words-requires c κs = set-fits _ _ _ _ _ (c .before .before .before .set-in .ensures .1) (omega (arith, c .before .before .before .before .before .before .before .before .before .before .before .before .before .before .before .pre .1))
 
 enum-known-ask-4 : tie.Need-enum-known-ask-4
 enum-known-ask-4 c = search needs
 
 link-in-requires : tie.Need-link-in-requires
-link-in-requires c κs = c .before .before .before .before .before .before .before .before .before .before .before .pre
+link-in-requires c κs = search needs
 
 link-words-requires : tie.Need-link-words-requires
 link-words-requires c κs = search needs
@@ -66,7 +63,7 @@ enum-known-ask-5 : tie.Need-enum-known-ask-5
 enum-known-ask-5 c = search needs
 
 cut-port-in-requires : tie.Need-cut-port-in-requires
-cut-port-in-requires c κs = c .before .before .before .before .before .before .before .before .before .before .pre .0
+cut-port-in-requires c κs = search needs
 
 cut-words-requires : tie.Need-cut-words-requires
 cut-words-requires c κs = search needs
@@ -74,14 +71,8 @@ cut-words-requires c κs = search needs
 enum-known-ask-6 : tie.Need-enum-known-ask-6
 enum-known-ask-6 c = search needs
 
-subport-requires : tie.Need-subport-requires
-subport-requires c κs = search needs
-
-subport-requires-2 : tie.Need-subport-requires-2
-subport-requires-2 c κs = search needs
-
 link-sub-in-requires : tie.Need-link-sub-in-requires
-link-sub-in-requires c κs = c .before .before .before .before .before .before .before .before .before .before .before .before .pre .0
+link-sub-in-requires c κs = search needs
 
 link-words-requires-2 : tie.Need-link-words-requires-2
 link-words-requires-2 c κs = search needs
@@ -89,11 +80,8 @@ link-words-requires-2 c κs = search needs
 enum-known-ask-7 : tie.Need-enum-known-ask-7
 enum-known-ask-7 c = search needs
 
-subport-requires-3 : tie.Need-subport-requires-3
-subport-requires-3 c κs = search needs
-
 cut-sub-in-requires : tie.Need-cut-sub-in-requires
-cut-sub-in-requires c κs = c .before .before .before .before .before .before .before .before .before .before .before .pre .0
+cut-sub-in-requires c κs = search needs
 
 cut-words-requires-2 : tie.Need-cut-words-requires-2
 cut-words-requires-2 c κs = search needs
@@ -101,11 +89,8 @@ cut-words-requires-2 c κs = search needs
 enum-known-ask-8 : tie.Need-enum-known-ask-8
 enum-known-ask-8 c = search needs
 
-subport-requires-4 : tie.Need-subport-requires-4
-subport-requires-4 c κs = search needs
-
 subport-link-in-requires : tie.Need-subport-link-in-requires
-subport-link-in-requires c κs = c .before .before .before .before .before .before .before .before .before .before .before .pre .0
+subport-link-in-requires c κs = search needs
 
 cut-words-requires-3 : tie.Need-cut-words-requires-3
 cut-words-requires-3 c κs = search needs
@@ -123,13 +108,16 @@ link-count-in-requires : tie.Need-link-count-in-requires
 link-count-in-requires c κs = search needs
 
 cast-five-words : tie.Need-cast-five-words
-cast-five-words c = omega (arith, nodes-fit (multiIn (c .before .before .before .before .before .before .args .nodes .now) (c .before .before .before .before .before .before .args .links .now) (c .before .before .before .before .before .before .args .owners .now) (c .before .before .before .before .before .before .args .heads .now) (c .before .before .before .before .before .before .args .marks .now) (c .before .before .before .before .before .before .args .flags .now) (c .before .before .before .before .before .before .args .held)) (c .before .before .before .before .before .before .pre .0), c .before .before .node-count-in .ensures, nodes-in (c .before .before .before .before .before .before .args .nodes .now) (c .before .before .before .before .before .before .args .links .now) (c .before .before .before .before .before .before .args .owners .now) (c .before .before .before .before .before .before .args .heads .now) (c .before .before .before .before .before .before .args .marks .now) (c .before .before .before .before .before .before .args .flags .now) (c .before .before .before .before .before .before .args .held))
+unfolding visibleNodes
+cast-five-words c = omega (arith, nodes-fit _ (c .before .before .before .before .before .before .pre .0))
 
 cast-five-words-2 : tie.Need-cast-five-words-2
-cast-five-words-2 c = omega (arith, ports-fit (multiIn (c .before .before .before .before .before .before .args .nodes .now) (c .before .before .before .before .before .before .args .links .now) (c .before .before .before .before .before .before .args .owners .now) (c .before .before .before .before .before .before .args .heads .now) (c .before .before .before .before .before .before .args .marks .now) (c .before .before .before .before .before .before .args .flags .now) (c .before .before .before .before .before .before .args .held)) (c .before .before .before .before .before .before .pre .0), c .before .port-count-in .ensures, ports-in (c .before .before .before .before .before .before .args .nodes .now) (c .before .before .before .before .before .before .args .links .now) (c .before .before .before .before .before .before .args .owners .now) (c .before .before .before .before .before .before .args .heads .now) (c .before .before .before .before .before .before .args .marks .now) (c .before .before .before .before .before .before .args .flags .now) (c .before .before .before .before .before .before .args .held))
+unfolding visiblePorts
+cast-five-words-2 c = omega (arith, ports-fit _ (c .before .before .before .before .before .before .pre .0))
 
 cast-five-words-3 : tie.Need-cast-five-words-3
-cast-five-words-3 c = omega (arith, links-fit (multiIn (c .before .before .before .before .before .before .args .nodes .now) (c .before .before .before .before .before .before .args .links .now) (c .before .before .before .before .before .before .args .owners .now) (c .before .before .before .before .before .before .args .heads .now) (c .before .before .before .before .before .before .args .marks .now) (c .before .before .before .before .before .before .args .flags .now) (c .before .before .before .before .before .before .args .held)) (c .before .before .before .before .before .before .pre .0), c .link-count-in .ensures, links-in (c .before .before .before .before .before .before .args .nodes .now) (c .before .before .before .before .before .before .args .links .now) (c .before .before .before .before .before .before .args .owners .now) (c .before .before .before .before .before .before .args .heads .now) (c .before .before .before .before .before .before .args .marks .now) (c .before .before .before .before .before .before .args .flags .now) (c .before .before .before .before .before .before .args .held))
+unfolding visibleLinks
+cast-five-words-3 c = omega (arith, links-fit _ (c .before .before .before .before .before .before .pre .0))
 
 five-words-requires : tie.Need-five-words-requires
 five-words-requires c κs = search needs
@@ -141,40 +129,65 @@ five-words-requires-2 : tie.Need-five-words-requires-2
 five-words-requires-2 c κs = search needs
 
 returns : tie.Need-returns
-returns c = done-add (multiIn (c .before .before .before .before .before .before .before .before .before .before .before .before .before .args .nodes .now) (c .before .before .before .before .before .before .before .before .before .before .before .before .before .args .links .now) (c .before .before .before .before .before .before .before .before .before .before .before .before .before .args .owners .now) (c .before .before .before .before .before .before .before .before .before .before .before .before .before .args .heads .now) (c .before .before .before .before .before .before .before .before .before .before .before .before .before .args .marks .now) (c .before .before .before .before .before .before .before .before .before .before .before .before .before .args .flags .now) (c .before .before .before .before .before .before .before .before .before .before .before .before .before .args .held)) (c .before .before .before .before .before .before .before .before .before .before .before .before .before .args .ask) (c .before .before .before .before .before .before .before .before .before .before .ask .given .1) refl (c .add-words .ensures ∙ ap (λ x. five (addNumbers x)) (c .before .before .add-in .ensures .1)) (c .before .before .add-in .ensures .0)
+returns c =
+    let k = c .before .before .before .before .before .before .before .before .before .before in
+    answered (k .before .before .before .pre .0) (ap meant (k .ask .given .1)) (c .add-words .ensures ∙ ap (λ x. five (addNumbers x)) (c .before .before .add-in .ensures .1))
+    (c .before .before .add-in .ensures .0)
 
 returns-2 : tie.Need-returns-2
-returns-2 c = done-remove (multiIn (c .before .before .before .before .before .before .before .before .before .before .before .before .before .args .nodes .now) (c .before .before .before .before .before .before .before .before .before .before .before .before .before .args .links .now) (c .before .before .before .before .before .before .before .before .before .before .before .before .before .args .owners .now) (c .before .before .before .before .before .before .before .before .before .before .before .before .before .args .heads .now) (c .before .before .before .before .before .before .before .before .before .before .before .before .before .args .marks .now) (c .before .before .before .before .before .before .before .before .before .before .before .before .before .args .flags .now) (c .before .before .before .before .before .before .before .before .before .before .before .before .before .args .held)) (c .before .before .before .before .before .before .before .before .before .before .before .before .before .args .ask) (c .before .before .before .before .before .before .before .before .before .before .ask2 .given .1) refl (c .remove-words .ensures ∙ ap (λ x. five (removeNumbers x)) (c .before .before .remove-in .ensures .1)) (c .before .before .remove-in .ensures .0)
+returns-2 c =
+    let k = c .before .before .before .before .before .before .before .before .before .before in
+    answered (k .before .before .before .pre .0) (ap meant (k .ask2 .given .1)) (c .remove-words .ensures ∙ ap (λ x. five (removeNumbers x)) (c .before .before .remove-in .ensures .1))
+    (c .before .before .remove-in .ensures .0)
 
 same-length : tie.Need-same-length
-same-length c = c .before .before .before .moves .given
+same-length c = search needs
 
 returns-3 : tie.Need-returns-3
-returns-3 c = done-resize (multiIn (c .before .before .before .before .before .before .before .before .before .before .before .before .before .before .before .before .args .nodes .now) (c .before .before .before .before .before .before .before .before .before .before .before .before .before .before .before .before .args .links .now) (c .before .before .before .before .before .before .before .before .before .before .before .before .before .before .before .before .args .owners .now) (c .before .before .before .before .before .before .before .before .before .before .before .before .before .before .before .before .args .heads .now) (c .before .before .before .before .before .before .before .before .before .before .before .before .before .before .before .before .args .marks .now) (c .before .before .before .before .before .before .before .before .before .before .before .before .before .before .before .before .args .flags .now) (c .before .before .before .before .before .before .before .before .before .before .before .before .before .before .before .before .args .held)) (c .before .before .before .before .before .before .before .before .before .before .before .before .before .before .before .before .args .ask) (c .before .before .before .before .before .before .before .before .before .before .before .before .before .ask3 .given .1) refl (c .before .before .before .before .before .before .before .before .before .before .before .before .before .before .before .before .pre .1) (c .set-words .ensures ∙ ap (λ x. five (setNumbers x)) (c .before .before .before .before .set-in .ensures .1)) (c .before .before .before .before .set-in .ensures .0)
+returns-3 c =
+    let k = c .before .before .before .before .before .before .before .before .before .before .before .before .before in
+    set-answered (k .before .before .before .pre .0) (ap meant (k .ask3 .given .1)) (k .before .before .before .pre .1) (c .before .before .before .before .set-in .ensures .1) (c .set-words .ensures) (c .before .before .before .before .set-in .ensures .0)
 
 same-length-2 : tie.Need-same-length-2
-same-length-2 c = c .before .before .before .moves2 .given
+same-length-2 c = search needs
 
 returns-4 : tie.Need-returns-4
-returns-4 c = done-link (multiIn (c .before .before .before .before .before .before .before .before .before .before .before .before .before .before .before .before .args .nodes .now) (c .before .before .before .before .before .before .before .before .before .before .before .before .before .before .before .before .args .links .now) (c .before .before .before .before .before .before .before .before .before .before .before .before .before .before .before .before .args .owners .now) (c .before .before .before .before .before .before .before .before .before .before .before .before .before .before .before .before .args .heads .now) (c .before .before .before .before .before .before .before .before .before .before .before .before .before .before .before .before .args .marks .now) (c .before .before .before .before .before .before .before .before .before .before .before .before .before .before .before .before .args .flags .now) (c .before .before .before .before .before .before .before .before .before .before .before .before .before .before .before .before .args .held)) (c .before .before .before .before .before .before .before .before .before .before .before .before .before .before .before .before .args .ask) (c .before .before .before .before .before .before .before .before .before .before .before .before .before .ask4 .given .1) refl (c .link-words .ensures ∙ ap (λ x. five (linkNumbers x)) (c .before .before .before .before .link-in .ensures .1)) (c .before .before .before .before .link-in .ensures .0)
+returns-4 c =
+    let k = c .before .before .before .before .before .before .before .before .before .before .before .before .before in
+    answered (k .before .before .before .pre .0) (ap meant (k .ask4 .given .1)) (c .link-words .ensures ∙ ap (λ x. five (linkNumbers x)) (c .before .before .before .before .link-in .ensures .1))
+    (c .before .before .before .before .link-in .ensures .0)
 
 returns-5 : tie.Need-returns-5
-returns-5 c = done-unlink (multiIn (c .before .before .before .before .before .before .before .before .before .before .before .before .before .args .nodes .now) (c .before .before .before .before .before .before .before .before .before .before .before .before .before .args .links .now) (c .before .before .before .before .before .before .before .before .before .before .before .before .before .args .owners .now) (c .before .before .before .before .before .before .before .before .before .before .before .before .before .args .heads .now) (c .before .before .before .before .before .before .before .before .before .before .before .before .before .args .marks .now) (c .before .before .before .before .before .before .before .before .before .before .before .before .before .args .flags .now) (c .before .before .before .before .before .before .before .before .before .before .before .before .before .args .held)) (c .before .before .before .before .before .before .before .before .before .before .before .before .before .args .ask) (c .before .before .before .before .before .before .before .before .before .before .ask5 .given .1) refl (c .cut-words .ensures ∙ ap (λ x. five (cutNumbers x)) (c .before .before .cut-port-in .ensures .1)) (c .before .before .cut-port-in .ensures .0)
+returns-5 c =
+    let k = c .before .before .before .before .before .before .before .before .before .before in
+    answered (k .before .before .before .pre .0) (ap meant (k .ask5 .given .1)) (c .cut-words .ensures ∙ ap (λ x. five (cutNumbers x)) (c .before .before .cut-port-in .ensures .1))
+    (c .before .before .cut-port-in .ensures .0)
 
 returns-6 : tie.Need-returns-6
-returns-6 c = done-link-subports (multiIn (c .before .before .before .before .before .before .before .before .before .before .before .before .before .before .before .args .nodes .now) (c .before .before .before .before .before .before .before .before .before .before .before .before .before .before .before .args .links .now) (c .before .before .before .before .before .before .before .before .before .before .before .before .before .before .before .args .owners .now) (c .before .before .before .before .before .before .before .before .before .before .before .before .before .before .before .args .heads .now) (c .before .before .before .before .before .before .before .before .before .before .before .before .before .before .before .args .marks .now) (c .before .before .before .before .before .before .before .before .before .before .before .before .before .before .before .args .flags .now) (c .before .before .before .before .before .before .before .before .before .before .before .before .before .before .before .args .held)) (c .before .before .before .before .before .before .before .before .before .before .before .before .before .before .before .args .ask) (c .before .before .before .before .before .before .before .before .before .before .before .before .ask6 .given .1) (c .before .before .before .before .subport .ensures) (c .before .before .before .subport2 .ensures) refl (c .link-words2 .ensures ∙ ap (λ x. five (linkNumbers x)) (c .before .before .link-sub-in .ensures .1)) (c .before .before .link-sub-in .ensures .0)
+returns-6 c =
+    let k = c .before .before .before .before .before .before .before .before .before .before in
+    answered (k .before .before .before .pre .0) (ap meant (k .ask6 .given .1)) (c .link-words2 .ensures ∙ ap (λ x. five (linkNumbers x)) (c .before .before .link-sub-in .ensures .1))
+    (c .before .before .link-sub-in .ensures .0)
 
 returns-7 : tie.Need-returns-7
-returns-7 c = done-unlink-subport (multiIn (c .before .before .before .before .before .before .before .before .before .before .before .before .before .before .args .nodes .now) (c .before .before .before .before .before .before .before .before .before .before .before .before .before .before .args .links .now) (c .before .before .before .before .before .before .before .before .before .before .before .before .before .before .args .owners .now) (c .before .before .before .before .before .before .before .before .before .before .before .before .before .before .args .heads .now) (c .before .before .before .before .before .before .before .before .before .before .before .before .before .before .args .marks .now) (c .before .before .before .before .before .before .before .before .before .before .before .before .before .before .args .flags .now) (c .before .before .before .before .before .before .before .before .before .before .before .before .before .before .args .held)) (c .before .before .before .before .before .before .before .before .before .before .before .before .before .before .args .ask) (c .before .before .before .before .before .before .before .before .before .before .before .ask7 .given .1) (c .before .before .before .subport3 .ensures) refl (c .cut-words2 .ensures ∙ ap (λ x. five (cutNumbers x)) (c .before .before .cut-sub-in .ensures .1)) (c .before .before .cut-sub-in .ensures .0)
+returns-7 c =
+    let k = c .before .before .before .before .before .before .before .before .before .before in
+    answered (k .before .before .before .pre .0) (ap meant (k .ask7 .given .1)) (c .cut-words2 .ensures ∙ ap (λ x. five (cutNumbers x)) (c .before .before .cut-sub-in .ensures .1))
+    (c .before .before .cut-sub-in .ensures .0)
 
 returns-8 : tie.Need-returns-8
-returns-8 c = done-subport-link (multiIn (c .before .before .before .before .before .before .before .before .before .before .before .before .before .args .nodes .now) (c .before .before .before .before .before .before .before .before .before .before .before .before .before .args .links .now) (c .before .before .before .before .before .before .before .before .before .before .before .before .before .args .owners .now) (c .before .before .before .before .before .before .before .before .before .before .before .before .before .args .heads .now) (c .before .before .before .before .before .before .before .before .before .before .before .before .before .args .marks .now) (c .before .before .before .before .before .before .before .before .before .before .before .before .before .args .flags .now) (c .before .before .before .before .before .before .before .before .before .before .before .before .before .args .held)) (c .before .before .before .before .before .before .before .before .before .before .before .before .before .args .ask) (c .before .before .before .before .before .before .before .before .before .before .ask8 .given .1) (c .before .before .subport4 .ensures) (c .before .subport-link-in .ensures) (c .cut-words3 .ensures) refl
+returns-8 c =
+    let k = c .before .before .before .before .before .before .before .before .before in
+    answered (k .before .before .before .pre .0) (ap meant (k .ask8 .given .1)) (c .cut-words3 .ensures ∙ ap (λ x. five (cutNumbers x)) (c .before .subport-link-in .ensures)) refl
 
 returns-9 : tie.Need-returns-9
-returns-9 c = done-counts (multiIn (c .before .before .before .before .before .before .before .args .nodes .now) (c .before .before .before .before .before .before .before .args .links .now) (c .before .before .before .before .before .before .before .args .owners .now) (c .before .before .before .before .before .before .before .args .heads .now) (c .before .before .before .before .before .before .before .args .marks .now) (c .before .before .before .before .before .before .before .args .flags .now) (c .before .before .before .before .before .before .before .args .held)) (c .before .before .before .before .before .before .before .args .ask) (c .before .before .before .before .enum-told .given .1) (counts-told (multiIn (c .before .before .before .before .before .before .before .args .nodes .now) (c .before .before .before .before .before .before .before .args .links .now) (c .before .before .before .before .before .before .before .args .owners .now) (c .before .before .before .before .before .before .before .args .heads .now) (c .before .before .before .before .before .before .before .args .marks .now) (c .before .before .before .before .before .before .before .args .flags .now) (c .before .before .before .before .before .before .before .args .held)) _ _ _ _ (c .before .before .before .node-count-in .ensures ∙ nodes-in (c .before .before .before .before .before .before .before .args .nodes .now) (c .before .before .before .before .before .before .before .args .links .now) (c .before .before .before .before .before .before .before .args .owners .now) (c .before .before .before .before .before .before .before .args .heads .now) (c .before .before .before .before .before .before .before .args .marks .now) (c .before .before .before .before .before .before .before .args .flags .now) (c .before .before .before .before .before .before .before .args .held)) (c .before .before .port-count-in .ensures ∙ ports-in (c .before .before .before .before .before .before .before .args .nodes .now) (c .before .before .before .before .before .before .before .args .links .now) (c .before .before .before .before .before .before .before .args .owners .now) (c .before .before .before .before .before .before .before .args .heads .now) (c .before .before .before .before .before .before .before .args .marks .now) (c .before .before .before .before .before .before .before .args .flags .now) (c .before .before .before .before .before .before .before .args .held)) (c .before .link-count-in .ensures ∙ links-in (c .before .before .before .before .before .before .before .args .nodes .now) (c .before .before .before .before .before .before .before .args .links .now) (c .before .before .before .before .before .before .before .args .owners .now) (c .before .before .before .before .before .before .before .args .heads .now) (c .before .before .before .before .before .before .before .args .marks .now) (c .before .before .before .before .before .before .before .args .flags .now) (c .before .before .before .before .before .before .before .args .held)) (c .five-words .ensures)) refl
+unfolding visibleNodes visiblePorts visibleLinks
+returns-9 c =
+    let k = c .before .before .before .before in
+    counts-answered (k .before .before .before .pre .0) (ap meant (k .enum-told .given .1)) (c .before .before .before .node-count-in .ensures) (c .before .before .port-count-in .ensures) (c .before .link-count-in .ensures) (c .five-words .ensures)
 
 returns-10 : tie.Need-returns-10
-returns-10 c = done-refused (multiIn (c .before .before .before .before .args .nodes .now) (c .before .before .before .before .args .links .now) (c .before .before .before .before .args .owners .now) (c .before .before .before .before .args .heads .now) (c .before .before .before .before .args .marks .now) (c .before .before .before .before .args .flags .now) (c .before .before .before .before .args .held)) (c .before .before .before .before .args .ask) (c .before .enum-told2 .given .1) (c .five-words2 .ensures) refl
+returns-10 c = answered (c .before .before .before .before .pre .0) (ap meant (c .before .enum-told2 .given .1)) (c .five-words2 .ensures) refl
 
 pub one-request-spec : {M : Type 1} → statement M
 one-request-spec =
@@ -200,16 +213,12 @@ one-request-spec =
     cut-port-in-requires
     cut-words-requires
     enum-known-ask-6
-    subport-requires
-    subport-requires-2
     link-sub-in-requires
     link-words-requires-2
     enum-known-ask-7
-    subport-requires-3
     cut-sub-in-requires
     cut-words-requires-2
     enum-known-ask-8
-    subport-requires-4
     subport-link-in-requires
     cut-words-requires-3
     enum-told

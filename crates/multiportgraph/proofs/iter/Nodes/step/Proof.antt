@@ -4,15 +4,16 @@ use mathlib.Core.Path.{_≡_, refl, sym, ap, _∙_}
 use Prim.Native.Nat.{_-_}
 use native.Mathlib.Omega.{arith}
 use borrow.Author.Needs.{needs}
+use Rattle.portgraph.specs.Lists.{range, filter}
 use Rattle.portgraph.specs.LookupSteps.{with-numbers}
-use Rattle.multiportgraph.specs.Wires.{range, those, isBlock}
+use Rattle.multiportgraph.specs.Wires.{isBlock}
 use Rattle.multiportgraph.specs.WalkNumbers.{nodesValues}
 use Rattle.multiportgraph.specs.WalkSteps.{block-told, search-turn, nodes-front-gone, nodes-back-gone, nodes-item, nodes-none}
 use Rattle.multiportgraph.proofs.iter.Nodes.step.Statement.{statement}
 use Rattle.multiportgraph.proofs.iter.Nodes.step.Tie as tie
 
 abbrev Inv-loop : tie.InvT-loop
-Inv-loop = λ graph front back lower end n₀ n. those (isBlock graph) (range n (end - n)) ≡ those (isBlock graph) (range front (end - front))
+Inv-loop = λ graph front back lower end n₀ n. filter (isBlock graph) (range n (end - n)) ≡ filter (isBlock graph) (range front (end - front))
 
 abbrev μ-loop : tie.MeasureT-loop
 μ-loop = λ graph front back lower end n₀ n. end - n
@@ -33,7 +34,7 @@ wide-requires : tie.Need-wide-requires Inv-loop μ-loop
 wide-requires c κs = search needs
 
 loop-holds : tie.Need-loop-holds Inv-loop μ-loop
-loop-holds c = ap (λ x. those (isBlock (c .before .before .before .before .before .before .before .args .t2)) (range x (c .before .end-before .result - x))) (c .wide .ensures)
+loop-holds c = ap (λ x. filter (isBlock (c .before .before .before .before .before .before .before .args .t2)) (range x (c .before .end-before .result - x))) (c .wide .ensures)
 
 mul-slot : tie.Need-mul-slot Inv-loop μ-loop
 mul-slot c = let h = c .before .before .before .end-before .ensures .1 in let l = c .loop-test .taken in omega arith

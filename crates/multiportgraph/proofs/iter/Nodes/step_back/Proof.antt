@@ -5,15 +5,16 @@ use Prim.Native.Nat.{_-_, _≤_}
 use native.Mathlib.Omega.{arith}
 use borrow.Author.Needs.{needs}
 use Rattle.portgraph.specs.Limits.{nodeSlots}
+use Rattle.portgraph.specs.Lists.{range, filter}
 use Rattle.portgraph.specs.LookupSteps.{with-numbers}
-use Rattle.multiportgraph.specs.Wires.{range, those, isBlock}
+use Rattle.multiportgraph.specs.Wires.{isBlock}
 use Rattle.multiportgraph.specs.WalkNumbers.{nodesValues}
 use Rattle.multiportgraph.specs.WalkSteps.{block-told, back-turn, back-front-gone, back-back-gone, back-item, back-none}
 use Rattle.multiportgraph.proofs.iter.Nodes.step_back.Statement.{statement}
 use Rattle.multiportgraph.proofs.iter.Nodes.step_back.Tie as tie
 
 abbrev Inv-loop : tie.InvT-loop
-Inv-loop = λ graph front back lower from end₀ end. (end ≤ nodeSlots) × (those (isBlock graph) (range from (end - from)) ≡ those (isBlock graph) (range from (end₀ - from)))
+Inv-loop = λ graph front back lower from end₀ end. (end ≤ nodeSlots) × (filter (isBlock graph) (range from (end - from)) ≡ filter (isBlock graph) (range from (end₀ - from)))
 
 abbrev μ-loop : tie.MeasureT-loop
 μ-loop = λ graph front back lower from end₀ end. end - from

@@ -1,11 +1,11 @@
 -- `multiportgraph::multiportgraph::MultiPortGraph::add_node` meets its contract: the lower graph's answer, and a refusal as it gives it.
 use borrow.Author.Needs.{needs}
 use Rattle.portgraph.specs.LookupSteps.{with-numbers}
-use Rattle.multiportgraph.specs.Calls.{addNumbers}
 use Rattle.multiportgraph.specs.CallSteps.{block-added}
 use Rattle.multiportgraph.specs.declared.multiportgraph.NodeAdded.{NodeAdded}
 use Rattle.multiportgraph.proofs.multiportgraph.MultiPortGraph.add_node.Statement.{statement}
 use Rattle.multiportgraph.proofs.multiportgraph.MultiPortGraph.add_node.Tie as tie
+use Rattle.multiportgraph.specs.Answers.{addNumbers}
 
 add-node-requires : tie.Need-add-node-requires
 add-node-requires c κs = search needs

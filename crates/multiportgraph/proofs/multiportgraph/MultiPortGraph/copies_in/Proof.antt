@@ -9,13 +9,13 @@ use mathlib.Core.Logic.{⊎-elim}
 use lib.ListN.{length}
 use lib.Seq.{sets}
 use Rattle.portgraph.specs.Limits.{portSlots}
-use Rattle.multiportgraph.specs.Calls.{copiesIn}
 use Rattle.multiportgraph.specs.FormSteps.{split-told}
 use Rattle.multiportgraph.specs.BlockSteps.{copies-begun, copies-turn-split, copies-turn-plain, copies-counted, copies-listed}
 use Rattle.multiportgraph.proofs.multiportgraph.MultiPortGraph.copies_in.Statement.{
   statement,
 }
 use Rattle.multiportgraph.proofs.multiportgraph.MultiPortGraph.copies_in.Tie as tie
+use Rattle.multiportgraph.specs.HiddenNodes.{copiesIn}
 
 abbrev Inv-loop : tie.InvT-loop
 Inv-loop list₀ at first count self place₀ k₀ list place k =

@@ -8,10 +8,11 @@ use Rattle.multiportgraph.specs.declared.named.EndNeed.the-variants as n
 use Rattle.multiportgraph.specs.NamedLaws.{prepared-by, grow-needs, split-needs, both-joined}
 use Rattle.multiportgraph.specs.PrepareSteps.{lower-wf}
 use Rattle.multiportgraph.specs.Forms.{preparedAs}
-use Rattle.multiportgraph.specs.LinkSteps.{OnBlock, others-stay, still-wf, both-full, second-full, one-side}
-use Rattle.multiportgraph.specs.Calls.{prepare}
+use Rattle.multiportgraph.specs.LinkSteps.{others-stay, still-wf, both-full, second-full, one-side}
 use Rattle.multiportgraph.proofs.multiportgraph.MultiPortGraph.link_both.Statement.{statement}
 use Rattle.multiportgraph.proofs.multiportgraph.MultiPortGraph.link_both.Tie as tie
+use Rattle.multiportgraph.specs.HiddenNodes.{prepare}
+use Rattle.multiportgraph.specs.Presumed.{OnBlock}
 
 -- the first end, however it was prepared
 first-is : (c : tie.At-match-came) → c .match .first ≡ preparedAs (c .before .before .before .before .before .before .args .t1) (prepare (c .before .before .before .before .before .before .args .t1) (c .before .before .before .before .before .before .args .a) (c .before .before .before .before .before .before .args .d))

@@ -6,10 +6,10 @@ use Rattle.portgraph.specs.WfFacts.{link-count-fits}
 use Rattle.portgraph.specs.LookupSteps.{with-numbers}
 use Rattle.multiportgraph.specs.NamedLaws.{call-done, first-on-block, both-on-blocks, ends-joined}
 use Rattle.multiportgraph.specs.declared.multiportgraph.PortsLinked.{PortsLinked}
-use Rattle.multiportgraph.specs.Calls.{linkNumbers}
 use Rattle.multiportgraph.specs.CallSteps.{lower-wf}
 use Rattle.multiportgraph.proofs.multiportgraph.MultiPortGraph.link_ports.Statement.{statement}
 use Rattle.multiportgraph.proofs.multiportgraph.MultiPortGraph.link_ports.Tie as tie
+use Rattle.multiportgraph.specs.Answers.{linkNumbers}
 
 link-need-requires : tie.Need-link-need-requires
 link-need-requires c κs = search needs

@@ -8,10 +8,10 @@ use Rattle.multiportgraph.specs.NamedLaws.{link-done, link-refused, join
 use Rattle.multiportgraph.specs.declared.multiportgraph.PortsLinked.{PortsLinked}
 use Rattle.multiportgraph.specs.declared.multiportgraph.MultiPortGraph.{MultiPortGraph}
 use Rattle.multiportgraph.specs.declared.multiportgraph.LinkAnswer.the-variants as link
-use Rattle.multiportgraph.specs.Calls.{linkNumbers}
 use Rattle.multiportgraph.specs.CallSteps.{lower-wf}
 use Rattle.multiportgraph.proofs.multiportgraph.MultiPortGraph.link_subports.Statement.{statement}
 use Rattle.multiportgraph.proofs.multiportgraph.MultiPortGraph.link_subports.Tie as tie
+use Rattle.multiportgraph.specs.Answers.{linkNumbers}
 
 link-named-requires : tie.Need-link-named-requires
 link-named-requires c κs = search needs

@@ -7,12 +7,12 @@ use native.Mathlib.Omega.{arith}
 use borrow.Author.Needs.{needs}
 use lib.ListN.{length, take, drop}
 use Rattle.portgraph.specs.Model.{Wf}
-use Rattle.multiportgraph.specs.Calls.{removeAll}
 use Rattle.multiportgraph.specs.BlockSteps.{remove-begun, remove-turn, remove-done, wf-lone-is}
 use Rattle.multiportgraph.proofs.multiportgraph.MultiPortGraph.remove_all.Statement.{
   statement,
 }
 use Rattle.multiportgraph.proofs.multiportgraph.MultiPortGraph.remove_all.Tie as tie
+use Rattle.multiportgraph.specs.HiddenNodes.{removeAll}
 
 abbrev Inv-loop : tie.InvT-loop
 Inv-loop list count graph₀ k₀ graph k =

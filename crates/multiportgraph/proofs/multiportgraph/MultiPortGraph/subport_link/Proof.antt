@@ -2,10 +2,10 @@
 use mathlib.Core.Path.{refl}
 use borrow.Author.Needs.{needs}
 use Rattle.portgraph.specs.LookupSteps.{with-numbers}
-use Rattle.multiportgraph.specs.Calls.{cutNumbers}
 use Rattle.multiportgraph.specs.NamedLaws.{read-done}
 use Rattle.multiportgraph.proofs.multiportgraph.MultiPortGraph.subport_link.Statement.{statement}
 use Rattle.multiportgraph.proofs.multiportgraph.MultiPortGraph.subport_link.Tie as tie
+use Rattle.multiportgraph.specs.Answers.{cutNumbers}
 
 end-named-requires : tie.Need-end-named-requires
 end-named-requires c κs = search needs

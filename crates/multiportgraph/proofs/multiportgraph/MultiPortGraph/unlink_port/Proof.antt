@@ -4,13 +4,14 @@ use borrow.Author.Needs.{needs}
 use Rattle.portgraph.specs.LookupSteps.{with-numbers}
 use Rattle.multiportgraph.specs.NamedLaws.{seen-as, port-cut-none, port-cut-far}
 use Rattle.multiportgraph.specs.Reading.{dead, hidden, isSplit}
-use Rattle.multiportgraph.specs.LinkSteps.{OnBlock, on-block}
+use Rattle.multiportgraph.specs.LinkSteps.{on-block}
 use Rattle.multiportgraph.specs.declared.multiportgraph.PortUnlinked.{PortUnlinked}
-use Rattle.multiportgraph.specs.Calls.{cutNumbers}
 use Rattle.multiportgraph.specs.FormSteps.{split-told}
 use Rattle.multiportgraph.specs.CallSteps.{was-dead, was-hidden, was-visible, cut-port-seen, cut-port-split}
 use Rattle.multiportgraph.proofs.multiportgraph.MultiPortGraph.unlink_port.Statement.{statement}
 use Rattle.multiportgraph.proofs.multiportgraph.MultiPortGraph.unlink_port.Tie as tie
+use Rattle.multiportgraph.specs.Answers.{cutNumbers}
+use Rattle.multiportgraph.specs.Presumed.{OnBlock}
 
 -- the port is a block's
 on-block-here : (c : tie.After-direction) → OnBlock (c .before .before .before .before .before .before .args .t1) (c .before .before .before .before .before .before .args .port .0) (c .direction .given .0 .1 .0)

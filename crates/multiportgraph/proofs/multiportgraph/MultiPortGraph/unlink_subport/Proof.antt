@@ -4,9 +4,9 @@ use borrow.Author.Needs.{needs}
 use Rattle.portgraph.specs.LookupSteps.{with-numbers}
 use Rattle.multiportgraph.specs.declared.multiportgraph.PortUnlinked.{PortUnlinked}
 use Rattle.multiportgraph.specs.NamedLaws.{cut-done, end-cut}
-use Rattle.multiportgraph.specs.Calls.{cutNumbers}
 use Rattle.multiportgraph.proofs.multiportgraph.MultiPortGraph.unlink_subport.Statement.{statement}
 use Rattle.multiportgraph.proofs.multiportgraph.MultiPortGraph.unlink_subport.Tie as tie
+use Rattle.multiportgraph.specs.Answers.{cutNumbers}
 
 end-named-requires : tie.Need-end-named-requires
 end-named-requires c κs = search needs

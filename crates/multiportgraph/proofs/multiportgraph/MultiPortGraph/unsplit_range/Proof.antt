@@ -7,10 +7,10 @@ use native.Mathlib.Nat.{add-zero, sub-zero}
 use native.Mathlib.Omega.{arith}
 use borrow.Author.Needs.{needs}
 use Rattle.portgraph.specs.Model.{Wf}
-use Rattle.multiportgraph.specs.Calls.{unsplit, unsplitRange}
 use Rattle.multiportgraph.specs.BlockSteps.{unsplit-turn, unsplit-none, unsplit-done, wf-unsplit-is}
 use Rattle.multiportgraph.proofs.multiportgraph.MultiPortGraph.unsplit_range.Statement.{statement}
 use Rattle.multiportgraph.proofs.multiportgraph.MultiPortGraph.unsplit_range.Tie as tie
+use Rattle.multiportgraph.specs.HiddenNodes.{unsplit, unsplitRange}
 
 abbrev Inv-loop : tie.InvT-loop
 Inv-loop first count graph₀ k₀ graph k =

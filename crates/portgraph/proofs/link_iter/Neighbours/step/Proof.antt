@@ -5,18 +5,18 @@ use native.Mathlib.Omega.{arith}
 use lib.Dec.{ltb}
 use borrow.Author.Needs.{needs}
 use Rattle.portgraph.specs.Limits.{portSlots}
-use Rattle.portgraph.specs.Entries.{pick}
 use Rattle.portgraph.specs.LookupSteps.{with-numbers}
 use Rattle.portgraph.specs.LinkWalks.{neighboursItem, stepNeighbours, neighboursNumbers}
 use Rattle.portgraph.specs.LinkWalkSteps.{left-inside, neighbours-outside, neighbours-by-search, neighbours-given, neighbours-over}
 use Rattle.portgraph.specs.declared.link_iter.NeighboursStep.the-variants.{End}
 use Rattle.portgraph.proofs.link_iter.Neighbours.step.Statement.{statement}
+use mathlib.Core.Bool.{cond}
 use Rattle.portgraph.proofs.link_iter.Neighbours.step.Tie as tie
 
 -- the step, from what was computed
 step-found : (c : tie.After-struct-known)
     → stepNeighbours (c .before .before .before .before .before .before .before .before .before .before .before .before .before .args .t2) (c .before .before .before .before .before .before .before .before .before .before .before .before .before .args .self)
-    ≡ pick (ltb (c .before .next-link .result) (c .before .before .before .before .before .ports-left .result .to)) (neighboursItem (c .before .before .before .before .before .before .before .before .before .before .before .before .before .args .t2) (c .before .before .before .before .before .before .before .before .before .before .before .before .before .args .self) (c .before .next-link .result)) End
+    ≡ cond (ltb (c .before .next-link .result) (c .before .before .before .before .before .ports-left .result .to)) (neighboursItem (c .before .before .before .before .before .before .before .before .before .before .before .before .before .args .t2) (c .before .before .before .before .before .before .before .before .before .before .before .before .before .args .self) (c .before .next-link .result)) End
 step-found c = neighbours-by-search (c .before .before .before .before .before .before .before .before .before .before .before .before .before .args .t2) _ _ _ _ _ _ (c .before .before .before .before .before .before .before .before .before .before .before .wide .ensures) (c .before .before .before .before .before .before .held-in .ensures) (c .before .before .before .before .before .ports-left .ensures) (c .before .before .before .before .own-ports .ensures) (c .before .next-link .ensures)
 
 -- where it stops lies within the tables

@@ -1,0 +1,28 @@
+-- `multiportgraph::multiportgraph::MultiPortGraph::list_wires` meets its contract: what the lent tables list is what the graph lists.
+use mathlib.Core.Path.{sym, subst}
+use lib.ListN.{length}
+use borrow.Author.Needs.{needs}
+use Rattle.multiportgraph.specs.Inner.{MultiWf}
+use Rattle.multiportgraph.specs.Wires.{allWires}
+use Rattle.multiportgraph.specs.Listed.{wiresListed}
+use Rattle.multiportgraph.specs.ListSteps.{lent-is, listed-as}
+use Rattle.multiportgraph.specs.declared.multiportgraph.MultiPortGraph.{MultiPortGraph}
+use Rattle.multiportgraph.proofs.multiportgraph.MultiPortGraph.list_wires.Statement.{
+  statement,
+}
+use Rattle.multiportgraph.proofs.multiportgraph.MultiPortGraph.list_wires.Tie as tie
+
+put-slots-requires : tie.Need-put-slots-requires
+put-slots-requires c κs = search needs
+
+wires-in-requires : tie.Need-wires-in-requires
+wires-in-requires c κs = subst (λ (m : MultiPortGraph). MultiWf m) (sym (lent-is (c .before .before .before .before .before .before .before .before .before .before .before .before .before .args .t1) _ (c .before .before .before .before .before .before .before .before .put-slots .ensures))) (c .before .before .before .before .before .before .before .before .before .before .before .before .before .pre)
+
+same-length : tie.Need-same-length
+same-length c = search needs
+
+returns : tie.Need-returns
+returns c = listed-as (λ m. length (allWires m)) wiresListed (c .before .before .before .before .before .before .before .before .before .before .before .before .before .before .before .before .args .list .now) (lent-is (c .before .before .before .before .before .before .before .before .before .before .before .before .before .before .before .before .args .t1) _ (c .before .before .before .before .before .before .before .before .before .before .before .put-slots .ensures)) (c .before .before .wires-in .ensures)
+
+pub list-wires-spec : {M : Type 1} → statement M
+list-wires-spec = tie.close (tie.spec put-slots-requires wires-in-requires same-length returns)

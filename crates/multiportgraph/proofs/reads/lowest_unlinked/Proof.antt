@@ -1,0 +1,55 @@
+-- `multiportgraph::reads::lowest_unlinked` meets its contract. Invariant: every port passed has a link, so the rest is left to search.
+-- Measure: the ports that are left.
+use mathlib.Core.Path.{_≡_, sym, _∙_}
+use Prim.Native.Nat.{_-_, _≤_}
+use native.Mathlib.Omega.{arith}
+use borrow.Author.Needs.{needs}
+use Rattle.multiportgraph.specs.Forms.{lowestUnlinked}
+use Rattle.multiportgraph.specs.PrepareSteps.{lowest-start, lowest-stop, lowest-turn, lowest-end}
+use Rattle.multiportgraph.proofs.reads.lowest_unlinked.Statement.{statement}
+use Rattle.multiportgraph.proofs.reads.lowest_unlinked.Tie as tie
+
+abbrev Inv-loop : tie.InvT-loop
+Inv-loop links first count o₀ o = (o ≤ count) × (lowestUnlinked links first 0 count ≡ lowestUnlinked links first o (count - o))
+
+abbrev μ-loop : tie.MeasureT-loop
+μ-loop links first count o₀ o = count - o
+
+loop-holds : tie.Need-loop-holds Inv-loop μ-loop
+loop-holds c = (omega arith, lowest-start _ _ _)
+
+add-at : tie.Need-add-at Inv-loop μ-loop
+add-at c = omega arith
+
+at-requires : tie.Need-at-requires Inv-loop μ-loop
+at-requires c κs = search needs
+
+returns : tie.Need-returns Inv-loop μ-loop
+returns c = lowest-stop _ _ _ _ (c .before .before .loop-test .taken) (sym (c .before .at .ensures) ∙ c .if1 .taken) ∙ sym (c .before .before .before .loop .inv .1)
+
+add-o : tie.Need-add-o Inv-loop μ-loop
+add-o c = omega arith
+
+loop-less : tie.Need-loop-less Inv-loop μ-loop
+loop-less c = omega arith
+
+loop-again : tie.Need-loop-again Inv-loop μ-loop
+loop-again c = (omega arith, c .before .before .before .loop .inv .1 ∙ lowest-turn _ _ _ _ (c .before .before .loop-test .taken) (λ z. c .if1 .left (c .before .at .ensures ∙ z)))
+
+returns-2 : tie.Need-returns-2 Inv-loop μ-loop
+returns-2 c = sym (c .before .loop .inv .1 ∙ lowest-end _ _ _ _ (c .loop-test .left))
+
+pub lowest-unlinked-spec : {M : Type 1} → statement M
+lowest-unlinked-spec =
+    tie.close
+    (tie.spec
+    Inv-loop
+    μ-loop
+    loop-holds
+    add-at
+    at-requires
+    returns
+    add-o
+    loop-less
+    loop-again
+    returns-2)

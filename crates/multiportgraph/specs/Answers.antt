@@ -1,0 +1,51 @@
+-- 01's numbers and values of each answer.
+use mathlib.Core.List.{List, [], _∷_}
+use Prim.Native.Nat.{ℕ}
+use Rattle.portgraph.specs.Entries.{sideNumber}
+use Rattle.multiportgraph.specs.declared.multiportgraph.Refusal.{Refusal}
+use Rattle.multiportgraph.specs.declared.multiportgraph.Refusal.the-variants.{BadOffset, TooManyPorts, UnknownNode, HiddenNode, MovesTooShort, UnknownPort, HiddenPort, UnknownOffset, NoRoom, UnknownSecondPort, IncompatibleDirections, AlreadyLinked}
+use Rattle.multiportgraph.specs.declared.multiportgraph.AddAnswer.{AddAnswer}
+use Rattle.multiportgraph.specs.declared.multiportgraph.AddAnswer.the-variants as add
+use Rattle.multiportgraph.specs.declared.multiportgraph.RemoveAnswer.{RemoveAnswer}
+use Rattle.multiportgraph.specs.declared.multiportgraph.RemoveAnswer.the-variants as remove
+use Rattle.multiportgraph.specs.declared.multiportgraph.SetAnswer.{SetAnswer}
+use Rattle.multiportgraph.specs.declared.multiportgraph.SetAnswer.the-variants as resize
+use Rattle.multiportgraph.specs.declared.multiportgraph.LinkAnswer.{LinkAnswer}
+use Rattle.multiportgraph.specs.declared.multiportgraph.LinkAnswer.the-variants as link
+use Rattle.multiportgraph.specs.declared.multiportgraph.CutAnswer.{CutAnswer}
+use Rattle.multiportgraph.specs.declared.multiportgraph.CutAnswer.the-variants as cutting
+
+abbrev pub refusalNumbers : Refusal → List ℕ
+refusalNumbers BadOffset = 2 ∷ []
+refusalNumbers TooManyPorts = 3 ∷ []
+refusalNumbers UnknownNode = 4 ∷ []
+refusalNumbers HiddenNode = 5 ∷ []
+refusalNumbers MovesTooShort = 6 ∷ []
+refusalNumbers (UnknownPort p) = 7 ∷ p .0 ∷ []
+refusalNumbers (HiddenPort p) = 8 ∷ p .0 ∷ []
+refusalNumbers (UnknownOffset p) = 9 ∷ p .0 ∷ []
+refusalNumbers NoRoom = 10 ∷ []
+refusalNumbers (UnknownSecondPort p) = 11 ∷ p .0 ∷ []
+refusalNumbers (IncompatibleDirections p q d) = 12 ∷ p .0 ∷ q .0 ∷ sideNumber d ∷ []
+refusalNumbers (AlreadyLinked p) = 13 ∷ p .0 ∷ []
+
+abbrev pub addNumbers : AddAnswer → List ℕ
+addNumbers (add.Added n p) = 0 ∷ n .0 ∷ p .0 ∷ []
+addNumbers (add.Refused r) = refusalNumbers r
+
+abbrev pub removeNumbers : RemoveAnswer → List ℕ
+removeNumbers remove.Removed = 0 ∷ []
+removeNumbers (remove.Refused r) = refusalNumbers r
+
+abbrev pub setNumbers : SetAnswer → List ℕ
+setNumbers (resize.Set e) = 0 ∷ e ∷ []
+setNumbers (resize.Refused r) = refusalNumbers r
+
+abbrev pub linkNumbers : LinkAnswer → List ℕ
+linkNumbers (link.Linked a b) = 0 ∷ a .port .0 ∷ a .«subport_offset» ∷ b .port .0 ∷ b .«subport_offset» ∷ []
+linkNumbers (link.Refused r) = refusalNumbers r
+
+abbrev pub cutNumbers : CutAnswer → List ℕ
+cutNumbers (cutting.Found s) = 0 ∷ 1 ∷ s .port .0 ∷ s .«subport_offset» ∷ []
+cutNumbers cutting.Nothing = 0 ∷ 0 ∷ 0 ∷ 0 ∷ []
+cutNumbers (cutting.Refused r) = refusalNumbers r

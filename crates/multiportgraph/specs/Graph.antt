@@ -1,0 +1,36 @@
+-- A graph from its parts: every definition that gives another graph does it by these, and no other record of a graph is written.
+use mathlib.Core.Bool.{Bool, false}
+use mathlib.Core.List.{List}
+use Prim.Native.Nat.{ℕ, _-_}
+use lib.ListN.{replicate}
+use Rattle.portgraph.specs.Limits.{nodeSlots, portSlots}
+use Rattle.portgraph.specs.Calls.{newGraph}
+use Rattle.portgraph.specs.declared.portgraph.PortGraph.{PortGraph}
+use Rattle.multiportgraph.specs.Reading.{hidden, subports}
+use Rattle.multiportgraph.specs.declared.multiportgraph.MultiPortGraph.{MultiPortGraph}
+
+abbrev pub multi : PortGraph → List Bool → List Bool → ℕ → ℕ → MultiPortGraph
+multi g marks flags copies subs =
+    record {
+      graph = g;
+      multiport = marks;
+      «copy_node» = flags;
+      «copy_node_count» = copies;
+      «subport_count» = subs;
+    }
+
+-- the empty graph
+unfoldable pub emptyGraph : MultiPortGraph
+emptyGraph = multi newGraph (replicate portSlots false) (replicate nodeSlots false) 0 0
+
+-- with another single-link graph
+abbrev pub withGraph : MultiPortGraph → PortGraph → MultiPortGraph
+withGraph m g = multi g (m .multiport) (m .«copy_node») (m .«copy_node_count») (m .«subport_count»)
+
+-- with other marks of split ports
+abbrev pub withMarks : MultiPortGraph → List Bool → MultiPortGraph
+withMarks m marks = multi (m .graph) marks (m .«copy_node») (m .«copy_node_count») (m .«subport_count»)
+
+-- with other hidden nodes, in number too, and so many subports in them
+abbrev pub withHidden : MultiPortGraph → List Bool → ℕ → ℕ → MultiPortGraph
+withHidden m flags copies subs = multi (m .graph) (m .multiport) flags copies subs

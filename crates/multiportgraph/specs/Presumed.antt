@@ -1,0 +1,30 @@
+-- What the inner functions of a link presume of the ports that they are given; what public calls presume is `MultiWf` alone.
+use mathlib.Core.Path.{_≡_}
+use mathlib.Core.Bool.{true, false}
+use Prim.Native.Nat.{ℕ}
+use Rattle.portgraph.specs.Tables.{at}
+use Rattle.portgraph.specs.declared.direction.Direction.{Direction}
+use Rattle.multiportgraph.specs.Reading.{visible, seen, isSplit}
+use Rattle.multiportgraph.specs.Inner.{MultiWf}
+use Rattle.multiportgraph.specs.declared.multiportgraph.MultiPortGraph.{MultiPortGraph}
+
+-- a port of a block on this side, in a graph of the calls
+pub record OnBlock (m : MultiPortGraph) (p : ℕ) (d : Direction) : Type 0 where
+  pub wf : MultiWf m
+  pub node : ℕ
+  pub is : seen m p ≡ visible node d
+
+-- one that is linked and not split, and one that is split
+pub record LinkedPort (m : MultiPortGraph) (p : ℕ) (d : Direction) : Type 0 where
+  pub block : OnBlock m p d
+  pub plain : isSplit m p ≡ false
+  pub linked : at (m .graph .«port_link») p ≡ 0 → ⊥
+
+pub record SplitPort (m : MultiPortGraph) (p : ℕ) (d : Direction) : Type 0 where
+  pub block : OnBlock m p d
+  pub split : isSplit m p ≡ true
+
+-- two ports of blocks
+pub record BothOnBlock (m : MultiPortGraph) (a : ℕ) (d : Direction) (b : ℕ) (e : Direction) : Type 0 where
+  pub first : OnBlock m a d
+  pub second : OnBlock m b e

@@ -1,0 +1,14 @@
+-- `portgraph::lent_graph::put_graph` meets its contract: the slots are stored, and the rest as it is.
+use borrow.Author.Needs.{needs}
+use Rattle.portgraph.specs.LentGraph.{graph-stored}
+use Rattle.portgraph.proofs.lent_graph.put_graph.Statement.{statement}
+use Rattle.portgraph.proofs.lent_graph.put_graph.Tie as tie
+
+put-slots-requires : tie.Need-put-slots-requires
+put-slots-requires c κs = search needs
+
+returns : tie.Need-returns
+returns c = graph-stored (c .before .before .before .before .before .before .args .graph) (c .before .before .before .put-slots .last .0) (c .before .before .before .put-slots .ensures)
+
+pub put-graph-spec : {M : Type 1} → statement M
+put-graph-spec = tie.close (tie.spec put-slots-requires returns)

@@ -1,0 +1,132 @@
+-- 01's bench wiring, cases A to K, as one table with one claim.
+use mathlib.Core.Path.{_≡_, refl}
+use mathlib.Core.List.{List, [], _∷_, _++_, flatMap}
+use Prim.Native.Nat.{ℕ, _+_}
+use lib.ListN.{length, replicate}
+use mathlib.Core.Bool.{cond}
+use Rattle.portgraph.specs.declared.direction.Direction.the-variants.{Incoming, Outgoing}
+use Rattle.multiportgraph.specs.Reading.{isSplit}
+use Rattle.multiportgraph.specs.Calls.{subportLink, visibleNodes, visiblePorts, visibleLinks, movesTold}
+use Rattle.multiportgraph.specs.Wires.{subportsOfSide, wiresWalked}
+use Rattle.theorems.specs.Book.{Call, addCall, removeCall, setCall, linkCall, linkSubCall, cutCall, cutSubCall, AnswerOf}
+use Rattle.theorems.specs.History.{step, numbersOf}
+use Rattle.multiportgraph.specs.declared.multiportgraph.MultiPortGraph.{MultiPortGraph}
+use Rattle.multiportgraph.specs.declared.multiportgraph.SubportIndex.{SubportIndex}
+use Rattle.multiportgraph.specs.Graph.{emptyGraph}
+use Rattle.multiportgraph.specs.Answers.{addNumbers, removeNumbers, setNumbers, linkNumbers, cutNumbers}
+
+-- What a line asks: a call, or a look at the graph.
+pub data Ask : Type 0 where
+  call : Call → Ask
+  -- visible nodes, ports and links
+  counts : Ask
+  -- the link of a subport
+  linkOf : ℕ → ℕ → Ask
+  -- the subports of a node, both sides, incoming first
+  listing : ℕ → Ask
+  -- how many wires the walk gives
+  wires : Ask
+  -- 1 for a split port
+  mark : ℕ → Ask
+  -- the move list of a resize, from zeros of this length
+  moves : ℕ → ℕ → ℕ → ℕ → Ask
+
+abbrev subportNumbers : SubportIndex → List ℕ
+subportNumbers s = s .port .0 ∷ s .«subport_offset» ∷ []
+
+abbrev looked : MultiPortGraph → Ask → List ℕ
+looked m (call c) = numbersOf c (step m c .answer)
+looked m counts = visibleNodes m ∷ visiblePorts m ∷ visibleLinks m ∷ []
+looked m (linkOf p o) = cutNumbers (subportLink m p o)
+looked m (listing n) = flatMap subportNumbers (subportsOfSide m n Incoming ++ subportsOfSide m n Outgoing)
+looked m wires = length (wiresWalked m) ∷ []
+looked m (mark p) = cond (isSplit m p) 1 0 ∷ []
+looked m (moves n i o k) = movesTold m n i o (replicate k 0)
+
+abbrev after : MultiPortGraph → Ask → MultiPortGraph
+after m (call c) = step m c .graph
+after m counts = m
+after m (linkOf p o) = m
+after m (listing n) = m
+after m wires = m
+after m (mark p) = m
+after m (moves n i o k) = m
+
+unfoldable pub asked : MultiPortGraph → List Ask → List (List ℕ)
+asked m [] = []
+asked m (a ∷ l) = looked m a ∷ asked (after m a) l
+
+-- what is asked, and 01's numbers for it
+pub record Line : Type 0 where
+  pub asks : List Ask
+  pub numbers : List (List ℕ)
+
+abbrev ask : List Ask → List (List ℕ) → Line
+ask a n = record { asks = a; numbers = n }
+
+abbrev start : List Ask
+start = call (addCall 0 1) ∷ call (addCall 2 0) ∷ []
+
+abbrev startNumbers : List (List ℕ)
+startNumbers = (0 ∷ 0 ∷ 0 ∷ []) ∷ (0 ∷ 1 ∷ 1 ∷ []) ∷ []
+
+abbrev stateA : List Ask
+stateA = start ++ (call (linkCall 0 1) ∷ [])
+
+abbrev numbersA : List (List ℕ)
+numbersA = startNumbers ++ ((0 ∷ 0 ∷ 0 ∷ 1 ∷ 0 ∷ []) ∷ [])
+
+abbrev stateB : List Ask
+stateB = stateA ++ (call (linkCall 0 2) ∷ [])
+
+abbrev numbersB : List (List ℕ)
+numbersB = numbersA ++ ((0 ∷ 0 ∷ 1 ∷ 2 ∷ 0 ∷ []) ∷ [])
+
+abbrev pub benchLines : List Line
+benchLines =
+    -- A
+    ask (stateA ++ (counts ∷ [])) (numbersA ++ ((2 ∷ 3 ∷ 1 ∷ []) ∷ []))
+    -- B
+    ∷ ask (stateB ++ (counts ∷ [])) (numbersB ++ ((2 ∷ 3 ∷ 2 ∷ []) ∷ []))
+    -- C
+    ∷ ask (stateB ++ (call (linkCall 0 2) ∷ counts ∷ linkOf 0 1 ∷ []))
+    (numbersB ++ ((0 ∷ 0 ∷ 2 ∷ 2 ∷ 1 ∷ []) ∷ (2 ∷ 3 ∷ 3 ∷ []) ∷ (0 ∷ 1 ∷ 2 ∷ 0 ∷ []) ∷ []))
+    -- D
+    ∷ ask (stateA ++ (call (linkCall 1 2) ∷ listing 1 ∷ wires ∷ []))
+    (numbersA ++ ((12 ∷ 4 ∷ 2 ∷ 0 ∷ []) ∷ (1 ∷ 0 ∷ 1 ∷ 1 ∷ 2 ∷ 0 ∷ []) ∷ (1 ∷ []) ∷ []))
+    -- E
+    ∷ ask (stateB ++ (call (cutCall 0) ∷ wires ∷ [])) (numbersB ++ ((0 ∷ 1 ∷ 0 ∷ 0 ∷ []) ∷ (0 ∷ []) ∷ []))
+    ∷ ask (stateB ++ (call (cutCall 2) ∷ [])) (numbersB ++ ((0 ∷ 1 ∷ 5 ∷ 0 ∷ []) ∷ []))
+    -- F
+    ∷ ask (stateA ++ (linkOf 1 5 ∷ [])) (numbersA ++ ((0 ∷ 1 ∷ 0 ∷ 0 ∷ []) ∷ []))
+    ∷ ask (stateB ++ (linkOf 0 2 ∷ [])) (numbersB ++ ((9 ∷ 0 ∷ []) ∷ []))
+    -- G
+    ∷ ask (start ++ (call (linkCall 0 0) ∷ [])) (startNumbers ++ ((12 ∷ 0 ∷ 0 ∷ 1 ∷ []) ∷ []))
+    ∷ ask (start ++ (call (linkCall 0 9) ∷ [])) (startNumbers ++ ((11 ∷ 9 ∷ []) ∷ []))
+    ∷ ask (start ++ (call (linkCall 9 0) ∷ [])) (startNumbers ++ ((7 ∷ 9 ∷ []) ∷ []))
+    -- H
+    ∷ ask (stateB ++ (call (removeCall 2) ∷ [])) (numbersB ++ ((5 ∷ []) ∷ []))
+    ∷ ask (stateB ++ (call (removeCall 7) ∷ [])) (numbersB ++ ((4 ∷ []) ∷ []))
+    -- I
+    ∷ ask (start ++ (call (setCall 0 0 0 3) ∷ call (addCall 0 1) ∷ [])) (startNumbers ++ ((0 ∷ 1 ∷ []) ∷ (0 ∷ 2 ∷ 0 ∷ []) ∷ []))
+    -- J
+    ∷ ask (call (addCall 512 512) ∷ call (addCall 512 512) ∷ call (addCall 0 1) ∷ call (addCall 0 0) ∷ call (addCall 512 513) ∷ [])
+    ((0 ∷ 0 ∷ 0 ∷ []) ∷ (0 ∷ 1 ∷ 1024 ∷ []) ∷ (10 ∷ []) ∷ (0 ∷ 2 ∷ 0 ∷ []) ∷ (3 ∷ []) ∷ [])
+    -- K
+    ∷ ask (call (addCall 1 1) ∷ call (addCall 0 2) ∷ call (linkCall 2 0) ∷ call (linkCall 3 0) ∷ moves 0 0 1 6 ∷ call (setCall 0 0 1 6) ∷ wires ∷ mark 0 ∷ [])
+    ((0 ∷ 0 ∷ 0 ∷ []) ∷ (0 ∷ 1 ∷ 2 ∷ []) ∷ (0 ∷ 2 ∷ 0 ∷ 0 ∷ 0 ∷ []) ∷ (0 ∷ 3 ∷ 0 ∷ 0 ∷ 1 ∷ [])
+    ∷ (0 ∷ 1 ∷ 6 ∷ 1 ∷ 0 ∷ 0 ∷ []) ∷ (0 ∷ 2 ∷ []) ∷ (0 ∷ []) ∷ (0 ∷ []) ∷ [])
+    ∷ []
+
+abbrev pub askedAll : List Line → List (List (List ℕ))
+askedAll [] = []
+askedAll (l ∷ ls) = asked emptyGraph (l .asks) ∷ askedAll ls
+
+abbrev pub expectedAll : List Line → List (List (List ℕ))
+expectedAll [] = []
+expectedAll (l ∷ ls) = l .numbers ∷ expectedAll ls
+
+-- every number of every line
+pub bench-table : askedAll benchLines ≡ expectedAll benchLines
+unfolding asked Rattle.portgraph.specs.Tables.at Rattle.portgraph.specs.Tables.put Rattle.portgraph.specs.Tables.fill Rattle.portgraph.specs.Tables.fillRange Rattle.portgraph.specs.Tables.headAt Rattle.portgraph.specs.Tables.putHead Rattle.portgraph.specs.Tables.ownBlock Rattle.portgraph.specs.Tables.linkBoth Rattle.portgraph.specs.Tables.cutFar Rattle.portgraph.specs.Tables.cut Rattle.portgraph.specs.Tables.cutRange Rattle.portgraph.specs.Tables.linkCount Rattle.portgraph.specs.Tables.cutCount Rattle.portgraph.specs.Tables.relink Rattle.portgraph.specs.Tables.movePort Rattle.portgraph.specs.Tables.moveUp Rattle.portgraph.specs.Tables.moveDown Rattle.portgraph.specs.Tables.shift Rattle.portgraph.specs.Tables.transfer Rattle.portgraph.specs.Tables.chainBlock Rattle.portgraph.specs.Tables.toldLink Rattle.portgraph.specs.Tables.dropEvents Rattle.portgraph.specs.Tables.moveUpEvents Rattle.portgraph.specs.Tables.moveDownEvents Rattle.portgraph.specs.Tables.shiftEvents Rattle.portgraph.specs.Entries.portEntry Rattle.portgraph.specs.Entries.setPrev Rattle.portgraph.specs.Calls.newGraph Rattle.portgraph.specs.Calls.findSlotUnder Rattle.portgraph.specs.Calls.findBlockUnder Rattle.portgraph.specs.Calls.restOf Rattle.portgraph.specs.Calls.grown Rattle.portgraph.specs.Calls.slotAfter Rattle.portgraph.specs.Calls.placeNode Rattle.portgraph.specs.Calls.addNodeUnder Rattle.portgraph.specs.Calls.freeNode Rattle.portgraph.specs.Calls.removeNode Rattle.portgraph.specs.Calls.linkPorts Rattle.portgraph.specs.Calls.unlinkPort Rattle.portgraph.specs.Resize.doubled Rattle.portgraph.specs.Resize.roundUp Rattle.portgraph.specs.Resize.sameCounts Rattle.portgraph.specs.Resize.fitsInside Rattle.portgraph.specs.Resize.planOfUnder Rattle.portgraph.specs.Resize.dropIncoming Rattle.portgraph.specs.Resize.dropLinks Rattle.portgraph.specs.Resize.dropCount Rattle.portgraph.specs.Resize.dropTold Rattle.portgraph.specs.Resize.insideLinks Rattle.portgraph.specs.Resize.resizeInside Rattle.portgraph.specs.Resize.insideTold Rattle.portgraph.specs.Resize.anewLinks Rattle.portgraph.specs.Resize.resizeAnew Rattle.portgraph.specs.Resize.anewTold Rattle.portgraph.specs.Resize.setNumPortsUnder Rattle.portgraph.specs.Resize.movesAfterUnder Rattle.portgraph.specs.Meaning.upd Rattle.portgraph.specs.Meaning.samePlace Rattle.portgraph.specs.Meaning.dropJoin Rattle.portgraph.specs.Meaning.linkJoin Rattle.portgraph.specs.Meaning.handOver Rattle.multiportgraph.specs.Reading.farPort Rattle.multiportgraph.specs.Reading.hasLink Rattle.multiportgraph.specs.Reading.ownerOf Rattle.multiportgraph.specs.Reading.portOf Rattle.multiportgraph.specs.Reading.positionOf Rattle.multiportgraph.specs.Reading.isHidden Rattle.multiportgraph.specs.Reading.isSplit Rattle.multiportgraph.specs.Reading.seen Rattle.multiportgraph.specs.Reading.copyNode Rattle.multiportgraph.specs.Reading.subports Rattle.multiportgraph.specs.Reading.subportAt Rattle.multiportgraph.specs.Reading.endAt Rattle.multiportgraph.specs.Reading.asRead Rattle.multiportgraph.specs.Reading.copySide Rattle.multiportgraph.specs.Reading.mainPort Rattle.multiportgraph.specs.Reading.subportOf Rattle.multiportgraph.specs.Graph.emptyGraph Rattle.multiportgraph.specs.Calls.addBlockUnder Rattle.multiportgraph.specs.HiddenNodes.removeCopy Rattle.multiportgraph.specs.HiddenNodes.unsplit Rattle.multiportgraph.specs.HiddenNodes.unsplitRange Rattle.multiportgraph.specs.Calls.dropBlock Rattle.multiportgraph.specs.Calls.removeBlock Rattle.multiportgraph.specs.HiddenNodes.layRange Rattle.multiportgraph.specs.HiddenNodes.layMarks Rattle.multiportgraph.specs.HiddenNodes.recounted Rattle.multiportgraph.specs.HiddenNodes.copiesIn Rattle.multiportgraph.specs.HiddenNodes.copiesDropped Rattle.multiportgraph.specs.HiddenNodes.removeLone Rattle.multiportgraph.specs.HiddenNodes.removeAll Rattle.multiportgraph.specs.Calls.setCountsUnder Rattle.multiportgraph.specs.Calls.movesToldUnder Rattle.multiportgraph.specs.HiddenNodes.splitGraph Rattle.multiportgraph.specs.HiddenNodes.splitPort Rattle.multiportgraph.specs.HiddenNodes.splitUnder Rattle.multiportgraph.specs.HiddenNodes.lowestFree Rattle.multiportgraph.specs.HiddenNodes.growUnder Rattle.multiportgraph.specs.HiddenNodes.reuseUnder Rattle.multiportgraph.specs.HiddenNodes.prepareUnder Rattle.multiportgraph.specs.Calls.linkPairUnder Rattle.multiportgraph.specs.Calls.linkSub Rattle.multiportgraph.specs.Calls.cutPort Rattle.multiportgraph.specs.Calls.cutSub Rattle.multiportgraph.specs.Calls.subportLink Rattle.multiportgraph.specs.Calls.visibleNodes Rattle.multiportgraph.specs.Calls.visiblePorts Rattle.multiportgraph.specs.Calls.visibleLinks Rattle.portgraph.specs.Lists.range mathlib.Core.List.flatMap Rattle.portgraph.specs.Lists.filter Rattle.multiportgraph.specs.Wires.isBlock Rattle.multiportgraph.specs.Wires.blocks Rattle.multiportgraph.specs.Wires.portsOfSide Rattle.multiportgraph.specs.Wires.subportsOfPort Rattle.multiportgraph.specs.Wires.subportsOfSide Rattle.multiportgraph.specs.Wires.wireOf Rattle.multiportgraph.specs.Wires.sideLinks Rattle.multiportgraph.specs.Wires.allWires Rattle.multiportgraph.specs.Wires.isBeyond Rattle.multiportgraph.specs.Wires.wiresBeyond Rattle.multiportgraph.specs.Wires.stepWires Rattle.multiportgraph.specs.Wires.walkWires Rattle.multiportgraph.specs.Wires.placeOf Rattle.multiportgraph.specs.Wires.walked Rattle.multiportgraph.specs.Wires.wiresWalked
+bench-table = refl

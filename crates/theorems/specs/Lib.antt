@@ -1,0 +1,50 @@
+-- What holds of every list of calls from the empty graph.
+--
+-- Read in this order. Statements first:
+--   Theorems      every theorem with a sentence and its statement; proofs stand in the files below
+-- The words that they use, to be believed together with multiportgraph's definitions:
+--   Book          the wire book of document 01, with no graph in its types
+--   History       one call, and lists of calls from the empty graph, with the book beside them
+--   Claims        what is said of a history: the wire rule, cuts that restore, wires between ports, counts
+--   Conditions    when each refusal of a call is given, in words about the model, and what a refusal leaves
+--   Works         what a call takes of the tables and gives back, which is what refusal 10 counts
+-- What is proved of a call, a bundle (CallLaw) in a file for each call: AddCall, RemoveCall, SetCall, LinkCall, LinkSubCall, CutCall,
+-- CutSubCall; collected in CallLaws. A new call is: its row in Book, History, Conditions and Works, its file, its row in CallLaws.
+-- Proofs over histories: TheoremProofs, HistoryCounts, Runs; the bench wiring, cases A to K: Bench.
+-- Walks: each gives its listing whole, in order, and then the end (WalkStepLaws, BlockWalkLaws: the laws named -whole); by turns from
+-- both ends no item comes twice (nodes-turns, ports-turns, port-links-turns); a cursor whose node or port is gone or hidden ends, and a
+-- step gives only what is listed beyond what its cursor holds (WalkHeldLaws). Starts of walks, lookups and fan-out are refused exactly
+-- under 4, 5, 7, 8 (StartLaws). The ports of every graph: PortListing.
+pub mod Theorems
+pub mod Book
+pub mod History
+pub mod Claims
+pub mod Conditions
+pub mod Works
+-- a call
+pub mod CallLaw
+pub mod PortCases
+pub mod LinkLaw
+pub mod RemoveLaws
+pub mod BookLaws
+pub mod WireRule
+pub mod AddCall
+pub mod RemoveCall
+pub mod SetCall
+pub mod LinkCall
+pub mod LinkSubCall
+pub mod CutCall
+pub mod CutSubCall
+pub mod CallLaws
+-- histories
+pub mod Runs
+pub mod TheoremProofs
+pub mod PortListing
+pub mod HistoryCounts
+pub mod Bench
+-- walks
+pub mod Cursors
+pub mod WalkStepLaws
+pub mod BlockWalkLaws
+pub mod WalkHeldLaws
+pub mod StartLaws

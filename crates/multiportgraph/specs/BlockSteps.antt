@@ -191,6 +191,10 @@ module _ (m : MultiPortGraph) (p k n : ℕ) (h : n ≤ k) where
   pub copies-listed : (l : List ℕ) (a : ℕ) → l ≡ sets l a (copiesIn m p (n - k))
   copies-listed l a = rw copies-none
 
+-- lists that are the same once other elements are laid into them are of one length
+pub sets-alike : (l l′ : List ℕ) (i j : ℕ) (xs ys : List ℕ) → sets l i xs ≡ sets l′ j ys → length l ≡ length l′
+sets-alike l l′ i j xs ys e = sym (length-sets l i xs) ∙ (ap length e ∙ length-sets l′ j ys)
+
 -- both sides of a block
 pub dropped-listed : (m : MultiPortGraph) (k : NodeMeta) (i o first a b x y c r : ℕ) (l l₁ l₂ : List ℕ)
     → first ≡ k .«first_port» .0 → a ≡ k .incoming → b ≡ k .outgoing → x ≡ min a i → y ≡ min b o
@@ -292,6 +296,35 @@ both-wf m s n i o room w e = (lower-wf m w, rw e (wf-set (m .graph) n i o room (
 pub block-in : (m : MultiPortGraph) (n : ℕ) (k : NodeMeta) → MultiWf m → maybe-meta.Some k ≡ metaAt (m .graph) n → BlockFits k
 block-in m n k w e = found-block-fits (m .graph) (lower-wf m w) n k e
 
+-- what the call gives, whatever room the move list has
+module _ (m : MultiPortGraph) (n i o room : ℕ) where
+  pub set-many : nodePorts < i + o → setRefused m TooManyPorts ≡ setCounts m n i o room
+  unfolding setCountsUnder
+  set-many h = rw (lt-leb (i + o) nodePorts h)
+
+  module _ (few : i + o ≤ nodePorts) where
+    set-by : (x : MaybeNodeMeta) → x ≡ metaAt (m .graph) n → setMeta m n i o room x ≡ setCounts m n i o room
+    set-by x e =
+        ap (setMeta m n i o room) e
+        ∙ ap (λ (t : Bool). cond t (setMeta m n i o room (metaAt (m .graph) n)) (setRefused m TooManyPorts)) (sym (le-leb (i + o) nodePorts few))
+        ∙ sym (set-cases present m n i o room)
+
+    pub set-gone : maybe-meta.None ≡ metaAt (m .graph) n → setRefused m UnknownNode ≡ setCounts m n i o room
+    set-gone e = set-by maybe-meta.None e
+
+    module _ (k : NodeMeta) (e : maybe-meta.Some k ≡ metaAt (m .graph) n) where
+      pub set-copy : isHidden m n ≡ true → setRefused m HiddenNode ≡ setCounts m n i o room
+      set-copy h =
+          let p : setRefused m HiddenNode ≡ setMeta m n i o room (maybe-meta.Some k) = rw h in
+          p ∙ set-by (maybe-meta.Some k) e
+
+      pub set-block : (s : lower-set.PortsSet) (a : lower-answer.SetAnswer) (g : MultiPortGraph) → isHidden m n ≡ false → s ≡ setNumPorts (m .graph) n i o room
+          → s .answer ≡ a → g ≡ resized m n k i o (s .graph) a → record { graph = g; answer = setAs a } ≡ setCounts m n i o room
+      set-block s a g h f q u =
+          let v : record { graph = resized m n k i o (s .graph) (s .answer); answer = setAs (s .answer) } ≡ setMeta m n i o room (maybe-meta.Some k) = rw (h, f) in
+          let y : _≡_ {A = PortsSet} (record { graph = g; answer = setAs a }) (record { graph = resized m n k i o (s .graph) (s .answer); answer = setAs (s .answer) }) = rw (q, u) in
+          y ∙ v ∙ set-by (maybe-meta.Some k) e
+
 module _ (m : MultiPortGraph) (n i o : ℕ) (b : List ℕ) where
   abbrev SetAs : PortsSet → List ℕ → Type 0
   SetAs r b′ =
@@ -307,36 +340,25 @@ module _ (m : MultiPortGraph) (n i o : ℕ) (b : List ℕ) where
   refused-told a false e = rw e
 
   pub set-too-many : nodePorts < i + o → SetAs (setRefused m TooManyPorts) b
-  unfolding setCountsUnder movesToldUnder
+  unfolding movesToldUnder
   set-too-many h =
-      set-as _ b (rw (lt-leb (i + o) nodePorts h)) (refused-told _ (isHidden m n) (plan-too-many (m .graph) n i o (length b) h))
+      set-as _ b (set-many m n i o (length b) h) (refused-told _ (isHidden m n) (plan-too-many (m .graph) n i o (length b) h))
 
   module _ (few : i + o ≤ nodePorts) where
-    set-by : (x : MaybeNodeMeta) → x ≡ metaAt (m .graph) n → setMeta m n i o (length b) x ≡ setCounts m n i o (length b)
-    set-by x e =
-        ap (setMeta m n i o (length b)) e
-        ∙ ap (λ (t : Bool). cond t (setMeta m n i o (length b) (metaAt (m .graph) n)) (setRefused m TooManyPorts)) (sym (le-leb (i + o) nodePorts few))
-        ∙ sym (set-cases present m n i o (length b))
-
     plan-none : (x : NodeEntry) → entryAt (m .graph) n ≡ x → maybe-meta.None ≡ metaOfEntry x → planOf (m .graph) n i o (length b) ≡ refuse lower-variants.UnknownNode
     plan-none (node-variants.Free f) e h = plan-unknown (m .graph) n i o (length b) few f e
     plan-none (node-variants.Node k) e h = let z : _≡_ {A = ℕ} 0 1 = cc in absurd (omega arith)
 
     pub set-unknown : maybe-meta.None ≡ metaAt (m .graph) n → SetAs (setRefused m UnknownNode) b
     unfolding movesToldUnder
-    set-unknown e = set-as _ b (set-by maybe-meta.None e) (refused-told _ (isHidden m n) (plan-none (entryAt (m .graph) n) refl e))
+    set-unknown e = set-as _ b (set-gone m n i o (length b) few e) (refused-told _ (isHidden m n) (plan-none (entryAt (m .graph) n) refl e))
 
     module _ (k : NodeMeta) (e : maybe-meta.Some k ≡ metaAt (m .graph) n) where
       pub set-hidden : isHidden m n ≡ true → SetAs (setRefused m HiddenNode) b
       unfolding movesToldUnder
-      set-hidden h =
-          let p : setRefused m HiddenNode ≡ setMeta m n i o (length b) (maybe-meta.Some k) = rw h in
-          set-as _ b (p ∙ set-by (maybe-meta.Some k) e) (rw h)
+      set-hidden h = set-as _ b (set-copy m n i o (length b) few k e h) (rw h)
 
       pub set-answered : (s : lower-set.PortsSet) (a : lower-answer.SetAnswer) (g : MultiPortGraph) (b′ : List ℕ) → isHidden m n ≡ false → s ≡ setNumPorts (m .graph) n i o (length b)
           → b′ ≡ movesAfter (m .graph) n i o b → s .answer ≡ a → g ≡ resized m n k i o (s .graph) a → SetAs (record { graph = g; answer = setAs a }) b′
       unfolding movesToldUnder
-      set-answered s a g b′ h f j q u =
-          let v : record { graph = resized m n k i o (s .graph) (s .answer); answer = setAs (s .answer) } ≡ setMeta m n i o (length b) (maybe-meta.Some k) = rw (h, f) in
-          let y : _≡_ {A = PortsSet} (record { graph = g; answer = setAs a }) (record { graph = resized m n k i o (s .graph) (s .answer); answer = setAs (s .answer) }) = rw (q, u) in
-          set-as _ b′ (y ∙ v ∙ set-by (maybe-meta.Some k) e) (rw h j)
+      set-answered s a g b′ h f j q u = set-as _ b′ (set-block m n i o (length b) few k e s a g h f q u) (rw h j)

@@ -248,6 +248,9 @@ found-fits g w n (maybe-meta.Some k) e = found-block-fits g w n k e
 pub removed-parts : {g : MultiPortGraph} {a : RemoveAnswer} {r : NodeRemoved} → _≡_ {A = NodeRemoved} (record { graph = g; answer = a }) r → (g ≡ r .graph) × (a ≡ r .answer)
 removed-parts e = (ap (λ (x : NodeRemoved). x .graph) e, ap (λ (x : NodeRemoved). x .answer) e)
 
+pub whole-parts : {g : MultiPortGraph} {a : SetAnswer} {r : PortsSet} → _≡_ {A = PortsSet} (record { graph = g; answer = a }) r → (g ≡ r .graph) × (a ≡ r .answer)
+whole-parts e = (ap (λ (x : PortsSet). x .graph) e, ap (λ (x : PortsSet). x .answer) e)
+
 pub set-parts : {g : MultiPortGraph} {a : SetAnswer} {r : PortsSet} {b b′ : List ℕ} {z : Type 0} → (_≡_ {A = PortsSet} (record { graph = g; answer = a }) r) × (b ≡ b′) × z → (g ≡ r .graph) × (a ≡ r .answer) × (b ≡ b′)
 set-parts e = (ap (λ (x : PortsSet). x .graph) (e .0), ap (λ (x : PortsSet). x .answer) (e .0), e .1)
 

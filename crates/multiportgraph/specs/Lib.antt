@@ -86,6 +86,8 @@ pub mod WalkSteps
 pub mod LinkWalkSteps
 pub mod SubportSteps
 pub mod LentSteps
+pub mod LentSetSteps
 pub mod LentLinkSteps
+pub mod LentGraph
 pub mod ListSteps
 pub mod ListReads

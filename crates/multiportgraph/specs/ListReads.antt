@@ -45,7 +45,7 @@ use Rattle.multiportgraph.specs.CallSteps.{lower-wf}
 use Rattle.multiportgraph.specs.CountLaws.{visible-nodes, visible-links}
 use Rattle.multiportgraph.specs.MultiLent.{multiIn}
 use Rattle.multiportgraph.specs.Listed.{endNumbers, wireNumbers, wiresListed, firstPort, blockNumbers, blocksListed}
-use Rattle.multiportgraph.specs.ListScans.{endWords, firstOfMeta, inEnd, farEnd, outEnd, slotWire, subportWire, splitWires, portWires, placeWires, sideWires, blockWires, nodeWires, tableWires, portOfMeta, blockWords, nodeBlock, tableBlocks, AllFit}
+use Rattle.multiportgraph.specs.ListScans.{endWords, firstOfMeta, inEnd, farEnd, outEnd, slotWire, subportWire, splitWires, portWires, placeWires, sideWires, nodeWires, tableWires, ofBlock, portOfMeta, blockWords, nodeBlock, tableBlocks, AllFit}
 use Rattle.multiportgraph.specs.declared.multiportgraph.MultiPortGraph.{MultiPortGraph}
 use Rattle.multiportgraph.specs.declared.multiportgraph.SubportIndex.{SubportIndex}
 use Rattle.multiportgraph.specs.declared.multiportgraph.SubportLink.{SubportLink}
@@ -328,19 +328,6 @@ module _ (nodes links owners heads : List ℕ) (marks flags : List Bool) (held :
       ∙ (sym (flatMap-flatMap (wireNumbers graph) (portLinks graph) (range (k .«first_port» .0 + k .incoming) (k .outgoing)))
       ∙ ap (flatMap (wireNumbers graph)) (ap (λ (x : ℕ). flatMap (portLinks graph) (range (k .«first_port» .0 + k .incoming) x)) c ∙ sym (links-in-row w n k h e (One Outgoing)))))
 
-  -- of a node slot
-  node-wires-are : (n : ℕ) → nodeWires nodes links owners marks flags n ≡ cond (isBlock graph n) (flatMap (wireNumbers graph) (sideLinks graph Outgoing n)) []
-  unfolding nodeWires isBlock
-  node-wires-are n =
-      (λ i. blockWires nodes links owners marks flags n (flag-told n i) (meta-there n i)) ∙ go (isHidden graph n) refl (metaAt (graph .graph) n) refl
-    where
-      go : (b : Bool) → isHidden graph n ≡ b → (x : MaybeNodeMeta) → metaAt (graph .graph) n ≡ x
-          → blockWires nodes links owners marks flags n b x ≡ cond (cond b false (isSome x)) (flatMap (wireNumbers graph) (sideLinks graph Outgoing n)) []
-      go true h maybe-meta.None e = refl
-      go true h (maybe-meta.Some k) e = refl
-      go false h maybe-meta.None e = refl
-      go false h (maybe-meta.Some k) e = side-wires-are n k h e
-
   -- beyond the used part of the node table there is no node
   no-node : (n : ℕ) → held .counts .«node_len» ≤ n → metaIn nodes n ≡ maybe-meta.None
   no-node n l = go (metaIn nodes n) refl
@@ -352,31 +339,44 @@ module _ (nodes links owners heads : List ℕ) (marks flags : List Bool) (held :
           let b = w .fine .holds .nodeLen in
           absurd (omega arith)
 
-  used-fits : held .counts .«node_len» ≤ nodeSlots
-  used-fits = node-len-fits (graph .graph) (lower-wf graph w)
+  pub len-fits : held .counts .«node_len» ≤ nodeSlots
+  len-fits = node-len-fits (graph .graph) (lower-wf graph w)
 
   -- what is gathered over the used node slots is gathered over all
   flatMap-used : (f : ℕ → List ℕ) → ((n : ℕ) → metaIn nodes n ≡ maybe-meta.None → f n ≡ []) → flatMap f (range 0 (held .counts .«node_len»)) ≡ flatMap f (range 0 nodeSlots)
   flatMap-used f h =
-      let u = used-fits in
+      let u = len-fits in
       let len = held .counts .«node_len» in
       sym (ap (flatMap f) (range-append 0 len (nodeSlots - len) nodeSlots (omega arith))
       ∙ (flatMap-append f (range 0 len) (range (0 + len) (nodeSlots - len))
       ∙ (ap (λ (r : List ℕ). flatMap f (range 0 len) ++ r) (flatMap-none f (range (0 + len) (nodeSlots - len)) (λ n i. let r = member-range n (0 + len) (nodeSlots - len) i in h n (no-node n (omega arith))))
       ∙ append-nil (flatMap f (range 0 len)))))
 
-  no-node-wires : (n : ℕ) → metaIn nodes n ≡ maybe-meta.None → nodeWires nodes links owners marks flags n ≡ []
-  unfolding nodeWires
-  no-node-wires n e = rw e
+  -- What a pass over the node slots gathers: what f gives for a block's meta data, where that is what g gives for the block.
+  module _ (f : ℕ → NodeMeta → List ℕ) (g : ℕ → List ℕ) (same : (n : ℕ) (k : NodeMeta) → isHidden graph n ≡ false → metaAt (graph .graph) n ≡ maybe-meta.Some k → f n k ≡ g n) where
+    slot-gives : (n : ℕ) → ofBlock (f n) (flagAt flags nodeSlots n) (metaIn nodes n) ≡ cond (isBlock graph n) (g n) []
+    unfolding isBlock
+    slot-gives n = (λ i. ofBlock (f n) (flag-told n i) (meta-there n i)) ∙ go (isHidden graph n) refl (metaAt (graph .graph) n) refl
+      where
+        go : (b : Bool) → isHidden graph n ≡ b → (x : MaybeNodeMeta) → metaAt (graph .graph) n ≡ x → ofBlock (f n) b x ≡ cond (cond b false (isSome x)) (g n) []
+        go true h maybe-meta.None e = refl
+        go true h (maybe-meta.Some k) e = refl
+        go false h maybe-meta.None e = refl
+        go false h (maybe-meta.Some k) e = same n k h e
+
+    blocks-give : flatMap (λ n. ofBlock (f n) (flagAt flags nodeSlots n) (metaIn nodes n)) (range 0 (held .counts .«node_len»)) ≡ flatMap g (blocks graph)
+    unfolding blocks
+    blocks-give =
+        flatMap-used (λ n. ofBlock (f n) (flagAt flags nodeSlots n) (metaIn nodes n)) (λ n e. ap (ofBlock (f n) (flagAt flags nodeSlots n)) e)
+        ∙ (flatMap-same (λ n. ofBlock (f n) (flagAt flags nodeSlots n) (metaIn nodes n)) (λ n. cond (isBlock graph n) (g n) []) (range 0 nodeSlots) (λ n i. slot-gives n)
+        ∙ sym (flatMap-filter g (isBlock graph) (range 0 nodeSlots)))
 
   -- all wires
   pub wires-listed : tableWires nodes links owners marks flags (held .counts .«node_len») ≡ wiresListed graph
-  unfolding tableWires wiresListed allWires blocks
+  unfolding tableWires nodeWires wiresListed allWires
   wires-listed =
-      flatMap-used (nodeWires nodes links owners marks flags) no-node-wires
-      ∙ (flatMap-same (nodeWires nodes links owners marks flags) (λ n. cond (isBlock graph n) (flatMap (wireNumbers graph) (sideLinks graph Outgoing n)) []) (range 0 nodeSlots) (λ n i. node-wires-are n)
-      ∙ (sym (flatMap-filter (λ n. flatMap (wireNumbers graph) (sideLinks graph Outgoing n)) (isBlock graph) (range 0 nodeSlots))
-      ∙ sym (flatMap-flatMap (wireNumbers graph) (sideLinks graph Outgoing) (filter (isBlock graph) (range 0 nodeSlots)))))
+      blocks-give (sideWires nodes links owners marks flags) (λ n. flatMap (wireNumbers graph) (sideLinks graph Outgoing n)) side-wires-are
+      ∙ sym (flatMap-flatMap (wireNumbers graph) (sideLinks graph Outgoing) (blocks graph))
 
   -- What the pass presumes.
 
@@ -386,9 +386,6 @@ module _ (nodes links owners heads : List ℕ) (marks flags : List Bool) (held :
       let a = w .fine .good .blockEnds n k l in
       let b = w .fine .good .portsFit in
       record { ends = omega arith; ports = w .fine .good .portsInBlock n k l; small = w .fine .good .blockSmall n k l }
-
-  pub len-fits : held .counts .«node_len» ≤ nodeSlots
-  len-fits = used-fits
 
   -- the number of wires, and that of their numbers
   pub wires-counted : (count : ℕ) → count ≡ held .counts .«link_count» - held .copies → count ≡ length (allWires graph)
@@ -409,34 +406,16 @@ module _ (nodes links owners heads : List ℕ) (marks flags : List Bool) (held :
       first-of-range (k .«first_port» .0) (k .incoming + k .outgoing)
       ∙ ap (λ (l : List ℕ). getD l 0 0) (range-append (k .«first_port» .0) (k .incoming) (k .outgoing) (k .incoming + k .outgoing) refl ∙ sym (λ i. a i ++ b i))
 
-  block-words-are : (n : ℕ) (k : NodeMeta) → metaAt (graph .graph) n ≡ maybe-meta.Some k → _≡_ {A = List ℕ} (n ∷ k .incoming ∷ k .outgoing ∷ portOfMeta k ∷ []) (blockNumbers graph n)
+  block-words-are : (n : ℕ) (k : NodeMeta) → isHidden graph n ≡ false → metaAt (graph .graph) n ≡ maybe-meta.Some k → blockWords n k ≡ blockNumbers graph n
   unfolding blockNumbers
-  block-words-are n k e =
+  block-words-are n k h e =
       let f = first-port-is n k e in
       λ i. n ∷ countIn (sym e i) Incoming ∷ countIn (sym e i) Outgoing ∷ f i ∷ []
 
-  -- of a node slot
-  node-block-is : (n : ℕ) → nodeBlock nodes flags n ≡ cond (isBlock graph n) (blockNumbers graph n) []
-  unfolding nodeBlock isBlock
-  node-block-is n = (λ i. blockWords n (flag-told n i) (meta-there n i)) ∙ go (isHidden graph n) (metaAt (graph .graph) n) refl
-    where
-      go : (b : Bool) (x : MaybeNodeMeta) → metaAt (graph .graph) n ≡ x → blockWords n b x ≡ cond (cond b false (isSome x)) (blockNumbers graph n) []
-      go true maybe-meta.None e = refl
-      go true (maybe-meta.Some k) e = refl
-      go false maybe-meta.None e = refl
-      go false (maybe-meta.Some k) e = block-words-are n k e
-
-  no-node-block : (n : ℕ) → metaIn nodes n ≡ maybe-meta.None → nodeBlock nodes flags n ≡ []
-  unfolding nodeBlock
-  no-node-block n e = rw e
-
   -- all blocks
   pub blocks-listed : tableBlocks nodes flags (held .counts .«node_len») ≡ blocksListed graph
-  unfolding tableBlocks blocksListed blocks
-  blocks-listed =
-      flatMap-used (nodeBlock nodes flags) no-node-block
-      ∙ (flatMap-same (nodeBlock nodes flags) (λ n. cond (isBlock graph n) (blockNumbers graph n) []) (range 0 nodeSlots) (λ n i. node-block-is n)
-      ∙ sym (flatMap-filter (blockNumbers graph) (isBlock graph) (range 0 nodeSlots)))
+  unfolding tableBlocks nodeBlock blocksListed
+  blocks-listed = blocks-give blockWords (blockNumbers graph) block-words-are
 
   -- their number, and that of their numbers
   pub blocks-counted : (count : ℕ) → count ≡ held .counts .«node_count» - held .copies → count ≡ length (blocks graph)

@@ -18,6 +18,11 @@ use Rattle.multiportgraph.specs.Forms.{flagAt}
 use Rattle.multiportgraph.specs.Reads.{farIn, ownerIn}
 use Rattle.multiportgraph.specs.declared.list_ends.WireEnd.{WireEnd}
 
+-- what f gives for a block; nothing for a hidden node and for no node
+abbrev pub ofBlock : (NodeMeta → List ℕ) → Bool → MaybeNodeMeta → List ℕ
+ofBlock f h maybe-meta.None = []
+ofBlock f h (maybe-meta.Some k) = cond h [] (f k)
+
 -- Ends.
 
 -- the four numbers of an end
@@ -78,13 +83,9 @@ placeWires nodes links owners marks flags n first i = portWires nodes links owne
 unfoldable pub sideWires : List ℕ → List ℕ → List ℕ → List Bool → List Bool → ℕ → NodeMeta → List ℕ
 sideWires nodes links owners marks flags n k = flatMap (placeWires nodes links owners marks flags n (k .«first_port» .0 + k .incoming)) (range 0 (k .outgoing))
 
-abbrev pub blockWires : List ℕ → List ℕ → List ℕ → List Bool → List Bool → ℕ → Bool → MaybeNodeMeta → List ℕ
-blockWires nodes links owners marks flags n h maybe-meta.None = []
-blockWires nodes links owners marks flags n h (maybe-meta.Some k) = cond h [] (sideWires nodes links owners marks flags n k)
-
 -- of a node slot
 unfoldable pub nodeWires : List ℕ → List ℕ → List ℕ → List Bool → List Bool → ℕ → List ℕ
-nodeWires nodes links owners marks flags n = blockWires nodes links owners marks flags n (flagAt flags nodeSlots n) (metaIn nodes n)
+nodeWires nodes links owners marks flags n = ofBlock (sideWires nodes links owners marks flags n) (flagAt flags nodeSlots n) (metaIn nodes n)
 
 -- of the first so many node slots
 unfoldable pub tableWires : List ℕ → List ℕ → List ℕ → List Bool → List Bool → ℕ → List ℕ
@@ -96,13 +97,12 @@ tableWires nodes links owners marks flags len = flatMap (nodeWires nodes links o
 unfoldable pub portOfMeta : NodeMeta → ℕ
 portOfMeta k = cond (eqb (k .incoming + k .outgoing) 0) 0 (k .«first_port» .0)
 
-abbrev pub blockWords : ℕ → Bool → MaybeNodeMeta → List ℕ
-blockWords n h maybe-meta.None = []
-blockWords n h (maybe-meta.Some k) = cond h [] (n ∷ k .incoming ∷ k .outgoing ∷ portOfMeta k ∷ [])
+abbrev pub blockWords : ℕ → NodeMeta → List ℕ
+blockWords n k = n ∷ k .incoming ∷ k .outgoing ∷ portOfMeta k ∷ []
 
 -- of a node slot
 unfoldable pub nodeBlock : List ℕ → List Bool → ℕ → List ℕ
-nodeBlock nodes flags n = blockWords n (flagAt flags nodeSlots n) (metaIn nodes n)
+nodeBlock nodes flags n = ofBlock (blockWords n) (flagAt flags nodeSlots n) (metaIn nodes n)
 
 -- of the first so many node slots
 unfoldable pub tableBlocks : List ℕ → List Bool → ℕ → List ℕ

@@ -11,21 +11,15 @@ use Rattle.portgraph.specs.Limits.{nodeSlots, portSlots}
 use Rattle.portgraph.specs.Lists.{range}
 use Rattle.portgraph.specs.Tables.{at}
 use Rattle.portgraph.specs.ResizeSteps.{sets-append}
-use Rattle.portgraph.specs.Lent.{slotsIn, metaIn, graphIn}
-use Rattle.portgraph.specs.LentGraph.{graph-stored}
+use Rattle.portgraph.specs.Lent.{metaIn}
 use Rattle.portgraph.specs.declared.node_entry.NodeMeta.{NodeMeta}
 use Rattle.portgraph.specs.declared.node_entry.MaybeNodeMeta.{MaybeNodeMeta}
 use Rattle.portgraph.specs.declared.node_entry.MaybeNodeMeta.the-variants as maybe-meta
-use Rattle.portgraph.specs.declared.portgraph.PortGraph.{PortGraph}
-use Rattle.portgraph.specs.declared.lent.Counts.{Counts}
-use Rattle.multiportgraph.specs.Graph.{multi, withGraph}
 use Rattle.multiportgraph.specs.Forms.{flagAt}
 use Rattle.multiportgraph.specs.Reads.{farIn, ownerIn}
-use Rattle.multiportgraph.specs.MultiLent.{multiIn}
 use Rattle.multiportgraph.specs.Listed.{listAfter, listAnswer}
-use Rattle.multiportgraph.specs.ListScans.{endWords, firstOfMeta, inEnd, subportEnd, farEnd, slotWire, copyWires, subportWire, splitWires, outEnd, portWires, placeWires, sideWires, blockWires, nodeWires, portOfMeta, blockWords, nodeBlock, Writing}
+use Rattle.multiportgraph.specs.ListScans.{endWords, firstOfMeta, inEnd, subportEnd, farEnd, slotWire, copyWires, subportWire, splitWires, outEnd, portWires, placeWires, sideWires, ofBlock, portOfMeta, Writing}
 use Rattle.multiportgraph.specs.declared.multiportgraph.MultiPortGraph.{MultiPortGraph}
-use Rattle.multiportgraph.specs.declared.lent.Held.{Held}
 use Rattle.multiportgraph.specs.declared.list_ends.WireEnd.{WireEnd}
 use Rattle.multiportgraph.specs.declared.list_ends.ListAnswer.{ListAnswer}
 use Rattle.multiportgraph.specs.declared.list_ends.ListAnswer.the-variants.{Listed, TooShort}
@@ -112,6 +106,25 @@ module _ (numbers list : List ℕ) (count : ℕ) where
       let z : 0 + length numbers ≡ length numbers = omega arith in
       (rw t, rw t (e ∙ (sets-eq numbers list 0 (omega arith) ∙ ap (λ (k : ℕ). numbers ++ drop k list) z)))
 
+-- a flag that was read, of the number that was meant
+flag-read : (t : List Bool) (size n v : ℕ) (b : Bool) → v ≡ n → b ≡ flagAt t size v → flagAt t size n ≡ b
+flag-read t size n v b e f = ap (flagAt t size) (sym e) ∙ sym f
+
+-- Node slots.
+
+module _ (nodes : List ℕ) (flags : List Bool) (n : ℕ) (b : Bool) (v : ℕ) (same : v ≡ n) (told : b ≡ flagAt flags nodeSlots v) (f : NodeMeta → List ℕ) where
+  -- a hidden node gives nothing
+  pub slot-hidden : b ≡ true → ofBlock f (flagAt flags nodeSlots n) (metaIn nodes n) ≡ []
+  slot-hidden h = rw (flag-read flags nodeSlots n v b same told ∙ h) (go (metaIn nodes n))
+    where
+      go : (x : MaybeNodeMeta) → ofBlock f true x ≡ []
+      go maybe-meta.None = refl
+      go (maybe-meta.Some k) = refl
+
+  -- another slot gives what its meta data tell
+  pub slot-seen : b ≡ false → (x : MaybeNodeMeta) → x ≡ metaIn nodes n → ofBlock f false x ≡ ofBlock f (flagAt flags nodeSlots n) (metaIn nodes n)
+  slot-seen h x e = rw (flag-read flags nodeSlots n v b same told ∙ h) (ap (ofBlock f false) e)
+
 -- Ends.
 
 pub first-none : (nodes : List ℕ) (n : ℕ) (x : MaybeNodeMeta) → x ≡ metaIn nodes n → x ≡ maybe-meta.None → 0 ≡ firstOfMeta (metaIn nodes n)
@@ -129,7 +142,7 @@ end-made nodes owners p o n f i a b c =
 
 module _ (nodes links owners : List ℕ) (flags : List Bool) (q n : ℕ) (owned : n ≡ ownerIn owners q) (b : Bool) (v : ℕ) (same : v ≡ n) (told : b ≡ flagAt flags nodeSlots v) where
   far-told : flagAt flags nodeSlots (ownerIn owners q) ≡ b
-  far-told = ap (flagAt flags nodeSlots) (sym (same ∙ owned)) ∙ sym told
+  far-told = flag-read flags nodeSlots (ownerIn owners q) v b (same ∙ owned) told
 
   pub far-plain : b ≡ false → (e : WireEnd) → e ≡ inEnd nodes owners q 0 → e ≡ farEnd nodes links owners flags q
   unfolding farEnd
@@ -187,7 +200,7 @@ written-as l p v w e x = (x .0 ∙ ap (λ (u : List ℕ). p + length u) e, x .1 
 
 module _ (nodes links owners : List ℕ) (marks flags : List Bool) (p n i : ℕ) (b : Bool) (v : ℕ) (same : v ≡ p) (told : b ≡ flagAt marks portSlots v) where
   mark-is : flagAt marks portSlots p ≡ b
-  mark-is = ap (flagAt marks portSlots) (sym same) ∙ sym told
+  mark-is = flag-read marks portSlots p v b same told
 
   pub port-plain : b ≡ false → (s : ℕ) → s ≡ p → slotWire nodes links owners flags (outEnd p 0 n i) s ≡ portWires nodes links owners marks flags p n i
   unfolding portWires
@@ -200,22 +213,6 @@ module _ (nodes links owners : List ℕ) (marks flags : List Bool) (p n i : ℕ)
       (ap (copyWires nodes links owners flags p n i)
       (m ∙ ap (metaIn nodes) (e ∙ (ap (ownerIn owners) (d ∙ ap (farIn links) a)))))
 
-module _ (nodes links owners : List ℕ) (marks flags : List Bool) (n : ℕ) (b : Bool) (v : ℕ) (same : v ≡ n) (told : b ≡ flagAt flags nodeSlots v) where
-  flag-is : flagAt flags nodeSlots n ≡ b
-  flag-is = ap (flagAt flags nodeSlots) (sym same) ∙ sym told
-
-  pub node-hidden : b ≡ true → nodeWires nodes links owners marks flags n ≡ []
-  unfolding nodeWires
-  node-hidden h = rw (flag-is ∙ h) (go (metaIn nodes n))
-    where
-      go : (x : MaybeNodeMeta) → blockWires nodes links owners marks flags n true x ≡ []
-      go maybe-meta.None = refl
-      go (maybe-meta.Some k) = refl
-
-  pub node-by : b ≡ false → (x : MaybeNodeMeta) → x ≡ metaIn nodes n → blockWires nodes links owners marks flags n false x ≡ nodeWires nodes links owners marks flags n
-  unfolding nodeWires
-  node-by h x e = rw (flag-is ∙ h) (ap (blockWires nodes links owners marks flags n false) e)
-
 -- Blocks.
 
 pub portless : (k : NodeMeta) (s : ℕ) → s ≡ k .incoming + k .outgoing → s ≡ 0 → 0 ≡ portOfMeta k
@@ -225,56 +222,6 @@ portless k s e z = rw (eq-eqb (k .incoming + k .outgoing) 0 (sym e ∙ z))
 pub with-ports : (k : NodeMeta) (s : ℕ) → s ≡ k .incoming + k .outgoing → (s ≡ 0 → ⊥) → k .«first_port» .0 ≡ portOfMeta k
 unfolding portOfMeta
 with-ports k s e z = rw (ne-eqb (k .incoming + k .outgoing) 0 (λ h. z (e ∙ h)))
-
-module _ (nodes : List ℕ) (flags : List Bool) (n : ℕ) (b : Bool) (v : ℕ) (same : v ≡ n) (told : b ≡ flagAt flags nodeSlots v) where
-  block-flag : flagAt flags nodeSlots n ≡ b
-  block-flag = ap (flagAt flags nodeSlots) (sym same) ∙ sym told
-
-  pub block-hidden : b ≡ true → nodeBlock nodes flags n ≡ []
-  unfolding nodeBlock
-  block-hidden h = rw (block-flag ∙ h) (go (metaIn nodes n))
-    where
-      go : (x : MaybeNodeMeta) → blockWords n true x ≡ []
-      go maybe-meta.None = refl
-      go (maybe-meta.Some k) = refl
-
-  pub block-by : b ≡ false → (x : MaybeNodeMeta) → x ≡ metaIn nodes n → blockWords n false x ≡ nodeBlock nodes flags n
-  unfolding nodeBlock
-  block-by h x e = rw (block-flag ∙ h) (ap (blockWords n false) e)
-
--- The graph by value and as lent tables.
-
-pub multi-made : (nodes links owners heads : List ℕ) (marks flags : List Bool) (held : Held) (g : PortGraph) → g ≡ graphIn nodes links owners heads (held .counts)
-    → _≡_ {A = MultiPortGraph} (multi g marks flags (held .copies) (held .subs)) (multiIn nodes links owners heads marks flags held)
-multi-made nodes links owners heads marks flags held g e =
-    ap (λ (x : PortGraph). multi x marks flags (held .copies) (held .subs)) e
-
-pub multi-stored : (m : MultiPortGraph) (nodes links owners heads : List ℕ) (counts : Counts) → graphIn nodes links owners heads counts ≡ m .graph
-    → multiIn nodes links owners heads (m .multiport) (m .«copy_node») (record { counts = counts; copies = m .«copy_node_count»; subs = m .«subport_count» }) ≡ m
-multi-stored m nodes links owners heads counts e =
-    ap (λ (x : PortGraph). withGraph m x) e
-
--- a graph's numbers besides its tables
-abbrev heldOf : MultiPortGraph → Held
-heldOf m =
-    record {
-      counts =
-          record {
-            «node_free» = m .graph .«node_free»;
-            «node_len» = m .graph .«node_len»;
-            «port_len» = m .graph .«port_len»;
-            «node_count» = m .graph .«node_count»;
-            «port_count» = m .graph .«port_count»;
-            «link_count» = m .graph .«link_count»;
-          };
-      copies = m .«copy_node_count»;
-      subs = m .«subport_count»;
-    }
-
--- a node table stored as numbers, with the graph's other tables, is the graph
-pub lent-is : (m : MultiPortGraph) (nodes : List ℕ) → slotsIn nodes ≡ m .graph .«node_meta» → multiIn nodes (m .graph .«port_link») (m .graph .«port_meta») (m .graph .«port_free») (m .multiport) (m .«copy_node») (heldOf m) ≡ m
-lent-is m nodes e =
-    multi-stored m nodes (m .graph .«port_link») (m .graph .«port_meta») (m .graph .«port_free») (heldOf m .counts) (graph-stored (m .graph) nodes e)
 
 -- what is listed of a graph is listed of the same graph
 pub listed-as : (count : MultiPortGraph → ℕ) (numbers : MultiPortGraph → List ℕ) (l : List ℕ) {m m′ : MultiPortGraph} {l′ : List ℕ} {r : ListAnswer} → m ≡ m′

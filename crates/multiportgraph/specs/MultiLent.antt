@@ -21,7 +21,9 @@ use Rattle.portgraph.specs.declared.node_entry.MaybeNodeMeta.the-variants as ma
 use Rattle.portgraph.specs.declared.port_entry.PortEntry.{PortEntry}
 use Rattle.portgraph.specs.declared.port_entry.PortEntry.the-variants as port-variants
 use Rattle.portgraph.specs.declared.lent.Counts.{Counts}
-use Rattle.multiportgraph.specs.Graph.{multi}
+use Rattle.multiportgraph.specs.Graph.{multi, withMarks}
+use Rattle.portgraph.specs.declared.resize.SetAnswer as lower-set
+use Rattle.portgraph.specs.declared.resize.SetAnswer.the-variants as lower-set-variants
 use Rattle.multiportgraph.specs.Reading.{portNumber, isHidden}
 use Rattle.multiportgraph.specs.Inner.{MultiWf}
 use Rattle.multiportgraph.specs.Forms.{flagAt}
@@ -33,7 +35,7 @@ use Rattle.multiportgraph.specs.declared.multiportgraph.PortsLinked.{Por
 use Rattle.multiportgraph.specs.declared.prepare.Prepared.{Prepared}
 use Rattle.multiportgraph.specs.declared.lent.Held.{Held}
 use Rattle.multiportgraph.specs.declared.lent_prepare.PreparedIn.{PreparedIn}
-use Rattle.multiportgraph.specs.HiddenNodes.{prepare}
+use Rattle.multiportgraph.specs.HiddenNodes.{prepare, marksMoved, removeAll}
 use Rattle.multiportgraph.specs.Cases.{linkRefused, linkLive}
 
 -- the graph that lent tables and numbers are
@@ -98,6 +100,18 @@ pub record Resizes (m : MultiPortGraph) (n : ℕ) (k : NodeMeta) (incoming outgo
   pub seen : isHidden m n ≡ false
 
 -- What the steps tell.
+
+-- the marks of a node that was k move with its ports
+abbrev pub marksFollow : MultiPortGraph → ℕ → NodeMeta → MultiPortGraph
+marksFollow m n k = withMarks m (marksMoved (m .multiport) (maybe-meta.Some k) (metaAt (m .graph) n))
+
+-- what follows a change of counts in the single-link graph: marks move, and listed hidden nodes go; a refused one has no consequence
+abbrev pub settled : MultiPortGraph → ℕ → NodeMeta → List ℕ → lower-set.SetAnswer → MultiPortGraph
+settled m n k l (lower-set-variants.Set e) = removeAll (marksFollow m n k) l
+settled m n k l lower-set-variants.TooManyPorts = m
+settled m n k l lower-set-variants.UnknownNode = m
+settled m n k l lower-set-variants.MovesTooShort = m
+settled m n k l lower-set-variants.NoRoom = m
 
 -- a prepared end with its graph
 abbrev pub preparedIn : MultiPortGraph → PreparedIn → Prepared

@@ -33,10 +33,10 @@ use Rattle.portgraph.specs.declared.node_entry.MaybeNodeMeta.the-variants as ma
 use Rattle.portgraph.specs.declared.portgraph.PortGraph.{PortGraph}
 use Rattle.portgraph.specs.declared.resize.SetAnswer as lower-set-answer
 use Rattle.portgraph.specs.declared.resize.SetAnswer.the-variants as lower-set
-use Rattle.multiportgraph.specs.Reading.{isHidden, isSplit, copySide, copyNode, portNumber, portOf}
+use Rattle.multiportgraph.specs.Reading.{isHidden, isSplit, copySide, copyNode, portNumber, portOf, subports}
 use Rattle.multiportgraph.specs.Calls.{setAs, setCounts, setCountsUnder}
-use Rattle.multiportgraph.specs.Inner.{inner#, copyPlace, Fine, Marked, copy-port, main-port, BlockIs, outer, IsEnd, Wiring, subportsOfSlot}
-use Rattle.multiportgraph.specs.Ends.{hangs, one-copy, split-has-copy, copy-valid, main-seen, outer-of-subport, outer-of-block}
+use Rattle.multiportgraph.specs.Inner.{inner#, copyPlace, Fine, Marked, copy-port, main-port, BlockIs, Seen, outer, IsEnd, Wiring, subportsOfSlot}
+use Rattle.multiportgraph.specs.Ends.{Hangs, hangs, one-copy, split-has-copy, copy-valid, main-seen, outer-of-subport, outer-of-block}
 use Rattle.multiportgraph.specs.Frame.{copy-side-is, true-not-false}
 use Rattle.multiportgraph.specs.RecountLaws.{Recount, SomeRecount, set-recounts, below-stays, stays-below, count-new, slotIn, PlaceAt, place-among, number-cases, WasMarked, Shape, recount-marks, marked-was, marks-long, other-count, count-after, both-sides}
 use Rattle.multiportgraph.specs.declared.multiportgraph.MultiPortGraph.{MultiPortGraph}
@@ -718,6 +718,12 @@ module _ {m : MultiPortGraph} {M : Model} (f : Fine m M) (n : ℕ) (a : NodeMeta
           marks = λ x v s. recount-marks f r x v (re-valid x v (s .0));
         }
 
+-- a port of a block is split exactly if it was, with as many subports
+abbrev pub SameSplit : MultiPortGraph → Model → MultiPortGraph → Model → model.InnerPlace → Type 0
+SameSplit m M m′ M′ x =
+    (isSplit m′ (slotOf (M′ .node) x) ≡ isSplit m (slotOf (M .node) x))
+    × (isSplit m (slotOf (M .node) x) ≡ true → subports m′ (slotOf (M′ .node) x) (x .side) ≡ subports m (slotOf (M .node) x) (x .side))
+
 -- Wires in the end.
 
 neither : (p q : Bool) → (p || q) ≡ false → (p ≡ false) × (q ≡ false)
@@ -826,6 +832,35 @@ module _ {m : MultiPortGraph} {M : Model} (f : Fine m M) (n : ℕ) (a : NodeMeta
             );
       }
 
+  -- a port that stays is split exactly if it was, with as many subports
+  splits-left : (x : model.InnerPlace) → Seen m M x → (x .node ≡ n → x .pos < newCount i o (x .side)) → SameSplit m M m′ (z .model′) x
+  splits-left x s b = (same, λ t. as-many t (split-has-copy f x s t))
+    where
+      stays : Stays n i o (copiesDropped m a i o) x
+      stays = (b, out-of f n a shown here i o (x .node) (s .1))
+
+      same : isSplit m′ (slotOf (z .model′ .node) x) ≡ isSplit m (slotOf (M .node) x)
+      same = z .tracks .marks x (s .0) stays
+
+      as-many : isSplit m (slotOf (M .node) x) ≡ true → Hangs m M x → subports m′ (slotOf (z .model′ .node) x) (x .side) ≡ subports m (slotOf (M .node) x) (x .side)
+      as-many t h =
+          let out : (Member (h .copy) (copiesDropped m a i o) → ⊥) = λ k.
+          let d = dropped-has f n a shown here i o (h .copy) k in
+          let u = d .joined in
+          let v = h .from in
+          let q : d .main ≡ x = cc in
+          let l = b (ap (λ (y : model.InnerPlace). y .node) (sym q) ∙ d .node) in
+          let e = subst (λ (y : model.InnerPlace). newCount i o (y .side) ≤ y .pos) q (d .dropped) in
+          omega arith in
+          let s′ : Seen m′ (z .model′) x = (stays-valid (z .tracks) x stays (s .0), z .tracks .hid (x .node) (stays .1) ∙ s .1) in
+          let h′ = split-has-copy (z .fine) x s′ (same ∙ t) in
+          let j = z .tracks .left x (copyPlace m (h .copy)) (h .back) stays (copy-stays f n a shown here i o (h .copy) (h .isCopy) out) in
+          let k = h′ .back in
+          let q : copyPlace m′ (h′ .copy) ≡ copyPlace m (h .copy) = cc in
+          h′ .count
+          ∙ (ap (λ (y : model.InnerPlace). countOf (z .model′ .node (y .node)) (x .side)) q
+          ∙ (ap (λ (v : Slots). countOf v (x .side)) (z .tracks .nodes (h .copy) (not-n f n a shown here i o (h .copy) (h .isCopy)) out) ∙ sym (h .count)))
+
   -- other blocks are the same
   others-left : (k : ℕ) (l : NodeMeta) → (k ≡ n → ⊥) → BlockIs m M k l → BlockIs m′ (z .model′) k l
   others-left k l ne e = let out = out-of f n a shown here i o k (e .0) in (z .tracks .hid k out ∙ e .0, z .tracks .nodes k ne out ∙ e .1)
@@ -837,7 +872,8 @@ module _ {m : MultiPortGraph} {M : Model} (f : Fine m M) (n : ℕ) (a : NodeMeta
 
 -- The call.
 
--- what an accepted resize did: block n has the counts named, other blocks are the same, exactly the wires at dropped positions went
+-- what an accepted resize did: block n has the counts named, other blocks are the same, exactly the wires at dropped positions went,
+-- and every port that stays is as split as it was
 pub record SetDone (m : MultiPortGraph) (M : Model) (m′ : MultiPortGraph) (n i o : ℕ) : Type 0 where
   pub model′ : Model
   pub old : NodeMeta
@@ -850,6 +886,8 @@ pub record SetDone (m : MultiPortGraph) (M : Model) (m′ : MultiPortGraph) (n i
   pub others : (k : ℕ) (l : NodeMeta) → (k ≡ n → ⊥) → BlockIs m M k l → BlockIs m′ model′ k l
   pub othersBack : (k : ℕ) (l : NodeMeta) → (k ≡ n → ⊥) → BlockIs m′ model′ k l → BlockIs m M k l
   pub wires : Wiring m M m′ model′ (ofDropped n i o) []
+  -- a port that is not dropped is split exactly if it was, with as many subports
+  pub splits : (x : model.InnerPlace) → Seen m M x → (x .node ≡ n → x .pos < newCount i o (x .side)) → SameSplit m M m′ model′ x
 
 -- answer and graph of a resize on m
 abbrev SetSays : MultiPortGraph → Model → ℕ → ℕ → ℕ → PortsSet → Type 0
@@ -883,6 +921,7 @@ module _ {m : MultiPortGraph} {M : Model} (f : Fine m M) (n i o room : ℕ) wher
                 others = others-left f n k shown here i o z;
                 othersBack = others-before f n k shown here i o z;
                 wires = wires-left f n k shown here i o z;
+                splits = splits-left f n k shown here i o z;
               }
 
       lower : (k : NodeMeta) → isHidden m n ≡ false → M .node n ≡ live k → (t : lower-set-answer.SetAnswer) → setNumPorts (m .graph) n i o room .answer ≡ t

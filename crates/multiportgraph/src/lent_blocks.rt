@@ -25,6 +25,7 @@ use portgraph::index::PORT_SLOTS;
 use portgraph::index::PortIndex;
 use portgraph::lent::NODE_WORDS;
 use portgraph::lent::meta_in;
+use portgraph::lent_resize::resize_quiet_in;
 use portgraph::lent_resize::set_num_ports_in;
 use portgraph::lent_slots::remove_node_in;
 use portgraph::node_entry::MaybeNodeMeta;
@@ -34,17 +35,18 @@ use portgraph::numbers::wide;
 use portgraph::numbers::wide16;
 use portgraph::resize::SetAnswer as LowerSet;
 use portgraph::tables::cut;
+use portgraph::tables::store;
 use portgraph::tables::without_link;
 ghost use mathlib.Core.Path.{_≡_};
 ghost use Prim.Native.Nat.{_+_, _≤_, min};
-ghost use lib.ListN.{length};
+ghost use lib.ListN.{length, take};
 ghost use lib.Seq.{sets};
 ghost use Rattle.portgraph.specs.Limits.{portSlots, nodePorts};
 ghost use Rattle.portgraph.specs.Resize.{BlockFits};
 ghost use Rattle.multiportgraph.specs.Calls.{cutPort, removeBlock, setAs, setCounts, movesTold};
 ghost use Rattle.multiportgraph.specs.Inner.{MultiWf};
-ghost use Rattle.multiportgraph.specs.MultiLent.{multiIn, FitsIf, Sound, Resizes};
-ghost use Rattle.multiportgraph.specs.HiddenNodes.{marksMoved, copiesIn, copiesDropped};
+ghost use Rattle.multiportgraph.specs.MultiLent.{multiIn, FitsIf, Sound, Resizes, settled};
+ghost use Rattle.multiportgraph.specs.HiddenNodes.{marksMoved, copiesIn, copiesDropped, enough};
 
 pub struct RemovedIn {
     pub held: Held,
@@ -180,7 +182,7 @@ fn list_copies<'a>(
     marks: &'a [bool; PORT_SLOTS],
     flags: &'a [bool; NODE_SLOTS],
     held: Held,
-    list: &mut [u32; NODE_PORTS],
+    list: &mut [u32],
     at: usize,
     first: usize,
     count: usize,
@@ -193,10 +195,8 @@ fn list_copies<'a>(
     while k < count {
         let port = (first + k) as u32;
         if marked(marks, first + k) {
-            if place < NODE_PORTS {
-                list[place] = copy_node_in(links, owners, port);
-                place += 1;
-            }
+            store(list, place, copy_node_in(links, owners, port));
+            place += 1;
         }
         k += 1;
     }
@@ -212,7 +212,7 @@ fn list_dropped<'a>(
     marks: &'a [bool; PORT_SLOTS],
     flags: &'a [bool; NODE_SLOTS],
     held: Held,
-    list: &mut [u32; NODE_PORTS],
+    list: &mut [u32],
     meta: NodeMeta,
     incoming: usize,
     outgoing: usize,
@@ -265,7 +265,40 @@ fn set_as(answer: LowerSet) -> SetAnswer
     }
 }
 
-// The block is there and not hidden: its counts change, and the hidden nodes of dropped ports go.
+// The single-link graph has other counts for a node, or refused them: where it has them the marks move with the ports, and the first
+// `count` hidden nodes of the list go. `meta` is what the node was before.
+fn finish_in(
+    nodes: &mut [u32; NODE_WORDS],
+    links: &mut [u32; PORT_SLOTS],
+    owners: &mut [u32; PORT_SLOTS],
+    heads: &mut [u32; FREE_LISTS],
+    marks: &mut [bool; PORT_SLOTS],
+    flags: &mut [bool; NODE_SLOTS],
+    held: Held,
+    node: NodeIndex,
+    meta: NodeMeta,
+    answer: LowerSet,
+    list: &[u32],
+    count: usize,
+) -> SetIn
+    requires { ⌜ Sound (multiIn (now nodes) (now links) (now owners) (now heads) (now marks) (now flags) held) × BlockFits meta × (count ≤ length (now list)) ⌝ }
+    ensures { λ r. ⌜ (multiIn (now (nodes .exit)) (now (links .exit)) (now (owners .exit)) (now (heads .exit)) (now (marks .exit)) (now (flags .exit)) (r .held) ≡ settled (multiIn (now (nodes .entry)) (now (links .entry)) (now (owners .entry)) (now (heads .entry)) (now (marks .entry)) (now (flags .entry)) held) (node .0) meta (take count (now (list .entry))) answer)
+        × (r .answer ≡ setAs answer) ⌝ }
+{
+    let LowerSet::Set(_) = answer else {
+        return SetIn {
+            held: held,
+            answer: set_as(answer),
+        };
+    };
+    recount(marks, MaybeNodeMeta::Some(meta), meta_in(nodes, node.0));
+    SetIn {
+        held: remove_all_in(nodes, links, owners, heads, marks, flags, held, list, count),
+        answer: set_as(answer),
+    }
+}
+
+// The block is there and not hidden: its counts change, and the hidden nodes of dropped ports go, which the list has room for.
 fn resize_in(
     nodes: &mut [u32; NODE_WORDS],
     links: &mut [u32; PORT_SLOTS],
@@ -279,13 +312,13 @@ fn resize_in(
     incoming: usize,
     outgoing: usize,
     moves: &mut [u32],
+    list: &mut [u32],
 ) -> SetIn
-    requires { ⌜ Resizes (multiIn (now nodes) (now links) (now owners) (now heads) (now marks) (now flags) held) (node .0) meta incoming outgoing ⌝ }
+    requires { ⌜ Resizes (multiIn (now nodes) (now links) (now owners) (now heads) (now marks) (now flags) held) (node .0) meta incoming outgoing × (nodePorts ≤ length (now list)) ⌝ }
     ensures { λ r. ⌜ (multiIn (now (nodes .exit)) (now (links .exit)) (now (owners .exit)) (now (heads .exit)) (now (marks .exit)) (now (flags .exit)) (r .held) ≡ setCounts (multiIn (now (nodes .entry)) (now (links .entry)) (now (owners .entry)) (now (heads .entry)) (now (marks .entry)) (now (flags .entry)) held) (node .0) incoming outgoing (length (now (moves .entry))) .graph)
         × (r .answer ≡ setCounts (multiIn (now (nodes .entry)) (now (links .entry)) (now (owners .entry)) (now (heads .entry)) (now (marks .entry)) (now (flags .entry)) held) (node .0) incoming outgoing (length (now (moves .entry))) .answer)
         × (now (moves .exit) ≡ movesTold (multiIn (now (nodes .entry)) (now (links .entry)) (now (owners .entry)) (now (heads .entry)) (now (marks .entry)) (now (flags .entry)) held) (node .0) incoming outgoing (now (moves .entry))) ⌝ }
 {
-    let mut list = [0u32; NODE_PORTS];
     let count = list_dropped(
         nodes,
         links,
@@ -294,7 +327,7 @@ fn resize_in(
         marks,
         flags,
         held,
-        &mut list,
+        list,
         meta,
         incoming,
         outgoing,
@@ -313,27 +346,82 @@ fn resize_in(
     );
     let after = sized.counts;
     let answer = sized.answer;
-    let LowerSet::Set(_) = answer else {
-        return SetIn {
-            held: with_counts(held, after),
-            answer: set_as(answer),
-        };
-    };
-    recount(marks, MaybeNodeMeta::Some(meta), meta_in(nodes, node.0));
-    SetIn {
-        held: remove_all_in(
-            nodes,
-            links,
-            owners,
-            heads,
-            marks,
-            flags,
-            with_counts(held, after),
-            &list,
-            count,
-        ),
-        answer: set_as(answer),
-    }
+    finish_in(
+        nodes,
+        links,
+        owners,
+        heads,
+        marks,
+        flags,
+        with_counts(held, after),
+        node,
+        meta,
+        answer,
+        list,
+        count,
+    )
+}
+
+// The same without a move list, as if there were one that is long enough.
+fn resize_untold_in(
+    nodes: &mut [u32; NODE_WORDS],
+    links: &mut [u32; PORT_SLOTS],
+    owners: &mut [u32; PORT_SLOTS],
+    heads: &mut [u32; FREE_LISTS],
+    marks: &mut [bool; PORT_SLOTS],
+    flags: &mut [bool; NODE_SLOTS],
+    held: Held,
+    node: NodeIndex,
+    meta: NodeMeta,
+    incoming: usize,
+    outgoing: usize,
+    list: &mut [u32],
+) -> SetIn
+    requires { ⌜ Resizes (multiIn (now nodes) (now links) (now owners) (now heads) (now marks) (now flags) held) (node .0) meta incoming outgoing × (nodePorts ≤ length (now list)) ⌝ }
+    ensures { λ r. ⌜ (multiIn (now (nodes .exit)) (now (links .exit)) (now (owners .exit)) (now (heads .exit)) (now (marks .exit)) (now (flags .exit)) (r .held) ≡ setCounts (multiIn (now (nodes .entry)) (now (links .entry)) (now (owners .entry)) (now (heads .entry)) (now (marks .entry)) (now (flags .entry)) held) (node .0) incoming outgoing enough .graph)
+        × (r .answer ≡ setCounts (multiIn (now (nodes .entry)) (now (links .entry)) (now (owners .entry)) (now (heads .entry)) (now (marks .entry)) (now (flags .entry)) held) (node .0) incoming outgoing enough .answer) ⌝ }
+{
+    let count = list_dropped(
+        nodes,
+        links,
+        owners,
+        heads,
+        marks,
+        flags,
+        held,
+        list,
+        meta,
+        incoming,
+        outgoing,
+    );
+    let counts = held.counts;
+    let sized = resize_quiet_in(
+        nodes,
+        links,
+        owners,
+        heads,
+        counts,
+        node,
+        meta,
+        incoming,
+        outgoing,
+    );
+    let after = sized.counts;
+    let answer = sized.answer;
+    finish_in(
+        nodes,
+        links,
+        owners,
+        heads,
+        marks,
+        flags,
+        with_counts(held, after),
+        node,
+        meta,
+        answer,
+        list,
+        count,
+    )
 }
 
 // MultiPortGraph::set_num_ports over lent tables.
@@ -379,6 +467,7 @@ pub fn set_in(
             answer: SetAnswer::Refused(Refusal::HiddenNode),
         };
     }
+    let mut list = [0u32; NODE_PORTS];
     resize_in(
         nodes,
         links,
@@ -392,5 +481,64 @@ pub fn set_in(
         incoming,
         outgoing,
         moves,
+        &mut list,
+    )
+}
+
+// The same for a caller who reads no move list: what it gives for one that is long enough.
+pub fn set_quiet_in(
+    nodes: &mut [u32; NODE_WORDS],
+    links: &mut [u32; PORT_SLOTS],
+    owners: &mut [u32; PORT_SLOTS],
+    heads: &mut [u32; FREE_LISTS],
+    marks: &mut [bool; PORT_SLOTS],
+    flags: &mut [bool; NODE_SLOTS],
+    held: Held,
+    node: NodeIndex,
+    incoming: usize,
+    outgoing: usize,
+) -> SetIn
+    requires { ⌜ MultiWf (multiIn (now nodes) (now links) (now owners) (now heads) (now marks) (now flags) held) ⌝ }
+    ensures { λ r. ⌜ (multiIn (now (nodes .exit)) (now (links .exit)) (now (owners .exit)) (now (heads .exit)) (now (marks .exit)) (now (flags .exit)) (r .held) ≡ setCounts (multiIn (now (nodes .entry)) (now (links .entry)) (now (owners .entry)) (now (heads .entry)) (now (marks .entry)) (now (flags .entry)) held) (node .0) incoming outgoing enough .graph)
+        × (r .answer ≡ setCounts (multiIn (now (nodes .entry)) (now (links .entry)) (now (owners .entry)) (now (heads .entry)) (now (marks .entry)) (now (flags .entry)) held) (node .0) incoming outgoing enough .answer) ⌝ }
+{
+    if NODE_PORTS < incoming {
+        return SetIn {
+            held: held,
+            answer: SetAnswer::Refused(Refusal::TooManyPorts),
+        };
+    }
+    if NODE_PORTS - incoming < outgoing {
+        return SetIn {
+            held: held,
+            answer: SetAnswer::Refused(Refusal::TooManyPorts),
+        };
+    }
+    let MaybeNodeMeta::Some(meta) = meta_in(nodes, node.0) else {
+        return SetIn {
+            held: held,
+            answer: SetAnswer::Refused(Refusal::UnknownNode),
+        };
+    };
+    if flagged(flags, wide(node.0)) {
+        return SetIn {
+            held: held,
+            answer: SetAnswer::Refused(Refusal::HiddenNode),
+        };
+    }
+    let mut list = [0u32; NODE_PORTS];
+    resize_untold_in(
+        nodes,
+        links,
+        owners,
+        heads,
+        marks,
+        flags,
+        held,
+        node,
+        meta,
+        incoming,
+        outgoing,
+        &mut list,
     )
 }

@@ -8,7 +8,6 @@ use crate::reads::owner_in;
 use portgraph::direction::Direction;
 use portgraph::index::FREE_LISTS;
 use portgraph::index::MaybePortIndex;
-use portgraph::index::NODE_PORTS;
 use portgraph::index::NODE_SLOTS;
 use portgraph::index::NodeIndex;
 use portgraph::index::PORT_SLOTS;
@@ -25,7 +24,7 @@ use portgraph::tables::at;
 ghost use mathlib.Core.Path.{_≡_};
 ghost use Prim.Native.Nat.{_+_, _≤_};
 ghost use lib.ListN.{length, take};
-ghost use Rattle.portgraph.specs.Limits.{portSlots, nodePorts};
+ghost use Rattle.portgraph.specs.Limits.{portSlots};
 ghost use Rattle.multiportgraph.specs.MultiLent.{multiIn, portOfIn, copySideIn, farPortIn, copyNodeIn, Sound};
 ghost use Rattle.multiportgraph.specs.HiddenNodes.{removeCopy, removeLone, removeAll, unsplit, unsplitRange};
 
@@ -202,10 +201,10 @@ pub(crate) fn remove_all_in(
     marks: &mut [bool; PORT_SLOTS],
     flags: &mut [bool; NODE_SLOTS],
     held: Held,
-    list: &[u32; NODE_PORTS],
+    list: &[u32],
     count: usize,
 ) -> Held
-    requires { ⌜ Sound (multiIn (now nodes) (now links) (now owners) (now heads) (now marks) (now flags) held) × (count ≤ nodePorts) × (length (now list) ≡ nodePorts) ⌝ }
+    requires { ⌜ Sound (multiIn (now nodes) (now links) (now owners) (now heads) (now marks) (now flags) held) × (count ≤ length (now list)) ⌝ }
     ensures { λ r. ⌜ multiIn (now (nodes .exit)) (now (links .exit)) (now (owners .exit)) (now (heads .exit)) (now (marks .exit)) (now (flags .exit)) r ≡ removeAll (multiIn (now (nodes .entry)) (now (links .entry)) (now (owners .entry)) (now (heads .entry)) (now (marks .entry)) (now (flags .entry)) held) (take count (now (list .entry))) ⌝ }
 {
     let mut left = held;

@@ -6,7 +6,7 @@ use Prim.Native.Nat.{ℕ, zero, suc, _+_, _-_, _*_, _≤_, _<_, min}
 use native.Mathlib.Omega.{arith}
 use lib.Dec.{ltb}
 use lib.ListN.{length, getD, set, replicate, List·getD-eq-default}
-use lib.Seq.{sets}
+use lib.Seq.{sets, set-getD}
 use borrow.Author.Tests.{lt-ltb, le-ltb, eq-eqb, ne-eqb, ltb-true, ltb-false}
 use Rattle.portgraph.specs.Limits.{nodeSlots, portSlots, nodePorts, freeLists}
 use Rattle.portgraph.specs.Entries.{freshSlot, freeSlotOf, nodeSlotOf, withPrev, nextOf, portEntry, portsOn}
@@ -95,6 +95,22 @@ words-read (x ∷ y ∷ z ∷ u ∷ []) n h = absurd (omega arith)
 words-read (x ∷ y ∷ z ∷ u ∷ v ∷ t) zero h = refl
 words-read (x ∷ y ∷ z ∷ u ∷ v ∷ t) (suc n) h = let i : n < length (slotsIn t) = omega arith in rw (next-five n) (words-read t n i)
 
+-- one store, to the second number of a slot
+second-written : (t : List ℕ) (n v : ℕ) → slotsIn (set t (suc (5 * n)) v)
+    ≡ set (slotsIn t) n (slotOfWords (getD t (5 * n) 0) v (getD t (suc (suc (5 * n))) 0) (getD t (suc (suc (suc (5 * n)))) 0) (getD t (suc (suc (suc (suc (5 * n))))) 0))
+unfolding slotsIn
+second-written [] n v = refl
+second-written (x ∷ []) zero v = refl
+second-written (x ∷ []) (suc n) v = refl
+second-written (x ∷ y ∷ []) zero v = refl
+second-written (x ∷ y ∷ []) (suc n) v = rw (next-five n)
+second-written (x ∷ y ∷ z ∷ []) zero v = refl
+second-written (x ∷ y ∷ z ∷ []) (suc n) v = rw (next-five n)
+second-written (x ∷ y ∷ z ∷ u ∷ []) zero v = refl
+second-written (x ∷ y ∷ z ∷ u ∷ []) (suc n) v = rw (next-five n)
+second-written (x ∷ y ∷ z ∷ u ∷ w ∷ t) zero v = refl
+second-written (x ∷ y ∷ z ∷ u ∷ w ∷ t) (suc n) v = rw (next-five n) (ap (λ (l : List NodeSlot). slotOfWords x y z u w ∷ l) (second-written t n v))
+
 zeros-read : (n : ℕ) → slotsIn (replicate (5 * n) 0) ≡ replicate n freshSlot
 unfolding slotsIn slotOfWords
 zeros-read zero = refl
@@ -130,6 +146,45 @@ slot-outside t n h = rw (le-ltb n nodeSlots h)
 pub slot-inside : (t : List ℕ) (n : ℕ) → n < nodeSlots → slotOfWords (getD t (5 * n) 0) (getD t (5 * n + 1) 0) (getD t (5 * n + 2) 0) (getD t (5 * n + 3) 0) (getD t (5 * n + 4) 0) ≡ slotIn t n
 unfolding slotIn
 slot-inside t n h = rw (lt-ltb n nodeSlots h)
+
+-- the neighbours of a free entry
+module _ (t : List ℕ) (n : ℕ) where
+  pub next-outside : nodeSlots ≤ n → 0 ≡ nextOf (slotIn t n .entry)
+  next-outside h = ap (λ (s : NodeSlot). nextOf (s .entry)) (slot-outside t n h)
+
+  module _ (h : n < nodeSlots) where
+    free-entry : getD t (5 * n) 0 ≡ 0 → freeSlotOf (getD t (5 * n + 1) 0) (getD t (5 * n + 2) 0) ≡ slotIn t n
+    free-entry z = free-of-words (getD t (5 * n) 0) (getD t (5 * n + 1) 0) (getD t (5 * n + 2) 0) (getD t (5 * n + 3) 0) (getD t (5 * n + 4) 0) z ∙ slot-inside t n h
+
+    node-entry : (getD t (5 * n) 0 ≡ 0 → ⊥) → nodeSlotOf (metaOf (getD t (5 * n + 1) 0) (narrow (getD t (5 * n + 2) 0)) (narrow (getD t (5 * n + 3) 0)) (narrow (getD t (5 * n + 4) 0))) ≡ slotIn t n
+    node-entry z = node-of-words (getD t (5 * n) 0) (getD t (5 * n + 1) 0) (getD t (5 * n + 2) 0) (getD t (5 * n + 3) 0) (getD t (5 * n + 4) 0) _ _ _ z refl refl refl ∙ slot-inside t n h
+
+    pub next-free : getD t (5 * n) 0 ≡ 0 → getD t (5 * n + 2) 0 ≡ nextOf (slotIn t n .entry)
+    next-free z = ap (λ (s : NodeSlot). nextOf (s .entry)) (free-entry z)
+
+    pub next-node : (getD t (5 * n) 0 ≡ 0 → ⊥) → 0 ≡ nextOf (slotIn t n .entry)
+    next-node z = ap (λ (s : NodeSlot). nextOf (s .entry)) (node-entry z)
+
+    -- the second number stored: what the slot is then
+    second-put : (v : ℕ) → slotsIn (set t (5 * n + 1) v) ≡ putSlot (slotsIn t) n (slotOfWords (getD t (5 * n) 0) v (getD t (5 * n + 2) 0) (getD t (5 * n + 3) 0) (getD t (5 * n + 4) 0))
+    unfolding putSlot
+    second-put v =
+        let e1 : 5 * n + 1 ≡ suc (5 * n) = omega arith in
+        let e2 : 5 * n + 2 ≡ suc (suc (5 * n)) = omega arith in
+        let e3 : 5 * n + 3 ≡ suc (suc (suc (5 * n))) = omega arith in
+        let e4 : 5 * n + 4 ≡ suc (suc (suc (suc (5 * n)))) = omega arith in
+        rw (lt-ltb n nodeSlots h, e1, e2, e3, e4) (second-written t n v)
+
+    pub prev-free : (p : ℕ) → getD t (5 * n) 0 ≡ 0 → slotsIn (set t (5 * n + 1) p) ≡ putSlot (slotsIn t) n (withPrev (slotIn t n) p)
+    prev-free p z =
+        second-put p
+        ∙ ap (putSlot (slotsIn t) n)
+        (sym (free-of-words (getD t (5 * n) 0) p (getD t (5 * n + 2) 0) (getD t (5 * n + 3) 0) (getD t (5 * n + 4) 0) z) ∙ ap (λ (s : NodeSlot). withPrev s p) (free-entry z))
+
+    pub prev-node : (p : ℕ) → (getD t (5 * n) 0 ≡ 0 → ⊥) → slotsIn t ≡ putSlot (slotsIn t) n (withPrev (slotIn t n) p)
+    prev-node p z =
+        let same = ap slotsIn (sym (set-getD t (5 * n + 1) 0)) ∙ second-put (getD t (5 * n + 1) 0) in
+        same ∙ ap (putSlot (slotsIn t) n) (slot-inside t n h ∙ (sym (node-entry z) ∙ ap (λ (s : NodeSlot). withPrev s p) (node-entry z)))
 
 pub words-put : (t : List ℕ) (n k a b c d : ℕ) → n < nodeSlots → slotsIn (set (set (set (set (set t (5 * n) k) (5 * n + 1) a) (5 * n + 2) b) (5 * n + 3) c) (5 * n + 4) d) ≡ putSlot (slotsIn t) n (slotOfWords k a b c d)
 unfolding putSlot
@@ -190,7 +245,7 @@ entry-of-none : (e : NodeEntry) → maybe-meta.None ≡ metaOfEntry e → (f : F
 entry-of-none (node-variants.Free f) h = (f, refl)
 entry-of-none (node-variants.Node m) h = let z : _≡_ {A = ℕ} 0 1 = cc in absurd (omega arith)
 
-entry-of-some : (e : NodeEntry) (m : NodeMeta) → maybe-meta.Some m ≡ metaOfEntry e → e ≡ node-variants.Node m
+pub entry-of-some : (e : NodeEntry) (m : NodeMeta) → maybe-meta.Some m ≡ metaOfEntry e → e ≡ node-variants.Node m
 entry-of-some (node-variants.Free f) m h = let z : _≡_ {A = ℕ} 0 1 = cc in absurd (omega arith)
 entry-of-some (node-variants.Node k) m h = cc
 

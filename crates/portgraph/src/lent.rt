@@ -8,6 +8,7 @@ use crate::node_entry::NodeMeta;
 use crate::node_entry::NodeSlot;
 use crate::numbers::wide;
 ghost use mathlib.Core.Path.{_≡_};
+ghost use Rattle.portgraph.specs.Entries.{nextOf, withPrev};
 ghost use Rattle.portgraph.specs.Lent.{narrow, slotOfWords, slotsIn, slotIn, putSlot, metaIn};
 
 // The numbers of all node slots.
@@ -94,6 +95,29 @@ pub(crate) fn put_slot(nodes: &mut [u32; NODE_WORDS], n: usize, slot: NodeSlot)
             meta.outgoing as u32,
             meta.capacity as u32,
         ),
+    }
+}
+
+// The next free entry after one; 0 for none, and for a node.
+pub(crate) fn next_in(nodes: &[u32; NODE_WORDS], n: usize) -> u32
+    ensures { λ r. ⌜ r ≡ nextOf (slotIn (now (nodes .entry)) n .entry) ⌝ }
+{
+    if NODE_SLOTS <= n {
+        return 0;
+    }
+    let k = 5 * n;
+    if nodes[k] == 0 { nodes[k + 2] } else { 0 }
+}
+
+// Gives a free entry another neighbour before it; a node stays as it is, and outside nothing changes.
+pub(crate) fn put_prev(nodes: &mut [u32; NODE_WORDS], n: usize, prev: u32)
+    ensures { λ _. ⌜ slotsIn (now (nodes .exit)) ≡ putSlot (slotsIn (now (nodes .entry))) n (withPrev (slotIn (now (nodes .entry)) n) prev) ⌝ }
+{
+    if n < NODE_SLOTS {
+        let k = 5 * n;
+        if nodes[k] == 0 {
+            nodes[k + 1] = prev;
+        }
     }
 }
 

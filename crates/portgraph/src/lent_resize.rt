@@ -373,7 +373,7 @@ pub fn set_num_ports_in(
 }
 
 // Gives a node with these meta data other counts, and tells nothing.
-fn resize_quiet_in(
+pub fn resize_quiet_in(
     nodes: &mut [u32; NODE_WORDS],
     links: &mut [u32; PORT_SLOTS],
     owners: &mut [u32; PORT_SLOTS],

@@ -7,8 +7,9 @@ use crate::index::PortIndex;
 use crate::lent::Counts;
 use crate::lent::NODE_WORDS;
 use crate::lent::meta_in;
+use crate::lent::next_in;
+use crate::lent::put_prev;
 use crate::lent::put_slot;
-use crate::lent::slot_in;
 use crate::node_entry::MaybeNodeMeta;
 use crate::node_entry::NodeMeta;
 use crate::node_entry::NodeSlot;
@@ -91,11 +92,9 @@ pub fn add_node_in(
         outgoing: outgoing as u16,
         capacity: size as u16,
     };
-    let slot = slot_in(nodes, node);
-    let free = rest_of(counts.node_free, slot.next_free());
+    let free = rest_of(counts.node_free, next_in(nodes, node));
     let after = slot_after(free, node);
-    let neighbour = slot_in(nodes, after);
-    put_slot(nodes, after, neighbour.with_prev(0));
+    put_prev(nodes, after, 0);
     put_slot(nodes, node, NodeSlot::new_node(meta));
     let head = head_at(heads, size);
     let rest = rest_of(head, at(links, first));
@@ -139,8 +138,7 @@ pub fn remove_node_in(
     let first = wide(meta.first_port.0);
     let size = wide16(meta.capacity);
     let after = slot_after(counts.node_free, place);
-    let neighbour = slot_in(nodes, after);
-    put_slot(nodes, after, neighbour.with_prev(node.0 + 1));
+    put_prev(nodes, after, node.0 + 1);
     put_slot(nodes, place, NodeSlot::new_free(0, counts.node_free));
     let cuts = cut_range(links, first, size);
     let head = head_at(heads, size);

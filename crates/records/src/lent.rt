@@ -21,7 +21,7 @@ use multiportgraph::lent::port_count_in;
 use multiportgraph::lent::subport_link_in;
 use multiportgraph::lent_blocks::cut_port_in;
 use multiportgraph::lent_blocks::remove_in;
-use multiportgraph::lent_blocks::set_in;
+use multiportgraph::lent_blocks::set_quiet_in;
 use multiportgraph::lent_links::link_in;
 use portgraph::index::FREE_LISTS;
 use portgraph::index::NODE_SLOTS;
@@ -87,7 +87,7 @@ fn one_request(
             }
         }
         Ask::Resize(node, incoming, outgoing) => {
-            let sized = set_in(
+            let sized = set_quiet_in(
                 nodes,
                 links,
                 owners,
@@ -98,7 +98,6 @@ fn one_request(
                 node,
                 incoming as usize,
                 outgoing as usize,
-                moves,
             );
             let after = sized.held;
             let answer = sized.answer;

@@ -6,11 +6,12 @@
 --   Book          the wire book of document 01, with no graph in its types
 --   History       one call, and lists of calls from the empty graph, with the book beside them
 --   Claims        what is said of a history: the wire rule, cuts that restore, wires between ports, counts
+--   AnswerClaims, ListingClaims     what calls answer of a wire, and what walks list, against the book
 --   Conditions    when each refusal of a call is given, in words about the model, and what a refusal leaves
 --   Works         what a call takes of the tables and gives back, which is what refusal 10 counts
 -- What is proved of a call, a bundle (CallLaw) in a file for each call: AddCall, RemoveCall, SetCall, LinkCall, LinkSubCall, CutCall,
 -- CutSubCall; collected in CallLaws. A new call is: its row in Book, History, Conditions and Works, its file, its row in CallLaws.
--- Proofs over histories: TheoremProofs, HistoryCounts, Runs; the bench wiring, cases A to K: Bench.
+-- Proofs over histories: TheoremProofs, AnswerWires, ListingWires, KeptPorts, HistoryCounts, Runs; the bench wiring, cases A to K: Bench; 01's numbers: NumberTable.
 -- Walks: each gives its listing whole, in order, and then the end (WalkStepLaws, BlockWalkLaws: the laws named -whole); by turns from
 -- both ends no item comes twice (nodes-turns, ports-turns, port-links-turns); a cursor whose node or port is gone or hidden ends, and a
 -- step gives only what is listed beyond what its cursor holds (WalkHeldLaws). Starts of walks, lookups and fan-out are refused exactly
@@ -19,6 +20,8 @@ pub mod Theorems
 pub mod Book
 pub mod History
 pub mod Claims
+pub mod AnswerClaims
+pub mod ListingClaims
 pub mod Conditions
 pub mod Works
 -- a call
@@ -39,9 +42,13 @@ pub mod CallLaws
 -- histories
 pub mod Runs
 pub mod TheoremProofs
+pub mod AnswerWires
+pub mod ListingWires
+pub mod KeptPorts
 pub mod PortListing
 pub mod HistoryCounts
 pub mod Bench
+pub mod NumberTable
 -- walks
 pub mod Cursors
 pub mod WalkStepLaws

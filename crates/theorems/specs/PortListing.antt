@@ -121,7 +121,7 @@ module _ {m : MultiPortGraph} {M : Model} (f : Fine m M) where
       (v, ends.port-of f n d i v)
 
   -- a port listed at a node's side
-  side-listed : (n : ℕ) (d : Direction) (p : ℕ) → Member p (portsOfSide m d n) → (i : ℕ) × Valid (M .node) (inner# n d i) × (slotOf (M .node) (inner# n d i) ≡ p)
+  pub side-listed : (n : ℕ) (d : Direction) (p : ℕ) → Member p (portsOfSide m d n) → (i : ℕ) × Valid (M .node) (inner# n d i) × (slotOf (M .node) (inner# n d i) ≡ p)
   unfolding portsOfSide
   side-listed n d p h =
       let e = member-map (portOf (m .graph) n d) p (range 0 (numPorts (m .graph) n d)) h in
@@ -157,7 +157,7 @@ module _ {m : MultiPortGraph} {M : Model} (f : Fine m M) where
       zero-is-not-one (cc))
 
   -- the port of a place is listed at its side, and so at its node
-  side-has : (x : model.InnerPlace) → Valid (M .node) x → Member (slotOf (M .node) x) (portsOfSide m (x .side) (x .node))
+  pub side-has : (x : model.InnerPlace) → Valid (M .node) x → Member (slotOf (M .node) x) (portsOfSide m (x .side) (x .node))
   unfolding portsOfSide
   side-has x v =
       let l : x .pos < numPorts (m .graph) (x .node) (x .side) = subst (λ (c : ℕ). x .pos < c) (sym (ends.count-of f (x .node) (x .side))) v in

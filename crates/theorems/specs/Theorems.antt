@@ -3,28 +3,45 @@
 --
 -- A history is any list of calls from the empty graph, refused ones included.
 use mathlib.Core.Path.{_≡_}
-use mathlib.Core.Bool.{false}
-use mathlib.Core.List.{List, [], _∷_, _++_}
-use Prim.Native.Nat.{ℕ}
+use mathlib.Core.Bool.{Bool, true, false}
+use mathlib.Core.List.{List, [], _∷_, _++_, map}
+use mathlib.Core.Logic.{_↔_}
+use Prim.Native.Nat.{ℕ, _<_}
 use lib.ListN.{length}
+use Rattle.portgraph.specs.Lookups.{numPorts}
+use Rattle.portgraph.specs.Meaning.{newCount}
 use Rattle.portgraph.specs.Model.{Model}
+use Rattle.portgraph.specs.declared.direction.Direction.{Direction}
+use Rattle.portgraph.specs.declared.direction.Direction.the-variants.{Outgoing}
+use Rattle.portgraph.specs.declared.iter.Sides.{Sides}
 use Rattle.multiportgraph.specs.Calls.{visibleNodes, visiblePorts, visibleLinks}
-use Rattle.multiportgraph.specs.Places.{Spot}
-use Rattle.multiportgraph.specs.Wires.{wiresWalked}
+use Rattle.multiportgraph.specs.Answers.{refusalNumbers}
+use Rattle.multiportgraph.specs.Places.{Spot, spot, atSpot, touches}
+use Rattle.multiportgraph.specs.Wires.{wiresWalked, sideLinks, isBlock}
+use Rattle.multiportgraph.specs.Walks.{portLinks, nodeLinks, neighbours, connections}
 use Rattle.multiportgraph.specs.Inner.{Fine, MultiWf}
 use Rattle.multiportgraph.specs.SpaceLaws.{Spaced}
-use Rattle.theorems.specs.Book.{Call}
+use Rattle.theorems.specs.Book.{Call, setCall, spotOf}
 use Rattle.theorems.specs.History.{State, step, next, runFrom, run}
 use Rattle.theorems.specs.Works.{worksOf}
 use Rattle.theorems.specs.Claims.{WireRule, Link, linking, LinkedBy, acceptedLink, Restored, between, portsInBook}
+use Rattle.theorems.specs.AnswerClaims.{AnswersItsWire, AnswersAreWires}
+use Rattle.theorems.specs.ListingClaims.{wireFrom, endOn, farFrom, Exactly, InBook, OverSides, OutOfRange, FarNodes, NotOwnOutput}
 use Rattle.theorems.specs.Conditions.{RefusedBy, Accepted, Condition, leavesPrepared}
 use Rattle.theorems.specs.Bench as bench
 use Rattle.theorems.specs.Bench.{askedAll, expectedAll, benchLines}
+use Rattle.theorems.specs.NumberTable as numbers
+use Rattle.theorems.specs.NumberTable.{refusals, refusalTable, answers, answerTable}
 use Rattle.theorems.specs.Runs as runs
 use Rattle.theorems.specs.CallLaws as every
 use Rattle.theorems.specs.TheoremProofs as proofs
+use Rattle.theorems.specs.AnswerWires as answered
+use Rattle.theorems.specs.ListingWires as listed
+use Rattle.theorems.specs.KeptPorts as kept
+use Rattle.theorems.specs.KeptPorts.{SplitAsBefore}
 use Rattle.theorems.specs.HistoryCounts as counts
 use Rattle.multiportgraph.specs.declared.multiportgraph.SubportIndex.{SubportIndex}
+use Rattle.multiportgraph.specs.declared.multiportgraph.SetAnswer.the-variants as resize
 use Rattle.multiportgraph.specs.declared.multiportgraph.Refusal.{Refusal}
 use Rattle.multiportgraph.specs.declared.multiportgraph.Refusal.the-variants.{NoRoom}
 
@@ -45,6 +62,54 @@ pub links-in-either-order : (calls : List Call) (k l : Link) → acceptedLink (r
     acceptedLink (run calls) l → acceptedLink (next (run calls) (linking l)) k → (s t : Spot) →
     between s t (wiresWalked (next (next (run calls) (linking k)) (linking l) .graph)) ≡ between s t (wiresWalked (next (next (run calls) (linking l)) (linking k) .graph))
 links-in-either-order = proofs.links-in-either-order
+
+-- Answers and listings, which are all that a tablet sees.
+
+-- The wire that an accepted link enters in the book has the two answered subports as its ends, the first named first.
+pub link-answers-the-wire : (calls : List Call) (l : Link) (x y : SubportIndex) → LinkedBy (run calls) l x y → AnswersItsWire (run calls) l x y
+link-answers-the-wire = answered.link-answers-the-wire
+
+-- What a subport is linked with, and what a cut answers, is what the book has: found exactly if there is a wire, with the subport at its
+-- other end; nothing exactly if there is none.
+pub answers-are-wires : (calls : List Call) → AnswersAreWires (run calls)
+answers-are-wires = answered.answers-are-wires
+
+-- What each walk lists is exactly the book's wires that it is about, each once for its end there: the links of a side of a block,
+pub listings-are-wires-of-side : (calls : List Call) (d : Direction) (n : ℕ) → InBook (run calls .book) n →
+    Exactly (run calls .book .wires) (λ w. endOn d w .node ≡ n) (map (wireFrom (run calls .graph) d) (sideLinks (run calls .graph) d n))
+listings-are-wires-of-side = listed.listings-are-wires-of-side
+
+-- the links of a port,
+pub listings-are-wires-of-port : (calls : List Call) (p n : ℕ) (d : Direction) (i : ℕ) → spotOf (run calls .book .blocks) p ≡ spot n d i →
+    Exactly (run calls .book .wires) (λ w. touches (atSpot (spot n d i)) w ≡ true) (map (wireFrom (run calls .graph) d) (portLinks (run calls .graph) p))
+listings-are-wires-of-port = listed.listings-are-wires-of-port
+
+-- the links of a block over one side or both, less those whose far port lies in the range skipped, its end excluded,
+pub listings-are-wires-of-node : (calls : List Call) (n : ℕ) → InBook (run calls .book) n → (sides : Sides) (lo hi : ℕ) →
+    OverSides
+    (λ d l. Exactly (run calls .book .wires) (λ w. (endOn d w .node ≡ n) × OutOfRange (run calls .book) lo hi (farFrom d w)) (map (wireFrom (run calls .graph) d) l))
+    sides (nodeLinks (run calls .graph) n sides lo hi)
+listings-are-wires-of-node = listed.listings-are-wires-of-node
+
+-- its neighbours, where the flag leaves out only far ends on its own outgoing side,
+pub listings-are-wires-of-neighbours : (calls : List Call) (n : ℕ) → InBook (run calls .book) n → (sides : Sides) (flag : Bool) →
+    OverSides (λ d. FarNodes (run calls .book .wires) (λ w. (endOn d w .node ≡ n) × NotOwnOutput n flag (farFrom d w)) d) sides (neighbours (run calls .graph) n sides flag)
+listings-are-wires-of-neighbours = listed.listings-are-wires-of-neighbours
+
+-- and the connections from one block to another.
+pub listings-are-wires-between : (calls : List Call) (n k : ℕ) → InBook (run calls .book) n →
+    Exactly (run calls .book .wires) (λ w. (w .out .node ≡ n) × (w .into .node ≡ k)) (map (wireFrom (run calls .graph) Outgoing) (connections (run calls .graph) n k))
+listings-are-wires-between = listed.listings-are-wires-between
+
+-- The blocks are those of the book.
+pub blocks-are-booked : (calls : List Call) (n : ℕ) → (isBlock (run calls .graph) n ≡ true) ↔ InBook (run calls .book) n
+blocks-are-booked = listed.blocks-are-booked
+
+-- A port that an accepted resize keeps is split afterwards exactly if it was, with as many subports; so are the ports of other blocks.
+pub kept-ports-stay-split : (calls : List Call) (n i o room e : ℕ) → step (run calls .graph) (setCall n i o room) .answer ≡ resize.Set e →
+    (k : ℕ) → InBook (run calls .book) k → (d : Direction) (j : ℕ) → j < numPorts (run calls .graph .graph) k d → (k ≡ n → j < newCount i o d) →
+    SplitAsBefore (run calls .graph) (step (run calls .graph) (setCall n i o room) .graph) k d j
+kept-ports-stay-split = kept.kept-ports-stay-split
 
 -- The counts.
 
@@ -102,3 +167,10 @@ run-next = runs.run-next
 -- 01's bench wiring, cases A to K: every number of every line.
 pub bench-table : askedAll benchLines ≡ expectedAll benchLines
 bench-table = bench.bench-table
+
+-- 01's numbers of every refusal, with what it carries, and of every kind of answer.
+pub refusal-numbers : (p q : ℕ) → map refusalNumbers (refusals p q) ≡ refusalTable p q
+refusal-numbers = numbers.refusal-numbers
+
+pub answer-numbers : (n p o q r k : ℕ) → answers n p o q r k ≡ answerTable n p o q r k
+answer-numbers = numbers.answer-numbers

@@ -90,7 +90,7 @@ block-spot n p k ins outs Outgoing i other a b h s =
     (beside-run n Incoming (k .«first_port» .0 + k .incoming + i) (k .«first_port» .0) (k .incoming) 0 _ (λ j l q. omega arith)
     ∙ among-run n Outgoing (k .«first_port» .0 + k .incoming) (k .outgoing) 0 i other h ∙ ap (spot n Outgoing) (omega arith))
 
-past-block : (n p : ℕ) (k : NodeMeta) (ins outs : List ℕ) (other : Spot) → ins ≡ range (k .«first_port» .0) (k .incoming) →
+pub past-block : (n p : ℕ) (k : NodeMeta) (ins outs : List ℕ) (other : Spot) → ins ≡ range (k .«first_port» .0) (k .incoming) →
     outs ≡ range (k .«first_port» .0 + k .incoming) (k .outgoing) →
     ((d : Direction) (i : ℕ) → i < portsOn k d → p ≡ k .«first_port» .0 + (sideStart (live k) d + i) → ⊥) →
     spotAmong n Incoming p ins 0 (spotAmong n Outgoing p outs 0 other) ≡ other

@@ -1,9 +1,68 @@
-// Answers as lines: `ok` or `refused` with numbers.
+// Answers as lines: `ok` or `refused` with numbers, and `bad line`. A line that says no ends in its reason, for people.
 use crate::show::Line;
+use crate::text::Span;
+use crate::text::line_end;
+use crate::text::part;
 use multiportgraph::lookups::CountAnswer;
 use multiportgraph::multiportgraph::Refusal;
 use records::answers::Answer5;
 use records::answers::refusal_words;
+
+// The line of the reasons from which refusals are counted; it stands for 12 where both ends are outputs.
+const REFUSALS: u32 = 7;
+
+// A line of a text, counted from 0.
+fn line_at(text: &[u8], number: u32) -> Span {
+    let mut from: usize = 0;
+    let mut left = number;
+    while 0 < left {
+        let end = line_end(text, from, text.len());
+        if text.len() <= end {
+            return Span { from: 0, to: 0 };
+        }
+        from = end + 1;
+        left -= 1;
+    }
+    Span {
+        from: from,
+        to: line_end(text, from, text.len()),
+    }
+}
+
+// The reason stands after two blanks and `#`: what is wrong with a line, or why a call is refused.
+fn with_reason(line: Line, number: u32) -> Line {
+    let reasons = b"\
+fine
+unknown command
+wrong number of words
+no number up to 4294967295
+no side (0, 1 or 2)
+no flag (0 or 1)
+too long
+both ends are outputs
+a list of a wrong length
+an offset is at most 65534
+too many ports for one block
+there is no such block
+this node is kept for a split port
+the list of moves is too short
+there is no such port
+this port is kept for a split port
+the port has no such offset
+no room is left
+there is no such second port
+both ends are inputs
+this end has its wire
+";
+    line.with(b"  # ")
+        .with(part(reasons, line_at(reasons, number)))
+}
+
+// A line that is no command; after the reason stands what helps, as how the command is typed.
+pub(crate) fn show_bad(line: u64, wrong: u32, help: &[u8]) {
+    let bad = Line::of(b"bad line").long(line);
+    with_reason(bad, wrong).with(b": ").with(help).write();
+}
 
 // How many values a refusal carries.
 fn carried(refusal: u32) -> u32 {
@@ -32,21 +91,40 @@ fn with_values(line: Line, answer: Answer5, count: u32) -> Line {
     longer
 }
 
+// The line of a refusal among the reasons.
+fn reason_of(answer: Answer5) -> u32 {
+    let number = answer.a;
+    if number == 12 {
+        if answer.d == 1 {
+            return REFUSALS;
+        }
+    }
+    if number < 64 {
+        return REFUSALS + number;
+    }
+    0
+}
+
+fn show_refused(answer: Answer5) {
+    let line = with_values(
+        Line::of(b"refused").number(answer.a),
+        answer,
+        carried(answer.a),
+    );
+    with_reason(line, reason_of(answer)).write();
+}
+
 // An answer with so many values, or the refusal with what it carries.
 pub(crate) fn show_answer(answer: Answer5, values: u32) {
     if answer.a == 0 {
         with_values(Line::of(b"ok"), answer, values).write();
     } else {
-        with_values(
-            Line::of(b"refused").number(answer.a),
-            answer,
-            carried(answer.a),
-        ).write();
+        show_refused(answer);
     }
 }
 
 pub(crate) fn show_refusal(refusal: Refusal) {
-    show_answer(refusal_words(refusal), 0);
+    show_refused(refusal_words(refusal));
 }
 
 // `ok` with one number.
@@ -59,43 +137,4 @@ pub(crate) fn show_count(answer: CountAnswer) {
         CountAnswer::Count(count) => show_number(count as u64),
         CountAnswer::Refused(refusal) => show_refusal(refusal),
     }
-}
-
-pub(crate) fn show_bad(line: u64) {
-    Line::of(b"bad line").long(line).write();
-}
-
-// The commands, and what each does.
-pub(crate) fn show_help() {
-    Line::of(b"add IN OUT              a block with so many inputs and outputs").write();
-    Line::of(b"remove N                takes a block away, with its wires").write();
-    Line::of(
-        b"resize N IN OUT         other numbers of ports for a block; lists what was moved or removed",
-    ).write();
-    Line::of(b"link A B                a wire between two ports").write();
-    Line::of(b"linksub P O Q R         a wire between two subports").write();
-    Line::of(b"unlink P                cuts all wires at a port").write();
-    Line::of(b"unlinksub P O           cuts the wire at a subport").write();
-    Line::of(b"sublink P O             the far end of the wire at a subport").write();
-    Line::of(b"counts                  how many blocks, ports and wires").write();
-    Line::of(b"fanout P                how many subports a port has").write();
-    Line::of(b"blockfanout N           how many subports the outputs of a block have").write();
-    Line::of(b"blocks                  all blocks").write();
-    Line::of(
-        b"subports N SIDE         subports of a block; SIDE is 0 incoming, 1 outgoing, 2 both",
-    ).write();
-    Line::of(b"links P                 links of a port").write();
-    Line::of(b"back P                  the same from the back").write();
-    Line::of(
-        b"nodelinks N SIDE LO HI  links of a block, without those to ports from LO on, HI excluded",
-    ).write();
-    Line::of(
-        b"neighbours N SIDE FLAG  the block at each link; with FLAG 1 without its own outputs",
-    ).write();
-    Line::of(b"connections N M         links from block N to block M").write();
-    Line::of(b"wires                   all wires").write();
-    Line::of(
-        b"places                  all wires as block, position and offset of both ends",
-    ).write();
-    Line::of(b"help                    these lines").write();
 }

@@ -1,8 +1,8 @@
 // Changing the number of ports of a block, with its move list.
+use crate::orders::Order;
 use crate::replies::show_number;
 use crate::replies::show_refusal;
 use crate::show::Line;
-use crate::text::Numbers;
 use multiportgraph::multiportgraph::MultiPortGraph;
 use multiportgraph::multiportgraph::SetAnswer;
 use portgraph::index::NODE_PORTS;
@@ -33,12 +33,12 @@ fn show_moves(moves: &[u32; MOVES], events: usize) {
     }
 }
 
-pub(crate) fn resize_block(graph: MultiPortGraph, numbers: Numbers) -> MultiPortGraph
+pub(crate) fn resize_block(graph: MultiPortGraph, order: Order) -> MultiPortGraph
     requires { ⌜ MultiWf graph ⌝ }
     ensures { λ r. ⌜ MultiWf r ⌝ }
 {
     let mut moves = [0u32; MOVES];
-    let sized = resize(graph, numbers.a, numbers.b, numbers.c, &mut moves);
+    let sized = resize(graph, order.a, order.b, order.c, &mut moves);
     let answer = sized.answer;
     match answer {
         SetAnswer::Set(events) => {

@@ -1,7 +1,7 @@
 // One line of output, put together byte by byte and written at once.
 use libc::STDOUT_FILENO;
 
-const WIDTH: usize = 96;
+const WIDTH: usize = 160;
 
 // A line; bytes past its width are left out, and no line of the console comes near it.
 pub struct Line {
@@ -9,10 +9,15 @@ pub struct Line {
     pub len: usize,
 }
 
+// Writes bytes as they are.
+pub(crate) fn write_bytes(bytes: &[u8]) {
+    io::write_all(STDOUT_FILENO, bytes);
+}
+
 // Writes the first bytes of a line.
 fn write_first(bytes: &[u8], len: usize) {
     if len <= bytes.len() {
-        io::write_all(STDOUT_FILENO, &bytes[..len]);
+        write_bytes(&bytes[0..len]);
     }
 }
 

@@ -1,63 +1,70 @@
-// Lines, words and numbers of the console's input. Blanks and tabs stand between words.
+// Lines, words and numbers in a text. Blanks, tabs and newlines stand between words.
 ghost use Prim.Native.Nat.{_≤_};
+ghost use lib.ListN.{length};
 
-// What a word is as a number.
-pub enum Number {
-    Value(u32),
-    Bad,
+// A part of a text: a word up to the blank after it, or a line up to its newline.
+pub struct Span {
+    pub from: usize,
+    pub to: usize,
 }
 
-// The numbers after a command's word. A fifth number, or a word that is no number, is bad.
-pub struct Numbers {
-    pub bad: bool,
-    pub count: u32,
-    pub a: u32,
-    pub b: u32,
-    pub c: u32,
-    pub d: u32,
-}
+// What is no number has this value.
+pub(crate) const NO_VALUE: u64 = 4294967296;
 
 // The byte at a place; 0 outside.
 pub(crate) fn byte_at(text: &[u8], at: usize) -> u8 {
     if at < text.len() { text[at] } else { 0 }
 }
 
-fn is_blank(byte: u8) -> bool {
-    if byte == b' ' {
-        return true;
+// A part of a text; an empty one where there is no such part.
+pub(crate) fn part(text: &[u8], span: Span) -> &[u8] {
+    let from = span.from;
+    let to = span.to;
+    if from <= to {
+        if to <= text.len() {
+            return &text[from..to];
+        }
     }
-    byte == b'\t'
+    &text[0..0]
 }
 
-// The place of the newline that ends the line, or the end of the text.
-pub(crate) fn line_end(text: &[u8], from: usize) -> usize
-    ensures { λ r. ⌜ from ≤ r ⌝ }
+// The length of a line without a carriage return at its end.
+pub(crate) fn without_return(text: &[u8]) -> usize
+    ensures { λ r. ⌜ r ≤ length (now (text .entry)) ⌝ }
 {
+    let len = text.len();
+    if 0 < len {
+        if text[len - 1] == b'\r' {
+            return len - 1;
+        }
+    }
+    len
+}
+
+// The first newline between two places, or the second of them.
+pub(crate) fn line_end(text: &[u8], from: usize, to: usize) -> usize {
     let mut at = from;
-    while at < text.len() {
-        if text[at] == b'\n' {
+    while at < to {
+        if byte_at(text, at) == b'\n' {
             return at;
         }
         at += 1;
-    }
-    at
-}
-
-// The end of a line without its carriage return.
-pub(crate) fn without_return(text: &[u8], from: usize, to: usize) -> usize {
-    if from < to {
-        if byte_at(text, to - 1) == b'\r' {
-            return to - 1;
-        }
     }
     to
 }
 
-// The next place that is no blank, or the end.
-pub(crate) fn word_start(text: &[u8], from: usize, to: usize) -> usize {
+fn is_blank(byte: u8) -> bool {
+    match byte {
+        b' ' | b'\t' | b'\n' => true,
+        _ => false,
+    }
+}
+
+// The end of the blanks from a place on, or of what is no blank.
+fn pass_over(text: &[u8], from: usize, blanks: bool) -> usize {
     let mut at = from;
-    while at < to {
-        if !is_blank(byte_at(text, at)) {
+    while at < text.len() {
+        if is_blank(text[at]) != blanks {
             return at;
         }
         at += 1;
@@ -65,116 +72,71 @@ pub(crate) fn word_start(text: &[u8], from: usize, to: usize) -> usize {
     at
 }
 
-// The next blank, or the end.
-pub(crate) fn word_end(text: &[u8], from: usize, to: usize) -> usize {
-    let mut at = from;
-    while at < to {
-        if is_blank(byte_at(text, at)) {
-            return at;
-        }
-        at += 1;
+// The next word from a place on; empty where no word is left.
+pub(crate) fn next_word(text: &[u8], from: usize) -> Span {
+    let start = pass_over(text, from, true);
+    Span {
+        from: start,
+        to: pass_over(text, start, false),
     }
-    at
 }
 
-// Whether a word of the text is this one.
-pub(crate) fn is_word(text: &[u8], from: usize, to: usize, word: &[u8]) -> bool {
-    if to < from {
-        return false;
+impl Span {
+    pub(crate) fn is_empty(self) -> bool {
+        self.to <= self.from
     }
-    if to - from != word.len() {
-        return false;
-    }
-    let mut at = 0;
-    while at < word.len() {
-        if byte_at(text, from + at) != word[at] {
+}
+
+// Whether a word of one text is a word of another.
+pub(crate) fn same_word(text: &[u8], word: Span, other: &[u8], name: Span) -> bool {
+    let to = word.to;
+    let end = name.to;
+    let mut at = word.from;
+    let mut place = name.from;
+    while at < to {
+        if end <= place {
+            return false;
+        }
+        if byte_at(text, at) != byte_at(other, place) {
             return false;
         }
         at += 1;
+        place += 1;
     }
-    true
+    end <= place
+}
+
+// Whether a word of a text is this one.
+pub(crate) fn is_word(text: &[u8], word: Span, name: &[u8]) -> bool {
+    same_word(text, word, name, next_word(name, 0))
 }
 
 // One digit more, as long as the number is at most 4,294,967,295.
-fn with_digit(value: u32, byte: u8) -> Number {
+fn with_digit(value: u64, byte: u8) -> u64 {
+    if NO_VALUE <= value {
+        return NO_VALUE;
+    }
     if byte < b'0' {
-        return Number::Bad;
+        return NO_VALUE;
     }
     if b'9' < byte {
-        return Number::Bad;
+        return NO_VALUE;
     }
-    let next = value as u64 * 10 + (byte - b'0') as u64;
-    if next <= 4294967295 {
-        Number::Value(next as u32)
-    } else {
-        Number::Bad
+    let next = value * 10 + (byte - b'0') as u64;
+    if next < NO_VALUE {
+        return next;
     }
+    NO_VALUE
 }
 
 // The number that a word says in decimal digits.
-pub(crate) fn number_of(text: &[u8], from: usize, to: usize) -> Number {
-    let mut value: u32 = 0;
-    let mut at = from;
+pub(crate) fn number_of(text: &[u8], word: Span) -> u64 {
+    let to = word.to;
+    let mut value: u64 = 0;
+    let mut at = word.from;
     while at < to {
-        let Number::Value(next) = with_digit(value, byte_at(text, at)) else {
-            return Number::Bad;
-        };
-        value = next;
+        value = with_digit(value, byte_at(text, at));
         at += 1;
     }
-    Number::Value(value)
-}
-
-impl Numbers {
-    pub(crate) fn none() -> Self {
-        Numbers {
-            bad: false,
-            count: 0,
-            a: 0,
-            b: 0,
-            c: 0,
-            d: 0,
-        }
-    }
-
-    fn spoiled(mut self) -> Self {
-        self.bad = true;
-        self
-    }
-
-    // One number more; a fifth is bad.
-    fn with(mut self, value: u32) -> Self {
-        let count = self.count;
-        match count {
-            0 => self.a = value,
-            1 => self.b = value,
-            2 => self.c = value,
-            3 => self.d = value,
-            _ => self.bad = true,
-        }
-        if count < 4 {
-            self.count = count + 1;
-        }
-        self
-    }
-}
-
-// The numbers from a place on to the end of the line.
-pub(crate) fn numbers_of(text: &[u8], from: usize, to: usize) -> Numbers {
-    let mut found = Numbers::none();
-    let mut at = word_start(text, from, to);
-    let mut left: u32 = 5;
-    while 0 < left {
-        if to <= at {
-            return found;
-        }
-        let end = word_end(text, at, to);
-        let Number::Value(value) = number_of(text, at, end) else {
-            return found.spoiled();
-        };
-        found = found.with(value);
-        at = word_start(text, end, to);
-        left -= 1;
-    }
-    found
+    value
 }

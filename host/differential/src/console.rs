@@ -224,6 +224,11 @@ pub fn faultless(script: &[Command]) -> Result<Vec<Block>, String> {
     Ok(expected(script).1)
 }
 
+/// A line without the reason in words, which is for people.
+pub fn without_reason(line: &str) -> &str {
+    line.split_once("  #").map_or(line, |(answer, _)| answer)
+}
+
 /// The program as console.
 pub fn written(program: &Path, script: &[Command]) -> Result<Vec<Block>, String> {
     let failed = |error: std::io::Error| format!("{}: {error}", program.display());
@@ -239,7 +244,7 @@ pub fn written(program: &Path, script: &[Command]) -> Result<Vec<Block>, String>
     let mut blocks = vec![Block::new()];
     for line in text.lines() {
         let block = blocks.last_mut().expect("never empty");
-        block.push(line.to_string());
+        block.push(without_reason(line).to_string());
         if !line.starts_with("  ") {
             blocks.push(Block::new());
         }

@@ -11,6 +11,7 @@ use Rattle.multiportgraph.specs.MultiLent.{multiIn, noHeld}
 use Rattle.multiportgraph.specs.LentLaws.{copy-node-read}
 use Rattle.multiportgraph.specs.FormSteps.{split-told}
 use Rattle.multiportgraph.specs.BlockSteps.{copies-begun, copies-turn-split, copies-turn-plain, copies-counted, copies-listed}
+use Rattle.multiportgraph.specs.BlockSteps.{sets-alike}
 use Rattle.multiportgraph.proofs.lent_blocks.list_copies.Statement.{statement}
 use Rattle.multiportgraph.proofs.lent_blocks.list_copies.Tie as tie
 use Rattle.multiportgraph.specs.HiddenNodes.{copiesIn}
@@ -25,7 +26,7 @@ abbrev μ-loop : tie.MeasureT-loop
 μ-loop nodes links owners heads marks flags list₀ at first count place₀ k₀ list place k = count - k
 
 loop-holds : tie.Need-loop-holds Inv-loop μ-loop
-loop-holds c = (omega arith, omega arith, copies-begun _ _ _ _ (c .args .list .now) .0, copies-begun _ _ _ _ _ .1)
+loop-holds c = (omega arith, omega arith, copies-begun _ _ _ _ (c .before .args .list .now) .0, copies-begun _ _ _ _ _ .1)
 
 add-port : tie.Need-add-port Inv-loop μ-loop
 add-port c = search needs
@@ -42,11 +43,8 @@ marked-requires c κs = search needs
 copy-node-in-requires : tie.Need-copy-node-in-requires Inv-loop μ-loop
 copy-node-in-requires c κs = search needs
 
-mul-list : tie.Need-mul-list Inv-loop μ-loop
-mul-list c = search needs
-
-element-write-list : tie.Need-element-write-list Inv-loop μ-loop
-element-write-list c = search needs
+store-requires : tie.Need-store-requires Inv-loop μ-loop
+store-requires c κs = search needs
 
 add-place : tie.Need-add-place Inv-loop μ-loop
 add-place c = search needs
@@ -62,25 +60,29 @@ loop-again c =
     let g = c .before .marked in
     let h = c .before .before .loop-test .taken in
     let l = c .before .before .before .loop in
-    let a = c .before .before .before .before .args in
-    let s = c .before .before .before .before .pre .0 .marksLong in
+    let a = c .before .before .before .before .before .args in
+    let s = c .before .before .before .before .before .pre .0 .marksLong in
     ⊎-elim
     (λ w.
-    let x = copies-turn-split (multiIn (c .before .before .before .before .args .nodes .now) (c .before .before .before .before .args .links .now) (c .before .before .before .before .args .owners .now) (c .before .before .before .before .args .heads .now) (c .before .before .before .before .args .marks .now) (c .before .before .before .before .args .flags .now) noHeld) (a .first) (l .k) (a .count) h (l .list) _ (l .place) _ _ (a .at) (split-told (multiIn (c .before .before .before .before .args .nodes .now) (c .before .before .before .before .args .links .now) (c .before .before .before .before .args .owners .now) (c .before .before .before .before .args .heads .now) (c .before .before .before .before .args .marks .now) (c .before .before .before .before .args .flags .now) noHeld) _ _ _ _ s refl (g .ensures) (w .0 .taken)) (w .2 .ensures ∙ copy-node-read (c .before .before .before .before .args .nodes .now) (c .before .before .before .before .args .links .now) (c .before .before .before .before .args .owners .now) (c .before .before .before .before .args .heads .now) (c .before .before .before .before .args .marks .now) (c .before .before .before .before .args .flags .now) noHeld _) (w .3) (w .4) (l .inv .1) in
+    let x = copies-turn-split (multiIn (a .nodes .now) (a .links .now) (a .owners .now) (a .heads .now) (a .marks .now) (a .flags .now) noHeld) (a .first) (l .k) (a .count) h (l .list) _ (l .place) _ _ (a .at) (split-told (multiIn (a .nodes .now) (a .links .now) (a .owners .now) (a .heads .now) (a .marks .now) (a .flags .now) noHeld) _ _ _ _ s refl (g .ensures) (w .0 .taken)) (w .2 .ensures ∙ copy-node-read (a .nodes .now) (a .links .now) (a .owners .now) (a .heads .now) (a .marks .now) (a .flags .now) noHeld _) (w .6 ∙ w .3 .ensures) (w .7) (l .inv .1) in
     (omega arith, x .0, x .1 ∙ l .inv .2, x .2 ∙ l .inv .3))
-    (⊎-elim
-    (λ w. absurd (omega (arith, w .1 .left)))
     (λ w.
-    let x = copies-turn-plain (multiIn (c .before .before .before .before .args .nodes .now) (c .before .before .before .before .args .links .now) (c .before .before .before .before .args .owners .now) (c .before .before .before .before .args .heads .now) (c .before .before .before .before .args .marks .now) (c .before .before .before .before .args .flags .now) noHeld) (a .first) (l .k) (a .count) h (l .list) _ (l .place) _ (a .at) (split-told (multiIn (c .before .before .before .before .args .nodes .now) (c .before .before .before .before .args .links .now) (c .before .before .before .before .args .owners .now) (c .before .before .before .before .args .heads .now) (c .before .before .before .before .args .marks .now) (c .before .before .before .before .args .flags .now) noHeld) _ _ _ _ s refl (g .ensures) (w .0 .left)) (w .1) (w .2) (l .inv .1) in
-    (omega arith, x .0, x .1 ∙ l .inv .2, x .2 ∙ l .inv .3)))
+    let x = copies-turn-plain (multiIn (a .nodes .now) (a .links .now) (a .owners .now) (a .heads .now) (a .marks .now) (a .flags .now) noHeld) (a .first) (l .k) (a .count) h (l .list) _ (l .place) _ (a .at) (split-told (multiIn (a .nodes .now) (a .links .now) (a .owners .now) (a .heads .now) (a .marks .now) (a .flags .now) noHeld) _ _ _ _ s refl (g .ensures) (w .0 .left)) (w .1) (w .2) (l .inv .1) in
+    (omega arith, x .0, x .1 ∙ l .inv .2, x .2 ∙ l .inv .3))
     (c .if1 .came)
+
+same-length : tie.Need-same-length Inv-loop μ-loop
+same-length c =
+    let l = c .before .loop in
+    let a = c .before .before .before .args in
+    sets-alike (l .list) (a .list .now) (l .place) (a .at) (copiesIn (multiIn (a .nodes .now) (a .links .now) (a .owners .now) (a .heads .now) (a .marks .now) (a .flags .now) noHeld) (a .first + l .k) (a .count - l .k)) (copiesIn (multiIn (a .nodes .now) (a .links .now) (a .owners .now) (a .heads .now) (a .marks .now) (a .flags .now) noHeld) (a .first) (a .count)) (l .inv .3)
 
 returns : tie.Need-returns Inv-loop μ-loop
 returns c =
     let l = c .before .loop in
-    let a = c .before .before .args in
-    let same = copies-held (c .before .before .args .nodes .now) (c .before .before .args .links .now) (c .before .before .args .owners .now) (c .before .before .args .heads .now) (c .before .before .args .marks .now) (c .before .before .args .flags .now) noHeld (a .held) (a .first) (a .count) in
-    (copies-counted (multiIn (c .before .before .args .nodes .now) (c .before .before .args .links .now) (c .before .before .args .owners .now) (c .before .before .args .heads .now) (c .before .before .args .marks .now) (c .before .before .args .flags .now) noHeld) _ _ _ (c .loop-test .left) _ ∙ (l .inv .2 ∙ ap (λ v. a .at + length v) same), copies-listed (multiIn (c .before .before .args .nodes .now) (c .before .before .args .links .now) (c .before .before .args .owners .now) (c .before .before .args .heads .now) (c .before .before .args .marks .now) (c .before .before .args .flags .now) noHeld) _ _ _ (c .loop-test .left) _ _ ∙ (l .inv .3 ∙ ap (sets (a .list .now) (a .at)) same))
+    let a = c .before .before .before .args in
+    let same = copies-held (a .nodes .now) (a .links .now) (a .owners .now) (a .heads .now) (a .marks .now) (a .flags .now) noHeld (a .held) (a .first) (a .count) in
+    (copies-counted (multiIn (a .nodes .now) (a .links .now) (a .owners .now) (a .heads .now) (a .marks .now) (a .flags .now) noHeld) _ _ _ (c .loop-test .left) _ ∙ (l .inv .2 ∙ ap (λ v. a .at + length v) same), copies-listed (multiIn (a .nodes .now) (a .links .now) (a .owners .now) (a .heads .now) (a .marks .now) (a .flags .now) noHeld) _ _ _ (c .loop-test .left) _ _ ∙ (l .inv .3 ∙ ap (sets (a .list .now) (a .at)) same))
 
 pub list-copies-spec : {M : Type 1} → statement M
 list-copies-spec =
@@ -94,10 +96,10 @@ list-copies-spec =
     add-marked
     marked-requires
     copy-node-in-requires
-    mul-list
-    element-write-list
+    store-requires
     add-place
     add-k
     loop-less
     loop-again
+    same-length
     returns)

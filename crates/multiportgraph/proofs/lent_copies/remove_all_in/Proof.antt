@@ -20,13 +20,13 @@ abbrev μ-loop : tie.MeasureT-loop
 μ-loop nodes₀ links₀ owners₀ heads₀ marks₀ flags₀ list count left₀ k₀ nodes links owners heads marks flags left k = count - k
 
 loop-holds : tie.Need-loop-holds Inv-loop μ-loop
-loop-holds c = (omega arith, c .pre .0, remove-begun _ (c .args .list .now) (c .args .count))
+loop-holds c = (omega arith, c .before .pre .0, remove-begun _ (c .before .args .list .now) (c .before .args .count))
 
 mul-remove-lone-in : tie.Need-mul-remove-lone-in Inv-loop μ-loop
 mul-remove-lone-in c = search needs
 
-element-copy-out-remove-lone-in : tie.Need-element-copy-out-remove-lone-in Inv-loop μ-loop
-element-copy-out-remove-lone-in c = search needs
+shared-slice-read-remove-lone-in : tie.Need-shared-slice-read-remove-lone-in Inv-loop μ-loop
+shared-slice-read-remove-lone-in c = search needs
 
 remove-lone-in-requires : tie.Need-remove-lone-in-requires Inv-loop μ-loop
 remove-lone-in-requires c κs = c .before .before .before .before .before .before .before .before .loop .inv .1
@@ -38,10 +38,10 @@ loop-less : tie.Need-loop-less Inv-loop μ-loop
 loop-less c = search needs
 
 loop-again : tie.Need-loop-again Inv-loop μ-loop
-loop-again c = (omega arith, sound-is _ _ (c .remove-lone-in .ensures) (sound-lone _ _ (c .before .before .before .before .before .before .before .before .before .loop .inv .1)), remove-turn _ _ (c .before .before .before .before .before .before .before .before .before .before .args .list .now) _ _ (c .before .before .before .before .before .before .before .before .loop-test .taken) (omega (arith, c .before .before .before .before .before .before .before .before .before .before .pre .1, c .before .before .before .before .before .before .before .before .before .before .pre .2)) (c .remove-lone-in .ensures) ∙ c .before .before .before .before .before .before .before .before .before .loop .inv .2)
+loop-again c = (omega arith, sound-is _ _ (c .remove-lone-in .ensures) (sound-lone _ _ (c .before .before .before .before .before .before .before .before .before .loop .inv .1)), remove-turn _ _ (c .before .before .before .before .before .before .before .before .before .before .before .args .list .now) _ (c .before .before .before .before .before .before .before .before .before .before .before .args .count) (c .before .before .before .before .before .before .before .before .loop-test .taken) (c .before .before .before .before .before .before .before .before .before .before .before .pre .1) (c .remove-lone-in .ensures) ∙ c .before .before .before .before .before .before .before .before .before .loop .inv .2)
 
 returns : tie.Need-returns Inv-loop μ-loop
-returns c = remove-done _ _ (c .before .loop .k) (c .before .before .args .count) (c .loop-test .left) ∙ c .before .loop .inv .2
+returns c = remove-done _ _ (c .before .loop .k) (c .before .before .before .args .count) (c .loop-test .left) ∙ c .before .loop .inv .2
 
 pub remove-all-in-spec : {M : Type 1} → statement M
 remove-all-in-spec =
@@ -51,7 +51,7 @@ remove-all-in-spec =
     μ-loop
     loop-holds
     mul-remove-lone-in
-    element-copy-out-remove-lone-in
+    shared-slice-read-remove-lone-in
     remove-lone-in-requires
     add-k
     loop-less

@@ -1,6 +1,6 @@
 -- `multiportgraph::lent_graph::graph_of_tables` meets its contract: the lower graph that the tables are, and the rest as it is lent.
 use borrow.Author.Needs.{needs}
-use Rattle.multiportgraph.specs.ListSteps.{multi-made}
+use Rattle.multiportgraph.specs.LentGraph.{multi-made}
 use Rattle.multiportgraph.proofs.lent_graph.graph_of_tables.Statement.{statement}
 use Rattle.multiportgraph.proofs.lent_graph.graph_of_tables.Tie as tie
 

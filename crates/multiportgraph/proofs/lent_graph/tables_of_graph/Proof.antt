@@ -1,6 +1,6 @@
 -- `multiportgraph::lent_graph::tables_of_graph` meets its contract: the lower graph is stored, and the rest as it is.
 use borrow.Author.Needs.{needs}
-use Rattle.multiportgraph.specs.ListSteps.{multi-stored}
+use Rattle.multiportgraph.specs.LentGraph.{multi-stored}
 use Rattle.multiportgraph.proofs.lent_graph.tables_of_graph.Statement.{statement}
 use Rattle.multiportgraph.proofs.lent_graph.tables_of_graph.Tie as tie
 

@@ -6,20 +6,21 @@ use Prim.Native.Nat.{ℕ}
 use native.Mathlib.Omega.{arith}
 use lib.ListN.{length}
 use borrow.Author.Needs.{needs}
-use Rattle.multiportgraph.specs.ListScans.{blockWords, nodeBlock}
-use Rattle.multiportgraph.specs.ListSteps.{none-written, written-as, block-hidden, block-by}
+use Rattle.multiportgraph.specs.ListScans.{ofBlock, blockWords, nodeBlock}
+use Rattle.multiportgraph.specs.ListSteps.{none-written, written-as, slot-hidden, slot-seen}
 use Rattle.multiportgraph.proofs.list_blocks.list_block.Statement.{statement}
 use Rattle.multiportgraph.proofs.list_blocks.list_block.Tie as tie
 
 -- the block of a slot that is not hidden, as its meta data tell it
-by-meta : (c : tie.After-meta-in) → blockWords (c .before .before .before .before .before .args .node) false (c .meta-in .result) ≡ nodeBlock (c .before .before .before .before .before .args .nodes .now) (c .before .before .before .before .before .args .flags .now) (c .before .before .before .before .before .args .node)
-by-meta c = block-by _ _ _ _ _ (c .before .before .before .wide .ensures) (c .before .before .flagged .ensures) (c .before .if1 .left) _ (c .meta-in .ensures)
+by-meta : (c : tie.After-meta-in) → ofBlock (blockWords (c .before .before .before .before .before .args .node)) false (c .meta-in .result) ≡ nodeBlock (c .before .before .before .before .before .args .nodes .now) (c .before .before .before .before .before .args .flags .now) (c .before .before .before .before .before .args .node)
+unfolding nodeBlock
+by-meta c = slot-seen _ _ _ _ _ (c .before .before .before .wide .ensures) (c .before .before .flagged .ensures) _ (c .before .if1 .left) _ (c .meta-in .ensures)
 
 -- its four numbers
 four : (c : tie.After-port-of-meta) → _≡_ {A = List ℕ} (c .before .before .before .before .before .before .before .before .before .args .node ∷ c .before .before .meta .given .0 .0 .incoming ∷ c .before .before .meta .given .0 .0 .outgoing ∷ c .port-of-meta .result ∷ []) (nodeBlock (c .before .before .before .before .before .before .before .before .before .args .nodes .now) (c .before .before .before .before .before .before .before .before .before .args .flags .now) (c .before .before .before .before .before .before .before .before .before .args .node))
 four c =
     ap (λ (f : ℕ). c .before .before .before .before .before .before .before .before .before .args .node ∷ c .before .before .meta .given .0 .0 .incoming ∷ c .before .before .meta .given .0 .0 .outgoing ∷ f ∷ []) (c .port-of-meta .ensures)
-    ∙ (sym (ap (blockWords (c .before .before .before .before .before .before .before .before .before .args .node) false) (c .before .before .meta .given .1)) ∙ by-meta (c .before .before .before .before))
+    ∙ (sym (ap (ofBlock (blockWords (c .before .before .before .before .before .before .before .before .before .args .node)) false) (c .before .before .meta .given .1)) ∙ by-meta (c .before .before .before .before))
 
 wide-requires : tie.Need-wide-requires
 wide-requires c κs = search needs
@@ -28,7 +29,8 @@ flagged-requires : tie.Need-flagged-requires
 flagged-requires c κs = search needs
 
 returns : tie.Need-returns
-returns c = none-written _ _ _ (block-hidden _ _ _ _ _ (c .before .before .wide .ensures) (c .before .flagged .ensures) (c .if1 .taken))
+unfolding nodeBlock
+returns c = none-written _ _ _ (slot-hidden _ _ _ _ _ (c .before .before .wide .ensures) (c .before .flagged .ensures) _ (c .if1 .taken))
 
 meta-in-requires : tie.Need-meta-in-requires
 meta-in-requires c κs = search needs
@@ -40,7 +42,7 @@ enum-told : tie.Need-enum-told
 enum-told c = search needs
 
 returns-2 : tie.Need-returns-2
-returns-2 c = none-written _ _ _ (sym (by-meta (c .before .before)) ∙ ap (blockWords (c .before .before .before .before .before .before .before .args .node) false) (c .enum-told .given .1))
+returns-2 c = none-written _ _ _ (sym (by-meta (c .before .before)) ∙ ap (ofBlock (blockWords (c .before .before .before .before .before .before .before .args .node)) false) (c .enum-told .given .1))
 
 port-of-meta-requires : tie.Need-port-of-meta-requires
 port-of-meta-requires c κs = search needs

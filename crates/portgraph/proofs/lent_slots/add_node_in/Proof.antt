@@ -1,5 +1,5 @@
 -- `portgraph::lent_slots::add_node_in` meets its contract. What is known where both searches have found room stands first.
-use mathlib.Core.Path.{_≡_, sym, _∙_}
+use mathlib.Core.Path.{_≡_, refl, sym, _∙_}
 use Prim.Native.Nat.{_+_, _≤_, _<_}
 use native.Mathlib.Omega.{arith}
 use borrow.Author.Needs.{needs}
@@ -72,41 +72,32 @@ returns-4 c =
 cast-rest-of : tie.Need-cast-rest-of
 cast-rest-of c = omega (arith, block-fits-at c)
 
-cast-t29 : tie.Need-cast-t29
-cast-t29 c = search needs
+cast-t27 : tie.Need-cast-t27
+cast-t27 c = search needs
 
-cast-t30 : tie.Need-cast-t30
-cast-t30 c = search needs
+cast-t28 : tie.Need-cast-t28
+cast-t28 c = search needs
 
 cast-fill : tie.Need-cast-fill
 cast-fill c = search needs
 
-slot-in-requires : tie.Need-slot-in-requires
-slot-in-requires c κs = search needs
-
-next-free-requires : tie.Need-next-free-requires
-next-free-requires c κs = search needs
+next-in-requires : tie.Need-next-in-requires
+next-in-requires c κs = search needs
 
 rest-of-requires : tie.Need-rest-of-requires
 rest-of-requires c κs = search needs
 
 slot-after-requires : tie.Need-slot-after-requires
-slot-after-requires c κs = slot-fits-at (c .before .before .before .before)
+slot-after-requires c κs = slot-fits-at (c .before .before .before)
 
-slot-in-requires-2 : tie.Need-slot-in-requires-2
-slot-in-requires-2 c κs = search needs
-
-with-prev-requires : tie.Need-with-prev-requires
-with-prev-requires c κs = search needs
-
-put-slot-requires : tie.Need-put-slot-requires
-put-slot-requires c κs = search needs
+put-prev-requires : tie.Need-put-prev-requires
+put-prev-requires c κs = search needs
 
 new-node-requires : tie.Need-new-node-requires
 new-node-requires c κs = search needs
 
-put-slot-requires-2 : tie.Need-put-slot-requires-2
-put-slot-requires-2 c κs = search needs
+put-slot-requires : tie.Need-put-slot-requires
+put-slot-requires c κs = search needs
 
 head-at-requires : tie.Need-head-at-requires
 head-at-requires c κs = search needs
@@ -121,63 +112,63 @@ put-head-requires : tie.Need-put-head-requires
 put-head-requires c κs = search needs
 
 cast-fill-2 : tie.Need-cast-fill-2
-cast-fill-2 c = omega (arith, block-fits-at (c .before .before .before .before .before .before .before .before .before .before .before .before .before .before .before .before .before .before .before .before .before))
+cast-fill-2 c = omega (arith, block-fits-at (c .before .before .before .before .before .before .before .before .before .before .before .before .before .before .before .before .before))
 
 cast-fill-3 : tie.Need-cast-fill-3
-cast-fill-3 c = omega (arith, ports-fit-at (c .before .before .before .before .before .before .before .before .before .before .before .before .before .before .before .before .before .before .before .before .before))
+cast-fill-3 c = omega (arith, ports-fit-at (c .before .before .before .before .before .before .before .before .before .before .before .before .before .before .before .before .before))
 
 fill-requires : tie.Need-fill-requires
 fill-requires c κs = search needs
 
 cast-own-block : tie.Need-cast-own-block
-cast-own-block c = omega (arith, slot-fits-at (c .before .before .before .before .before .before .before .before .before .before .before .before .before .before .before .before .before .before .before .before .before .before .before))
+cast-own-block c = omega (arith, slot-fits-at (c .before .before .before .before .before .before .before .before .before .before .before .before .before .before .before .before .before .before .before))
 
 own-block-requires : tie.Need-own-block-requires
-own-block-requires c κs = omega (arith, slot-fits-at (c .before .before .before .before .before .before .before .before .before .before .before .before .before .before .before .before .before .before .before .before .before .before .before), block-fits-at (c .before .before .before .before .before .before .before .before .before .before .before .before .before .before .before .before .before .before .before .before .before .before .before))
+own-block-requires c κs = omega (arith, slot-fits-at (c .before .before .before .before .before .before .before .before .before .before .before .before .before .before .before .before .before .before .before), block-fits-at (c .before .before .before .before .before .before .before .before .before .before .before .before .before .before .before .before .before .before .before))
 
 grown-requires : tie.Need-grown-requires
 grown-requires c κs =
-    let a = c .before .before .before .before .before .before .before .before .before .before .before .before .before .before .before .before .before .before .before .before .before .before .before .before .before .before .before .before .before .before .before .before .before .before .before .args in
-    omega (arith, node-len-fits (graphIn (a .nodes .now) (a .links .now) (a .owners .now) (a .heads .now) (a .counts)) (c .before .before .before .before .before .before .before .before .before .before .before .before .before .before .before .before .before .before .before .before .before .before .before .before .before .before .before .before .before .before .before .before .before .before .before .pre))
+    let a = c .before .before .before .before .before .before .before .before .before .before .before .before .before .before .before .before .before .before .before .before .before .before .before .before .before .before .before .before .before .before .before .args in
+    omega (arith, node-len-fits (graphIn (a .nodes .now) (a .links .now) (a .owners .now) (a .heads .now) (a .counts)) (c .before .before .before .before .before .before .before .before .before .before .before .before .before .before .before .before .before .before .before .before .before .before .before .before .before .before .before .before .before .before .before .pre))
 
 grown-requires-2 : tie.Need-grown-requires-2
 grown-requires-2 c κs =
-    let a = c .before .before .before .before .before .before .before .before .before .before .before .before .before .before .before .before .before .before .before .before .before .before .before .before .before .before .before .before .before .before .before .before .before .before .before .before .args in
-    omega (arith, ports-fit-at (c .before .before .before .before .before .before .before .before .before .before .before .before .before .before .before .before .before .before .before .before .before .before .before .before .before), port-len-fits (graphIn (a .nodes .now) (a .links .now) (a .owners .now) (a .heads .now) (a .counts)) (c .before .before .before .before .before .before .before .before .before .before .before .before .before .before .before .before .before .before .before .before .before .before .before .before .before .before .before .before .before .before .before .before .before .before .before .before .pre))
+    let a = c .before .before .before .before .before .before .before .before .before .before .before .before .before .before .before .before .before .before .before .before .before .before .before .before .before .before .before .before .before .before .before .before .args in
+    omega (arith, ports-fit-at (c .before .before .before .before .before .before .before .before .before .before .before .before .before .before .before .before .before .before .before .before .before), port-len-fits (graphIn (a .nodes .now) (a .links .now) (a .owners .now) (a .heads .now) (a .counts)) (c .before .before .before .before .before .before .before .before .before .before .before .before .before .before .before .before .before .before .before .before .before .before .before .before .before .before .before .before .before .before .before .before .pre))
 
-add-t44 : tie.Need-add-t44
-add-t44 c =
-    let a = c .before .before .before .before .before .before .before .before .before .before .before .before .before .before .before .before .before .before .before .before .before .before .before .before .before .before .before .before .before .before .before .before .before .before .before .before .before .before .args in
-    omega (arith, node-count-fits (graphIn (a .nodes .now) (a .links .now) (a .owners .now) (a .heads .now) (a .counts)) (c .before .before .before .before .before .before .before .before .before .before .before .before .before .before .before .before .before .before .before .before .before .before .before .before .before .before .before .before .before .before .before .before .before .before .before .before .before .before .pre))
+add-t41 : tie.Need-add-t41
+add-t41 c =
+    let a = c .before .before .before .before .before .before .before .before .before .before .before .before .before .before .before .before .before .before .before .before .before .before .before .before .before .before .before .before .before .before .before .before .before .before .args in
+    omega (arith, node-count-fits (graphIn (a .nodes .now) (a .links .now) (a .owners .now) (a .heads .now) (a .counts)) (c .before .before .before .before .before .before .before .before .before .before .before .before .before .before .before .before .before .before .before .before .before .before .before .before .before .before .before .before .before .before .before .before .before .before .pre))
 
-add-t45 : tie.Need-add-t45
-add-t45 c =
-    let a = c .before .before .before .before .before .before .before .before .before .before .before .before .before .before .before .before .before .before .before .before .before .before .before .before .before .before .before .before .before .before .before .before .before .before .before .before .before .before .before .args in
-    omega (arith, ports-fit-at (c .before .before .before .before .before .before .before .before .before .before .before .before .before .before .before .before .before .before .before .before .before .before .before .before .before .before .before .before), port-count-fits (graphIn (a .nodes .now) (a .links .now) (a .owners .now) (a .heads .now) (a .counts)) (c .before .before .before .before .before .before .before .before .before .before .before .before .before .before .before .before .before .before .before .before .before .before .before .before .before .before .before .before .before .before .before .before .before .before .before .before .before .before .before .pre))
+add-t42 : tie.Need-add-t42
+add-t42 c =
+    let a = c .before .before .before .before .before .before .before .before .before .before .before .before .before .before .before .before .before .before .before .before .before .before .before .before .before .before .before .before .before .before .before .before .before .before .before .args in
+    omega (arith, ports-fit-at (c .before .before .before .before .before .before .before .before .before .before .before .before .before .before .before .before .before .before .before .before .before .before .before .before), port-count-fits (graphIn (a .nodes .now) (a .links .now) (a .owners .now) (a .heads .now) (a .counts)) (c .before .before .before .before .before .before .before .before .before .before .before .before .before .before .before .before .before .before .before .before .before .before .before .before .before .before .before .before .before .before .before .before .before .before .before .pre))
 
-cast-t27 : tie.Need-cast-t27
-cast-t27 c = omega (arith, slot-fits-at (c .before .before .before .before .before .before .before .before .before .before .before .before .before .before .before .before .before .before .before .before .before .before .before .before .before .before .before .before))
+cast-t25 : tie.Need-cast-t25
+cast-t25 c = omega (arith, slot-fits-at (c .before .before .before .before .before .before .before .before .before .before .before .before .before .before .before .before .before .before .before .before .before .before .before .before))
 
-cast-t48 : tie.Need-cast-t48
-cast-t48 c = omega (arith, block-fits-at (c .before .before .before .before .before .before .before .before .before .before .before .before .before .before .before .before .before .before .before .before .before .before .before .before .before .before .before .before))
+cast-t45 : tie.Need-cast-t45
+cast-t45 c = omega (arith, block-fits-at (c .before .before .before .before .before .before .before .before .before .before .before .before .before .before .before .before .before .before .before .before .before .before .before .before))
 
 returns-5 : tie.Need-returns-5
 returns-5 c =
-    let a = c .before .before .before .before .before .before .before .before .before .before .before .before .before .before .before .before .before .before .before .before .before .before .before .before .before .before .before .before .before .before .before .before .before .before .before .before .before .before .before .args in
-    let p = c .before .before .before .before .before .before .before .before .before .before .before .before .before .before .before .before .before .before .before .before .before .before .before .before .before .before .before .before in
-    node-added-in (a .nodes .now) (a .links .now) (a .owners .now) (a .heads .now) (a .counts) (c .before .before .before .before .before .before .before .before .before .before .before .before .before .before .before .before .before .before .before .before .before .before .before .before .before .before .before .before .before .before .before .before .before .before .before .before .before .before .before .pre) (a .incoming) (a .outgoing) _ _ _ _
+    let a = c .before .before .before .before .before .before .before .before .before .before .before .before .before .before .before .before .before .before .before .before .before .before .before .before .before .before .before .before .before .before .before .before .before .before .before .args in
+    let p = (c .before .before .before .before .before .before .before .before .before .before .before .before .before .before .before .before .before .before .before .before .before .before .before .before) in
+    node-added-in (a .nodes .now) (a .links .now) (a .owners .now) (a .heads .now) (a .counts) (c .before .before .before .before .before .before .before .before .before .before .before .before .before .before .before .before .before .before .before .before .before .before .before .before .before .before .before .before .before .before .before .before .before .before .before .pre) (a .incoming) (a .outgoing) _ _ _ _
     (ports-fit-at p)
     (slot-found-at p)
     (block-found-at p)
-    (c .before .before .before .before .before .before .before .before .before .before .before .before .before .before .before .before .before .before .before .before .before .before .before .before .before .before .slot-in .ensures)
-    (c .before .before .before .before .before .before .before .before .before .before .before .before .before .before .before .before .before .before .before .before .before .before .before .before .before .next-free .ensures)
-    (c .before .before .before .before .before .before .before .before .before .before .before .before .before .before .before .before .before .before .before .before .before .before .before .before .rest-of .ensures)
-    (c .before .before .before .before .before .before .before .before .before .before .before .before .before .before .before .before .before .before .before .before .before .before .before .slot-after .ensures)
-    (c .before .before .before .before .before .before .before .before .before .before .before .before .before .before .before .before .before .before .before .before .before .slot-in2 .ensures)
-    (c .before .before .before .before .before .before .before .before .before .before .before .before .before .before .before .before .before .before .before .with-prev .ensures)
-    (c .before .before .before .before .before .before .before .before .before .before .before .before .before .before .before .before .before .before .put-slot .ensures)
+    refl
+    (c .before .before .before .before .before .before .before .before .before .before .before .before .before .before .before .before .before .before .before .before .before .before .next-in .ensures)
+    (c .before .before .before .before .before .before .before .before .before .before .before .before .before .before .before .before .before .before .before .before .before .rest-of .ensures)
+    (c .before .before .before .before .before .before .before .before .before .before .before .before .before .before .before .before .before .before .before .before .slot-after .ensures)
+    refl
+    refl
+    (c .before .before .before .before .before .before .before .before .before .before .before .before .before .before .before .before .before .before .put-prev .ensures)
     (c .before .before .before .before .before .before .before .before .before .before .before .before .before .before .before .before .new-node .ensures)
-    (c .before .before .before .before .before .before .before .before .before .before .before .before .before .before .before .put-slot2 .ensures)
+    (c .before .before .before .before .before .before .before .before .before .before .before .before .before .before .before .put-slot .ensures)
     (c .before .before .before .before .before .before .before .before .before .before .before .before .before .head-at .ensures)
     (c .before .before .before .before .before .before .before .before .before .before .before .at .ensures)
     (c .before .before .before .before .before .before .before .before .before .before .rest-of2 .ensures)
@@ -203,18 +194,15 @@ add-node-in-spec =
     enum-told-2
     returns-4
     cast-rest-of
-    cast-t29
-    cast-t30
+    cast-t27
+    cast-t28
     cast-fill
-    slot-in-requires
-    next-free-requires
+    next-in-requires
     rest-of-requires
     slot-after-requires
-    slot-in-requires-2
-    with-prev-requires
-    put-slot-requires
+    put-prev-requires
     new-node-requires
-    put-slot-requires-2
+    put-slot-requires
     head-at-requires
     at-requires
     rest-of-requires-2
@@ -226,8 +214,8 @@ add-node-in-spec =
     own-block-requires
     grown-requires
     grown-requires-2
-    add-t44
-    add-t45
-    cast-t27
-    cast-t48
+    add-t41
+    add-t42
+    cast-t25
+    cast-t45
     returns-5)

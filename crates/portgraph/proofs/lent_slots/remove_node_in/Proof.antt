@@ -1,5 +1,5 @@
 -- `portgraph::lent_slots::remove_node_in` meets its contract. What is known of a live node stands first.
-use mathlib.Core.Path.{_≡_}
+use mathlib.Core.Path.{_≡_, refl}
 use Prim.Native.Nat.{_<_}
 use native.Mathlib.Omega.{arith}
 use borrow.Author.Needs.{needs}
@@ -49,26 +49,20 @@ wide16-requires c κs = search needs
 slot-after-requires : tie.Need-slot-after-requires
 slot-after-requires c κs = omega (arith, below-at (c .before .before .before), c .before .before .wide .ensures)
 
-slot-in-requires : tie.Need-slot-in-requires
-slot-in-requires c κs = search needs
+add-put-prev : tie.Need-add-put-prev
+add-put-prev c = omega (arith, below-at (c .before .before .before .before .before .before))
 
-add-with-prev : tie.Need-add-with-prev
-add-with-prev c = omega (arith, below-at (c .before .before .before .before .before .before .before .before))
-
-with-prev-requires : tie.Need-with-prev-requires
-with-prev-requires c κs = search needs
-
-put-slot-requires : tie.Need-put-slot-requires
-put-slot-requires c κs = search needs
+put-prev-requires : tie.Need-put-prev-requires
+put-prev-requires c κs = search needs
 
 new-free-requires : tie.Need-new-free-requires
 new-free-requires c κs = search needs
 
-put-slot-requires-2 : tie.Need-put-slot-requires-2
-put-slot-requires-2 c κs = search needs
+put-slot-requires : tie.Need-put-slot-requires
+put-slot-requires c κs = search needs
 
 cut-range-requires : tie.Need-cut-range-requires
-cut-range-requires c κs = omega (arith, block-fits-at (c .before .before .before .before .before .before .before .before .before .before .before .before .before .before) .ends, c .before .before .before .before .before .before .before .before .before .before .before .before .wide2 .ensures, c .before .before .before .before .before .before .before .before .before .before .before .wide16 .ensures)
+cut-range-requires c κs = omega (arith, block-fits-at (c .before .before .before .before .before .before .before .before .before .before .before) .ends, c .before .before .before .before .before .before .before .before .before .wide2 .ensures, c .before .before .before .before .before .before .before .before .wide16 .ensures)
 
 head-at-requires : tie.Need-head-at-requires
 head-at-requires c κs = search needs
@@ -80,13 +74,13 @@ fill-requires : tie.Need-fill-requires
 fill-requires c κs = search needs
 
 add-put-head : tie.Need-add-put-head
-add-put-head c = omega (arith, block-fits-at (c .before .before .before .before .before .before .before .before .before .before .before .before .before .before .before .before .before .before .before .before .before .before .before) .ends)
+add-put-head c = omega (arith, block-fits-at (c .before .before .before .before .before .before .before .before .before .before .before .before .before .before .before .before .before .before .before .before) .ends)
 
 put-head-requires : tie.Need-put-head-requires
 put-head-requires c κs = search needs
 
-add-t22 : tie.Need-add-t22
-add-t22 c = omega (arith, below-at (c .before .before .before .before .before .before .before .before .before .before .before .before .before .before .before .before .before .before .before .before .before .before .before .before .before))
+add-t19 : tie.Need-add-t19
+add-t19 c = omega (arith, below-at (c .before .before .before .before .before .before .before .before .before .before .before .before .before .before .before .before .before .before .before .before .before .before))
 
 less-requires : tie.Need-less-requires
 less-requires c κs = search needs
@@ -102,18 +96,18 @@ less-requires-3 c κs = search needs
 
 returns-2 : tie.Need-returns-2
 returns-2 c =
-    let a = c .before .before .before .before .before .before .before .before .before .before .before .before .before .before .before .before .before .before .before .before .before .before .before .before .before .before .before .before .before .before .before .before .before .before .args in
-    node-removed-in (a .nodes .now) (a .links .now) (a .owners .now) (a .heads .now) (a .counts) (c .before .before .before .before .before .before .before .before .before .before .before .before .before .before .before .before .before .before .before .before .before .before .before .before .before .before .before .before .before .before .before .before .before .before .pre) (a .node .0) (c .before .before .before .before .before .before .before .before .before .before .before .before .before .before .before .before .before .before .before .before .before .before .before .before .before .before .before .before .before .before .meta .given .0 .0) _ _
-    (found-at (c .before .before .before .before .before .before .before .before .before .before .before .before .before .before .before .before .before .before .before .before .before .before .before .before .before .before .before .before .before))
-    (c .before .before .before .before .before .before .before .before .before .before .before .before .before .before .before .before .before .before .before .before .before .before .before .before .before .before .before .before .wide .ensures)
-    (c .before .before .before .before .before .before .before .before .before .before .before .before .before .before .before .before .before .before .before .before .before .before .before .before .before .before .before .wide2 .ensures)
-    (c .before .before .before .before .before .before .before .before .before .before .before .before .before .before .before .before .before .before .before .before .before .before .before .before .before .before .wide16 .ensures)
-    (c .before .before .before .before .before .before .before .before .before .before .before .before .before .before .before .before .before .before .before .before .before .before .before .before .before .slot-after .ensures)
-    (c .before .before .before .before .before .before .before .before .before .before .before .before .before .before .before .before .before .before .before .before .before .before .before .slot-in .ensures)
-    (c .before .before .before .before .before .before .before .before .before .before .before .before .before .before .before .before .before .before .before .before .with-prev .ensures)
-    (c .before .before .before .before .before .before .before .before .before .before .before .before .before .before .before .before .before .before .before .put-slot .ensures)
+    let a = c .before .before .before .before .before .before .before .before .before .before .before .before .before .before .before .before .before .before .before .before .before .before .before .before .before .before .before .before .before .before .before .args in
+    node-removed-in (a .nodes .now) (a .links .now) (a .owners .now) (a .heads .now) (a .counts) (c .before .before .before .before .before .before .before .before .before .before .before .before .before .before .before .before .before .before .before .before .before .before .before .before .before .before .before .before .before .before .before .pre) (a .node .0) (c .before .before .before .before .before .before .before .before .before .before .before .before .before .before .before .before .before .before .before .before .before .before .before .before .before .before .before .meta .given .0 .0) _ _
+    (found-at (c .before .before .before .before .before .before .before .before .before .before .before .before .before .before .before .before .before .before .before .before .before .before .before .before .before .before))
+    (c .before .before .before .before .before .before .before .before .before .before .before .before .before .before .before .before .before .before .before .before .before .before .before .before .before .wide .ensures)
+    (c .before .before .before .before .before .before .before .before .before .before .before .before .before .before .before .before .before .before .before .before .before .before .before .before .wide2 .ensures)
+    (c .before .before .before .before .before .before .before .before .before .before .before .before .before .before .before .before .before .before .before .before .before .before .before .wide16 .ensures)
+    (c .before .before .before .before .before .before .before .before .before .before .before .before .before .before .before .before .before .before .before .before .before .before .slot-after .ensures)
+    refl
+    refl
+    (c .before .before .before .before .before .before .before .before .before .before .before .before .before .before .before .before .before .before .before .put-prev .ensures)
     (c .before .before .before .before .before .before .before .before .before .before .before .before .before .before .before .before .before .new-free .ensures)
-    (c .before .before .before .before .before .before .before .before .before .before .before .before .before .before .before .before .put-slot2 .ensures)
+    (c .before .before .before .before .before .before .before .before .before .before .before .before .before .before .before .before .put-slot .ensures)
     (c .before .before .before .before .before .before .before .before .before .before .before .before .before .before .cut-range .ensures)
     (c .before .before .before .before .before .before .before .before .before .before .before .before .head-at .ensures)
     (c .before .before .before .before .before .before .before .before .before .before .chain-block .ensures)
@@ -136,19 +130,17 @@ remove-node-in-spec =
     wide-requires-2
     wide16-requires
     slot-after-requires
-    slot-in-requires
-    add-with-prev
-    with-prev-requires
-    put-slot-requires
+    add-put-prev
+    put-prev-requires
     new-free-requires
-    put-slot-requires-2
+    put-slot-requires
     cut-range-requires
     head-at-requires
     chain-block-requires
     fill-requires
     add-put-head
     put-head-requires
-    add-t22
+    add-t19
     less-requires
     port-count-requires
     less-requires-2

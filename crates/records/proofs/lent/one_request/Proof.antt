@@ -38,17 +38,17 @@ remove-words-requires c κs = search needs
 enum-known-ask-3 : tie.Need-enum-known-ask-3
 enum-known-ask-3 c = search needs
 
-cast-set-in : tie.Need-cast-set-in
-cast-set-in c = search needs
+cast-set-quiet-in : tie.Need-cast-set-quiet-in
+cast-set-quiet-in c = search needs
 
-cast-set-in-2 : tie.Need-cast-set-in-2
-cast-set-in-2 c = search needs
+cast-set-quiet-in-2 : tie.Need-cast-set-quiet-in-2
+cast-set-quiet-in-2 c = search needs
 
-set-in-requires : tie.Need-set-in-requires
-set-in-requires c κs = search needs
+set-quiet-in-requires : tie.Need-set-quiet-in-requires
+set-quiet-in-requires c κs = search needs
 
 set-words-requires : tie.Need-set-words-requires
-set-words-requires c κs = set-fits _ _ _ _ _ (c .before .before .before .set-in .ensures .1) (omega (arith, c .before .before .before .before .before .before .before .before .before .before .before .before .before .before .before .pre .1))
+set-words-requires c κs = set-fits _ _ _ _ _ (c .before .set-quiet-in .ensures .1) (omega arith)
 
 enum-known-ask-4 : tie.Need-enum-known-ask-4
 enum-known-ask-4 c = search needs
@@ -140,16 +140,13 @@ returns-2 c =
     answered (k .before .before .before .pre .0) (ap meant (k .ask2 .given .1)) (c .remove-words .ensures ∙ ap (λ x. five (removeNumbers x)) (c .before .before .remove-in .ensures .1))
     (c .before .before .remove-in .ensures .0)
 
-same-length : tie.Need-same-length
-same-length c = search needs
-
 returns-3 : tie.Need-returns-3
 returns-3 c =
-    let k = c .before .before .before .before .before .before .before .before .before .before .before .before .before in
-    set-answered (k .before .before .before .pre .0) (ap meant (k .ask3 .given .1)) (k .before .before .before .pre .1) (c .before .before .before .before .set-in .ensures .1) (c .set-words .ensures) (c .before .before .before .before .set-in .ensures .0)
+    let k = c .before .before .before .before .before .before .before .before .before .before in
+    set-answered (k .before .before .before .pre .0) (ap meant (k .ask3 .given .1)) refl (c .before .before .set-quiet-in .ensures .1) (c .set-words .ensures) (c .before .before .set-quiet-in .ensures .0)
 
-same-length-2 : tie.Need-same-length-2
-same-length-2 c = search needs
+same-length : tie.Need-same-length
+same-length c = search needs
 
 returns-4 : tie.Need-returns-4
 returns-4 c =
@@ -202,9 +199,9 @@ one-request-spec =
     remove-in-requires
     remove-words-requires
     enum-known-ask-3
-    cast-set-in
-    cast-set-in-2
-    set-in-requires
+    cast-set-quiet-in
+    cast-set-quiet-in-2
+    set-quiet-in-requires
     set-words-requires
     enum-known-ask-4
     link-in-requires
@@ -233,9 +230,8 @@ one-request-spec =
     five-words-requires-2
     returns
     returns-2
-    same-length
     returns-3
-    same-length-2
+    same-length
     returns-4
     returns-5
     returns-6

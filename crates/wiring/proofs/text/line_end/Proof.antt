@@ -1,21 +1,20 @@
--- `wiring::text::line_end` meets its contract. The invariant: the place is not before the start. The measure is what is left of the text. Assumes nothing.
+-- `wiring::text::line_end` meets its contract. The measure is what is left of the text. Assumes nothing.
 use borrow.Author.Needs.{needs}
-use Prim.Native.Nat.{_-_, _≤_}
-use lib.ListN.{length}
+use Prim.Native.Nat.{_-_}
 use Rattle.wiring.proofs.text.line_end.Statement.{statement}
 use Rattle.wiring.proofs.text.line_end.Tie as tie
 
 abbrev Inv-loop : tie.InvT-loop
-Inv-loop text from at₀ at = from ≤ at
+Inv-loop text from to at₀ at = Unit {0}
 
 abbrev μ-loop : tie.MeasureT-loop
-μ-loop text from at₀ at = length text - at
+μ-loop text from to at₀ at = to - at
 
 loop-holds : tie.Need-loop-holds Inv-loop μ-loop
-loop-holds c = search needs
+loop-holds c = tt
 
-shared-slice-read-if1 : tie.Need-shared-slice-read-if1 Inv-loop μ-loop
-shared-slice-read-if1 c = search needs
+byte-at-requires : tie.Need-byte-at-requires Inv-loop μ-loop
+byte-at-requires c κs = search needs
 
 returns : tie.Need-returns Inv-loop μ-loop
 returns c = search needs
@@ -27,7 +26,7 @@ loop-less : tie.Need-loop-less Inv-loop μ-loop
 loop-less c = search needs
 
 loop-again : tie.Need-loop-again Inv-loop μ-loop
-loop-again c = search needs
+loop-again c = tt
 
 returns-2 : tie.Need-returns-2 Inv-loop μ-loop
 returns-2 c = search needs
@@ -39,7 +38,7 @@ line-end-spec =
     Inv-loop
     μ-loop
     loop-holds
-    shared-slice-read-if1
+    byte-at-requires
     returns
     add-at
     loop-less

@@ -5,10 +5,10 @@ use Rattle.wiring.proofs.text.number_of.Statement.{statement}
 use Rattle.wiring.proofs.text.number_of.Tie as tie
 
 abbrev Inv-loop : tie.InvT-loop
-Inv-loop text from to value₀ at₀ value at = Unit {0}
+Inv-loop text to value₀ at₀ value at = Unit {0}
 
 abbrev μ-loop : tie.MeasureT-loop
-μ-loop text from to value₀ at₀ value at = to - at
+μ-loop text to value₀ at₀ value at = to - at
 
 loop-holds : tie.Need-loop-holds Inv-loop μ-loop
 loop-holds c = tt
@@ -19,15 +19,6 @@ byte-at-requires c κs = search needs
 with-digit-requires : tie.Need-with-digit-requires Inv-loop μ-loop
 with-digit-requires c κs = search needs
 
-enum-known-next : tie.Need-enum-known-next Inv-loop μ-loop
-enum-known-next c = search needs
-
-enum-told : tie.Need-enum-told Inv-loop μ-loop
-enum-told c = search needs
-
-returns : tie.Need-returns Inv-loop μ-loop
-returns c = search needs
-
 add-at : tie.Need-add-at Inv-loop μ-loop
 add-at c = search needs
 
@@ -37,8 +28,8 @@ loop-less c = search needs
 loop-again : tie.Need-loop-again Inv-loop μ-loop
 loop-again c = tt
 
-returns-2 : tie.Need-returns-2 Inv-loop μ-loop
-returns-2 c = search needs
+returns : tie.Need-returns Inv-loop μ-loop
+returns c = search needs
 
 pub number-of-spec : {M : Type 1} → statement M
 number-of-spec =
@@ -49,10 +40,7 @@ number-of-spec =
     loop-holds
     byte-at-requires
     with-digit-requires
-    enum-known-next
-    enum-told
-    returns
     add-at
     loop-less
     loop-again
-    returns-2)
+    returns)

@@ -5,7 +5,8 @@ use borrow.Author.Needs.{needs}
 use Rattle.multiportgraph.specs.Inner.{MultiWf}
 use Rattle.multiportgraph.specs.Wires.{allWires}
 use Rattle.multiportgraph.specs.Listed.{wiresListed}
-use Rattle.multiportgraph.specs.ListSteps.{lent-is, listed-as}
+use Rattle.multiportgraph.specs.LentGraph.{lent-is}
+use Rattle.multiportgraph.specs.ListSteps.{listed-as}
 use Rattle.multiportgraph.specs.declared.multiportgraph.MultiPortGraph.{MultiPortGraph}
 use Rattle.multiportgraph.proofs.multiportgraph.MultiPortGraph.list_wires.Statement.{
   statement,

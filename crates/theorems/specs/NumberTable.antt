@@ -1,0 +1,74 @@
+-- 01's numbers of every refusal with what it carries, and of every kind of answer, as one table with one claim.
+use mathlib.Core.Path.{_≡_, refl}
+use mathlib.Core.List.{List, [], _∷_, _++_, map}
+use Prim.Native.Nat.{ℕ}
+use Rattle.portgraph.specs.Lookups.{node#, port#}
+use Rattle.portgraph.specs.declared.direction.Direction.the-variants.{Incoming, Outgoing}
+use Rattle.multiportgraph.specs.Reading.{subport#}
+use Rattle.multiportgraph.specs.Answers.{refusalNumbers, addNumbers, removeNumbers, setNumbers, linkNumbers, cutNumbers}
+use Rattle.multiportgraph.specs.Lookups.{directionNumbers, nodeNumbers, offsetNumbers, portNumbers, countNumbers}
+use Rattle.multiportgraph.specs.WalkNumbers.{linkValues}
+use Rattle.multiportgraph.specs.declared.multiportgraph.Refusal.{Refusal}
+use Rattle.multiportgraph.specs.declared.multiportgraph.Refusal.the-variants.{BadOffset, TooManyPorts, UnknownNode, HiddenNode, MovesTooShort, UnknownPort, HiddenPort, UnknownOffset, NoRoom, UnknownSecondPort, IncompatibleDirections, AlreadyLinked}
+use Rattle.multiportgraph.specs.declared.multiportgraph.AddAnswer.the-variants as add
+use Rattle.multiportgraph.specs.declared.multiportgraph.RemoveAnswer.the-variants as remove
+use Rattle.multiportgraph.specs.declared.multiportgraph.SetAnswer.the-variants as resize
+use Rattle.multiportgraph.specs.declared.multiportgraph.LinkAnswer.the-variants as link
+use Rattle.multiportgraph.specs.declared.multiportgraph.CutAnswer.the-variants as cutting
+use Rattle.multiportgraph.specs.declared.lookups.DirectionAnswer.the-variants as direction-of
+use Rattle.multiportgraph.specs.declared.lookups.NodeAnswer.the-variants as node-of
+use Rattle.multiportgraph.specs.declared.lookups.OffsetAnswer.the-variants as offset-of
+use Rattle.multiportgraph.specs.declared.lookups.PortAnswer.the-variants as port-of
+use Rattle.multiportgraph.specs.declared.lookups.CountAnswer.the-variants as count-of
+
+-- every refusal, of ports p and q
+abbrev pub refusals : ℕ → ℕ → List Refusal
+refusals p q =
+    BadOffset ∷ TooManyPorts ∷ UnknownNode ∷ HiddenNode ∷ MovesTooShort ∷ UnknownPort (port# p) ∷ HiddenPort (port# p) ∷ UnknownOffset (port# p)
+    ∷ NoRoom ∷ UnknownSecondPort (port# q) ∷ IncompatibleDirections (port# p) (port# q) Incoming ∷ IncompatibleDirections (port# p) (port# q) Outgoing
+    ∷ AlreadyLinked (port# p) ∷ []
+
+-- 01's number of each, and what it carries
+abbrev pub refusalTable : ℕ → ℕ → List (List ℕ)
+refusalTable p q =
+    (2 ∷ []) ∷ (3 ∷ []) ∷ (4 ∷ []) ∷ (5 ∷ []) ∷ (6 ∷ []) ∷ (7 ∷ p ∷ []) ∷ (8 ∷ p ∷ []) ∷ (9 ∷ p ∷ [])
+    ∷ (10 ∷ []) ∷ (11 ∷ q ∷ []) ∷ (12 ∷ p ∷ q ∷ 0 ∷ []) ∷ (12 ∷ p ∷ q ∷ 1 ∷ [])
+    ∷ (13 ∷ p ∷ []) ∷ []
+
+-- every kind of answer that is no refusal, with a node n, ports p and q, offsets o and r, and a count k
+abbrev pub answers : ℕ → ℕ → ℕ → ℕ → ℕ → ℕ → List (List ℕ)
+answers n p o q r k =
+    addNumbers (add.Added (node# n) (port# p)) ∷ removeNumbers remove.Removed ∷ setNumbers (resize.Set k)
+    ∷ linkNumbers (link.Linked (subport# p o) (subport# q r)) ∷ cutNumbers (cutting.Found (subport# p o)) ∷ cutNumbers cutting.Nothing
+    ∷ linkValues (record { from = subport# p o; to = subport# q r })
+    ∷ directionNumbers (direction-of.Found Incoming) ∷ directionNumbers (direction-of.Found Outgoing) ∷ nodeNumbers (node-of.Found (node# n))
+    ∷ offsetNumbers (offset-of.Found (record { direction = Incoming; index = k })) ∷ offsetNumbers (offset-of.Found (record { direction = Outgoing; index = k }))
+    ∷ portNumbers (port-of.Found (port# p)) ∷ portNumbers port-of.Nothing ∷ countNumbers (count-of.Count k) ∷ []
+
+abbrev pub answerTable : ℕ → ℕ → ℕ → ℕ → ℕ → ℕ → List (List ℕ)
+answerTable n p o q r k =
+    (0 ∷ n ∷ p ∷ []) ∷ (0 ∷ []) ∷ (0 ∷ k ∷ [])
+    ∷ (0 ∷ p ∷ o ∷ q ∷ r ∷ []) ∷ (0 ∷ 1 ∷ p ∷ o ∷ []) ∷ (0 ∷ 0 ∷ 0 ∷ 0 ∷ [])
+    ∷ (p ∷ o ∷ q ∷ r ∷ [])
+    ∷ (0 ∷ 0 ∷ []) ∷ (0 ∷ 1 ∷ []) ∷ (0 ∷ n ∷ [])
+    ∷ (0 ∷ 0 ∷ k ∷ []) ∷ (0 ∷ 1 ∷ k ∷ [])
+    ∷ (0 ∷ 1 ∷ p ∷ []) ∷ (0 ∷ 0 ∷ 0 ∷ []) ∷ (0 ∷ k ∷ []) ∷ []
+
+-- each answer that can be a refusal gives the refusal's numbers
+abbrev pub refusedAnswers : Refusal → List (List ℕ)
+refusedAnswers r =
+    addNumbers (add.Refused r) ∷ removeNumbers (remove.Refused r) ∷ setNumbers (resize.Refused r) ∷ linkNumbers (link.Refused r) ∷ cutNumbers (cutting.Refused r)
+    ∷ directionNumbers (direction-of.Refused r) ∷ nodeNumbers (node-of.Refused r) ∷ offsetNumbers (offset-of.Refused r) ∷ portNumbers (port-of.Refused r)
+    ∷ countNumbers (count-of.Refused r) ∷ []
+
+pub refusal-numbers : (p q : ℕ) → map refusalNumbers (refusals p q) ≡ refusalTable p q
+refusal-numbers p q = refl
+
+pub answer-numbers : (n p o q r k : ℕ) → answers n p o q r k ≡ answerTable n p o q r k
+answer-numbers n p o q r k = refl
+
+pub refused-numbers : (r : Refusal) →
+    refusedAnswers r
+    ≡ refusalNumbers r ∷ refusalNumbers r ∷ refusalNumbers r ∷ refusalNumbers r ∷ refusalNumbers r ∷ refusalNumbers r ∷ refusalNumbers r ∷ refusalNumbers r ∷ refusalNumbers r
+    ∷ refusalNumbers r ∷ []
+refused-numbers r = refl

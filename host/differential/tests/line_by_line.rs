@@ -1,0 +1,145 @@
+//! The program `wiring`, driven through pipes as a person drives it: each answer is read before the next line is written.
+
+use std::fs::File;
+use std::io::{BufRead, BufReader, Read, Write};
+use std::process::{Child, ChildStdin, ChildStdout, Command, Stdio};
+
+use differential::console::{program, without_reason};
+
+/// A console with both its pipes.
+struct Typed {
+    child: Child,
+    keys: ChildStdin,
+    screen: BufReader<ChildStdout>,
+}
+
+impl Typed {
+    fn start(arguments: &[&str]) -> Typed {
+        let mut child = Command::new(program().unwrap())
+            .args(arguments)
+            .stdin(Stdio::piped())
+            .stdout(Stdio::piped())
+            .spawn()
+            .unwrap();
+        let keys = child.stdin.take().unwrap();
+        let screen = BufReader::new(child.stdout.take().unwrap());
+        Typed { child, keys, screen }
+    }
+
+    fn line(&mut self) -> String {
+        let mut line = String::new();
+        self.screen.read_line(&mut line).unwrap();
+        without_reason(line.trim_end_matches('\n')).to_string()
+    }
+
+    /// Types bytes, and reads so many lines before anything else is typed.
+    fn asks(&mut self, typed: &[u8], lines: usize) -> Vec<String> {
+        self.keys.write_all(typed).unwrap();
+        (0..lines).map(|_| self.line()).collect()
+    }
+
+    /// Closes the input and reads what is left.
+    fn rest(mut self) -> String {
+        drop(self.keys);
+        let mut rest = String::new();
+        self.screen.read_to_string(&mut rest).unwrap();
+        self.child.wait().unwrap();
+        rest
+    }
+}
+
+/// What the program writes for a whole input.
+fn run(arguments: &[&str], input: &[u8]) -> String {
+    let mut typed = Typed::start(arguments);
+    let mut screen = typed.screen;
+    let input = input.to_vec();
+    let typing = std::thread::spawn(move || _ = typed.keys.write_all(&input));
+    let mut text = String::new();
+    screen.read_to_string(&mut text).unwrap();
+    typing.join().unwrap();
+    typed.child.wait().unwrap();
+    text
+}
+
+#[test]
+fn each_line_is_answered_before_the_next_is_typed() {
+    let mut typed = Typed::start(&[]);
+    assert_eq!(typed.asks(b"add 0 1\n", 1), ["ok 0 0"]);
+    assert_eq!(typed.asks(b"add 2 0\n", 1), ["ok 1 1"]);
+    assert_eq!(typed.asks(b"link 0 1\n", 1), ["ok 0 0 1 0"]);
+    assert_eq!(typed.asks(b"link 0 2\n", 1), ["ok 0 1 2 0"]);
+    assert_eq!(typed.asks(b"wires\n", 3), ["  0 0 1 0", "  0 1 2 0", "ok 2"]);
+    assert_eq!(typed.asks(b"unlinksub 0 1\n", 1), ["ok 1 2 0"]);
+    assert_eq!(typed.asks(b"link 1 2\n", 1)[0].split(' ').next(), Some("refused"));
+    assert_eq!(typed.asks(b"wires\n", 2), ["  0 0 1 0", "ok 1"]);
+    assert_eq!(typed.rest(), "");
+}
+
+#[test]
+fn a_line_may_come_in_pieces_and_lines_together() {
+    let mut typed = Typed::start(&[]);
+    assert!(typed.asks(b"ad", 0).is_empty());
+    assert!(typed.asks(b"d 0 ", 0).is_empty());
+    assert_eq!(typed.asks(b"1\nadd 1 0\nbl", 2), ["ok 0 0", "ok 1 1"]);
+    assert_eq!(typed.asks(b"ocks\n", 3), ["  0", "  1", "ok 2"]);
+    assert_eq!(typed.rest(), "");
+}
+
+#[test]
+fn every_refusal_and_bad_line_says_why() {
+    let text = run(&[], b"add 512 513\nremove 7\nlink 9 0\nfoo\nadd 1\nadd x 1\nsubports 0 3\nneighbours 0 1 2\nsublink 0 65535\n");
+    for line in text.lines() {
+        let (answer, reason) = line.split_once("  # ").unwrap();
+        assert!(answer.starts_with("refused ") || answer.starts_with("bad line "), "{line}");
+        assert!(!reason.is_empty());
+    }
+    assert_eq!(text.lines().map(without_reason).collect::<Vec<_>>(), [
+        "refused 3", "refused 4", "refused 7 9", "bad line 4", "bad line 5", "bad line 6", "bad line 7", "bad line 8", "refused 2",
+    ]);
+}
+
+#[test]
+fn tabs_returns_comments_and_a_last_line_without_newline() {
+    assert_eq!(run(&[], b"\tadd\t0  1 \r\n\r\n  # add 1 1\n \t\nblocks\t\r\nadd 00 01"), "ok 0 0\n  0\nok 1\nok 1 1\n");
+    assert_eq!(run(&[], b""), "");
+    assert_eq!(run(&[], b"\n\n# nothing\n"), "");
+}
+
+#[test]
+fn quit_ends_and_what_follows_is_not_run() {
+    assert_eq!(run(&[], b"add 0 1\nquit\nadd 0 1\nblocks\n"), "ok 0 0\n");
+    let bad = run(&[], b"quit 1\nblocks\n");
+    assert_eq!(bad.lines().map(without_reason).collect::<Vec<_>>(), ["bad line 1", "ok 0"]);
+}
+
+#[test]
+fn a_line_has_at_most_65536_bytes() {
+    let filled = |length: usize| [b"counts".to_vec(), vec![b' '; length - 6], b"\n".to_vec()].concat();
+    let text = run(&[], &[filled(65536), filled(65537), filled(200_000), b"counts\n".to_vec()].concat());
+    let lines: Vec<_> = text.lines().map(without_reason).collect();
+    assert_eq!(lines, ["ok 0 0 0", "bad line 2", "bad line 3", "ok 0 0 0"]);
+}
+
+#[test]
+fn an_input_has_no_limit() {
+    let lines = 300_000;
+    let text = run(&[], "counts 1\ncounts\n".repeat(lines / 2).as_bytes());
+    assert_eq!(text.lines().count(), lines);
+    assert_eq!(text.lines().map(without_reason).nth(lines - 2), Some("bad line 299999"));
+}
+
+#[test]
+fn arguments() {
+    assert_eq!(run(&["--echo"], b"add 0 1\n\n# no\n  blocks\n"), "> add 0 1\nok 0 0\n>   blocks\n  0\nok 1\n");
+    let usage = run(&["--help"], b"add 0 1\n");
+    assert!(usage.contains("--echo") && !usage.contains("ok"));
+    assert_eq!(run(&["--nonsense"], b"add 0 1\n"), usage);
+    assert_eq!(run(&["--echo", "--nonsense"], b"add 0 1\n"), usage);
+}
+
+#[test]
+fn an_input_that_cannot_be_read_is_said() {
+    let directory = File::open(env!("CARGO_MANIFEST_DIR")).unwrap();
+    let output = Command::new(program().unwrap()).stdin(directory).output().unwrap();
+    assert_eq!(String::from_utf8(output.stdout).unwrap(), "cannot read the input\n");
+}

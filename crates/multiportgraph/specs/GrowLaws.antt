@@ -2,7 +2,7 @@
 use mathlib.Core.Path.{_≡_, refl, sym, _∙_, ap, transport}
 use mathlib.Core.Bool.{Bool, true, false}
 use mathlib.Core.Logic.{⊎-elim}
-use Prim.Native.Nat.{ℕ, _+_, _-_, _<_}
+use Prim.Native.Nat.{ℕ, _+_, _<_}
 use native.Mathlib.Omega.{arith}
 use lib.ListN.{length, getD, set, length-set}
 use lib.Seq.{getD-set-same, getD-set-other, ext-getD, lt-length-set}
@@ -22,7 +22,7 @@ use Rattle.multiportgraph.specs.Reading.{isHidden, isSplit, copySide, co
 use Rattle.multiportgraph.specs.Inner.{inner#, copyPlace, Fine, Marked, copy-port, main-port, Seen}
 use Rattle.multiportgraph.specs.Ends.{Hangs, hangs, copy-valid, copy-count, count-of, one-copy, main-seen, block-seen, split-has-copy}
 use Rattle.multiportgraph.specs.RecountLaws.{Recount, WasMarked, number-cases, marked-place, marks-long, other-slot, recount-marks, marked-was, set-recounts, copy-place-same, grown, growth#, valid-kept, joins-same, ends-same, hidden-same, grown-fine, fresh, fresh-valid, fresh-slot, more-longer}
-use Rattle.multiportgraph.specs.Reads.{farIn, firstIn, grownIn, grownOut}
+use Rattle.multiportgraph.specs.Reads.{farIn, firstIn, lastBeside, grownIn, grownOut}
 use Rattle.multiportgraph.specs.ReadLaws.{first-there, far-is}
 use Rattle.multiportgraph.specs.declared.multiportgraph.MultiPortGraph.{MultiPortGraph}
 use Rattle.multiportgraph.specs.HiddenNodes.{recounted, moreIn, moreOut, enough}
@@ -157,11 +157,28 @@ module _ {m : MultiPortGraph} {M : Model} (f : Fine m M) (x : model.InnerPlace) 
       let l = slot-in-range (r .good) (fresh f x h r longer same) (fresh-valid f x h r longer same) in
       omega arith
 
+  -- the copy port stands beside it
+  pub new-beside : Seen m M x → portOf g′ (h .copy) (x .side) (portsOn a (x .side)) ≡ lastBeside (x .side) (farIn (g′ .«port_link») (slotOf (M .node) x)) (portsOn a (x .side))
+  new-beside s =
+      sym (fresh-slot f x h r longer same) ∙ (go (x .side) (copySide m (h .copy)) (h .side) longer same one ∙ ap (λ (q : ℕ). lastBeside (x .side) q (portsOn a (x .side))) (sym (far-after s)))
+    where
+      one : portsOn a (copySide m (h .copy)) ≡ 1
+      one = ap (λ (v : Slots). countOf v (copySide m (h .copy))) (sym (r .here)) ∙ copy-count f (h .copy) (h .isCopy)
+
+      go : (d e : Direction) → d ≡ reversed e → portsOn b d ≡ portsOn a d + 1 → portsOn b (reversed d) ≡ portsOn a (reversed d) → portsOn a e ≡ 1 →
+          slotOf (M′ .node) (inner# (h .copy) d (portsOn a d)) ≡ lastBeside d (slotOf (M′ .node) (inner# (h .copy) e 0)) (portsOn a d)
+      go Incoming Outgoing q l k u = rw (r .there) (omega arith)
+      go Outgoing Incoming q l k u = rw (r .there) (omega arith)
+      go Incoming Incoming q l k u = absurd (zero-is-not-one (cc))
+      go Outgoing Outgoing q l k u = absurd (zero-is-not-one (cc))
+
 -- By numbers: port p of side d, whose hidden node c has n subports; g is the lower graph after.
 pub record GrowTables (m : MultiPortGraph) (p : ℕ) (d : Direction) (c n : ℕ) (g : PortGraph) : Type 0 where
   pub marks : recounted m c g .multiport ≡ set (set (m .multiport) (farIn (m .graph .«port_link») p) false) (farIn (g .«port_link») p) true
   pub port : portOf g c d n ≡ firstIn (g .«port_link») (g .«port_meta») p d + n
   pub few : firstIn (g .«port_link») (g .«port_meta») p d + n < portSlots
+  pub beside : portOf g c d n ≡ lastBeside d (farIn (g .«port_link») p) n
+  pub low : farIn (g .«port_link») p < portSlots
 
 grow-here : {m : MultiPortGraph} {M : Model} (f : Fine m M) (x : model.InnerPlace) (s : Seen m M x) (h : Hangs m M x) (e : ℕ) → growth# m (h .copy) (x .side) .answer ≡ lower-set.Set e →
     GrowTables m (slotOf (M .node) x) (x .side) (h .copy) (numPorts (m .graph) (h .copy) (x .side)) (growth# m (h .copy) (x .side) .graph)
@@ -183,7 +200,18 @@ grow-here {m} {M} f x s h e t =
       marks = grown-marks f x h r (l .0) (l .1) ∙ (λ i. set (set (m .multiport) (sym before i) false) (sym after i) true);
       port = port;
       few = omega arith;
+      beside =
+          ap (portOf g (h .copy) (x .side)) n
+          ∙ (new-beside f x h r (l .0) (l .1) s ∙ ap (lastBeside (x .side) (farIn (g .«port_link») (slotOf (M .node) x))) (sym n));
+      low = let q = slot-in-range (r .good) (copyPlace m (h .copy)) (valid-cp′ f x h r (l .0) (l .1)) in omega arith;
     }
+
+-- the new subport, by the first one, and by the copy port
+pub by-first : {m : MultiPortGraph} {p : ℕ} {d : Direction} {c n : ℕ} {g : PortGraph} → GrowTables m p d c n g → {first : ℕ} → first ≡ firstIn (g .«port_link») (g .«port_meta») p d → first + n ≡ portOf g c d n
+by-first {n = n} t e = ap (λ (k : ℕ). k + n) e ∙ sym (t .port)
+
+pub by-copy : {m : MultiPortGraph} {p : ℕ} {d : Direction} {c n : ℕ} {g : PortGraph} → GrowTables m p d c n g → {far q : ℕ} → far ≡ farIn (g .«port_link») p → q ≡ lastBeside d far n → q ≡ portOf g c d n
+by-copy {d = d} {n = n} t e k = k ∙ (ap (λ (v : ℕ). lastBeside d v n) e ∙ sym (t .beside))
 
 pub grow-tables : {m : MultiPortGraph} {p : ℕ} {d : Direction} (b : SplitPort m p d) (e : ℕ) → growth# m (copyNode m p) d .answer ≡ lower-set.Set e →
     GrowTables m p d (copyNode m p) (numPorts (m .graph) (copyNode m p) d) (growth# m (copyNode m p) d .graph)

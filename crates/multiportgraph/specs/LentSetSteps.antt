@@ -33,7 +33,7 @@ use Rattle.multiportgraph.specs.declared.multiportgraph.MultiPortGraph.{
 use Rattle.multiportgraph.specs.declared.multiportgraph.SetAnswer.{SetAnswer}
 use Rattle.multiportgraph.specs.declared.multiportgraph.PortsSet.{PortsSet}
 use Rattle.multiportgraph.specs.declared.lent.Held.{Held}
-use Rattle.multiportgraph.specs.Graph.{withGraph}
+use Rattle.multiportgraph.specs.Graph.{withGraph, withMarks}
 use Rattle.multiportgraph.specs.HiddenNodes.{copiesDropped, recounted, marksMoved, removeAll}
 use Rattle.multiportgraph.specs.Cases.{resized}
 
@@ -91,13 +91,7 @@ settled-is : (m : MultiPortGraph) (n : ℕ) (k : NodeMeta) (i o : ℕ) (g : Port
     settled (withGraph m g) n k (copiesDropped m k i o) a ≡ resized m n k i o g a
 unfolding recounted
 settled-is m n k i o g (lower-set-variants.Set e) is kept =
-    ap (λ (x : MaybeNodeMeta). removeAll (record {
-      graph = g;
-      multiport = marksMoved (m .multiport) x (metaAt g n);
-      «copy_node» = m .«copy_node»;
-      «copy_node_count» = m .«copy_node_count»;
-      «subport_count» = m .«subport_count»;
-    }) (copiesDropped m k i o)) is
+    ap (λ (x : MaybeNodeMeta). removeAll (withMarks (withGraph m g) (marksMoved (m .multiport) x (metaAt g n))) (copiesDropped m k i o)) is
 settled-is m n k i o g lower-set-variants.TooManyPorts is kept = ap (withGraph m) (kept (λ e q. let z : _≡_ {A = ℕ} 0 1 = cc in omega arith))
 settled-is m n k i o g lower-set-variants.UnknownNode is kept = ap (withGraph m) (kept (λ e q. let z : _≡_ {A = ℕ} 0 1 = cc in omega arith))
 settled-is m n k i o g lower-set-variants.MovesTooShort is kept = ap (withGraph m) (kept (λ e q. let z : _≡_ {A = ℕ} 0 1 = cc in omega arith))

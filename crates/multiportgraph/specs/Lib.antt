@@ -40,6 +40,7 @@ pub mod Forms
 pub mod Presumed
 pub mod Reads
 pub mod Named
+pub mod Needs
 pub mod Scans
 pub mod WalkScans
 pub mod ListScans
@@ -65,6 +66,8 @@ pub mod PrepareLaws
 pub mod GrowLaws
 pub mod ReadLaws
 pub mod NamedLaws
+pub mod NeedStays
+pub mod NeedLaws
 pub mod SpaceLaws
 pub mod LentLaws
 -- steps that the functions' proofs cite
@@ -76,6 +79,7 @@ pub mod CallSteps
 pub mod LinkSteps
 pub mod TableSteps
 pub mod NamedSteps
+pub mod NeedSteps
 pub mod BlockSteps
 pub mod LookupSteps
 pub mod StartSteps
@@ -86,6 +90,7 @@ pub mod WalkSteps
 pub mod LinkWalkSteps
 pub mod SubportSteps
 pub mod LentSteps
+pub mod LentEndSteps
 pub mod LentSetSteps
 pub mod LentLinkSteps
 pub mod LentGraph

@@ -3,15 +3,17 @@ use mathlib.Core.Path.{_≡_, refl, sym, _∙_, ap, subst}
 use mathlib.Core.Bool.{Bool, true, false, cond}
 use Prim.Native.Nat.{ℕ, _+_, _<_}
 use Rattle.portgraph.specs.Tables.{at}
-use Rattle.portgraph.specs.Lookups.{port#}
+use Rattle.portgraph.specs.Lookups.{port#, metaAt}
 use Rattle.portgraph.specs.Meaning.{sameSide}
 use Rattle.portgraph.specs.Calls.{linkPorts}
 use Rattle.portgraph.specs.GoodSlots.{slot-in-block, zero-is-not-one}
 use Rattle.portgraph.specs.Model.{firstOf, sideStart, countOf}
 use Rattle.portgraph.specs.declared.direction.Direction.{Direction}
 use Rattle.portgraph.specs.declared.index.NodeIndex.{NodeIndex}
+use Rattle.portgraph.specs.declared.node_entry.NodeMeta.{NodeMeta}
+use Rattle.portgraph.specs.declared.node_entry.MaybeNodeMeta.the-variants as maybe-meta
 use Rattle.portgraph.specs.declared.portgraph.PortsLinked as lower
-use Rattle.multiportgraph.specs.Reading.{Port, dead, hidden, visible, seen, isSplit, subport#}
+use Rattle.multiportgraph.specs.Reading.{Port, dead, hidden, visible, seen, isSplit, copyNode, subport#}
 use Rattle.multiportgraph.specs.HiddenNodes as hiding
 use Rattle.multiportgraph.specs.Forms.{seenAs, preparedAs}
 use Rattle.multiportgraph.specs.Inner.{MultiWf}
@@ -27,7 +29,7 @@ use Rattle.multiportgraph.specs.declared.prepare.Prepared.{Prepared}
 use Rattle.multiportgraph.specs.Graph.{withGraph}
 use Rattle.multiportgraph.specs.HiddenNodes.{prepare}
 use Rattle.multiportgraph.specs.Cases.{linkRefused, linkPrepared, linkSecond, linkFirst, linkLive}
-use Rattle.multiportgraph.specs.Presumed.{OnBlock, LinkedPort, SplitPort, BothOnBlock}
+use Rattle.multiportgraph.specs.Presumed.{OnBlock, LinkedPort, SplitPort, BothOnBlock, GrowPort, FirstReady}
 
 -- what a prepared end is
 pub is-ready : (m : MultiPortGraph) (p : hiding.Prepared) (r : Prepared) → r ≡ preparedAs m p → r .ready ≡ true → p ≡ hiding.ready (r .graph) (r .port) (r .offset)
@@ -108,7 +110,7 @@ module _ (m : MultiPortGraph) (a : ℕ) (d : Direction) (b : ℕ) (e : Direction
 
 -- How the two ports are seen.
 
-abbrev seenBack : SeenPort → Port
+abbrev pub seenBack : SeenPort → Port
 seenBack seen-port.Dead = dead
 seenBack seen-port.Hidden = hidden
 seenBack (seen-port.Visible n d) = visible (n .0) d
@@ -118,8 +120,8 @@ back-is dead = refl
 back-is hidden = refl
 back-is (visible n d) = refl
 
-told : (v : Port) {s w : SeenPort} → s ≡ seenAs v → s ≡ w → v ≡ seenBack w
-told v e t = back-is v ∙ ap seenBack (sym e ∙ t)
+pub seen-told : (v : Port) {s w : SeenPort} → s ≡ seenAs v → s ≡ w → v ≡ seenBack w
+seen-told v e t = back-is v ∙ ap seenBack (sym e ∙ t)
 
 pub on-block : {m : MultiPortGraph} {p : ℕ} {d : Direction} → MultiWf m → (s : SeenPort) (n : NodeIndex) → s ≡ seenAs (seen m p) → s ≡ seen-port.Visible n d → OnBlock m p d
-on-block {m} {p} {d} w s n e t = record { wf = w; node = n .0; is = told (seen m p) e t }
+on-block {m} {p} {d} w s n e t = record { wf = w; node = n .0; is = seen-told (seen m p) e t }

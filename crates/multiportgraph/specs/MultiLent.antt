@@ -2,9 +2,9 @@
 -- What is read off them, and what the steps of a call over them presume and tell.
 use mathlib.Core.Path.{_≡_}
 use mathlib.Core.List.{List}
-use mathlib.Core.Bool.{Bool, true, false, cond}
-use Prim.Native.Nat.{ℕ, _+_, _-_, _*_, _≤_}
-use lib.Dec.{eqb, leb, ltb}
+use mathlib.Core.Bool.{Bool, false, cond}
+use Prim.Native.Nat.{ℕ, _+_, _≤_}
+use lib.Dec.{eqb}
 use lib.ListN.{length}
 use Rattle.portgraph.specs.Limits.{nodeSlots, portSlots, nodePorts}
 use Rattle.portgraph.specs.Entries.{portEntry}
@@ -29,14 +29,10 @@ use Rattle.multiportgraph.specs.Inner.{MultiWf}
 use Rattle.multiportgraph.specs.Forms.{flagAt}
 use Rattle.multiportgraph.specs.Reads.{farIn, ownerIn}
 use Rattle.multiportgraph.specs.declared.multiportgraph.MultiPortGraph.{MultiPortGraph}
-use Rattle.multiportgraph.specs.declared.multiportgraph.Refusal.the-variants.{NoRoom}
-use Rattle.multiportgraph.specs.declared.multiportgraph.LinkAnswer.{LinkAnswer}
-use Rattle.multiportgraph.specs.declared.multiportgraph.PortsLinked.{PortsLinked}
 use Rattle.multiportgraph.specs.declared.prepare.Prepared.{Prepared}
 use Rattle.multiportgraph.specs.declared.lent.Held.{Held}
 use Rattle.multiportgraph.specs.declared.lent_prepare.PreparedIn.{PreparedIn}
-use Rattle.multiportgraph.specs.HiddenNodes.{prepare, marksMoved, removeAll}
-use Rattle.multiportgraph.specs.Cases.{linkRefused, linkLive}
+use Rattle.multiportgraph.specs.HiddenNodes.{marksMoved, removeAll}
 
 -- the graph that lent tables and numbers are
 abbrev pub multiIn : List ℕ → List ℕ → List ℕ → List ℕ → List Bool → List Bool → Held → MultiPortGraph
@@ -116,16 +112,3 @@ settled m n k l lower-set-variants.NoRoom = m
 -- a prepared end with its graph
 abbrev pub preparedIn : MultiPortGraph → PreparedIn → Prepared
 preparedIn m r = record { graph = m; port = r .port; offset = r .offset; ready = r .ready }
-
--- room for both ends of a link, whichever they are: two nodes, and two blocks that hold all subports
-unfoldable pub plenty : Held → Bool
-plenty held =
-    cond (leb (held .counts .«node_len») (nodeSlots - 2))
-    (cond (leb (held .counts .«port_len») portSlots)
-    (cond (leb (held .subs) portSlots) (leb (held .counts .«port_len» + 4 * held .subs + 12) portSlots) false) false)
-    false
-
--- a link that was tried: done or refused as it should; or short of room for the second end
-pub record Tried (m : MultiPortGraph) (a : ℕ) (d : Direction) (b : ℕ) (e : Direction) (m′ : MultiPortGraph) (answer : LinkAnswer) (done : Bool) : Type 0 where
-  pub whole : done ≡ true → _≡_ {A = PortsLinked} (record { graph = m′; answer = answer }) (linkLive m a d b e (prepare m a d))
-  pub short : done ≡ false → linkLive m a d b e (prepare m a d) ≡ linkRefused m NoRoom

@@ -240,7 +240,7 @@ module _ {m : MultiPortGraph} (w : MultiWf m) where
     block : BlockPort m (w .model) p n d
     block = block-seen (w .fine) p n d s
 
-    has-link : hasLink (m .graph) p ≡ cond (eqb (at (m .graph .«port_link») p) 0) false true
+    pub has-link : hasLink (m .graph) p ≡ cond (eqb (at (m .graph .«port_link») p) 0) false true
     unfolding hasLink
     has-link =
         ap (λ (e : PortEntry). isLinked (linkOf (m .graph) p e)) (ap (portAt (m .graph)) (sym (block .slot)) ∙ port-of-place (w .fine .good) (w .fine .holds) (block .place) (block .isSeen .0))

@@ -18,14 +18,14 @@ use Rattle.portgraph.specs.declared.node_entry.NodeMeta.{NodeMeta}
 use Rattle.portgraph.specs.declared.portgraph.PortGraph.{PortGraph}
 use Rattle.portgraph.specs.declared.resize.PortsSet.{PortsSet}
 use Rattle.portgraph.specs.declared.resize.SetAnswer.the-variants as lower-set
-use Rattle.portgraph.specs.GoodSlots.{zero-is-not-one}
+use Rattle.portgraph.specs.GoodSlots.{zero-is-not-one, slot-in-block, same-place}
 use Rattle.portgraph.specs.Model as model
-use Rattle.portgraph.specs.Model.{Model, Far, nowhere, to, Slots, live, Valid, slotOf, countOf}
+use Rattle.portgraph.specs.Model.{Model, Far, nowhere, to, Slots, live, Valid, slotOf, countOf, firstOf, sideStart}
 use Rattle.portgraph.specs.declared.direction.Direction.{Direction}
 use Rattle.portgraph.specs.declared.direction.Direction.the-variants.{Incoming, Outgoing}
 use Rattle.multiportgraph.specs.Reading.{isHidden, isSplit, hasLink, portOf, copyNode, subports}
-use Rattle.multiportgraph.specs.Inner.{inner#, Fine, Seen, lift, outer, IsEnd, WireIn}
-use Rattle.multiportgraph.specs.Ends.{Hangs, split-has-copy, port-of, count-of, linked-is, unlinked-is, outer-apart, outer-of-unsplit}
+use Rattle.multiportgraph.specs.Inner.{inner#, copyPlace, Fine, Seen, lift, outer, IsEnd, WireIn}
+use Rattle.multiportgraph.specs.Ends.{Hangs, split-has-copy, one-copy, unsplit-no-copy, lift-place, port-of, count-of, linked-is, unlinked-is, outer-apart, outer-of-unsplit, outer-of-subport, outer-of-block}
 use Rattle.multiportgraph.specs.SplitLaws.{HasEnd, PreparedEnd, AllLinked, NoSpace, no-subport, PreparedSays, end-of-wire, wire-of-end, split-says}
 use Rattle.multiportgraph.specs.RecountLaws.{grow-law}
 use Rattle.multiportgraph.specs.declared.multiportgraph.MultiPortGraph.{MultiPortGraph}
@@ -155,6 +155,7 @@ module _ {m : MultiPortGraph} {M : Model} (f : Fine m M) where
             let l = r .joined in
             zero-is-not-one (cc);
         keeps = λ v t k n. record { end = t; free = k; slot = refl; is = refl };
+        others = λ v t n. refl;
       }
 
   subport-says : (x : model.InnerPlace) → Seen m M x → (h : Hangs m M x) (r : ℕ) →
@@ -211,6 +212,111 @@ module _ {m : MultiPortGraph} {M : Model} (f : Fine m M) where
       (M′ : Model) × PreparedEnd m M x m′ M′ q o
   prepare-law x sx m′ q o e = subst (PreparedSays m M x) e (prepare-says x sx)
 
+-- An end that is prepared is the lowest free one of its port.
+module _ {m : MultiPortGraph} {M : Model} {x : model.InnerPlace} {m′ : MultiPortGraph} {M′ : Model} {q o : ℕ} (p : PreparedEnd m M x m′ M′ q o) (sx : Seen m′ M′ x) where
+  -- it is a subport of x, or x itself
+  its-main : isHidden m′ (p .z .node) ≡ true → (M′ .join (copyPlace m′ (p .z .node)) ≡ to x) × (p .z .pos ≡ o)
+  its-main h =
+      let c = p .fine .copy (p .z .node) h in
+      let e : lift (c .main) (p .z .pos) ≡ lift x o = sym (outer-of-subport (p .fine) (p .z) (c .main) h (c .joined)) ∙ p .is in
+      (c .joined ∙ ap to (lift-place e), ap (λ (w : Place). w .offset) e)
+
+  its-place : isHidden m′ (p .z .node) ≡ false → (p .z ≡ x) × (0 ≡ o)
+  its-place h =
+      let e : lift (p .z) 0 ≡ lift x o = sym (outer-of-block (p .fine) (p .z) h) ∙ p .is in
+      (lift-place e, ap (λ (w : Place). w .offset) e)
+
+  again-plain : isSplit m′ (slotOf (M′ .node) x) ≡ false → (b : Bool) → isHidden m′ (p .z .node) ≡ b →
+      cond (hasLink (m′ .graph) (slotOf (M′ .node) x)) (split m′ (slotOf (M′ .node) x) (x .side)) (ready m′ (slotOf (M′ .node) x) 0) ≡ ready m′ q o
+  again-plain e true h = absurd (unsplit-no-copy (p .fine) x e (p .z .node) h (its-main h .0))
+  again-plain e false h =
+      let z = its-place h in
+      let free : M′ .join x ≡ nowhere = ap (M′ .join) (sym (z .0)) ∙ p .free in
+      let slot : slotOf (M′ .node) x ≡ q = ap (slotOf (M′ .node)) (sym (z .0)) ∙ p .slot in
+      rw (unlinked-is (p .fine) x (sx .0) free) (λ i. ready m′ (slot i) (z .1 i))
+
+  module _ (h : Hangs m′ M′ x) (split? : isSplit m′ (slotOf (M′ .node) x) ≡ true) where
+    abbrev there : model.InnerPlace
+    there = inner# (h .copy) (x .side) o
+
+    its-subport : (b : Bool) → isHidden m′ (p .z .node) ≡ b → p .z ≡ there
+    its-subport true e =
+        let z = its-main e in
+        same-place (p .z) there (one-copy (p .fine) (p .z .node) (h .copy) x (z .0) (h .from)) (p .side) (z .1)
+    its-subport false e =
+        let z = its-place e in
+        let plain = p .end .unsplit e in
+        let same : isSplit m′ (slotOf (M′ .node) (p .z)) ≡ true = ap (λ (w : model.InnerPlace). isSplit m′ (slotOf (M′ .node) w)) (z .0) ∙ split? in
+        absurd (zero-is-not-one (cc))
+
+    is-there : p .z ≡ there
+    is-there = its-subport (isHidden m′ (p .z .node)) refl
+
+    below : o < countOf (M′ .node (h .copy)) (x .side)
+    below = subst (λ (w : model.InnerPlace). w .pos < countOf (M′ .node (w .node)) (w .side)) is-there (p .end .valid)
+
+    free-there : M′ .join there ≡ nowhere
+    free-there = ap (M′ .join) (sym is-there) ∙ p .free
+
+    -- every lower offset is wired
+    wired-below : (i : ℕ) → i < o → M′ .join (inner# (h .copy) (x .side) i) ≡ nowhere → ⊥
+    wired-below i l free =
+        let w = p .lower i l in
+        let r = end-of-wire (p .fine) (w .0) (lift x i) (p .wires .kept (w .0) (w .1) refl) (w .2) in
+        let s : r .near ≡ inner# (h .copy) (x .side) i = outer-apart (p .fine) (r .near) (inner# (h .copy) (x .side) i) (r .end) (h .ends i (omega (arith, below))) (r .is ∙ sym (h .outers i)) in
+        let a : M′ .join (r .near) ≡ nowhere = ap (M′ .join) s ∙ free in
+        let b = r .joined in
+        zero-is-not-one (cc)
+
+    lowest-is : (r : ℕ) → Lowest M′ (h .copy) (x .side) 0 (countOf (M′ .node (h .copy)) (x .side)) r → r ≡ o
+    lowest-is r k = go (ltb r o) refl (ltb o r) refl
+      where
+        go : (a : Bool) → ltb r o ≡ a → (b : Bool) → ltb o r ≡ b → r ≡ o
+        go true e b g = absurd (let l = ltb-true r o e in wired-below r l (k .free (omega (arith, below))))
+        go false e true g =
+            absurd
+            (let l = ltb-true o r g in
+            let y = k .linked o (omega arith) l in
+            let a = y .1 in
+            let b = free-there in
+            zero-is-not-one (cc))
+        go false e false g = let a = ltb-false r o e in let b = ltb-false o r g in omega arith
+
+    again-split : (r : ℕ) → r ≡ o → reuse m′ (h .copy) (x .side) r ≡ ready m′ q o
+    unfolding reuseUnder
+    again-split r e =
+        let n = count-of (p .fine) (h .copy) (x .side) in
+        let port : portOf (m′ .graph) (h .copy) (x .side) o ≡ q = port-of (p .fine) (h .copy) (x .side) o below ∙ (ap (slotOf (M′ .node)) (sym is-there) ∙ p .slot) in
+        rw (e, n, lt-ltb o (countOf (M′ .node (h .copy)) (x .side)) below, port)
+
+  found-again : prepare m′ (slotOf (M′ .node) x) (x .side) ≡ ready m′ q o
+  unfolding prepareUnder
+  found-again = go (isSplit m′ (slotOf (M′ .node) x)) refl
+    where
+      go : (b : Bool) → isSplit m′ (slotOf (M′ .node) x) ≡ b →
+          cond (isSplit m′ (slotOf (M′ .node) x))
+          (reuse m′ (copyNode m′ (slotOf (M′ .node) x)) (x .side) (lowestFree (m′ .graph) (copyNode m′ (slotOf (M′ .node) x)) (x .side) 0 (subports m′ (slotOf (M′ .node) x) (x .side))))
+          (cond (hasLink (m′ .graph) (slotOf (M′ .node) x)) (split m′ (slotOf (M′ .node) x) (x .side)) (ready m′ (slotOf (M′ .node) x) 0))
+          ≡ ready m′ q o
+      go true e =
+          let h = split-has-copy (p .fine) x sx e in
+          rw (e, h .copyIs, h .count)
+          (again-split h e _ (lowest-is h e _ (lowest-free (p .fine) (h .copy) (x .side) 0 (countOf (M′ .node (h .copy)) (x .side)) (omega arith))))
+      go false e = rw e (again-plain e (isHidden m′ (p .z .node)) refl)
+
+module _ {m : MultiPortGraph} {M : Model} (f : Fine m M) where
+  -- an end that is prepared is found again, and nothing changes
+  pub prepare-again : (x : model.InnerPlace) → Seen m M x → (m′ : MultiPortGraph) (q o : ℕ) → prepare m (slotOf (M .node) x) (x .side) ≡ ready m′ q o →
+      prepare m′ (slotOf (M .node) x) (x .side) ≡ ready m′ q o
+  prepare-again x sx m′ q o e =
+      let r = prepare-law f x sx m′ q o e in
+      let k = slot-in-block (f .good) x (sx .0) in
+      let b = r .1 .blocks .0 (x .node) (k .0) (sx .1, k .1) in
+      let same : r .0 .node (x .node) ≡ M .node (x .node) = b .1 ∙ sym (k .1) in
+      let sx′ : Seen m′ (r .0) x = (subst (λ (s : Slots). x .pos < countOf s (x .side)) (sym same) (sx .0), b .0) in
+      let slot : slotOf (r .0 .node) x ≡ slotOf (M .node) x = ap (λ (s : Slots). firstOf s + (sideStart s (x .side) + x .pos)) same in
+      ap (λ (p : ℕ). prepare m′ p (x .side)) (sym slot) ∙ found-again (r .1) sx′
+
   -- none is prepared only where a table would pass its limit
   pub prepare-full : (x : model.InnerPlace) → Seen m M x → prepare m (slotOf (M .node) x) (x .side) ≡ full → NoSpace m M x
-  prepare-full x sx e = subst (PreparedSays m M x) e (prepare-says x sx)
+  prepare-full x sx e = subst (PreparedSays m M x) e (prepare-says f x sx)

@@ -3,8 +3,12 @@ use mathlib.Core.Path.{_≡_}
 use mathlib.Core.Bool.{true, false}
 use Prim.Native.Nat.{ℕ}
 use Rattle.portgraph.specs.Tables.{at}
+use Rattle.portgraph.specs.Lookups.{metaAt}
 use Rattle.portgraph.specs.declared.direction.Direction.{Direction}
-use Rattle.multiportgraph.specs.Reading.{visible, seen, isSplit}
+use Rattle.portgraph.specs.declared.node_entry.NodeMeta.{NodeMeta}
+use Rattle.portgraph.specs.declared.node_entry.MaybeNodeMeta.the-variants as maybe-meta
+use Rattle.multiportgraph.specs.Reading.{visible, seen, isSplit, copyNode}
+use Rattle.multiportgraph.specs.HiddenNodes.{ready, prepare}
 use Rattle.multiportgraph.specs.Inner.{MultiWf}
 use Rattle.multiportgraph.specs.declared.multiportgraph.MultiPortGraph.{MultiPortGraph}
 
@@ -28,3 +32,14 @@ pub record SplitPort (m : MultiPortGraph) (p : ℕ) (d : Direction) : Type 0 whe
 pub record BothOnBlock (m : MultiPortGraph) (a : ℕ) (d : Direction) (b : ℕ) (e : Direction) : Type 0 where
   pub first : OnBlock m a d
   pub second : OnBlock m b e
+
+-- one that is split, with its hidden node
+pub record GrowPort (m : MultiPortGraph) (p : ℕ) (d : Direction) (c : ℕ) (k : NodeMeta) : Type 0 where
+  pub port : SplitPort m p d
+  pub copy : copyNode m p ≡ c
+  pub meta : metaAt (m .graph) c ≡ maybe-meta.Some k
+
+-- two ports of blocks, the first of which has its end ready
+pub record FirstReady (m : MultiPortGraph) (a : ℕ) (d : Direction) (x o b : ℕ) (e : Direction) : Type 0 where
+  pub both : BothOnBlock m a d b e
+  pub is : prepare m a d ≡ ready m x o

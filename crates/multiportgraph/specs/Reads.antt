@@ -114,6 +114,11 @@ abbrev pub subportsAt : Direction → ℕ
 subportsAt Incoming = 0
 subportsAt Outgoing = 1
 
+-- the slot of the subport that follows n others, by the slot q of the copy port
+abbrev pub lastBeside : Direction → ℕ → ℕ → ℕ
+lastBeside Incoming q n = q - 1
+lastBeside Outgoing q n = q + 1 + n
+
 -- the counts of a hidden node with n subports on a side, with one more
 abbrev pub grownIn : Direction → ℕ → ℕ
 grownIn Incoming n = n + 1

@@ -35,7 +35,9 @@ use Rattle.portgraph.specs.declared.resize.PortsSet.{PortsSet}
 use Rattle.multiportgraph.specs.Reading.{isHidden, isSplit, copySide, portNumber, portOf}
 use Rattle.multiportgraph.specs.MarkLaws.{length-layMarks, lay-kept-in, lay-kept-out, lay-new, lay-old, lay-else}
 use Rattle.multiportgraph.specs.MarkMoves.{within-cases}
-use Rattle.multiportgraph.specs.Inner.{inner#, copyPlace, Fine, Marked, copy-port, main-port, lift, outer, IsEnd, WireIn, SameBlocks, none, SameWires, subportsOfSlot}
+use Rattle.multiportgraph.specs.Inner.{inner#, copyPlace, Fine, Marked, copy-port, main-port, lift, outer, IsEnd, WireIn, Seen, SameBlocks, none, SameWires, subportsOfSlot}
+use Rattle.multiportgraph.specs.Needs.{needOf}
+use Rattle.multiportgraph.specs.NeedStays.{alike-same, need-alike}
 use Rattle.multiportgraph.specs.Ends.{Hangs, other-side, count-of, copy-valid, end-side, ends-join-ends, outer-apart}
 use Rattle.multiportgraph.specs.Frame.{copy-side-is, true-not-false}
 use Rattle.multiportgraph.specs.SplitLaws.{HasEnd, KeptEnd, PreparedEnd}
@@ -738,6 +740,18 @@ module _ {m : MultiPortGraph} {M : Model} (f : Fine m M) (x : model.InnerPlace) 
           let t = end-side f v e (ap (isHidden m) q ∙ h .isCopy) in
           s (t ∙ ap (λ (c : ℕ). reversed (copySide m c)) q ∙ sym (h .side))
 
+  others-need : (v : model.InnerPlace) → Seen m M v → (v ≡ x → ⊥) → needOf (grown m (h .copy) g′) (slotOf (M .node) v) (v .side) ≡ needOf m (slotOf (M .node) v) (v .side)
+  others-need v sv apart =
+      let here = no-block-here (v .node) (sv .1) in
+      need-alike f grown-fine v sv (r .others (v .node) here) (ap (isSplit (grown m (h .copy) g′)) (sym (other-slot f r v here)) ∙ split-same v (sv .0)) (alike-same (M′ .join v) (M .join v) (joins-same v))
+      (λ k.
+      record {
+        hid = hidden-same (k .copy) ∙ k .isCopy;
+        from = ap (M′ .join) (copy-place-same f ends-same (k .copy) (k .isCopy)) ∙ (joins-same _ ∙ k .from);
+        node = r .others (k .copy) (λ q. apart (let a = ap (λ (c : ℕ). M .join (copyPlace m c)) q in let b = k .from in let d = h .from in cc));
+        links = λ i l. alike-same _ _ (joins-same (inner# (k .copy) (v .side) i));
+      })
+
   -- the new subport is prepared, where all others are linked
   grown-prepared : ((j : ℕ) → j < portsOn a (x .side) → (y : model.InnerPlace) × (M .join (inner# (h .copy) (x .side) j) ≡ to y))
       → PreparedEnd m M x (grown m (h .copy) g′) M′ (portOf g′ (h .copy) (x .side) (portsOn a (x .side))) (portsOn a (x .side))
@@ -755,6 +769,7 @@ module _ {m : MultiPortGraph} {M : Model} (f : Fine m M) (x : model.InnerPlace) 
         lower = λ j l. let y = linked j l in linked-wire j (y .0) (y .1);
         none = no-wire;
         keeps = grown-keeps;
+        others = others-need;
       }
 
 -- The call.

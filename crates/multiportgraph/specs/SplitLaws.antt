@@ -36,6 +36,8 @@ use Rattle.portgraph.specs.Model.{Model, Far, nowhere, to, gone, live, Good, Ho
 use Rattle.portgraph.specs.declared.direction.Direction.{Direction}
 use Rattle.portgraph.specs.declared.direction.Direction.the-variants.{Incoming, Outgoing}
 use Rattle.multiportgraph.specs.Reading.{isHidden, isSplit, copySide, portOf, portNumber, farPort, linkNumber}
+use Rattle.multiportgraph.specs.Needs.{needOf}
+use Rattle.multiportgraph.specs.NeedStays.{Alike, alike-same, alike-linked, need-alike}
 use Rattle.multiportgraph.specs.Reads.{farIn, hangOn, copyAt, subportsAt}
 use Rattle.multiportgraph.specs.Inner.{inner#, copyPlace, Copy, Marked, copy-port, main-port, Fine, Seen, lift, liftFar, outer, IsEnd, WireIn, SameBlocks, none, SameWires, subportsOfSlot}
 use Rattle.multiportgraph.specs.Ends.{ends-join-ends, unsplit-no-copy, outer-of-subport, outer-of-block}
@@ -71,6 +73,8 @@ pub record PreparedEnd (m : MultiPortGraph) (M : Model) (x : model.InnerPlace) (
   pub none : (w : Wire) → WireIn m M w → HasEnd w (lift x o) → ⊥
   -- free ends on the other side stay as they are
   pub keeps : (v : model.InnerPlace) → IsEnd m M v → M .join v ≡ nowhere → (v .side ≡ x .side → ⊥) → KeptEnd m M m′ M′ v
+  -- every other port needs what it needed
+  pub others : (v : model.InnerPlace) → Seen m M v → (v ≡ x → ⊥) → needOf m′ (slotOf (M .node) v) (v .side) ≡ needOf m (slotOf (M .node) v) (v .side)
 
 nat-cases : (a b : ℕ) → (a ≡ b) ⊎ (a ≡ b → ⊥)
 nat-cases a b = go (eqb a b) refl
@@ -591,6 +595,28 @@ module _ {m : MultiPortGraph} {M : Model} {x y : model.InnerPlace} {m′ : Multi
           unsplit-no-copy f x plain (z .node) h (r .joined ∙ ap to (a .0))
       go false h = zero-is-not-one (lift-same z x 0 1 (sym (outer-of-block f z h) ∙ q) .1)
 
+  -- other ports, and the subports of other hidden nodes, are linked where they were
+  linked-still : (v : model.InnerPlace) → Valid (M .node) v → (v ≡ x → ⊥) → Alike (M′ .join v) (M .join v)
+  linked-still v e other =
+      ⊎-elim
+      (λ q. alike-linked (M′ .join v) (M .join v) (sub# 0) x (ap (M′ .join) q ∙ s .atFar) (ap (M .join) q ∙ f .good .joinBack x y linked))
+      (λ apart. alike-same (M′ .join v) (M .join v) (s .elsewhere v other apart (not-new v e)))
+      (place-cases v y)
+
+  others-need : (v : model.InnerPlace) → Seen m M v → (v ≡ x → ⊥) → needOf m′ (slotOf (M .node) v) (v .side) ≡ needOf m (slotOf (M .node) v) (v .side)
+  others-need v sv other =
+      let new = not-new v (sv .0) in
+      need-alike f split-fine v sv (s .node (v .node) new) (ap (isSplit m′) (sym (slot-same v new)) ∙ split-kept v (sv .0) other) (linked-still v (sv .0) other)
+      (λ h.
+      record {
+        hid = s .hiddenElse (h .copy) (hidden-not-new (h .copy) (h .isCopy)) ∙ h .isCopy;
+        from = copy-joined (h .copy) (h .isCopy) ∙ h .from;
+        node = s .node (h .copy) (hidden-not-new (h .copy) (h .isCopy));
+        links = λ i l.
+            linked-still (inner# (h .copy) (v .side) i) l
+            (λ q. zero-is-not-one (let a = ap (λ (w : model.InnerPlace). isHidden m (w .node)) q in let b = sx .1 in let k = h .isCopy in cc));
+      })
+
   split-prepared : PreparedEnd m M x m′ M′ (slotOf (M′ .node) (sub# 1)) 1
   split-prepared =
       record {
@@ -618,6 +644,7 @@ module _ {m : MultiPortGraph} {M : Model} {x y : model.InnerPlace} {m′ : Multi
               slot = slot-same v new;
               is = outer-kept v new;
             };
+        others = others-need;
       }
 
 -- What a split does to the tables of a graph in which node c was added, with its block from first on.

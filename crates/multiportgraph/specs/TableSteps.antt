@@ -30,7 +30,7 @@ use Rattle.multiportgraph.specs.FormSteps.{put-flag-is}
 use Rattle.multiportgraph.specs.CopySteps.{two-puts}
 use Rattle.multiportgraph.specs.SplitLaws.{SplitTables, split-tables}
 use Rattle.multiportgraph.specs.RecountLaws.{growth#}
-use Rattle.multiportgraph.specs.Reads.{farIn, ownerIn, subportsIn, firstIn, hangOn, copyAt, subportsAt, grownIn, grownOut}
+use Rattle.multiportgraph.specs.Reads.{farIn, ownerIn, subportsIn, hangOn, copyAt, subportsAt, grownIn, grownOut}
 use Rattle.multiportgraph.specs.ReadLaws.{owner-read, subports-read}
 use Rattle.multiportgraph.specs.GrowLaws.{GrowTables, grow-tables, grown-counts}
 use Rattle.multiportgraph.specs.declared.multiportgraph.MultiPortGraph.{MultiPortGraph}
@@ -106,23 +106,34 @@ module _ {m : MultiPortGraph} {p : ℕ} {d : Direction} (b : LinkedPort m p d) {
       ∙ ((λ j. preparedAs m (splitBy m p d (r .graph) (sym a j))) ∙ (λ j. preparedAs m (splitBy m p d (added-is j .graph) (added-is j .answer))))
 
 -- One more subport.
-module _ {m : MultiPortGraph} {p : ℕ} {d : Direction} (b : SplitPort m p d) {copy node count w : ℕ}
-    (e₁ : w ≡ p) (e₂ : copy ≡ farIn (m .graph .«port_link») w) (e₃ : node ≡ ownerIn (m .graph .«port_meta») copy) (e₄ : count ≡ subportsIn (m .graph .«port_link») (m .graph .«port_meta») p d) where
-  copy-is : copy ≡ farIn (m .graph .«port_link») p
-  copy-is = e₂ ∙ ap (farIn (m .graph .«port_link»)) e₁
 
-  node-is : node ≡ copyNode m p
-  node-is = e₃ ∙ (ap (ownerIn (m .graph .«port_meta»)) copy-is ∙ owner-read (b .block .wf .fine) p (b .block .node) d (b .block .is) (b .split))
+-- a split port, its copy port, its hidden node and how many subports it has
+pub record Growing (m : MultiPortGraph) (p : ℕ) (d : Direction) (copy node count : ℕ) : Type 0 where
+  pub port : SplitPort m p d
+  pub copyIs : copy ≡ farIn (m .graph .«port_link») p
+  pub nodeIs : node ≡ copyNode m p
+  pub countIs : count ≡ numPorts (m .graph) (copyNode m p) d
 
-  count-is : count ≡ numPorts (m .graph) (copyNode m p) d
-  unfolding subports
-  count-is = e₄ ∙ subports-read (b .block .wf .fine) p (b .block .node) d (b .block .is) (b .split)
+-- as they are read off links and owners
+pub growing-read : {m : MultiPortGraph} {p : ℕ} {d : Direction} (b : SplitPort m p d) {copy node count w : ℕ} →
+    w ≡ p → copy ≡ farIn (m .graph .«port_link») w → node ≡ ownerIn (m .graph .«port_meta») copy → count ≡ subportsIn (m .graph .«port_link») (m .graph .«port_meta») p d →
+    Growing m p d copy node count
+unfolding subports
+growing-read {m} {p} {d} b e₁ e₂ e₃ e₄ =
+    let far = e₂ ∙ ap (farIn (m .graph .«port_link»)) e₁ in
+    record {
+      port = b;
+      copyIs = far;
+      nodeIs = e₃ ∙ (ap (ownerIn (m .graph .«port_meta»)) far ∙ owner-read (b .block .wf .fine) p (b .block .node) d (b .block .is) (b .split));
+      countIs = e₄ ∙ subports-read (b .block .wf .fine) p (b .block .node) d (b .block .is) (b .split);
+    }
 
+module _ {m : MultiPortGraph} {p : ℕ} {d : Direction} {copy node count : ℕ} (s : Growing m p d copy node count) where
   module _ {i o len : ℕ} {r : PortsSet} (f₁ : i ≡ grownIn d count) (f₂ : o ≡ grownOut d count) (f₃ : len ≡ enough) (f₄ : r ≡ setNumPorts (m .graph) node i o len) where
     set-is : r ≡ growth# m (copyNode m p) d
     set-is =
-        let g = grown-counts b count count-is in
-        f₄ ∙ (λ j. setNumPorts (m .graph) (node-is j) ((f₁ ∙ g .0) j) ((f₂ ∙ g .1) j) (f₃ j))
+        let g = grown-counts (s .port) count (s .countIs) in
+        f₄ ∙ (λ j. setNumPorts (m .graph) (s .nodeIs j) ((f₁ ∙ g .0) j) ((f₂ ∙ g .1) j) (f₃ j))
 
     pub grow-full : (tag : SetAnswer → ℕ) → ((e : ℕ) → tag (lower-set.Set e) ≡ 0) → (tag (r .answer) ≡ 1) ⊎ ((tag (r .answer) ≡ 2) ⊎ ((tag (r .answer) ≡ 3) ⊎ (tag (r .answer) ≡ 4))) →
         _≡_ {A = Prepared} (record { graph = m; port = 0; offset = 0; ready = false }) (preparedAs m (grow m (copyNode m p) d))
@@ -143,34 +154,33 @@ module _ {m : MultiPortGraph} {p : ℕ} {d : Direction} (b : SplitPort m p d) {c
     module _ {e : ℕ} (a : r .answer ≡ lower-set.Set e) where
       pub grow-told : GrowTables m p d (copyNode m p) count (r .graph)
       grow-told =
-          transport (λ j. GrowTables m p d (copyNode m p) (sym count-is j) (sym set-is j .graph))
-          (grow-tables b e (ap (λ (u : PortsSet). u .answer) (sym set-is) ∙ a))
+          transport (λ j. GrowTables m p d (copyNode m p) (sym (s .countIs) j) (sym set-is j .graph))
+          (grow-tables (s .port) e (ap (λ (u : PortsSet). u .answer) (sym set-is) ∙ a))
 
-      pub grow-done : {far first w₁ w₂ w₃ : ℕ} {t₁ t₂ : List Bool} →
+      pub grow-done : {far q w₁ w₂ w₃ : ℕ} {t₁ t₂ : List Bool} →
           w₁ ≡ p →
           far ≡ farIn (r .graph .«port_link») w₁ →
           w₂ ≡ copy →
           t₁ ≡ putFlag (m .multiport) portSlots w₂ false →
           w₃ ≡ far →
           t₂ ≡ putFlag t₁ portSlots w₃ true →
-          first ≡ firstIn (r .graph .«port_link») (r .graph .«port_meta») p d →
+          q ≡ portOf (r .graph) (copyNode m p) d count →
           _≡_ {A = Prepared} (record {
             graph = multi (r .graph) t₂ (m .«copy_node») (m .«copy_node_count») (m .«subport_count» + 1);
-            port = first + count;
+            port = q;
             offset = count;
             ready = true;
           }) (preparedAs m (grow m (copyNode m p) d))
       unfolding growUnder recounted
-      grow-done {far} {first} {w₁} {w₂} {w₃} {t₁} {t₂} k₁ k₂ k₃ k₄ k₅ k₆ k₇ =
+      grow-done {far} {q} {w₁} {w₂} {w₃} {t₁} {t₂} k₁ k₂ k₃ k₄ k₅ k₆ k₇ =
           let g = grow-told in
           let far-is : far ≡ farIn (r .graph .«port_link») p = k₂ ∙ ap (farIn (r .graph .«port_link»)) k₁ in
-          let marks-is : t₂ ≡ recounted m (copyNode m p) (r .graph) .multiport = rw (k₆, k₄, k₅, k₃, far-is, copy-is) (two-puts (m .multiport) portSlots _ _ false true (b .block .wf .fine .marksLong) ∙ sym (g .marks)) in
-          let port-is : first + count ≡ portOf (r .graph) (copyNode m p) d count = rw k₇ (sym (g .port)) in
+          let marks-is : t₂ ≡ recounted m (copyNode m p) (r .graph) .multiport = rw (k₆, k₄, k₅, k₃, far-is, s .copyIs) (two-puts (m .multiport) portSlots _ _ false true (s .port .block .wf .fine .marksLong) ∙ sym (g .marks)) in
           (λ j. record {
             graph = multi (r .graph) (marks-is j) (m .«copy_node») (m .«copy_node_count») (m .«subport_count» + 1);
-            port = port-is j;
+            port = k₇ j;
             offset = count;
             ready = true;
           })
-          ∙ ((λ j. record { graph = more (recounted m (copyNode m p) (r .graph)); port = portOf (r .graph) (copyNode m p) d (count-is j); offset = count-is j; ready = true })
+          ∙ ((λ j. record { graph = more (recounted m (copyNode m p) (r .graph)); port = portOf (r .graph) (copyNode m p) d (s .countIs j); offset = s .countIs j; ready = true })
           ∙ ((λ j. preparedAs m (grownBy m (copyNode m p) d (r .graph) (sym a j))) ∙ (λ j. preparedAs m (grownBy m (copyNode m p) d (set-is j .graph) (set-is j .answer)))))

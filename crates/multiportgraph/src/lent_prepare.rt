@@ -2,10 +2,9 @@
 use crate::lent::Held;
 use crate::lent::with_counts;
 use crate::lent::with_links;
+use crate::lent_needs::Need;
 use crate::marks::put_flag;
 use crate::marks::put_mark;
-use crate::named::EndNeed;
-use crate::named::need_in;
 use crate::prepare::copy_at;
 use crate::prepare::copy_in;
 use crate::prepare::copy_out;
@@ -14,29 +13,28 @@ use crate::prepare::grown_out;
 use crate::prepare::hang;
 use crate::prepare::subports_at;
 use crate::reads::far_in;
-use crate::reads::first_in;
-use crate::reads::owner_in;
-use crate::reads::subports_in;
 use portgraph::direction::Direction;
 use portgraph::index::FREE_LISTS;
 use portgraph::index::NODE_SLOTS;
 use portgraph::index::NodeIndex;
 use portgraph::index::PORT_SLOTS;
-use portgraph::index::PortIndex;
 use portgraph::lent::NODE_WORDS;
-use portgraph::lent_resize::set_num_ports_in;
+use portgraph::lent_resize::set_num_ports_quiet_in;
 use portgraph::lent_slots::add_node_in;
+use portgraph::node_entry::NodeMeta;
 use portgraph::numbers::wide;
 use portgraph::resize::SetAnswer as LowerSet;
 use portgraph::slots::AddAnswer as LowerAdd;
 use portgraph::tables::without_link;
 ghost use mathlib.Core.Path.{_≡_};
-ghost use lib.ListN.{length};
-ghost use Rattle.multiportgraph.specs.Reading.{copyNode};
+ghost use Prim.Native.Nat.{_≤_};
+ghost use Rattle.portgraph.specs.Limits.{portSlots};
 ghost use Rattle.multiportgraph.specs.Forms.{preparedAs};
+ghost use Rattle.multiportgraph.specs.Reads.{lastBeside};
+ghost use Rattle.multiportgraph.specs.Needs.{needOf};
 ghost use Rattle.multiportgraph.specs.MultiLent.{multiIn, preparedIn};
-ghost use Rattle.multiportgraph.specs.HiddenNodes.{split, grow, prepare, enough};
-ghost use Rattle.multiportgraph.specs.Presumed.{OnBlock, LinkedPort, SplitPort};
+ghost use Rattle.multiportgraph.specs.HiddenNodes.{split, grow, prepare};
+ghost use Rattle.multiportgraph.specs.Presumed.{OnBlock, LinkedPort, GrowPort};
 
 // A prepared end: the numbers, the inner port and its offset; or, where there is no room, the graph as it was.
 pub(crate) struct PreparedIn {
@@ -100,7 +98,23 @@ fn split_in(
     }
 }
 
-// One more subport at the end of a split port's hidden node. The copy port's mark moves with it.
+// The slot of the subport that follows `count` others, by that of the copy port.
+fn last_beside(direction: Direction, copy: u32, count: usize) -> u32
+    requires { ⌜ (copy ≤ portSlots) × (count ≤ portSlots) ⌝ }
+    ensures { λ r. ⌜ r ≡ lastBeside direction copy count ⌝ }
+{
+    match direction {
+        Direction::Incoming => {
+            if copy == 0 {
+                return 0;
+            }
+            copy - 1
+        }
+        Direction::Outgoing => copy + 1 + count as u32,
+    }
+}
+
+// One more subport at the end of a split port's hidden node, which has these meta data. The copy port's mark moves with it.
 fn grow_in(
     nodes: &mut [u32; NODE_WORDS],
     links: &mut [u32; PORT_SLOTS],
@@ -111,25 +125,24 @@ fn grow_in(
     held: Held,
     port: u32,
     direction: Direction,
-    moves: &mut [u32],
+    node: NodeIndex,
+    meta: NodeMeta,
 ) -> PreparedIn
-    requires { ⌜ SplitPort (multiIn (now nodes) (now links) (now owners) (now heads) (now marks) (now flags) held) port direction × (length (now moves) ≡ enough) ⌝ }
-    ensures { λ r. ⌜ preparedIn (multiIn (now (nodes .exit)) (now (links .exit)) (now (owners .exit)) (now (heads .exit)) (now (marks .exit)) (now (flags .exit)) (r .held)) r ≡ preparedAs (multiIn (now (nodes .entry)) (now (links .entry)) (now (owners .entry)) (now (heads .entry)) (now (marks .entry)) (now (flags .entry)) held) (grow (multiIn (now (nodes .entry)) (now (links .entry)) (now (owners .entry)) (now (heads .entry)) (now (marks .entry)) (now (flags .entry)) held) (copyNode (multiIn (now (nodes .entry)) (now (links .entry)) (now (owners .entry)) (now (heads .entry)) (now (marks .entry)) (now (flags .entry)) held) port) direction) ⌝ }
+    requires { ⌜ GrowPort (multiIn (now nodes) (now links) (now owners) (now heads) (now marks) (now flags) held) port direction (node .0) meta ⌝ }
+    ensures { λ r. ⌜ preparedIn (multiIn (now (nodes .exit)) (now (links .exit)) (now (owners .exit)) (now (heads .exit)) (now (marks .exit)) (now (flags .exit)) (r .held)) r ≡ preparedAs (multiIn (now (nodes .entry)) (now (links .entry)) (now (owners .entry)) (now (heads .entry)) (now (marks .entry)) (now (flags .entry)) held) (grow (multiIn (now (nodes .entry)) (now (links .entry)) (now (owners .entry)) (now (heads .entry)) (now (marks .entry)) (now (flags .entry)) held) (node .0) direction) ⌝ }
 {
     let copy = far_in(links, wide(port));
-    let node = owner_in(owners, copy);
-    let count = subports_in(links, owners, port, direction);
+    let count = meta.num_ports(direction);
     let counts = held.counts;
-    let sized = set_num_ports_in(
+    let sized = set_num_ports_quiet_in(
         nodes,
         links,
         owners,
         heads,
         counts,
-        NodeIndex(node),
+        node,
         grown_in(direction, count),
         grown_out(direction, count),
-        moves,
     );
     let after = sized.counts;
     let answer = sized.answer;
@@ -144,20 +157,19 @@ fn grow_in(
     let moved = far_in(links, wide(port));
     put_mark(marks, wide(copy), false);
     put_mark(marks, wide(moved), true);
-    let first = first_in(links, owners, port, direction);
     PreparedIn {
         held: Held {
             counts: after,
             copies: held.copies,
             subs: held.subs + 1,
         },
-        port: (first + count) as u32,
+        port: last_beside(direction, moved, count),
         offset: count as u16,
         ready: true,
     }
 }
 
-// The end that a link of this port takes.
+// The end that a link of this port takes, which needs this.
 pub(crate) fn prepare_in(
     nodes: &mut [u32; NODE_WORDS],
     links: &mut [u32; PORT_SLOTS],
@@ -168,19 +180,19 @@ pub(crate) fn prepare_in(
     held: Held,
     port: u32,
     direction: Direction,
-    moves: &mut [u32],
+    need: Need,
 ) -> PreparedIn
-    requires { ⌜ OnBlock (multiIn (now nodes) (now links) (now owners) (now heads) (now marks) (now flags) held) port direction × (length (now moves) ≡ enough) ⌝ }
+    requires { ⌜ OnBlock (multiIn (now nodes) (now links) (now owners) (now heads) (now marks) (now flags) held) port direction × (need ≡ needOf (multiIn (now nodes) (now links) (now owners) (now heads) (now marks) (now flags) held) port direction) ⌝ }
     ensures { λ r. ⌜ preparedIn (multiIn (now (nodes .exit)) (now (links .exit)) (now (owners .exit)) (now (heads .exit)) (now (marks .exit)) (now (flags .exit)) (r .held)) r ≡ preparedAs (multiIn (now (nodes .entry)) (now (links .entry)) (now (owners .entry)) (now (heads .entry)) (now (marks .entry)) (now (flags .entry)) held) (prepare (multiIn (now (nodes .entry)) (now (links .entry)) (now (owners .entry)) (now (heads .entry)) (now (marks .entry)) (now (flags .entry)) held) port direction) ⌝ }
 {
-    match need_in(marks, links, owners, port, direction) {
-        EndNeed::Ready(x, o) => PreparedIn {
+    match need {
+        Need::Ready(x, o) => PreparedIn {
             held: held,
             port: x,
             offset: o,
             ready: true,
         },
-        EndNeed::Grow => grow_in(
+        Need::Grow(node, meta) => grow_in(
             nodes,
             links,
             owners,
@@ -190,9 +202,10 @@ pub(crate) fn prepare_in(
             held,
             port,
             direction,
-            moves,
+            node,
+            meta,
         ),
-        EndNeed::Split => split_in(
+        Need::Split => split_in(
             nodes,
             links,
             owners,

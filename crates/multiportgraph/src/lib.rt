@@ -9,6 +9,7 @@ pub mod lent_blocks;
 pub mod lent_copies;
 pub mod lent_graph;
 pub mod lent_links;
+pub mod lent_needs;
 pub mod lent_prepare;
 pub mod link_walks;
 pub mod links;

@@ -192,7 +192,7 @@ pub(crate) fn read_in(marks: &[bool; PORT_SLOTS], subport: SubportIndex) -> Subp
 }
 
 // Whether a range of slots lies within the table.
-fn row_fits(first: usize, count: usize) -> bool
+pub(crate) fn row_fits(first: usize, count: usize) -> bool
     ensures { λ r. ⌜ r ≡ leb (first + count) portSlots ⌝ }
 {
     if first <= PORT_SLOTS {

@@ -15,7 +15,6 @@ use portgraph::index::PORT_SLOTS;
 use portgraph::numbers::wide;
 use portgraph::resize::SetAnswer as LowerSet;
 use portgraph::slots::AddAnswer as LowerAdd;
-use portgraph::tables::at;
 use portgraph::tables::cut;
 use portgraph::tables::link_both;
 use portgraph::tables::without_link;

@@ -250,7 +250,7 @@ pub(crate) fn lowest_unlinked(links: &[u32; PORT_SLOTS], first: usize, count: us
 {
     let mut o: usize = 0;
     while o < count {
-        if at(links, first + o) == 0 {
+        if links[first + o] == 0 {
             return o;
         }
         o += 1;

@@ -55,8 +55,8 @@ pub struct PortsSet {
 }
 
 // A total rounded up to a power of two; 1 for a total of 0.
-pub(crate) fn round_up(total: usize) -> usize
-    requires { ⌜ total ≤ nodePorts ⌝ }
+pub fn round_up(total: usize) -> usize
+    requires { ⌜ total ≤ portSlots ⌝ }
     ensures { λ r. ⌜ r ≡ roundUp total ⌝ }
 {
     let mut power: usize = 1;

@@ -20,7 +20,7 @@ use crate::tables::head_at;
 use crate::tables::own_block;
 use crate::tables::put_head;
 ghost use mathlib.Core.Path.{_≡_};
-ghost use Prim.Native.Nat.{_+_, _≤_, _<_};
+ghost use Prim.Native.Nat.{_+_, _*_, _≤_, _<_};
 ghost use Rattle.portgraph.specs.Limits.{nodeSlots, portSlots};
 ghost use Rattle.portgraph.specs.Model.{Wf};
 ghost use Rattle.portgraph.specs.Calls.{findSlot, findBlock, restOf, grown, slotAfter, addNode, addNumbers, removeNode, removeNumbers};
@@ -95,8 +95,8 @@ pub(crate) fn rest_of(head: u32, next: u32) -> u32
 }
 
 // A table's used length, where something of this size is taken: from the list, else at the end.
-pub(crate) fn grown(head: u32, len: usize, size: usize) -> usize
-    requires { ⌜ (len ≤ portSlots) × (size ≤ portSlots) ⌝ }
+pub fn grown(head: u32, len: usize, size: usize) -> usize
+    requires { ⌜ (len ≤ 2 * portSlots) × (size ≤ portSlots) ⌝ }
     ensures { λ r. ⌜ r ≡ grown head len size ⌝ }
 {
     if head == 0 { len + size } else { len }

@@ -107,7 +107,7 @@ fn one_request(
             }
         }
         Ask::Link(a, b) => {
-            let linked = link_in(nodes, links, owners, heads, marks, flags, held, a, b, moves);
+            let linked = link_in(nodes, links, owners, heads, marks, flags, held, a, b);
             let after = linked.held;
             let answer = linked.answer;
             Told {

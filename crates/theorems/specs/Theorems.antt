@@ -5,20 +5,22 @@
 use mathlib.Core.Path.{_≡_}
 use mathlib.Core.Bool.{Bool, true, false}
 use mathlib.Core.List.{List, [], _∷_, _++_, map}
-use mathlib.Core.Logic.{_↔_}
-use Prim.Native.Nat.{ℕ, _<_}
-use lib.ListN.{length}
+use mathlib.Core.Logic.{_↔_, _⊎_}
+use Prim.Native.Nat.{ℕ, suc, _<_, _*_}
+use lib.ListN.{length, drop}
+use Rattle.portgraph.specs.Lists.{filter, Member}
 use Rattle.portgraph.specs.Lookups.{numPorts}
 use Rattle.portgraph.specs.Meaning.{newCount}
 use Rattle.portgraph.specs.Model.{Model}
 use Rattle.portgraph.specs.declared.direction.Direction.{Direction}
 use Rattle.portgraph.specs.declared.direction.Direction.the-variants.{Outgoing}
 use Rattle.portgraph.specs.declared.iter.Sides.{Sides}
-use Rattle.multiportgraph.specs.Calls.{visibleNodes, visiblePorts, visibleLinks}
+use Rattle.multiportgraph.specs.Calls.{setCounts, movesTold, visibleNodes, visiblePorts, visibleLinks}
 use Rattle.multiportgraph.specs.Answers.{refusalNumbers}
 use Rattle.multiportgraph.specs.Places.{Spot, spot, atSpot, touches}
-use Rattle.multiportgraph.specs.Wires.{wiresWalked, sideLinks, isBlock}
-use Rattle.multiportgraph.specs.Walks.{portLinks, nodeLinks, neighbours, connections}
+use Rattle.multiportgraph.specs.Reading.{seen, visible}
+use Rattle.multiportgraph.specs.Wires.{wiresWalked, walkWires, stepWires, allWires, sideLinks, isBlock}
+use Rattle.multiportgraph.specs.Walks.{isSeen, portLinks, nodeLinks, neighbours, connections}
 use Rattle.multiportgraph.specs.Inner.{Fine, MultiWf}
 use Rattle.multiportgraph.specs.SpaceLaws.{Spaced}
 use Rattle.theorems.specs.Book.{Call, setCall, spotOf}
@@ -29,7 +31,7 @@ use Rattle.theorems.specs.AnswerClaims.{AnswersItsWire, AnswersAreWires}
 use Rattle.theorems.specs.ListingClaims.{wireFrom, endOn, farFrom, Exactly, InBook, OverSides, OutOfRange, FarNodes, NotOwnOutput}
 use Rattle.theorems.specs.Conditions.{RefusedBy, Accepted, Condition, leavesPrepared}
 use Rattle.theorems.specs.Bench as bench
-use Rattle.theorems.specs.Bench.{askedAll, expectedAll, benchLines}
+use Rattle.theorems.specs.Bench.{askedAll, expectedAll, benchLines, resizeLines}
 use Rattle.theorems.specs.NumberTable as numbers
 use Rattle.theorems.specs.NumberTable.{refusals, refusalTable, answers, answerTable}
 use Rattle.theorems.specs.Runs as runs
@@ -38,9 +40,16 @@ use Rattle.theorems.specs.TheoremProofs as proofs
 use Rattle.theorems.specs.AnswerWires as answered
 use Rattle.theorems.specs.ListingWires as listed
 use Rattle.theorems.specs.KeptPorts as kept
+use Rattle.theorems.specs.MovePlaces as moved
+use Rattle.theorems.specs.MoveClaims.{toldEvents, toldPlaces, hiddenTold, givenBack}
 use Rattle.theorems.specs.KeptPorts.{SplitAsBefore}
+use Rattle.theorems.specs.WiresHeld as cursor
+use Rattle.theorems.specs.CursorClaims.{Beyond, FirstOf, holding, liesBeyond}
 use Rattle.theorems.specs.HistoryCounts as counts
 use Rattle.multiportgraph.specs.declared.multiportgraph.SubportIndex.{SubportIndex}
+use Rattle.multiportgraph.specs.declared.multiportgraph.SubportLink.{SubportLink}
+use Rattle.multiportgraph.specs.declared.iter.Wires.{Wires}
+use Rattle.multiportgraph.specs.declared.iter.WiresStep.the-variants.{Item, End}
 use Rattle.multiportgraph.specs.declared.multiportgraph.SetAnswer.the-variants as resize
 use Rattle.multiportgraph.specs.declared.multiportgraph.Refusal.{Refusal}
 use Rattle.multiportgraph.specs.declared.multiportgraph.Refusal.the-variants.{NoRoom}
@@ -111,6 +120,45 @@ pub kept-ports-stay-split : (calls : List Call) (n i o room e : ℕ) → step (r
     SplitAsBefore (run calls .graph) (step (run calls .graph) (setCall n i o room) .graph) k d j
 kept-ports-stay-split = kept.kept-ports-stay-split
 
+-- The move list of an accepted resize: the ports that went, incoming before outgoing, each with the inner port that it was linked with (none
+-- where it had no link, or where that port was told before it); then the ports that stayed, as far as they are told, each with the old and
+-- the new number of one place; behind them what the list held.
+pub moves-are-places : (calls : List Call) (n i o : ℕ) (moves : List ℕ) (e : ℕ) → setCounts (run calls .graph) n i o (length moves) .answer ≡ resize.Set e →
+    movesTold (run calls .graph) n i o moves
+    ≡ toldEvents (run calls .graph .graph) (setCounts (run calls .graph) n i o (length moves) .graph .graph) n i o ++ drop (3 * e) moves
+moves-are-places = moved.moves-are-places
+
+-- The number that it answers is that of the ports told.
+pub events-answered : (calls : List Call) (n i o room e : ℕ) → setCounts (run calls .graph) n i o room .answer ≡ resize.Set e →
+    e ≡ length (toldPlaces (run calls .graph .graph) n i o)
+events-answered = moved.events-answered
+
+-- The hidden nodes of the split ports that went are given back in the order told, so that the last one's slot is taken next.
+pub hidden-go-in-order : (calls : List Call) (n i o room e : ℕ) → setCounts (run calls .graph) n i o room .answer ≡ resize.Set e →
+    (M N : Model) → Fine (run calls .graph) M → Fine (setCounts (run calls .graph) n i o room .graph) N →
+    N .freeNodes ≡ givenBack (hiddenTold (run calls .graph) n i o) (M .freeNodes)
+hidden-go-in-order = moved.hidden-go-in-order
+
+-- The cursor over all wires, on whatever the graph is by then.
+
+-- A step that gives an item: the port held is one of a block, the item is the first of the present listing beyond it and the offset, and
+-- the cursor comes back holding it.
+pub wires-give : (calls : List Call) (c d : Wires) (p : ℕ) (w : SubportLink) → c .held ≡ suc p → stepWires (run calls .graph) c ≡ Item w d →
+    (n : ℕ) × (s : Direction) × (seen (run calls .graph) p ≡ visible n s) × FirstOf (Beyond (run calls .graph) n p (c .offset)) (allWires (run calls .graph)) w × (d ≡ holding w)
+wires-give = cursor.wires-give
+
+-- A step that ends the walk: the port held is gone or hidden, or no item of the present listing lies beyond it and the offset.
+pub wires-end : (calls : List Call) (c : Wires) (p : ℕ) → c .held ≡ suc p → stepWires (run calls .graph) c ≡ End →
+    (isSeen (seen (run calls .graph) p) ≡ false)
+    ⊎ ((n : ℕ) × (s : Direction) × (seen (run calls .graph) p ≡ visible n s) × ((w : SubportLink) → Member w (allWires (run calls .graph)) → Beyond (run calls .graph) n p (c .offset) w → ⊥))
+wires-end = cursor.wires-end
+
+-- From a cursor that holds a port of a block the walk gives exactly the items beyond it, in the order of the listing, and ends.
+pub wires-forward : (calls : List Call) (c : Wires) (p n : ℕ) (s : Direction) (fuel : ℕ) → c .held ≡ suc p → seen (run calls .graph) p ≡ visible n s →
+    length (filter (liesBeyond (run calls .graph) n p (c .offset)) (allWires (run calls .graph))) < fuel →
+    walkWires (run calls .graph) fuel c ≡ record { items = filter (liesBeyond (run calls .graph) n p (c .offset)) (allWires (run calls .graph)); ended = true }
+wires-forward = cursor.wires-forward
+
 -- The counts.
 
 -- The visible nodes, ports and links that a kit counts are the blocks of the book, their ports, and its wires.
@@ -167,6 +215,10 @@ run-next = runs.run-next
 -- 01's bench wiring, cases A to K: every number of every line.
 pub bench-table : askedAll benchLines ≡ expectedAll benchLines
 bench-table = bench.bench-table
+
+-- Resizes by smallest inputs: every number told, and the node slots taken next.
+pub resize-table : askedAll resizeLines ≡ expectedAll resizeLines
+resize-table = bench.resize-table
 
 -- 01's numbers of every refusal, with what it carries, and of every kind of answer.
 pub refusal-numbers : (p q : ℕ) → map refusalNumbers (refusals p q) ≡ refusalTable p q

@@ -1,9 +1,10 @@
 -- `multiportgraph::reads::lowest_unlinked` meets its contract. Invariant: every port passed has a link, so the rest is left to search.
 -- Measure: the ports that are left.
 use mathlib.Core.Path.{_≡_, sym, _∙_}
-use Prim.Native.Nat.{_-_, _≤_}
+use Prim.Native.Nat.{_+_, _-_, _≤_, _<_}
 use native.Mathlib.Omega.{arith}
-use borrow.Author.Needs.{needs}
+use Rattle.portgraph.specs.Limits.{portSlots}
+use Rattle.portgraph.specs.TableSteps.{at-inside}
 use Rattle.multiportgraph.specs.Forms.{lowestUnlinked}
 use Rattle.multiportgraph.specs.PrepareSteps.{lowest-start, lowest-stop, lowest-turn, lowest-end}
 use Rattle.multiportgraph.proofs.reads.lowest_unlinked.Statement.{statement}
@@ -18,14 +19,19 @@ abbrev μ-loop : tie.MeasureT-loop
 loop-holds : tie.Need-loop-holds Inv-loop μ-loop
 loop-holds c = (omega arith, lowest-start _ _ _)
 
-add-at : tie.Need-add-at Inv-loop μ-loop
-add-at c = omega arith
+add-if1 : tie.Need-add-if1 Inv-loop μ-loop
+add-if1 c = omega arith
 
-at-requires : tie.Need-at-requires Inv-loop μ-loop
-at-requires c κs = search needs
+mul-if1 : tie.Need-mul-if1 Inv-loop μ-loop
+mul-if1 c = omega arith
+
+element-copy-out-if1 : tie.Need-element-copy-out-if1 Inv-loop μ-loop
+element-copy-out-if1 c = omega arith
 
 returns : tie.Need-returns Inv-loop μ-loop
-returns c = lowest-stop _ _ _ _ (c .before .before .loop-test .taken) (sym (c .before .at .ensures) ∙ c .if1 .taken) ∙ sym (c .before .before .before .loop .inv .1)
+returns c =
+    let inside : c .before .before .before .before .args .first + c .before .before .before .loop .o < portSlots = omega (arith, c .before .before .loop-test .taken, c .before .before .before .before .pre) in
+    lowest-stop _ _ _ _ (c .before .before .loop-test .taken) (sym (at-inside _ _ inside) ∙ c .if1 .taken) ∙ sym (c .before .before .before .loop .inv .1)
 
 add-o : tie.Need-add-o Inv-loop μ-loop
 add-o c = omega arith
@@ -34,7 +40,9 @@ loop-less : tie.Need-loop-less Inv-loop μ-loop
 loop-less c = omega arith
 
 loop-again : tie.Need-loop-again Inv-loop μ-loop
-loop-again c = (omega arith, c .before .before .before .loop .inv .1 ∙ lowest-turn _ _ _ _ (c .before .before .loop-test .taken) (λ z. c .if1 .left (c .before .at .ensures ∙ z)))
+loop-again c =
+    let inside : c .before .before .before .before .args .first + c .before .before .before .loop .o < portSlots = omega (arith, c .before .before .loop-test .taken, c .before .before .before .before .pre) in
+    (omega arith, c .before .before .before .loop .inv .1 ∙ lowest-turn _ _ _ _ (c .before .before .loop-test .taken) (λ z. c .if1 .left (at-inside _ _ inside ∙ z)))
 
 returns-2 : tie.Need-returns-2 Inv-loop μ-loop
 returns-2 c = sym (c .before .loop .inv .1 ∙ lowest-end _ _ _ _ (c .loop-test .left))
@@ -46,8 +54,9 @@ lowest-unlinked-spec =
     Inv-loop
     μ-loop
     loop-holds
-    add-at
-    at-requires
+    add-if1
+    mul-if1
+    element-copy-out-if1
     returns
     add-o
     loop-less

@@ -145,14 +145,11 @@ returns-3 c =
     let k = c .before .before .before .before .before .before .before .before .before .before in
     set-answered (k .before .before .before .pre .0) (ap meant (k .ask3 .given .1)) refl (c .before .before .set-quiet-in .ensures .1) (c .set-words .ensures) (c .before .before .set-quiet-in .ensures .0)
 
-same-length : tie.Need-same-length
-same-length c = search needs
-
 returns-4 : tie.Need-returns-4
 returns-4 c =
-    let k = c .before .before .before .before .before .before .before .before .before .before .before .before .before in
-    answered (k .before .before .before .pre .0) (ap meant (k .ask4 .given .1)) (c .link-words .ensures ∙ ap (λ x. five (linkNumbers x)) (c .before .before .before .before .link-in .ensures .1))
-    (c .before .before .before .before .link-in .ensures .0)
+    let k = c .before .before .before .before .before .before .before .before .before .before in
+    answered (k .before .before .before .pre .0) (ap meant (k .ask4 .given .1)) (c .link-words .ensures ∙ ap (λ x. five (linkNumbers x)) (c .before .before .link-in .ensures .1))
+    (c .before .before .link-in .ensures .0)
 
 returns-5 : tie.Need-returns-5
 returns-5 c =
@@ -231,7 +228,6 @@ one-request-spec =
     returns
     returns-2
     returns-3
-    same-length
     returns-4
     returns-5
     returns-6

@@ -129,7 +129,7 @@ put-head-requires : tie.Need-put-head-requires
 put-head-requires c κs = search needs
 
 grown-requires-2 : tie.Need-grown-requires-2
-grown-requires-2 c κs = (port-len-fits _ (c .before .before .before .before .before .before .before .before .before .before .before .before .before .before .before .before .before .before .before .before .before .before .before .before .before .before .before .before .before .pre), omega (arith, ports-fit-at (c .before .before .before .before .before .before .before .before .before .before .before .before .before .before .before .before .before)))
+grown-requires-2 c κs = omega (arith, port-len-fits _ (c .before .before .before .before .before .before .before .before .before .before .before .before .before .before .before .before .before .before .before .before .before .before .before .before .before .before .before .before .before .pre), ports-fit-at (c .before .before .before .before .before .before .before .before .before .before .before .before .before .before .before .before .before))
 
 cast-fill-2 : tie.Need-cast-fill-2
 cast-fill-2 c = omega (arith, block-fits-at (c .before .before .before .before .before .before .before .before .before .before .before .before .before .before .before .before .before .before .before))

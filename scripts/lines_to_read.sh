@@ -1,0 +1,20 @@
+#!/usr/bin/env bash
+# How many lines of definitions have to be believed, without imports, blanks and comments.
+set -euo pipefail
+cd "$(dirname "$0")/../crates"
+lines() {
+    local crate=$1 file total=0
+    shift
+    for file in "$@"; do
+        total=$((total + $(grep -cvE '^(use |pub mod )|^ *(--.*)?$' "$crate/specs/$file.antt")))
+    done
+    printf '%-16s%5d  %s\n' "$crate" "$total" "$*"
+}
+echo 'for the calls and the theorems:'
+lines portgraph Limits Lists Entries Tables Lookups Calls Resize Lent
+lines multiportgraph Reading Graph Answers HiddenNodes Refusals Calls Places Wires MultiLent
+lines theorems Theorems Book History Claims AnswerClaims ListingClaims MoveClaims CursorClaims Conditions Works
+lines records Words Run Forms
+echo 'for walks, lookups and whole listings besides:'
+lines portgraph Walks LinkWalks
+lines multiportgraph Walks WalkNumbers Lookups Listed

@@ -212,14 +212,20 @@ dropped-listed m k i o first a b x y c r l l₁ l₂ e₁ e₂ e₃ e₄ e₅ f�
     let s : l₂ ≡ sets l 0 (xs ++ ys) = g₂ ∙ rw (g₁, f₁) (sets-append l 0 xs ys) in
     (n ∙ ap length all, s ∙ ap (sets l 0) all)
 
-pub copies-dropped-few : (m : MultiPortGraph) (k : NodeMeta) (i o : ℕ) → BlockFits k → length (copiesDropped m k i o) ≤ nodePorts
+-- no more hidden nodes than ports are dropped
+pub copies-dropped-most : (m : MultiPortGraph) (k : NodeMeta) (i o : ℕ) → length (copiesDropped m k i o) ≤ (k .incoming - i) + (k .outgoing - o)
 unfolding copiesDropped
-copies-dropped-few m k i o f =
+copies-dropped-most m k i o =
     let xs = copiesIn m (k .«first_port» .0 + min (k .incoming) i) (k .incoming - min (k .incoming) i) in
     let ys = copiesIn m (k .«first_port» .0 + k .incoming + min (k .outgoing) o) (k .outgoing - min (k .outgoing) o) in
     let a = copies-few m (k .«first_port» .0 + min (k .incoming) i) (k .incoming - min (k .incoming) i) in
     let b = copies-few m (k .«first_port» .0 + k .incoming + min (k .outgoing) o) (k .outgoing - min (k .outgoing) o) in
     let j = length-append xs ys in
+    omega arith
+
+pub copies-dropped-few : (m : MultiPortGraph) (k : NodeMeta) (i o : ℕ) → BlockFits k → length (copiesDropped m k i o) ≤ nodePorts
+copies-dropped-few m k i o f =
+    let a = copies-dropped-most m k i o in
     let p = f .ports in
     let s = f .small in
     omega arith

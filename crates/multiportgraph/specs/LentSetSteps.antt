@@ -3,7 +3,7 @@ use mathlib.Core.Path.{_≡_, refl, sym, ap, _∙_, subst}
 use mathlib.Core.Bool.{Bool, false}
 use mathlib.Core.List.{List}
 use mathlib.Core.Logic.{_⊎_, ⊎-elim}
-use Prim.Native.Nat.{ℕ, _+_, _≤_}
+use Prim.Native.Nat.{ℕ, _+_, _-_, _≤_}
 use native.Mathlib.Omega.{arith}
 use lib.ListN.{length, take}
 use lib.Seq.{sets, length-sets}
@@ -25,7 +25,7 @@ use Rattle.portgraph.specs.declared.resize.SetAnswer.the-variants as lower-set-
 use Rattle.multiportgraph.specs.Reading.{isHidden}
 use Rattle.multiportgraph.specs.Calls.{setAs, setCounts, movesTold, movesToldUnder}
 use Rattle.multiportgraph.specs.MarkLaws.{length-layMarks}
-use Rattle.multiportgraph.specs.BlockSteps.{set-block, block-in, copies-dropped-few, list-taken}
+use Rattle.multiportgraph.specs.BlockSteps.{set-block, block-in, copies-dropped-most, copies-dropped-few, list-taken}
 use Rattle.multiportgraph.specs.PrepareSteps.{lower-wf}
 use Rattle.multiportgraph.specs.MultiLent.{multiIn, heldCounts, Sound, FitsIf, Resizes, marksFollow, settled}
 use Rattle.multiportgraph.specs.LentSteps.{found-fits}
@@ -107,15 +107,21 @@ module _ (nodes links owners heads : List ℕ) (marks flags : List Bool) (held :
   lower-resizes = resizes (graphIn nodes links owners heads (held .counts)) (lower-wf m (r .wf)) n k i o (entry-of-some _ k (r .meta)) (r .few)
 
   -- the list of the hidden nodes of dropped ports
-  module _ (list : List ℕ) {list′ : List ℕ} {c : ℕ} (u : c ≡ length (copiesDropped m k i o)) (v : list′ ≡ sets list 0 (copiesDropped m k i o)) (long : nodePorts ≤ length list) where
+  module _ (list : List ℕ) {list′ : List ℕ} {c : ℕ} (u : c ≡ length (copiesDropped m k i o)) (v : list′ ≡ sets list 0 (copiesDropped m k i o)) (long : length (copiesDropped m k i o) ≤ length list) where
     pub listed-long : c ≤ length list′
     listed-long =
-        let few = copies-dropped-few m k i o (block-in m n k (r .wf) (r .meta)) in
         let l = ap length v ∙ length-sets list 0 (copiesDropped m k i o) in
         omega arith
 
     pub listed-is : take c list′ ≡ copiesDropped m k i o
-    listed-is = let few = copies-dropped-few m k i o (block-in m n k (r .wf) (r .meta)) in list-taken list list′ (copiesDropped m k i o) c (omega arith) v u
+    listed-is = list-taken list list′ (copiesDropped m k i o) c long v u
+
+  -- a list has room for the hidden nodes of dropped ports where it has room for these ports, or for all that a node may have
+  pub few-listed : {c : ℕ} (size : ℕ) → c ≡ (k .incoming - i) + (k .outgoing - o) → c ≤ size → length (copiesDropped m k i o) ≤ size
+  few-listed size e h = let most = copies-dropped-most m k i o in omega arith
+
+  pub many-listed : length (copiesDropped m k i o) ≤ nodePorts
+  many-listed = copies-dropped-few m k i o (block-in m n k (r .wf) (r .meta))
 
   module _ (room : ℕ) (nodes′ : List ℕ) {links′ owners′ heads′ : List ℕ} {counts : Counts} {a : lower-set.SetAnswer}
       (e : graphIn nodes′ links′ owners′ heads′ counts ≡ setNumPorts (graphIn nodes links owners heads (held .counts)) n i o room .graph)

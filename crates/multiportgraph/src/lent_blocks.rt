@@ -30,6 +30,7 @@ use portgraph::lent_resize::set_num_ports_in;
 use portgraph::lent_slots::remove_node_in;
 use portgraph::node_entry::MaybeNodeMeta;
 use portgraph::node_entry::NodeMeta;
+use portgraph::numbers::less;
 use portgraph::numbers::smaller;
 use portgraph::numbers::wide;
 use portgraph::numbers::wide16;
@@ -38,7 +39,7 @@ use portgraph::tables::cut;
 use portgraph::tables::store;
 use portgraph::tables::without_link;
 ghost use mathlib.Core.Path.{_≡_};
-ghost use Prim.Native.Nat.{_+_, _≤_, min};
+ghost use Prim.Native.Nat.{_+_, _-_, _≤_, min};
 ghost use lib.ListN.{length, take};
 ghost use lib.Seq.{sets};
 ghost use Rattle.portgraph.specs.Limits.{portSlots, nodePorts};
@@ -298,6 +299,16 @@ fn finish_in(
     }
 }
 
+// A resize that drops no more ports than this lists their hidden nodes in a short list, since a long one costs more to clear.
+const FEW: usize = 16;
+
+// How many ports of a node are dropped.
+fn dropped(meta: NodeMeta, incoming: usize, outgoing: usize) -> usize
+    ensures { λ r. ⌜ r ≡ (meta .incoming - incoming) + (meta .outgoing - outgoing) ⌝ }
+{
+    less(wide16(meta.incoming), incoming) + less(wide16(meta.outgoing), outgoing)
+}
+
 // The block is there and not hidden: its counts change, and the hidden nodes of dropped ports go, which the list has room for.
 fn resize_in(
     nodes: &mut [u32; NODE_WORDS],
@@ -314,7 +325,7 @@ fn resize_in(
     moves: &mut [u32],
     list: &mut [u32],
 ) -> SetIn
-    requires { ⌜ Resizes (multiIn (now nodes) (now links) (now owners) (now heads) (now marks) (now flags) held) (node .0) meta incoming outgoing × (nodePorts ≤ length (now list)) ⌝ }
+    requires { ⌜ Resizes (multiIn (now nodes) (now links) (now owners) (now heads) (now marks) (now flags) held) (node .0) meta incoming outgoing × (length (copiesDropped (multiIn (now nodes) (now links) (now owners) (now heads) (now marks) (now flags) held) meta incoming outgoing) ≤ length (now list)) ⌝ }
     ensures { λ r. ⌜ (multiIn (now (nodes .exit)) (now (links .exit)) (now (owners .exit)) (now (heads .exit)) (now (marks .exit)) (now (flags .exit)) (r .held) ≡ setCounts (multiIn (now (nodes .entry)) (now (links .entry)) (now (owners .entry)) (now (heads .entry)) (now (marks .entry)) (now (flags .entry)) held) (node .0) incoming outgoing (length (now (moves .entry))) .graph)
         × (r .answer ≡ setCounts (multiIn (now (nodes .entry)) (now (links .entry)) (now (owners .entry)) (now (heads .entry)) (now (marks .entry)) (now (flags .entry)) held) (node .0) incoming outgoing (length (now (moves .entry))) .answer)
         × (now (moves .exit) ≡ movesTold (multiIn (now (nodes .entry)) (now (links .entry)) (now (owners .entry)) (now (heads .entry)) (now (marks .entry)) (now (flags .entry)) held) (node .0) incoming outgoing (now (moves .entry))) ⌝ }
@@ -362,6 +373,62 @@ fn resize_in(
     )
 }
 
+// The same with a list of its own.
+fn resize_listing_in(
+    nodes: &mut [u32; NODE_WORDS],
+    links: &mut [u32; PORT_SLOTS],
+    owners: &mut [u32; PORT_SLOTS],
+    heads: &mut [u32; FREE_LISTS],
+    marks: &mut [bool; PORT_SLOTS],
+    flags: &mut [bool; NODE_SLOTS],
+    held: Held,
+    node: NodeIndex,
+    meta: NodeMeta,
+    incoming: usize,
+    outgoing: usize,
+    moves: &mut [u32],
+) -> SetIn
+    requires { ⌜ Resizes (multiIn (now nodes) (now links) (now owners) (now heads) (now marks) (now flags) held) (node .0) meta incoming outgoing ⌝ }
+    ensures { λ r. ⌜ (multiIn (now (nodes .exit)) (now (links .exit)) (now (owners .exit)) (now (heads .exit)) (now (marks .exit)) (now (flags .exit)) (r .held) ≡ setCounts (multiIn (now (nodes .entry)) (now (links .entry)) (now (owners .entry)) (now (heads .entry)) (now (marks .entry)) (now (flags .entry)) held) (node .0) incoming outgoing (length (now (moves .entry))) .graph)
+        × (r .answer ≡ setCounts (multiIn (now (nodes .entry)) (now (links .entry)) (now (owners .entry)) (now (heads .entry)) (now (marks .entry)) (now (flags .entry)) held) (node .0) incoming outgoing (length (now (moves .entry))) .answer)
+        × (now (moves .exit) ≡ movesTold (multiIn (now (nodes .entry)) (now (links .entry)) (now (owners .entry)) (now (heads .entry)) (now (marks .entry)) (now (flags .entry)) held) (node .0) incoming outgoing (now (moves .entry))) ⌝ }
+{
+    if dropped(meta, incoming, outgoing) <= FEW {
+        let mut few = [0u32; FEW];
+        return resize_in(
+            nodes,
+            links,
+            owners,
+            heads,
+            marks,
+            flags,
+            held,
+            node,
+            meta,
+            incoming,
+            outgoing,
+            moves,
+            &mut few,
+        );
+    }
+    let mut list = [0u32; NODE_PORTS];
+    resize_in(
+        nodes,
+        links,
+        owners,
+        heads,
+        marks,
+        flags,
+        held,
+        node,
+        meta,
+        incoming,
+        outgoing,
+        moves,
+        &mut list,
+    )
+}
+
 // The same without a move list, as if there were one that is long enough.
 fn resize_untold_in(
     nodes: &mut [u32; NODE_WORDS],
@@ -377,7 +444,7 @@ fn resize_untold_in(
     outgoing: usize,
     list: &mut [u32],
 ) -> SetIn
-    requires { ⌜ Resizes (multiIn (now nodes) (now links) (now owners) (now heads) (now marks) (now flags) held) (node .0) meta incoming outgoing × (nodePorts ≤ length (now list)) ⌝ }
+    requires { ⌜ Resizes (multiIn (now nodes) (now links) (now owners) (now heads) (now marks) (now flags) held) (node .0) meta incoming outgoing × (length (copiesDropped (multiIn (now nodes) (now links) (now owners) (now heads) (now marks) (now flags) held) meta incoming outgoing) ≤ length (now list)) ⌝ }
     ensures { λ r. ⌜ (multiIn (now (nodes .exit)) (now (links .exit)) (now (owners .exit)) (now (heads .exit)) (now (marks .exit)) (now (flags .exit)) (r .held) ≡ setCounts (multiIn (now (nodes .entry)) (now (links .entry)) (now (owners .entry)) (now (heads .entry)) (now (marks .entry)) (now (flags .entry)) held) (node .0) incoming outgoing enough .graph)
         × (r .answer ≡ setCounts (multiIn (now (nodes .entry)) (now (links .entry)) (now (owners .entry)) (now (heads .entry)) (now (marks .entry)) (now (flags .entry)) held) (node .0) incoming outgoing enough .answer) ⌝ }
 {
@@ -424,6 +491,58 @@ fn resize_untold_in(
     )
 }
 
+// The same with a list of its own.
+fn resize_untold_listing_in(
+    nodes: &mut [u32; NODE_WORDS],
+    links: &mut [u32; PORT_SLOTS],
+    owners: &mut [u32; PORT_SLOTS],
+    heads: &mut [u32; FREE_LISTS],
+    marks: &mut [bool; PORT_SLOTS],
+    flags: &mut [bool; NODE_SLOTS],
+    held: Held,
+    node: NodeIndex,
+    meta: NodeMeta,
+    incoming: usize,
+    outgoing: usize,
+) -> SetIn
+    requires { ⌜ Resizes (multiIn (now nodes) (now links) (now owners) (now heads) (now marks) (now flags) held) (node .0) meta incoming outgoing ⌝ }
+    ensures { λ r. ⌜ (multiIn (now (nodes .exit)) (now (links .exit)) (now (owners .exit)) (now (heads .exit)) (now (marks .exit)) (now (flags .exit)) (r .held) ≡ setCounts (multiIn (now (nodes .entry)) (now (links .entry)) (now (owners .entry)) (now (heads .entry)) (now (marks .entry)) (now (flags .entry)) held) (node .0) incoming outgoing enough .graph)
+        × (r .answer ≡ setCounts (multiIn (now (nodes .entry)) (now (links .entry)) (now (owners .entry)) (now (heads .entry)) (now (marks .entry)) (now (flags .entry)) held) (node .0) incoming outgoing enough .answer) ⌝ }
+{
+    if dropped(meta, incoming, outgoing) <= FEW {
+        let mut few = [0u32; FEW];
+        return resize_untold_in(
+            nodes,
+            links,
+            owners,
+            heads,
+            marks,
+            flags,
+            held,
+            node,
+            meta,
+            incoming,
+            outgoing,
+            &mut few,
+        );
+    }
+    let mut list = [0u32; NODE_PORTS];
+    resize_untold_in(
+        nodes,
+        links,
+        owners,
+        heads,
+        marks,
+        flags,
+        held,
+        node,
+        meta,
+        incoming,
+        outgoing,
+        &mut list,
+    )
+}
+
 // MultiPortGraph::set_num_ports over lent tables.
 pub fn set_in(
     nodes: &mut [u32; NODE_WORDS],
@@ -467,8 +586,7 @@ pub fn set_in(
             answer: SetAnswer::Refused(Refusal::HiddenNode),
         };
     }
-    let mut list = [0u32; NODE_PORTS];
-    resize_in(
+    resize_listing_in(
         nodes,
         links,
         owners,
@@ -481,7 +599,6 @@ pub fn set_in(
         incoming,
         outgoing,
         moves,
-        &mut list,
     )
 }
 
@@ -526,8 +643,7 @@ pub fn set_quiet_in(
             answer: SetAnswer::Refused(Refusal::HiddenNode),
         };
     }
-    let mut list = [0u32; NODE_PORTS];
-    resize_untold_in(
+    resize_untold_listing_in(
         nodes,
         links,
         owners,
@@ -539,6 +655,5 @@ pub fn set_quiet_in(
         meta,
         incoming,
         outgoing,
-        &mut list,
     )
 }

@@ -44,19 +44,16 @@ returns-4 c =
     let a = c .before .before .before .before .before .before .before .before .before .before .before .before .args in
     set-parts (set-hidden (multiIn (a .nodes .now) (a .links .now) (a .owners .now) (a .heads .now) (a .marks .now) (a .flags .now) (a .held)) (a .node .0) (a .incoming) (a .outgoing) (a .moves .now) (omega (arith, c .before .before .before .before .before .before .before .before .before .before .if1 .left, c .before .before .before .before .before .before .before .before .before .if2 .left)) _ (meta-told (a .nodes .now) (a .links .now) (a .owners .now) (a .heads .now) (a .marks .now) (a .flags .now) (a .held) (c .before .before .before .before .before .before .before .before .before .before .before .before .pre) (a .node .0) _ (maybe-meta.Some (c .before .before .before .before .before .meta .given .0 .0)) (c .before .before .before .before .before .before .before .meta-in .ensures) (c .before .before .before .before .before .meta .given .1)) (flag-told-in (a .nodes .now) (a .links .now) (a .owners .now) (a .heads .now) (a .marks .now) (a .flags .now) (a .held) (c .before .before .before .before .before .before .before .before .before .before .before .before .pre) (a .node .0) _ (c .before .before .wide .ensures) (c .before .flagged .ensures) true (c .if3 .taken)))
 
-slice-aggregate-resize-in : tie.Need-slice-aggregate-resize-in
-slice-aggregate-resize-in c = omega arith
-
-resize-in-requires : tie.Need-resize-in-requires
-resize-in-requires c κs =
-    let a = c .before .before .before .before .before .before .before .before .before .before .before .before .before .before .before .before .before .before .before .before .args in
-    (record { wf = c .before .before .before .before .before .before .before .before .before .before .before .before .before .before .before .before .before .before .before .before .pre; few = omega (arith, c .before .before .before .before .before .before .before .before .before .before .before .before .before .before .before .before .before .before .if1 .left, c .before .before .before .before .before .before .before .before .before .before .before .before .before .before .before .before .before .if2 .left); meta = (meta-told (a .nodes .now) (a .links .now) (a .owners .now) (a .heads .now) (a .marks .now) (a .flags .now) (a .held) (c .before .before .before .before .before .before .before .before .before .before .before .before .before .before .before .before .before .before .before .before .pre) (a .node .0) _ (maybe-meta.Some (c .before .before .before .before .before .before .before .before .before .before .before .before .before .meta .given .0 .0)) (c .before .before .before .before .before .before .before .before .before .before .before .before .before .before .before .meta-in .ensures) (c .before .before .before .before .before .before .before .before .before .before .before .before .before .meta .given .1)); seen = (flag-told-in (a .nodes .now) (a .links .now) (a .owners .now) (a .heads .now) (a .marks .now) (a .flags .now) (a .held) (c .before .before .before .before .before .before .before .before .before .before .before .before .before .before .before .before .before .before .before .before .pre) (a .node .0) _ (c .before .before .before .before .before .before .before .before .before .before .wide .ensures) (c .before .before .before .before .before .before .before .before .before .flagged .ensures) false (c .before .before .before .before .before .before .before .before .if3 .left)) }, omega arith)
+resize-listing-in-requires : tie.Need-resize-listing-in-requires
+resize-listing-in-requires c κs =
+    let a = c .before .before .before .before .before .before .before .before .before .before .before .before .before .before .before .before .before .before .before .args in
+    record { wf = c .before .before .before .before .before .before .before .before .before .before .before .before .before .before .before .before .before .before .before .pre; few = omega (arith, c .before .before .before .before .before .before .before .before .before .before .before .before .before .before .before .before .before .if1 .left, c .before .before .before .before .before .before .before .before .before .before .before .before .before .before .before .before .if2 .left); meta = (meta-told (a .nodes .now) (a .links .now) (a .owners .now) (a .heads .now) (a .marks .now) (a .flags .now) (a .held) (c .before .before .before .before .before .before .before .before .before .before .before .before .before .before .before .before .before .before .before .pre) (a .node .0) _ (maybe-meta.Some (c .before .before .before .before .before .before .before .before .before .before .before .before .meta .given .0 .0)) (c .before .before .before .before .before .before .before .before .before .before .before .before .before .before .meta-in .ensures) (c .before .before .before .before .before .before .before .before .before .before .before .before .meta .given .1)); seen = (flag-told-in (a .nodes .now) (a .links .now) (a .owners .now) (a .heads .now) (a .marks .now) (a .flags .now) (a .held) (c .before .before .before .before .before .before .before .before .before .before .before .before .before .before .before .before .before .before .before .pre) (a .node .0) _ (c .before .before .before .before .before .before .before .before .before .wide .ensures) (c .before .before .before .before .before .before .before .before .flagged .ensures) false (c .before .before .before .before .before .before .before .if3 .left)) }
 
 same-length : tie.Need-same-length
-same-length c = c .before .before .moves .given
+same-length c = c .before .moves .given
 
 returns-5 : tie.Need-returns-5
-returns-5 c = c .before .before .before .resize-in .ensures
+returns-5 c = c .before .before .resize-listing-in .ensures
 
 pub set-in-spec : {M : Type 1} → statement M
 set-in-spec =
@@ -71,7 +68,6 @@ set-in-spec =
     wide-requires
     flagged-requires
     returns-4
-    slice-aggregate-resize-in
-    resize-in-requires
+    resize-listing-in-requires
     same-length
     returns-5)

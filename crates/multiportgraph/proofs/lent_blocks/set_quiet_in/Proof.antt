@@ -45,16 +45,13 @@ returns-4 c =
     let a = c .before .before .before .before .before .before .before .before .before .before .before .args in
     whole-parts (set-copy (multiIn (a .nodes .now) (a .links .now) (a .owners .now) (a .heads .now) (a .marks .now) (a .flags .now) (a .held)) (a .node .0) (a .incoming) (a .outgoing) enough (omega (arith, c .before .before .before .before .before .before .before .before .before .before .if1 .left, c .before .before .before .before .before .before .before .before .before .if2 .left)) _ (meta-told (a .nodes .now) (a .links .now) (a .owners .now) (a .heads .now) (a .marks .now) (a .flags .now) (a .held) (c .before .before .before .before .before .before .before .before .before .before .before .pre) (a .node .0) _ (maybe-meta.Some (c .before .before .before .before .before .meta .given .0 .0)) (c .before .before .before .before .before .before .before .meta-in .ensures) (c .before .before .before .before .before .meta .given .1)) (flag-told-in (a .nodes .now) (a .links .now) (a .owners .now) (a .heads .now) (a .marks .now) (a .flags .now) (a .held) (c .before .before .before .before .before .before .before .before .before .before .before .pre) (a .node .0) _ (c .before .before .wide .ensures) (c .before .flagged .ensures) true (c .if3 .taken)))
 
-slice-aggregate-resize-untold-in : tie.Need-slice-aggregate-resize-untold-in
-slice-aggregate-resize-untold-in c = omega arith
-
-resize-untold-in-requires : tie.Need-resize-untold-in-requires
-resize-untold-in-requires c κs =
-    let a = c .before .before .before .before .before .before .before .before .before .before .before .before .before .before .before .before .before .before .args in
-    (record { wf = c .before .before .before .before .before .before .before .before .before .before .before .before .before .before .before .before .before .before .pre; few = omega (arith, c .before .before .before .before .before .before .before .before .before .before .before .before .before .before .before .before .before .if1 .left, c .before .before .before .before .before .before .before .before .before .before .before .before .before .before .before .before .if2 .left); meta = (meta-told (a .nodes .now) (a .links .now) (a .owners .now) (a .heads .now) (a .marks .now) (a .flags .now) (a .held) (c .before .before .before .before .before .before .before .before .before .before .before .before .before .before .before .before .before .before .pre) (a .node .0) _ (maybe-meta.Some (c .before .before .before .before .before .before .before .before .before .before .before .before .meta .given .0 .0)) (c .before .before .before .before .before .before .before .before .before .before .before .before .before .before .meta-in .ensures) (c .before .before .before .before .before .before .before .before .before .before .before .before .meta .given .1)); seen = (flag-told-in (a .nodes .now) (a .links .now) (a .owners .now) (a .heads .now) (a .marks .now) (a .flags .now) (a .held) (c .before .before .before .before .before .before .before .before .before .before .before .before .before .before .before .before .before .before .pre) (a .node .0) _ (c .before .before .before .before .before .before .before .before .before .wide .ensures) (c .before .before .before .before .before .before .before .before .flagged .ensures) false (c .before .before .before .before .before .before .before .if3 .left)) }, omega arith)
+resize-untold-listing-in-requires : tie.Need-resize-untold-listing-in-requires
+resize-untold-listing-in-requires c κs =
+    let a = c .before .before .before .before .before .before .before .before .before .before .before .before .before .before .before .before .before .args in
+    record { wf = c .before .before .before .before .before .before .before .before .before .before .before .before .before .before .before .before .before .pre; few = omega (arith, c .before .before .before .before .before .before .before .before .before .before .before .before .before .before .before .before .if1 .left, c .before .before .before .before .before .before .before .before .before .before .before .before .before .before .before .if2 .left); meta = (meta-told (a .nodes .now) (a .links .now) (a .owners .now) (a .heads .now) (a .marks .now) (a .flags .now) (a .held) (c .before .before .before .before .before .before .before .before .before .before .before .before .before .before .before .before .before .pre) (a .node .0) _ (maybe-meta.Some (c .before .before .before .before .before .before .before .before .before .before .before .meta .given .0 .0)) (c .before .before .before .before .before .before .before .before .before .before .before .before .before .meta-in .ensures) (c .before .before .before .before .before .before .before .before .before .before .before .meta .given .1)); seen = (flag-told-in (a .nodes .now) (a .links .now) (a .owners .now) (a .heads .now) (a .marks .now) (a .flags .now) (a .held) (c .before .before .before .before .before .before .before .before .before .before .before .before .before .before .before .before .before .pre) (a .node .0) _ (c .before .before .before .before .before .before .before .before .wide .ensures) (c .before .before .before .before .before .before .before .flagged .ensures) false (c .before .before .before .before .before .before .if3 .left)) }
 
 returns-5 : tie.Need-returns-5
-returns-5 c = c .before .resize-untold-in .ensures
+returns-5 c = c .resize-untold-listing-in .ensures
 
 pub set-quiet-in-spec : {M : Type 1} → statement M
 set-quiet-in-spec =
@@ -69,6 +66,5 @@ set-quiet-in-spec =
     wide-requires
     flagged-requires
     returns-4
-    slice-aggregate-resize-untold-in
-    resize-untold-in-requires
+    resize-untold-listing-in-requires
     returns-5)

@@ -1,0 +1,44 @@
+-- `multiportgraph::lent_blocks::resize_untold_listing_in` meets its contract: the list has room, whichever it is.
+use borrow.Author.Needs.{needs}
+use Rattle.multiportgraph.specs.LentSetSteps.{few-listed, many-listed}
+use Rattle.multiportgraph.proofs.lent_blocks.resize_untold_listing_in.Statement.{statement}
+use Rattle.multiportgraph.proofs.lent_blocks.resize_untold_listing_in.Tie as tie
+
+dropped-requires : tie.Need-dropped-requires
+dropped-requires c κs = search needs
+
+slice-aggregate-resize-untold-in : tie.Need-slice-aggregate-resize-untold-in
+slice-aggregate-resize-untold-in c = search needs
+
+resize-untold-in-requires : tie.Need-resize-untold-in-requires
+resize-untold-in-requires c κs =
+    let a = c .before .before .before .before .before .before .before .before .before .args in
+    let p = c .before .before .before .before .before .before .before .before .before .pre in
+    (p, few-listed (a .nodes .now) (a .links .now) (a .owners .now) (a .heads .now) (a .marks .now) (a .flags .now) (a .held) (a .node .0) (a .meta) (a .incoming) (a .outgoing) p _ (c .before .before .before .before .before .before .before .before .dropped .ensures) (c .before .before .before .before .before .before .before .if1 .taken))
+
+returns : tie.Need-returns
+returns c = search needs
+
+slice-aggregate-resize-untold-in-2 : tie.Need-slice-aggregate-resize-untold-in-2
+slice-aggregate-resize-untold-in-2 c = search needs
+
+resize-untold-in-requires-2 : tie.Need-resize-untold-in-requires-2
+resize-untold-in-requires-2 c κs =
+    let a = c .before .before .before .before .before .before .before .before .before .args in
+    let p = c .before .before .before .before .before .before .before .before .before .pre in
+    (p, many-listed (a .nodes .now) (a .links .now) (a .owners .now) (a .heads .now) (a .marks .now) (a .flags .now) (a .held) (a .node .0) (a .meta) (a .incoming) (a .outgoing) p)
+
+returns-2 : tie.Need-returns-2
+returns-2 c = search needs
+
+pub resize-untold-listing-in-spec : {M : Type 1} → statement M
+resize-untold-listing-in-spec =
+    tie.close
+    (tie.spec
+    dropped-requires
+    slice-aggregate-resize-untold-in
+    resize-untold-in-requires
+    returns
+    slice-aggregate-resize-untold-in-2
+    resize-untold-in-requires-2
+    returns-2)

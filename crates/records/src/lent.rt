@@ -8,7 +8,6 @@ use crate::answers::put_answer;
 use crate::answers::remove_words;
 use crate::answers::set_words;
 use crate::requests::Ask;
-use crate::requests::MOVES;
 use crate::requests::ask_at;
 use multiportgraph::lent::Held;
 use multiportgraph::lent::add_in;
@@ -34,7 +33,6 @@ ghost use Rattle.multiportgraph.specs.Inner.{MultiWf};
 ghost use Rattle.multiportgraph.specs.MultiLent.{multiIn};
 ghost use Rattle.records.specs.Run.{answerBytes, Answered};
 ghost use Rattle.records.specs.Forms.{meant, words5};
-ghost use Rattle.multiportgraph.specs.HiddenNodes.{enough};
 
 // What stands outside the tables afterwards, and the five words of the answer.
 struct Told {
@@ -51,10 +49,9 @@ fn one_request(
     marks: &mut [bool; PORT_SLOTS],
     flags: &mut [bool; NODE_SLOTS],
     held: Held,
-    moves: &mut [u32],
     ask: Ask,
 ) -> Told
-    requires { ⌜ MultiWf (multiIn (now nodes) (now links) (now owners) (now heads) (now marks) (now flags) held) × (length (now moves) ≡ enough) ⌝ }
+    requires { ⌜ MultiWf (multiIn (now nodes) (now links) (now owners) (now heads) (now marks) (now flags) held) ⌝ }
     ensures { λ r. ⌜ Answered (multiIn (now (nodes .entry)) (now (links .entry)) (now (owners .entry)) (now (heads .entry)) (now (marks .entry)) (now (flags .entry)) held) (meant ask) (words5 (r .words)) (multiIn (now (nodes .exit)) (now (links .exit)) (now (owners .exit)) (now (heads .exit)) (now (marks .exit)) (now (flags .exit)) (r .held)) ⌝ }
 {
     match ask {
@@ -176,7 +173,6 @@ pub(crate) fn run_list(requests: &[u8], answers: &mut [u8])
     let mut heads = [0u32; FREE_LISTS];
     let mut marks = [false; PORT_SLOTS];
     let mut flags = [false; NODE_SLOTS];
-    let mut moves = [0u32; MOVES];
     let mut held = no_held();
     let mut at: usize = 0;
     while at < requests.len() {
@@ -189,7 +185,6 @@ pub(crate) fn run_list(requests: &[u8], answers: &mut [u8])
             &mut marks,
             &mut flags,
             held,
-            &mut moves,
             ask,
         );
         let words = told.words;

@@ -109,15 +109,15 @@ link-count-in-requires c κs = search needs
 
 cast-five-words : tie.Need-cast-five-words
 unfolding visibleNodes
-cast-five-words c = omega (arith, nodes-fit _ (c .before .before .before .before .before .before .pre .0))
+cast-five-words c = omega (arith, nodes-fit _ (c .before .before .before .before .before .pre))
 
 cast-five-words-2 : tie.Need-cast-five-words-2
 unfolding visiblePorts
-cast-five-words-2 c = omega (arith, ports-fit _ (c .before .before .before .before .before .before .pre .0))
+cast-five-words-2 c = omega (arith, ports-fit _ (c .before .before .before .before .before .pre))
 
 cast-five-words-3 : tie.Need-cast-five-words-3
 unfolding visibleLinks
-cast-five-words-3 c = omega (arith, links-fit _ (c .before .before .before .before .before .before .pre .0))
+cast-five-words-3 c = omega (arith, links-fit _ (c .before .before .before .before .before .pre))
 
 five-words-requires : tie.Need-five-words-requires
 five-words-requires c κs = search needs
@@ -131,57 +131,57 @@ five-words-requires-2 c κs = search needs
 returns : tie.Need-returns
 returns c =
     let k = c .before .before .before .before .before .before .before .before .before .before in
-    answered (k .before .before .before .pre .0) (ap meant (k .ask .given .1)) (c .add-words .ensures ∙ ap (λ x. five (addNumbers x)) (c .before .before .add-in .ensures .1))
+    answered (k .before .before .pre) (ap meant (k .ask .given .1)) (c .add-words .ensures ∙ ap (λ x. five (addNumbers x)) (c .before .before .add-in .ensures .1))
     (c .before .before .add-in .ensures .0)
 
 returns-2 : tie.Need-returns-2
 returns-2 c =
     let k = c .before .before .before .before .before .before .before .before .before .before in
-    answered (k .before .before .before .pre .0) (ap meant (k .ask2 .given .1)) (c .remove-words .ensures ∙ ap (λ x. five (removeNumbers x)) (c .before .before .remove-in .ensures .1))
+    answered (k .before .before .pre) (ap meant (k .ask2 .given .1)) (c .remove-words .ensures ∙ ap (λ x. five (removeNumbers x)) (c .before .before .remove-in .ensures .1))
     (c .before .before .remove-in .ensures .0)
 
 returns-3 : tie.Need-returns-3
 returns-3 c =
     let k = c .before .before .before .before .before .before .before .before .before .before in
-    set-answered (k .before .before .before .pre .0) (ap meant (k .ask3 .given .1)) refl (c .before .before .set-quiet-in .ensures .1) (c .set-words .ensures) (c .before .before .set-quiet-in .ensures .0)
+    set-answered (k .before .before .pre) (ap meant (k .ask3 .given .1)) refl (c .before .before .set-quiet-in .ensures .1) (c .set-words .ensures) (c .before .before .set-quiet-in .ensures .0)
 
 returns-4 : tie.Need-returns-4
 returns-4 c =
     let k = c .before .before .before .before .before .before .before .before .before .before in
-    answered (k .before .before .before .pre .0) (ap meant (k .ask4 .given .1)) (c .link-words .ensures ∙ ap (λ x. five (linkNumbers x)) (c .before .before .link-in .ensures .1))
+    answered (k .before .before .pre) (ap meant (k .ask4 .given .1)) (c .link-words .ensures ∙ ap (λ x. five (linkNumbers x)) (c .before .before .link-in .ensures .1))
     (c .before .before .link-in .ensures .0)
 
 returns-5 : tie.Need-returns-5
 returns-5 c =
     let k = c .before .before .before .before .before .before .before .before .before .before in
-    answered (k .before .before .before .pre .0) (ap meant (k .ask5 .given .1)) (c .cut-words .ensures ∙ ap (λ x. five (cutNumbers x)) (c .before .before .cut-port-in .ensures .1))
+    answered (k .before .before .pre) (ap meant (k .ask5 .given .1)) (c .cut-words .ensures ∙ ap (λ x. five (cutNumbers x)) (c .before .before .cut-port-in .ensures .1))
     (c .before .before .cut-port-in .ensures .0)
 
 returns-6 : tie.Need-returns-6
 returns-6 c =
     let k = c .before .before .before .before .before .before .before .before .before .before in
-    answered (k .before .before .before .pre .0) (ap meant (k .ask6 .given .1)) (c .link-words2 .ensures ∙ ap (λ x. five (linkNumbers x)) (c .before .before .link-sub-in .ensures .1))
+    answered (k .before .before .pre) (ap meant (k .ask6 .given .1)) (c .link-words2 .ensures ∙ ap (λ x. five (linkNumbers x)) (c .before .before .link-sub-in .ensures .1))
     (c .before .before .link-sub-in .ensures .0)
 
 returns-7 : tie.Need-returns-7
 returns-7 c =
     let k = c .before .before .before .before .before .before .before .before .before .before in
-    answered (k .before .before .before .pre .0) (ap meant (k .ask7 .given .1)) (c .cut-words2 .ensures ∙ ap (λ x. five (cutNumbers x)) (c .before .before .cut-sub-in .ensures .1))
+    answered (k .before .before .pre) (ap meant (k .ask7 .given .1)) (c .cut-words2 .ensures ∙ ap (λ x. five (cutNumbers x)) (c .before .before .cut-sub-in .ensures .1))
     (c .before .before .cut-sub-in .ensures .0)
 
 returns-8 : tie.Need-returns-8
 returns-8 c =
     let k = c .before .before .before .before .before .before .before .before .before in
-    answered (k .before .before .before .pre .0) (ap meant (k .ask8 .given .1)) (c .cut-words3 .ensures ∙ ap (λ x. five (cutNumbers x)) (c .before .subport-link-in .ensures)) refl
+    answered (k .before .before .pre) (ap meant (k .ask8 .given .1)) (c .cut-words3 .ensures ∙ ap (λ x. five (cutNumbers x)) (c .before .subport-link-in .ensures)) refl
 
 returns-9 : tie.Need-returns-9
 unfolding visibleNodes visiblePorts visibleLinks
 returns-9 c =
     let k = c .before .before .before .before in
-    counts-answered (k .before .before .before .pre .0) (ap meant (k .enum-told .given .1)) (c .before .before .before .node-count-in .ensures) (c .before .before .port-count-in .ensures) (c .before .link-count-in .ensures) (c .five-words .ensures)
+    counts-answered (k .before .before .pre) (ap meant (k .enum-told .given .1)) (c .before .before .before .node-count-in .ensures) (c .before .before .port-count-in .ensures) (c .before .link-count-in .ensures) (c .five-words .ensures)
 
 returns-10 : tie.Need-returns-10
-returns-10 c = answered (c .before .before .before .before .pre .0) (ap meant (c .before .enum-told2 .given .1)) (c .five-words2 .ensures) refl
+returns-10 c = answered (c .before .before .before .pre) (ap meant (c .before .enum-told2 .given .1)) (c .five-words2 .ensures) refl
 
 pub one-request-spec : {M : Type 1} → statement M
 one-request-spec =

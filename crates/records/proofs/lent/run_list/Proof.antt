@@ -10,13 +10,12 @@ use Rattle.records.specs.RunSteps.{Running, run-starts, run-fits, run-tu
 use Rattle.multiportgraph.specs.MultiLent.{multiIn}
 use Rattle.records.proofs.lent.run_list.Statement.{statement}
 use Rattle.records.proofs.lent.run_list.Tie as tie
-use Rattle.multiportgraph.specs.HiddenNodes.{enough}
 
 abbrev Inv-loop : tie.InvT-loop
-Inv-loop requests answers₀ nodes₀ links₀ owners₀ heads₀ marks₀ flags₀ moves₀ held₀ at₀ answers nodes links owners heads marks flags moves held at = Running requests answers (multiIn nodes links owners heads marks flags held) at × (length moves ≡ enough)
+Inv-loop requests answers₀ nodes₀ links₀ owners₀ heads₀ marks₀ flags₀ held₀ at₀ answers nodes links owners heads marks flags held at = Running requests answers (multiIn nodes links owners heads marks flags held) at
 
 abbrev μ-loop : tie.MeasureT-loop
-μ-loop requests answers₀ nodes₀ links₀ owners₀ heads₀ marks₀ flags₀ moves₀ held₀ at₀ answers nodes links owners heads marks flags moves held at = length requests - at
+μ-loop requests answers₀ nodes₀ links₀ owners₀ heads₀ marks₀ flags₀ held₀ at₀ answers nodes links owners heads marks flags held at = length requests - at
 
 -- the requests' length is a number of the machine
 long : (c : tie.After-slice-known Inv-loop μ-loop) → length (c .before .before .args .requests .now) < 18446744073709551616
@@ -26,34 +25,31 @@ no-held-requires : tie.Need-no-held-requires Inv-loop μ-loop
 no-held-requires c κs = search needs
 
 loop-holds : tie.Need-loop-holds Inv-loop μ-loop
-loop-holds c = (run-starts (start-in _ (c .no-held .ensures)) (c .before .before .before .pre .0) (c .before .before .before .pre .1), refl)
+loop-holds c = run-starts (start-in _ (c .no-held .ensures)) (c .before .before .before .pre .0) (c .before .before .before .pre .1)
 
 ask-at-requires : tie.Need-ask-at-requires Inv-loop μ-loop
-ask-at-requires c κs = run-fits (c .before .loop .inv .0) (c .loop-test .taken)
-
-slice-aggregate-one-request : tie.Need-slice-aggregate-one-request Inv-loop μ-loop
-slice-aggregate-one-request c = search needs
+ask-at-requires c κs = run-fits (c .before .loop .inv) (c .loop-test .taken)
 
 one-request-requires : tie.Need-one-request-requires Inv-loop μ-loop
-one-request-requires c κs = (c .before .before .before .before .before .before .before .before .before .loop .inv .0 .kept, c .before .before .before .before .before .before .before .before .before .loop .inv .1)
+one-request-requires c κs = c .before .before .before .before .before .before .before .before .loop .inv .kept
 
 put-answer-requires : tie.Need-put-answer-requires Inv-loop μ-loop
-put-answer-requires c κs = let h = run-fits (c .before .before .before .before .before .before .before .before .before .before .before .before .before .before .loop .inv .0) (c .before .before .before .before .before .before .before .before .before .before .before .before .before .loop-test .taken) in let l = c .before .before .before .before .before .before .before .before .before .before .before .before .before .before .loop .inv .0 .long in omega arith
+put-answer-requires c κs = let h = run-fits (c .before .before .before .before .before .before .before .before .before .before .before .before .loop .inv) (c .before .before .before .before .before .before .before .before .before .before .before .loop-test .taken) in let l = c .before .before .before .before .before .before .before .before .before .before .before .before .loop .inv .long in omega arith
 
 add-at : tie.Need-add-at Inv-loop μ-loop
-add-at c = let h = run-fits (c .before .before .before .before .before .before .before .before .before .before .before .before .before .before .before .before .before .loop .inv .0) (c .before .before .before .before .before .before .before .before .before .before .before .before .before .before .before .before .loop-test .taken) in omega (arith, long (c .before .before .before .before .before .before .before .before .before .before .before .before .before .before .before .before .before .before .before))
+add-at c = let h = run-fits (c .before .before .before .before .before .before .before .before .before .before .before .before .before .before .before .loop .inv) (c .before .before .before .before .before .before .before .before .before .before .before .before .before .before .loop-test .taken) in omega (arith, long (c .before .before .before .before .before .before .before .before .before .before .before .before .before .before .before .before .before))
 
 loop-less : tie.Need-loop-less Inv-loop μ-loop
-loop-less c = let h = run-fits (c .before .before .before .before .before .before .before .before .before .before .before .before .before .before .before .before .before .loop .inv .0) (c .before .before .before .before .before .before .before .before .before .before .before .before .before .before .before .before .loop-test .taken) in omega arith
+loop-less c = let h = run-fits (c .before .before .before .before .before .before .before .before .before .before .before .before .before .before .before .loop .inv) (c .before .before .before .before .before .before .before .before .before .before .before .before .before .before .loop-test .taken) in omega arith
 
 loop-again : tie.Need-loop-again Inv-loop μ-loop
-loop-again c = (run-turns (c .before .before .before .before .before .before .before .before .before .before .before .before .before .before .before .before .before .loop .inv .0) (c .before .before .before .before .before .before .before .before .before .before .before .before .before .before .before .before .loop-test .taken) (c .before .before .before .before .before .before .before .before .before .before .before .before .before .before .before .ask-at .ensures) (c .before .before .before .before .before .before .before .one-request .ensures) (c .before .before .put-answer .ensures), c .before .before .before .before .before .before .before .one-request .kept .1 .1 .1 .1 .1 .1 .1 .0 ∙ c .before .before .before .before .before .before .before .before .before .before .before .before .before .before .before .before .before .loop .inv .1)
+loop-again c = run-turns (c .before .before .before .before .before .before .before .before .before .before .before .before .before .before .before .loop .inv) (c .before .before .before .before .before .before .before .before .before .before .before .before .before .before .loop-test .taken) (c .before .before .before .before .before .before .before .before .before .before .before .before .before .ask-at .ensures) (c .before .before .before .before .before .before .one-request .ensures) (c .before .before .put-answer .ensures)
 
 same-length : tie.Need-same-length Inv-loop μ-loop
-same-length c = let h = c .before .loop .inv .0 .long in let l = c .before .before .before .before .before .pre .0 in omega arith
+same-length c = let h = c .before .loop .inv .long in let l = c .before .before .before .before .before .pre .0 in omega arith
 
 returns : tie.Need-returns Inv-loop μ-loop
-returns c = run-ends (c .before .loop .inv .0) (c .loop-test .left)
+returns c = run-ends (c .before .loop .inv) (c .loop-test .left)
 
 pub run-list-spec : {M : Type 1} → statement M
 run-list-spec =
@@ -64,7 +60,6 @@ run-list-spec =
     no-held-requires
     loop-holds
     ask-at-requires
-    slice-aggregate-one-request
     one-request-requires
     put-answer-requires
     add-at

@@ -125,7 +125,7 @@ pub(crate) fn case_k() -> bool {
         .asked([LINK, 3, 0, 0, 0], [0, 3, 0, 0, 1])
         .resized(0, 0, 1, 2, &[0, 1, 6, 1, 0, 0])
         .wired(0)
-        .unsplit(0);
+        .unsplit(0, 0);
     state.good
 }
 

@@ -1,12 +1,10 @@
-// Looks at a graph: the subports of a node, all wires, the fan-out of a port.
+// Looks at a graph: the subports of a node, all wires.
 use multiportgraph::iter::NodeSubportsStart;
 use multiportgraph::iter::NodeSubportsStep;
 use multiportgraph::iter::WiresStep;
-use multiportgraph::lookups::CountAnswer;
 use multiportgraph::multiportgraph::MultiPortGraph;
 use multiportgraph::multiportgraph::SubportIndex;
 use portgraph::index::NodeIndex;
-use portgraph::index::PortIndex;
 use portgraph::iter::Sides;
 ghost use Rattle.multiportgraph.specs.Inner.{MultiWf};
 
@@ -63,12 +61,21 @@ pub(crate) fn has_wires(graph: MultiPortGraph, count: u32) -> bool
     }
 }
 
-// Whether a port has so many subports.
-pub(crate) fn has_fan_out(graph: MultiPortGraph, port: u32, count: usize) -> bool
+// Whether a node has one subport only: this port, not split.
+pub(crate) fn lists_one(graph: MultiPortGraph, node: u32, port: u32) -> bool
     requires { ⌜ MultiWf graph ⌝ }
 {
-    match graph.port_fan_out(PortIndex(port)) {
-        CountAnswer::Count(found) => found == count,
-        CountAnswer::Refused(_) => false,
+    let NodeSubportsStart::Started(start) = graph.subports(NodeIndex(node), Sides::Both) else {
+        return false;
+    };
+    let NodeSubportsStep::Item(subport, next) = start.step(graph) else {
+        return false;
+    };
+    if !is_subport(subport, port, 0) {
+        return false;
+    }
+    match next.step(graph) {
+        NodeSubportsStep::Item(_, _) => false,
+        NodeSubportsStep::End => true,
     }
 }

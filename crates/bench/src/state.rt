@@ -1,7 +1,7 @@
 // A graph with the answers that it gave so far, each held to the one expected.
-use crate::looks::has_fan_out;
 use crate::looks::has_wires;
 use crate::looks::lists;
+use crate::looks::lists_one;
 use multiportgraph::multiportgraph::MultiPortGraph;
 use multiportgraph::multiportgraph::SetAnswer;
 use records::answers::Answer5;
@@ -142,12 +142,12 @@ impl State {
         self.with(has_wires(graph, count))
     }
 
-    // A port that is not split.
-    pub(crate) fn unsplit(self, port: u32) -> Self
+    // The one port of a node, which is not split.
+    pub(crate) fn unsplit(self, node: u32, port: u32) -> Self
         requires { ⌜ MultiWf (self .graph) ⌝ }
         ensures { λ r. ⌜ MultiWf (r .graph) ⌝ }
     {
         let graph = self.graph;
-        self.with(has_fan_out(graph, port, 1))
+        self.with(lists_one(graph, node, port))
     }
 }

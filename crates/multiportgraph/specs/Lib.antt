@@ -44,6 +44,7 @@ pub mod Needs
 pub mod Scans
 pub mod WalkScans
 pub mod ListScans
+pub mod FanOutScans
 -- what MultiWf says, and the room behind 10
 pub mod Inner
 pub mod Space
@@ -89,6 +90,7 @@ pub mod WireSteps
 pub mod WalkSteps
 pub mod LinkWalkSteps
 pub mod SubportSteps
+pub mod FanOutSteps
 pub mod LentSteps
 pub mod LentEndSteps
 pub mod LentSetSteps

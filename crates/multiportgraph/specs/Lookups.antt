@@ -54,7 +54,7 @@ offsetOf m p = offsetSeen m p (seen m p)
 abbrev pub fanOutSeen : MultiPortGraph → ℕ → Port → CountAnswer
 fanOutSeen m p dead = count-of.Refused (UnknownPort (port# p))
 fanOutSeen m p hidden = count-of.Refused (HiddenPort (port# p))
-fanOutSeen m p (visible n d) = count-of.Count (fanOut m p d)
+fanOutSeen m p (visible n d) = count-of.Count (fanOut m p)
 
 unfoldable pub portFanOut : MultiPortGraph → ℕ → CountAnswer
 portFanOut m p = fanOutSeen m p (seen m p)

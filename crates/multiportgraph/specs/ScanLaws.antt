@@ -472,7 +472,7 @@ module _ {m : MultiPortGraph} (w : MultiWf m) (n : ℕ) (k : NodeMeta) (open-nod
       slot Incoming l = omega arith
       slot Outgoing l = omega arith
 
-  side-links-in-row : (d : Direction) → sideLinks m d n ≡ flatMap (portLinks m) (range (portsFrom k (One d)) (portsOn k d))
+  pub side-links-in-row : (d : Direction) → sideLinks m d n ≡ flatMap (portLinks m) (range (portsFrom k (One d)) (portsOn k d))
   unfolding sideLinks subportsOfSide portLinks
   side-links-in-row d =
       flatMap-flatMap (wireOf m d) (subportsOfPort m d) (portsOfSide m d n)

@@ -61,7 +61,7 @@ end-from-first owners q o x Outgoing e = go (ltb (q + 1 + o) portSlots) (eqb (at
     go false c h = absurd (zero-is-not-one (cc))
 
 module _ (m : MultiPortGraph) (w : MultiWf m) where
-  mark-told : (p : ℕ) → flagAt (m .multiport) portSlots p ≡ isSplit m p
+  pub mark-told : (p : ℕ) → flagAt (m .multiport) portSlots p ≡ isSplit m p
   unfolding isSplit
   mark-told p = flag-is (m .multiport) portSlots p (w .fine .marksLong)
 
@@ -153,6 +153,18 @@ module _ (m : MultiPortGraph) (w : MultiWf m) where
               let g : p ≡ first + o = omega arith in
               end-of-plain t ∙ ap inner g
 
+    -- the slot of the first end, where there is one
+    pub first-subport : isSplit m p ≡ true → 0 < count → first ≡ firstBeside (m .graph .«port_meta») (farIn (m .graph .«port_link») p) d
+    first-subport t l = let e = first-of-split 0 l t in let i = inner-inside 0 (first + 0) (end-slot 0 l) in omega arith
+
+    pub first-itself : isSplit m p ≡ false → first ≡ p
+    first-itself t =
+        let c = count-plain t in
+        let l : 0 < count = omega arith in
+        let e = first-of-plain 0 l t in
+        let i = inner-inside 0 (first + 0) (end-slot 0 l) in
+        omega arith
+
     link-read : (o : ℕ) → o < count
         → wireOf m d (subport# p o) ≡ wireTo (subport# p o) (wireIn (m .graph .«port_link») (m .graph .«port_meta») (m .«copy_node») (first + o))
     unfolding wireOf
@@ -184,7 +196,7 @@ module _ (m : MultiPortGraph) (w : MultiWf m) where
         (λ i h. let r = member-range i 0 count (member-filter t i (range 0 count) h .0) in link-read i (omega arith))
         ∙ ap (flatMap (λ i. wireTo (subport# p i) (wireIn (m .graph .«port_link») (m .graph .«port_meta») (m .«copy_node») (first + i)))) e))
 
-    links-whole : portLinks m p ≡ linksIn (m .graph .«port_link») (m .graph .«port_meta») (m .«copy_node») p first 0 count
+    pub links-whole : portLinks m p ≡ linksIn (m .graph .«port_link») (m .graph .«port_meta») (m .«copy_node») p first 0 count
     unfolding linksIn
     links-whole =
         links-by-offset

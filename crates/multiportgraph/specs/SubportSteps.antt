@@ -1,4 +1,4 @@
--- Steps of the walk over the subports of a block, and of the fan-out of a block, over plain values.
+-- Steps of the walk over the subports of a block, over plain values.
 use mathlib.Core.Path.{_≡_, refl, sym, _∙_, ap}
 use mathlib.Core.Bool.{Bool, true, false, cond}
 use mathlib.Core.List.{List, [], _∷_, _++_, map}
@@ -22,20 +22,17 @@ use Rattle.multiportgraph.specs.Inner.{MultiWf}
 use Rattle.multiportgraph.specs.Reads.{seenIn}
 use Rattle.multiportgraph.specs.ReadLaws.{seen-read}
 use Rattle.multiportgraph.specs.Wires.{portsOfSide}
-use Rattle.multiportgraph.specs.Walks.{fanOut, sumOf, blockFanOut, bothSeen, portsOfNode, subportsOf, subportBeyond, stepSubports}
-use Rattle.multiportgraph.specs.Lookups.{counted, portFanOut, nodeFanOut}
+use Rattle.multiportgraph.specs.Walks.{bothSeen, portsOfNode, subportsOf, subportBeyond, stepSubports}
 use Rattle.multiportgraph.specs.Listing.{member-range}
 use Rattle.multiportgraph.specs.ScanLaws.{subportsSeen, subportsAt, subportsFromTo, subportPast, subports-on, subports-end, subports-of-split, subports-of-plain, split-subports-rest, plain-subports-rest, block-not-hidden, row-fits, port-seen-there, ports-in-row, block-subports-all, block-subports-rest, block-subports-none}
 use Rattle.multiportgraph.specs.LookupSteps.{start-at, block-at, meta-is, fan-out-at}
 use Rattle.multiportgraph.specs.Scans.{spanCount}
 use Rattle.multiportgraph.specs.ScanReads.{count-split, count-plain}
-use Rattle.multiportgraph.specs.WalkScans.{heldIn, firstSubport, subportPort, portSubportsBy, portSubportsIn, subportsRest, subportsBeyond, fanOutIn}
+use Rattle.multiportgraph.specs.WalkScans.{heldIn, firstSubport, subportPort, portSubportsBy, portSubportsIn, subportsRest, subportsBeyond}
 use Rattle.multiportgraph.specs.WalkSteps.{both-found}
 use Rattle.multiportgraph.specs.declared.multiportgraph.MultiPortGraph.{MultiPortGraph}
-use Rattle.multiportgraph.specs.declared.multiportgraph.Refusal.{Refusal}
 use Rattle.multiportgraph.specs.declared.multiportgraph.SubportIndex.{SubportIndex}
 use Rattle.multiportgraph.specs.declared.lookups.BlockFound.the-variants as block-found
-use Rattle.multiportgraph.specs.declared.lookups.CountAnswer.the-variants as count-of
 use Rattle.multiportgraph.specs.declared.iter.NodeSubports.{NodeSubports}
 use Rattle.multiportgraph.specs.declared.iter.NodeSubportsStep.{NodeSubportsStep}
 use Rattle.multiportgraph.specs.declared.iter.NodeSubportsStep.the-variants as subports-step
@@ -122,20 +119,6 @@ module _ (marks : List Bool) (links owners : List ℕ) (flags : List Bool) where
         let a : o + 1 ≡ suc o = omega arith in
         let g : from < held = omega arith in
         rw (lt-leb held from g, e, f, a)
-
--- Fan-out.
-
-module _ (marks : List Bool) (links owners : List ℕ) (p stop sum : ℕ) where
-  pub fan-out-turn : (c : ℕ) → p < stop → c ≡ spanCount marks links owners p Outgoing
-      → sum + c + fanOutIn marks links owners (p + 1) (stop - (p + 1)) ≡ sum + fanOutIn marks links owners p (stop - p)
-  unfolding fanOutIn sumOf range
-  fan-out-turn c h e =
-      let a : p + 1 ≡ suc p = omega arith in
-      rw (one-less p stop h, a) (omega arith)
-
-  pub fan-out-done : stop ≤ p → sum ≡ sum + fanOutIn marks links owners p (stop - p)
-  unfolding fanOutIn sumOf range
-  fan-out-done h = let a : stop - p ≡ 0 = omega arith in rw a (omega arith)
 
 -- What the tables tell is what the graph has.
 
@@ -310,55 +293,3 @@ module _ (m : MultiPortGraph) (c : NodeSubports) where
     unfolding stepSubports
     subports-none h =
         rw (both-found m (c .node .0) k (c .held) true w e there) (first-end subports-step.End subportsItem _ r listed h)
-
--- Fan-out of a port and of a block.
-
-sum-same : (f g : ℕ → ℕ) (l : List ℕ) → ((x : ℕ) → Member x l → f x ≡ g x) → sumOf f l ≡ sumOf g l
-unfolding sumOf
-sum-same f g [] h = refl
-sum-same f g (x ∷ l) h =
-    let a = h x (inl refl) in
-    let r = sum-same f g l (λ y i. h y (inr i)) in
-    λ i. a i + r i
-
-module _ (m : MultiPortGraph) (w : MultiWf m) (p n : ℕ) (d : Direction) (s : seen m p ≡ visible n d) where
-  fan-out-of : spanCount (m .multiport) (m .graph .«port_link») (m .graph .«port_meta») p d ≡ fanOut m p d
-  unfolding fanOut
-  fan-out-of = go (isSplit m p) refl
-    where
-      go : (b : Bool) → isSplit m p ≡ b → spanCount (m .multiport) (m .graph .«port_link») (m .graph .«port_meta») p d ≡ cond b (subports m p d) 1
-      go true t = count-split m w p n d s t
-      go false t = count-plain m w p n d s t
-
-  -- fan-out of a port
-  pub fan-out-at-port : (r : ℕ) → r ≡ spanCount (m .multiport) (m .graph .«port_link») (m .graph .«port_meta») p d → count-of.Count r ≡ portFanOut m p
-  fan-out-at-port r e = ap count-of.Count (e ∙ fan-out-of) ∙ fan-out-at m p (visible n d) s
-
-module _ (m : MultiPortGraph) (n : ℕ) where
-  pub fan-out-refused : (r : Refusal) → blockFound m n ≡ block-found.Refused r → count-of.Refused r ≡ nodeFanOut m n
-  unfolding nodeFanOut
-  fan-out-refused r e = ap (λ s. counted s (blockFanOut m n)) (start-at m n (block-found.Refused r) e)
-
-  module _ (w : MultiWf m) (k : NodeMeta) (e : blockFound m n ≡ block-found.Block k) where
-    open-node : isHidden m n ≡ false
-    open-node = block-not-hidden m n (sym (block-at m n (block-found.Block k) e))
-
-    outputs : portsOfSide m Outgoing n ≡ range (portsFrom k (One Outgoing)) (portsTo k (One Outgoing) - portsFrom k (One Outgoing))
-    unfolding portsOfNode
-    outputs = ports-in-row m n k (meta-is m n k e) (One Outgoing)
-
-    pub fan-out-counted : (a b r : ℕ) → a ≡ portsFrom k (One Outgoing) → b ≡ portsTo k (One Outgoing)
-        → r ≡ fanOutIn (m .multiport) (m .graph .«port_link») (m .graph .«port_meta») a (min b portSlots - a) → count-of.Count r ≡ nodeFanOut m n
-    unfolding nodeFanOut blockFanOut fanOutIn
-    fan-out-counted a b r ea eb er =
-        let f = row-fits w n k open-node (meta-is m n k e) (One Outgoing) in
-        let l : min b portSlots - a ≡ portsTo k (One Outgoing) - portsFrom k (One Outgoing) = omega arith in
-        let sum : r ≡ sumOf (λ p. fanOut m p Outgoing) (portsOfSide m Outgoing n) =
-        er
-        ∙ ap (λ (x : ℕ). fanOutIn (m .multiport) (m .graph .«port_link») (m .graph .«port_meta») a x) l
-        ∙ ap (λ (x : ℕ). fanOutIn (m .multiport) (m .graph .«port_link») (m .graph .«port_meta») x (portsTo k (One Outgoing) - portsFrom k (One Outgoing))) ea
-        ∙ sum-same (λ p. spanCount (m .multiport) (m .graph .«port_link») (m .graph .«port_meta») p Outgoing) (λ p. fanOut m p Outgoing)
-        (range (portsFrom k (One Outgoing)) (portsTo k (One Outgoing) - portsFrom k (One Outgoing)))
-        (λ p i. let h = member-range p (portsFrom k (One Outgoing)) (portsTo k (One Outgoing) - portsFrom k (One Outgoing)) i in fan-out-of m w p n Outgoing (port-seen-there w n k open-node (meta-is m n k e) Outgoing p (omega arith) (omega arith)))
-        ∙ ap (sumOf (λ p. fanOut m p Outgoing)) (sym outputs) in
-        ap count-of.Count sum ∙ ap (λ s. counted s (sumOf (λ p. fanOut m p Outgoing) (portsOfSide m Outgoing n))) (start-at m n (block-found.Block k) e)

@@ -7,14 +7,13 @@ use Rattle.portgraph.specs.Limits.{portSlots}
 use Rattle.portgraph.specs.Lists.{range, filter, onFirst, onLast}
 use Rattle.portgraph.specs.Entries.{isNode}
 use Rattle.portgraph.specs.declared.direction.Direction.{Direction}
-use Rattle.portgraph.specs.declared.direction.Direction.the-variants.{Outgoing}
 use Rattle.portgraph.specs.declared.index.NodeIndex.{NodeIndex}
 use Rattle.portgraph.specs.declared.iter.Sides.{Sides}
 use Rattle.portgraph.specs.declared.node_entry.NodeEntry.{NodeEntry}
 use Rattle.multiportgraph.specs.Reading.{Port, dead, hidden, visible, subport#}
 use Rattle.multiportgraph.specs.Reads.{seenIn}
 use Rattle.multiportgraph.specs.Wires.{sideLinks}
-use Rattle.multiportgraph.specs.Walks.{sumOf, isSeen, bothSeen, bySides, linkBeyond}
+use Rattle.multiportgraph.specs.Walks.{isSeen, bothSeen, bySides, linkBeyond}
 use Rattle.multiportgraph.specs.Scans.{spanFirst, spanCount, passesIn, linksIn, endBefore}
 use Rattle.multiportgraph.specs.declared.multiportgraph.MultiPortGraph.{MultiPortGraph}
 use Rattle.multiportgraph.specs.declared.multiportgraph.SubportIndex.{SubportIndex}
@@ -101,7 +100,3 @@ subportsBeyond marks links owners flags from end held o =
     cond (leb held from)
     (subportsRest marks links owners flags from 0 (min end portSlots - from))
     (subportsRest marks links owners flags (held - 1) (suc o) (min end portSlots - (held - 1)))
-
--- Fan-out of so many outgoing ports from p on.
-unfoldable pub fanOutIn : List Bool → List ℕ → List ℕ → ℕ → ℕ → ℕ
-fanOutIn marks links owners p count = sumOf (λ q. spanCount marks links owners q Outgoing) (range p count)

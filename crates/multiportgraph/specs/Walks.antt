@@ -5,6 +5,7 @@ use mathlib.Core.Bool.{Bool, true, false, cond}
 use mathlib.Core.List.{List, [], _∷_, _++_, flatMap, map}
 use Prim.Native.Nat.{ℕ, zero, suc, _+_, _-_}
 use lib.Dec.{eqb, leb, ltb}
+use lib.ListN.{length}
 use Rattle.portgraph.specs.Limits.{portSlots}
 use Rattle.portgraph.specs.Lists.{onFirst, onLast, range, filter}
 use Rattle.portgraph.specs.Meaning.{sameSide}
@@ -58,18 +59,6 @@ use Rattle.multiportgraph.specs.declared.iter.NodeConnectionsStep.{NodeC
 use Rattle.multiportgraph.specs.declared.iter.NodeConnectionsStep.the-variants as connections-step
 use Rattle.multiportgraph.specs.declared.iter.NodeConnectionsStart.{NodeConnectionsStart}
 use Rattle.multiportgraph.specs.declared.iter.NodeConnectionsStart.the-variants as connections-start
-
--- Fan-out: the number of subports, an unsplit port counting as 1; a block's is the sum over its outgoing ports.
-
-unfoldable pub fanOut : MultiPortGraph → ℕ → Direction → ℕ
-fanOut m p d = cond (isSplit m p) (subports m p d) 1
-
-unfoldable pub sumOf : (ℕ → ℕ) → List ℕ → ℕ
-sumOf f [] = 0
-sumOf f (x ∷ l) = f x + sumOf f l
-
-unfoldable pub blockFanOut : MultiPortGraph → ℕ → ℕ
-blockFanOut m n = sumOf (λ p. fanOut m p Outgoing) (portsOfSide m Outgoing n)
 
 -- Starting a walk is a call.
 
@@ -194,6 +183,18 @@ portLinksSeen m p (visible n d) = flatMap (wireOf m d) (subportsOfPort m d p)
 
 unfoldable pub portLinks : MultiPortGraph → ℕ → List SubportLink
 portLinks m p = portLinksSeen m p (seen m p)
+
+-- Fan-out, in place of 01's: the number of wires on a port, 0 for one that is not linked; a block's is the sum over its outgoing ports.
+
+unfoldable pub fanOut : MultiPortGraph → ℕ → ℕ
+fanOut m p = length (portLinks m p)
+
+unfoldable pub sumOf : (ℕ → ℕ) → List ℕ → ℕ
+sumOf f [] = 0
+sumOf f (x ∷ l) = f x + sumOf f l
+
+unfoldable pub blockFanOut : MultiPortGraph → ℕ → ℕ
+blockFanOut m n = sumOf (fanOut m) (portsOfSide m Outgoing n)
 
 -- those strictly between the offsets given from the front and from the back
 unfoldable pub linksLeft : MultiPortGraph → PortLinks → List SubportLink

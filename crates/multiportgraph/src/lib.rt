@@ -3,6 +3,7 @@ pub mod blocks;
 pub mod calls;
 pub mod copies;
 pub mod ends;
+pub mod fan_out;
 pub mod iter;
 pub mod lent;
 pub mod lent_blocks;

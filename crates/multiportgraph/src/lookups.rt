@@ -1,11 +1,10 @@
-// Lookups on blocks and their ports, and fan-out. A node or port that is not live, or hidden, is refused.
+// Lookups on blocks and their ports. A node or port that is not live, or hidden, is refused.
 use crate::ends::SeenPort;
 use crate::ends::position_of;
 use crate::marks::flagged;
 use crate::multiportgraph::MultiPortGraph;
 use crate::multiportgraph::Refusal;
 use crate::reads::seen_in;
-use crate::scans::span_count;
 use portgraph::direction::Direction;
 use portgraph::index::MaybePortIndex;
 use portgraph::index::NodeIndex;
@@ -16,7 +15,7 @@ use portgraph::node_entry::NodeMeta;
 use portgraph::numbers::wide;
 ghost use mathlib.Core.Path.{_≡_};
 ghost use Rattle.multiportgraph.specs.Wires.{isBlock};
-ghost use Rattle.multiportgraph.specs.Lookups.{directionOf, nodeOf, offsetOf, portIndexOf, numPortsOf, capacityOf, portFanOut, containsPortOf, emptyOf, directionNumbers, nodeNumbers, offsetNumbers, portNumbers, countNumbers};
+ghost use Rattle.multiportgraph.specs.Lookups.{directionOf, nodeOf, offsetOf, portIndexOf, numPortsOf, capacityOf, containsPortOf, emptyOf, directionNumbers, nodeNumbers, offsetNumbers, portNumbers, countNumbers};
 ghost use Rattle.multiportgraph.specs.Inner.{MultiWf};
 ghost use Rattle.multiportgraph.specs.Forms.{blockFound};
 
@@ -182,24 +181,5 @@ impl MultiPortGraph {
             return self.graph.port_count == 0;
         }
         false
-    }
-
-    // The number of subports of a port; 1 for a port that is not split.
-    pub fn port_fan_out(self, port: PortIndex) -> CountAnswer
-        requires { ⌜ MultiWf self ⌝ }
-        ensures { λ r. ⌜ (r ≡ portFanOut self (port .0)) × (countNumbers r ≡ countNumbers (portFanOut self (port .0))) ⌝ }
-    {
-        let seen = seen_in(&self.graph.port_meta, &self.copy_node, port.0);
-        match seen {
-            SeenPort::Dead => CountAnswer::Refused(Refusal::UnknownPort(port)),
-            SeenPort::Hidden => CountAnswer::Refused(Refusal::HiddenPort(port)),
-            SeenPort::Visible(_, direction) => CountAnswer::Count(span_count(
-                &self.multiport,
-                &self.graph.port_link,
-                &self.graph.port_meta,
-                port.0,
-                direction,
-            )),
-        }
     }
 }

@@ -1,9 +1,8 @@
-// The walk over the subports of a block, and the fan-out of a block.
+// The walk over the subports of a block.
 use crate::ends::SeenPort;
 use crate::iter::NodeSubports;
 use crate::iter::NodeSubportsStep;
 use crate::lookups::BlockFound;
-use crate::lookups::CountAnswer;
 use crate::multiportgraph::MultiPortGraph;
 use crate::multiportgraph::SubportIndex;
 use crate::reads::seen_in;
@@ -25,9 +24,8 @@ ghost use Prim.Native.Nat.{_-_, _<_, min};
 ghost use Rattle.portgraph.specs.Limits.{portSlots};
 ghost use Rattle.multiportgraph.specs.Walks.{stepSubports};
 ghost use Rattle.multiportgraph.specs.WalkNumbers.{nodeSubportsValues};
-ghost use Rattle.multiportgraph.specs.Lookups.{nodeFanOut, countNumbers};
 ghost use Rattle.multiportgraph.specs.Inner.{MultiWf};
-ghost use Rattle.multiportgraph.specs.WalkScans.{firstSubport, subportPort, portSubportsIn, subportsRest, subportsBeyond, fanOutIn};
+ghost use Rattle.multiportgraph.specs.WalkScans.{firstSubport, subportPort, portSubportsIn, subportsRest, subportsBeyond};
 
 pub enum SubportFound {
     Subport(SubportIndex),
@@ -161,48 +159,5 @@ impl NodeSubports {
             };
         }
         NodeSubportsStep::End
-    }
-}
-
-// The sum of the fan-outs of the outgoing ports from `from` on and below `end`.
-fn fan_out_sum<'a>(
-    marks: &'a [bool; PORT_SLOTS],
-    links: &'a [u32; PORT_SLOTS],
-    owners: &'a [u32; PORT_SLOTS],
-    from: usize,
-    end: usize,
-) -> usize
-    ensures { λ r. ⌜ r ≡ fanOutIn (now (marks .entry)) (now (links .entry)) (now (owners .entry)) from (min end portSlots - from) ⌝ }
-{
-    let stop = capped(end);
-    let mut port = from;
-    let mut sum: usize = 0;
-    while port < stop {
-        sum += span_count(marks, links, owners, port as u32, Direction::Outgoing);
-        port += 1;
-    }
-    sum
-}
-
-impl MultiPortGraph {
-    // The sum of the fan-outs of a block's outgoing ports.
-    pub fn node_fan_out(self, node: NodeIndex) -> CountAnswer
-        requires { ⌜ MultiWf self ⌝ }
-        ensures { λ r. ⌜ (r ≡ nodeFanOut self (node .0)) × (countNumbers r ≡ countNumbers (nodeFanOut self (node .0))) ⌝ }
-    {
-        let block = self.block(node);
-        match block {
-            BlockFound::Refused(refusal) => CountAnswer::Refused(refusal),
-            BlockFound::Block(meta) => {
-                let side = Sides::One(Direction::Outgoing);
-                CountAnswer::Count(fan_out_sum(
-                    &self.multiport,
-                    &self.graph.port_link,
-                    &self.graph.port_meta,
-                    ports_from(meta, side),
-                    ports_to(meta, side),
-                ))
-            }
-        }
     }
 }

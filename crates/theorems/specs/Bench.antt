@@ -9,6 +9,7 @@ use Rattle.portgraph.specs.declared.direction.Direction.the-variants.{Incoming,
 use Rattle.multiportgraph.specs.Reading.{isSplit}
 use Rattle.multiportgraph.specs.Calls.{subportLink, visibleNodes, visiblePorts, visibleLinks, movesTold}
 use Rattle.multiportgraph.specs.Wires.{subportsOfSide, wiresWalked}
+use Rattle.multiportgraph.specs.Lookups.{portFanOut, nodeFanOut, countNumbers}
 use Rattle.theorems.specs.Book.{Call, addCall, removeCall, setCall, linkCall, linkSubCall, cutCall, cutSubCall, AnswerOf}
 use Rattle.theorems.specs.History.{step, numbersOf}
 use Rattle.multiportgraph.specs.declared.multiportgraph.MultiPortGraph.{MultiPortGraph}
@@ -29,6 +30,9 @@ pub data Ask : Type 0 where
   wires : Ask
   -- 1 for a split port
   mark : ℕ → Ask
+  -- fan-out of a port, and of a block
+  fanOut : ℕ → Ask
+  blockFanOut : ℕ → Ask
   -- the move list of a resize, from zeros of this length
   moves : ℕ → ℕ → ℕ → ℕ → Ask
 
@@ -42,6 +46,8 @@ looked m (linkOf p o) = cutNumbers (subportLink m p o)
 looked m (listing n) = flatMap subportNumbers (subportsOfSide m n Incoming ++ subportsOfSide m n Outgoing)
 looked m wires = length (wiresWalked m) ∷ []
 looked m (mark p) = cond (isSplit m p) 1 0 ∷ []
+looked m (fanOut p) = countNumbers (portFanOut m p)
+looked m (blockFanOut n) = countNumbers (nodeFanOut m n)
 looked m (moves n i o k) = movesTold m n i o (replicate k 0)
 
 abbrev after : MultiPortGraph → Ask → MultiPortGraph
@@ -51,6 +57,8 @@ after m (linkOf p o) = m
 after m (listing n) = m
 after m wires = m
 after m (mark p) = m
+after m (fanOut p) = m
+after m (blockFanOut n) = m
 after m (moves n i o k) = m
 
 unfoldable pub asked : MultiPortGraph → List Ask → List (List ℕ)
@@ -150,13 +158,28 @@ resizeLines =
     ∷ (0 ∷ 1 ∷ 8 ∷ 1 ∷ 1 ∷ 9 ∷ []) ∷ (0 ∷ 2 ∷ []) ∷ (0 ∷ 3 ∷ 0 ∷ []) ∷ (0 ∷ 2 ∷ 0 ∷ []) ∷ [])
     ∷ []
 
+-- Fan-out, smallest inputs: what `fan-out-is-wires` says of every history, on the customer's page. Three wires, one cut, 2; an output
+-- without a wire has none, whether or not it was split; a cut of the lowest subport counts too.
+abbrev pub fanOutLines : List Line
+fanOutLines =
+    ask (start ++ (fanOut 0 ∷ blockFanOut 0 ∷ [])) (startNumbers ++ ((0 ∷ 0 ∷ []) ∷ (0 ∷ 0 ∷ []) ∷ []))
+    ∷ ask
+    (stateB ++ (call (linkCall 0 2) ∷ fanOut 0 ∷ call (cutSubCall 0 1) ∷ fanOut 0 ∷ fanOut 1 ∷ fanOut 2 ∷ blockFanOut 0 ∷ blockFanOut 1
+    ∷ call (cutSubCall 0 0) ∷ fanOut 0 ∷ call (cutSubCall 0 2) ∷ fanOut 0 ∷ mark 0 ∷ fanOut 3 ∷ blockFanOut 2 ∷ []))
+    (numbersB ++ ((0 ∷ 0 ∷ 2 ∷ 2 ∷ 1 ∷ []) ∷ (0 ∷ 3 ∷ []) ∷ (0 ∷ 1 ∷ 2 ∷ 0 ∷ []) ∷ (0 ∷ 2 ∷ []) ∷ (0 ∷ 1 ∷ []) ∷ (0 ∷ 1 ∷ []) ∷ (0 ∷ 2 ∷ []) ∷ (0 ∷ 0 ∷ [])
+    ∷ (0 ∷ 1 ∷ 1 ∷ 0 ∷ []) ∷ (0 ∷ 1 ∷ []) ∷ (0 ∷ 1 ∷ 2 ∷ 1 ∷ []) ∷ (0 ∷ 0 ∷ []) ∷ (1 ∷ []) ∷ (8 ∷ 3 ∷ []) ∷ (5 ∷ []) ∷ []))
+    ∷ []
+
 -- every number of every line
-both-tables : (askedAll benchLines ≡ expectedAll benchLines) × (askedAll resizeLines ≡ expectedAll resizeLines)
-unfolding asked Rattle.portgraph.specs.Tables.at Rattle.portgraph.specs.Tables.put Rattle.portgraph.specs.Tables.fill Rattle.portgraph.specs.Tables.fillRange Rattle.portgraph.specs.Tables.headAt Rattle.portgraph.specs.Tables.putHead Rattle.portgraph.specs.Tables.ownBlock Rattle.portgraph.specs.Tables.linkBoth Rattle.portgraph.specs.Tables.cutFar Rattle.portgraph.specs.Tables.cut Rattle.portgraph.specs.Tables.cutRange Rattle.portgraph.specs.Tables.linkCount Rattle.portgraph.specs.Tables.cutCount Rattle.portgraph.specs.Tables.relink Rattle.portgraph.specs.Tables.movePort Rattle.portgraph.specs.Tables.moveUp Rattle.portgraph.specs.Tables.moveDown Rattle.portgraph.specs.Tables.shift Rattle.portgraph.specs.Tables.transfer Rattle.portgraph.specs.Tables.chainBlock Rattle.portgraph.specs.Tables.toldLink Rattle.portgraph.specs.Tables.dropEvents Rattle.portgraph.specs.Tables.moveUpEvents Rattle.portgraph.specs.Tables.moveDownEvents Rattle.portgraph.specs.Tables.shiftEvents Rattle.portgraph.specs.Entries.portEntry Rattle.portgraph.specs.Entries.setPrev Rattle.portgraph.specs.Calls.newGraph Rattle.portgraph.specs.Calls.findSlotUnder Rattle.portgraph.specs.Calls.findBlockUnder Rattle.portgraph.specs.Calls.restOf Rattle.portgraph.specs.Calls.grown Rattle.portgraph.specs.Calls.slotAfter Rattle.portgraph.specs.Calls.placeNode Rattle.portgraph.specs.Calls.addNodeUnder Rattle.portgraph.specs.Calls.freeNode Rattle.portgraph.specs.Calls.removeNode Rattle.portgraph.specs.Calls.linkPorts Rattle.portgraph.specs.Calls.unlinkPort Rattle.portgraph.specs.Resize.doubled Rattle.portgraph.specs.Resize.roundUp Rattle.portgraph.specs.Resize.sameCounts Rattle.portgraph.specs.Resize.fitsInside Rattle.portgraph.specs.Resize.planOfUnder Rattle.portgraph.specs.Resize.dropIncoming Rattle.portgraph.specs.Resize.dropLinks Rattle.portgraph.specs.Resize.dropCount Rattle.portgraph.specs.Resize.dropTold Rattle.portgraph.specs.Resize.insideLinks Rattle.portgraph.specs.Resize.resizeInside Rattle.portgraph.specs.Resize.insideTold Rattle.portgraph.specs.Resize.anewLinks Rattle.portgraph.specs.Resize.resizeAnew Rattle.portgraph.specs.Resize.anewTold Rattle.portgraph.specs.Resize.setNumPortsUnder Rattle.portgraph.specs.Resize.movesAfterUnder Rattle.portgraph.specs.Meaning.upd Rattle.portgraph.specs.Meaning.samePlace Rattle.portgraph.specs.Meaning.dropJoin Rattle.portgraph.specs.Meaning.linkJoin Rattle.portgraph.specs.Meaning.handOver Rattle.multiportgraph.specs.Reading.farPort Rattle.multiportgraph.specs.Reading.hasLink Rattle.multiportgraph.specs.Reading.ownerOf Rattle.multiportgraph.specs.Reading.portOf Rattle.multiportgraph.specs.Reading.positionOf Rattle.multiportgraph.specs.Reading.isHidden Rattle.multiportgraph.specs.Reading.isSplit Rattle.multiportgraph.specs.Reading.seen Rattle.multiportgraph.specs.Reading.copyNode Rattle.multiportgraph.specs.Reading.subports Rattle.multiportgraph.specs.Reading.subportAt Rattle.multiportgraph.specs.Reading.endAt Rattle.multiportgraph.specs.Reading.asRead Rattle.multiportgraph.specs.Reading.copySide Rattle.multiportgraph.specs.Reading.mainPort Rattle.multiportgraph.specs.Reading.subportOf Rattle.multiportgraph.specs.Graph.emptyGraph Rattle.multiportgraph.specs.Calls.addBlockUnder Rattle.multiportgraph.specs.HiddenNodes.removeCopy Rattle.multiportgraph.specs.HiddenNodes.unsplit Rattle.multiportgraph.specs.HiddenNodes.unsplitRange Rattle.multiportgraph.specs.Calls.dropBlock Rattle.multiportgraph.specs.Calls.removeBlock Rattle.multiportgraph.specs.HiddenNodes.layRange Rattle.multiportgraph.specs.HiddenNodes.layMarks Rattle.multiportgraph.specs.HiddenNodes.recounted Rattle.multiportgraph.specs.HiddenNodes.copiesIn Rattle.multiportgraph.specs.HiddenNodes.copiesDropped Rattle.multiportgraph.specs.HiddenNodes.removeLone Rattle.multiportgraph.specs.HiddenNodes.removeAll Rattle.multiportgraph.specs.Calls.setCountsUnder Rattle.multiportgraph.specs.Calls.movesToldUnder Rattle.multiportgraph.specs.HiddenNodes.splitGraph Rattle.multiportgraph.specs.HiddenNodes.splitPort Rattle.multiportgraph.specs.HiddenNodes.splitUnder Rattle.multiportgraph.specs.HiddenNodes.lowestFree Rattle.multiportgraph.specs.HiddenNodes.growUnder Rattle.multiportgraph.specs.HiddenNodes.reuseUnder Rattle.multiportgraph.specs.HiddenNodes.prepareUnder Rattle.multiportgraph.specs.Calls.linkPairUnder Rattle.multiportgraph.specs.Calls.linkSub Rattle.multiportgraph.specs.Calls.cutPort Rattle.multiportgraph.specs.Calls.cutSub Rattle.multiportgraph.specs.Calls.subportLink Rattle.multiportgraph.specs.Calls.visibleNodes Rattle.multiportgraph.specs.Calls.visiblePorts Rattle.multiportgraph.specs.Calls.visibleLinks Rattle.portgraph.specs.Lists.range mathlib.Core.List.flatMap Rattle.portgraph.specs.Lists.filter Rattle.multiportgraph.specs.Wires.isBlock Rattle.multiportgraph.specs.Wires.blocks Rattle.multiportgraph.specs.Wires.portsOfSide Rattle.multiportgraph.specs.Wires.subportsOfPort Rattle.multiportgraph.specs.Wires.subportsOfSide Rattle.multiportgraph.specs.Wires.wireOf Rattle.multiportgraph.specs.Wires.sideLinks Rattle.multiportgraph.specs.Wires.allWires Rattle.multiportgraph.specs.Wires.isBeyond Rattle.multiportgraph.specs.Wires.wiresBeyond Rattle.multiportgraph.specs.Wires.stepWires Rattle.multiportgraph.specs.Wires.walkWires Rattle.multiportgraph.specs.Wires.placeOf Rattle.multiportgraph.specs.Wires.walked Rattle.multiportgraph.specs.Wires.wiresWalked
-both-tables = (refl, refl)
+all-tables : (askedAll benchLines ≡ expectedAll benchLines) × (askedAll resizeLines ≡ expectedAll resizeLines) × (askedAll fanOutLines ≡ expectedAll fanOutLines)
+unfolding asked Rattle.portgraph.specs.Tables.at Rattle.portgraph.specs.Tables.put Rattle.portgraph.specs.Tables.fill Rattle.portgraph.specs.Tables.fillRange Rattle.portgraph.specs.Tables.headAt Rattle.portgraph.specs.Tables.putHead Rattle.portgraph.specs.Tables.ownBlock Rattle.portgraph.specs.Tables.linkBoth Rattle.portgraph.specs.Tables.cutFar Rattle.portgraph.specs.Tables.cut Rattle.portgraph.specs.Tables.cutRange Rattle.portgraph.specs.Tables.linkCount Rattle.portgraph.specs.Tables.cutCount Rattle.portgraph.specs.Tables.relink Rattle.portgraph.specs.Tables.movePort Rattle.portgraph.specs.Tables.moveUp Rattle.portgraph.specs.Tables.moveDown Rattle.portgraph.specs.Tables.shift Rattle.portgraph.specs.Tables.transfer Rattle.portgraph.specs.Tables.chainBlock Rattle.portgraph.specs.Tables.toldLink Rattle.portgraph.specs.Tables.dropEvents Rattle.portgraph.specs.Tables.moveUpEvents Rattle.portgraph.specs.Tables.moveDownEvents Rattle.portgraph.specs.Tables.shiftEvents Rattle.portgraph.specs.Entries.portEntry Rattle.portgraph.specs.Entries.setPrev Rattle.portgraph.specs.Calls.newGraph Rattle.portgraph.specs.Calls.findSlotUnder Rattle.portgraph.specs.Calls.findBlockUnder Rattle.portgraph.specs.Calls.restOf Rattle.portgraph.specs.Calls.grown Rattle.portgraph.specs.Calls.slotAfter Rattle.portgraph.specs.Calls.placeNode Rattle.portgraph.specs.Calls.addNodeUnder Rattle.portgraph.specs.Calls.freeNode Rattle.portgraph.specs.Calls.removeNode Rattle.portgraph.specs.Calls.linkPorts Rattle.portgraph.specs.Calls.unlinkPort Rattle.portgraph.specs.Resize.doubled Rattle.portgraph.specs.Resize.roundUp Rattle.portgraph.specs.Resize.sameCounts Rattle.portgraph.specs.Resize.fitsInside Rattle.portgraph.specs.Resize.planOfUnder Rattle.portgraph.specs.Resize.dropIncoming Rattle.portgraph.specs.Resize.dropLinks Rattle.portgraph.specs.Resize.dropCount Rattle.portgraph.specs.Resize.dropTold Rattle.portgraph.specs.Resize.insideLinks Rattle.portgraph.specs.Resize.resizeInside Rattle.portgraph.specs.Resize.insideTold Rattle.portgraph.specs.Resize.anewLinks Rattle.portgraph.specs.Resize.resizeAnew Rattle.portgraph.specs.Resize.anewTold Rattle.portgraph.specs.Resize.setNumPortsUnder Rattle.portgraph.specs.Resize.movesAfterUnder Rattle.portgraph.specs.Meaning.upd Rattle.portgraph.specs.Meaning.samePlace Rattle.portgraph.specs.Meaning.dropJoin Rattle.portgraph.specs.Meaning.linkJoin Rattle.portgraph.specs.Meaning.handOver Rattle.multiportgraph.specs.Reading.farPort Rattle.multiportgraph.specs.Reading.hasLink Rattle.multiportgraph.specs.Reading.ownerOf Rattle.multiportgraph.specs.Reading.portOf Rattle.multiportgraph.specs.Reading.positionOf Rattle.multiportgraph.specs.Reading.isHidden Rattle.multiportgraph.specs.Reading.isSplit Rattle.multiportgraph.specs.Reading.seen Rattle.multiportgraph.specs.Reading.copyNode Rattle.multiportgraph.specs.Reading.subports Rattle.multiportgraph.specs.Reading.subportAt Rattle.multiportgraph.specs.Reading.endAt Rattle.multiportgraph.specs.Reading.asRead Rattle.multiportgraph.specs.Reading.copySide Rattle.multiportgraph.specs.Reading.mainPort Rattle.multiportgraph.specs.Reading.subportOf Rattle.multiportgraph.specs.Graph.emptyGraph Rattle.multiportgraph.specs.Calls.addBlockUnder Rattle.multiportgraph.specs.HiddenNodes.removeCopy Rattle.multiportgraph.specs.HiddenNodes.unsplit Rattle.multiportgraph.specs.HiddenNodes.unsplitRange Rattle.multiportgraph.specs.Calls.dropBlock Rattle.multiportgraph.specs.Calls.removeBlock Rattle.multiportgraph.specs.HiddenNodes.layRange Rattle.multiportgraph.specs.HiddenNodes.layMarks Rattle.multiportgraph.specs.HiddenNodes.recounted Rattle.multiportgraph.specs.HiddenNodes.copiesIn Rattle.multiportgraph.specs.HiddenNodes.copiesDropped Rattle.multiportgraph.specs.HiddenNodes.removeLone Rattle.multiportgraph.specs.HiddenNodes.removeAll Rattle.multiportgraph.specs.Calls.setCountsUnder Rattle.multiportgraph.specs.Calls.movesToldUnder Rattle.multiportgraph.specs.HiddenNodes.splitGraph Rattle.multiportgraph.specs.HiddenNodes.splitPort Rattle.multiportgraph.specs.HiddenNodes.splitUnder Rattle.multiportgraph.specs.HiddenNodes.lowestFree Rattle.multiportgraph.specs.HiddenNodes.growUnder Rattle.multiportgraph.specs.HiddenNodes.reuseUnder Rattle.multiportgraph.specs.HiddenNodes.prepareUnder Rattle.multiportgraph.specs.Calls.linkPairUnder Rattle.multiportgraph.specs.Calls.linkSub Rattle.multiportgraph.specs.Calls.cutPort Rattle.multiportgraph.specs.Calls.cutSub Rattle.multiportgraph.specs.Calls.subportLink Rattle.multiportgraph.specs.Calls.visibleNodes Rattle.multiportgraph.specs.Calls.visiblePorts Rattle.multiportgraph.specs.Calls.visibleLinks Rattle.portgraph.specs.Lists.range mathlib.Core.List.flatMap Rattle.portgraph.specs.Lists.filter Rattle.multiportgraph.specs.Wires.isBlock Rattle.multiportgraph.specs.Wires.blocks Rattle.multiportgraph.specs.Wires.portsOfSide Rattle.multiportgraph.specs.Wires.subportsOfPort Rattle.multiportgraph.specs.Wires.subportsOfSide Rattle.multiportgraph.specs.Wires.wireOf Rattle.multiportgraph.specs.Wires.sideLinks Rattle.multiportgraph.specs.Wires.allWires Rattle.multiportgraph.specs.Wires.isBeyond Rattle.multiportgraph.specs.Wires.wiresBeyond Rattle.multiportgraph.specs.Wires.stepWires Rattle.multiportgraph.specs.Wires.walkWires Rattle.multiportgraph.specs.Wires.placeOf Rattle.multiportgraph.specs.Wires.walked Rattle.multiportgraph.specs.Wires.wiresWalked Rattle.multiportgraph.specs.Lookups.portFanOut Rattle.multiportgraph.specs.Lookups.nodeFanOut Rattle.multiportgraph.specs.Walks.portLinks Rattle.multiportgraph.specs.Walks.fanOut Rattle.multiportgraph.specs.Walks.sumOf Rattle.multiportgraph.specs.Walks.blockFanOut Rattle.multiportgraph.specs.Walks.startAtNode
+all-tables = (refl, refl, refl)
 
 pub bench-table : askedAll benchLines ≡ expectedAll benchLines
-bench-table = both-tables .0
+bench-table = all-tables .0
 
 pub resize-table : askedAll resizeLines ≡ expectedAll resizeLines
-resize-table = both-tables .1
+resize-table = all-tables .1
+
+pub fan-out-table : askedAll fanOutLines ≡ expectedAll fanOutLines
+fan-out-table = all-tables .2

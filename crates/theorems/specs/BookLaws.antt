@@ -231,18 +231,30 @@ in-leaving w v (u ∷ l) (inl p) (inr k) other = k
 in-leaving w v (u ∷ l) (inr h) (inl q) other = inl q
 in-leaving w v (u ∷ l) (inr h) (inr k) other = inr (in-leaving w v l h k other)
 
-count-le : (f : Wire → Bool) (l k : List Wire) → Once l → ((w : Wire) → Member w l → Member w k) → count f l ≤ count f k
+count-le : (f : Wire → Bool) (l k : List Wire) → Once l → ((w : Wire) → Member w l → f w ≡ true → Member w k) → count f l ≤ count f k
 count-le f [] k o s = omega arith
-count-le f (w ∷ l) k o s =
-    let i : Member w k = s w (inl refl) in
-    let r : count f l ≤ count f (leaving w k i) =
-    count-le f l (leaving w k i) (o .1) (λ v h. in-leaving w v k i (s v (inr h)) (λ p. o .0 (subst (λ (x : Wire). Member x l) p h))) in
-    let e : count f k ≡ flag (f w) + count f (leaving w k i) = count-leaving f w k i in
+count-le f (w ∷ l) k o s = go (f w) refl (λ k s. count-le f l k (o .1) s)
+  where
+    go : (b : Bool) → f w ≡ b → ((k : List Wire) → ((v : Wire) → Member v l → f v ≡ true → Member v k) → count f l ≤ count f k) → flag (f w) + count f l ≤ count f k
+    go true e less =
+        let i : Member w k = s w (inl refl) e in
+        let r : count f l ≤ count f (leaving w k i) =
+        less (leaving w k i) (λ v h g. in-leaving w v k i (s v (inr h) g) (λ p. o .0 (subst (λ (x : Wire). Member x l) p h))) in
+        let c : count f k ≡ flag (f w) + count f (leaving w k i) = count-leaving f w k i in
+        omega arith
+    go false e less =
+        let r : count f l ≤ count f k = less k (λ v h. s v (inr h)) in
+        let z : flag (f w) ≡ 0 = ap flag e in
+        omega arith
+
+-- two lists, each wire once, that have the same wires among those that pass a test
+pub same-count-among : (f : Wire → Bool) (l k : List Wire) → Once l → Once k → ((w : Wire) → Member w l → f w ≡ true → Member w k) →
+    ((w : Wire) → Member w k → f w ≡ true → Member w l) → count f l ≡ count f k
+same-count-among f l k o u s t =
+    let a : count f l ≤ count f k = count-le f l k o s in
+    let b : count f k ≤ count f l = count-le f k l u t in
     omega arith
 
 pub same-count : (f : Wire → Bool) (l k : List Wire) → Once l → Once k → ((w : Wire) → Member w l → Member w k) → ((w : Wire) → Member w k → Member w l) →
     count f l ≡ count f k
-same-count f l k o u s t =
-    let a : count f l ≤ count f k = count-le f l k o s in
-    let b : count f k ≤ count f l = count-le f k l u t in
-    omega arith
+same-count f l k o u s t = same-count-among f l k o u (λ w i e. s w i) (λ w i e. t w i)

@@ -3,16 +3,20 @@ use mathlib.Core.Path.{_≡_}
 use mathlib.Core.Bool.{Bool, true, false, cond, _||_}
 use mathlib.Core.List.{List, [], _∷_, _++_, flatMap}
 use Prim.Native.Nat.{ℕ, _+_}
+use lib.Dec.{eqb}
 use Rattle.portgraph.specs.Lists.{Member, Once}
+use Rattle.portgraph.specs.declared.direction.Direction.{Direction}
 use Rattle.multiportgraph.specs.Calls.{linkSub, cutSub, linkPair}
-use Rattle.multiportgraph.specs.Places.{Wire, Spot, atSpot, flag}
+use Rattle.multiportgraph.specs.Places.{Wire, Spot, spot, atSpot, touches, flag}
 use Rattle.multiportgraph.specs.Wires.{walked, wiresWalked}
+use Rattle.multiportgraph.specs.Lookups.{portFanOut, nodeFanOut}
 use Rattle.theorems.specs.Book as book
-use Rattle.theorems.specs.Book.{Call, Block, Book}
+use Rattle.theorems.specs.Book.{Call, Block, Book, spotOf}
 use Rattle.theorems.specs.History.{State}
 use Rattle.multiportgraph.specs.declared.multiportgraph.MultiPortGraph.{MultiPortGraph}
 use Rattle.multiportgraph.specs.declared.multiportgraph.SubportIndex.{SubportIndex}
 use Rattle.multiportgraph.specs.declared.multiportgraph.LinkAnswer.the-variants as link
+use Rattle.multiportgraph.specs.declared.lookups.CountAnswer.the-variants as count-of
 
 -- the walk from the start ends, and gives exactly once each wire of the book, and nothing else
 pub record WireRule (s : State) : Type 0 where
@@ -60,6 +64,15 @@ joins s t w = (cond (atSpot s (w .out)) (atSpot t (w .into)) false) || (cond (at
 -- how many wires run between two ports
 abbrev pub between : Spot → Spot → List Wire → ℕ
 between s t l = count (joins s t) l
+
+-- Fan-out.
+
+-- a live port's is how many of the book's wires end there; a block's, how many leave it
+pub record FanOutIsWires (s : State) : Type 0 where
+  pub ofPort : (p n : ℕ) (d : Direction) (i : ℕ) → spotOf (s .book .blocks) p ≡ spot n d i →
+      portFanOut (s .graph) p ≡ count-of.Count (count (touches (atSpot (spot n d i))) (s .book .wires))
+  pub ofBlock : (n : ℕ) (b : Block) → Member b (s .book .blocks) → b .node ≡ n →
+      nodeFanOut (s .graph) n ≡ count-of.Count (count (λ w. eqb (w .out .node) n) (s .book .wires))
 
 -- Counts.
 

@@ -13,8 +13,8 @@
 --   Works         what a call takes of the tables and gives back, which is what refusal 10 counts
 -- What is proved of a call, a bundle (CallLaw) in a file for each call: AddCall, RemoveCall, SetCall, LinkCall, LinkSubCall, CutCall,
 -- CutSubCall; collected in CallLaws. A new call is: its row in Book, History, Conditions and Works, its file, its row in CallLaws.
--- Proofs over histories: TheoremProofs, AnswerWires, ListingWires, KeptPorts, MovePlaces, WiresHeld, HistoryCounts, Runs; the bench wiring,
--- cases A to K, and a few resizes: Bench; 01's numbers: NumberTable.
+-- Proofs over histories: TheoremProofs, AnswerWires, ListingWires, KeptPorts, MovePlaces, WiresHeld, HistoryCounts, FanOutWires, Runs; the bench wiring,
+-- cases A to K, a few resizes and fan-outs: Bench; 01's numbers: NumberTable.
 -- Walks: each gives its listing whole, in order, and then the end (WalkStepLaws, BlockWalkLaws: the laws named -whole); by turns from
 -- both ends no item comes twice (nodes-turns, ports-turns, port-links-turns); a cursor whose node or port is gone or hidden ends, and a
 -- step gives only what is listed beyond what its cursor holds (WalkHeldLaws). Starts of walks, lookups and fan-out are refused exactly
@@ -62,3 +62,4 @@ pub mod WalkStepLaws
 pub mod BlockWalkLaws
 pub mod WalkHeldLaws
 pub mod StartLaws
+pub mod FanOutWires

@@ -354,7 +354,7 @@ module _ {m : MultiPortGraph} {M : Model} {B : Book} (r : Rel m M B) where
       ∙ spot-none p h l (λ c i. right c (inr i))
 
   -- a port of the book is a port of a block, and stands where its place is
-  spot-back : (p n : ℕ) (d : Direction) (i : ℕ) → spotOf (B .blocks) p ≡ spot n d i → Seen m M (inner# n d i) × (slotOf (M .node) (inner# n d i) ≡ p)
+  pub spot-back : (p n : ℕ) (d : Direction) (i : ℕ) → spotOf (B .blocks) p ≡ spot n d i → Seen m M (inner# n d i) × (slotOf (M .node) (inner# n d i) ≡ p)
   spot-back p n d i e = go (seen m p) refl
     where
       other : (v : Port) → seen m p ≡ v → ((c : ℕ) (a : Direction) → v ≡ visible c a → ⊥) → Seen m M (inner# n d i) × (slotOf (M .node) (inner# n d i) ≡ p)

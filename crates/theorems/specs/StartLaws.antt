@@ -1,6 +1,6 @@
 -- When the start of a walk, a lookup or a fan-out is refused: 4 exactly if the node is not live, 5 exactly if it is hidden, 7
 -- exactly if the port is not live, 8 exactly if it belongs to a hidden node, and nothing else. Else the walk starts, or the
--- lookup answers what the graph has; fan-out is the number of subports listed.
+-- lookup answers what the graph has; fan-out is the number of links listed.
 use mathlib.Core.Path.{_≡_, refl, sym, _∙_, ap, subst}
 use mathlib.Core.Bool.{Bool, true, false, cond}
 use mathlib.Core.List.{List, [], _∷_, flatMap, map}
@@ -29,16 +29,16 @@ use Rattle.portgraph.specs.declared.index.MaybePortIndex.the-variants as maybe-
 use Rattle.portgraph.specs.declared.iter.Sides.{Sides}
 use Rattle.portgraph.specs.declared.node_entry.NodeMeta.{NodeMeta}
 use Rattle.portgraph.specs.declared.node_entry.MaybeNodeMeta.{MaybeNodeMeta}
-use Rattle.multiportgraph.specs.Reading.{isHidden, isSplit, subports, positionOf, subport#, Port, dead, hidden, visible, seen}
+use Rattle.multiportgraph.specs.Reading.{isHidden, positionOf, Port, dead, hidden, visible, seen}
 use Rattle.multiportgraph.specs.Calls.{visibleNodes}
-use Rattle.multiportgraph.specs.Wires.{blocks, portsOfSide, subportsOfPort, subportsOfSide}
-use Rattle.multiportgraph.specs.Walks.{fanOut, sumOf, blockFanOut, Start, started, refused, startAtNode, startBetween, startSeen, startAtPort, isSeen, nodePortsFrom, startNodePorts, subportsFrom, startSubports, portLinksFrom, startPortLinks, linksFrom, startLinks, neighboursFrom, startNeighbours, connectionsFrom, startConnections}
+use Rattle.multiportgraph.specs.Wires.{blocks, portsOfSide, sideLinks}
+use Rattle.multiportgraph.specs.Walks.{portLinks, fanOut, sumOf, blockFanOut, Start, started, refused, startAtNode, startBetween, startSeen, startAtPort, isSeen, nodePortsFrom, startNodePorts, subportsFrom, startSubports, portLinksFrom, startPortLinks, linksFrom, startLinks, neighboursFrom, startNeighbours, connectionsFrom, startConnections}
 use Rattle.multiportgraph.specs.Lookups.{directionSeen, directionOf, nodeSeen, nodeOf, offsetSeen, offsetOf, fanOutSeen, portFanOut, containsPortOf, counted, numPortsOf, capacityOf, nodeFanOut, portFound, portIndexOf, emptyOf}
 use Rattle.multiportgraph.specs.Inner.{Fine, BlockIs, Seen}
 use Rattle.multiportgraph.specs.Ends as ends
-use Rattle.multiportgraph.specs.Listing.{length-map}
+use Rattle.multiportgraph.specs.ScanLaws.{side-in-row, side-links-in-row}
 use Rattle.theorems.specs.BookLaws.{total-zeros}
-use Rattle.multiportgraph.specs.CountLaws.{length-range, visible-nodes}
+use Rattle.multiportgraph.specs.CountLaws.{visible-nodes}
 use Rattle.theorems.specs.PortListing.{blocks-list}
 use Rattle.theorems.specs.WireRule.{seen-live}
 use Rattle.multiportgraph.specs.declared.multiportgraph.MultiPortGraph.{MultiPortGraph}
@@ -360,40 +360,34 @@ module _ {m : MultiPortGraph} {M : Model} (f : Fine m M) where
       ap (λ (v : MaybeNodeMeta). portIn v o) (meta-of-node (f .good) (f .holds) n k (b .1)) ∙ rw (le-ltb (o .index) (portsOn k (o .direction)) l) in
       ap (λ (v : Start). portFound v (portIndex (m .graph) n o)) (start-block n k b) ∙ ap (portFound started) e
 
--- Fan-out.
+-- Fan-out: as many as the links listed.
 
--- a port's is the number of its subports in the listing
-pub fan-out-listed : (m : MultiPortGraph) (p : ℕ) (d : Direction) → fanOut m p d ≡ length (subportsOfPort m d p)
-unfolding fanOut subportsOfPort
-fan-out-listed m p d = go (isSplit m p)
-  where
-    go : (b : Bool) → cond b (subports m p d) 1 ≡ length (cond b (map (subport# p) (range 0 (subports m p d))) (subport# p 0 ∷ []))
-    go true = sym (length-map (subport# p) (range 0 (subports m p d)) ∙ length-range 0 (subports m p d))
-    go false = refl
-
-sum-listed : (m : MultiPortGraph) (d : Direction) (l : List ℕ) → sumOf (λ p. fanOut m p d) l ≡ length (flatMap (subportsOfPort m d) l)
-unfolding sumOf flatMap
-sum-listed m d [] = refl
-sum-listed m d (p ∷ l) =
-    let a = fan-out-listed m p d in
-    let b = sum-listed m d l in
-    let c = length-append (subportsOfPort m d p) (flatMap (subportsOfPort m d) l) in
+sum-listed : (m : MultiPortGraph) (l : List ℕ) → sumOf (fanOut m) l ≡ length (flatMap (portLinks m) l)
+unfolding sumOf flatMap fanOut
+sum-listed m [] = refl
+sum-listed m (p ∷ l) =
+    let b = sum-listed m l in
+    let c = length-append (portLinks m p) (flatMap (portLinks m) l) in
     omega arith
 
--- a block's is the number of subports that its outgoing side lists
-pub block-fan-out-listed : (m : MultiPortGraph) (n : ℕ) → blockFanOut m n ≡ length (subportsOfSide m n Outgoing)
-unfolding blockFanOut subportsOfSide
-block-fan-out-listed m n = sum-listed m Outgoing (portsOfSide m Outgoing n)
-
 module _ {m : MultiPortGraph} {M : Model} (f : Fine m M) where
-  -- the calls answer so
-  pub port-fan-out-found : (p : ℕ) (x : model.InnerPlace) → OfBlock m M p x → portFanOut m p ≡ count-of.Count (length (subportsOfPort m (x .side) p))
-  unfolding portFanOut
-  port-fan-out-found p x b = ap (fanOutSeen m p) (block-port-seen f p x b) ∙ ap count-of.Count (fan-out-listed m p (x .side))
+  -- a block's is the number of links that its outgoing side lists
+  block-fan-out-listed : (n : ℕ) (k : NodeMeta) → BlockIs m M n k → blockFanOut m n ≡ length (sideLinks m Outgoing n)
+  unfolding blockFanOut
+  block-fan-out-listed n k b =
+      let e = meta-of-node (f .good) (f .holds) n k (b .1) in
+      sum-listed m (portsOfSide m Outgoing n)
+      ∙ ap length
+      (ap (flatMap (portLinks m)) (side-in-row m n k e Outgoing) ∙ sym (side-links-in-row (record { model = M; fine = f }) n k (b .0) e Outgoing))
 
-  pub node-fan-out-found : (n : ℕ) (k : NodeMeta) → BlockIs m M n k → nodeFanOut m n ≡ count-of.Count (length (subportsOfSide m n Outgoing))
+  -- the calls answer so
+  pub port-fan-out-found : (p : ℕ) (x : model.InnerPlace) → OfBlock m M p x → portFanOut m p ≡ count-of.Count (length (portLinks m p))
+  unfolding portFanOut fanOut
+  port-fan-out-found p x b = ap (fanOutSeen m p) (block-port-seen f p x b)
+
+  pub node-fan-out-found : (n : ℕ) (k : NodeMeta) → BlockIs m M n k → nodeFanOut m n ≡ count-of.Count (length (sideLinks m Outgoing n))
   unfolding nodeFanOut
-  node-fan-out-found n k b = count-found f n (blockFanOut m n) k b ∙ ap count-of.Count (block-fan-out-listed m n)
+  node-fan-out-found n k b = count-found f n (blockFanOut m n) k b ∙ ap count-of.Count (block-fan-out-listed n k b)
 
 -- Empty: no blocks.
 

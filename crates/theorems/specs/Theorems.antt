@@ -26,12 +26,12 @@ use Rattle.multiportgraph.specs.SpaceLaws.{Spaced}
 use Rattle.theorems.specs.Book.{Call, setCall, spotOf}
 use Rattle.theorems.specs.History.{State, step, next, runFrom, run}
 use Rattle.theorems.specs.Works.{worksOf}
-use Rattle.theorems.specs.Claims.{WireRule, Link, linking, LinkedBy, acceptedLink, Restored, between, portsInBook}
+use Rattle.theorems.specs.Claims.{WireRule, Link, linking, LinkedBy, acceptedLink, Restored, between, FanOutIsWires, portsInBook}
 use Rattle.theorems.specs.AnswerClaims.{AnswersItsWire, AnswersAreWires}
 use Rattle.theorems.specs.ListingClaims.{wireFrom, endOn, farFrom, Exactly, InBook, OverSides, OutOfRange, FarNodes, NotOwnOutput}
 use Rattle.theorems.specs.Conditions.{RefusedBy, Accepted, Condition, leavesPrepared}
 use Rattle.theorems.specs.Bench as bench
-use Rattle.theorems.specs.Bench.{askedAll, expectedAll, benchLines, resizeLines}
+use Rattle.theorems.specs.Bench.{askedAll, expectedAll, benchLines, resizeLines, fanOutLines}
 use Rattle.theorems.specs.NumberTable as numbers
 use Rattle.theorems.specs.NumberTable.{refusals, refusalTable, answers, answerTable}
 use Rattle.theorems.specs.Runs as runs
@@ -46,6 +46,7 @@ use Rattle.theorems.specs.KeptPorts.{SplitAsBefore}
 use Rattle.theorems.specs.WiresHeld as cursor
 use Rattle.theorems.specs.CursorClaims.{Beyond, FirstOf, holding, liesBeyond}
 use Rattle.theorems.specs.HistoryCounts as counts
+use Rattle.theorems.specs.FanOutWires as fans
 use Rattle.multiportgraph.specs.declared.multiportgraph.SubportIndex.{SubportIndex}
 use Rattle.multiportgraph.specs.declared.multiportgraph.SubportLink.{SubportLink}
 use Rattle.multiportgraph.specs.declared.iter.Wires.{Wires}
@@ -113,6 +114,10 @@ listings-are-wires-between = listed.listings-are-wires-between
 -- The blocks are those of the book.
 pub blocks-are-booked : (calls : List Call) (n : ℕ) → (isBlock (run calls .graph) n ≡ true) ↔ InBook (run calls .book) n
 blocks-are-booked = listed.blocks-are-booked
+
+-- The fan-out of a live port is how many of the book's wires end there; a block's, how many leave it.
+pub fan-out-is-wires : (calls : List Call) → FanOutIsWires (run calls)
+fan-out-is-wires = fans.fan-out-is-wires
 
 -- A port that an accepted resize keeps is split afterwards exactly if it was, with as many subports; so are the ports of other blocks.
 pub kept-ports-stay-split : (calls : List Call) (n i o room e : ℕ) → step (run calls .graph) (setCall n i o room) .answer ≡ resize.Set e →
@@ -219,6 +224,10 @@ bench-table = bench.bench-table
 -- Resizes by smallest inputs: every number told, and the node slots taken next.
 pub resize-table : askedAll resizeLines ≡ expectedAll resizeLines
 resize-table = bench.resize-table
+
+-- Fan-out by smallest inputs: three wires, one cut, 2.
+pub fan-out-table : askedAll fanOutLines ≡ expectedAll fanOutLines
+fan-out-table = bench.fan-out-table
 
 -- 01's numbers of every refusal, with what it carries, and of every kind of answer.
 pub refusal-numbers : (p q : ℕ) → map refusalNumbers (refusals p q) ≡ refusalTable p q

@@ -27,8 +27,8 @@ Change the wiring:
 Ask for numbers:
   sublink P O             the far end of the wire at a subport: ok 1 PORT OFFSET, or ok 0 0 0
   counts                  how much there is: ok NODES PORTS LINKS
-  fanout P                how many subports a port has: ok NUMBER
-  blockfanout N           how many subports the outputs of a block have: ok NUMBER
+  fanout P                how many wires a port has: ok NUMBER
+  blockfanout N           how many wires leave a block: ok NUMBER
 List (each ends in ok NUMBER; SIDE is 0 incoming, 1 outgoing, 2 both):
   blocks                  all blocks: N each
   subports N SIDE         the subports of a block: PORT OFFSET each

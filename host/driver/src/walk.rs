@@ -181,10 +181,9 @@ impl Oracle {
         Some(Place { node, side, position: number(position.index()), offset })
     }
 
-    /// A port's fan-out: its number of subports, an unsplit port counting as 1.
+    /// A port's fan-out: how many links its walk gives. The Rust has no such number.
     pub fn port_fan_out(&self, port: u32) -> Result<u32, Answer> {
-        self.start_at_port(port)?;
-        Ok(self.split(port).unwrap_or(1))
+        Ok(number(self.port_links(port)?.len()))
     }
 
     /// A block's fan-out: the sum over its outgoing ports.

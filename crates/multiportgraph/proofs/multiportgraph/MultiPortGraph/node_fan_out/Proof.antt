@@ -3,7 +3,7 @@ use mathlib.Core.Path.{sym, _∙_}
 use borrow.Author.Needs.{needs}
 use Rattle.portgraph.specs.LookupSteps.{with-numbers}
 use Rattle.multiportgraph.specs.Lookups.{countNumbers}
-use Rattle.multiportgraph.specs.SubportSteps.{fan-out-refused, fan-out-counted}
+use Rattle.multiportgraph.specs.FanOutSteps.{fan-out-refused, fan-out-counted}
 use Rattle.multiportgraph.proofs.multiportgraph.MultiPortGraph.node_fan_out.Statement.{statement}
 use Rattle.multiportgraph.proofs.multiportgraph.MultiPortGraph.node_fan_out.Tie as tie
 

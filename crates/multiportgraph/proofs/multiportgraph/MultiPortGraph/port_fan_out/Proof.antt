@@ -8,7 +8,7 @@ use Rattle.multiportgraph.specs.Lookups.{countNumbers}
 use Rattle.multiportgraph.specs.CallSteps.{was-dead, was-hidden, was-visible}
 use Rattle.multiportgraph.specs.LookupSteps.{fan-out-at}
 use Rattle.multiportgraph.specs.ReadLaws.{seen-read}
-use Rattle.multiportgraph.specs.SubportSteps.{fan-out-at-port}
+use Rattle.multiportgraph.specs.FanOutSteps.{fan-out-at-port}
 use Rattle.multiportgraph.proofs.multiportgraph.MultiPortGraph.port_fan_out.Statement.{statement}
 use Rattle.multiportgraph.proofs.multiportgraph.MultiPortGraph.port_fan_out.Tie as tie
 
@@ -27,8 +27,8 @@ enum-told-2 c = search needs
 enum-known-seen : tie.Need-enum-known-seen
 enum-known-seen c = search needs
 
-span-count-requires : tie.Need-span-count-requires
-span-count-requires c κs = search needs
+wires-at-requires : tie.Need-wires-at-requires
+wires-at-requires c κs = search needs
 
 returns : tie.Need-returns
 returns c = with-numbers countNumbers (fan-out-at (c .before .before .before .before .before .before .args .t1) (c .before .before .before .before .before .before .args .port .0) dead (was-dead _ (seen-is (c .before .before) ∙ c .enum-told .given .1)))
@@ -37,7 +37,7 @@ returns-2 : tie.Need-returns-2
 returns-2 c = with-numbers countNumbers (fan-out-at (c .before .before .before .before .before .before .args .t1) (c .before .before .before .before .before .before .args .port .0) hidden (was-hidden _ (seen-is (c .before .before) ∙ c .enum-told2 .given .1)))
 
 returns-3 : tie.Need-returns-3
-returns-3 c = with-numbers countNumbers (fan-out-at-port (c .before .before .before .before .before .before .before .before .before .before .before .before .args .t1) (c .before .before .before .before .before .before .before .before .before .before .before .before .pre) (c .before .before .before .before .before .before .before .before .before .before .before .before .args .port .0) _ _ (was-visible _ _ _ (seen-is (c .before .before .before .before .before .before .before .before) ∙ c .before .before .before .before .before .before .seen .given .1)) _ (c .span-count .ensures .0))
+returns-3 c = with-numbers countNumbers (fan-out-at-port (c .before .before .before .before .before .before .before .before .before .before .before .before .args .t1) (c .before .before .before .before .before .before .before .before .before .before .before .before .pre) (c .before .before .before .before .before .before .before .before .before .before .before .before .args .port .0) _ _ (was-visible _ _ _ (seen-is (c .before .before .before .before .before .before .before .before) ∙ c .before .before .before .before .before .before .seen .given .1)) _ (c .wires-at .ensures .0))
 
 pub port-fan-out-spec : {M : Type 1} → statement M
 port-fan-out-spec =
@@ -47,7 +47,7 @@ port-fan-out-spec =
     enum-told
     enum-told-2
     enum-known-seen
-    span-count-requires
+    wires-at-requires
     returns
     returns-2
     returns-3)

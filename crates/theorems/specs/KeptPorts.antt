@@ -11,7 +11,7 @@ use Rattle.portgraph.specs.Model as model
 use Rattle.portgraph.specs.Model.{Model, Slots, Valid, slotOf, countOf}
 use Rattle.portgraph.specs.Entries.{portsOn}
 use Rattle.portgraph.specs.declared.direction.Direction.{Direction}
-use Rattle.multiportgraph.specs.Reading.{isSplit, portOf, subports}
+use Rattle.multiportgraph.specs.Reading.{isSplit}
 use Rattle.multiportgraph.specs.Inner.{inner#, Fine, Seen}
 use Rattle.multiportgraph.specs.Ends.{port-of, count-of}
 use Rattle.multiportgraph.specs.RecountLaws.{count-new, number-cases}
@@ -24,18 +24,8 @@ use Rattle.theorems.specs.History.{run, step}
 use Rattle.theorems.specs.WireRule.{seen-live}
 use Rattle.theorems.specs.CallLaws.{rel-run}
 use Rattle.theorems.specs.ListingClaims.{InBook}
+use Rattle.theorems.specs.MoveClaims.{SplitAsBefore}
 use Rattle.theorems.specs.ListingWires.{block-booked}
-
--- how many subports a port has: an unsplit one is its own
-abbrev pub subportsHad : MultiPortGraph → ℕ → Direction → ℕ
-subportsHad m p d = cond (isSplit m p) (subports m p d) 1
-
--- a port of block k, by side and position, is split in a later graph exactly if it was, and has as many subports, an unsplit one
--- counting as 1
-abbrev pub SplitAsBefore : MultiPortGraph → MultiPortGraph → ℕ → Direction → ℕ → Type 0
-SplitAsBefore m m′ k d j =
-    (isSplit m′ (portOf (m′ .graph) k d j) ≡ isSplit m (portOf (m .graph) k d j))
-    × (subportsHad m′ (portOf (m′ .graph) k d j) d ≡ subportsHad m (portOf (m .graph) k d j) d)
 
 module _ {m : MultiPortGraph} {M : Model} (f : Fine m M) {m′ : MultiPortGraph} {n i o : ℕ} (s : SetDone m M m′ n i o) where
   -- a port that is not dropped is still there

@@ -7,7 +7,7 @@
 --   History       one call, and lists of calls from the empty graph, with the book beside them
 --   Claims        what is said of a history: the wire rule, cuts that restore, wires between ports, counts
 --   AnswerClaims, ListingClaims     what calls answer of a wire, and what walks list, against the book
---   MoveClaims    which ports a resize tells, and what it tells of each, by side and position; the hidden nodes that go
+--   MoveClaims    which ports a resize tells, and what it tells of each, by side and position; the hidden nodes that go; what stays split
 --   CursorClaims  what lies beyond the port and offset that the cursor over all wires holds
 --   Conditions    when each refusal of a call is given, in words about the model, and what a refusal leaves
 --   Works         what a call takes of the tables and gives back, which is what refusal 10 counts

@@ -1,5 +1,6 @@
--- The words of `moves-are-places` and `hidden-go-in-order`: which ports a resize tells, in which order, and what it tells of each, by side
--- and position; which hidden nodes go with them.
+-- The words of `moves-are-places`, `hidden-go-in-order` and `kept-ports-stay-split`: which ports a resize tells, in which order, and what it
+-- tells of each, by side and position; which hidden nodes go with them; a port that stays split.
+use mathlib.Core.Path.{_≡_}
 use mathlib.Core.Bool.{Bool, true, false, cond}
 use mathlib.Core.List.{List, [], _∷_, _++_, map}
 use Prim.Native.Nat.{ℕ, zero, suc, _+_, _-_, min}
@@ -11,7 +12,7 @@ use Rattle.portgraph.specs.declared.direction.Direction.{Direction}
 use Rattle.portgraph.specs.declared.direction.Direction.the-variants.{Incoming, Outgoing}
 use Rattle.portgraph.specs.declared.index.PortOffset.{PortOffset}
 use Rattle.portgraph.specs.declared.portgraph.PortGraph.{PortGraph}
-use Rattle.multiportgraph.specs.Reading.{portOf, hasLink, farPort, isSplit, copyNode}
+use Rattle.multiportgraph.specs.Reading.{portOf, hasLink, farPort, isSplit, copyNode, subports}
 use Rattle.multiportgraph.specs.declared.multiportgraph.MultiPortGraph.{MultiPortGraph}
 
 -- Places of a block.
@@ -100,3 +101,16 @@ hiddenTold m n i o =
 abbrev pub givenBack : List ℕ → List ℕ → List ℕ
 givenBack [] free = free
 givenBack (c ∷ l) free = givenBack l (c ∷ free)
+
+-- What a resize keeps.
+
+-- how many subports a port has: an unsplit one is its own
+abbrev pub subportsHad : MultiPortGraph → ℕ → Direction → ℕ
+subportsHad m p d = cond (isSplit m p) (subports m p d) 1
+
+-- a port of block k, by side and position, is split in a later graph exactly if it was, and has as many subports, an unsplit one
+-- counting as 1
+abbrev pub SplitAsBefore : MultiPortGraph → MultiPortGraph → ℕ → Direction → ℕ → Type 0
+SplitAsBefore m m′ k d j =
+    (isSplit m′ (portOf (m′ .graph) k d j) ≡ isSplit m (portOf (m .graph) k d j))
+    × (subportsHad m′ (portOf (m′ .graph) k d j) d ≡ subportsHad m (portOf (m .graph) k d j) d)

@@ -41,8 +41,7 @@ use Rattle.theorems.specs.AnswerWires as answered
 use Rattle.theorems.specs.ListingWires as listed
 use Rattle.theorems.specs.KeptPorts as kept
 use Rattle.theorems.specs.MovePlaces as moved
-use Rattle.theorems.specs.MoveClaims.{toldEvents, toldPlaces, hiddenTold, givenBack}
-use Rattle.theorems.specs.KeptPorts.{SplitAsBefore}
+use Rattle.theorems.specs.MoveClaims.{toldEvents, toldPlaces, hiddenTold, givenBack, SplitAsBefore}
 use Rattle.theorems.specs.WiresHeld as cursor
 use Rattle.theorems.specs.CursorClaims.{Beyond, FirstOf, holding, liesBeyond}
 use Rattle.theorems.specs.HistoryCounts as counts

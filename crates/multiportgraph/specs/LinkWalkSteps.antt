@@ -18,14 +18,14 @@ use Rattle.portgraph.specs.declared.node_entry.NodeMeta.{NodeMeta}
 use Rattle.multiportgraph.specs.Reading.{ownerOf, Port, dead, hidden, visible, seen, subport#}
 use Rattle.multiportgraph.specs.Forms.{seenAs, blockFound}
 use Rattle.multiportgraph.specs.Inner.{MultiWf}
-use Rattle.multiportgraph.specs.Reads.{seenIn, wireIn}
+use Rattle.multiportgraph.specs.Reads.{ownerIn, seenIn, wireIn}
 use Rattle.multiportgraph.specs.ReadLaws.{seen-read}
 use Rattle.multiportgraph.specs.Wires.{isBlock, wireTo, sideLinks}
 use Rattle.multiportgraph.specs.Walks.{bothSeen, between, bySides, portLinksSeen, portLinks, linksLeft, stepFront, stepBack, linkBeyond, nodeLinks, stepLinks, isOwnOutput, notIgnored, neighbourLinks, neighboursItem, stepNeighbours, connections, connectionsItem, linksItem, stepConnections}
 use Rattle.multiportgraph.specs.Listing.{filter-same}
 use Rattle.multiportgraph.specs.ScanLaws.{range-append, range-between, flatMap-append, block-not-hidden}
 use Rattle.multiportgraph.specs.LookupSteps.{block-at, meta-is}
-use Rattle.multiportgraph.specs.Scans.{firstFound, spanFirst, spanCount, ownerIn, notOwnOutput, passesIn, linksIn, beyondIn, endBefore}
+use Rattle.multiportgraph.specs.Scans.{firstFound, spanFirst, spanCount, notOwnOutput, passesIn, linksIn, beyondIn, endBefore}
 use Rattle.multiportgraph.specs.ScanSteps.{filter-every}
 use Rattle.multiportgraph.specs.ScanReads.{beyond-read, links-under}
 use Rattle.multiportgraph.specs.WalkScans.{heldIn, blockLeft, selfFilter, lastFound, leftIn}

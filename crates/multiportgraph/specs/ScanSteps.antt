@@ -28,11 +28,11 @@ use Rattle.portgraph.specs.Meaning.{sameSide}
 use Rattle.portgraph.specs.declared.index.NodeIndex.{NodeIndex}
 use Rattle.multiportgraph.specs.Reading.{nodeNumber, Port, visible, subport#}
 use Rattle.multiportgraph.specs.Forms.{flagAt, seenAs}
-use Rattle.multiportgraph.specs.Reads.{farIn, seenIn, ownsUp, ownsDown, runUp, runDown, countBeside, subportsIn, firstIn, wireIn}
+use Rattle.multiportgraph.specs.Reads.{ownerIn, farIn, seenIn, ownsUp, ownsDown, runUp, runDown, countBeside, subportsIn, firstIn, wireIn}
 use Rattle.multiportgraph.specs.ReadSteps.{run-bound}
 use Rattle.multiportgraph.specs.Wires.{wireTo}
 use Rattle.multiportgraph.specs.Listing.{filter-append}
-use Rattle.multiportgraph.specs.Scans.{firstFound, linkPort, spanFirst, spanCount, ownerIn, notOwnOutput, passesIn, linksIn, portLinksBy, portLinksIn, linksRest, beyondIn, blockLinksIn, wiresIn}
+use Rattle.multiportgraph.specs.Scans.{firstFound, linkPort, spanFirst, spanCount, notOwnOutput, passesIn, linksIn, portLinksBy, portLinksIn, linksRest, beyondIn, blockLinksIn, wiresIn}
 use Rattle.multiportgraph.specs.declared.multiportgraph.SubportIndex.{SubportIndex}
 use Rattle.multiportgraph.specs.declared.multiportgraph.SubportLink.{SubportLink}
 use Rattle.multiportgraph.specs.declared.multiportgraph.Refusal.{Refusal}
@@ -102,11 +102,6 @@ module _ (marks : List Bool) (links owners : List ℕ) (p w : ℕ) (d : Directio
   count-plain g = (rw (is-marked false g), omega arith)
 
 -- Filters.
-
-pub owner-told : (owners : List ℕ) (p w a : ℕ) (e x : PortEntry) → w ≡ p → a ≡ at owners w → e ≡ portEntry a → e ≡ x
-    → nodeNumber (lookups.nodeOf x) ≡ ownerIn owners p
-unfolding ownerIn
-owner-told owners p w a e x hw ha he hx = ap (λ y. nodeNumber (lookups.nodeOf y)) (sym hx ∙ port-read owners p w a e hw ha he)
 
 module _ (n : ℕ) (s : SeenPort) (k : NodeIndex) (d : Direction) (told : s ≡ seen-port.Visible k d) where
   pub own-same : (e : Direction) → k .0 ≡ n → d ≡ e → sameSide e Incoming ≡ notOwnOutput n s

@@ -6,10 +6,9 @@ use lib.Dec.{eqb, leb}
 use lib.ListN.{getD}
 use Rattle.portgraph.specs.Limits.{nodeSlots, portSlots}
 use Rattle.portgraph.specs.Lists.{range}
-use Rattle.portgraph.specs.Entries.{portEntry, freshSlot}
+use Rattle.portgraph.specs.Entries.{freshSlot}
 use Rattle.portgraph.specs.Tables.{at}
 use Rattle.portgraph.specs.Meaning.{sameSide}
-use Rattle.portgraph.specs.Lookups as lookups
 use Rattle.portgraph.specs.Walks.{portsFrom, portsTo}
 use Rattle.portgraph.specs.declared.direction.Direction.{Direction}
 use Rattle.portgraph.specs.declared.direction.Direction.the-variants.{Incoming, Outgoing}
@@ -17,9 +16,9 @@ use Rattle.portgraph.specs.declared.iter.Sides.the-variants.{One}
 use Rattle.portgraph.specs.declared.node_entry.NodeEntry.{NodeEntry}
 use Rattle.portgraph.specs.declared.node_entry.NodeEntry.the-variants as node-variants
 use Rattle.portgraph.specs.declared.node_entry.NodeSlot.{NodeSlot}
-use Rattle.multiportgraph.specs.Reading.{nodeNumber, Port, dead, hidden, visible, subport#}
+use Rattle.multiportgraph.specs.Reading.{Port, dead, hidden, visible, subport#}
 use Rattle.multiportgraph.specs.Forms.{flagAt, seenAs}
-use Rattle.multiportgraph.specs.Reads.{seenIn, subportsIn, firstIn, wireIn}
+use Rattle.multiportgraph.specs.Reads.{ownerIn, seenIn, subportsIn, firstIn, wireIn}
 use Rattle.multiportgraph.specs.Wires.{wireTo}
 use Rattle.multiportgraph.specs.declared.multiportgraph.SubportLink.{SubportLink}
 use Rattle.multiportgraph.specs.declared.ends.SeenPort.{SeenPort}
@@ -47,9 +46,6 @@ unfoldable pub spanCount : List Bool → List ℕ → List ℕ → ℕ → Direc
 spanCount marks links owners p d = cond (flagAt marks portSlots p) (subportsIn links owners p d) 1
 
 -- Filters.
-
-unfoldable pub ownerIn : List ℕ → ℕ → ℕ
-ownerIn owners p = nodeNumber (lookups.nodeOf (portEntry (at owners p)))
 
 abbrev pub notOwnOutput : ℕ → SeenPort → Bool
 notOwnOutput n seen-port.Dead = true

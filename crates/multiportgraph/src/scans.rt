@@ -5,6 +5,7 @@ use crate::multiportgraph::CutAnswer;
 use crate::multiportgraph::SubportIndex;
 use crate::multiportgraph::SubportLink;
 use crate::reads::first_in;
+use crate::reads::owner_in;
 use crate::reads::seen_in;
 use crate::reads::subports_in;
 use crate::reads::wire_in;
@@ -20,8 +21,6 @@ use portgraph::node_entry::NodeEntry;
 use portgraph::node_entry::NodeSlot;
 use portgraph::numbers::wide;
 use portgraph::numbers::wide16;
-use portgraph::port_entry::PortEntry;
-use portgraph::tables::at;
 ghost use mathlib.Core.Path.{_≡_};
 ghost use Prim.Native.Nat.{_+_, _-_, _≤_, _<_, min};
 ghost use Rattle.portgraph.specs.Limits.{portSlots};
@@ -29,7 +28,7 @@ ghost use Rattle.portgraph.specs.Lists.{filter};
 ghost use Rattle.multiportgraph.specs.Reading.{subport#};
 ghost use Rattle.multiportgraph.specs.Reads.{wireIn};
 ghost use Rattle.multiportgraph.specs.Wires.{wireTo};
-ghost use Rattle.multiportgraph.specs.Scans.{firstFound, linkPort, spanFirst, spanCount, ownerIn, notOwnOutput, passesIn, linksIn, portLinksIn, linksRest, beyondIn, blockLinksIn};
+ghost use Rattle.multiportgraph.specs.Scans.{firstFound, linkPort, spanFirst, spanCount, notOwnOutput, passesIn, linksIn, portLinksIn, linksRest, beyondIn, blockLinksIn};
 
 // Which links a walk gives, by the port that they lead to.
 pub enum LinkFilter {
@@ -82,16 +81,6 @@ pub(crate) fn span_count<'a>(
         return subports_in(links, owners, port, direction);
     }
     1
-}
-
-// The node that has a port; 0 for a port that is not live.
-pub(crate) fn owner_in(owners: &[u32; PORT_SLOTS], port: u32) -> u32
-    ensures { λ r. ⌜ r ≡ ownerIn (now (owners .entry)) port ⌝ }
-{
-    let PortEntry::Port(meta) = PortEntry::read(at(owners, wide(port))) else {
-        return 0;
-    };
-    meta.node.0
 }
 
 // Whether a port is no outgoing port of a node.

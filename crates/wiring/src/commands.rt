@@ -3,6 +3,7 @@ use crate::help::show_help;
 use crate::listing::list;
 use crate::orders::ADD;
 use crate::orders::BLOCKFANOUT;
+use crate::orders::BLOCKS;
 use crate::orders::COUNTS;
 use crate::orders::FANOUT;
 use crate::orders::HELP;
@@ -10,15 +11,18 @@ use crate::orders::LINK;
 use crate::orders::LINKSUB;
 use crate::orders::NOTHING;
 use crate::orders::Order;
+use crate::orders::PLACES;
 use crate::orders::QUIT;
 use crate::orders::REMOVE;
 use crate::orders::RESIZE;
 use crate::orders::SUBLINK;
 use crate::orders::UNLINK;
 use crate::orders::UNLINKSUB;
+use crate::orders::WIRES;
 use crate::replies::show_answer;
 use crate::replies::show_count;
 use crate::resize::resize_block;
+use crate::whole::list_whole;
 use multiportgraph::multiportgraph::MultiPortGraph;
 use portgraph::index::NodeIndex;
 use portgraph::index::PortIndex;
@@ -65,6 +69,7 @@ fn look(graph: MultiPortGraph, order: Order)
         FANOUT => show_count(graph.port_fan_out(PortIndex(order.a))),
         BLOCKFANOUT => show_count(graph.node_fan_out(NodeIndex(order.a))),
         HELP => show_help(),
+        BLOCKS | WIRES | PLACES => list_whole(graph, command),
         _ => list(graph, order),
     }
 }

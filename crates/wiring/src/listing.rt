@@ -1,13 +1,11 @@
-// Listings. A cursor of the multiport graph is made of the numbers that the command gives and of what the walk gave last; so one item,
-// which holds what any of the walks gave last, stands for every cursor, and one loop serves every listing.
+// Walks: subports, links, neighbours and connections. A cursor of the multiport graph is made of the numbers that the command gives and
+// of what the walk gave last; so one item, which holds what any of the walks gave last, stands for every cursor, and one loop serves
+// every walk.
 use crate::orders::BACK;
-use crate::orders::BLOCKS;
-use crate::orders::CONNECTIONS;
 use crate::orders::LINKS;
 use crate::orders::NEIGHBOURS;
 use crate::orders::NODELINKS;
 use crate::orders::Order;
-use crate::orders::PLACES;
 use crate::orders::SUBPORTS;
 use crate::replies::show_number;
 use crate::replies::show_refusal;
@@ -21,15 +19,9 @@ use multiportgraph::iter::NodeLinks;
 use multiportgraph::iter::NodeLinksStep;
 use multiportgraph::iter::NodeSubports;
 use multiportgraph::iter::NodeSubportsStep;
-use multiportgraph::iter::Nodes;
-use multiportgraph::iter::NodesStep;
 use multiportgraph::iter::PortLinks;
 use multiportgraph::iter::PortLinksStep;
-use multiportgraph::iter::Wires;
-use multiportgraph::iter::WiresStep;
 use multiportgraph::lookups::CountAnswer;
-use multiportgraph::lookups::NodeAnswer;
-use multiportgraph::lookups::OffsetAnswer;
 use multiportgraph::multiportgraph::MultiPortGraph;
 use multiportgraph::multiportgraph::SubportLink;
 use portgraph::direction::Direction;
@@ -50,12 +42,6 @@ pub struct Item {
     pub held: u32,
     pub offset: u16,
     pub back: u32,
-}
-
-// The place of a port: its node, and its position there.
-pub struct Place {
-    pub node: u32,
-    pub position: u32,
 }
 
 fn no_item() -> Item {
@@ -106,17 +92,6 @@ fn sides_of(number: u32) -> Sides {
         1 => Sides::One(Direction::Outgoing),
         _ => Sides::Both,
     }
-}
-
-fn next_block(graph: MultiPortGraph, last: Item) -> Item {
-    let cursor = Nodes {
-        front: last.held,
-        back: 0,
-    };
-    let NodesStep::Item(node, next) = cursor.step(graph) else {
-        return no_item();
-    };
-    node_item(node, next.front, 0)
 }
 
 fn next_subport(graph: MultiPortGraph, order: Order, last: Item) -> Item
@@ -213,32 +188,17 @@ fn next_connection(graph: MultiPortGraph, order: Order, last: Item) -> Item
     link_item(link, next.held, next.offset, 0)
 }
 
-fn next_wire(graph: MultiPortGraph, last: Item) -> Item
-    requires { ⌜ MultiWf graph ⌝ }
-{
-    let cursor = Wires {
-        held: last.held,
-        offset: last.offset,
-    };
-    let WiresStep::Item(link, next) = cursor.step(graph) else {
-        return no_item();
-    };
-    link_item(link, next.held, next.offset, 0)
-}
-
-// The item after the last one, in the listing that a command asks for.
+// The item after the last one, in the walk that a command asks for.
 fn step(graph: MultiPortGraph, order: Order, last: Item) -> Item
     requires { ⌜ MultiWf graph ⌝ }
 {
     let command = order.command;
     match command {
-        BLOCKS => next_block(graph, last),
         SUBPORTS => next_subport(graph, order, last),
         LINKS | BACK => next_port_link(graph, order, last),
         NODELINKS => next_node_link(graph, order, last),
         NEIGHBOURS => next_neighbour(graph, order, last),
-        CONNECTIONS => next_connection(graph, order, last),
-        _ => next_wire(graph, last),
+        _ => next_connection(graph, order, last),
     }
 }
 
@@ -249,48 +209,15 @@ fn connections_start(start: NodeConnectionsStart) -> CountAnswer {
     }
 }
 
-// A listing is refused if the block or the port that it is asked of cannot be looked up.
+// A walk is refused if the block or the port that it is asked of cannot be looked up.
 fn start(graph: MultiPortGraph, command: u32, node: NodeIndex, other: NodeIndex) -> CountAnswer
     requires { ⌜ MultiWf graph ⌝ }
 {
     match command {
         SUBPORTS | NODELINKS | NEIGHBOURS => graph.num_ports(node, Direction::Incoming),
         LINKS | BACK => graph.port_fan_out(PortIndex(node.0)),
-        CONNECTIONS => connections_start(graph.get_connections(node, other)),
-        _ => CountAnswer::Count(0),
+        _ => connections_start(graph.get_connections(node, other)),
     }
-}
-
-fn place_of(graph: MultiPortGraph, port: PortIndex) -> Place {
-    let NodeAnswer::Found(node) = graph.port_node(port) else {
-        return Place {
-            node: 0,
-            position: 0,
-        };
-    };
-    let OffsetAnswer::Found(offset) = graph.port_offset(port) else {
-        return Place {
-            node: 0,
-            position: 0,
-        };
-    };
-    Place {
-        node: node.0,
-        position: offset.index as u32,
-    }
-}
-
-fn with_place(line: Line, place: Place, offset: u32) -> Line {
-    line.number(place.node)
-        .number(place.position)
-        .number(offset)
-}
-
-// A wire, by the places of its ends.
-fn show_places(graph: MultiPortGraph, item: Item) {
-    let from = place_of(graph, PortIndex(item.a));
-    let to = place_of(graph, PortIndex(item.c));
-    with_place(with_place(Line::of(b" "), from, item.b), to, item.d).write();
 }
 
 // An item stands on a line after two blanks.
@@ -305,7 +232,7 @@ fn show_item(item: Item) {
     line.write();
 }
 
-// Every item of a listing, and how many there are. No listing has more than there are port slots.
+// Every item of a walk, and how many there are. No walk has more than there are port slots.
 fn show_items(graph: MultiPortGraph, order: Order) -> usize
     requires { ⌜ MultiWf graph ⌝ }
 {
@@ -316,17 +243,13 @@ fn show_items(graph: MultiPortGraph, order: Order) -> usize
         if item.count == 0 {
             return count;
         }
-        if order.command == PLACES {
-            show_places(graph, item);
-        } else {
-            show_item(item);
-        }
+        show_item(item);
         count += 1;
     }
     count
 }
 
-// A command that lists.
+// A command that walks.
 pub(crate) fn list(graph: MultiPortGraph, order: Order)
     requires { ⌜ MultiWf graph ⌝ }
 {

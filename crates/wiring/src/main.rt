@@ -12,6 +12,7 @@ mod resize;
 mod session;
 mod show;
 mod text;
+mod whole;
 
 use crate::arguments::Asked;
 use crate::arguments::read_arguments;

@@ -23,9 +23,6 @@ step-requires c κs = search needs
 returns : tie.Need-returns Inv-loop μ-loop
 returns c = search needs
 
-show-places-requires : tie.Need-show-places-requires Inv-loop μ-loop
-show-places-requires c κs = search needs
-
 show-item-requires : tie.Need-show-item-requires Inv-loop μ-loop
 show-item-requires c κs = search needs
 
@@ -51,7 +48,6 @@ show-items-spec =
     loop-holds
     step-requires
     returns
-    show-places-requires
     show-item-requires
     add-count
     loop-less

@@ -1,21 +1,21 @@
 #!/usr/bin/env python3
-"""Tries wrong programs: the prover must refuse each edit of scripts/wrong_programs.txt for a fact that can't be shown.
+"""Tries wrong programs: the prover must refuse each edit of scripts/wrong_programs.txt for a fact that is not shown.
 
   wrong_programs.py [--in DIR] [--write] [WORD..]
 
-With words, only edits whose first line has one of them are tried. --in works in DIR and keeps it, so that the next run there checks only
-what has changed. --write puts the tables of the run into docs/TRIALS.md.
+With words, only the edits of crates and places that have one of them are tried. --in works in DIR and keeps it, so that the next run there
+checks only what has changed. --write puts the tables of the run into docs/TRIALS.md.
 
-An edit is a line `CRATE PLACE: what the wrong program does`, then lines `- ` with the text that is replaced and lines `+ ` with what is put
-there. PLACE is a function, `module::name` or `Type::name`, or a definition, `Module.name` of specs/. The old text stands there exactly once, in
-a function in its body.
+An edit is a line `CRATE PLACE: what the wrong program does`, lines `- ` with the text that is replaced, and lines `+ ` with what stands there
+instead. PLACE is a function, `module::name` or `Type::name`, or a definition, `Module.name` of specs/. The old text stands there exactly once,
+in a function in its body. Every public function of the crates in COVERED must have two edits.
 
 Edits of different functions are tried together: a proof rests on the contracts of the functions that are called and not on their code, so
-that none has to do with another. `rt dev` must prove the copy without any edit before it is tried on the copies with them. An edit of a
-definition is tried alone, on the laws of its crate without functions, and where these still hold on the laws of the crate `theorems`.
+that an edit shows in the errors of its own function alone. An edit of a definition is tried by itself, on the laws of its crate without
+functions and, where these still hold, on those of `theorems`. The command is `rt dev CRATE`, and it must prove the same files without edits.
 
-An edit is refused if a need of its own function, or a law, is stated and not shown. It is bad if the compiler refuses it, or if all errors of
-its function say only that the proof file no longer fits the code. Every public function of the crates in the list must have two edits.
+An edit is refused if its function needs a fact, or a law states one, that is not shown. It is bad if the text is not there, if it does not
+compile, or if errors say only that the proof file no longer fits the code; such an edit shows nothing, and counts as not refused.
 """
 import os
 import re
@@ -26,47 +26,60 @@ import tempfile
 
 ROOT = os.path.dirname(os.path.dirname(os.path.abspath(__file__)))
 COVERED = ("portgraph", "multiportgraph", "records")
-# What says that a proof file no longer fits the code, or that an error rests on another.
-MISFIT = re.compile(r"that can be named from here|has no field|not in scope|was not admitted|Need-|cannot be applied|too many arguments")
+# Errors that rest on others, and errors of a proof file that speaks of needs or of facts on the way that the code does not have.
+FOLLOWS = re.compile(r"was not admitted")
+MISFIT = re.compile(r"that can be named from here|has no field|not in scope|^`[\w-]+-spec`: |: module `")
 
 
 class Edit:
     def __init__(self, crate, place, words):
         self.crate, self.place, self.words, self.old, self.new = crate, place, words, [], []
-        self.verdict = self.said = ""
+        self.refused, self.said = False, ""
 
-    def law(self):
+    def of_definition(self):
         return "::" not in self.place
 
-    def path(self, top):
-        """The file that the edit changes, and the first and last line (from 0) in which it may."""
-        if self.law():
-            module, name = self.place.rsplit(".", 1)
-            path = os.path.join(top, "crates", self.crate, "specs", module.replace(".", "/") + ".antt")
-            lines = read(path).split("\n")
-            its = [i for i, l in enumerate(lines) if re.match(r"(?:pub |unfoldable |abbrev )*%s(?: |$)" % re.escape(name), l)]
-            if not its:
-                return path, 0, -1
-            end = its[-1]
-            while end + 1 < len(lines) and lines[end + 1].startswith(" "):
-                end += 1
-            return path, its[0], end
-        path, _, body, end = functions(top, self.crate).get(self.place, ("", False, 0, -1))
-        return path, body, end
+    def where(self, top):
+        """The file, and the first and last line of the place."""
+        if not self.of_definition():
+            path, _, first, last = functions(top, self.crate).get(self.place, ("", False, 0, -1))
+            return path, first, last
+        module, name = self.place.split(".")
+        path = os.path.join(top, "crates", self.crate, "specs", module + ".antt")
+        lines = read(path).split("\n")
+        heads = [i for i, line in enumerate(lines) if re.match(r"(?:pub |unfoldable |abbrev )*%s " % re.escape(name), line)] or [0]
+        last = heads[-1]
+        while last + 1 < len(lines) and lines[last + 1].startswith(" "):
+            last += 1
+        return path, heads[0], last
 
     def put(self, top):
-        """Makes the edit; answers why it can't."""
-        path, first, last = self.path(top)
-        if last < first:
-            return "there is no such place"
-        lines = read(path).split("\n")
+        """Makes the edit. Answers whether it could."""
+        path, first, last = self.where(top)
+        lines = read(path).split("\n") if path else []
         text = "\n".join(lines[first : last + 1])
-        found = list(re.finditer(r"\n\s*".join(re.escape(l.strip()) for l in self.old), text))
+        found = list(re.finditer(r"\n\s*".join(re.escape(line.strip()) for line in self.old), text))
         if len(found) != 1:
-            return "the old text stands there %d times" % len(found)
+            self.tell("BAD EDIT", "the text stands there %d times" % len(found))
+            return False
         text = text[: found[0].start()] + "\n".join(self.new) + text[found[0].end() :]
         write(path, "\n".join(lines[:first] + [text] + lines[last + 1 :]))
-        return ""
+        return True
+
+    def judge(self, errors):
+        """The verdict by the edit's own errors."""
+        own = [e for e in errors if not FOLLOWS.search(e)]
+        facts = [e for e in own if not MISFIT.search(e)]
+        if facts:
+            self.tell("refused", in_words(facts) + ("" if facts == own else " (the proof file fits no more besides)"))
+        elif errors:
+            self.tell("BAD EDIT", "only the proof file fits no more: " + (own or errors)[0])
+        else:
+            self.tell("NOT REFUSED", "no error of its own")
+
+    def tell(self, verdict, said):
+        self.refused, self.said = verdict == "refused", said
+        print("%s: %s %s: %s: %s" % (verdict, self.crate, self.place, self.words, said), flush=True)
 
 
 def read(path):
@@ -79,8 +92,18 @@ def write(path, text):
         f.write(text)
 
 
+def edits_in(text):
+    edits = []
+    for line in text.split("\n"):
+        if line[:2] in ("- ", "+ "):
+            (edits[-1].old if line[0] == "-" else edits[-1].new).append(line[2:])
+        elif line and not line.startswith("#"):
+            edits.append(Edit(*re.fullmatch(r"(\w+) (\S+): (.*)", line).groups()))
+    return edits
+
+
 def functions(top, crate):
-    """Each function of a crate by its name: the file, whether it is public, and the first and last line of its body."""
+    """The functions of a crate by name: the file, whether it is public, and the first and last line of its body."""
     found = {}
     src = os.path.join(top, "crates", crate, "src")
     for name in sorted(os.listdir(src)):
@@ -89,182 +112,162 @@ def functions(top, crate):
             impl = re.match(r"impl (\w+)", line)
             if impl or line == "}":
                 owner = impl.group(1) if impl else name[:-3]
-            fn = re.match(r'( *)(pub(?:\(crate\))? )?(?:extern "C" )?fn (\w+)', line)
+            fn = re.match(r'( *)(pub |pub\(crate\) )?(?:extern "C" )?fn (\w+)', line)
             if fn:
-                end = i
-                while lines[end] != fn.group(1) + "}":
-                    end += 1
-                body = next(k for k in range(i, end) if lines[k].endswith("{") and not lines[k].startswith(fn.group(1) + "    "))
-                found["%s::%s" % (owner, fn.group(3))] = os.path.join(src, name), fn.group(2) == "pub ", body, end
+                last = lines.index(fn.group(1) + "}", i)
+                first = next(k for k in range(i, last) if lines[k].endswith("{") and not lines[k].startswith(fn.group(1) + "    "))
+                found["%s::%s" % (owner, fn.group(3))] = os.path.join(src, name), fn.group(2) == "pub ", first, last
     return found
 
 
-def edits_of(path):
-    edits = []
-    for line in read(path).split("\n"):
-        if line[:2] in ("- ", "+ "):
-            (edits[-1].old if line[0] == "-" else edits[-1].new).append(line[2:])
-        elif line and not line.startswith("#"):
-            crate, place, words = re.fullmatch(r"(\w+) (\S+): (.*)", line).groups()
-            edits.append(Edit(crate, place, words))
-    return edits
+def in_words(errors):
+    """What is not shown first, and if that is short, two terms that should be one."""
+    # a fact that fails for some numbers says most
+    text = re.sub(r"\s+", " ", min(errors, key=lambda e: "fails, at" not in re.sub(r"\s+", " ", e)))
+    need = re.match(r"`([\w-]*?)(?:-(\d+))?`", text)
+    name, count = need.groups() if need else ("", None)
+    if name == "returns":
+        name = "the contract" + (" at return " + count if count else "")
+    elif name.endswith("-requires"):
+        name = "what `%s` requires" % name[:-9].replace("-", "_")
+    elif name.startswith("loop-"):
+        name = "the loop's invariant"
+    else:
+        name = need.group() if need else text[:60]
+    said = ""
+    if "fails, at" in text:
+        said = "fails for some numbers"
+    pair = re.search(r"differ .*?where one has `([^`]*)` \(expected\).*? the other has `([^`]*)` \(found\)", text)
+    if pair:
+        pair = [re.sub(r"[\w·-]+\.(?=[^\s.])", "", side) for side in pair.groups()]
+        pair = [re.sub(r"\(?\bc(?: \.[\w-]+)* \.([^\s()]+)\)?|\.([^\s.()]+)\)?", r"\1\2", side) for side in pair]
+        if all(re.fullmatch(r"[a-z«0-9][\w«»-]*|true|false|[A-Z]\w+", side) and side not in ("Post", "Learnt", "Path", "resV") for side in pair):
+            said = "`%s` is not `%s`" % tuple(pair)
+    return name + (": " + said if said else "")
 
 
 def check(top, crate):
-    """Runs the check. Answers whether all is proved, the compiler's errors with file and line, and the prover's with file and words."""
+    """Runs the check, and answers what the compiler, the borrow checker and the prover say: the file (or function), the line, the error."""
     run = subprocess.run(["rt", "dev", crate], cwd=top, stdout=subprocess.PIPE, stderr=subprocess.STDOUT, text=True, errors="replace")
+    out = run.stdout
     with open(os.path.join(top, "log"), "a", encoding="utf-8") as f:
-        f.write(run.stdout)
-    compiler = [(p, int(n) - 1, said) for p, n, said in re.findall(r"^(\S+\.rt):(\d+):\d+: error\S*: (.*)", run.stdout, re.M)]
-    prover = re.findall(r"^\S*/crates/(\S+)\.antt:\d+:\d+: error: (.*(?:\n  .*)*)", run.stdout, re.M)
-    for name, need in re.findall(r"^fn (\S+): no proof: .*`search` does not close (`[^;\n]*`)", run.stdout, re.M):
-        prover.append(("/".join([crate, "proofs"] + name.split("::")[1:] + ["Proof"]), need + ": `search` finds no proof"))
-    if run.returncode not in (0, 1) or not (compiler or re.search(r"^logic=(not-)?proved", run.stdout, re.M)):
-        sys.exit("the check of %s failed:\n%s" % (crate, run.stdout[-3000:]))
+        f.write(out)
+    compiler = [(path, int(line) - 1, said) for path, line, said in re.findall(r"^(\S+\.rt):(\d+):\d+: error\S*: (.*)", out, re.M)]
+    compiler += [(path, int(line) - 1, said) for path, line, said in re.findall(r"borrow checker does not cover .*? (\S+\.rt):(\d+):\d+: (.*)", out)]
+    prover = re.findall(r"^\S*/crates/(\S+)\.antt:\d+:\d+: error: (.*(?:\n  .*)*)", out, re.M)
+    for name, needs in re.findall(r"^fn (\S+): no proof: .*`search` does not close (`[^;\n]*`)", out, re.M):
+        prover.append(("/".join([crate, "proofs"] + name.split("::")[1:] + ["Proof"]), needs + ": no proof"))
+    if run.returncode not in (0, 1) or not compiler and "\nlogic=" not in out:
+        sys.exit("the check of %s failed:\n%s" % (crate, out[-3000:]))
     return run.returncode == 0, compiler, prover
 
 
-def say(edit, verdict, said):
-    edit.verdict, edit.said = verdict, said
-    print("%s: %s %s: %s: %s" % (verdict, edit.crate, edit.place, edit.words, said), flush=True)
-
-
-def judge(edit, errors):
-    """The verdict on an edit by the errors that are its own."""
-    facts = [e for e in errors if not MISFIT.search(e.split("\n")[0])]
-    if facts:
-        say(edit, "refused", words_of(facts[0]))
-    elif errors:
-        say(edit, "BAD EDIT", "only the proof no longer fits: " + words_of(errors[0]))
-    else:
-        say(edit, "NOT REFUSED", "no error of its own")
-
-
-def words_of(error):
-    """An error's first line in few words: no module names, no paths through what is known."""
-    line = re.sub(r"\s*\n\s*", " ", error)
-    line = re.sub(r"[\w·]+(?:\.[\w·]+)*\.(?=[^\s.])", "", line)
-    line = re.sub(r"\(?c(?: \.before)*(?: \.args)? \.", "", line)
-    return line[:160].replace("|", "/")
-
-
 def try_functions(top, crate, edits):
-    """Tries the edits of functions of a crate, in as many checks as the function with the most has edits."""
-    sources = os.path.join(top, "crates", crate, "src")
-    kept = sources + ".kept"
-    shutil.copytree(sources, kept)
-    while edits:
-        batch = list({e.place: e for e in reversed(edits)}.values())
-        edits = [e for e in edits if e not in batch]
-        while batch:
-            for e in batch:
-                why = e.put(top)
-                if why:
-                    say(e, "BAD EDIT", why)
-            batch = [e for e in batch if not e.verdict]
-            proved, compiler, prover = check(top, crate)
-            for e in batch:
-                path, first, last = e.path(top)
-                for p, n, said in compiler:
-                    if os.path.samefile(p, path) and first <= n <= last:
-                        say(e, "BAD EDIT", "the compiler: " + said)
-                        break
-                if not compiler:
-                    tail = "/".join(e.place.split("::") + ["Proof"])
-                    judge(e, [said for p, said in prover if p.startswith(crate + "/proofs/") and p.endswith("/" + tail)])
-            shutil.rmtree(sources)
-            shutil.copytree(kept, sources)
-            left = [e for e in batch if not e.verdict]
-            if left == batch:
-                sys.exit("errors of the compiler outside the edits: %s" % compiler)
-            batch = left
-    shutil.rmtree(kept)
-
-
-def laws_only(top, crate):
-    """Takes the functions of a crate away with their proofs: types, constants and laws are left."""
-    folder = os.path.join(top, "crates", crate)
-    shutil.rmtree(os.path.join(folder, "proofs"), ignore_errors=True)
-    for name in os.listdir(os.path.join(folder, "src")):
-        path = os.path.join(folder, "src", name)
-        text = re.sub(r'^(?:pub(?:\(crate\))? )?(?:extern "C" )?(?:fn |impl )[\s\S]*?^}$', "", read(path), flags=re.M)
-        text = re.sub(r"^(?:ghost use .*|#\[.*|use (?:.*::)?[a-z]\w*;)$", "", text, flags=re.M)
-        write(path, text)
+    """As many checks as the function with the most edits has; one more where the compiler or the borrow checker stops an edit."""
+    if not check(top, crate)[0]:
+        sys.exit("%s is not proved without edits" % crate)
+    src = os.path.join(top, "crates", crate, "src")
+    kept = os.path.join(top, "src")
+    shutil.rmtree(kept, ignore_errors=True)
+    shutil.copytree(src, kept)
+    batch = []
+    while edits or batch:
+        if not batch:
+            first = {}
+            for e in edits:
+                first.setdefault(e.place, e)
+            batch = list(first.values())
+            edits = [e for e in edits if e not in batch]
+        batch = [e for e in batch if e.put(top)]
+        _, compiler, prover = check(top, crate)
+        left = []
+        for e in batch:
+            path, start, end = e.where(top)
+            stops = [said for p, line, said in compiler if os.path.realpath(p) == os.path.realpath(path) and start <= line <= end]
+            tail = "/%s/Proof" % e.place.replace("::", "/")
+            errors = [said for p, said in prover if p.startswith(crate + "/") and p.endswith(tail)]
+            if stops:
+                e.tell("BAD EDIT", "does not compile: " + stops[0])
+            elif compiler and not errors:
+                left.append(e)
+            else:
+                e.judge(errors)
+        if left and left == batch:
+            sys.exit("%s does not compile: %s" % (crate, compiler))
+        batch = left
+        shutil.rmtree(src)
+        shutil.copytree(kept, src)
 
 
 def try_definitions(top, crate, edits):
-    above = [crate] + (["theorems"] if crate != "theorems" else [])
-    for c in above[::-1]:
+    """Each on the laws of its crate, without functions and proofs of them, and then on the laws above."""
+    folder = os.path.join(top, "crates", crate)
+    shutil.rmtree(os.path.join(folder, "proofs"))
+    for name in os.listdir(os.path.join(folder, "src")):
+        path = os.path.join(folder, "src", name)
+        text = re.sub(r'^(?:pub |pub\(crate\) )?(?:extern "C" )?(?:fn |impl )[\s\S]*?^}$', "", read(path), flags=re.M)
+        write(path, re.sub(r"^(?:ghost use .*|#\[.*|use (?:.*::)?[a-z]\w*;)$", "", text, flags=re.M))
+    for c in (crate, "theorems"):
         if not check(top, c)[0]:
-            sys.exit("the laws of %s are not proved without an edit" % c)
+            sys.exit("the laws of %s do not hold without edits" % c)
     for e in edits:
-        path = e.path(top)[0]
+        path = e.where(top)[0]
         kept = read(path)
-        why = e.put(top)
-        if why:
-            say(e, "BAD EDIT", why)
-            continue
-        errors = []
-        for c in above:
-            errors = errors or [said for p, said in check(top, c)[2] if p.startswith(c + "/specs/")]
-        judge(e, errors)
+        if e.put(top):
+            errors = [said for _, said in check(top, crate)[2]] or [said for _, said in check(top, "theorems")[2]]
+            e.judge(errors)
         write(path, kept)
 
 
-def copy(top):
-    """The crates as they are, and what is proved of them."""
-    shutil.rmtree(os.path.join(top, "crates"), ignore_errors=True)
-    shutil.copytree(os.path.join(ROOT, "crates"), os.path.join(top, "crates"))
-    shutil.copy(os.path.join(ROOT, "crates.txt"), top)
-    for kind in ("rlib", "stamp"):
-        if os.path.isdir(os.path.join(ROOT, "target", kind)):
-            shutil.copytree(os.path.join(ROOT, "target", kind), os.path.join(top, "target", kind), dirs_exist_ok=True)
-
-
 def tables(edits):
-    rows = []
+    lines = []
     for crate in dict.fromkeys(e.crate for e in edits):
-        rows += ["", "## %s" % crate, "", "| Place | Wrong program | First error |", "|---|---|---|"]
-        rows += ["| `%s` | %s | %s |" % (e.place, e.words, e.said) for e in edits if e.crate == crate]
-    return "\n".join(rows[1:]) + "\n"
+        its = [e for e in edits if e.crate == crate]
+        lines += ["## %s: %d of %d refused" % (crate, sum(e.refused for e in its), len(its)), "", "| Place | Wrong program | Refused at |", "|---|---|---|"]
+        lines += ["| `%s` | %s | %s |" % (e.place, e.words, e.said if e.refused else "NOT REFUSED") for e in its] + [""]
+    return "\n".join(lines)
 
 
 def main():
     words = sys.argv[1:]
-    into = "--write" in words
-    words = [w for w in words if w != "--write"]
-    top = words[words.index("--in") + 1] if "--in" in words else tempfile.mkdtemp()
+    top = ""
     if "--in" in words:
-        del words[words.index("--in") : words.index("--in") + 2]
-    edits = edits_of(os.path.join(ROOT, "scripts", "wrong_programs.txt"))
-    bare = []
+        at = words.index("--in")
+        top = os.path.abspath(words[at + 1])
+        del words[at : at + 2]
+    write_tables = "--write" in words
+    words = [w for w in words if w != "--write"]
+    edits = edits_in(read(os.path.join(ROOT, "scripts", "wrong_programs.txt")))
+    lacking = []
     for crate in COVERED:
         for name, (_, public, _, _) in functions(ROOT, crate).items():
-            count = sum(e.crate == crate and e.place == name for e in edits)
-            if public and count < 2:
-                bare.append("%s %s: %d of two edits" % (crate, name, count))
-    edits = [e for e in edits if not words or any(w in "%s %s: %s" % (e.crate, e.place, e.words) for w in words)]
+            if public and sum((e.crate, e.place) == (crate, name) for e in edits) < 2:
+                lacking.append("%s %s" % (crate, name))
+    edits = [e for e in edits if not words or any(w in (e.crate, e.place) or w in e.place for w in words)]
+    work = top or tempfile.mkdtemp()
     try:
         for kind, trial in (("functions", try_functions), ("laws", try_definitions)):
-            for crate in dict.fromkeys(e.crate for e in edits):
-                its = [e for e in edits if e.crate == crate and e.law() == (kind == "laws")]
-                if its:
-                    place = os.path.join(top, kind)
-                    os.makedirs(place, exist_ok=True)
-                    copy(place)
-                    if kind == "laws":
-                        laws_only(place, crate)
-                    elif not check(place, crate)[0]:
-                        sys.exit("%s is not proved without an edit" % crate)
-                    trial(place, crate, its)
+            for crate in dict.fromkeys(e.crate for e in edits if e.of_definition() == (kind == "laws")):
+                folder = os.path.join(work, kind)
+                shutil.rmtree(os.path.join(folder, "crates"), ignore_errors=True)
+                shutil.copytree(os.path.join(ROOT, "crates"), os.path.join(folder, "crates"))
+                shutil.copy(os.path.join(ROOT, "crates.txt"), folder)
+                for part in ("rlib", "stamp"):
+                    if os.path.isdir(os.path.join(ROOT, "target", part)):
+                        shutil.copytree(os.path.join(ROOT, "target", part), os.path.join(folder, "target", part), dirs_exist_ok=True)
+                trial(folder, crate, [e for e in edits if e.crate == crate and e.of_definition() == (kind == "laws")])
     finally:
-        if "--in" not in sys.argv:
-            shutil.rmtree(top)
-    for line in [] if words else bare:
-        print(line)
-    refused = sum(e.verdict == "refused" for e in edits)
+        if not top:
+            shutil.rmtree(work)
+    if write_tables:
+        path = os.path.join(ROOT, "docs", "TRIALS.md")
+        head = read(path).split("<!-- tables of scripts/wrong_programs.py --write -->\n")[0]
+        write(path, head + "<!-- tables of scripts/wrong_programs.py --write -->\n\n" + tables(edits))
+    refused = sum(e.refused for e in edits)
+    for name in lacking:
+        print("fewer than two edits: " + name)
     print("%d of %d refused" % (refused, len(edits)))
-    sys.exit(refused < len(edits) or bool(bare and not words))
+    sys.exit(1 if refused < len(edits) or lacking else 0)
 
 
 main()

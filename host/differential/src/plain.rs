@@ -72,8 +72,8 @@ fn answer(graph: &mut Graph, [code, a, b, c, d]: Words) -> Words {
     }
 }
 
-/// Runs a list from an empty graph.
-pub fn run(requests: &[u8], answers: &mut [u8]) {
+/// Runs a list from an empty graph, and gives the graph that it leaves.
+pub fn run(requests: &[u8], answers: &mut [u8]) -> Graph {
     let mut graph = Graph::new();
     for (request, place) in requests.chunks_exact(20).zip(answers.chunks_exact_mut(20)) {
         let word = |at: usize| u32::from_le_bytes(request[4 * at..4 * at + 4].try_into().expect("four bytes a word"));
@@ -82,4 +82,5 @@ pub fn run(requests: &[u8], answers: &mut [u8]) {
             bytes.copy_from_slice(&word.to_le_bytes());
         }
     }
+    graph
 }

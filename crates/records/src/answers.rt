@@ -98,7 +98,7 @@ pub(crate) fn set_words(answer: SetAnswer) -> Answer5
     }
 }
 
-pub(crate) fn link_words(answer: LinkAnswer) -> Answer5
+pub fn link_words(answer: LinkAnswer) -> Answer5
     ensures { λ r. ⌜ words5 r ≡ five (linkNumbers answer) ⌝ }
 {
     match answer {

@@ -15,6 +15,7 @@ use crate::orders::PLACES;
 use crate::orders::QUIT;
 use crate::orders::REMOVE;
 use crate::orders::RESIZE;
+use crate::orders::SHEET;
 use crate::orders::SUBLINK;
 use crate::orders::UNLINK;
 use crate::orders::UNLINKSUB;
@@ -22,6 +23,7 @@ use crate::orders::WIRES;
 use crate::replies::show_answer;
 use crate::replies::show_count;
 use crate::resize::resize_block;
+use crate::sheet::link_pairs;
 use crate::whole::list_whole;
 use multiportgraph::multiportgraph::MultiPortGraph;
 use portgraph::index::NodeIndex;
@@ -40,8 +42,8 @@ fn request(graph: MultiPortGraph, order: Order, values: u32) -> MultiPortGraph
     told.graph
 }
 
-// A command that changes the graph, or asks for what a request asks.
-pub(crate) fn run(graph: MultiPortGraph, order: Order) -> MultiPortGraph
+// A command that changes the graph, or asks for what a request asks; the text is that of its line.
+pub(crate) fn run(graph: MultiPortGraph, order: Order, text: &[u8]) -> MultiPortGraph
     requires { ⌜ MultiWf graph ⌝ }
     ensures { λ r. ⌜ MultiWf r ⌝ }
 {
@@ -49,6 +51,7 @@ pub(crate) fn run(graph: MultiPortGraph, order: Order) -> MultiPortGraph
     match command {
         NOTHING | QUIT => graph,
         RESIZE => resize_block(graph, order),
+        SHEET => link_pairs(graph, order, text),
         REMOVE => request(graph, order, 0),
         ADD => request(graph, order, 2),
         UNLINK | UNLINKSUB | SUBLINK | COUNTS => request(graph, order, 3),

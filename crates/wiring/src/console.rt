@@ -1,6 +1,7 @@
 // The console: it hears a line, runs it, and hears the next.
 use crate::commands::run;
 use crate::session::Session;
+use crate::text::part;
 use records::ask::empty;
 ghost use Rattle.multiportgraph.specs.Inner.{MultiWf};
 
@@ -15,7 +16,9 @@ fn converse(buffer: &mut [u8], echo: bool) {
     while 0 < turns {
         session = session.listen(buffer);
         let order = session.order;
-        graph = run(graph, order);
+        let reader = session.reader;
+        let span = reader.span;
+        graph = run(graph, order, part(buffer, span));
         if session.ended {
             return;
         }

@@ -10,6 +10,7 @@ mod reading;
 mod replies;
 mod resize;
 mod session;
+mod sheet;
 mod show;
 mod text;
 mod whole;

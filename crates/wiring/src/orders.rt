@@ -1,5 +1,6 @@
 // What a line asks for: the commands, by number, and a row for each that says how it is typed.
 use crate::replies::show_bad;
+use crate::text::NO_VALUE;
 use crate::text::Span;
 use crate::text::is_word;
 use crate::text::line_end;
@@ -52,12 +53,17 @@ pub(crate) const WIRES: u32 = 19;
 
 pub(crate) const PLACES: u32 = 20;
 
-pub(crate) const HELP: u32 = 21;
+pub(crate) const SHEET: u32 = 21;
 
-pub(crate) const QUIT: u32 = 22;
+pub(crate) const HELP: u32 = 22;
+
+pub(crate) const QUIT: u32 = 23;
 
 // There are fewer rows than this.
 const ROWS: u32 = 64;
+
+// A line has fewer numbers than this.
+const NUMBERS: u32 = 65536;
 
 // What can be wrong with a line.
 pub(crate) const FINE: u32 = 0;
@@ -82,6 +88,8 @@ pub struct Order {
     pub b: u32,
     pub c: u32,
     pub d: u32,
+    // Where in the line its numbers stand, if it takes any number of them.
+    pub from: usize,
 }
 
 // A line of the table: its number from 1, and where it stands.
@@ -98,6 +106,7 @@ pub(crate) fn order_to(command: u32) -> Order {
         b: 0,
         c: 0,
         d: 0,
+        from: 0,
     }
 }
 
@@ -191,6 +200,37 @@ fn with_numbers(command: u32, text: &[u8], from: usize, usage: &[u8]) -> Order {
     order.spoiled(WORD_COUNT)
 }
 
+// An order with pairs of numbers after a line's first word, as many as there are: it holds their count and where they stand.
+fn with_pairs(command: u32, text: &[u8], from: usize) -> Order {
+    let mut order = order_to(command);
+    order.from = from;
+    let mut word = next_word(text, from);
+    let mut count: u32 = 0;
+    while count < NUMBERS {
+        if word.is_empty() {
+            order.a = count / 2;
+            if count % 2 == 0 {
+                return order;
+            }
+            return order.spoiled(WORD_COUNT);
+        }
+        if NO_VALUE <= number_of(text, word) {
+            return order.spoiled(NO_NUMBER);
+        }
+        word = next_word(text, word.to);
+        count += 1;
+    }
+    order.spoiled(WORD_COUNT)
+}
+
+// An order with the numbers after a line's first word.
+fn with_words(command: u32, text: &[u8], from: usize, usage: &[u8]) -> Order {
+    if command == SHEET {
+        return with_pairs(command, text, from);
+    }
+    with_numbers(command, text, from, usage)
+}
+
 // The order of a line whose first word is this one; if something is wrong with the line, that is said.
 pub(crate) fn order_of(text: &[u8], first: Span, line: u64) -> Order {
     let table = b"\
@@ -214,6 +254,7 @@ neighbours N SIDE FLAG
 connections N M
 wires
 places
+sheet A B A B ..
 help
 quit
 ";
@@ -224,7 +265,7 @@ quit
     }
     let span = row.span;
     let usage = part(table, span);
-    let order = with_numbers(row.number, text, first.to, usage);
+    let order = with_words(row.number, text, first.to, usage);
     if order.wrong == FINE {
         return order;
     }

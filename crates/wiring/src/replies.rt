@@ -53,6 +53,7 @@ no room is left
 there is no such second port
 both ends are inputs
 this end has its wire
+a sheet has at most 64 entries
 ";
     line.with(b"  # ")
         .with(part(reasons, line_at(reasons, number)))
@@ -105,26 +106,50 @@ fn reason_of(answer: Answer5) -> u32 {
     0
 }
 
-fn show_refused(answer: Answer5) {
-    let line = with_values(
-        Line::of(b"refused").number(answer.a),
+// A refusal with what it carries, on a line that begins with what is given.
+fn show_refused(line: Line, answer: Answer5) {
+    let longer = with_values(
+        line.with(b"refused").number(answer.a),
         answer,
         carried(answer.a),
     );
-    with_reason(line, reason_of(answer)).write();
+    with_reason(longer, reason_of(answer)).write();
 }
 
-// An answer with so many values, or the refusal with what it carries.
-pub(crate) fn show_answer(answer: Answer5, values: u32) {
+// An answer with so many values, or the refusal, on a line that begins with what is given.
+fn show_on(line: Line, answer: Answer5, values: u32) {
     if answer.a == 0 {
-        with_values(Line::of(b"ok"), answer, values).write();
+        with_values(line.with(b"ok"), answer, values).write();
     } else {
-        show_refused(answer);
+        show_refused(line, answer);
     }
 }
 
+pub(crate) fn show_answer(answer: Answer5, values: u32) {
+    show_on(Line::of(b""), answer, values);
+}
+
+// The same as an item of a listing.
+pub(crate) fn show_item(answer: Answer5, values: u32) {
+    show_on(Line::of(b"  "), answer, values);
+}
+
+// A refusal that carries nothing, by its number.
+pub(crate) fn show_refusal_number(number: u32) {
+    show_refused(
+        Line::of(b""),
+        Answer5 {
+            a: number,
+            b: 0,
+            c: 0,
+            d: 0,
+            e: 0,
+        },
+    );
+}
+
 pub(crate) fn show_refusal(refusal: Refusal) {
-    show_refused(refusal_words(refusal));
+    show_refused(Line::of(b""), refusal_words(refusal));
 }
 
 // `ok` with one number.

@@ -13,10 +13,21 @@ use crate::compare::fewest;
 use crate::history::History;
 use crate::tally::Tally;
 
+/// A sheet may have so many entries.
+const SHEET_ENTRIES: usize = 64;
+
+/// The entries of a sheet: pairs of ports, of which the first `count` are meant.
+#[derive(Clone, Copy, Debug)]
+pub struct Sheet {
+    count: usize,
+    pairs: [[u32; 2]; 2 * SHEET_ENTRIES],
+}
+
 /// A line for the console.
 #[derive(Clone, Copy, Debug)]
 pub enum Command {
     Call(Call),
+    Sheet(Sheet),
     FanOut(u32),
     BlockFanOut(u32),
     Blocks,
@@ -106,6 +117,7 @@ impl Command {
                 Call::SubportLink { .. } => "sublink",
                 Call::Counts => "counts",
             },
+            Command::Sheet(_) => "sheet",
             Command::FanOut(_) => "fanout",
             Command::BlockFanOut(_) => "blockfanout",
             Command::Blocks => "blocks",
@@ -134,6 +146,7 @@ impl Command {
                 };
                 call.to_record()[1..1 + used].to_vec()
             }
+            Command::Sheet(sheet) => sheet.entries().concat(),
             Command::FanOut(port) | Command::Links(port) | Command::Back(port) => vec![port],
             Command::BlockFanOut(node) => vec![node],
             Command::Subports(node, sides) => vec![node, side_number(sides)],
@@ -148,12 +161,14 @@ impl Command {
 
     /// What the console must write, as the line of that number; a call is made in the history.
     fn block(self, history: &mut History, line: usize) -> Block {
-        if let Command::Call(call) = self {
-            return call_block(call, history);
+        match self {
+            Command::Call(call) => return call_block(call, history),
+            Command::Sheet(sheet) => return sheet.block(history),
+            _ => {}
         }
         let oracle = &history.oracle;
         match self {
-            Command::Call(_) => unreachable!("answered above"),
+            Command::Call(_) | Command::Sheet(_) => unreachable!("answered above"),
             Command::FanOut(port) => number(oracle.port_fan_out(port)),
             Command::BlockFanOut(node) => number(oracle.fan_out(node)),
             Command::Blocks => listing(Ok(oracle.blocks()), one),
@@ -183,9 +198,58 @@ impl Command {
 
     /// Whether it leaves the graph as it is, so that it may follow the resize set apart.
     fn reads(self) -> bool {
-        !matches!(self, Command::Call(call) if !matches!(call, Call::SubportLink { .. } | Call::Counts))
+        match self {
+            Command::Call(call) => matches!(call, Call::SubportLink { .. } | Call::Counts),
+            Command::Sheet(_) => false,
+            _ => true,
+        }
     }
 }
+
+impl Sheet {
+    fn of(pairs: &[[u32; 2]]) -> Sheet {
+        let mut sheet = Sheet { count: pairs.len(), pairs: [[0; 2]; 2 * SHEET_ENTRIES] };
+        sheet.pairs[..pairs.len()].copy_from_slice(pairs);
+        sheet
+    }
+
+    fn entries(&self) -> &[[u32; 2]] {
+        &self.pairs[..self.count]
+    }
+
+    /// Its links, made one at a time in the history; none of them if there are too many.
+    fn block(&self, history: &mut History) -> Block {
+        if self.count > SHEET_ENTRIES {
+            return refused([14, 0, 0, 0, 0]);
+        }
+        let links = self.entries().iter().map(|[a, b]| call_block(Call::Link { a: *a, b: *b }, history).concat());
+        let answers: Vec<String> = links.map(|answer| format!("  {answer}")).collect();
+        answers.into_iter().chain([format!("ok {}", self.count)]).collect()
+    }
+
+    /// What kind of sheet it is, by what the console must write for it.
+    fn kind(&self, block: &Block) -> &'static str {
+        let refused = block.iter().filter(|line| line.starts_with("  refused")).count();
+        match self.count {
+            0 => "sheet, empty",
+            65.. => "sheet, too long",
+            64 => "sheet, as long as may be",
+            count if refused == count => "sheet, every entry refused",
+            _ if refused > 0 => "sheet, some entries refused",
+            _ => "sheet, all accepted",
+        }
+    }
+}
+
+/// The kinds of sheets.
+pub const SHEETS: [&str; 6] = [
+    "sheet, empty",
+    "sheet, too long",
+    "sheet, as long as may be",
+    "sheet, every entry refused",
+    "sheet, some entries refused",
+    "sheet, all accepted",
+];
 
 fn number(number: Result<u32, Answer>) -> Block {
     number.map_or_else(refused, |number| vec![format!("ok {number}")])
@@ -283,8 +347,10 @@ fn compare(console: &Console, script: &[Command], tally: &mut Tally) -> Result<(
         tally.count(&history.steps);
         for (command, block) in script.iter().zip(blocks) {
             tally.items += block.len() as u64 - 1;
-            if !matches!(command, Command::Call(_)) {
-                tally.list(command.name());
+            match command {
+                Command::Call(_) => {}
+                Command::Sheet(sheet) => tally.list(sheet.kind(&block)),
+                _ => tally.list(command.name()),
             }
         }
         return Ok(());
@@ -328,7 +394,21 @@ fn draw_listing(shape: &Shape, history: &History, random: &mut Random) -> Comman
     }
 }
 
-const NONSENSE: [&str; 5] = ["hello", "link 1", "link 1 2 3", "add x 1", "remove"];
+/// A random sheet on what there is before it; its later entries may name ports that its earlier ones make.
+fn draw_sheet(shape: &Shape, history: &History, random: &mut Random) -> Sheet {
+    let count = match random.below(12) {
+        0 => 0,
+        1 => SHEET_ENTRIES as u32,
+        2 => SHEET_ENTRIES as u32 + 1 + random.below(4),
+        3 => random.below(SHEET_ENTRIES as u32),
+        _ => 1 + random.below(6),
+    };
+    let pairs: Vec<[u32; 2]> = (0..count).map(|_| shape.two_ports(&history.oracle, random)).collect();
+    Sheet::of(&pairs)
+}
+
+const NONSENSE: [&str; 8] =
+    ["hello", "link 1", "link 1 2 3", "add x 1", "remove", "sheet 1", "sheet 0 1 2", "sheet 0 1 2 4294967296"];
 
 /// A random script: calls, each followed by a listing as often as not. Calls of refusal 2 are for records only.
 fn draw(shape: &Shape, seed: u64, lines: usize) -> Vec<Command> {
@@ -347,6 +427,7 @@ fn draw(shape: &Shape, seed: u64, lines: usize) -> Vec<Command> {
         let command = match random.below(100) {
             0 => Command::Nonsense(random.pick(&NONSENSE).expect("some")),
             1..=49 => draw_listing(shape, &history, &mut random),
+            50..=55 => Command::Sheet(draw_sheet(shape, &history, &mut random)),
             _ if malformed || (apart && !random.one_in(12)) => Command::Places,
             _ => Command::Call(call),
         };
@@ -358,6 +439,34 @@ fn draw(shape: &Shape, seed: u64, lines: usize) -> Vec<Command> {
         script.extend([Command::Subports(node, Sides::Both), Command::NodeLinks(node, Sides::Both, 0, 0)]);
     }
     script
+}
+
+/// All sheets of up to so many entries of a few ports (live, hidden after the first split, and dead), on the bench wiring's states start,
+/// A, B and D; after each the wires, and the subports of both blocks. Gives how many there were.
+pub fn all_sheets(console: &Console, most: u32, tally: &mut Tally) -> Result<u64, String> {
+    const PORTS: [u32; 5] = [0, 1, 2, 4, 9];
+    let link = |a, b| Command::Call(Call::Link { a, b });
+    let states = [vec![], vec![link(0, 1)], vec![link(0, 1), link(0, 2)], vec![link(0, 1), link(1, 2)]];
+    let pairs: Vec<[u32; 2]> = PORTS.iter().flat_map(|a| PORTS.map(|b| [*a, b])).collect();
+    let mut sheets = 0;
+    for state in &states {
+        for count in 0..=most {
+            for number in 0..pairs.len().pow(count) {
+                let place = |entry: u32| number / pairs.len().pow(entry) % pairs.len();
+                let entries: Vec<[u32; 2]> = (0..count).map(|entry| pairs[place(entry)]).collect();
+                let mut script = vec![
+                    Command::Call(Call::Add { incoming: 0, outgoing: 1 }),
+                    Command::Call(Call::Add { incoming: 2, outgoing: 0 }),
+                ];
+                script.extend(state);
+                script.extend([Command::Sheet(Sheet::of(&entries)), Command::Places]);
+                script.extend([Command::Subports(0, Sides::Both), Command::Subports(1, Sides::Both)]);
+                compare(console, &script, tally).map_err(|text| format!("all sheets: {text}"))?;
+                sheets += 1;
+            }
+        }
+    }
+    Ok(sheets)
 }
 
 /// Runs random scripts.

@@ -63,6 +63,8 @@ fn run(options: &Options, total: &mut Tally) -> Result<(), String> {
             None => written(script),
         };
         console::run(console, seeds, &mut scripts)?;
+        let sheets = console::all_sheets(console, options.plan.entries, &mut scripts)?;
+        println!("console: {sheets} sheets, all of up to {} entries of five ports on four wirings", options.plan.entries);
         println!("{scripts}");
         total.add(&scripts);
     }

@@ -68,7 +68,7 @@ pub struct WrongListing {
 }
 
 /// The kinds of wrong listings.
-pub const WRONG_LISTINGS: [WrongListing; 4] = [
+pub const WRONG_LISTINGS: [WrongListing; 6] = [
     WrongListing {
         name: "a listing leaves out its first item",
         alter: |block| {
@@ -108,6 +108,28 @@ pub const WRONG_LISTINGS: [WrongListing; 4] = [
                 block[0] = format!("  {} 1 {}", words[0], words[2]);
             }
             applies
+        },
+    },
+    WrongListing {
+        name: "a sheet ends with its first refused entry",
+        alter: |block| {
+            let refused = block.iter().position(|line| line.starts_with("  refused"));
+            let applies = refused.is_some_and(|place| place + 2 < block.len());
+            if applies {
+                let last = block.len() - 1;
+                block.drain(refused.expect("some") + 1..last);
+            }
+            applies
+        },
+    },
+    WrongListing {
+        name: "an entry of a sheet has the answer of the one before it",
+        alter: |block| {
+            let place = (1..block.len()).find(|place| block[*place].starts_with("  ok") && block[place - 1] != block[*place]);
+            if let Some(place) = place {
+                block[place] = block[place - 1].clone();
+            }
+            place.is_some()
         },
     },
 ];

@@ -3,6 +3,7 @@
 use std::collections::BTreeMap;
 use std::fmt;
 
+use crate::console::SHEETS;
 use crate::history::{By, Step};
 
 /// The calls by code; 0 stands for unknown codes.
@@ -135,10 +136,13 @@ impl Tally {
             "resize within the block, mixed",
             "R1, second port given as a surely dead number",
         ];
+        let kinds = if self.listings() > 0 { &SHEETS[..] } else { &[] };
+        let sheets = kinds.iter().filter(|kind| !self.listings.contains_key(*kind)).map(|kind| kind.to_string());
         let all = given.into_iter().map(|(code, refusal)| (By::Rust, code, refusal));
         let all = all.chain(added.into_iter().map(|(code, refusal)| (By::Added, code, refusal))).chain(reasons);
         let calls = all.filter(|key| !self.calls.contains_key(key)).map(|key| format!("{key:?}"));
-        calls.chain(notes.into_iter().filter(|note| !self.notes.contains_key(note)).map(str::to_string)).collect()
+        let notes = notes.into_iter().filter(|note| !self.notes.contains_key(note)).map(str::to_string);
+        calls.chain(notes).chain(sheets).collect()
     }
 }
 
@@ -172,7 +176,7 @@ impl fmt::Display for Tally {
             writeln!(f, "listings: {}, with move lists {} items", self.listings(), self.items)?;
         }
         for (command, count) in &self.listings {
-            writeln!(f, "  {command:15} {count:21}")?;
+            writeln!(f, "  {command:28} {count:8}")?;
         }
         Ok(())
     }

@@ -99,6 +99,25 @@ fn every_refusal_and_bad_line_says_why() {
 }
 
 #[test]
+fn a_sheet_is_one_line() {
+    let start = "add 0 1\nadd 2 0\n";
+    let lines = |text: &str| run(&[], format!("{start}{text}").as_bytes()).lines().skip(2).map(without_reason).map(str::to_string).collect::<Vec<_>>();
+    assert_eq!(lines("sheet 0 1 1 2 9 0 0 2\ncounts\n"), [
+        "  ok 0 0 1 0", "  refused 12 4 2 0", "  refused 7 9", "  ok 0 1 2 0", "ok 4", "ok 2 3 2",
+    ]);
+    assert_eq!(lines("sheet\n  sheet \t\r\nsheet 0 1 2\nsheet 0 x\ncounts\n"), ["ok 0", "ok 0", "bad line 5", "bad line 6", "ok 2 3 0"]);
+    let long = lines(&format!("sheet{}\ncounts\n", " 0 1".repeat(64)));
+    assert_eq!((long.len(), long[63].as_str(), long[64].as_str(), long[65].as_str()), (66, "  ok 0 63 1 63", "ok 64", "ok 2 3 64"));
+    // As many as a line can hold: 65,536 bytes.
+    for pairs in [65, 66, 1_000, 16_382] {
+        assert_eq!(lines(&format!("sheet{}\ncounts\n", " 0 1".repeat(pairs))), ["refused 14", "ok 2 3 0"]);
+    }
+    assert_eq!(lines(&format!("sheet{}\ncounts\n", " 0".repeat(32_765))), ["bad line 3", "ok 2 3 0"]);
+    let said = run(&[], format!("sheet{}\n", " 0 1".repeat(65)).as_bytes());
+    assert!(said.starts_with("refused 14  # "));
+}
+
+#[test]
 fn tabs_returns_comments_and_a_last_line_without_newline() {
     assert_eq!(run(&[], b"\tadd\t0  1 \r\n\r\n  # add 1 1\n \t\nblocks\t\r\nadd 00 01"), "ok 0 0\n  0\nok 1\nok 1 1\n");
     assert_eq!(run(&[], b""), "");

@@ -173,7 +173,7 @@ impl Shape {
     }
 
     /// Two ports, mostly of opposite sides.
-    fn two_ports(&self, oracle: &Oracle, random: &mut Random) -> [u32; 2] {
+    pub fn two_ports(&self, oracle: &Oracle, random: &mut Random) -> [u32; 2] {
         let sides = match random.below(16) {
             0 | 1 => [Sides::Both, Sides::Both],
             even if even % 2 == 0 => [Sides::One(Side::Outgoing), Sides::One(Side::Incoming)],

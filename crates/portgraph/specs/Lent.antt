@@ -31,13 +31,13 @@ use Rattle.portgraph.specs.declared.lent.Counts.{Counts}
 abbrev pub nodeWords : ℕ
 nodeWords = 5 * nodeSlots
 
--- a number as a count of ports; 0 for one that is too large
+-- a number as one of 16 bits; 0 for one that is too large, which no call stores
 unfoldable pub narrow : ℕ → ℕ
 narrow x = cond (ltb x 65536) x 0
 
 -- five numbers, read as a slot
 unfoldable pub slotOfWords : ℕ → ℕ → ℕ → ℕ → ℕ → NodeSlot
-slotOfWords kind a b c d = cond (eqb kind 0) (freeSlotOf a b) (nodeSlotOf (metaOf a (narrow b) (narrow c) (narrow d)))
+slotOfWords kind a b c d = cond (eqb kind 0) (freeSlotOf (narrow a) (narrow b)) (nodeSlotOf (metaOf a (narrow b) (narrow c) (narrow d)))
 
 -- the node table that the numbers stand for
 unfoldable pub slotsIn : List ℕ → List NodeSlot

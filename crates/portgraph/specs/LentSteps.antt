@@ -112,7 +112,7 @@ second-written (x ∷ y ∷ z ∷ u ∷ w ∷ t) zero v = refl
 second-written (x ∷ y ∷ z ∷ u ∷ w ∷ t) (suc n) v = rw (next-five n) (ap (λ (l : List NodeSlot). slotOfWords x y z u w ∷ l) (second-written t n v))
 
 zeros-read : (n : ℕ) → slotsIn (replicate (5 * n) 0) ≡ replicate n freshSlot
-unfolding slotsIn slotOfWords
+unfolding slotsIn slotOfWords narrow
 zeros-read zero = refl
 zeros-read (suc n) = rw (next-five n) (ap (λ (l : List NodeSlot). freshSlot ∷ l) (zeros-read n))
 
@@ -131,9 +131,9 @@ pub narrow-large : (x : ℕ) → 65536 ≤ x → 0 ≡ narrow x
 unfolding narrow
 narrow-large x h = rw (le-ltb x 65536 h)
 
-pub free-of-words : (k a b c d : ℕ) → k ≡ 0 → freeSlotOf a b ≡ slotOfWords k a b c d
+pub free-of-words : (k a b c d x y : ℕ) → k ≡ 0 → x ≡ narrow a → y ≡ narrow b → freeSlotOf x y ≡ slotOfWords k a b c d
 unfolding slotOfWords
-free-of-words k a b c d h = rw (eq-eqb k 0 h)
+free-of-words k a b c d x y h e f = rw (eq-eqb k 0 h, e, f)
 
 pub node-of-words : (k a b c d x y z : ℕ) → (k ≡ 0 → ⊥) → x ≡ narrow b → y ≡ narrow c → z ≡ narrow d → nodeSlotOf (metaOf a x y z) ≡ slotOfWords k a b c d
 unfolding slotOfWords
@@ -153,14 +153,14 @@ module _ (t : List ℕ) (n : ℕ) where
   next-outside h = ap (λ (s : NodeSlot). nextOf (s .entry)) (slot-outside t n h)
 
   module _ (h : n < nodeSlots) where
-    free-entry : getD t (5 * n) 0 ≡ 0 → freeSlotOf (getD t (5 * n + 1) 0) (getD t (5 * n + 2) 0) ≡ slotIn t n
-    free-entry z = free-of-words (getD t (5 * n) 0) (getD t (5 * n + 1) 0) (getD t (5 * n + 2) 0) (getD t (5 * n + 3) 0) (getD t (5 * n + 4) 0) z ∙ slot-inside t n h
+    free-entry : getD t (5 * n) 0 ≡ 0 → freeSlotOf (narrow (getD t (5 * n + 1) 0)) (narrow (getD t (5 * n + 2) 0)) ≡ slotIn t n
+    free-entry z = free-of-words (getD t (5 * n) 0) (getD t (5 * n + 1) 0) (getD t (5 * n + 2) 0) (getD t (5 * n + 3) 0) (getD t (5 * n + 4) 0) _ _ z refl refl ∙ slot-inside t n h
 
     node-entry : (getD t (5 * n) 0 ≡ 0 → ⊥) → nodeSlotOf (metaOf (getD t (5 * n + 1) 0) (narrow (getD t (5 * n + 2) 0)) (narrow (getD t (5 * n + 3) 0)) (narrow (getD t (5 * n + 4) 0))) ≡ slotIn t n
     node-entry z = node-of-words (getD t (5 * n) 0) (getD t (5 * n + 1) 0) (getD t (5 * n + 2) 0) (getD t (5 * n + 3) 0) (getD t (5 * n + 4) 0) _ _ _ z refl refl refl ∙ slot-inside t n h
 
-    pub next-free : getD t (5 * n) 0 ≡ 0 → getD t (5 * n + 2) 0 ≡ nextOf (slotIn t n .entry)
-    next-free z = ap (λ (s : NodeSlot). nextOf (s .entry)) (free-entry z)
+    pub next-free : (x : ℕ) → getD t (5 * n) 0 ≡ 0 → x ≡ narrow (getD t (5 * n + 2) 0) → x ≡ nextOf (slotIn t n .entry)
+    next-free x z e = e ∙ ap (λ (s : NodeSlot). nextOf (s .entry)) (free-entry z)
 
     pub next-node : (getD t (5 * n) 0 ≡ 0 → ⊥) → 0 ≡ nextOf (slotIn t n .entry)
     next-node z = ap (λ (s : NodeSlot). nextOf (s .entry)) (node-entry z)
@@ -175,11 +175,11 @@ module _ (t : List ℕ) (n : ℕ) where
         let e4 : 5 * n + 4 ≡ suc (suc (suc (suc (5 * n)))) = omega arith in
         rw (lt-ltb n nodeSlots h, e1, e2, e3, e4) (second-written t n v)
 
-    pub prev-free : (p : ℕ) → getD t (5 * n) 0 ≡ 0 → slotsIn (set t (5 * n + 1) p) ≡ putSlot (slotsIn t) n (withPrev (slotIn t n) p)
-    prev-free p z =
+    pub prev-free : (p : ℕ) → p < 65536 → getD t (5 * n) 0 ≡ 0 → slotsIn (set t (5 * n + 1) p) ≡ putSlot (slotsIn t) n (withPrev (slotIn t n) p)
+    prev-free p i z =
         second-put p
         ∙ ap (putSlot (slotsIn t) n)
-        (sym (free-of-words (getD t (5 * n) 0) p (getD t (5 * n + 2) 0) (getD t (5 * n + 3) 0) (getD t (5 * n + 4) 0) z) ∙ ap (λ (s : NodeSlot). withPrev s p) (free-entry z))
+        (sym (free-of-words (getD t (5 * n) 0) p (getD t (5 * n + 2) 0) (getD t (5 * n + 3) 0) (getD t (5 * n + 4) 0) _ _ z (narrow-small p i) refl) ∙ ap (λ (s : NodeSlot). withPrev s p) (free-entry z))
 
     pub prev-node : (p : ℕ) → (getD t (5 * n) 0 ≡ 0 → ⊥) → slotsIn t ≡ putSlot (slotsIn t) n (withPrev (slotIn t n) p)
     prev-node p z =
@@ -211,8 +211,9 @@ pub put-node : (l t : List NodeSlot) (n : ℕ) (s : NodeSlot) (m : NodeMeta) →
 put-node l t n s m e h i j p = p ∙ ap (putSlot l n) (node-words m h i j ∙ ap (λ (x : NodeEntry). slotOf x) (sym e))
 
 pub put-free : (l t : List NodeSlot) (n : ℕ) (s : NodeSlot) (f : FreeNodeEntry) → s .entry ≡ node-variants.Free f
+    → f .prev < 65536 → f .next < 65536
     → t ≡ putSlot l n (slotOfWords 0 (f .prev) (f .next) 0 0) → t ≡ putSlot l n s
-put-free l t n s f e p = p ∙ ap (putSlot l n) (sym (free-of-words 0 (f .prev) (f .next) 0 0 refl) ∙ ap (λ (x : NodeEntry). slotOf x) (sym e))
+put-free l t n s f e h i p = p ∙ ap (putSlot l n) (sym (free-of-words 0 (f .prev) (f .next) 0 0 _ _ refl (narrow-small (f .prev) h) (narrow-small (f .next) i)) ∙ ap (λ (x : NodeEntry). slotOf x) (sym e))
 
 -- a slot that is read is the table's
 pub slot-read : (t : List ℕ) (n : ℕ) → length (slotsIn t) ≡ nodeSlots → slotIn t n ≡ getD (slotsIn t) n freshSlot

@@ -1,6 +1,6 @@
 -- The limits, named once: every law is over these names. What the laws use of their values stands below them.
 use mathlib.Core.Path.{_≡_, refl}
-use Prim.Native.Nat.{ℕ, _+_, _*_, _^_, _≤_}
+use Prim.Native.Nat.{ℕ, _+_, _*_, _^_, _≤_, _<_}
 use native.Mathlib.Omega.{arith}
 
 -- slots of the node table
@@ -32,7 +32,7 @@ pub record Limits : Type 0 where
 abbrev pub present : Limits
 present = record { nodes = nodeSlots; ports = portSlots }
 
--- What a raise of the limits proves again, besides that the numbers in the tables fit their widths.
+-- What a raise of the limits proves again. That the other numbers in the tables fit their widths is asked where they are stored.
 
 -- the most ports are a power of two, so that a total rounded up is a block that a node may have
 pub most-ports-are-a-power : (k : ℕ) × (2 ^ k ≡ nodePorts)
@@ -41,3 +41,7 @@ most-ports-are-a-power = (10, refl)
 -- beside a node with the most ports and one port more there is no room for a block of twice as many
 pub no-double-block : portSlots ≤ 3 * nodePorts
 no-double-block = omega arith
+
+-- a free entry's neighbours, each one higher than the number of a node slot, fit 16 bits
+pub neighbours-fit : nodeSlots < 2 ^ 16
+neighbours-fit = omega arith

@@ -26,7 +26,7 @@ pub struct Counts {
     pub link_count: usize,
 }
 
-// A number as a count of ports; 0 for one that is too large.
+// A number as one of 16 bits; 0 for one that is too large, which no call stores.
 fn narrow(x: u32) -> u16
     ensures { λ r. ⌜ r ≡ narrow x ⌝ }
 {
@@ -38,7 +38,7 @@ fn slot_of_words(kind: u32, a: u32, b: u32, c: u32, d: u32) -> NodeSlot
     ensures { λ r. ⌜ r ≡ slotOfWords kind a b c d ⌝ }
 {
     if kind == 0 {
-        return NodeSlot::new_free(a, b);
+        return NodeSlot::new_free(narrow(a), narrow(b));
     }
     NodeSlot::new_node(NodeMeta {
         first_port: PortIndex(a),
@@ -85,7 +85,7 @@ pub(crate) fn put_slot(nodes: &mut [u32; NODE_WORDS], n: usize, slot: NodeSlot)
 {
     let entry = slot.entry;
     match entry {
-        NodeEntry::Free(free) => put_words(nodes, n, 0, free.prev, free.next, 0, 0),
+        NodeEntry::Free(free) => put_words(nodes, n, 0, free.prev as u32, free.next as u32, 0, 0),
         NodeEntry::Node(meta) => put_words(
             nodes,
             n,
@@ -106,17 +106,21 @@ pub(crate) fn next_in(nodes: &[u32; NODE_WORDS], n: usize) -> u32
         return 0;
     }
     let k = 5 * n;
-    if nodes[k] == 0 { nodes[k + 2] } else { 0 }
+    if nodes[k] == 0 {
+        narrow(nodes[k + 2]) as u32
+    } else {
+        0
+    }
 }
 
 // Gives a free entry another neighbour before it; a node stays as it is, and outside nothing changes.
-pub(crate) fn put_prev(nodes: &mut [u32; NODE_WORDS], n: usize, prev: u32)
+pub(crate) fn put_prev(nodes: &mut [u32; NODE_WORDS], n: usize, prev: u16)
     ensures { λ _. ⌜ slotsIn (now (nodes .exit)) ≡ putSlot (slotsIn (now (nodes .entry))) n (withPrev (slotIn (now (nodes .entry)) n) prev) ⌝ }
 {
     if n < NODE_SLOTS {
         let k = 5 * n;
         if nodes[k] == 0 {
-            nodes[k + 1] = prev;
+            nodes[k + 1] = prev as u32;
         }
     }
 }

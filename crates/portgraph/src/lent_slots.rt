@@ -138,8 +138,8 @@ pub fn remove_node_in(
     let first = wide(meta.first_port.0);
     let size = wide16(meta.capacity);
     let after = slot_after(counts.node_free, place);
-    put_prev(nodes, after, node.0 + 1);
-    put_slot(nodes, place, NodeSlot::new_free(0, counts.node_free));
+    put_prev(nodes, after, (node.0 + 1) as u16);
+    put_slot(nodes, place, NodeSlot::new_free(0, counts.node_free as u16));
     let cuts = cut_range(links, first, size);
     let head = head_at(heads, size);
     chain_block(links, first, size, head);

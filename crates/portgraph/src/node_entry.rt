@@ -17,9 +17,10 @@ pub struct NodeMeta {
 }
 
 // A free entry's neighbours in the list of free entries, each one higher than its number; 0 for none.
+// None is higher than the slots of the table, and these fit 16 bits (neighbours-fit in specs/Limits.antt).
 pub struct FreeNodeEntry {
-    pub prev: u32,
-    pub next: u32,
+    pub prev: u16,
+    pub next: u16,
 }
 
 pub enum NodeEntry {
@@ -78,7 +79,7 @@ impl NodeMeta {
 }
 
 impl NodeSlot {
-    pub fn new_free(prev: u32, next: u32) -> Self
+    pub fn new_free(prev: u16, next: u16) -> Self
         ensures { λ r. ⌜ r ≡ freeSlotOf prev next ⌝ }
     {
         NodeSlot {
@@ -114,13 +115,13 @@ impl NodeSlot {
     {
         let entry = self.entry;
         match entry {
-            NodeEntry::Free(free) => free.next,
+            NodeEntry::Free(free) => free.next as u32,
             NodeEntry::Node(_) => 0,
         }
     }
 
     // The entry with another neighbour before it. A node stays as it is.
-    pub fn with_prev(self, prev: u32) -> Self
+    pub fn with_prev(self, prev: u16) -> Self
         ensures { λ r. ⌜ r ≡ withPrev self prev ⌝ }
     {
         let entry = self.entry;

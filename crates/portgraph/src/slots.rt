@@ -199,8 +199,8 @@ impl PortGraph {
         let size = wide16(meta.capacity);
         let after = slot_after(self.node_free, place);
         let neighbour = self.node_meta[after];
-        self.node_meta[after] = neighbour.with_prev(node.0 + 1);
-        self.node_meta[place] = NodeSlot::new_free(0, self.node_free);
+        self.node_meta[after] = neighbour.with_prev((node.0 + 1) as u16);
+        self.node_meta[place] = NodeSlot::new_free(0, self.node_free as u16);
         self.node_free = node.0 + 1;
         let cuts = cut_range(&mut self.port_link, first, size);
         let head = head_at(&self.port_free, size);

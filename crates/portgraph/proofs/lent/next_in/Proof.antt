@@ -16,17 +16,23 @@ mul-if2 c = search needs
 element-copy-out-if2 : tie.Need-element-copy-out-if2
 element-copy-out-if2 c = search needs
 
-add-result : tie.Need-add-result
-add-result c = search needs
+add-narrow : tie.Need-add-narrow
+add-narrow c = search needs
 
-mul-result : tie.Need-mul-result
-mul-result c = search needs
+mul-narrow : tie.Need-mul-narrow
+mul-narrow c = search needs
 
-element-copy-out-result : tie.Need-element-copy-out-result
-element-copy-out-result c = search needs
+element-copy-out-narrow : tie.Need-element-copy-out-narrow
+element-copy-out-narrow c = search needs
+
+narrow-requires : tie.Need-narrow-requires
+narrow-requires c κs = search needs
+
+cast-result : tie.Need-cast-result
+cast-result c = search needs
 
 returns-2 : tie.Need-returns-2
-returns-2 c = next-free (c .before .before .before .before .args .nodes .now) (c .before .before .before .before .args .n) (c .before .before .before .if1 .left) (c .before .if2 .taken)
+returns-2 c = next-free (c .before .before .before .before .before .args .nodes .now) (c .before .before .before .before .before .args .n) (c .before .before .before .before .if1 .left) _ (c .before .before .if2 .taken) (c .narrow .ensures)
 
 returns-3 : tie.Need-returns-3
 returns-3 c = next-node (c .before .before .before .args .nodes .now) (c .before .before .before .args .n) (c .before .before .if1 .left) (c .if2 .left)
@@ -39,8 +45,10 @@ next-in-spec =
     mul-k
     mul-if2
     element-copy-out-if2
-    add-result
-    mul-result
-    element-copy-out-result
+    add-narrow
+    mul-narrow
+    element-copy-out-narrow
+    narrow-requires
+    cast-result
     returns-2
     returns-3)

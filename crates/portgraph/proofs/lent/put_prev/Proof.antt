@@ -1,4 +1,5 @@
 -- `portgraph::lent::put_prev` meets its contract: a free entry, a node, and outside the table.
+use native.Mathlib.Omega.{arith}
 use borrow.Author.Needs.{needs}
 use Rattle.portgraph.specs.Lent.{slotsIn}
 use Rattle.portgraph.specs.LentSteps.{prev-free, prev-node, put-outside}
@@ -24,7 +25,7 @@ element-write-nodes : tie.Need-element-write-nodes
 element-write-nodes c = search needs
 
 returns : tie.Need-returns
-returns c = prev-free (c .before .before .before .args .nodes .now) (c .before .before .before .args .n) (c .before .before .if1 .taken) (c .before .before .before .args .prev) (c .if2 .taken)
+returns c = prev-free (c .before .before .before .args .nodes .now) (c .before .before .before .args .n) (c .before .before .if1 .taken) (c .before .before .before .args .prev) (omega arith) (c .if2 .taken)
 
 returns-2 : tie.Need-returns-2
 returns-2 c = prev-node (c .before .before .before .args .nodes .now) (c .before .before .before .args .n) (c .before .before .if1 .taken) (c .before .before .before .args .prev) (c .if2 .left)

@@ -9,26 +9,32 @@ use Rattle.portgraph.proofs.lent.put_slot.Tie as tie
 enum-known-entry : tie.Need-enum-known-entry
 enum-known-entry c = search needs
 
-put-words-requires : tie.Need-put-words-requires
-put-words-requires c κs = search needs
-
-enum-known-entry-2 : tie.Need-enum-known-entry-2
-enum-known-entry-2 c = search needs
-
 cast-put-words : tie.Need-cast-put-words
 cast-put-words c = search needs
 
 cast-put-words-2 : tie.Need-cast-put-words-2
 cast-put-words-2 c = search needs
 
+put-words-requires : tie.Need-put-words-requires
+put-words-requires c κs = search needs
+
+enum-known-entry-2 : tie.Need-enum-known-entry-2
+enum-known-entry-2 c = search needs
+
 cast-put-words-3 : tie.Need-cast-put-words-3
 cast-put-words-3 c = search needs
+
+cast-put-words-4 : tie.Need-cast-put-words-4
+cast-put-words-4 c = search needs
+
+cast-put-words-5 : tie.Need-cast-put-words-5
+cast-put-words-5 c = search needs
 
 put-words-requires-2 : tie.Need-put-words-requires-2
 put-words-requires-2 c κs = search needs
 
 returns : tie.Need-returns
-returns c = put-free (slotsIn (c .before .before .before .before .before .args .nodes .now)) _ (c .before .before .before .before .before .args .n) (c .before .before .before .before .before .args .slot) (c .before .before .before .entry .given .0 .0) (c .before .before .before .entry .given .1) (c .put-words .ensures)
+returns c = put-free (slotsIn (c .before .before .before .before .before .before .before .args .nodes .now)) _ (c .before .before .before .before .before .before .before .args .n) (c .before .before .before .before .before .before .before .args .slot) (c .before .before .before .before .before .entry .given .0 .0) (c .before .before .before .before .before .entry .given .1) (omega arith) (omega arith) (c .put-words .ensures)
 
 returns-2 : tie.Need-returns-2
 returns-2 c = put-node (slotsIn (c .before .before .before .before .before .before .before .before .args .nodes .now)) _ (c .before .before .before .before .before .before .before .before .args .n) (c .before .before .before .before .before .before .before .before .args .slot) (c .before .before .before .before .before .before .entry2 .given .0 .0) (c .before .before .before .before .before .before .entry2 .given .1) (omega arith) (omega arith) (omega arith) (c .put-words2 .ensures)
@@ -38,11 +44,13 @@ put-slot-spec =
     tie.close
     (tie.spec
     enum-known-entry
-    put-words-requires
-    enum-known-entry-2
     cast-put-words
     cast-put-words-2
+    put-words-requires
+    enum-known-entry-2
     cast-put-words-3
+    cast-put-words-4
+    cast-put-words-5
     put-words-requires-2
     returns
     returns-2)

@@ -3,11 +3,11 @@ use mathlib.Core.Path.{_≡_, refl}
 use Prim.Native.Nat.{_<_}
 use native.Mathlib.Omega.{arith}
 use borrow.Author.Needs.{needs}
-use Rattle.portgraph.specs.Limits.{nodeSlots}
+use Rattle.portgraph.specs.Limits.{nodeSlots, neighbours-fit}
 use Rattle.portgraph.specs.Lookups.{entryAt}
 use Rattle.portgraph.specs.Resize.{BlockFits}
 use Rattle.portgraph.specs.Lent.{graphIn}
-use Rattle.portgraph.specs.WfFacts.{block-fits, node-below}
+use Rattle.portgraph.specs.WfFacts.{block-fits, node-below, node-free-fits}
 use Rattle.portgraph.specs.SlotSteps.{no-node}
 use Rattle.portgraph.specs.LentSteps.{unknown-in, found-in, removed-in, node-removed-in}
 use Rattle.portgraph.specs.declared.node_entry.NodeEntry.the-variants.{Node}
@@ -52,8 +52,14 @@ slot-after-requires c κs = omega (arith, below-at (c .before .before .before), 
 add-put-prev : tie.Need-add-put-prev
 add-put-prev c = omega (arith, below-at (c .before .before .before .before .before .before))
 
+cast-put-prev : tie.Need-cast-put-prev
+cast-put-prev c = omega (arith, neighbours-fit, below-at (c .before .before .before .before .before .before))
+
 put-prev-requires : tie.Need-put-prev-requires
 put-prev-requires c κs = search needs
+
+cast-new-free : tie.Need-cast-new-free
+cast-new-free c = omega (arith, neighbours-fit, node-free-fits _ (c .before .before .before .before .before .before .before .before .before .before .before .before .before .before .pre))
 
 new-free-requires : tie.Need-new-free-requires
 new-free-requires c κs = search needs
@@ -62,7 +68,7 @@ put-slot-requires : tie.Need-put-slot-requires
 put-slot-requires c κs = search needs
 
 cut-range-requires : tie.Need-cut-range-requires
-cut-range-requires c κs = omega (arith, block-fits-at (c .before .before .before .before .before .before .before .before .before .before .before) .ends, c .before .before .before .before .before .before .before .before .before .wide2 .ensures, c .before .before .before .before .before .before .before .before .wide16 .ensures)
+cut-range-requires c κs = omega (arith, block-fits-at (c .before .before .before .before .before .before .before .before .before .before .before .before) .ends, c .before .before .before .before .before .before .before .before .before .before .wide2 .ensures, c .before .before .before .before .before .before .before .before .before .wide16 .ensures)
 
 head-at-requires : tie.Need-head-at-requires
 head-at-requires c κs = search needs
@@ -74,13 +80,13 @@ fill-requires : tie.Need-fill-requires
 fill-requires c κs = search needs
 
 add-put-head : tie.Need-add-put-head
-add-put-head c = omega (arith, block-fits-at (c .before .before .before .before .before .before .before .before .before .before .before .before .before .before .before .before .before .before .before .before) .ends)
+add-put-head c = omega (arith, block-fits-at (c .before .before .before .before .before .before .before .before .before .before .before .before .before .before .before .before .before .before .before .before .before) .ends)
 
 put-head-requires : tie.Need-put-head-requires
 put-head-requires c κs = search needs
 
 add-t19 : tie.Need-add-t19
-add-t19 c = omega (arith, below-at (c .before .before .before .before .before .before .before .before .before .before .before .before .before .before .before .before .before .before .before .before .before .before))
+add-t19 c = omega (arith, below-at (c .before .before .before .before .before .before .before .before .before .before .before .before .before .before .before .before .before .before .before .before .before .before .before))
 
 less-requires : tie.Need-less-requires
 less-requires c κs = search needs
@@ -96,16 +102,16 @@ less-requires-3 c κs = search needs
 
 returns-2 : tie.Need-returns-2
 returns-2 c =
-    let a = c .before .before .before .before .before .before .before .before .before .before .before .before .before .before .before .before .before .before .before .before .before .before .before .before .before .before .before .before .before .before .before .args in
-    node-removed-in (a .nodes .now) (a .links .now) (a .owners .now) (a .heads .now) (a .counts) (c .before .before .before .before .before .before .before .before .before .before .before .before .before .before .before .before .before .before .before .before .before .before .before .before .before .before .before .before .before .before .before .pre) (a .node .0) (c .before .before .before .before .before .before .before .before .before .before .before .before .before .before .before .before .before .before .before .before .before .before .before .before .before .before .before .meta .given .0 .0) _ _
-    (found-at (c .before .before .before .before .before .before .before .before .before .before .before .before .before .before .before .before .before .before .before .before .before .before .before .before .before .before))
-    (c .before .before .before .before .before .before .before .before .before .before .before .before .before .before .before .before .before .before .before .before .before .before .before .before .before .wide .ensures)
-    (c .before .before .before .before .before .before .before .before .before .before .before .before .before .before .before .before .before .before .before .before .before .before .before .before .wide2 .ensures)
-    (c .before .before .before .before .before .before .before .before .before .before .before .before .before .before .before .before .before .before .before .before .before .before .before .wide16 .ensures)
-    (c .before .before .before .before .before .before .before .before .before .before .before .before .before .before .before .before .before .before .before .before .before .before .slot-after .ensures)
+    let a = c .before .before .before .before .before .before .before .before .before .before .before .before .before .before .before .before .before .before .before .before .before .before .before .before .before .before .before .before .before .before .before .before .args in
+    node-removed-in (a .nodes .now) (a .links .now) (a .owners .now) (a .heads .now) (a .counts) (c .before .before .before .before .before .before .before .before .before .before .before .before .before .before .before .before .before .before .before .before .before .before .before .before .before .before .before .before .before .before .before .before .pre) (a .node .0) (c .before .before .before .before .before .before .before .before .before .before .before .before .before .before .before .before .before .before .before .before .before .before .before .before .before .before .before .before .meta .given .0 .0) _ _
+    (found-at (c .before .before .before .before .before .before .before .before .before .before .before .before .before .before .before .before .before .before .before .before .before .before .before .before .before .before .before))
+    (c .before .before .before .before .before .before .before .before .before .before .before .before .before .before .before .before .before .before .before .before .before .before .before .before .before .before .wide .ensures)
+    (c .before .before .before .before .before .before .before .before .before .before .before .before .before .before .before .before .before .before .before .before .before .before .before .before .before .wide2 .ensures)
+    (c .before .before .before .before .before .before .before .before .before .before .before .before .before .before .before .before .before .before .before .before .before .before .before .before .wide16 .ensures)
+    (c .before .before .before .before .before .before .before .before .before .before .before .before .before .before .before .before .before .before .before .before .before .before .before .slot-after .ensures)
     refl
     refl
-    (c .before .before .before .before .before .before .before .before .before .before .before .before .before .before .before .before .before .before .before .put-prev .ensures)
+    (c .before .before .before .before .before .before .before .before .before .before .before .before .before .before .before .before .before .before .before .before .put-prev .ensures)
     (c .before .before .before .before .before .before .before .before .before .before .before .before .before .before .before .before .before .new-free .ensures)
     (c .before .before .before .before .before .before .before .before .before .before .before .before .before .before .before .before .put-slot .ensures)
     (c .before .before .before .before .before .before .before .before .before .before .before .before .before .before .cut-range .ensures)
@@ -131,7 +137,9 @@ remove-node-in-spec =
     wide16-requires
     slot-after-requires
     add-put-prev
+    cast-put-prev
     put-prev-requires
+    cast-new-free
     new-free-requires
     put-slot-requires
     cut-range-requires

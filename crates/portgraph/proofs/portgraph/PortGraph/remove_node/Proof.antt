@@ -2,9 +2,10 @@
 use mathlib.Core.Path.{ap, sym, _∙_}
 use native.Mathlib.Omega.{arith}
 use borrow.Author.Needs.{needs}
+use Rattle.portgraph.specs.Limits.{neighbours-fit}
 use Rattle.portgraph.specs.Lookups.{entryAt}
 use Rattle.portgraph.specs.Resize.{BlockFits}
-use Rattle.portgraph.specs.WfFacts.{block-fits}
+use Rattle.portgraph.specs.WfFacts.{block-fits, node-free-fits}
 use Rattle.portgraph.specs.SlotSteps.{no-node, no-node-outside, removed-numbers, node-removed}
 use Rattle.portgraph.proofs.portgraph.PortGraph.remove_node.Statement.{statement}
 use Rattle.portgraph.proofs.portgraph.PortGraph.remove_node.Tie as tie
@@ -52,6 +53,9 @@ element-copy-out-neighbour c = search needs
 add-with-prev : tie.Need-add-with-prev
 add-with-prev c = search needs
 
+cast-with-prev : tie.Need-cast-with-prev
+cast-with-prev c = omega (arith, neighbours-fit)
+
 with-prev-requires : tie.Need-with-prev-requires
 with-prev-requires c κs = search needs
 
@@ -60,6 +64,9 @@ mul-self c = search needs
 
 element-set-from-self : tie.Need-element-set-from-self
 element-set-from-self c = search needs
+
+cast-new-free : tie.Need-cast-new-free
+cast-new-free c = omega (arith, neighbours-fit, node-free-fits _ (c .before .before .before .before .before .before .before .before .before .before .before .before .pre))
 
 new-free-requires : tie.Need-new-free-requires
 new-free-requires c κs = search needs
@@ -141,9 +148,11 @@ remove-node-spec =
     mul-neighbour
     element-copy-out-neighbour
     add-with-prev
+    cast-with-prev
     with-prev-requires
     mul-self
     element-set-from-self
+    cast-new-free
     new-free-requires
     mul-t17
     element-set-from-self-2

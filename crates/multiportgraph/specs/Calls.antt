@@ -37,7 +37,7 @@ use Rattle.multiportgraph.specs.declared.multiportgraph.CutAnswer.the-va
 use Rattle.multiportgraph.specs.declared.multiportgraph.PortUnlinked.{PortUnlinked}
 use Rattle.multiportgraph.specs.Graph.{withGraph}
 use Rattle.multiportgraph.specs.HiddenNodes.{copiesDropped, recounted, removeAll, unsplit, unsplitRange}
-use Rattle.multiportgraph.specs.Refusals.{addRefusals, checked, cutRefusals, endOf, firstEnd, joining, linkRefusals, linkSubRefusals, preparedGraph, preparedOffset, preparedPort, removeRefusals, secondEnd, setRefusals, subportRefusals}
+use Rattle.multiportgraph.specs.Refusals.{addRefusals, checked, cutRefusals, endOf, firstEnd, joining, linkCleanRefusals, linkRefusals, linkSubRefusals, preparedGraph, preparedOffset, preparedPort, removeRefusals, secondEnd, setRefusals, subportRefusals}
 
 -- Adding a block.
 
@@ -118,18 +118,28 @@ movesTold = movesToldUnder present
 -- Linking ports.
 
 -- both ends are prepared: their inner ports are linked
-unfoldable pub linkPairUnder : Limits → MultiPortGraph → ℕ → ℕ → PortsLinked
-linkPairUnder L m a b =
-    checked (linkRefusals L m a b) (λ l. record { graph = l .leaves; answer = link.Refused (l .refusal) })
-    (record {
+abbrev pub bothLinked : Limits → MultiPortGraph → ℕ → ℕ → PortsLinked
+bothLinked L m a b =
+    record {
       graph =
           withGraph (preparedGraph m (secondEnd L m a b))
           (linkPorts (preparedGraph m (secondEnd L m a b) .graph) (preparedPort (firstEnd L m a)) (preparedPort (secondEnd L m a b)) .graph);
       answer = link.Linked (subport# a (preparedOffset (firstEnd L m a))) (subport# b (preparedOffset (secondEnd L m a b)));
-    })
+    }
+
+unfoldable pub linkPairUnder : Limits → MultiPortGraph → ℕ → ℕ → PortsLinked
+linkPairUnder L m a b = checked (linkRefusals L m a b) (λ l. record { graph = l .leaves; answer = link.Refused (l .refusal) }) (bothLinked L m a b)
 
 abbrev pub linkPair : MultiPortGraph → ℕ → ℕ → PortsLinked
 linkPair = linkPairUnder present
+
+-- and leaving no stub: the same is done after other refusals
+unfoldable pub linkCleanUnder : Limits → MultiPortGraph → ℕ → ℕ → PortsLinked
+linkCleanUnder L m a b =
+    checked (linkCleanRefusals L m a b) (λ l. record { graph = l .leaves; answer = link.Refused (l .refusal) }) (bothLinked L m a b)
+
+abbrev pub linkClean : MultiPortGraph → ℕ → ℕ → PortsLinked
+linkClean = linkCleanUnder present
 
 -- Linking subports: both ends are answered as read.
 

@@ -22,8 +22,8 @@ use Rattle.multiportgraph.specs.Reading.{sideOf, isHidden, isSplit, Port
 use Rattle.multiportgraph.specs.Graph.{withGraph}
 use Rattle.multiportgraph.specs.HiddenNodes.{Prepared, ready, full, prepareUnder}
 use Rattle.multiportgraph.specs.Refusals.{goodOffset, innerPort, endOf, joining, onOneSide, oneLinked, refusedBelow}
-use Rattle.multiportgraph.specs.Calls.{joined, addedAs, addBlockUnder, removeBlock, setCountsUnder, linkSub, cutPort, cutSub, subportLink, linkPairUnder}
-use Rattle.multiportgraph.specs.Cases.{removeMeta, setRefused, setMetaUnder, linkRefused, linkPrepared, linkSecond, linkFirst, linkSeenUnder, linkInner, linkSecondEnd, linkFirstEnd, linkSubSeen, cutRefused, cutSeen, cutSubSeen, linkOfSeen, linkLiveUnder}
+use Rattle.multiportgraph.specs.Calls.{joined, addedAs, addBlockUnder, removeBlock, setCountsUnder, linkSub, cutPort, cutSub, subportLink, linkPairUnder, linkCleanUnder}
+use Rattle.multiportgraph.specs.Cases.{removeMeta, setRefused, setMetaUnder, linkRefused, linkPrepared, linkSecond, linkFirst, linkSeenUnder, linkInner, linkSecondEnd, linkFirstEnd, linkSubSeen, cutRefused, cutSeen, cutSubSeen, linkOfSeen, linkLiveUnder, pairSeen, linkCleanBy}
 use Rattle.multiportgraph.specs.declared.multiportgraph.MultiPortGraph.{MultiPortGraph}
 use Rattle.multiportgraph.specs.declared.multiportgraph.SubportIndex.{SubportIndex}
 use Rattle.multiportgraph.specs.declared.multiportgraph.NodeAdded.{NodeAdded}
@@ -165,6 +165,23 @@ module _ (L : Limits) (m : MultiPortGraph) where
                   sides : (c : Bool) → sameSide d s ≡ c → linkPairUnder L m a b ≡ linkPrepared m₂ a d x o b s y r
                   sides true j = rw (e, f, h, i, j) refl
                   sides false j = rw (e, f, h, i, j) refl
+
+  -- leaving no stub
+  module _ (a b : ℕ) where
+    pub link-clean-cases : linkCleanUnder L m a b ≡ linkCleanBy L m a b (pairSeen a b (seen m a) (seen m b))
+    unfolding linkCleanUnder linkPairUnder
+    link-clean-cases = go (seen m a) refl (seen m b) refl
+      where
+        go : (u : Port) → seen m a ≡ u → (v : Port) → seen m b ≡ v → linkCleanUnder L m a b ≡ linkCleanBy L m a b (pairSeen a b u v)
+        go dead e v f = rw e refl
+        go hidden e v f = rw e refl
+        go (visible n d) e hidden f = rw (e, f) refl
+        go (visible n d) e dead f = rw (e, f) refl
+        go (visible n d) e (visible k s) f = sides (sameSide d s) refl
+          where
+            sides : (c : Bool) → sameSide d s ≡ c → linkCleanUnder L m a b ≡ linkCleanBy L m a b (pairSeen a b (visible n d) (visible k s))
+            sides true j = rw (e, f, j) refl
+            sides false j = rw (e, f, j, e, f, j) refl
 
 pub remove-cases : (m : MultiPortGraph) (n : ℕ) → removeBlock m n ≡ removeMeta m n (metaAt (m .graph) n)
 unfolding removeBlock

@@ -31,7 +31,9 @@ use Rattle.multiportgraph.specs.declared.multiportgraph.CutAnswer.the-va
 use Rattle.multiportgraph.specs.declared.multiportgraph.PortUnlinked.{PortUnlinked}
 use Rattle.multiportgraph.specs.Graph.{withGraph}
 use Rattle.multiportgraph.specs.HiddenNodes.{copiesDropped, prepareUnder, recounted, removeAll, unsplit, Prepared, ready, full}
-use Rattle.multiportgraph.specs.Calls.{linkOfEnd, cutPlain, dropBlock, farSubport, setAs}
+use Rattle.multiportgraph.specs.declared.named.NamedPair.{NamedPair}
+use Rattle.multiportgraph.specs.declared.named.NamedPair.the-variants as pair
+use Rattle.multiportgraph.specs.Calls.{linkOfEnd, cutPlain, dropBlock, farSubport, setAs, linkPairUnder}
 
 -- Removing a block.
 
@@ -108,6 +110,18 @@ linkSeenUnder L m a b (visible n d) (visible k e) = linkLiveUnder L m a d b e (p
 
 abbrev pub linkSeen : MultiPortGraph → ℕ → ℕ → Port → Port → PortsLinked
 linkSeen = linkSeenUnder present
+
+-- and leaving no stub: 7, 8, 11, 12, else the link of ports, of which only 10 is left
+abbrev pub pairSeen : ℕ → ℕ → Port → Port → NamedPair
+pairSeen a b dead second = pair.Refused (UnknownPort (port# a))
+pairSeen a b hidden second = pair.Refused (HiddenPort (port# a))
+pairSeen a b (visible n d) hidden = pair.Refused (HiddenPort (port# b))
+pairSeen a b (visible n d) dead = pair.Refused (UnknownSecondPort (port# b))
+pairSeen a b (visible n d) (visible k e) = cond (sameSide d e) (pair.Refused (IncompatibleDirections (port# a) (port# b) d)) pair.Opposite
+
+abbrev pub linkCleanBy : Limits → MultiPortGraph → ℕ → ℕ → NamedPair → PortsLinked
+linkCleanBy L m a b (pair.Refused r) = linkRefused m r
+linkCleanBy L m a b pair.Opposite = linkPairUnder L m a b
 
 -- Linking subports.
 

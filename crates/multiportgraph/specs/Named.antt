@@ -26,6 +26,7 @@ use Rattle.multiportgraph.specs.declared.named.NamedEnd.{NamedEnd}
 use Rattle.multiportgraph.specs.declared.named.NamedEnd.the-variants as end
 use Rattle.multiportgraph.specs.declared.named.NamedLink.{NamedLink}
 use Rattle.multiportgraph.specs.declared.named.NamedLink.the-variants as ends
+use Rattle.multiportgraph.specs.declared.named.NamedPair.{NamedPair}
 use Rattle.multiportgraph.specs.declared.named.EndNeed.{EndNeed}
 use Rattle.multiportgraph.specs.declared.named.EndNeed.the-variants as need
 use Rattle.multiportgraph.specs.declared.named.LinkNeed.{LinkNeed}
@@ -149,6 +150,10 @@ module _ (marks : List Bool) (links owners : List ℕ) (flags : List Bool) where
 
   unfoldable pub linkNeed : ℕ → ℕ → LinkNeed
   linkNeed a b = linkSeen a b (seenIn owners flags a) (seenIn owners flags b)
+
+-- Linking two ports and leaving no stub: the refusal, or that they are of blocks on opposite sides.
+unfoldable pub pairNamed : List ℕ → List Bool → ℕ → ℕ → NamedPair
+pairNamed owners flags a b = cases.pairSeen a b (seenIn owners flags a) (seenIn owners flags b)
 
 -- What the calls do with what they name.
 

@@ -32,7 +32,7 @@ use Rattle.portgraph.specs.declared.slots.NodeRemoved.{NodeRemoved}
 use Rattle.multiportgraph.specs.Reading.{isLinked, hasLink, isSplit, Port, dead, hidden, visible, seen, copyNode, subports, subportAt, End, inner, lacking, endAt, portOf, subport#, asRead, copySide}
 use Rattle.multiportgraph.specs.HiddenNodes as hiding
 use Rattle.multiportgraph.specs.Cases as cases
-use Rattle.multiportgraph.specs.Calls.{subportLink, linkOfEnd, farSubport, cutSub, cutPlain, cutPort, linkSub, linkPair, linkPairUnder}
+use Rattle.multiportgraph.specs.Calls.{subportLink, linkOfEnd, farSubport, cutSub, cutPlain, cutPort, linkSub, linkPair, linkPairUnder, linkClean}
 use Rattle.multiportgraph.specs.Forms.{preparedAs, seenAs, flagAt, putFlag, lowestUnlinked}
 use Rattle.multiportgraph.specs.Inner.{Fine, MultiWf}
 use Rattle.multiportgraph.specs.Ends.{BlockPort, block-seen, port-of, count-of}
@@ -44,7 +44,7 @@ use Rattle.multiportgraph.specs.PrepareSteps.{lower-wf, first-fits, lowe
 use Rattle.multiportgraph.specs.LinkSteps.{is-ready, others-stay, both-linked}
 use Rattle.multiportgraph.specs.Reads.{farIn, ownerIn, seenIn, wireIn, subportsIn, firstIn}
 use Rattle.multiportgraph.specs.ReadLaws.{mark-told, seen-read, owner-read, copy-read, side-read, subports-read, first-read, end-read-off, wire-read, end-is-port}
-use Rattle.multiportgraph.specs.Named.{endOr, endSeen, endNamed, freeEnds, secondOr, secondSeen, secondEnd, firstOr, firstEnd, bothSeen, linkNamed, readIn, reuseAt, reuseIn, needIn, secondReady, bothReady, firstReady, firstNeed, bothNeed, linkSeen, linkNeed, joinedAt, cutAt, readNamed, cutNamed, linkBy, preparedBy, linkedBy}
+use Rattle.multiportgraph.specs.Named.{endOr, endSeen, endNamed, freeEnds, secondOr, secondSeen, secondEnd, firstOr, firstEnd, bothSeen, linkNamed, readIn, reuseAt, reuseIn, needIn, secondReady, bothReady, firstReady, firstNeed, bothNeed, linkSeen, linkNeed, pairNamed, joinedAt, cutAt, readNamed, cutNamed, linkBy, preparedBy, linkedBy}
 use Rattle.multiportgraph.specs.declared.multiportgraph.MultiPortGraph.{MultiPortGraph}
 use Rattle.multiportgraph.specs.declared.multiportgraph.SubportIndex.{SubportIndex}
 use Rattle.multiportgraph.specs.declared.multiportgraph.Refusal.{Refusal}
@@ -60,6 +60,7 @@ use Rattle.multiportgraph.specs.declared.named.NamedEnd.{NamedEnd}
 use Rattle.multiportgraph.specs.declared.named.NamedEnd.the-variants as end
 use Rattle.multiportgraph.specs.declared.named.NamedLink.{NamedLink}
 use Rattle.multiportgraph.specs.declared.named.NamedLink.the-variants as ends
+use Rattle.multiportgraph.specs.declared.named.NamedPair.{NamedPair}
 use Rattle.multiportgraph.specs.declared.named.EndNeed.{EndNeed}
 use Rattle.multiportgraph.specs.declared.named.EndNeed.the-variants as need
 use Rattle.multiportgraph.specs.declared.named.LinkNeed.{LinkNeed}
@@ -67,8 +68,8 @@ use Rattle.multiportgraph.specs.declared.named.LinkNeed.the-variants as 
 use Rattle.multiportgraph.specs.Graph.{multi, withGraph}
 use Rattle.multiportgraph.specs.Refusals.{goodOffset}
 use Rattle.multiportgraph.specs.HiddenNodes.{unsplit, lowestFree, reuse, prepare, prepareUnder, reuseUnder}
-use Rattle.multiportgraph.specs.Cases.{linkOfSeen, cutSubSeen, cutEnd, cutRefused, linkRefused, linkInner, linkEnds, linkSecondEnd, linkFirstEnd, linkSubSeen, linkFirst, linkSecond}
-use Rattle.multiportgraph.specs.CaseLaws.{cut-sub-cases, subport-link-cases, link-cases, link-sub-cases}
+use Rattle.multiportgraph.specs.Cases.{linkOfSeen, cutSubSeen, cutEnd, cutRefused, linkRefused, linkInner, linkEnds, linkSecondEnd, linkFirstEnd, linkSubSeen, linkFirst, linkSecond, pairSeen, linkCleanBy}
+use Rattle.multiportgraph.specs.CaseLaws.{cut-sub-cases, subport-link-cases, link-cases, link-clean-cases, link-sub-cases}
 use Rattle.multiportgraph.specs.Presumed.{OnBlock, LinkedPort, SplitPort, BothOnBlock}
 
 module _ {m : MultiPortGraph} {M : Model} (f : Fine m M) where
@@ -457,6 +458,16 @@ module _ {m : MultiPortGraph} (w : MultiWf m) where
   pub call-done : (a b : ℕ) {e v : LinkNeed} {l : PortsLinked} → e ≡ linkNeed (m .multiport) (m .graph .«port_link») (m .graph .«port_meta») (m .«copy_node») a b → e ≡ v →
       l ≡ linkedBy m a b v → l ≡ linkPair m a b
   call-done a b is told h = h ∙ (ap (linkedBy m a b) (sym told ∙ is) ∙ sym (call-of-need w a b))
+
+  -- and leaving no stub
+  clean-of-pair : (a b : ℕ) → linkClean m a b ≡ linkCleanBy present m a b (pairNamed (m .graph .«port_meta») (m .«copy_node») a b)
+  unfolding pairNamed
+  clean-of-pair a b =
+      link-clean-cases present m a b ∙ (λ i. linkCleanBy present m a b (pairSeen a b (sym (seen-read (w .fine) a) i) (sym (seen-read (w .fine) b) i)))
+
+  pub clean-done : (a b : ℕ) {e v : NamedPair} {l : PortsLinked} → e ≡ pairNamed (m .graph .«port_meta») (m .«copy_node») a b → e ≡ v →
+      l ≡ linkCleanBy present m a b v → l ≡ linkClean m a b
+  clean-done a b is told h = h ∙ (ap (linkCleanBy present m a b) (sym told ∙ is) ∙ sym (clean-of-pair a b))
 
 -- the link of an inner port is cut in the tables
 cut-made : (m : MultiPortGraph) {x v far n : ℕ} {t : List ℕ} → v ≡ x → far ≡ at (m .graph .«port_link») v → t ≡ cut (m .graph .«port_link») v →

@@ -20,16 +20,18 @@ use Rattle.multiportgraph.specs.Reading.{nodeNumber, Port, visible, End,
 use Rattle.multiportgraph.specs.CallSteps.{bad-offset}
 use Rattle.multiportgraph.specs.Forms.{flagAt, lowestUnlinked}
 use Rattle.multiportgraph.specs.Reads.{ownerIn, seenIn, endIn, subportsIn, firstIn}
-use Rattle.multiportgraph.specs.Named.{endOr, endSeen, endNamed, freeEnds, secondOr, secondSeen, secondEnd, firstOr, firstEnd, bothSeen, linkNamed, readIn, reuseAt, reuseIn, needIn, secondReady, bothReady, firstReady, firstNeed, bothNeed, linkSeen, linkNeed}
+use Rattle.multiportgraph.specs.Named.{endOr, endSeen, endNamed, freeEnds, secondOr, secondSeen, secondEnd, firstOr, firstEnd, bothSeen, linkNamed, readIn, reuseAt, reuseIn, needIn, secondReady, bothReady, firstReady, firstNeed, bothNeed, linkSeen, linkNeed, pairNamed}
 use Rattle.multiportgraph.specs.declared.multiportgraph.Refusal.the-variants.{BadOffset, IncompatibleDirections, AlreadyLinked}
 use Rattle.multiportgraph.specs.declared.named.NamedEnd.the-variants as end
 use Rattle.multiportgraph.specs.declared.named.NamedLink.{NamedLink}
 use Rattle.multiportgraph.specs.declared.named.NamedLink.the-variants as ends
+use Rattle.multiportgraph.specs.declared.named.NamedPair.the-variants as pair
 use Rattle.multiportgraph.specs.declared.named.EndNeed.{EndNeed}
 use Rattle.multiportgraph.specs.declared.named.EndNeed.the-variants as need
 use Rattle.multiportgraph.specs.declared.named.LinkNeed.{LinkNeed}
 use Rattle.multiportgraph.specs.declared.named.LinkNeed.the-variants as needs
 use Rattle.multiportgraph.specs.Refusals.{goodOffset}
+use Rattle.multiportgraph.specs.Cases.{pairSeen}
 
 -- The count of links.
 
@@ -135,6 +137,18 @@ module _ (marks : List Bool) (links owners : List ℕ) (flags : List Bool) where
   pub call-seen : (a b : ℕ) (s t : Port) → seenIn owners flags a ≡ s → seenIn owners flags b ≡ t → linkSeen marks links owners flags a b s t ≡ linkNeed marks links owners flags a b
   unfolding linkNeed
   call-seen a b s t e f = rw (e, f)
+
+-- Two ports, before an end is prepared.
+module _ (owners : List ℕ) (flags : List Bool) (a b : ℕ) where
+  pub pair-seen : (s t : Port) → seenIn owners flags a ≡ s → seenIn owners flags b ≡ t → pairSeen a b s t ≡ pairNamed owners flags a b
+  unfolding pairNamed
+  pair-seen s t e f = rw (e, f)
+
+  pub pair-sides : (n k : ℕ) (d e : Direction) {c v : Bool} → seenIn owners flags a ≡ visible n d → seenIn owners flags b ≡ visible k e → c ≡ sameSide d e → c ≡ v →
+      cond v (pair.Refused (IncompatibleDirections (port# a) (port# b) d)) pair.Opposite ≡ pairNamed owners flags a b
+  pair-sides n k d e f g h i =
+      ap (λ (u : Bool). cond u (pair.Refused (IncompatibleDirections (port# a) (port# b) d)) pair.Opposite) (sym i ∙ h)
+      ∙ pair-seen (visible n d) (visible k e) f g
 
 -- A range of slots.
 pub fits-inside : (f n : ℕ) (b : Bool) → f ≤ portSlots → b ≡ leb n (portSlots - f) → b ≡ leb (f + n) portSlots

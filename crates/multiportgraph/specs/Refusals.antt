@@ -186,6 +186,18 @@ linkRefusals L m a b =
     (IncompatibleDirections (port# (preparedPort (firstEnd L m a))) (port# (preparedPort (secondEnd L m a b))) (sideOf (seen m a)))
     ∷ []
 
+-- 7, 8, 11, 12, 10, of the link that leaves no stub: 11 and 12 are settled on the graph handed in, so nothing is left, and 12 carries the
+-- ports as named
+abbrev pub linkCleanRefusals : Limits → MultiPortGraph → ℕ → ℕ → List Line
+linkCleanRefusals L m a b =
+    refuse m (isDead (seen m a)) (UnknownPort (port# a))
+    ∷ refuse m (isOfHidden (seen m a)) (HiddenPort (port# a))
+    ∷ refuse m (isOfHidden (seen m b)) (HiddenPort (port# b))
+    ∷ refuse m (isDead (seen m b)) (UnknownSecondPort (port# b))
+    ∷ refuse m (sameSide (sideOf (seen m a)) (sideOf (seen m b))) (IncompatibleDirections (port# a) (port# b) (sideOf (seen m a)))
+    ∷ refuse m (linkLacksRoom L m a b) NoRoom
+    ∷ []
+
 -- 2, 7, 8, 9, 11, 12, 13
 abbrev pub linkSubRefusals : MultiPortGraph → ℕ → ℕ → ℕ → ℕ → List Line
 linkSubRefusals m p o q r =

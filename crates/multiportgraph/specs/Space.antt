@@ -158,6 +158,17 @@ linkSeenWorks m a b (visible n d) (visible k e) = prepareWorks m a d ++ secondWo
 unfoldable pub linkWorks : MultiPortGraph → ℕ → ℕ → List Work
 linkWorks m a b = linkSeenWorks m a b (seen m a) (seen m b)
 
+-- and leaving no stub: the same, once 11 and 12 are settled
+abbrev pub linkCleanSeenWorks : MultiPortGraph → ℕ → ℕ → Port → Port → List Work
+linkCleanSeenWorks m a b dead second = []
+linkCleanSeenWorks m a b hidden second = []
+linkCleanSeenWorks m a b (visible n d) hidden = []
+linkCleanSeenWorks m a b (visible n d) dead = []
+linkCleanSeenWorks m a b (visible n d) (visible k e) = cond (meaning.sameSide d e) [] (linkWorks m a b)
+
+unfoldable pub linkCleanWorks : MultiPortGraph → ℕ → ℕ → List Work
+linkCleanWorks m a b = linkCleanSeenWorks m a b (seen m a) (seen m b)
+
 -- removing a block: its hidden nodes by ascending port, then the node itself
 abbrev pub removeMetaWorks : MultiPortGraph → ℕ → MaybeNodeMeta → List Work
 removeMetaWorks m n maybe-meta.None = []

@@ -49,7 +49,7 @@ use Rattle.portgraph.specs.declared.resize.SetAnswer as lower-set-answer
 use Rattle.portgraph.specs.declared.resize.SetAnswer.the-variants as lower-set
 use Rattle.portgraph.specs.declared.slots.AddAnswer as lower-add-answer
 use Rattle.portgraph.specs.declared.slots.AddAnswer.the-variants as lower-add
-use Rattle.multiportgraph.specs.Calls.{dropBlock, removeBlock, addedAs, addBlock, setAs, setCounts, cutPlain, cutPort, cutSub, farSubport, linkSub, setCountsUnder, addBlockUnder, linkPair, linkPairUnder}
+use Rattle.multiportgraph.specs.Calls.{dropBlock, removeBlock, addedAs, addBlock, setAs, setCounts, cutPlain, cutPort, cutSub, farSubport, linkSub, setCountsUnder, addBlockUnder, linkPair, linkPairUnder, linkClean}
 use Rattle.multiportgraph.specs.Inner.{inner#, copyPlace, Fine, Seen, BlockIs, SameBlocks}
 use Rattle.multiportgraph.specs.Reading.{ownerOf, copySide, hasLink, portOf, isHidden, isSplit, Port, dead, hidden, visible, seen, copyNode, subports, subport#, End, inner, lacking, endAt, asRead}
 use Rattle.multiportgraph.specs.Ends.{Hangs, split-has-copy, block-seen, seen-block, copy-valid, port-of, far-of, owner-of}
@@ -57,7 +57,7 @@ use Rattle.multiportgraph.specs.CopyLaws.{copy-goes, unsplit-split, unsp
 use Rattle.multiportgraph.specs.PrepareLaws.{prepare-law}
 use Rattle.multiportgraph.specs.RecountLaws.{Recount, SomeRecount, set-recounts, slotIn, place-among}
 use Rattle.multiportgraph.specs.SetLaws.{resize-loosens}
-use Rattle.multiportgraph.specs.Space.{Room, roomOf, Work, takeNode, takeBlock, giveNode, giveBlock, blockTaken, afterWork, afterWorks, onTheWay, nodesPast, portsPast, nodesShort, portsShort, overflows, addWorks, goneWorks, splitWorks, moveWorks, recountWorks, growWorks, reuseWorks, prepareWorks, secondWorks, linkSeenWorks, linkWorks, copiesGone, setMetaWorks, setWorks, cutWorks, cutSeenWorks, removeWorks, removeMetaWorks, toldWorks}
+use Rattle.multiportgraph.specs.Space.{Room, roomOf, Work, takeNode, takeBlock, giveNode, giveBlock, blockTaken, afterWork, afterWorks, onTheWay, nodesPast, portsPast, nodesShort, portsShort, overflows, addWorks, goneWorks, splitWorks, moveWorks, recountWorks, growWorks, reuseWorks, prepareWorks, secondWorks, linkSeenWorks, linkWorks, linkCleanSeenWorks, linkCleanWorks, copiesGone, setMetaWorks, setWorks, cutWorks, cutSeenWorks, removeWorks, removeMetaWorks, toldWorks}
 use Rattle.multiportgraph.specs.declared.multiportgraph.MultiPortGraph.{MultiPortGraph}
 use Rattle.multiportgraph.specs.declared.multiportgraph.Refusal.{Refusal}
 use Rattle.multiportgraph.specs.declared.multiportgraph.Refusal.the-variants.{BadOffset, TooManyPorts, UnknownNode, HiddenNode, MovesTooShort, NoRoom, IncompatibleDirections}
@@ -71,12 +71,14 @@ use Rattle.multiportgraph.specs.declared.multiportgraph.PortsSet.{PortsS
 use Rattle.multiportgraph.specs.declared.multiportgraph.SetAnswer.the-variants as resize
 use Rattle.multiportgraph.specs.declared.multiportgraph.PortsLinked.{PortsLinked}
 use Rattle.multiportgraph.specs.declared.multiportgraph.LinkAnswer.the-variants as link
+use Rattle.multiportgraph.specs.declared.named.NamedPair.{NamedPair}
+use Rattle.multiportgraph.specs.declared.named.NamedPair.the-variants as pair
 use Rattle.multiportgraph.specs.declared.multiportgraph.AddAnswer.the-variants as add
 use Rattle.multiportgraph.specs.HiddenNodes.{unsplitRange, copiesIn, recounted, Prepared, ready, full, copyIn, copyOut, split, splitBy, splitPort, splitGraph, lowestFree, moreIn, moreOut, enough, grow, grownBy, reuse, prepare, removeCopy, removeLone, removeAll, copiesDropped, unsplit, splitUnder, growUnder, prepareUnder, reuseUnder}
-use Rattle.multiportgraph.specs.Cases.{removeRefused, removeMeta, linkFirst, linkSecond, linkSeen, linkRefused, setRefused, resized, setMeta, cutSeen, cutRefused, cutEnd, cutSubSeen, linkInner, linkSecondEnd, linkFirstEnd, linkSubSeen, linkLive}
+use Rattle.multiportgraph.specs.Cases.{removeRefused, removeMeta, linkFirst, linkSecond, linkSeen, linkRefused, setRefused, resized, setMeta, cutSeen, cutRefused, cutEnd, cutSubSeen, linkInner, linkSecondEnd, linkFirstEnd, linkSubSeen, linkLive, pairSeen, linkCleanBy}
 use Rattle.multiportgraph.specs.Graph.{withGraph}
 use Rattle.multiportgraph.specs.Refusals.{goodOffset}
-use Rattle.multiportgraph.specs.CaseLaws.{add-cases, set-cases, link-cases, link-sub-cases, cut-cases, cut-sub-cases, remove-cases}
+use Rattle.multiportgraph.specs.CaseLaws.{add-cases, set-cases, link-cases, link-clean-cases, link-sub-cases, cut-cases, cut-sub-cases, remove-cases}
 
 -- Lengths never shrink, so what is passed on the way is passed at the end.
 
@@ -702,7 +704,7 @@ set-counts-space {m} {M} f n k block i o room few told =
     go lower-set.MovesTooShort q s = absurd s
     go lower-set.NoRoom q s = spaced-refused refl (overflows-before-copies m (copiesDropped m k i o) (roomOf M) (recountWorks k i o) ∙ s) refl
 
--- Cutting, and linking subports: nothing is taken.
+-- Cutting, linking without a stub, and linking subports.
 
 -- a call that does no work
 module _ {m : MultiPortGraph} {M : Model} (f : Fine m M) where
@@ -779,6 +781,27 @@ module _ {m : MultiPortGraph} {M : Model} (f : Fine m M) where
       offset : (b : Bool) → Spaced m M [] (cond b (cutSubSeen m p o (seen m p)) (cutRefused m BadOffset) .answer ≡ cutting.Refused NoRoom) (cond b (cutSubSeen m p o (seen m p)) (cutRefused m BadOffset) .graph)
       offset true = port (seen m p)
       offset false = no-work f (λ e. zero-is-not-one (cc)) (own-room f)
+
+  -- leaving no stub: nothing is taken where 7, 8, 11 or 12 is given
+  pub link-clean-space : (a b : ℕ) → Spaced m M (linkCleanWorks m a b) (linkClean m a b .answer ≡ link.Refused NoRoom) (linkClean m a b .graph)
+  unfolding linkCleanWorks
+  link-clean-space a b =
+      subst (λ (v : PortsLinked). Spaced m M (linkCleanSeenWorks m a b (seen m a) (seen m b)) (v .answer ≡ link.Refused NoRoom) (v .graph))
+      (sym (link-clean-cases present m a b)) (go (seen m a) (seen m b))
+    where
+      Says : List Work → NamedPair → Type 0
+      Says l v = Spaced m M l (linkCleanBy present m a b v .answer ≡ link.Refused NoRoom) (linkCleanBy present m a b v .graph)
+
+      go : (u v : Port) → Says (linkCleanSeenWorks m a b u v) (pairSeen a b u v)
+      go dead v = no-work f (λ e. zero-is-not-one (cc)) (own-room f)
+      go hidden v = no-work f (λ e. zero-is-not-one (cc)) (own-room f)
+      go (visible n d) hidden = no-work f (λ e. zero-is-not-one (cc)) (own-room f)
+      go (visible n d) dead = no-work f (λ e. zero-is-not-one (cc)) (own-room f)
+      go (visible n d) (visible k e) = sides (sameSide d e)
+        where
+          sides : (c : Bool) → Says (cond c [] (linkWorks m a b)) (cond c (pair.Refused (IncompatibleDirections (port# a) (port# b) d)) pair.Opposite)
+          sides true = no-work f (λ e. zero-is-not-one (cc)) (own-room f)
+          sides false = link-space f a b
 
   pub link-sub-space : (p o q r : ℕ) → Spaced m M [] (linkSub m p o q r .answer ≡ link.Refused NoRoom) (linkSub m p o q r .graph)
   link-sub-space p o q r = subst (λ (v : PortsLinked). Spaced m M [] (v .answer ≡ link.Refused NoRoom) (v .graph)) (sym (link-sub-cases m p o q r)) (offset (goodOffset o))

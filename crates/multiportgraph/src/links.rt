@@ -6,8 +6,10 @@ use crate::multiportgraph::Refusal;
 use crate::multiportgraph::SubportIndex;
 use crate::named::EndNeed;
 use crate::named::LinkNeed;
+use crate::named::NamedPair;
 use crate::named::link_need;
 use crate::named::need_in;
+use crate::named::pair_named;
 use crate::prepare::Prepared;
 use portgraph::direction::Direction;
 use portgraph::index::PortIndex;
@@ -19,7 +21,7 @@ ghost use Rattle.multiportgraph.specs.Answers.{linkNumbers};
 ghost use Rattle.multiportgraph.specs.Cases.{linkFirst, linkLive};
 ghost use Rattle.multiportgraph.specs.HiddenNodes.{prepare};
 ghost use Rattle.multiportgraph.specs.Presumed.{OnBlock, BothOnBlock};
-ghost use Rattle.multiportgraph.specs.Calls.{linkPair};
+ghost use Rattle.multiportgraph.specs.Calls.{linkPair, linkClean};
 
 impl MultiPortGraph {
     // The second port is not live: the preparation of the first stays.
@@ -156,6 +158,20 @@ impl MultiPortGraph {
             },
             LinkNeed::First(d) => self.link_first(port_a.0, d, port_b),
             LinkNeed::Both(d, e) => self.link_both(port_a.0, d, port_b.0, e),
+        }
+    }
+
+    // Links two ports, and leaves no stub: nothing is prepared for a link that is refused.
+    pub fn link_ports_clean(self, port_a: PortIndex, port_b: PortIndex) -> PortsLinked
+        requires { ⌜ MultiWf self ⌝ }
+        ensures { λ r. ⌜ (r ≡ linkClean self («port_a» .0) («port_b» .0)) × (linkNumbers (r .answer) ≡ linkNumbers (linkClean self («port_a» .0) («port_b» .0) .answer)) ⌝ }
+    {
+        match pair_named(&self.graph.port_meta, &self.copy_node, port_a, port_b) {
+            NamedPair::Opposite => self.link_ports(port_a, port_b),
+            NamedPair::Refused(refusal) => PortsLinked {
+                graph: self,
+                answer: LinkAnswer::Refused(refusal),
+            },
         }
     }
 }

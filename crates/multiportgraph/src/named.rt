@@ -20,7 +20,7 @@ ghost use mathlib.Core.Path.{_≡_};
 ghost use Prim.Native.Nat.{_+_};
 ghost use lib.Dec.{leb};
 ghost use Rattle.portgraph.specs.Limits.{portSlots};
-ghost use Rattle.multiportgraph.specs.Named.{endNamed, freeEnds, secondEnd, firstEnd, linkNamed, readIn, reuseIn, needIn, firstNeed, bothNeed, linkNeed};
+ghost use Rattle.multiportgraph.specs.Named.{endNamed, freeEnds, secondEnd, firstEnd, linkNamed, readIn, reuseIn, needIn, firstNeed, bothNeed, linkNeed, pairNamed};
 
 // A subport that a call names.
 pub enum NamedEnd {
@@ -33,6 +33,13 @@ pub enum NamedEnd {
 pub enum NamedLink {
     // Their inner ports.
     Ends(u32, u32),
+    Refused(Refusal),
+}
+
+// Two ports that a call links, before an end is prepared.
+pub enum NamedPair {
+    // Ports of blocks on opposite sides.
+    Opposite,
     Refused(Refusal),
 }
 
@@ -301,6 +308,33 @@ pub(crate) fn link_need<'a>(
                 SeenPort::Hidden => LinkNeed::Refused(Refusal::HiddenPort(b)),
                 SeenPort::Dead => first_need(marks, links, owners, a.0, d, b),
                 SeenPort::Visible(_, e) => both_need(marks, links, owners, a.0, d, b.0, e),
+            }
+        }
+    }
+}
+
+// Whether two ports can be linked, room apart, or the refusal with the ports as named.
+pub(crate) fn pair_named<'a>(
+    owners: &'a [u32; PORT_SLOTS],
+    flags: &'a [bool; NODE_SLOTS],
+    a: PortIndex,
+    b: PortIndex,
+) -> NamedPair
+    ensures { λ r. ⌜ r ≡ pairNamed (now (owners .entry)) (now (flags .entry)) (a .0) (b .0) ⌝ }
+{
+    match seen_in(owners, flags, a.0) {
+        SeenPort::Dead => NamedPair::Refused(Refusal::UnknownPort(a)),
+        SeenPort::Hidden => NamedPair::Refused(Refusal::HiddenPort(a)),
+        SeenPort::Visible(_, d) => {
+            match seen_in(owners, flags, b.0) {
+                SeenPort::Hidden => NamedPair::Refused(Refusal::HiddenPort(b)),
+                SeenPort::Dead => NamedPair::Refused(Refusal::UnknownSecondPort(b)),
+                SeenPort::Visible(_, e) => {
+                    if same_side(d, e) {
+                        return NamedPair::Refused(Refusal::IncompatibleDirections(a, b, d));
+                    }
+                    NamedPair::Opposite
+                }
             }
         }
     }

@@ -28,7 +28,7 @@ use Rattle.records.specs.Words.{Request}
 use Rattle.records.specs.Run.{Asked, call, linkOf, counts, refused, allZero, goodOffsets, asked, askedBy, numbers, callsOf}
 use Rattle.multiportgraph.specs.HiddenNodes.{enough}
 use Rattle.multiportgraph.specs.Answers.{refusalNumbers, cutNumbers}
-use Rattle.theorems.specs.Conditions.{AddRefused, RemoveRefused, SetRefused, CutRefused, SubRefused, LinkRefused, LinkSubRefused, RefusedBy, Condition}
+use Rattle.theorems.specs.Conditions.{AddRefused, RemoveRefused, SetRefused, CutRefused, SubRefused, LinkRefused, CleanRefused, LinkSubRefused, RefusedBy, Condition}
 use Rattle.theorems.specs.CutSubCall.{subport-link-refused}
 
 -- the refusal with number 6
@@ -60,6 +60,8 @@ answer-six (book.setCall n i o room) (resize.Set e) h = absurd (omega arith)
 answer-six (book.setCall n i o room) (resize.Refused r) h = ap resize.Refused (refusal-six r h)
 answer-six (book.linkCall a b) (link.Linked s t) h = absurd (omega arith)
 answer-six (book.linkCall a b) (link.Refused r) h = ap link.Refused (refusal-six r h)
+answer-six (book.linkCleanCall a b) (link.Linked s t) h = absurd (omega arith)
+answer-six (book.linkCleanCall a b) (link.Refused r) h = ap link.Refused (refusal-six r h)
 answer-six (book.linkSubCall p o q r) (link.Linked s t) h = absurd (omega arith)
 answer-six (book.linkSubCall p o q r) (link.Refused z) h = ap link.Refused (refusal-six z h)
 answer-six (book.cutCall p) v h = cut-six v h
@@ -71,6 +73,7 @@ Roomy (book.addCall i o) = Unit {0}
 Roomy (book.removeCall n) = Unit {0}
 Roomy (book.setCall n i o room) = room ≡ enough
 Roomy (book.linkCall a b) = Unit {0}
+Roomy (book.linkCleanCall a b) = Unit {0}
 Roomy (book.linkSubCall p o q r) = Unit {0}
 Roomy (book.cutCall p) = Unit {0}
 Roomy (book.cutSubCall p o) = Unit {0}
@@ -113,6 +116,14 @@ module _ {m : MultiPortGraph} {M : Model} (f : Fine m M) where
   link-never a b h r (laws.link-second-dead x m₁ u o s d g) e = zero-is-not-one (cc)
   link-never a b h r (laws.link-one-side x y m₁ m₂ u o v w s t g k q) e = zero-is-not-one (cc)
 
+  clean-never : (a b : ℕ) (r : Refusal) → CleanRefused m M a b r → r ≡ MovesTooShort → ⊥
+  clean-never a b r (laws.clean-first-dead d) e = zero-is-not-one (cc)
+  clean-never a b r (laws.clean-first-hidden k) e = zero-is-not-one (cc)
+  clean-never a b r (laws.clean-second-hidden x s k) e = zero-is-not-one (cc)
+  clean-never a b r (laws.clean-second-dead x s d) e = zero-is-not-one (cc)
+  clean-never a b r (laws.clean-one-side x y s t q) e = zero-is-not-one (cc)
+  clean-never a b r (laws.clean-full x y s t n k) e = zero-is-not-one (cc)
+
   link-sub-never : (p o q r : ℕ) (z : Refusal) → LinkSubRefused m M p o q r z → z ≡ MovesTooShort → ⊥
   link-sub-never p o q r z (laws.sub-offsets h) e = zero-is-not-one (cc)
   link-sub-never p o q r z (laws.sub-first-dead h d) e = zero-is-not-one (cc)
@@ -130,6 +141,7 @@ module _ {m : MultiPortGraph} {M : Model} (f : Fine m M) where
   never (book.removeCall n) z h = remove-never n MovesTooShort h refl
   never (book.setCall n i o room) z h = set-never n i o room MovesTooShort z h refl
   never (book.linkCall a b) z h = link-never a b (h .0) MovesTooShort (h .1) refl
+  never (book.linkCleanCall a b) z h = clean-never a b MovesTooShort h refl
   never (book.linkSubCall p o q r) z h = link-sub-never p o q r MovesTooShort h refl
   never (book.cutCall p) z h = cut-never p MovesTooShort h refl
   never (book.cutSubCall p o) z h = sub-never p o MovesTooShort h refl

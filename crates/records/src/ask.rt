@@ -14,10 +14,11 @@ use crate::requests::ask_of;
 use multiportgraph::multiportgraph::MultiPortGraph;
 use multiportgraph::multiportgraph::PortsSet;
 use portgraph::index::NodeIndex;
+use portgraph::index::PortIndex;
 ghost use mathlib.Core.Path.{_≡_};
 ghost use lib.ListN.{length};
 ghost use Rattle.multiportgraph.specs.Calls.{setCounts, movesTold};
-ghost use Rattle.theorems.specs.Book.{setCall};
+ghost use Rattle.theorems.specs.Book.{linkCleanCall, setCall};
 ghost use Rattle.multiportgraph.specs.Inner.{MultiWf};
 ghost use Rattle.records.specs.Run.{call, askedBy, Answered};
 ghost use Rattle.records.specs.Forms.{meant, words5};
@@ -51,6 +52,20 @@ pub fn resize(
         × MultiWf (r .graph) ⌝ }
 {
     graph.set_num_ports(NodeIndex(node), incoming as usize, outgoing as usize, moves)
+}
+
+// Links two ports and leaves no stub; no request asks for this.
+pub fn link_clean(graph: MultiPortGraph, a: u32, b: u32) -> Asked
+    requires { ⌜ MultiWf graph ⌝ }
+    ensures { λ r. ⌜ Answered graph (call (linkCleanCall a b)) (words5 (r .answer)) (r .graph) ⌝ }
+{
+    let linked = graph.link_ports_clean(PortIndex(a), PortIndex(b));
+    let answer = linked.answer;
+    let after = linked.graph;
+    Asked {
+        graph: after,
+        answer: link_words(answer),
+    }
 }
 
 // A resize as a request: its move list is its own, and long enough.

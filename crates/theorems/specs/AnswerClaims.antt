@@ -17,7 +17,7 @@ use Rattle.multiportgraph.specs.declared.multiportgraph.SubportIndex.{SubportIn
 use Rattle.multiportgraph.specs.declared.multiportgraph.CutAnswer.{CutAnswer}
 use Rattle.multiportgraph.specs.declared.multiportgraph.CutAnswer.the-variants as cutting
 use Rattle.theorems.specs.History.{State, next}
-use Rattle.theorems.specs.Claims.{Link, byPorts, bySubports, linking}
+use Rattle.theorems.specs.Claims.{Link, byPorts, byPortsClean, bySubports, linking}
 
 -- the wire between two subports of a graph, the outgoing one first: the side of the first one's port tells which that is
 abbrev pub wireBetween : MultiPortGraph → SubportIndex → SubportIndex → Wire
@@ -26,10 +26,12 @@ wireBetween m s t = wireOfSides (placeOf m s .side) (placeOf m s) (placeOf m t)
 -- the ports that a link names
 abbrev pub firstNamed : Link → ℕ
 firstNamed (byPorts a b) = a
+firstNamed (byPortsClean a b) = a
 firstNamed (bySubports p o q r) = p
 
 abbrev pub secondNamed : Link → ℕ
 secondNamed (byPorts a b) = b
+secondNamed (byPortsClean a b) = b
 secondNamed (bySubports p o q r) = q
 
 -- An accepted link answers subports of the ports named, the first named first, and enters in the book the wire between them. Their

@@ -35,12 +35,14 @@ use Rattle.multiportgraph.specs.declared.multiportgraph.SubportIndex.{SubportIn
 use Rattle.multiportgraph.specs.declared.multiportgraph.LinkAnswer.the-variants as link
 use Rattle.multiportgraph.specs.declared.multiportgraph.CutAnswer.{CutAnswer}
 use Rattle.multiportgraph.specs.declared.multiportgraph.CutAnswer.the-variants as cutting
+use Rattle.multiportgraph.specs.declared.multiportgraph.PortsLinked.{PortsLinked}
 use Rattle.multiportgraph.specs.declared.multiportgraph.PortUnlinked.{PortUnlinked}
 use Rattle.multiportgraph.specs.declared.multiportgraph.Refusal.the-variants.{BadOffset}
 use Rattle.theorems.specs.Book.{Call, Book, spotOf, addWire, nextOffset, readBy}
 use Rattle.theorems.specs.History.{State, next, run}
-use Rattle.theorems.specs.Claims.{Link, byPorts, bySubports, linking, LinkedBy}
+use Rattle.theorems.specs.Claims.{Link, byPorts, byPortsClean, bySubports, linking, LinkedBy}
 use Rattle.theorems.specs.LinkLaw.{LinkDone, link-done-law}
+use Rattle.theorems.specs.LinkCleanCall.{clean-is-link, clean-next, clean-done-law}
 use Rattle.theorems.specs.WireRule.{Rel, OneMore, ports-link, subports-link, seen-live, spot-of, offset-of}
 use Rattle.theorems.specs.CallLaws.{rel-step, rel-run}
 use Rattle.theorems.specs.TheoremProofs.{end-named}
@@ -105,8 +107,9 @@ link-sub-done : {m : MultiPortGraph} {M : Model} → Fine m M → (p o q t : ℕ
     LinkSubDone m M (linkSub m p o q t .graph) p o q t x y
 link-sub-done {m} {M} f p o q t x y h = subst (LinkSubSays m M p o q t (linkSub m p o q t .graph)) h (link-sub-law f p o q t)
 
-answers-its-wire : (s : State) (M : Model) → Rel (s .graph) M (s .book) → (l : Link) (x y : SubportIndex) → LinkedBy s l x y → AnswersItsWire s l x y
-answers-its-wire s M r (byPorts a b) x y h =
+pair-answers-its-wire : (s : State) (M : Model) → Rel (s .graph) M (s .book) → (a b : ℕ) (x y : SubportIndex) → LinkedBy s (byPorts a b) x y →
+    AnswersItsWire s (byPorts a b) x y
+pair-answers-its-wire s M r a b x y h =
     let d : LinkDone (s .graph) M (linkPair (s .graph) a b .graph) a b x y = link-done-law (r .fine) a b x y h in
     let l : OneMore (s .graph) M (linkPair (s .graph) a b .graph) a (d .o) b (d .r) x y = ports-link d in
     record {
@@ -120,6 +123,20 @@ answers-its-wire s M r (byPorts a b) x y h =
       firstPlace = first-place-before r l;
       secondPlace = second-place-before r l;
     }
+
+answers-its-wire : (s : State) (M : Model) → Rel (s .graph) M (s .book) → (l : Link) (x y : SubportIndex) → LinkedBy s l x y → AnswersItsWire s l x y
+answers-its-wire s M r (byPorts a b) x y h = pair-answers-its-wire s M r a b x y h
+answers-its-wire s M r (byPortsClean a b) x y h =
+    let e = clean-is-link (s .graph) a b x y h in
+    let n = sym (clean-next s a b e) in
+    let w = pair-answers-its-wire s M r a b x y (ap (λ (v : PortsLinked). v .answer) (sym e) ∙ h) in
+    record {
+      first = w .first;
+      second = w .second;
+      wire = subst (λ (t : State). t .book .wires ≡ wireBetween (t .graph) x y ∷ s .book .wires) n (w .wire);
+      firstPlace = subst (λ (t : State). placeOf (s .graph) x ≡ placeOf (t .graph) x) n (w .firstPlace);
+      secondPlace = subst (λ (t : State). placeOf (s .graph) y ≡ placeOf (t .graph) y) n (w .secondPlace);
+    }
 answers-its-wire s M r (bySubports p o q t) x y h =
     let l : OneMore (s .graph) M (linkSub (s .graph) p o q t .graph) p (readBy (isSplit (s .graph) p) o) q (readBy (isSplit (s .graph) q) t) x y =
     subports-link (link-sub-done (r .fine) p o q t x y h) in
@@ -131,7 +148,7 @@ answers-its-wire s M r (bySubports p o q t) x y h =
       secondPlace = second-place-before r l;
     }
 
--- The wire that an accepted link of either kind enters in the book has the two subports answered as its ends, the first named first.
+-- The wire that an accepted link enters in the book has the two subports answered as its ends, the first named first.
 pub link-answers-the-wire : (calls : List Call) (l : Link) (x y : SubportIndex) → LinkedBy (run calls) l x y → AnswersItsWire (run calls) l x y
 link-answers-the-wire calls = let r = rel-run calls in answers-its-wire (run calls) (r .0) (r .1)
 
@@ -507,6 +524,7 @@ more-there {m} {M} {m′} {a} {o} {b} {e} f l =
 ends-there : (s : State) (M : Model) → Fine (s .graph) M → (l : Link) (x y : SubportIndex) → LinkedBy s l x y →
     SubportThere (next s (linking l) .graph) x × SubportThere (next s (linking l) .graph) y
 ends-there s M f (byPorts a b) x y h = more-there f (ports-link (link-done-law f a b x y h))
+ends-there s M f (byPortsClean a b) x y h = more-there f (ports-link (clean-done-law f a b x y h))
 ends-there s M f (bySubports p o q t) x y h = more-there f (subports-link (link-sub-done f p o q t x y h))
 
 -- each end of an accepted link is then found at the other
@@ -527,6 +545,6 @@ linked-found s M r l x y h =
       ofSecond = found-back (k .1) (u .0 .0) y g ∙ ap cutting.Found (u .0 .1);
     }
 
--- After an accepted link of either kind both subports answered are there, and asking at either one finds the other.
+-- After an accepted link both subports answered are there, and asking at either one finds the other.
 pub linked-ends-are-found : (calls : List Call) (l : Link) (x y : SubportIndex) → LinkedBy (run calls) l x y → EndsFound (next (run calls) (linking l) .graph) x y
 linked-ends-are-found calls = let r = rel-run calls in linked-found (run calls) (r .0) (r .1)

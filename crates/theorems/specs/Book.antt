@@ -28,6 +28,7 @@ pub data Call : Type 0 where
   -- node, incoming, outgoing, and the length of the move list
   setCall : ℕ → ℕ → ℕ → ℕ → Call
   linkCall : ℕ → ℕ → Call
+  linkCleanCall : ℕ → ℕ → Call
   linkSubCall : ℕ → ℕ → ℕ → ℕ → Call
   cutCall : ℕ → Call
   cutSubCall : ℕ → ℕ → Call
@@ -38,6 +39,7 @@ AnswerOf (addCall i o) = AddAnswer
 AnswerOf (removeCall n) = RemoveAnswer
 AnswerOf (setCall n i o room) = SetAnswer
 AnswerOf (linkCall a b) = LinkAnswer
+AnswerOf (linkCleanCall a b) = LinkAnswer
 AnswerOf (linkSubCall p o q r) = LinkAnswer
 AnswerOf (cutCall p) = CutAnswer
 AnswerOf (cutSubCall p o) = CutAnswer
@@ -154,6 +156,7 @@ bookAnswer B (addCall i o) a marks ports = bookAdd B i o a
 bookAnswer B (removeCall n) a marks ports = bookRemove B n a
 bookAnswer B (setCall n i o room) a marks ports = bookSet B n i o a ports
 bookAnswer B (linkCall a b) x marks ports = bookLink B a b x
+bookAnswer B (linkCleanCall a b) x marks ports = bookLink B a b x
 bookAnswer B (linkSubCall p o q r) x marks ports = bookLinkSub B p o q r x marks
 bookAnswer B (cutCall p) x marks ports = bookCut B (atSpot (spotOf (B .blocks) p)) x
 bookAnswer B (cutSubCall p o) x marks ports = bookCut B (atEnd (spotOf (B .blocks) p) (readBy (firstMark marks) o)) x

@@ -33,6 +33,7 @@ use Rattle.theorems.specs.SetCall.{set-call}
 use Rattle.theorems.specs.CutCall.{cut-call}
 use Rattle.theorems.specs.CutSubCall.{cut-sub-call}
 use Rattle.theorems.specs.LinkCall.{link-call}
+use Rattle.theorems.specs.LinkCleanCall.{link-clean-call}
 use Rattle.theorems.specs.LinkSubCall.{link-sub-call}
 
 -- an answer is one or the other
@@ -50,6 +51,8 @@ accepted-or-refused (book.setCall n i o room) (resize.Set e) = inl (e, refl)
 accepted-or-refused (book.setCall n i o room) (resize.Refused r) = inr (r, refl)
 accepted-or-refused (book.linkCall a b) (link.Linked s t) = inl (s, t, refl)
 accepted-or-refused (book.linkCall a b) (link.Refused r) = inr (r, refl)
+accepted-or-refused (book.linkCleanCall a b) (link.Linked s t) = inl (s, t, refl)
+accepted-or-refused (book.linkCleanCall a b) (link.Refused r) = inr (r, refl)
 accepted-or-refused (book.linkSubCall p o q t) (link.Linked x y) = inl (x, y, refl)
 accepted-or-refused (book.linkSubCall p o q t) (link.Refused r) = inr (r, refl)
 accepted-or-refused (book.cutCall p) v = cut-or-refused v
@@ -61,6 +64,7 @@ module _ {m : MultiPortGraph} {M : Model} (f : Fine m M) where
   call-law (book.removeCall n) = remove-call f n
   call-law (book.setCall n i o room) = set-call f n i o room
   call-law (book.linkCall a b) = link-call f a b
+  call-law (book.linkCleanCall a b) = link-clean-call f a b
   call-law (book.linkSubCall p o q t) = link-sub-call f p o q t
   call-law (book.cutCall p) = cut-call f p
   call-law (book.cutSubCall p o) = cut-sub-call f p o

@@ -6,7 +6,7 @@ use Prim.Native.Nat.{ℕ, _+_}
 use lib.Dec.{eqb}
 use Rattle.portgraph.specs.Lists.{Member, Once}
 use Rattle.portgraph.specs.declared.direction.Direction.{Direction}
-use Rattle.multiportgraph.specs.Calls.{linkSub, cutSub, linkPair}
+use Rattle.multiportgraph.specs.Calls.{linkSub, cutSub, linkPair, linkClean}
 use Rattle.multiportgraph.specs.Places.{Wire, Spot, spot, atSpot, touches, flag}
 use Rattle.multiportgraph.specs.Wires.{walked, wiresWalked}
 use Rattle.multiportgraph.specs.Lookups.{portFanOut, nodeFanOut}
@@ -28,18 +28,21 @@ pub record WireRule (s : State) : Type 0 where
 
 -- Links that follow a history.
 
--- a link of either kind
+-- a link of one of the three kinds
 pub data Link : Type 0 where
   byPorts : ℕ → ℕ → Link
+  byPortsClean : ℕ → ℕ → Link
   bySubports : ℕ → ℕ → ℕ → ℕ → Link
 
 abbrev pub linking : Link → Call
 linking (byPorts a b) = book.linkCall a b
+linking (byPortsClean a b) = book.linkCleanCall a b
 linking (bySubports p o q r) = book.linkSubCall p o q r
 
 -- it is accepted, with these two ends answered
 abbrev pub LinkedBy : State → Link → SubportIndex → SubportIndex → Type 0
 LinkedBy s (byPorts a b) x y = linkPair (s .graph) a b .answer ≡ link.Linked x y
+LinkedBy s (byPortsClean a b) x y = linkClean (s .graph) a b .answer ≡ link.Linked x y
 LinkedBy s (bySubports p o q r) x y = linkSub (s .graph) p o q r .answer ≡ link.Linked x y
 
 -- it is accepted

@@ -109,6 +109,17 @@ pub data LinkRefused (m : MultiPortGraph) (M : Model) (a b : ℕ) : MultiPortGra
       prepare m a (x .side) ≡ ready m₁ u o → prepare m₁ b (y .side) ≡ ready m₂ v r → x .side ≡ y .side →
       LinkRefused m M a b m₂ (IncompatibleDirections (port# u) (port# v) (x .side))
 
+-- of linking two ports and leaving no stub: 11 and 12 are settled on the graph handed in, 12 carries the ports as named, and 10 is given where
+-- the link of ports gives it
+pub data CleanRefused (m : MultiPortGraph) (M : Model) (a b : ℕ) : Refusal → Type 0 where
+  clean-first-dead : Dead M a → CleanRefused m M a b (UnknownPort (port# a))
+  clean-first-hidden : OfHidden m M a → CleanRefused m M a b (HiddenPort (port# a))
+  clean-second-hidden : (x : model.InnerPlace) → OfBlock m M a x → OfHidden m M b → CleanRefused m M a b (HiddenPort (port# b))
+  clean-second-dead : (x : model.InnerPlace) → OfBlock m M a x → Dead M b → CleanRefused m M a b (UnknownSecondPort (port# b))
+  clean-one-side : (x y : model.InnerPlace) → OfBlock m M a x → OfBlock m M b y → x .side ≡ y .side →
+      CleanRefused m M a b (IncompatibleDirections (port# a) (port# b) (x .side))
+  clean-full : (x y : model.InnerPlace) → OfBlock m M a x → OfBlock m M b y → (x .side ≡ y .side → ⊥) → LinkRefused m M a b m NoRoom → CleanRefused m M a b NoRoom
+
 -- two offsets that a call may name
 abbrev pub Offsets : ℕ → ℕ → Type 0
 Offsets o r = (o ≤ 65534) × (r ≤ 65534)
@@ -149,6 +160,7 @@ RefusedBy (book.addCall i o) v r = v ≡ add.Refused r
 RefusedBy (book.removeCall n) v r = v ≡ remove.Refused r
 RefusedBy (book.setCall n i o room) v r = v ≡ resize.Refused r
 RefusedBy (book.linkCall a b) v r = v ≡ link.Refused r
+RefusedBy (book.linkCleanCall a b) v r = v ≡ link.Refused r
 RefusedBy (book.linkSubCall p o q s) v r = v ≡ link.Refused r
 RefusedBy (book.cutCall p) v r = v ≡ cutting.Refused r
 RefusedBy (book.cutSubCall p o) v r = v ≡ cutting.Refused r
@@ -159,6 +171,7 @@ Accepted (book.addCall i o) v = (n : NodeIndex) × (p : PortIndex) × (v ≡ add
 Accepted (book.removeCall n) v = v ≡ remove.Removed
 Accepted (book.setCall n i o room) v = (e : ℕ) × (v ≡ resize.Set e)
 Accepted (book.linkCall a b) v = (s : SubportIndex) × (t : SubportIndex) × (v ≡ link.Linked s t)
+Accepted (book.linkCleanCall a b) v = (s : SubportIndex) × (t : SubportIndex) × (v ≡ link.Linked s t)
 Accepted (book.linkSubCall p o q r) v = (s : SubportIndex) × (t : SubportIndex) × (v ≡ link.Linked s t)
 Accepted (book.cutCall p) v = ((s : SubportIndex) × (v ≡ cutting.Found s)) ⊎ (v ≡ cutting.Nothing)
 Accepted (book.cutSubCall p o) v = ((s : SubportIndex) × (v ≡ cutting.Found s)) ⊎ (v ≡ cutting.Nothing)
@@ -169,6 +182,7 @@ Condition m M (book.addCall i o) r = AddRefused M i o r
 Condition m M (book.removeCall n) r = RemoveRefused m M n r
 Condition m M (book.setCall n i o room) r = SetRefused m M n i o room r
 Condition m M (book.linkCall a b) r = (h : MultiPortGraph) × LinkRefused m M a b h r
+Condition m M (book.linkCleanCall a b) r = CleanRefused m M a b r
 Condition m M (book.linkSubCall p o q s) r = LinkSubRefused m M p o q s r
 Condition m M (book.cutCall p) r = CutRefused m M p r
 Condition m M (book.cutSubCall p o) r = SubRefused m M p o r
@@ -193,6 +207,7 @@ leavesPrepared (book.addCall i o) r = false
 leavesPrepared (book.removeCall n) r = false
 leavesPrepared (book.setCall n i o room) r = false
 leavesPrepared (book.linkCall a b) r = comesLate r
+leavesPrepared (book.linkCleanCall a b) r = false
 leavesPrepared (book.linkSubCall p o q s) r = false
 leavesPrepared (book.cutCall p) r = false
 leavesPrepared (book.cutSubCall p o) r = false

@@ -9,7 +9,7 @@ use Rattle.portgraph.specs.Limits.{Limits, present}
 use Rattle.portgraph.specs.Lists.{Member, Once, filter}
 use Rattle.portgraph.specs.declared.direction.Direction.the-variants.{Incoming, Outgoing}
 use Rattle.multiportgraph.specs.Reading.{isSplit}
-use Rattle.multiportgraph.specs.Calls.{addBlockUnder, removeBlock, setCountsUnder, linkSub, cutPort, cutSub, linkPairUnder}
+use Rattle.multiportgraph.specs.Calls.{addBlockUnder, removeBlock, setCountsUnder, linkSub, cutPort, cutSub, linkPairUnder, linkCleanUnder}
 use Rattle.multiportgraph.specs.Answers.{addNumbers, removeNumbers, setNumbers, linkNumbers, cutNumbers}
 use Rattle.multiportgraph.specs.Wires.{subportsOfSide, walked, wiresWalked, isFirst, portsWalked}
 use Rattle.theorems.specs.Book as book
@@ -29,6 +29,7 @@ stepUnder L m (book.addCall i o) = record { graph = addBlockUnder L m i o .graph
 stepUnder L m (book.removeCall n) = record { graph = removeBlock m n .graph; answer = removeBlock m n .answer }
 stepUnder L m (book.setCall n i o room) = record { graph = setCountsUnder L m n i o room .graph; answer = setCountsUnder L m n i o room .answer }
 stepUnder L m (book.linkCall a b) = record { graph = linkPairUnder L m a b .graph; answer = linkPairUnder L m a b .answer }
+stepUnder L m (book.linkCleanCall a b) = record { graph = linkCleanUnder L m a b .graph; answer = linkCleanUnder L m a b .answer }
 stepUnder L m (book.linkSubCall p o q r) = record { graph = linkSub m p o q r .graph; answer = linkSub m p o q r .answer }
 stepUnder L m (book.cutCall p) = record { graph = cutPort m p .graph; answer = cutPort m p .answer }
 stepUnder L m (book.cutSubCall p o) = record { graph = cutSub m p o .graph; answer = cutSub m p o .answer }
@@ -42,6 +43,7 @@ marksNamed m (book.addCall i o) = []
 marksNamed m (book.removeCall n) = []
 marksNamed m (book.setCall n i o room) = []
 marksNamed m (book.linkCall a b) = isSplit m a ∷ isSplit m b ∷ []
+marksNamed m (book.linkCleanCall a b) = isSplit m a ∷ isSplit m b ∷ []
 marksNamed m (book.linkSubCall p o q r) = isSplit m p ∷ isSplit m q ∷ []
 marksNamed m (book.cutCall p) = isSplit m p ∷ []
 marksNamed m (book.cutSubCall p o) = isSplit m p ∷ []
@@ -52,6 +54,7 @@ portsShown m (book.addCall i o) = []
 portsShown m (book.removeCall n) = []
 portsShown m (book.setCall n i o room) = portsWalked m n
 portsShown m (book.linkCall a b) = []
+portsShown m (book.linkCleanCall a b) = []
 portsShown m (book.linkSubCall p o q r) = []
 portsShown m (book.cutCall p) = []
 portsShown m (book.cutSubCall p o) = []
@@ -82,6 +85,7 @@ numbersOf (book.addCall i o) v = addNumbers v
 numbersOf (book.removeCall n) v = removeNumbers v
 numbersOf (book.setCall n i o room) v = setNumbers v
 numbersOf (book.linkCall a b) v = linkNumbers v
+numbersOf (book.linkCleanCall a b) v = linkNumbers v
 numbersOf (book.linkSubCall p o q s) v = linkNumbers v
 numbersOf (book.cutCall p) v = cutNumbers v
 numbersOf (book.cutSubCall p o) v = cutNumbers v

@@ -11,8 +11,8 @@
 --   CursorClaims  what lies beyond the port and offset that the cursor over all wires holds
 --   Conditions    when each refusal of a call is given, in words about the model, and what a refusal leaves
 --   Works         what a call takes of the tables and gives back, which is what refusal 10 counts
--- What is proved of a call, a bundle (CallLaw) in a file for each call: AddCall, RemoveCall, SetCall, LinkCall, LinkSubCall, CutCall,
--- CutSubCall; collected in CallLaws. A new call is: its row in Book, History, Conditions and Works, its file, its row in CallLaws.
+-- What is proved of a call, a bundle (CallLaw) in a file for each call: AddCall, RemoveCall, SetCall, LinkCall, LinkCleanCall,
+-- LinkSubCall, CutCall, CutSubCall; collected in CallLaws. A new call is: its row in Book, History, Conditions and Works, its file, its row in CallLaws.
 -- Proofs over histories: TheoremProofs, AnswerWires, ListingWires, KeptPorts, MovePlaces, WiresHeld, HistoryCounts, FanOutWires, Runs; the bench wiring,
 -- cases A to K, a few resizes and fan-outs: Bench; 01's numbers: NumberTable.
 -- Walks: each gives its listing whole, in order, and then the end (WalkStepLaws, BlockWalkLaws: the laws named -whole); by turns from
@@ -40,6 +40,7 @@ pub mod AddCall
 pub mod RemoveCall
 pub mod SetCall
 pub mod LinkCall
+pub mod LinkCleanCall
 pub mod LinkSubCall
 pub mod CutCall
 pub mod CutSubCall

@@ -49,7 +49,7 @@ same-self : (d : Direction) → sameSide d d ≡ true
 same-self Incoming = refl
 same-self Outgoing = refl
 
-sides-same : (d e : Direction) → d ≡ e → sameSide d e ≡ true
+pub sides-same : (d e : Direction) → d ≡ e → sameSide d e ≡ true
 sides-same d e q = ap (sameSide d) (sym q) ∙ same-self d
 
 pub sides-differ : (d e : Direction) → sameSide d e ≡ false → d ≡ e → ⊥

@@ -174,7 +174,7 @@ both-left {m} {M} {m₁} {M₁} {m₂} {M₂} p₁ p₂ =
 -- The call.
 
 module _ {m : MultiPortGraph} {M : Model} (f : Fine m M) where
-  nothing-left : LinkRefused m M m
+  pub nothing-left : LinkRefused m M m
   nothing-left =
       record {
         model = M;

@@ -17,7 +17,7 @@ use Rattle.portgraph.specs.declared.portgraph.PortLink.{PortLink}
 use Rattle.portgraph.specs.declared.portgraph.PortLink.the-variants as lower-cut
 use Rattle.portgraph.specs.Calls.{unlinkPort}
 use Rattle.multiportgraph.specs.Reading.{isHidden, isSplit, copySide, inner, endAt, subport#}
-use Rattle.multiportgraph.specs.Calls.{linkSub, cutSub, farSubport, linkPair}
+use Rattle.multiportgraph.specs.Calls.{linkSub, cutSub, farSubport, linkPair, linkClean}
 use Rattle.multiportgraph.specs.Wires.{wiresWalked}
 use Rattle.theorems.specs.Book as book
 use Rattle.theorems.specs.Book.{Call, Block, Book, spotOf, addWire}
@@ -30,6 +30,7 @@ use Rattle.multiportgraph.specs.WalkRule.{walk-ends, walked-is-wires, walked-on
 use Rattle.multiportgraph.specs.PlainLaws.{endNamed, CutDone, CutSays, cut-sub-law, LinkSubSays, link-sub-law}
 use Rattle.multiportgraph.specs.SplitLaws.{HasEnd}
 use Rattle.theorems.specs.LinkLaw.{LinkSays, link-says}
+use Rattle.theorems.specs.LinkCleanCall.{clean-says}
 use Rattle.theorems.specs.WireRule.{Rel, OneMore, ports-link, subports-link, seen-live, has-end-touches, touches-has-end}
 use Rattle.theorems.specs.CallLaws.{rel-step, rel-run}
 use Rattle.multiportgraph.specs.declared.multiportgraph.MultiPortGraph.{MultiPortGraph}
@@ -40,7 +41,7 @@ use Rattle.multiportgraph.specs.declared.multiportgraph.LinkAnswer.the-variants
 use Rattle.multiportgraph.specs.declared.multiportgraph.CutAnswer.{CutAnswer}
 use Rattle.multiportgraph.specs.declared.multiportgraph.CutAnswer.the-variants as cutting
 use Rattle.multiportgraph.specs.Places.{Place, Wire, Spot, nowhere, spot, atSpot, touches, wireOfSides}
-use Rattle.theorems.specs.Claims.{Link, byPorts, bySubports, linking, LinkedBy, acceptedLink, joins, between, Restored, WireRule, count}
+use Rattle.theorems.specs.Claims.{Link, byPorts, byPortsClean, bySubports, linking, LinkedBy, acceptedLink, joins, between, Restored, WireRule, count}
 
 -- Graph and book that go together obey the wire rule.
 rule-of : (s : State) (M : Model) → Rel (s .graph) M (s .book) → WireRule s
@@ -76,12 +77,14 @@ module _ (s t : Spot) where
   -- the share of a link: by the ports that it names
   abbrev share : List Block → Link → ℕ
   share l (byPorts a b) = between s t (addWire [] (spotOf l a) 0 (spotOf l b) 0)
+  share l (byPortsClean a b) = between s t (addWire [] (spotOf l a) 0 (spotOf l b) 0)
   share l (bySubports p o q r) = between s t (addWire [] (spotOf l p) 0 (spotOf l q) 0)
 
   -- what an accepted link does to the book
   book-after : (m : MultiPortGraph) (B : Book) (c : Link) → acceptedLink (record { graph = m; book = B }) c →
       (entered m (linking c) B .blocks ≡ B .blocks) × (between s t (entered m (linking c) B .wires) ≡ share (B .blocks) c + between s t (B .wires))
   book-after m B (byPorts a b) h = rw (h .2) (refl, one-more (B .wires) (spotOf (B .blocks) a) (spotOf (B .blocks) b) _ _)
+  book-after m B (byPortsClean a b) h = rw (h .2) (refl, one-more (B .wires) (spotOf (B .blocks) a) (spotOf (B .blocks) b) _ _)
   book-after m B (bySubports p o q r) h = rw (h .2) (refl, one-more (B .wires) (spotOf (B .blocks) p) (spotOf (B .blocks) q) _ _)
 
   -- both orders of two links leave the same number in the book
@@ -245,14 +248,15 @@ link-sub-restores f p o q r m′ (link.Refused z) x y d e = absurd (zero-is-not-
 restores : {m : MultiPortGraph} {M : Model} → Fine m M → (B : Book) (c : Link) (x y : SubportIndex) → LinkedBy (record { graph = m; book = B }) c x y →
     Restored m (step m (linking c) .graph) x × Restored m (step m (linking c) .graph) y
 restores {m} f B (byPorts a b) x y h = link-restores f a b _ (linkPair m a b .answer) x y (link-says f a b) h
+restores {m} f B (byPortsClean a b) x y h = link-restores f a b _ (linkClean m a b .answer) x y (clean-says f a b) h
 restores {m} f B (bySubports p o q r) x y h = link-sub-restores f p o q r _ (linkSub m p o q r .answer) x y (link-sub-law f p o q r) h
 
--- a link of either kind is accepted and answers two ends: cutting either one brings back the earlier list of walked wires
+-- a link is accepted and answers two ends: cutting either one brings back the earlier list of walked wires
 pub cut-restores : (calls : List Call) (c : Link) (x y : SubportIndex) → LinkedBy (run calls) c x y →
     Restored (run calls .graph) (next (run calls) (linking c) .graph) x × Restored (run calls .graph) (next (run calls) (linking c) .graph) y
 cut-restores calls c x y h = restores (rel-run calls .1 .fine) (run calls .book) c x y h
 
--- two links of either kind, accepted in both orders, leave as many walked wires between any two ports in either order
+-- two links, accepted in both orders, leave as many walked wires between any two ports in either order
 pub links-in-either-order : (calls : List Call) (c d : Link) → acceptedLink (run calls) c → acceptedLink (next (run calls) (linking c)) d → acceptedLink (run calls) d →
     acceptedLink (next (run calls) (linking d)) c → (s t : Spot) →
     between s t (wiresWalked (next (next (run calls) (linking c)) (linking d) .graph)) ≡ between s t (wiresWalked (next (next (run calls) (linking d)) (linking c) .graph))

@@ -23,10 +23,10 @@ use Rattle.multiportgraph.specs.Wires.{wiresWalked, walkWires, stepWires, allWi
 use Rattle.multiportgraph.specs.Walks.{isSeen, portLinks, nodeLinks, neighbours, connections}
 use Rattle.multiportgraph.specs.Inner.{Fine, MultiWf}
 use Rattle.multiportgraph.specs.SpaceLaws.{Spaced}
-use Rattle.theorems.specs.Book.{Call, setCall, spotOf}
+use Rattle.theorems.specs.Book.{Call, linkCleanCall, setCall, spotOf}
 use Rattle.theorems.specs.History.{State, step, next, runFrom, run}
 use Rattle.theorems.specs.Works.{worksOf}
-use Rattle.theorems.specs.Claims.{WireRule, Link, linking, LinkedBy, acceptedLink, Restored, between, FanOutIsWires, portsInBook}
+use Rattle.theorems.specs.Claims.{WireRule, Link, byPorts, byPortsClean, linking, LinkedBy, acceptedLink, Restored, between, FanOutIsWires, portsInBook}
 use Rattle.theorems.specs.AnswerClaims.{AnswersItsWire, AnswersAreWires}
 use Rattle.theorems.specs.ListingClaims.{wireFrom, endOn, farFrom, Exactly, InBook, OverSides, OutOfRange, FarNodes, NotOwnOutput}
 use Rattle.theorems.specs.Conditions.{RefusedBy, Accepted, Condition, leavesPrepared}
@@ -36,6 +36,7 @@ use Rattle.theorems.specs.NumberTable as numbers
 use Rattle.theorems.specs.NumberTable.{refusals, refusalTable, answers, answerTable}
 use Rattle.theorems.specs.Runs as runs
 use Rattle.theorems.specs.CallLaws as every
+use Rattle.theorems.specs.LinkCleanCall as clean
 use Rattle.theorems.specs.TheoremProofs as proofs
 use Rattle.theorems.specs.AnswerWires as answered
 use Rattle.theorems.specs.ListingWires as listed
@@ -61,16 +62,28 @@ use Rattle.multiportgraph.specs.declared.multiportgraph.Refusal.the-variants.{N
 pub wire-rule : (calls : List Call) → WireRule (run calls)
 wire-rule = proofs.wire-rule
 
--- A link of either kind follows and is accepted: cutting either subport that it answered brings back the earlier list of wires.
+-- A link of any kind follows and is accepted: cutting either subport that it answered brings back the earlier list of wires.
 pub cut-restores : (calls : List Call) (l : Link) (x y : SubportIndex) → LinkedBy (run calls) l x y →
     Restored (run calls .graph) (next (run calls) (linking l) .graph) x × Restored (run calls .graph) (next (run calls) (linking l) .graph) y
 cut-restores = proofs.cut-restores
 
--- Two links of either kind, accepted whichever goes first, leave as many wires between any two ports in both orders.
+-- Two links of any kinds, accepted whichever goes first, leave as many wires between any two ports in both orders.
 pub links-in-either-order : (calls : List Call) (k l : Link) → acceptedLink (run calls) k → acceptedLink (next (run calls) (linking k)) l →
     acceptedLink (run calls) l → acceptedLink (next (run calls) (linking l)) k → (s t : Spot) →
     between s t (wiresWalked (next (next (run calls) (linking k)) (linking l) .graph)) ≡ between s t (wiresWalked (next (next (run calls) (linking l)) (linking k) .graph))
 links-in-either-order = proofs.links-in-either-order
+
+-- The link that leaves no stub is accepted exactly where the link of ports is, with the same two subports answered; graph and book are then
+-- the same.
+pub clean-link-is-link : (calls : List Call) (a b : ℕ) (x y : SubportIndex) →
+    (LinkedBy (run calls) (byPortsClean a b) x y ↔ LinkedBy (run calls) (byPorts a b) x y)
+    × (LinkedBy (run calls) (byPortsClean a b) x y → next (run calls) (linking (byPortsClean a b)) ≡ next (run calls) (linking (byPorts a b)))
+clean-link-is-link calls = clean.clean-link-is-link (run calls)
+
+-- Refused, it leaves graph and book as they were, whatever the refusal.
+pub clean-link-refused-leaves-all : (calls : List Call) (a b : ℕ) (r : Refusal) →
+    RefusedBy (linkCleanCall a b) (step (run calls .graph) (linkCleanCall a b) .answer) r → next (run calls) (linkCleanCall a b) ≡ run calls
+clean-link-refused-leaves-all calls = clean.clean-refused-leaves (run calls) (every.run-kept calls .fine)
 
 -- Answers and listings, which are all that a tablet sees.
 
@@ -192,7 +205,7 @@ pub accepted-otherwise : (calls : List Call) (c : Call) → (M : Model) → Fine
     ((r : Refusal) → Condition (run calls .graph) M c r → ⊥) → Accepted c (step (run calls .graph) c .answer)
 accepted-otherwise calls c M f = every.accepted-otherwise f c
 
--- A refused call leaves the graph as it was, save what a link refused with 11 or 12 made ready.
+-- A refused call leaves the graph as it was, save what a link of ports refused with 11 or 12 made ready.
 pub refused-changes-nothing : (calls : List Call) (c : Call) (r : Refusal) → RefusedBy c (step (run calls .graph) c .answer) r →
     leavesPrepared c r ≡ false → step (run calls .graph) c .graph ≡ run calls .graph
 refused-changes-nothing calls c = every.refused-changes-nothing (every.run-kept calls .fine) c

@@ -8,6 +8,7 @@ use crate::orders::COUNTS;
 use crate::orders::FANOUT;
 use crate::orders::HELP;
 use crate::orders::LINK;
+use crate::orders::LINKCLEAN;
 use crate::orders::LINKSUB;
 use crate::orders::NOTHING;
 use crate::orders::Order;
@@ -29,6 +30,7 @@ use multiportgraph::multiportgraph::MultiPortGraph;
 use portgraph::index::NodeIndex;
 use portgraph::index::PortIndex;
 use records::ask::ask;
+use records::ask::link_clean;
 ghost use Rattle.multiportgraph.specs.Inner.{MultiWf};
 
 // A request, and so many values of its answer.
@@ -39,6 +41,16 @@ fn request(graph: MultiPortGraph, order: Order, values: u32) -> MultiPortGraph
     let told = ask(graph, order.command, order.a, order.b, order.c, order.d);
     let answer = told.answer;
     show_answer(answer, values);
+    told.graph
+}
+
+fn link_cleanly(graph: MultiPortGraph, order: Order) -> MultiPortGraph
+    requires { ⌜ MultiWf graph ⌝ }
+    ensures { λ r. ⌜ MultiWf r ⌝ }
+{
+    let told = link_clean(graph, order.a, order.b);
+    let answer = told.answer;
+    show_answer(answer, 4);
     told.graph
 }
 
@@ -56,6 +68,7 @@ pub(crate) fn run(graph: MultiPortGraph, order: Order, text: &[u8]) -> MultiPort
         ADD => request(graph, order, 2),
         UNLINK | UNLINKSUB | SUBLINK | COUNTS => request(graph, order, 3),
         LINK | LINKSUB => request(graph, order, 4),
+        LINKCLEAN => link_cleanly(graph, order),
         _ => {
             look(graph, order);
             graph

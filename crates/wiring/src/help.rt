@@ -21,6 +21,7 @@ Change the wiring:
   remove N                takes a block away, with its wires: ok
   resize N IN OUT         other numbers of ports: PORT 0 NEWPORT or PORT 1 OLDLINK each, ok EVENTS
   link A B                a wire between two ports: ok PORT OFFSET PORT OFFSET
+  linkclean A B           the same; a refused one leaves nothing behind: ok PORT OFFSET PORT OFFSET
   linksub P O Q R         a wire between two subports: ok PORT OFFSET PORT OFFSET
   sheet A B A B ..        up to 64 links at once, in order: the answer of each, ok ENTRIES
   unlink P                cuts all wires at a port: ok 1 PORT OFFSET, or ok 0 0 0

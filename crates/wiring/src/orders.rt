@@ -55,9 +55,11 @@ pub(crate) const PLACES: u32 = 20;
 
 pub(crate) const SHEET: u32 = 21;
 
-pub(crate) const HELP: u32 = 22;
+pub(crate) const LINKCLEAN: u32 = 22;
 
-pub(crate) const QUIT: u32 = 23;
+pub(crate) const HELP: u32 = 23;
+
+pub(crate) const QUIT: u32 = 24;
 
 // There are fewer rows than this.
 const ROWS: u32 = 64;
@@ -255,6 +257,7 @@ connections N M
 wires
 places
 sheet A B A B ..
+linkclean A B
 help
 quit
 ";

@@ -27,6 +27,8 @@ pub struct Sheet {
 #[derive(Clone, Copy, Debug)]
 pub enum Command {
     Call(Call),
+    /// The link that leaves no stub.
+    LinkClean(u32, u32),
     Sheet(Sheet),
     FanOut(u32),
     BlockFanOut(u32),
@@ -117,6 +119,7 @@ impl Command {
                 Call::SubportLink { .. } => "sublink",
                 Call::Counts => "counts",
             },
+            Command::LinkClean(..) => "linkclean",
             Command::Sheet(_) => "sheet",
             Command::FanOut(_) => "fanout",
             Command::BlockFanOut(_) => "blockfanout",
@@ -146,6 +149,7 @@ impl Command {
                 };
                 call.to_record()[1..1 + used].to_vec()
             }
+            Command::LinkClean(a, b) => vec![a, b],
             Command::Sheet(sheet) => sheet.entries().concat(),
             Command::FanOut(port) | Command::Links(port) | Command::Back(port) => vec![port],
             Command::BlockFanOut(node) => vec![node],
@@ -163,12 +167,13 @@ impl Command {
     fn block(self, history: &mut History, line: usize) -> Block {
         match self {
             Command::Call(call) => return call_block(call, history),
+            Command::LinkClean(a, b) => return link_clean_block(a, b, history),
             Command::Sheet(sheet) => return sheet.block(history),
             _ => {}
         }
         let oracle = &history.oracle;
         match self {
-            Command::Call(_) | Command::Sheet(_) => unreachable!("answered above"),
+            Command::Call(_) | Command::LinkClean(..) | Command::Sheet(_) => unreachable!("answered above"),
             Command::FanOut(port) => number(oracle.port_fan_out(port)),
             Command::BlockFanOut(node) => number(oracle.fan_out(node)),
             Command::Blocks => listing(Ok(oracle.blocks()), one),
@@ -200,6 +205,7 @@ impl Command {
     fn reads(self) -> bool {
         match self {
             Command::Call(call) => matches!(call, Call::SubportLink { .. } | Call::Counts),
+            Command::LinkClean(..) => false,
             Command::Sheet(_) => false,
             _ => true,
         }
@@ -276,6 +282,15 @@ fn call_block(call: Call, history: &mut History) -> Block {
     events.iter().map(|event| item(event)).chain([last]).collect()
 }
 
+fn link_clean_block(a: u32, b: u32, history: &mut History) -> Block {
+    history.link_clean(a, b);
+    let answer = history.steps.last().expect("the call was given").expected;
+    match answer[0] {
+        0 => vec![format!("ok{}", words(&answer[1..]))],
+        _ => refused(answer),
+    }
+}
+
 /// The history of a script, and what the console must write for each line.
 fn expected(script: &[Command]) -> (History, Vec<Block>) {
     let mut history = History::default();
@@ -348,7 +363,7 @@ fn compare(console: &Console, script: &[Command], tally: &mut Tally) -> Result<(
         for (command, block) in script.iter().zip(blocks) {
             tally.items += block.len() as u64 - 1;
             match command {
-                Command::Call(_) => {}
+                Command::Call(_) | Command::LinkClean(..) => {}
                 Command::Sheet(sheet) => tally.list(sheet.kind(&block)),
                 _ => tally.list(command.name()),
             }
@@ -410,7 +425,15 @@ fn draw_sheet(shape: &Shape, history: &History, random: &mut Random) -> Sheet {
 const NONSENSE: [&str; 8] =
     ["hello", "link 1", "link 1 2 3", "add x 1", "remove", "sheet 1", "sheet 0 1 2", "sheet 0 1 2 4294967296"];
 
-/// A random script: calls, each followed by a listing as often as not. Calls of refusal 2 are for records only.
+/// Every listing that shows a subport, a wire or a count.
+fn whole(history: &History) -> Vec<Command> {
+    let subports = |node| Command::Subports(node, Sides::Both);
+    let lists = [Command::Call(Call::Counts), Command::Blocks, Command::Wires, Command::Places];
+    lists.into_iter().chain(history.oracle.blocks().into_iter().map(subports)).collect()
+}
+
+/// A random script: calls, each followed by a listing as often as not. As many links leave no stub as leave one; after a
+/// refused one of these everything is listed. Calls of refusal 2 are for records only.
 fn draw(shape: &Shape, seed: u64, lines: usize) -> Vec<Command> {
     let mut random = Random::new(seed);
     let mut history = History::default();
@@ -419,8 +442,8 @@ fn draw(shape: &Shape, seed: u64, lines: usize) -> Vec<Command> {
         history.give(call.to_record());
         script.push(Command::Call(call));
     }
-    let lines = script.len() + lines;
-    while script.len() < lines && !history.ended {
+    let mut drawn = 0;
+    while drawn < lines && !history.ended {
         let call = shape.call(&history.oracle, &mut random);
         let apart = history.set_apart(call.to_record());
         let malformed = history.oracle.clone().ask(call).expected().is_some_and(|answer| answer[0] == 2);
@@ -429,10 +452,17 @@ fn draw(shape: &Shape, seed: u64, lines: usize) -> Vec<Command> {
             1..=49 => draw_listing(shape, &history, &mut random),
             50..=55 => Command::Sheet(draw_sheet(shape, &history, &mut random)),
             _ if malformed || (apart && !random.one_in(12)) => Command::Places,
-            _ => Command::Call(call),
+            _ => match call {
+                Call::Link { a, b } if random.one_in(2) => Command::LinkClean(a, b),
+                _ => Command::Call(call),
+            },
         };
-        command.block(&mut history, 0);
+        let answered = command.block(&mut history, 0);
         script.push(command);
+        drawn += 1;
+        if matches!(command, Command::LinkClean(..)) && answered[0].starts_with("refused") {
+            script.extend(whole(&history));
+        }
     }
     script.extend([Command::Wires, Command::Places, Command::Blocks, Command::Call(Call::Counts)]);
     for node in history.oracle.blocks().into_iter().take(8) {
@@ -477,4 +507,88 @@ pub fn run(console: &Console, seeds: Range<u64>, tally: &mut Tally) -> Result<()
         compare(console, &script, tally).map_err(|text| format!("console, {}, seed {seed}: {text}", shape.name))?;
     }
     Ok(())
+}
+
+/// A small graph, and the commands of which all scripts of one length are run after it.
+struct Small {
+    name: &'static str,
+    start: &'static [Call],
+    commands: &'static [Command],
+}
+
+const fn add(incoming: u32, outgoing: u32) -> Call {
+    Call::Add { incoming, outgoing }
+}
+
+const fn link(a: u32, b: u32) -> Command {
+    Command::Call(Call::Link { a, b })
+}
+
+const fn unlink(port: u32) -> Command {
+    Command::Call(Call::Unlink { port })
+}
+
+const SMALL: [Small; 2] = [
+    Small {
+        name: "one outgoing port, two incoming",
+        start: &[add(0, 1), add(2, 0)],
+        commands: &[
+            link(0, 1),
+            link(1, 2),
+            Command::LinkClean(0, 1),
+            Command::LinkClean(2, 0),
+            Command::LinkClean(1, 2),
+            Command::LinkClean(0, 0),
+            Command::LinkClean(0, 3),
+            Command::LinkClean(3, 0),
+            Command::LinkClean(1, 9),
+            unlink(0),
+            Command::Call(Call::Remove { node: 1 }),
+            Command::Call(add(2, 0)),
+        ],
+    },
+    Small {
+        name: "six port slots left",
+        start: &[add(512, 512), add(500, 515), add(0, 1), add(2, 0)],
+        commands: &[
+            link(2_039, 2_040),
+            Command::LinkClean(2_039, 2_040),
+            Command::LinkClean(2_041, 2_039),
+            Command::LinkClean(2_040, 2_041),
+            Command::LinkClean(2_039, 3_000),
+            unlink(2_039),
+            Command::Call(add(0, 3)),
+            Command::Call(add(3, 0)),
+        ],
+    },
+];
+
+/// Runs all scripts of so many commands on small graphs, and lists everything after each command. Gives a line for
+/// each graph.
+pub fn run_small(console: &Console, most: usize, tally: &mut Tally) -> Result<Vec<String>, String> {
+    SMALL.iter().map(|small| run_all(console, small, most, tally)).collect()
+}
+
+fn run_all(console: &Console, small: &Small, most: usize, tally: &mut Tally) -> Result<String, String> {
+    let mut scripts = vec![Vec::new()];
+    for _ in 0..most {
+        scripts = scripts
+            .iter()
+            .flat_map(|script: &Vec<Command>| small.commands.iter().map(|command| [&script[..], &[*command]].concat()))
+            .collect();
+    }
+    for commands in &scripts {
+        let mut history = History::default();
+        let mut script = Vec::new();
+        for command in small.start.iter().map(|call| Command::Call(*call)).chain(commands.iter().copied()) {
+            command.block(&mut history, 0);
+            script.push(command);
+            if script.len() > small.start.len() {
+                script.extend(whole(&history));
+            }
+        }
+        compare(console, &script, tally).map_err(|text| format!("console, {}: {text}", small.name))?;
+    }
+    let count = small.commands.len();
+    Ok(format!("console, {}: {} scripts, {count} commands in every order, {most} of them", small.name, scripts.len()))
 }

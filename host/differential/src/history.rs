@@ -5,6 +5,9 @@ use driver::{Answer, Asked, Call, End, Oracle, Random, Reason, Shape, Side, Side
 /// A request record.
 pub type Record = [u32; 5];
 
+/// The link that leaves no stub, among the calls by code.
+pub const LINK_CLEAN: usize = 10;
+
 /// Who says what a call must answer.
 #[derive(Clone, Copy, Debug, PartialEq, Eq, PartialOrd, Ord)]
 pub enum By {
@@ -25,6 +28,9 @@ pub enum By {
 /// A call of a history.
 #[derive(Clone, Copy, Debug)]
 pub struct Step {
+    /// The call's code; 0 for unknown codes, [`LINK_CLEAN`] for the link that leaves no stub.
+    pub call: usize,
+    /// The request, all 0 for the link that leaves no stub: it has none.
     pub record: Record,
     pub expected: Answer,
     pub by: By,
@@ -90,26 +96,40 @@ impl History {
             return;
         }
         let mut note = self.note(record);
-        let (expected, by) = match self.oracle.ask_record(record) {
+        let asked = self.oracle.ask_record(record);
+        let (expected, by) = self.told(asked).unwrap_or_else(|| {
+            let [_, node, incoming, outgoing, _] = record;
+            self.oracle = self.oracle.after_set_apart(node, incoming, outgoing);
+            self.ended = true;
+            ([0, self.oracle.moves().len() as u32, 0, 0, 0], By::SetApart)
+        });
+        let accepted_resize = record[0] == 3 && expected[0] == 0;
+        let second_dead = record[0] == 4 && expected[0] == 11;
+        if !accepted_resize && !second_dead {
+            note = None;
+        }
+        let call = if record[0] < 10 { record[0] as usize } else { 0 };
+        self.steps.push(Step { call, record, expected, by, note });
+    }
+
+    /// Asks for the link that leaves no stub.
+    pub fn link_clean(&mut self, a: u32, b: u32) {
+        let asked = self.oracle.link_clean(a, b);
+        let (expected, by) = self.told(asked).expect("no resize");
+        self.steps.push(Step { call: LINK_CLEAN, record: [0; 5], expected, by, note: None });
+    }
+
+    /// What must be answered, and who says so; `None` for the resize set apart.
+    fn told(&self, asked: Asked) -> Option<(Answer, By)> {
+        Some(match asked {
             Asked::Answer(answer) if self.ended => (answer, By::SetApart),
             Asked::Answer(answer) => (answer, By::Rust),
             Asked::NotGiven(Reason::Added(answer)) => (answer, By::Added),
             Asked::NotGiven(Reason::DeadPortRead(answer)) => (answer, By::DeadRead),
             Asked::NotGiven(Reason::DeadFirstEnd(answer)) => (answer, By::DeadFirst),
             Asked::NotGiven(Reason::Unheld(answer)) => (answer, By::Unheld),
-            Asked::NotGiven(Reason::SetApart) => {
-                let [_, node, incoming, outgoing, _] = record;
-                self.oracle = self.oracle.after_set_apart(node, incoming, outgoing);
-                self.ended = true;
-                ([0, self.oracle.moves().len() as u32, 0, 0, 0], By::SetApart)
-            }
-        };
-        let accepted_resize = record[0] == 3 && expected[0] == 0;
-        let second_dead = record[0] == 4 && expected[0] == 11;
-        if !accepted_resize && !second_dead {
-            note = None;
-        }
-        self.steps.push(Step { record, expected, by, note });
+            Asked::NotGiven(Reason::SetApart) => return None,
+        })
     }
 
     /// The kind of a resize, or that the second port of a link is dead and within the table (R1).

@@ -8,7 +8,7 @@ use std::process::ExitCode;
 use differential::compare::{run_records, Entry};
 use differential::console::{Command, Console};
 use differential::runs::Plan;
-use differential::spoil::{spoiled, spoiled_listing, KINDS};
+use differential::spoil::{spoiled, spoiled_console, KINDS};
 use differential::tally::Tally;
 use differential::{console, runs};
 
@@ -59,10 +59,11 @@ fn run(options: &Options, total: &mut Tally) -> Result<(), String> {
         println!("console: {} scripts, seeds {} to {}", options.plan.scripts, seeds.start, seeds.end - 1);
         let written = |script: &[Command]| console::written(&program, script);
         let console: &Console = &|script| match spoil {
-            Some(kind) => spoiled_listing(kind, &written, script),
+            Some(kind) => spoiled_console(kind, &written, script),
             None => written(script),
         };
         console::run(console, seeds, &mut scripts)?;
+        console::run_small(console, options.plan.length, &mut scripts)?.iter().for_each(|line| println!("{line}"));
         let sheets = console::all_sheets(console, options.plan.entries, &mut scripts)?;
         println!("console: {sheets} sheets, all of up to {} entries of five ports on four wirings", options.plan.entries);
         println!("{scripts}");
@@ -71,7 +72,7 @@ fn run(options: &Options, total: &mut Tally) -> Result<(), String> {
     if random.compared() < LEAST {
         return Err(format!("fewer than {LEAST} calls of random lists were compared with the Rust"));
     }
-    let missing = total.missing();
+    let missing = total.missing(!options.records_only);
     if !missing.is_empty() {
         return Err(format!("cases that never came up: {}", missing.join("; ")));
     }

@@ -22,17 +22,20 @@ pub struct Plan {
     pub lengths: usize,
     /// Lists with altered bytes.
     pub altered: u64,
-    /// Scripts for the console.
+    /// Scripts for the console, and the length of those that are tried in every order.
     pub scripts: u64,
+    pub length: usize,
     /// All sheets of up to so many entries.
     pub entries: u32,
 }
 
 impl Plan {
     /// A whole run.
-    pub const WHOLE: Plan = Plan { seed: 1, calls: 3_000_000, shorter: 0, lengths: 130, altered: 2_000, scripts: 600, entries: 2 };
+    pub const WHOLE: Plan =
+        Plan { seed: 1, calls: 3_000_000, shorter: 0, lengths: 130, altered: 2_000, scripts: 600, length: 3, entries: 2 };
     /// A run of seconds.
-    pub const SHORT: Plan = Plan { seed: 1, calls: 20_000, shorter: 3, lengths: 45, altered: 20, scripts: 30, entries: 1 };
+    pub const SHORT: Plan =
+        Plan { seed: 1, calls: 20_000, shorter: 3, lengths: 45, altered: 20, scripts: 30, length: 2, entries: 1 };
 
     /// The seeds of the altered lists, and of the scripts.
     pub fn altered_seeds(&self) -> Range<u64> {

@@ -1,5 +1,7 @@
 //! Wrong answers put in by hand, one kind at a time, to show that each is caught.
 
+use driver::Call;
+
 use crate::compare::run_records;
 use crate::console::{Block, Command, Console};
 
@@ -134,15 +136,42 @@ pub const WRONG_LISTINGS: [WrongListing; 6] = [
     },
 ];
 
-/// All kinds: those of answers, then those of listings.
-pub const KINDS: usize = WRONG.len() + WRONG_LISTINGS.len();
+/// A kind of wrong command, and what is done in place of each.
+pub struct WrongCommand {
+    pub name: &'static str,
+    alter: fn(Command) -> Command,
+}
 
-/// As a console, with one listing altered: the last of the script that the kind applies to.
-pub fn spoiled_listing(kind: usize, console: &Console, script: &[Command]) -> Result<Vec<Block>, String> {
-    let mut blocks = console(script)?;
-    if let Some(wrong) = kind.checked_sub(WRONG.len()) {
-        blocks.iter_mut().rev().filter(|block| !block.is_empty()).any(|block| (WRONG_LISTINGS[wrong].alter)(block));
+/// The kinds of wrong commands.
+pub const WRONG_COMMANDS: [WrongCommand; 2] = [
+    WrongCommand {
+        name: "the link that leaves no stub is the link of ports",
+        alter: |command| match command {
+            Command::LinkClean(a, b) => Command::Call(Call::Link { a, b }),
+            other => other,
+        },
+    },
+    WrongCommand {
+        name: "the link that leaves no stub takes its ports the other way round",
+        alter: |command| match command {
+            Command::LinkClean(a, b) => Command::LinkClean(b, a),
+            other => other,
+        },
+    },
+];
+
+/// All kinds: those of answers, then those of listings, then those of commands.
+pub const KINDS: usize = WRONG.len() + WRONG_LISTINGS.len() + WRONG_COMMANDS.len();
+
+/// As a console, with one listing altered, the last of the script that the kind applies to, or with every command altered.
+pub fn spoiled_console(kind: usize, console: &Console, script: &[Command]) -> Result<Vec<Block>, String> {
+    let Some(wrong) = kind.checked_sub(WRONG.len()) else { return console(script) };
+    if let Some(wrong) = wrong.checked_sub(WRONG_LISTINGS.len()) {
+        let altered: Vec<Command> = script.iter().map(|command| (WRONG_COMMANDS[wrong].alter)(*command)).collect();
+        return console(&altered);
     }
+    let mut blocks = console(script)?;
+    blocks.iter_mut().rev().filter(|block| !block.is_empty()).any(|block| (WRONG_LISTINGS[wrong].alter)(block));
     Ok(blocks)
 }
 

@@ -4,10 +4,10 @@ use std::collections::BTreeMap;
 use std::fmt;
 
 use crate::console::SHEETS;
-use crate::history::{By, Step};
+use crate::history::{By, Step, LINK_CLEAN};
 
 /// The calls by code; 0 stands for unknown codes.
-pub const CALLS: [&str; 10] = [
+pub const CALLS: [&str; LINK_CLEAN + 1] = [
     "unknown code",
     "add",
     "remove",
@@ -18,6 +18,7 @@ pub const CALLS: [&str; 10] = [
     "unlink_subport",
     "subport_link",
     "counts",
+    "link, no stub",
 ];
 
 /// Counts of what was compared.
@@ -35,8 +36,7 @@ pub struct Tally {
 impl Tally {
     pub fn count(&mut self, steps: &[Step]) {
         for step in steps {
-            let code = if step.record[0] < 10 { step.record[0] as usize } else { 0 };
-            *self.calls.entry((step.by, code, step.expected[0])).or_default() += 1;
+            *self.calls.entry((step.by, step.call, step.expected[0])).or_default() += 1;
             if let Some(note) = step.note {
                 *self.notes.entry(note).or_default() += 1;
             }
@@ -75,8 +75,8 @@ impl Tally {
         self.calls.iter().filter(|((by, _, _), _)| who(*by)).map(|(_, count)| count).sum()
     }
 
-    /// Cases that a whole run must bring up and this one didn't.
-    pub fn missing(&self) -> Vec<String> {
+    /// Cases that a whole run must bring up and this one didn't; those of the console only where it was run.
+    pub fn missing(&self, console: bool) -> Vec<String> {
         let given = [
             (1, 0),
             (2, 0),
@@ -136,10 +136,13 @@ impl Tally {
             "resize within the block, mixed",
             "R1, second port given as a surely dead number",
         ];
+        let clean = [(By::Rust, 0), (By::Rust, 7), (By::Added, 8), (By::Added, 10), (By::Added, 11), (By::Added, 12)];
+        let clean = clean.into_iter().filter(|_| console).map(|(by, refusal)| (by, LINK_CLEAN, refusal));
         let kinds = if self.listings() > 0 { &SHEETS[..] } else { &[] };
         let sheets = kinds.iter().filter(|kind| !self.listings.contains_key(*kind)).map(|kind| kind.to_string());
         let all = given.into_iter().map(|(code, refusal)| (By::Rust, code, refusal));
-        let all = all.chain(added.into_iter().map(|(code, refusal)| (By::Added, code, refusal))).chain(reasons);
+        let all = all.chain(added.into_iter().map(|(code, refusal)| (By::Added, code, refusal)));
+        let all = all.chain(reasons).chain(clean);
         let calls = all.filter(|key| !self.calls.contains_key(key)).map(|key| format!("{key:?}"));
         let notes = notes.into_iter().filter(|note| !self.notes.contains_key(note)).map(str::to_string);
         calls.chain(notes).chain(sheets).collect()
@@ -153,7 +156,7 @@ impl fmt::Display for Tally {
             if last != Some(by) {
                 let title = match by {
                     By::Rust => "compared with the Rust",
-                    By::Added => "expected by 01, refusals that the Rust lacks",
+                    By::Added => "expected by 01 and 02, refusals that the Rust lacks",
                     By::DeadRead => "expected by 01, R2: the Rust panics reading a dead port",
                     By::DeadFirst => "expected by 01, R3: the Rust panics at a dead first port",
                     By::Unheld => "expected by 01, R4: numbers that the Rust can't hold",

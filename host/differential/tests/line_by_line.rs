@@ -162,3 +162,43 @@ fn an_input_that_cannot_be_read_is_said() {
     let output = Command::new(program().unwrap()).stdin(directory).output().unwrap();
     assert_eq!(String::from_utf8(output.stdout).unwrap(), "cannot read the input\n");
 }
+
+/// The answers to lines, without their reasons.
+fn answers(lines: &[&str]) -> Vec<String> {
+    let text = run(&[], (lines.join("\n") + "\n").as_bytes());
+    text.lines().map(|line| without_reason(line).to_string()).collect()
+}
+
+#[test]
+fn a_refused_clean_link_leaves_nothing() {
+    // Two inputs, of which one is wired: the ports as named, and no subport.
+    let a = ["add 0 1", "add 2 0", "link 0 1"];
+    let inputs = [&a[..], &["linkclean 1 2", "subports 1 2", "counts"]].concat();
+    assert_eq!(answers(&inputs)[3..], ["refused 12 1 2 0", "  1 0", "  2 0", "ok 2", "ok 2 3 1"]);
+    // The hidden node of port 0 would come to stand where port 3 is dead.
+    let dead = [&a[..], &["linkclean 0 3", "subports 0 2", "linkclean 0 2"]].concat();
+    assert_eq!(answers(&dead)[3..], ["refused 11 3", "  0 0", "ok 1", "ok 0 1 2 0"]);
+    assert_eq!(answers(&["add 0 1", "add 2 0", "linkclean 0 0"])[2..], ["refused 12 0 0 1"]);
+    // A port of the hidden node, first and second.
+    let hidden = [&a[..], &["link 0 2", "linkclean 4 1", "linkclean 1 4", "linkclean 9 4"]].concat();
+    assert_eq!(answers(&hidden)[4..], ["refused 8 4", "refused 8 4", "refused 7 9"]);
+}
+
+#[test]
+fn a_clean_link_tells_no_room_last() {
+    let full = ["add 0 1", "add 2 0", "link 0 1", "add 512 512", "add 512 509"];
+    let told = ["link 1 2", "linkclean 1 2", "link 0 9999", "linkclean 0 9999", "link 0 2", "linkclean 0 2", "counts"];
+    let lines = [&full[..], &told].concat();
+    assert_eq!(
+        answers(&lines)[5..],
+        ["refused 10", "refused 12 1 2 0", "refused 10", "refused 11 9999", "refused 10", "refused 10", "ok 4 2048 1"]
+    );
+    // Port 0 has two wires, ports 3 and 4 one each, and four slots are left: the block of 3 that the first end frees serves
+    // the second.
+    let start =
+        ["add 0 1", "add 2 0", "add 0 1", "add 1 0", "link 0 1", "link 0 2", "link 3 4", "add 512 512", "add 512 500"];
+    let one = [&start[..], &["counts", "linkclean 0 4"]].concat();
+    let other = [&start[..], &["counts", "linkclean 4 0"]].concat();
+    assert_eq!(answers(&one)[9..], ["ok 6 2041 3", "ok 0 2 4 1"]);
+    assert_eq!(answers(&other)[9..], ["ok 6 2041 3", "refused 10"]);
+}

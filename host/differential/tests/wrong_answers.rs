@@ -3,7 +3,7 @@
 use differential::compare::run_records;
 use differential::console::{self, faultless};
 use differential::runs::{records, Plan};
-use differential::spoil::{spoiled, spoiled_listing, WRONG, WRONG_LISTINGS};
+use differential::spoil::{spoiled, spoiled_console, WRONG, WRONG_COMMANDS, WRONG_LISTINGS};
 use differential::tally::Tally;
 
 #[test]
@@ -11,6 +11,7 @@ fn nothing_wrong() {
     let (_, random, other) = records(&run_records, &Plan::SHORT).unwrap();
     assert!(random.compared() >= Plan::SHORT.calls && other.expected() > 0);
     console::run(&faultless, Plan::SHORT.script_seeds(), &mut Tally::default()).unwrap();
+    console::run_small(&faultless, Plan::SHORT.length, &mut Tally::default()).unwrap();
 }
 
 #[test]
@@ -25,9 +26,23 @@ fn wrong_answers_are_caught() {
 #[test]
 fn wrong_listings_are_caught() {
     for (kind, wrong) in WRONG_LISTINGS.iter().enumerate() {
-        let console = |script: &[_]| spoiled_listing(WRONG.len() + kind, &faultless, script);
+        let console = |script: &[_]| spoiled_console(WRONG.len() + kind, &faultless, script);
         let run = console::run(&console, Plan::SHORT.script_seeds(), &mut Tally::default());
         let Err(difference) = run else { panic!("not caught: {}", wrong.name) };
         println!("{}: {difference}", wrong.name);
+    }
+}
+
+#[test]
+fn wrong_commands_are_caught() {
+    for (kind, wrong) in WRONG_COMMANDS.iter().enumerate() {
+        let console = |script: &[_]| spoiled_console(WRONG.len() + WRONG_LISTINGS.len() + kind, &faultless, script);
+        for run in [
+            console::run(&console, Plan::SHORT.script_seeds(), &mut Tally::default()),
+            console::run_small(&console, Plan::SHORT.length, &mut Tally::default()).map(|_| ()),
+        ] {
+            let Err(difference) = run else { panic!("not caught: {}", wrong.name) };
+            println!("{}: {difference}", wrong.name);
+        }
     }
 }

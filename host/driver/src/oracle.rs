@@ -211,6 +211,23 @@ impl Oracle {
         Asked::Answer(answer)
     }
 
+    /// The link that leaves no stub, which the original lacks. 11 and 12 are decided on its inner graph, 12 with the ports as
+    /// named, and it is not given such a call; every other one is its link.
+    pub fn link_clean(&mut self, a: u32, b: u32) -> Asked {
+        let added = |answer| Asked::NotGiven(Reason::Added(answer));
+        match (self.port_standing(a), self.port_standing(b)) {
+            (Standing::Visible, Standing::Unheld | Standing::Dead) => return added(refusal(11, b)),
+            (Standing::Visible, Standing::Visible) => {}
+            _ => return self.ask(Call::Link { a, b }),
+        }
+        let [side, other] =
+            [a, b].map(|port| self.inner().port_direction(PortIndex::new(port as usize)).expect("live"));
+        match side == other {
+            true => added([12, a, b, direction_number(side), 0]),
+            false => self.ask(Call::Link { a, b }),
+        }
+    }
+
     /// Runs a request record: refusal 2 for an unknown code or an unused word that is not 0, else the call.
     pub fn ask_record(&mut self, record: [u32; 5]) -> Asked {
         match Call::from_record(record) {
@@ -512,14 +529,17 @@ fn resize(graph: &mut Graph, node: u32, incoming: u32, outgoing: u32, moves: &mu
     });
 }
 
+fn direction_number(direction: Direction) -> u32 {
+    match direction {
+        Direction::Incoming => 0,
+        Direction::Outgoing => 1,
+    }
+}
+
 fn link_error(error: LinkError<u32, u32, u16>) -> Answer {
     match error {
         LinkError::IncompatibleDirections { port_a, port_b, dir } => {
-            let direction = match dir {
-                Direction::Incoming => 0,
-                Direction::Outgoing => 1,
-            };
-            [12, number(port_a.index()), number(port_b.index()), direction, 0]
+            [12, number(port_a.index()), number(port_b.index()), direction_number(dir), 0]
         }
         LinkError::AlreadyLinked { port } => refusal(13, number(port.index())),
         error => panic!("no refusal for {error:?}"),

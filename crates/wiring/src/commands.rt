@@ -16,6 +16,7 @@ use crate::orders::PLACES;
 use crate::orders::QUIT;
 use crate::orders::REMOVE;
 use crate::orders::RESIZE;
+use crate::orders::SAVE;
 use crate::orders::SHEET;
 use crate::orders::SUBLINK;
 use crate::orders::UNLINK;
@@ -25,6 +26,7 @@ use crate::replies::show_answer;
 use crate::replies::show_count;
 use crate::resize::resize_block;
 use crate::sheet::link_pairs;
+use crate::store::save_as;
 use crate::whole::list_whole;
 use multiportgraph::multiportgraph::MultiPortGraph;
 use portgraph::index::NodeIndex;
@@ -70,20 +72,21 @@ pub(crate) fn run(graph: MultiPortGraph, order: Order, text: &[u8]) -> MultiPort
         LINK | LINKSUB => request(graph, order, 4),
         LINKCLEAN => link_cleanly(graph, order),
         _ => {
-            look(graph, order);
+            look(graph, order, text);
             graph
         }
     }
 }
 
 // A command that looks at the graph.
-fn look(graph: MultiPortGraph, order: Order)
+fn look(graph: MultiPortGraph, order: Order, text: &[u8])
     requires { ⌜ MultiWf graph ⌝ }
 {
     let command = order.command;
     match command {
         FANOUT => show_count(graph.port_fan_out(PortIndex(order.a))),
         BLOCKFANOUT => show_count(graph.node_fan_out(NodeIndex(order.a))),
+        SAVE => save_as(graph, order, text),
         HELP => show_help(),
         BLOCKS | WIRES | PLACES => list_whole(graph, command),
         _ => list(graph, order),

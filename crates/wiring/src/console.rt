@@ -1,7 +1,7 @@
 // The console: it hears a line, runs it, and hears the next.
 use crate::commands::run;
 use crate::session::Session;
-use crate::text::part;
+use crate::text::line_part;
 use records::ask::empty;
 ghost use Rattle.multiportgraph.specs.Inner.{MultiWf};
 
@@ -18,7 +18,7 @@ fn converse(buffer: &mut [u8], echo: bool) {
         let order = session.order;
         let reader = session.reader;
         let span = reader.span;
-        graph = run(graph, order, part(buffer, span));
+        graph = run(graph, order, line_part(buffer, span));
         if session.ended {
             return;
         }

@@ -41,6 +41,8 @@ List (each ends in ok NUMBER; SIDE is 0 incoming, 1 outgoing, 2 both):
   connections N M         the links from block N to block M
   wires                   all wires: PORT OFFSET PORT OFFSET each
   places                  all wires: NODE POSITION OFFSET NODE POSITION OFFSET each
+Keep:
+  save NAME               writes the wiring to a file, at once or not at all: ok LENGTH
 Besides:
   help                    these lines
   quit                    ends the program

@@ -12,6 +12,7 @@ mod resize;
 mod session;
 mod sheet;
 mod show;
+mod store;
 mod text;
 mod whole;
 

@@ -57,9 +57,11 @@ pub(crate) const SHEET: u32 = 21;
 
 pub(crate) const LINKCLEAN: u32 = 22;
 
-pub(crate) const HELP: u32 = 23;
+pub(crate) const SAVE: u32 = 23;
 
-pub(crate) const QUIT: u32 = 24;
+pub(crate) const HELP: u32 = 24;
+
+pub(crate) const QUIT: u32 = 25;
 
 // There are fewer rows than this.
 const ROWS: u32 = 64;
@@ -82,6 +84,11 @@ const NO_FLAG: u32 = 5;
 
 pub(crate) const TOO_LONG: u32 = 6;
 
+const LONG_NAME: u32 = 7;
+
+// The longest name of a file, so that a name beside it is a path too.
+const MOST_NAME: usize = 4000;
+
 // A command with its numbers, or what is wrong.
 pub struct Order {
     pub command: u32,
@@ -90,7 +97,7 @@ pub struct Order {
     pub b: u32,
     pub c: u32,
     pub d: u32,
-    // Where in the line its numbers stand, if it takes any number of them.
+    // Where in the line the words after its first stand.
     pub from: usize,
 }
 
@@ -161,6 +168,9 @@ fn unsuited(usage: &[u8], name: Span) -> u32 {
     if is_word(usage, name, b"FLAG") {
         return NO_FLAG;
     }
+    if is_word(usage, name, b"NAME") {
+        return LONG_NAME;
+    }
     NO_NUMBER
 }
 
@@ -175,10 +185,19 @@ fn most(unsuited: u32) -> u64
     }
 }
 
+// The number that a word says; a name is none, and has the value 0.
+fn value_of(text: &[u8], word: Span, unsuited: u32) -> u64 {
+    if unsuited != LONG_NAME {
+        return number_of(text, word);
+    }
+    if word.len() <= MOST_NAME { 0 } else { NO_VALUE }
+}
+
 // An order with the numbers after a line's first word, one for each name after the row's first word; there are at most four.
 fn with_numbers(command: u32, text: &[u8], from: usize, usage: &[u8]) -> Order {
     let first = next_word(usage, 0);
     let mut order = order_to(command);
+    order.from = from;
     let mut word = next_word(text, from);
     let mut name = next_word(usage, first.to);
     let mut place: u32 = 0;
@@ -189,8 +208,8 @@ fn with_numbers(command: u32, text: &[u8], from: usize, usage: &[u8]) -> Order {
         if word.is_empty() {
             return order;
         }
-        let value = number_of(text, word);
         let wrong = unsuited(usage, name);
+        let value = value_of(text, word, wrong);
         if most(wrong) < value {
             return order.spoiled(wrong);
         }
@@ -258,6 +277,7 @@ wires
 places
 sheet A B A B ..
 linkclean A B
+save NAME
 help
 quit
 ";

@@ -28,7 +28,8 @@ pub struct Reader {
     pub held: usize,
 }
 
-fn put_byte(buffer: &mut [u8], at: usize, byte: u8) {
+// Stores a byte; outside nothing changes.
+pub(crate) fn put_byte(buffer: &mut [u8], at: usize, byte: u8) {
     if at < buffer.len() {
         buffer[at] = byte;
     }

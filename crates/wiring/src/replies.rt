@@ -9,7 +9,7 @@ use records::answers::Answer5;
 use records::answers::refusal_words;
 
 // The line of the reasons from which refusals are counted; it stands for 12 where both ends are outputs.
-const REFUSALS: u32 = 7;
+const REFUSALS: u32 = 8;
 
 // A line of a text, counted from 0.
 fn line_at(text: &[u8], number: u32) -> Span {
@@ -39,6 +39,7 @@ no number up to 4294967295
 no side (0, 1 or 2)
 no flag (0 or 1)
 too long
+no name of at most 4000 bytes
 both ends are outputs
 a list of a wrong length
 an offset is at most 65534
@@ -54,6 +55,7 @@ there is no such second port
 both ends are inputs
 this end has its wire
 a sheet has at most 64 entries
+the buffer is too short for the file
 ";
     line.with(b"  # ")
         .with(part(reasons, line_at(reasons, number)))

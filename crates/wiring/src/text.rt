@@ -1,4 +1,5 @@
 // Lines, words and numbers in a text. Blanks, tabs and newlines stand between words.
+use portgraph::numbers::less;
 ghost use Prim.Native.Nat.{_≤_};
 ghost use lib.ListN.{length};
 
@@ -39,6 +40,13 @@ pub(crate) fn without_return(text: &[u8]) -> usize
         }
     }
     len
+}
+
+// A line of a text, without a carriage return at its end.
+pub(crate) fn line_part(text: &[u8], span: Span) -> &[u8] {
+    let line = part(text, span);
+    let len = without_return(line);
+    &line[0..len]
 }
 
 // The first newline between two places, or the second of them.
@@ -84,6 +92,10 @@ pub(crate) fn next_word(text: &[u8], from: usize) -> Span {
 impl Span {
     pub(crate) fn is_empty(self) -> bool {
         self.to <= self.from
+    }
+
+    pub(crate) fn len(self) -> usize {
+        less(self.to, self.from)
     }
 }
 

@@ -1,4 +1,4 @@
-//! Listings and move lists: scripts for the program `wiring`, and what it must write, from the original.
+//! Listings, move lists and saved files: scripts for the program `wiring`, and what it must write, from the original.
 
 use std::env;
 use std::io::{Read, Write};
@@ -10,6 +10,7 @@ use std::thread;
 use driver::{Answer, Call, Listing, Random, Shape, Side, Sides, Subport, Wire};
 
 use crate::compare::fewest;
+use crate::files::{self, Folder};
 use crate::history::History;
 use crate::tally::Tally;
 
@@ -41,6 +42,8 @@ pub enum Command {
     Connections(u32, u32),
     Wires,
     Places,
+    /// Saves the wiring, under a name of this number; what is compared is the file, unit by unit.
+    Save(u32),
     /// A line that is no command.
     Nonsense(&'static str),
 }
@@ -132,6 +135,7 @@ impl Command {
             Command::Connections(..) => "connections",
             Command::Wires => "wires",
             Command::Places => "places",
+            Command::Save(_) => "save",
             Command::Nonsense(_) => "no command",
         }
     }
@@ -158,6 +162,7 @@ impl Command {
             Command::Neighbours(node, sides, flag) => vec![node, side_number(sides), u32::from(flag)],
             Command::Connections(from, to) => vec![from, to],
             Command::Blocks | Command::Wires | Command::Places => Vec::new(),
+            Command::Save(number) => return format!("save {}", files::name(number)),
             Command::Nonsense(text) => return text.into(),
         };
         format!("{}{}", self.name(), words(&arguments))
@@ -197,6 +202,10 @@ impl Command {
                 };
                 item(&[place(*from), place(*to)].concat())
             }),
+            Command::Save(_) => {
+                let bytes = files::file(oracle);
+                files::items(&bytes).into_iter().chain([format!("ok {}", bytes.len())]).collect()
+            }
             Command::Nonsense(_) => vec![format!("bad line {line}")],
         }
     }
@@ -311,7 +320,10 @@ pub fn without_reason(line: &str) -> &str {
 /// The program as console.
 pub fn written(program: &Path, script: &[Command]) -> Result<Vec<Block>, String> {
     let failed = |error: std::io::Error| format!("{}: {error}", program.display());
-    let mut child = Process::new(program).stdin(Stdio::piped()).stdout(Stdio::piped()).spawn().map_err(failed)?;
+    let folder = Folder::new().map_err(failed)?;
+    let mut process = Process::new(program);
+    process.current_dir(folder.path()).stdin(Stdio::piped()).stdout(Stdio::piped());
+    let mut child = process.spawn().map_err(failed)?;
     let input: String = script.iter().map(|command| command.line() + "\n").collect();
     let mut stdin = child.stdin.take().expect("piped");
     // A program that ends early shows as missing lines.
@@ -326,6 +338,11 @@ pub fn written(program: &Path, script: &[Command]) -> Result<Vec<Block>, String>
         block.push(without_reason(line).to_string());
         if !line.starts_with("  ") {
             blocks.push(Block::new());
+        }
+    }
+    for (command, block) in script.iter().zip(&mut blocks) {
+        if let Command::Save(number) = command {
+            block.splice(0..0, folder.items(&files::name(*number)));
         }
     }
     Ok(blocks)
@@ -449,7 +466,8 @@ fn draw(shape: &Shape, seed: u64, lines: usize) -> Vec<Command> {
         let malformed = history.oracle.clone().ask(call).expected().is_some_and(|answer| answer[0] == 2);
         let command = match random.below(100) {
             0 => Command::Nonsense(random.pick(&NONSENSE).expect("some")),
-            1..=49 => draw_listing(shape, &history, &mut random),
+            1..=4 => Command::Save(script.len() as u32),
+            5..=49 => draw_listing(shape, &history, &mut random),
             50..=55 => Command::Sheet(draw_sheet(shape, &history, &mut random)),
             _ if malformed || (apart && !random.one_in(12)) => Command::Places,
             _ => match call {
@@ -465,6 +483,7 @@ fn draw(shape: &Shape, seed: u64, lines: usize) -> Vec<Command> {
         }
     }
     script.extend([Command::Wires, Command::Places, Command::Blocks, Command::Call(Call::Counts)]);
+    script.push(Command::Save(script.len() as u32));
     for node in history.oracle.blocks().into_iter().take(8) {
         script.extend([Command::Subports(node, Sides::Both), Command::NodeLinks(node, Sides::Both, 0, 0)]);
     }

@@ -3,7 +3,8 @@
 //! - [`history`]: a list of calls with what each must answer, from the original.
 //! - [`compare`]: runs a list through the port; a difference comes with the fewest calls that show it.
 //! - [`exhaustive`], [`damage`]: all short lists over a few calls; lists of wrong lengths and altered bytes.
-//! - [`console`]: listings and move lists, through the program `wiring`.
+//! - [`console`]: listings, move lists and saved files, through the program `wiring`.
+//! - [`files`]: a second writer of saved files, from document 02's words.
 //! - [`spoil`]: wrong answers put in by hand, to show that they are caught.
 //! - [`lists`], [`plain`]: lists that the original answers itself, and the original without the driver, for the benchmark.
 //!
@@ -13,6 +14,7 @@ pub mod compare;
 pub mod console;
 pub mod damage;
 pub mod exhaustive;
+pub mod files;
 pub mod growth;
 pub mod history;
 pub mod lists;

@@ -24,8 +24,8 @@ loop-holds c = search needs
 listen-requires : tie.Need-listen-requires Inv-loop μ-loop
 listen-requires c κs = search needs
 
-part-requires : tie.Need-part-requires Inv-loop μ-loop
-part-requires c κs = search needs
+line-part-requires : tie.Need-line-part-requires Inv-loop μ-loop
+line-part-requires c κs = search needs
 
 run-requires : tie.Need-run-requires Inv-loop μ-loop
 run-requires c κs = search needs
@@ -61,7 +61,7 @@ converse-spec =
     new-requires
     loop-holds
     listen-requires
-    part-requires
+    line-part-requires
     run-requires
     same-length
     returns

@@ -43,11 +43,11 @@ is-empty-requires-3 c κs = search needs
 returns-2 : tie.Need-returns-2 Inv-loop μ-loop
 returns-2 c = search needs
 
-number-of-requires : tie.Need-number-of-requires Inv-loop μ-loop
-number-of-requires c κs = search needs
-
 unsuited-requires : tie.Need-unsuited-requires Inv-loop μ-loop
 unsuited-requires c κs = search needs
+
+value-of-requires : tie.Need-value-of-requires Inv-loop μ-loop
+value-of-requires c κs = search needs
 
 most-requires : tie.Need-most-requires Inv-loop μ-loop
 most-requires c κs = search needs
@@ -102,8 +102,8 @@ with-numbers-spec =
     returns
     is-empty-requires-3
     returns-2
-    number-of-requires
     unsuited-requires
+    value-of-requires
     most-requires
     spoiled-requires-2
     returns-3

@@ -74,7 +74,10 @@ fn fan(size: u32, sides: [Call; 2]) -> (Vec<Call>, Vec<(&'static str, Vec<Call>)
     let (middle, far) = (end(0, size / 2), end(size / 2 + 1, 0));
     let turns = vec![
         ("cut a wire, link its ports", vec![Call::UnlinkSubport { end: middle }, Call::Link { a: 0, b: far.port }]),
-        ("cut a wire, link its subports", vec![Call::UnlinkSubport { end: middle }, Call::LinkSubports { a: middle, b: far }]),
+        (
+            "cut a wire, link its subports",
+            vec![Call::UnlinkSubport { end: middle }, Call::LinkSubports { a: middle, b: far }],
+        ),
         ("what a subport is linked with", vec![Call::SubportLink { end: middle }]),
         ("the same from its far end", vec![Call::SubportLink { end: far }]),
     ];

@@ -28,7 +28,14 @@ pub fn list_original(graph: &Graph, list: &mut Vec<u32>) -> usize {
 #[cfg(walks)]
 mod linked {
     extern "C" {
-        fn list_again(requests: *const u32, len: usize, count: usize, rounds: usize, list: *mut u32, room: usize) -> usize;
+        fn list_again(
+            requests: *const u32,
+            len: usize,
+            count: usize,
+            rounds: usize,
+            list: *mut u32,
+            room: usize,
+        ) -> usize;
         fn run_values(requests: *const u8, len: usize, answers: *mut u8, room: usize) -> u32;
     }
 

@@ -67,7 +67,9 @@ fn instructions_a_call(side: &str, list: usize) -> Option<f64> {
 }
 
 fn the_entry() {
-    println!("| List | ns a call | Rust, ns | ratio | instructions a call | Rust | ratio |\n|---|---|---|---|---|---|---|");
+    println!(
+        "| List | ns a call | Rust, ns | ratio | instructions a call | Rust | ratio |\n|---|---|---|---|---|---|---|"
+    );
     for number in 0..LISTS {
         let list = benchmark(number, CALLS);
         let [ours, theirs] = a_call(&list, port, rust);
@@ -85,12 +87,8 @@ fn a_turn(case: &Case) -> [f64; 2] {
     let (first, all) = (case.requests(0), case.requests(TURNS));
     let mut answers = [first.len(), all.len(), first.len(), all.len()].map(|bytes| vec![0; bytes]);
     let [a, b, c, d] = &mut answers;
-    let [ours, ours_all, theirs, theirs_all] = least([
-        &mut || port(&first, a),
-        &mut || port(&all, b),
-        &mut || rust(&first, c),
-        &mut || rust(&all, d),
-    ]);
+    let [ours, ours_all, theirs, theirs_all] =
+        least([&mut || port(&first, a), &mut || port(&all, b), &mut || rust(&first, c), &mut || rust(&all, d)]);
     assert!(answers[1] == answers[3], "other answers than the original's");
     let calls = (TURNS * case.calls()) as f64;
     [(ours_all - ours) / calls, (theirs_all - theirs) / calls]
@@ -100,7 +98,8 @@ fn growth(table: &Table) {
     let sizes: Vec<_> = table.sizes.iter().map(|size| format!(" {size} {} |", table.counted)).collect();
     println!("\n| ns a call, ours / Rust's |{}\n|---|{}", sizes.concat(), "---|".repeat(sizes.len()));
     for (name, cases) in &table.rows {
-        let cells: Vec<_> = cases.iter().map(a_turn).map(|[ours, theirs]| format!(" {ours:.1} / {theirs:.1} |")).collect();
+        let cells: Vec<_> =
+            cases.iter().map(a_turn).map(|[ours, theirs]| format!(" {ours:.1} / {theirs:.1} |")).collect();
         println!("| {name} |{}", cells.concat());
     }
 }
@@ -119,23 +118,26 @@ fn by_value() {
         let [none, all, theirs] = least([
             &mut || assert_eq!(list_port(black_box(&records), 0, &mut []), 0),
             &mut || assert_eq!(list_port(black_box(&records), LISTINGS, black_box(&mut wires)), 400),
-            &mut || (0..LISTINGS).for_each(|_| assert_eq!(list_original(black_box(&graph), black_box(&mut original)), 400)),
+            &mut || {
+                (0..LISTINGS).for_each(|_| assert_eq!(list_original(black_box(&graph), black_box(&mut original)), 400))
+            },
         ]);
         let ends: Vec<_> = wires.chunks_exact(4).flat_map(|end| [end[0], end[1]]).collect();
         assert!(ends == original, "{name}: other wires than the original's");
         let [ours, theirs] = [all - none, theirs].map(|time| time / (LISTINGS * 400) as f64);
         println!("| {name} | {ours:.1} | {theirs:.1} | {:.2} |", ours / theirs);
     }
-    println!("\n| List, run by value | ns a call | `run_records`, ns |\n|---|---|---|");
+    println!("\n| List, run by value | ns a call |\n|---|---|");
     for list in (0..LISTS).map(|list| benchmark(list, CALLS)) {
-        let [ours, lent] = a_call(&list, run_by_value, port);
-        println!("| {} | {ours:.0} | {lent:.1} |", list.name);
+        println!("| {} | {:.0} |", list.name, a_call(&list, run_by_value, port)[0]);
     }
 }
 
 #[cfg(not(walks))]
 fn by_value() {
-    println!("\nWithout libwalks.a: `bash host/bench.sh` has it built, and then the listing of all wires is measured too.");
+    println!(
+        "\nWithout libwalks.a: `bash host/bench.sh` has it built, and then the listing of all wires is measured too."
+    );
 }
 
 fn main() {

@@ -70,7 +70,7 @@ pub struct WrongListing {
 }
 
 /// The kinds of wrong listings.
-pub const WRONG_LISTINGS: [WrongListing; 6] = [
+pub const WRONG_LISTINGS: [WrongListing; 7] = [
     WrongListing {
         name: "a listing leaves out its first item",
         alter: |block| {
@@ -120,6 +120,17 @@ pub const WRONG_LISTINGS: [WrongListing; 6] = [
             if applies {
                 let last = block.len() - 1;
                 block.drain(refused.expect("some") + 1..last);
+            }
+            applies
+        },
+    },
+    WrongListing {
+        name: "a saved unit has a wrong sum",
+        alter: |block| {
+            let applies = block[0].len() == 2 + 2 * 512;
+            if applies {
+                let last = if block[0].ends_with('0') { "1" } else { "0" };
+                block[0].replace_range(2 + 2 * 512 - 1.., last);
             }
             applies
         },

@@ -66,12 +66,14 @@ fn at_the_limits() {
         script.push(Command::Save(0));
         assert_eq!(compared(&script), 1 + units);
     }
-    // The longest file: 511 blocks without ports beside a block that has every second port slot on each side, wired to itself.
-    let mut script = vec![add(1, 1); 510];
-    script.extend([add(514, 510), add(2, 2)]);
-    script.extend((0..510).map(|block| link(2 * block + 1, 1_020 + block)));
+    // The longest file: every node slot a block, every port slot wired.
+    let mut script = vec![add(2, 2); 512];
+    for block in 0..512 {
+        let next = 4 * ((block * 5 + 1) % 512);
+        script.extend([link(4 * block + 2, next + 1), link(4 * block + 3, next)]);
+    }
     script.push(Command::Save(0));
-    compared(&script);
+    assert_eq!(compared(&script), 26);
 }
 
 #[test]

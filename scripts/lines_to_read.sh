@@ -18,3 +18,6 @@ lines records Words Run Forms
 echo 'for walks, lookups and whole listings besides:'
 lines portgraph Walks LinkWalks
 lines multiportgraph Walks WalkNumbers Lookups Listed
+echo 'for sheets and files besides:'
+lines sheets Theorems Sheets SheetHistory Held
+lines files View Layout Saving Claims FileTheorems

@@ -69,9 +69,8 @@ class Edit:
     def judge(self, errors):
         """The verdict by the edit's own errors."""
         own = [e for e in errors if not FOLLOWS.search(e)]
-        facts = [e for e in own if not MISFIT.search(e)]
-        if facts:
-            self.tell("refused", in_words(facts) + ("" if facts == own else " (the proof file fits no more besides)"))
+        if facts(errors):
+            self.tell("refused", in_words(facts(errors)) + ("" if facts(errors) == own else " (the proof file fits no more besides)"))
         elif errors:
             self.tell("BAD EDIT", "only the proof file fits no more: " + (own or errors)[0])
         else:
@@ -120,11 +119,15 @@ def functions(top, crate):
     return found
 
 
+def facts(errors):
+    return [e for e in errors if not FOLLOWS.search(e) and not MISFIT.search(e)]
+
+
 def in_words(errors):
     """What is not shown first, and if that is short, two terms that should be one."""
     # a fact that fails for some numbers says most
     text = re.sub(r"\s+", " ", min(errors, key=lambda e: "fails, at" not in re.sub(r"\s+", " ", e)))
-    need = re.match(r"`([\w-]*?)(?:-(\d+))?`", text)
+    need = re.match(r"`(.*?)(?:-(\d+))?`", text)
     name, count = need.groups() if need else ("", None)
     if name == "returns":
         name = "the contract" + (" at return " + count if count else "")
@@ -147,27 +150,30 @@ def in_words(errors):
 
 
 def check(top, crate):
-    """Runs the check, and answers what the compiler, the borrow checker and the prover say: the file (or function), the line, the error."""
+    """Runs the check. Answers whether all is proved, and the errors of the compiler and of the prover: file, line, words."""
     run = subprocess.run(["rt", "dev", crate], cwd=top, stdout=subprocess.PIPE, stderr=subprocess.STDOUT, text=True, errors="replace")
     out = run.stdout
     with open(os.path.join(top, "log"), "a", encoding="utf-8") as f:
         f.write(out)
-    compiler = [(path, int(line) - 1, said) for path, line, said in re.findall(r"^(\S+\.rt):(\d+):\d+: error\S*: (.*)", out, re.M)]
-    compiler += [(path, int(line) - 1, said) for path, line, said in re.findall(r"borrow checker does not cover .*? (\S+\.rt):(\d+):\d+: (.*)", out)]
-    prover = re.findall(r"^\S*/crates/(\S+)\.antt:\d+:\d+: error: (.*(?:\n  .*)*)", out, re.M)
-    for name, needs in re.findall(r"^fn (\S+): no proof: .*`search` does not close (`[^;\n]*`)", out, re.M):
-        prover.append(("/".join([crate, "proofs"] + name.split("::")[1:] + ["Proof"]), needs + ": no proof"))
+    compiler = re.findall(r"^(\S+\.rt):(\d+):\d+: error\S*: (.*)", out, re.M)
+    compiler += re.findall(r"borrow checker does not cover this function yet: (\S+\.rt):(\d+):\d+: ([^;\n]*)", out)
+    prover = re.findall(r"^(\S+\.antt):(\d+):\d+: error: (.*(?:\n  .*)*)", out, re.M)
+    # a function without a proof file: the needs that the search leaves
+    prover += [(path, 1, needs) for path, needs in re.findall(r"^fn .*: no proof: expected .* in (\S+);.* does not close (`[^;\n]*`)", out, re.M)]
     if run.returncode not in (0, 1) or not compiler and "\nlogic=" not in out:
         sys.exit("the check of %s failed:\n%s" % (crate, out[-3000:]))
     return run.returncode == 0, compiler, prover
 
 
+def proof_of(edit):
+    return "/%s/Proof.antt" % edit.place.replace("::", "/")
+
+
 def try_functions(top, crate, edits):
-    """As many checks as the function with the most edits has; one more where the compiler or the borrow checker stops an edit."""
+    """As many checks as the function with the most edits has; one more where an edit does not compile."""
     if not check(top, crate)[0]:
         sys.exit("%s is not proved without edits" % crate)
-    src = os.path.join(top, "crates", crate, "src")
-    kept = os.path.join(top, "src")
+    src, kept = os.path.join(top, "crates", crate, "src"), os.path.join(top, "src")
     shutil.rmtree(kept, ignore_errors=True)
     shutil.copytree(src, kept)
     batch = []
@@ -183,24 +189,24 @@ def try_functions(top, crate, edits):
         left = []
         for e in batch:
             path, start, end = e.where(top)
-            stops = [said for p, line, said in compiler if os.path.realpath(p) == os.path.realpath(path) and start <= line <= end]
-            tail = "/%s/Proof" % e.place.replace("::", "/")
-            errors = [said for p, said in prover if p.startswith(crate + "/") and p.endswith(tail)]
+            stops = [said for p, line, said in compiler if os.path.samefile(p, path) and start < int(line) <= end + 1]
+            errors = [said for p, _, said in prover if p.endswith(proof_of(e))]
             if stops:
                 e.tell("BAD EDIT", "does not compile: " + stops[0])
-            elif compiler and not errors:
+            elif compiler and not facts(errors):
                 left.append(e)
             else:
                 e.judge(errors)
-        if left and left == batch:
-            sys.exit("%s does not compile: %s" % (crate, compiler))
+        strange = [p for p, _, said in prover if facts([said]) and not p.endswith(tuple(map(proof_of, batch)))]
+        if strange or left and left == batch:
+            sys.exit("errors outside the edits: %s" % (strange or compiler))
         batch = left
         shutil.rmtree(src)
         shutil.copytree(kept, src)
 
 
 def try_definitions(top, crate, edits):
-    """Each on the laws of its crate, without functions and proofs of them, and then on the laws above."""
+    """Each on the laws of its crate, without functions and proofs of them, and then on the laws of `theorems`."""
     folder = os.path.join(top, "crates", crate)
     shutil.rmtree(os.path.join(folder, "proofs"))
     for name in os.listdir(os.path.join(folder, "src")):
@@ -211,11 +217,15 @@ def try_definitions(top, crate, edits):
         if not check(top, c)[0]:
             sys.exit("the laws of %s do not hold without edits" % c)
     for e in edits:
-        path = e.where(top)[0]
+        path, start, end = e.where(top)
         kept = read(path)
         if e.put(top):
-            errors = [said for _, said in check(top, crate)[2]] or [said for _, said in check(top, "theorems")[2]]
-            e.judge(errors)
+            prover = check(top, crate)[2] or check(top, "theorems")[2]
+            stops = [said for p, line, said in prover if os.path.samefile(p, path) and start < int(line) <= end + 1]
+            if stops:
+                e.tell("BAD EDIT", "is no definition: " + stops[0])
+            else:
+                e.judge([said for _, _, said in prover])
         write(path, kept)
 
 
@@ -223,7 +233,8 @@ def tables(edits):
     lines = []
     for crate in dict.fromkeys(e.crate for e in edits):
         its = [e for e in edits if e.crate == crate]
-        lines += ["## %s: %d of %d refused" % (crate, sum(e.refused for e in its), len(its)), "", "| Place | Wrong program | Refused at |", "|---|---|---|"]
+        lines += ["## %s: %d of %d refused" % (crate, sum(e.refused for e in its), len(its)), ""]
+        lines += ["| Place | Wrong program | Refused at |", "|---|---|---|"]
         lines += ["| `%s` | %s | %s |" % (e.place, e.words, e.said if e.refused else "NOT REFUSED") for e in its] + [""]
     return "\n".join(lines)
 
@@ -247,19 +258,20 @@ def main():
     work = top or tempfile.mkdtemp()
     try:
         for kind, trial in (("functions", try_functions), ("laws", try_definitions)):
-            for crate in dict.fromkeys(e.crate for e in edits if e.of_definition() == (kind == "laws")):
-                folder = os.path.join(work, kind)
+            its = [e for e in edits if e.of_definition() == (kind == "laws")]
+            folder = os.path.join(work, kind)
+            for part in ("rlib", "stamp") if its else ():
+                if os.path.isdir(os.path.join(ROOT, "target", part)):
+                    shutil.copytree(os.path.join(ROOT, "target", part), os.path.join(folder, "target", part), dirs_exist_ok=True)
+            for crate in dict.fromkeys(e.crate for e in its):
                 shutil.rmtree(os.path.join(folder, "crates"), ignore_errors=True)
                 shutil.copytree(os.path.join(ROOT, "crates"), os.path.join(folder, "crates"))
                 shutil.copy(os.path.join(ROOT, "crates.txt"), folder)
-                for part in ("rlib", "stamp"):
-                    if os.path.isdir(os.path.join(ROOT, "target", part)):
-                        shutil.copytree(os.path.join(ROOT, "target", part), os.path.join(folder, "target", part), dirs_exist_ok=True)
-                trial(folder, crate, [e for e in edits if e.crate == crate and e.of_definition() == (kind == "laws")])
+                trial(folder, crate, [e for e in its if e.crate == crate])
     finally:
         if not top:
             shutil.rmtree(work)
-    if write_tables:
+    if write_tables and not words:
         path = os.path.join(ROOT, "docs", "TRIALS.md")
         head = read(path).split("<!-- tables of scripts/wrong_programs.py --write -->\n")[0]
         write(path, head + "<!-- tables of scripts/wrong_programs.py --write -->\n\n" + tables(edits))

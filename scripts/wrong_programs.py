@@ -126,7 +126,7 @@ def facts(errors):
 def in_words(errors):
     """What is not shown first, and if that is short, two terms that should be one."""
     # a fact that fails for some numbers says most
-    text = re.sub(r"\s+", " ", min(errors, key=lambda e: "fails, at" not in re.sub(r"\s+", " ", e)))
+    text = re.sub("[«»]", "", min(errors, key=lambda e: "fails, at" not in e))
     need = re.match(r"`(.*?)(?:-(\d+))?`", text)
     name, count = need.groups() if need else ("", None)
     if name == "returns":
@@ -140,11 +140,11 @@ def in_words(errors):
     said = ""
     if "fails, at" in text:
         said = "fails for some numbers"
-    pair = re.search(r"differ .*?where one has `([^`]*)` \(expected\).*? the other has `([^`]*)` \(found\)", text)
+    pair = re.search(r"differ only where one has `([^`]*)` \(expected\).*? the other has `([^`]*)` \(found\)", text)
     if pair:
         pair = [re.sub(r"[\w·-]+\.(?=[^\s.])", "", side) for side in pair.groups()]
         pair = [re.sub(r"\(?\bc(?: \.[\w-]+)* \.([^\s()]+)\)?|\.([^\s.()]+)\)?", r"\1\2", side) for side in pair]
-        if all(re.fullmatch(r"[a-z«0-9][\w«»-]*|true|false|[A-Z]\w+", side) and side not in ("Post", "Learnt", "Path", "resV") for side in pair):
+        if pair[0] != pair[1] and all(re.fullmatch(r"[a-z0-9][\w-]*|[A-Z]\w+", side) and side not in ("Post", "Learnt", "Path", "resV") for side in pair):
             said = "`%s` is not `%s`" % tuple(pair)
     return name + (": " + said if said else "")
 
@@ -158,6 +158,7 @@ def check(top, crate):
     compiler = re.findall(r"^(\S+\.rt):(\d+):\d+: error\S*: (.*)", out, re.M)
     compiler += re.findall(r"borrow checker does not cover this function yet: (\S+\.rt):(\d+):\d+: ([^;\n]*)", out)
     prover = re.findall(r"^(\S+\.antt):(\d+):\d+: error: (.*(?:\n  .*)*)", out, re.M)
+    prover = [(path, line, re.sub(r"\s+", " ", said)) for path, line, said in prover]
     # a function without a proof file: the needs that the search leaves
     prover += [(path, 1, needs) for path, needs in re.findall(r"^fn .*: no proof: expected .* in (\S+);.* does not close (`[^;\n]*`)", out, re.M)]
     if run.returncode not in (0, 1) or not compiler and "\nlogic=" not in out:

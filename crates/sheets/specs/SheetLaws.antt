@@ -107,8 +107,8 @@ stateBy s es b = record {
   book = bookSheet (s .book) (sheetBy (s .graph) es b .answer) (cond b es (answered (s .graph) es));
 }
 
-pub sheet-is-its-links : (s : State) (es : List SheetEntry) → length es ≤ sheetEntries → nextItem s (wholeSheet es) ≡ runFrom s (linksOf es)
-sheet-is-its-links s es h = ap (stateBy s es) (short-is es h) ∙ links-from s es
+pub sheet-is-links : (s : State) (es : List SheetEntry) → length es ≤ sheetEntries → nextItem s (wholeSheet es) ≡ runFrom s (linksOf es)
+sheet-is-links s es h = ap (stateBy s es) (short-is es h) ∙ links-from s es
 
 pub too-long-counts-nothing : (s : State) (es : List SheetEntry) → sheetEntries < length es → nextItem s (wholeSheet es) ≡ s
 too-long-counts-nothing s es h = ap (stateBy s es) (long-is es h)

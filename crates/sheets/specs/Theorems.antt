@@ -35,8 +35,8 @@ use Rattle.sheets.specs.SheetLaws as proofs
 
 -- From any graph and book, a sheet of at most 64 entries leaves the graph that its links leave, made one at a time, and the book with
 -- these links.
-pub sheet-is-its-links : (s : State) (es : List SheetEntry) → length es ≤ sheetEntries → nextItem s (wholeSheet es) ≡ runFrom s (linksOf es)
-sheet-is-its-links = proofs.sheet-is-its-links
+pub sheet-is-links : (s : State) (es : List SheetEntry) → length es ≤ sheetEntries → nextItem s (wholeSheet es) ≡ runFrom s (linksOf es)
+sheet-is-links = proofs.sheet-is-links
 
 -- Each entry receives the answer of its link, made after the links of the entries before it, refused ones included.
 pub entries-receive-their-answers : (s : State) (es : List SheetEntry) → length es ≤ sheetEntries → (i : ℕ) → i < length es →

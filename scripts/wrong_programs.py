@@ -157,6 +157,8 @@ def check(top, crate):
         f.write(out)
     compiler = re.findall(r"^(\S+\.rt):(\d+):\d+: error\S*: (.*)", out, re.M)
     compiler += re.findall(r"borrow checker does not cover this function yet: (\S+\.rt):(\d+):\d+: ([^;\n]*)", out)
+    # said of a function that is walked by hand, where what it calls is not proved
+    compiler = [error for error in compiler if not error[2].startswith("a reference to a struct")]
     prover = re.findall(r"^(\S+\.antt):(\d+):\d+: error: (.*(?:\n  .*)*)", out, re.M)
     prover = [(path, line, re.sub(r"\s+", " ", said)) for path, line, said in prover]
     # a function without a proof file: the needs that the search leaves

@@ -4,7 +4,7 @@
 //! - [`compare`]: runs a list through the port; a difference comes with the fewest calls that show it.
 //! - [`exhaustive`], [`damage`]: all short lists over a few calls; lists of wrong lengths and altered bytes.
 //! - [`console`]: listings, move lists and saved files, through the program `wiring`.
-//! - [`files`]: a second writer of saved files, from document 02's words.
+//! - [`files`]: a second writer and a reader of saved files, from document 02's words.
 //! - [`spoil`]: wrong answers put in by hand, to show that they are caught.
 //! - [`lists`], [`plain`]: lists that the original answers itself, and the original without the driver, for the benchmark.
 //!

@@ -60,18 +60,27 @@ fn field(number: u32) -> u16 {
 impl View {
     /// What the file of the original's graph must say.
     pub fn of(oracle: &Oracle) -> View {
+        View::listed(oracle).sorted()
+    }
+
+    /// The same with the wires sorted.
+    pub fn sorted(mut self) -> View {
+        self.wires.sort();
+        self
+    }
+
+    /// The blocks of the original's graph, and its wires as it lists them.
+    pub fn listed(oracle: &Oracle) -> View {
         let blocks = oracle.blocks();
         let ranks: HashMap<u32, u16> =
             blocks.iter().enumerate().map(|(rank, node)| (*node, field(rank as u32))).collect();
         let ports = |node: u32, side: Side| field(oracle.ports(node, Sides::One(side)).expect("a block").len() as u32);
         let place = |end| oracle.place(end).expect("an end of a wire is live");
-        let mut wires: Vec<Record> = (oracle.all_wires().into_iter())
+        let wires = (oracle.all_wires().into_iter())
             .map(|(from, to)| (place(from), place(to)))
-            .map(|(from, to)| [ranks[&from.node], field(from.position), ranks[&to.node], field(to.position)])
-            .collect();
-        wires.sort();
-        let blocks = blocks.into_iter().map(|node| [ports(node, Side::Incoming), ports(node, Side::Outgoing)]);
-        View { blocks: blocks.collect(), wires }
+            .map(|(from, to)| [ranks[&from.node], field(from.position), ranks[&to.node], field(to.position)]);
+        let records = blocks.iter().map(|node| [ports(*node, Side::Incoming), ports(*node, Side::Outgoing)]);
+        View { blocks: records.collect(), wires: wires.collect() }
     }
 
     /// The file.

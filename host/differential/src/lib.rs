@@ -5,6 +5,7 @@
 //! - [`exhaustive`], [`damage`]: all short lists over a few calls; lists of wrong lengths and altered bytes.
 //! - [`console`]: listings, move lists and saved files, through the program `wiring`.
 //! - [`files`]: a second writer and a reader of saved files, from document 02's words.
+//! - [`saves`]: files that lists are saved as, beside that writer.
 //! - [`spoil`]: wrong answers put in by hand, to show that they are caught.
 //! - [`lists`], [`plain`]: lists that the original answers itself, and the original without the driver, for the benchmark.
 //!
@@ -20,6 +21,7 @@ pub mod history;
 pub mod lists;
 pub mod plain;
 pub mod runs;
+pub mod saves;
 pub mod spoil;
 pub mod tally;
 pub mod walks;

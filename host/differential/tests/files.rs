@@ -1,6 +1,7 @@
 //! The reader of saved files, rule by rule, on small files made by hand; and that it reads what the writer writes.
 
 use differential::files::{mend, read, View, UNIT};
+use driver::{NODE_SLOTS, PORT_SLOTS};
 
 /// A unit of these fields from its start, the rest zeros, with its sum.
 fn unit(fields: &[u16]) -> Vec<u8> {
@@ -56,6 +57,8 @@ fn written_and_read() {
             assert_eq!(read(&file), Ok(view));
         }
     }
+    let longest = View { blocks: vec![[2, 2]; NODE_SLOTS], wires: vec![[0; 4]; PORT_SLOTS / 2] };
+    assert_eq!(longest.file().len(), kanhtrev::LONGEST_FILE);
 }
 
 #[test]

@@ -7,7 +7,8 @@
 //! - [`files`]: a second writer and a reader of saved files, from document 02's words.
 //! - [`saves`]: files that lists are saved as, beside that writer.
 //! - [`spoil`]: wrong answers put in by hand, to show that they are caught.
-//! - [`lists`], [`plain`]: lists that the original answers itself, and the original without the driver, for the benchmark.
+//! - [`lists`], [`plain`], [`plain_files`]: lists that the original answers itself, the original without the driver, and a plain
+//!   writer of files over it, for the benchmark.
 //!
 //! What a call must answer, and whether it is compared at all, is decided by the driver on the original's side.
 
@@ -20,6 +21,7 @@ pub mod growth;
 pub mod history;
 pub mod lists;
 pub mod plain;
+pub mod plain_files;
 pub mod runs;
 pub mod saves;
 pub mod spoil;

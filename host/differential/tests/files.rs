@@ -1,6 +1,10 @@
-//! The reader of saved files, rule by rule, on small files made by hand; and that it reads what the writer writes.
+//! The reader of saved files, rule by rule, on small files made by hand; that it reads what the writer writes; and that the
+//! benchmark's plain writer writes the same.
 
 use differential::files::{mend, read, View, UNIT};
+use differential::history::History;
+use differential::lists::{to_save, SAVED};
+use differential::{plain, plain_files};
 use driver::{NODE_SLOTS, PORT_SLOTS};
 
 /// A unit of these fields from its start, the rest zeros, with its sum.
@@ -180,4 +184,21 @@ fn what_the_sum_does_not_see() {
     let mut file = unit(&[1, 2, 0, 1, 0, 0, 2, 0]);
     file[4..20].rotate_left(8);
     assert_eq!(read(&file), Ok(View { blocks: vec![[2, 0], [0, 1]], wires: vec![] }));
+}
+
+#[test]
+fn the_plain_writer() {
+    for list in (0..SAVED).map(to_save) {
+        let words = |bytes: &[u8]| u32::from_le_bytes(bytes.try_into().unwrap());
+        let record = |bytes: &[u8]| std::array::from_fn(|word| words(&bytes[4 * word..4 * word + 4]));
+        let records: Vec<[u32; 5]> = list.requests.chunks_exact(20).map(record).collect();
+        let (history, graph) = (History::of(&records), plain::graph(&list.requests));
+        let answers: Vec<_> = history.steps.iter().map(|step| step.expected).collect();
+        assert!(driver::to_bytes(&answers) == list.answers, "{}", list.name);
+        let file = View::of(&history.oracle).file();
+        let mut buffer = vec![0xA5; file.len() + 10];
+        assert_eq!(plain_files::save(&graph, &mut buffer), Some(file.len()), "{}", list.name);
+        assert!(buffer[..file.len()] == file && buffer[file.len()..] == [0xA5; 10], "{}", list.name);
+        assert_eq!(plain_files::save(&graph, &mut buffer[..file.len() - 1]), None);
+    }
 }

@@ -310,7 +310,6 @@ module _ (m : MultiPortGraph) where
           few = let e = blocks-in in let h = blocks-few f in omega arith;
           apart = subst (Rising Apart) (sym nodes-are) (rising-apart (blocks m) (blocks-rise m));
           inTable = λ n i. let u = node-in-use f n (subst (λ (l : List ℕ). Member n l) nodes-are i) in omega arith;
-          wiresFew = let e = wires-in in let h = wires-few f in let k = ap length (walked-places f) ∙ length-map (wirePlaces m) (allWires m) in omega arith;
           source = λ i h.
               let x = wire-there i h in
               subst (λ (l : List ℕ). Member (getD (wiresListed m) (8 * i + 2) 0) l) (sym nodes-are)

@@ -31,7 +31,8 @@ ghost use Prim.Native.Nat.{_%_};
 ghost use lib.ListN.{length};
 ghost use Rattle.multiportgraph.specs.Inner.{MultiWf};
 ghost use Rattle.multiportgraph.specs.MultiLent.{multiIn};
-ghost use Rattle.records.specs.Run.{answerBytes, Answered};
+ghost use Rattle.records.specs.Words.{requestsOf};
+ghost use Rattle.records.specs.Run.{answerBytes, Answered, graphFrom};
 ghost use Rattle.records.specs.Forms.{meant, words5};
 
 // What stands outside the tables afterwards, and the five words of the answer.
@@ -192,4 +193,31 @@ pub(crate) fn run_list(requests: &[u8], answers: &mut [u8])
         put_answer(answers, at, words);
         at += 20;
     }
+}
+
+// Runs a list of requests on lent tables, past refused calls, and answers what stands outside the tables afterwards. What stands after the last
+// whole request is not read.
+pub fn run_tables(
+    nodes: &mut [u32; NODE_WORDS],
+    links: &mut [u32; PORT_SLOTS],
+    owners: &mut [u32; PORT_SLOTS],
+    heads: &mut [u32; FREE_LISTS],
+    marks: &mut [bool; PORT_SLOTS],
+    flags: &mut [bool; NODE_SLOTS],
+    held: Held,
+    requests: &[u8],
+) -> Held
+    requires { ⌜ MultiWf (multiIn (now nodes) (now links) (now owners) (now heads) (now marks) (now flags) held) ⌝ }
+    ensures { λ r. ⌜ (multiIn (now (nodes .exit)) (now (links .exit)) (now (owners .exit)) (now (heads .exit)) (now (marks .exit)) (now (flags .exit)) r ≡ graphFrom (multiIn (now (nodes .entry)) (now (links .entry)) (now (owners .entry)) (now (heads .entry)) (now (marks .entry)) (now (flags .entry)) held) (requestsOf (now (requests .entry))))
+        × MultiWf (multiIn (now (nodes .exit)) (now (links .exit)) (now (owners .exit)) (now (heads .exit)) (now (marks .exit)) (now (flags .exit)) r) ⌝ }
+{
+    let mut after = held;
+    let mut at: usize = 0;
+    while 20 <= requests.len() - at {
+        let ask = ask_at(requests, at);
+        let told = one_request(nodes, links, owners, heads, marks, flags, after, ask);
+        after = told.held;
+        at += 20;
+    }
+    after
 }

@@ -17,6 +17,7 @@
 --   ViewLaws      the numbers, counts, blocks and wires of a graph's view
 --   WiringLaws    one view exactly if the same wiring
 --   LaidLaws      what a laid file is, and where its records stand
+--   WrittenLaws   a laid file is what is written of the view that it says, and what is written is laid
 pub mod View
 pub mod Layout
 pub mod Saving
@@ -31,6 +32,7 @@ pub mod RankLaws
 pub mod ViewLaws
 pub mod WiringLaws
 pub mod LaidLaws
+pub mod WrittenLaws
 -- the code's own forms
 pub mod Forms
 -- steps that the functions' proofs cite

@@ -18,6 +18,7 @@
 --   WiringLaws    one view exactly if the same wiring
 --   LaidLaws      what a laid file is, and where its records stand
 --   WrittenLaws   a laid file is what is written of the view that it says, and what is written is laid
+--   SoundLaws     the tests of a view say that it is sound; what bytes say fits fields
 pub mod View
 pub mod Layout
 pub mod Saving
@@ -33,6 +34,7 @@ pub mod ViewLaws
 pub mod WiringLaws
 pub mod LaidLaws
 pub mod WrittenLaws
+pub mod SoundLaws
 -- the code's own forms
 pub mod Forms
 -- steps that the functions' proofs cite

@@ -32,7 +32,7 @@ module _ {A : Type 0} where
   pub parts-joined : (n m i : ℕ) (l : List A) → take n (drop i l) ++ take m (drop (i + n) l) ≡ take (n + m) (drop i l)
   parts-joined n m i l = ap (λ (k : List A). take n (drop i l) ++ take m k) (sym (drop-drop n i l)) ∙ sym (take-add n m (drop i l))
 
-bytes-after : (bytes : List ℕ) (k : ℕ) → Bytes bytes → Bytes (drop k bytes)
+pub bytes-after : (bytes : List ℕ) (k : ℕ) → Bytes bytes → Bytes (drop k bytes)
 bytes-after bytes k b i = let e = getD-drop k bytes i 0 in let h = b (k + i) in omega arith
 
 -- Fields, words, records.

@@ -19,6 +19,7 @@
 --   LaidLaws      what a laid file is, and where its records stand
 --   WrittenLaws   a laid file is what is written of the view that it says, and what is written is laid
 --   SoundLaws     the tests of a view say that it is sound; what bytes say fits fields
+--   ViewSound     the view of a graph of the calls is sound
 pub mod View
 pub mod Layout
 pub mod Saving
@@ -35,6 +36,7 @@ pub mod WiringLaws
 pub mod LaidLaws
 pub mod WrittenLaws
 pub mod SoundLaws
+pub mod ViewSound
 -- the code's own forms
 pub mod Forms
 -- steps that the functions' proofs cite

@@ -17,8 +17,9 @@
 --   ViewLaws      the numbers, counts, blocks and wires of a graph's view
 --   WiringLaws    one view exactly if the same wiring
 --   LaidLaws      what a laid file is, and where its records stand
---   WrittenLaws   a laid file is what is written of the view that it says, and what is written is laid
+--   WrittenLaws   a laid file is what is written of the view that it says
 --   SoundLaws     the tests of a view say that it is sound; what bytes say fits fields
+--   LaidAgain     what is written of a sound view is laid
 --   ViewSound     the view of a graph of the calls is sound
 pub mod View
 pub mod Layout
@@ -36,6 +37,7 @@ pub mod WiringLaws
 pub mod LaidLaws
 pub mod WrittenLaws
 pub mod SoundLaws
+pub mod LaidAgain
 pub mod ViewSound
 -- the code's own forms
 pub mod Forms

@@ -1,17 +1,17 @@
 -- The tests of a view say that it is sound, and what a file says fits its fields.
 use mathlib.Core.Path.{_≡_, refl, sym, ap, _∙_, subst}
-use mathlib.Core.Bool.{Bool, true, false, cond, not, _&&_}
+use mathlib.Core.Bool.{Bool, true, false, not, _&&_}
 use mathlib.Core.List.{List, [], _∷_, _++_, map}
-use mathlib.Core.Logic.{_⊎_, inl, inr, ⊎-elim}
-use Prim.Native.Nat.{ℕ, zero, suc, _+_, _*_, _/_, _≤_, _<_}
+use mathlib.Core.Logic.{inl, inr, ⊎-elim}
+use Prim.Native.Nat.{ℕ, zero, suc, _/_}
 use native.Mathlib.Omega.{arith}
 use lib.Dec.{eqb, ltb}
 use lib.ListN.{length, drop}
 use borrow.Author.Tests.{ltb-true, lt-ltb, not-true}
 use Rattle.portgraph.specs.Lists.{Member, Rising}
 use Rattle.multiportgraph.specs.Listing.{member-append, member-map, map-member}
-use Rattle.files.specs.View.{BlockPorts, RankWire, View, isBefore}
-use Rattle.files.specs.Layout.{Record, blockRecord, wireRecord, fieldAt, blockOf, wireOf, recordAt, recordsAt, recordsOf, withRecords, withUnit, readUnits, unbytes}
+use Rattle.files.specs.View.{RankWire, View, isBefore}
+use Rattle.files.specs.Layout.{Record, blockRecord, wireRecord, fieldAt, blockOf, wireOf, recordAt, recordsAt, recordsOf, withRecords, readUnits, unbytes}
 use Rattle.files.specs.Loading.{every, blockAt, orderRight, ranksRight, positionsRight, unitList, unitsRight, viewRight, isLaid}
 use Rattle.files.specs.Claims.{AtMost, Sound, Bytes}
 use Rattle.files.specs.LayoutLaws.{FieldsFit, AllFit, ViewFits}

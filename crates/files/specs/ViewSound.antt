@@ -1,7 +1,7 @@
 -- The view of a graph of the calls is sound.
 use mathlib.Core.Path.{_≡_, refl, sym, ap, _∙_, subst}
-use mathlib.Core.List.{List, [], _∷_, map}
-use Prim.Native.Nat.{ℕ, zero, suc, _≤_, _<_}
+use mathlib.Core.List.{List, _∷_, map}
+use Prim.Native.Nat.{ℕ, zero, suc, _<_}
 use native.Mathlib.Omega.{arith}
 use lib.ListN.{length, getD}
 use Rattle.portgraph.specs.Lists.{Member}
@@ -20,9 +20,9 @@ use Rattle.multiportgraph.specs.declared.multiportgraph.MultiPortGraph.{MultiPo
 use Rattle.theorems.specs.Book.{Call}
 use Rattle.theorems.specs.History.{run}
 use Rattle.theorems.specs.CallLaws.{rel-run}
-use Rattle.files.specs.View.{BlockPorts, RankWire, View, rankAmong, sorted, blockPorts, rankWire, viewOf}
+use Rattle.files.specs.View.{BlockPorts, RankWire, rankAmong, sorted, blockPorts, rankWire, viewOf}
 use Rattle.files.specs.Loading.{blockAt}
-use Rattle.files.specs.Claims.{At, AtMost, Sound}
+use Rattle.files.specs.Claims.{At, Sound}
 use Rattle.files.specs.OrderLaws.{sorted-rises, sorted-member}
 use Rattle.files.specs.RankLaws.{map-at, rank-below, rank-at}
 use Rattle.files.specs.ViewLaws.{walked-fits}

@@ -1,20 +1,18 @@
 -- A laid file is what is written of the view that it says: fields, records, units and kinds, byte for byte.
 use mathlib.Core.Path.{_≡_, refl, sym, ap, _∙_, subst}
-use mathlib.Core.Bool.{Bool, true, false, cond, _&&_}
+use mathlib.Core.Bool.{Bool, true, cond, _&&_}
 use mathlib.Core.List.{List, [], _∷_, _++_, map, flatMap, append-nil}
 use Prim.Native.Nat.{ℕ, zero, suc, _+_, _-_, _*_, _/_, _%_, _≤_, _<_}
 use native.Mathlib.Omega.{arith}
-use lib.Dec.{eqb, leb, ltb}
-use lib.ListN.{length, getD, take, drop, replicate, length-append, length-take, length-drop}
-use lib.Seq.{take-all, take-nil, drop-cons, take-at, drop-at, drop-drop, take-add, take-take, length-take-le, getD-take, getD-drop}
+use lib.Dec.{eqb}
+use lib.ListN.{length, getD, take, drop, replicate, length-drop}
+use lib.Seq.{take-all, take-nil, drop-cons, take-at, drop-at, drop-drop, take-add, take-take, length-take-le, getD-drop}
 use borrow.Author.Tests.{eqb-true, eq-eqb}
-use Rattle.portgraph.specs.Model.{total}
 use Rattle.portgraph.specs.Sums.{total-same}
-use Rattle.files.specs.View.{BlockPorts, RankWire, View}
 use Rattle.files.specs.Layout.{Record, blockRecord, wireRecord, fieldBytes, wordBytes, fieldAt, wordAt, recordBytes, unitRecords, unitHead, sumOf, unit, unitsFor, unitsFrom, unitsOf, bytesOf, blockOf, wireOf, recordAt, recordsAt, recordsOf, unbytes}
 use Rattle.files.specs.Loading.{every, sumHolds, unitsIn, unitList, isWhole, countOf, ofKind, zerosFrom, blockZeros, zerosRight, unitsRight, viewRight, isLaid}
 use Rattle.files.specs.Claims.{Bytes}
-use Rattle.files.specs.LaidLaws.{both-true, field-taken, records-many, recordsIn, UnitOf, Units, units-counted, Parts, parts, said}
+use Rattle.files.specs.LaidLaws.{both-true, field-taken, records-many, recordsIn, UnitOf, Units, units-counted, parts, said}
 
 -- Parts of a list.
 

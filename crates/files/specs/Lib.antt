@@ -4,6 +4,7 @@
 --   View          the view of a graph: blocks by rank, wires between ports by rank, sorted
 --   Layout        the bytes of a view, and the view that any bytes say
 --   Saving        the file of a graph; what saving answers and leaves in the lent buffer; refusal 15
+--   Loading       what a file is held to (16, 17), the calls that build its wiring, what a load answers and gives
 --   Claims        the words of the theorems: the same wiring, over the wire book; sizes
 -- Then what is proved of them:
 --   FileTheorems  every theorem with a sentence and its statement
@@ -15,9 +16,15 @@
 --   RankLaws      ranks among the graph's blocks and in the book
 --   ViewLaws      the numbers, counts, blocks and wires of a graph's view
 --   WiringLaws    one view exactly if the same wiring
+--   LaidLaws      what a laid file is, and where its records stand
+--   WrittenLaws   a laid file is what is written of the view that it says
+--   SoundLaws     the tests of a view say that it is sound; what bytes say fits fields
+--   LaidAgain     what is written of a sound view is laid
+--   ViewSound     the view of a graph of the calls is sound
 pub mod View
 pub mod Layout
 pub mod Saving
+pub mod Loading
 pub mod Claims
 pub mod FileTheorems
 pub mod LayoutExample
@@ -27,6 +34,11 @@ pub mod LayoutLaws
 pub mod RankLaws
 pub mod ViewLaws
 pub mod WiringLaws
+pub mod LaidLaws
+pub mod WrittenLaws
+pub mod SoundLaws
+pub mod LaidAgain
+pub mod ViewSound
 -- the code's own forms
 pub mod Forms
 -- steps that the functions' proofs cite

@@ -29,6 +29,7 @@ pub mod LayoutLaws
 pub mod RankLaws
 pub mod ViewLaws
 pub mod WiringLaws
+pub mod NextSlots
 -- the code's own forms
 pub mod Forms
 -- steps that the functions' proofs cite

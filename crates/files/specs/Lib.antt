@@ -30,6 +30,7 @@ pub mod RankLaws
 pub mod ViewLaws
 pub mod WiringLaws
 pub mod NextSlots
+pub mod BuildLaws
 -- the code's own forms
 pub mod Forms
 -- steps that the functions' proofs cite

@@ -5,8 +5,9 @@ use mathlib.Core.List.{List, [], _∷_, _++_, map}
 use mathlib.Core.Logic.{_⊎_, inl, inr, ⊎-elim}
 use Prim.Native.Nat.{ℕ, zero, suc, _+_, _≤_, _<_}
 use native.Mathlib.Omega.{arith}
+use lib.Dec.{ltb}
 use lib.ListN.{length, getD}
-use Rattle.portgraph.specs.Lists.{range, Member, Rising}
+use Rattle.portgraph.specs.Lists.{range, filter, Member, Rising}
 use Rattle.portgraph.specs.Model as model
 use Rattle.portgraph.specs.Model.{Model, Slots, live, slotOf, countOf, firstOf, sideStart}
 use Rattle.portgraph.specs.GoodSlots.{zero-is-not-one}
@@ -22,7 +23,7 @@ use Rattle.multiportgraph.specs.declared.multiportgraph.LinkAnswer.{LinkAnswer}
 use Rattle.multiportgraph.specs.declared.multiportgraph.LinkAnswer.the-variants as link
 use Rattle.multiportgraph.specs.declared.multiportgraph.Refusal.{Refusal}
 use Rattle.theorems.specs.Book as book
-use Rattle.theorems.specs.Book.{Call, AnswerOf, Block, Book, spotOf, addWire, nextOffset, bookLink}
+use Rattle.theorems.specs.Book.{Call, AnswerOf, Block, Book, emptyBook, spotOf, addWire, nextOffset, bookLink}
 use Rattle.theorems.specs.History.{State, next, runFrom, run, step}
 use Rattle.theorems.specs.Runs.{run-append}
 use Rattle.theorems.specs.Claims.{count}
@@ -171,3 +172,116 @@ module _ (s : State) {M : Model} (r : Rel (s .graph) M (s .book)) (bs : List Blo
       ap (count (alike rank z)) e
       ∙ ((λ j. count (alike rank z) (addWire (s .book .wires) (f j) o (g j) u))
       ∙ (λ j. flag (sameWire (record { source = a j; output = w .output; target = b j; input = w .input }) z) + count (alike rank z) (s .book .wires)))
+
+-- Accepted links enter the wires of a list, each as often as it stands there.
+pub record LinksEntered (s : State) (bs : List BlockPorts) (ws : List RankWire) (rank : ℕ → ℕ) : Type 0 where
+  pub blocks : runFrom s (map (linkOf bs) ws) .book .blocks ≡ s .book .blocks
+  pub wires : (z : RankWire) → count (alike rank z) (runFrom s (map (linkOf bs) ws) .book .wires) ≡ howMany sameWire z ws + count (alike rank z) (s .book .wires)
+
+pub links-entered : (bs : List BlockPorts) (rank : ℕ → ℕ) → ((n : ℕ) → n < length bs → rank n ≡ n) → (ws : List RankWire) → ((w : RankWire) → Member w ws → Runs bs w) →
+    (s : State) (M : Model) → Rel (s .graph) M (s .book) → HasAll bs (s .book) → firstRefusal (s .graph) (map (linkOf bs) ws) ≡ Loaded → LinksEntered s bs ws rank
+unfolding firstRefusal runFrom
+links-entered bs rank same [] runs s M r has e = record { blocks = refl; wires = λ z. omega arith }
+links-entered bs rank same (w ∷ ws) runs s M r has e =
+    go (links-entered bs rank same ws (λ v i. runs v (inr i)) (next s (linkOf bs w))) (step (s .graph) (linkOf bs w) .answer) refl e
+  where
+    go : ((N : Model) → Rel (next s (linkOf bs w) .graph) N (next s (linkOf bs w) .book) → HasAll bs (next s (linkOf bs w) .book) →
+        firstRefusal (next s (linkOf bs w) .graph) (map (linkOf bs) ws) ≡ Loaded → LinksEntered (next s (linkOf bs w)) bs ws rank) →
+        (a : LinkAnswer) → step (s .graph) (linkOf bs w) .answer ≡ a →
+        afterCall (linkOf bs w) a (firstRefusal (step (s .graph) (linkOf bs w) .graph) (map (linkOf bs) ws)) ≡ Loaded → LinksEntered s bs (w ∷ ws) rank
+    go others (link.Refused c) q k = absurd (refused-not-loaded c k)
+    go others (link.Linked x y) q k =
+        let here = runs w (inl refl) in
+        let b = linked-blocks s r bs has w here x y q in
+        let l = rel-step r (linkOf bs w) in
+        let t = others (l .0) (l .1) (λ n c i. subst (Member (blockFrom n (firstPort bs n) c)) (sym b) (has n c i)) k in
+        record {
+          blocks = t .blocks ∙ b;
+          wires = λ z.
+              let u = t .wires z in
+              let v = linked-count s r bs has w here x y q rank (same (w .source) (here .0)) (same (w .target) (here .2)) z in
+              omega arith;
+        }
+
+-- A view whose adds and links are all accepted.
+
+rank-by-blocks : (B C : Book) (n : ℕ) → B .blocks ≡ C .blocks → rankIn B n ≡ rankIn C n
+unfolding rankIn
+rank-by-blocks B C n e = ap (λ (l : List Block). length (filter (λ (b : Block). ltb (b .node) n) l)) e
+
+sound-runs : (v : View) → Sound v → (w : RankWire) → Member w (v .wires) → Runs (v .blocks) w
+sound-runs v s w i = (s .source w i, s .output w i, s .target w i, s .input w i)
+
+module _ (v : View) (sound : Sound v) (e : firstRefusal emptyGraph (buildOf v) ≡ Loaded) where
+  adds-accepted : firstRefusal emptyGraph (map addOf (v .blocks)) ≡ Loaded
+  unfolding buildOf
+  adds-accepted = accepted-apart (record { graph = emptyGraph; book = emptyBook }) (map addOf (v .blocks)) (map (linkOf (v .blocks)) (v .wires)) e .0
+
+  links-accepted : firstRefusal (run (map addOf (v .blocks)) .graph) (map (linkOf (v .blocks)) (v .wires)) ≡ Loaded
+  unfolding buildOf run
+  links-accepted = accepted-apart (record { graph = emptyGraph; book = emptyBook }) (map addOf (v .blocks)) (map (linkOf (v .blocks)) (v .wires)) e .1
+
+  added : NextSlots (v .blocks) (run (map addOf (v .blocks)) .book)
+  added = next-slots (v .blocks) adds-accepted
+
+  -- the state after the adds, and after all
+  abbrev laidState : State
+  laidState = run (map addOf (v .blocks))
+
+  abbrev built : State
+  built = runFrom laidState (map (linkOf (v .blocks)) (v .wires))
+
+  built-is : run (buildOf v) ≡ built
+  unfolding buildOf
+  built-is = run-append (map addOf (v .blocks)) (map (linkOf (v .blocks)) (v .wires))
+
+  linked : (rank : ℕ → ℕ) → ((n : ℕ) → n < length (v .blocks) → rank n ≡ n) → LinksEntered laidState (v .blocks) (v .wires) rank
+  linked rank same =
+      let r = rel-run (map addOf (v .blocks)) in
+      links-entered (v .blocks) rank same (v .wires) (sound-runs v sound) laidState (r .0) (r .1) (added .has) links-accepted
+
+  built-blocks : built .book .blocks ≡ laidState .book .blocks
+  built-blocks = linked (λ n. n) (λ n h. refl) .blocks
+
+  built-rank : (n : ℕ) → n < length (v .blocks) → rankIn (built .book) n ≡ n
+  built-rank n h = rank-by-blocks (built .book) (laidState .book) n built-blocks ∙ added .ranks n (omega arith)
+
+  built-wires : (z : RankWire) → wiresBetween (built .book) z ≡ howMany sameWire z (v .wires)
+  built-wires z =
+      let t = linked (rankIn (built .book)) built-rank .wires z in
+      let n = ap (count (alike (rankIn (built .book)) z)) (added .unwired) in
+      omega arith
+
+  built-rel : (M : Model) × Rel (built .graph) M (built .book)
+  built-rel = subst (λ (s : State). (M : Model) × Rel (s .graph) M (s .book)) built-is (rel-run (buildOf v))
+
+  has-block : (n : ℕ) (b : BlockPorts) → At (v .blocks) n b → HasBlock (built .book) n (b .incoming) (b .outgoing)
+  has-block n b h = (
+    blockFrom n (firstPort (v .blocks) n) b,
+    subst (Member (blockFrom n (firstPort (v .blocks) n) b)) (sym built-blocks) (added .has n b h),
+    built-rank n (at-below (v .blocks) n b h),
+    length-range (firstPort (v .blocks) n) (b .incoming),
+    length-range (firstPort (v .blocks) n + b .incoming) (b .outgoing),
+  )
+
+  only-block : (n : ℕ) (b : BlockPorts) → HasBlock (built .book) n (b .incoming) (b .outgoing) → At (v .blocks) n b
+  only-block n b h =
+      let x = h .0 in
+      let g = added .only x (subst (Member x) built-blocks (h .1)) in
+      let c = g .1 in
+      let k = at-below (v .blocks) (g .0) c (g .2) in
+      let d : g .0 ≡ n = sym (built-rank (g .0) k) ∙ (ap (λ (t : Block). rankIn (built .book) (t .node)) (sym (g .3)) ∙ h .2) in
+      let i : c .incoming ≡ b .incoming = sym (length-range (firstPort (v .blocks) (g .0)) (c .incoming)) ∙ (ap (λ (t : Block). length (t .ins)) (sym (g .3)) ∙ h .3) in
+      let o : c .outgoing ≡ b .outgoing = sym (length-range (firstPort (v .blocks) (g .0) + c .incoming) (c .outgoing)) ∙ (ap (λ (t : Block). length (t .outs)) (sym (g .3)) ∙ h .4) in
+      subst (λ (j : ℕ). At (v .blocks) j b) d (subst (At (v .blocks) (g .0)) {x = c} {y = b} (λ j. record { incoming = i j; outgoing = o j }) (g .2))
+
+  pub built-view : viewOf (run (buildOf v) .graph) ≡ v
+  built-view =
+      let r = built-rel .1 in
+      let a : viewOf (built .graph) .blocks ≡ v .blocks =
+      same-positions (viewOf (built .graph) .blocks) (v .blocks)
+      (λ n b h. only-block n b (blocks-viewed r n (b .incoming) (b .outgoing) .1 h))
+      (λ n b h. blocks-viewed r n (b .incoming) (b .outgoing) .0 (has-block n b h)) in
+      let b : viewOf (built .graph) .wires ≡ v .wires =
+      wires-by-counts (viewOf (built .graph) .wires) (v .wires) (wires-rise (built .graph)) (sound .rise) (λ z. wires-viewed r z ∙ built-wires z) in
+      ap (λ (s : State). viewOf (s .graph)) built-is ∙ (λ j. record { blocks = a j; wires = b j })

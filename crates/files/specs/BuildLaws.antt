@@ -27,7 +27,7 @@ use Rattle.theorems.specs.Book.{Call, AnswerOf, Block, Book, emptyBook, spotOf,
 use Rattle.theorems.specs.History.{State, next, runFrom, run, step}
 use Rattle.theorems.specs.Runs.{run-append}
 use Rattle.theorems.specs.Claims.{count}
-use Rattle.theorems.specs.Conditions.{OfBlock}
+use Rattle.theorems.specs.Conditions.{OfBlock, RefusedBy}
 use Rattle.theorems.specs.WireRule.{Rel, spot-of}
 use Rattle.theorems.specs.CallLaws.{rel-step, rel-run}
 use Rattle.files.specs.View.{BlockPorts, RankWire, View, rankWire, viewOf}
@@ -51,12 +51,13 @@ pub record Sound (v : View) : Type 0 where
 
 -- The first refusal of a list of calls.
 
--- an answer lets the list go on, or stops it with a refusal
-pub goes-or-stops : (c : Call) (v : AnswerOf c) → ((rest : LoadAnswer) → afterCall c v rest ≡ rest) ⊎ ((r : Refusal) × ((rest : LoadAnswer) → afterCall c v rest ≡ Refused r))
+-- an answer lets the list go on, or it is a refusal and stops it
+pub goes-or-stops : (c : Call) (v : AnswerOf c) →
+    ((rest : LoadAnswer) → afterCall c v rest ≡ rest) ⊎ ((r : Refusal) × RefusedBy c v r × ((rest : LoadAnswer) → afterCall c v rest ≡ Refused r))
 goes-or-stops (book.addCall i o) (add.Added n p) = inl (λ rest. refl)
-goes-or-stops (book.addCall i o) (add.Refused r) = inr (r, λ rest. refl)
+goes-or-stops (book.addCall i o) (add.Refused r) = inr (r, refl, λ rest. refl)
 goes-or-stops (book.linkCall a b) (link.Linked s t) = inl (λ rest. refl)
-goes-or-stops (book.linkCall a b) (link.Refused r) = inr (r, λ rest. refl)
+goes-or-stops (book.linkCall a b) (link.Refused r) = inr (r, refl, λ rest. refl)
 goes-or-stops (book.removeCall n) v = inl (λ rest. refl)
 goes-or-stops (book.setCall n i o room) v = inl (λ rest. refl)
 goes-or-stops (book.linkCleanCall a b) v = inl (λ rest. refl)
@@ -74,7 +75,7 @@ accepted-apart s [] b e = (refl, e)
 accepted-apart s (c ∷ a) b e =
     ⊎-elim
     (λ goes. let k = accepted-apart (next s c) a b (sym (goes _) ∙ e) in (goes _ ∙ k .0, k .1))
-    (λ stops. absurd (refused-not-loaded (stops .0) (sym (stops .1 _) ∙ e)))
+    (λ stops. absurd (refused-not-loaded (stops .0) (sym (stops .2 _) ∙ e)))
     (goes-or-stops c (step (s .graph) c .answer))
 
 -- Blocks by rank.

@@ -31,6 +31,7 @@ pub mod ViewLaws
 pub mod WiringLaws
 pub mod NextSlots
 pub mod BuildLaws
+pub mod PartlyBuilt
 -- the code's own forms
 pub mod Forms
 -- steps that the functions' proofs cite

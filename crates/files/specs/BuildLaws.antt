@@ -210,7 +210,7 @@ rank-by-blocks : (B C : Book) (n : ℕ) → B .blocks ≡ C .blocks → rankIn B
 unfolding rankIn
 rank-by-blocks B C n e = ap (λ (l : List Block). length (filter (λ (b : Block). ltb (b .node) n) l)) e
 
-sound-runs : (v : View) → Sound v → (w : RankWire) → Member w (v .wires) → Runs (v .blocks) w
+pub sound-runs : (v : View) → Sound v → (w : RankWire) → Member w (v .wires) → Runs (v .blocks) w
 sound-runs v s w i = (s .source w i, s .output w i, s .target w i, s .input w i)
 
 module _ (v : View) (sound : Sound v) (e : firstRefusal emptyGraph (buildOf v) ≡ Loaded) where

@@ -32,6 +32,7 @@ pub mod WiringLaws
 pub mod NextSlots
 pub mod BuildLaws
 pub mod PartlyBuilt
+pub mod BuildRefusals
 -- the code's own forms
 pub mod Forms
 -- steps that the functions' proofs cite

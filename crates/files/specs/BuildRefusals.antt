@@ -18,7 +18,7 @@ use Rattle.portgraph.specs.declared.direction.Direction.the-variants.{Incoming,
 use Rattle.multiportgraph.specs.Calls.{addBlock, linkPair}
 use Rattle.multiportgraph.specs.Graph.{emptyGraph}
 use Rattle.multiportgraph.specs.Inner.{Fine, inner#}
-use Rattle.multiportgraph.specs.Listing.{member-left}
+use Rattle.multiportgraph.specs.Listing.{member-left, member-right}
 use Rattle.multiportgraph.specs.PlainLaws.{fine-empty}
 use Rattle.multiportgraph.specs.Space.{roomOf, overflows, linkWorks}
 use Rattle.multiportgraph.specs.SpaceLaws.{link-space}
@@ -243,21 +243,31 @@ module _ {m : MultiPortGraph} {M : Model} (f : Fine m M) (a b : ℕ) (n i k j : 
   pub link-wants-space : (r : Refusal) → linkPair m a b .answer ≡ link.Refused r → r ≡ NoRoom
   link-wants-space r e = only-space (linkPair m a b .graph) r (link-refused f a b r e)
 
--- the blocks are all in the book when the first wires are linked
-module _ (v : View) (first : List RankWire) (runs : (w : RankWire) → Member w first → Runs (v .blocks) w) (e : firstRefusal emptyGraph (buildOf (withFirst v first)) ≡ Loaded) where
-  apart : (firstRefusal emptyGraph (map addOf (v .blocks)) ≡ Loaded) × (firstRefusal (run (map addOf (v .blocks)) .graph) (map (linkOf (v .blocks)) first) ≡ Loaded)
-  unfolding buildOf run
-  apart = accepted-apart start (map addOf (v .blocks)) (map (linkOf (v .blocks)) first) e
-
-  partly-is : run (buildOf (withFirst v first)) ≡ runFrom (run (map addOf (v .blocks))) (map (linkOf (v .blocks)) first)
+-- the build with the first wires only
+module _ (v : View) (first : List RankWire) where
+  part-is : run (buildOf (withFirst v first)) ≡ runFrom (run (map addOf (v .blocks))) (map (linkOf (v .blocks)) first)
   unfolding buildOf
-  partly-is = run-append (map addOf (v .blocks)) (map (linkOf (v .blocks)) first)
+  part-is = run-append (map addOf (v .blocks)) (map (linkOf (v .blocks)) first)
 
-  blocks-there : HasAll (v .blocks) (run (buildOf (withFirst v first)) .book)
-  blocks-there n b h =
+  part-apart : firstRefusal emptyGraph (buildOf (withFirst v first)) ≡ Loaded →
+      (firstRefusal emptyGraph (map addOf (v .blocks)) ≡ Loaded) × (firstRefusal (run (map addOf (v .blocks)) .graph) (map (linkOf (v .blocks)) first) ≡ Loaded)
+  unfolding buildOf run
+  part-apart e = accepted-apart start (map addOf (v .blocks)) (map (linkOf (v .blocks)) first) e
+
+  part-accepted : firstRefusal emptyGraph (map addOf (v .blocks)) ≡ Loaded →
+      firstRefusal (run (map addOf (v .blocks)) .graph) (map (linkOf (v .blocks)) first) ≡ Loaded → firstRefusal emptyGraph (buildOf (withFirst v first)) ≡ Loaded
+  unfolding buildOf run
+  part-accepted a b = refusal-after start (map addOf (v .blocks)) (map (linkOf (v .blocks)) first) a ∙ b
+
+  -- all blocks are in its book
+  blocks-there : ((w : RankWire) → Member w first → Runs (v .blocks) w) → firstRefusal emptyGraph (buildOf (withFirst v first)) ≡ Loaded →
+      HasAll (v .blocks) (run (buildOf (withFirst v first)) .book)
+  blocks-there runs e n b h =
+      let a = part-apart e in
+      let s = next-slots (v .blocks) (a .0) in
       let r = rel-run (map addOf (v .blocks)) in
-      let l = links-entered (v .blocks) (λ k. k) (λ k i. refl) first runs (run (map addOf (v .blocks))) (r .0) (r .1) (next-slots (v .blocks) (apart .0) .has) (apart .1) in
-      subst (Member _) (sym (ap (λ (s : State). s .book .blocks) partly-is ∙ l .blocks)) (next-slots (v .blocks) (apart .0) .has n b h)
+      let l = links-entered (v .blocks) (λ k. k) (λ k i. refl) first runs (run (map addOf (v .blocks))) (r .0) (r .1) (s .has) (a .1) in
+      subst (Member _) (sym (ap (λ (s : State). s .book .blocks) part-is ∙ l .blocks)) (s .has n b h)
 
 -- The build.
 
@@ -280,3 +290,110 @@ module _ (v : View) where
   stops-build r (inr t) =
       refusal-after start (map addOf (v .blocks)) (map (linkOf (v .blocks)) (v .wires)) (t .0)
       ∙ stop-refuses (linkOf (v .blocks)) (link-stops (v .blocks)) (v .wires) (run (map addOf (v .blocks))) r (t .1)
+
+  wire-refused : Sound v → (r : Refusal) → firstRefusal emptyGraph (map addOf (v .blocks)) ≡ Loaded → Stop (linkOf (v .blocks)) (run (map addOf (v .blocks))) (v .wires) r → BuildRefused v r
+  wire-refused sound r a t = subst (BuildRefused v) (sym none) (build-no-wire (t .first) (t .item) (t .later) (t .is) e over)
+    where
+      e : firstRefusal emptyGraph (buildOf (withFirst v (t .first))) ≡ Loaded
+      e = part-accepted v (t .first) a (t .accepted)
+
+      runs : (w : RankWire) → Member w (t .first ++ (t .item ∷ t .later)) → Runs (v .blocks) w
+      runs w i = sound-runs v sound w (subst (Member w) (sym (t .is)) i)
+
+      rel : Rel (run (buildOf (withFirst v (t .first))) .graph) (rel-run (buildOf (withFirst v (t .first))) .0) (run (buildOf (withFirst v (t .first))) .book)
+      rel = rel-run (buildOf (withFirst v (t .first))) .1
+
+      has : HasAll (v .blocks) (run (buildOf (withFirst v (t .first))) .book)
+      has = blocks-there v (t .first) (λ w i. runs w (member-left w (t .first) (t .item ∷ t .later) i)) e
+
+      here : Runs (v .blocks) (t .item)
+      here = runs (t .item) (member-right (t .item) (t .first) (t .item ∷ t .later) (inl refl))
+
+      said : linkPair (run (buildOf (withFirst v (t .first))) .graph) (outPort (v .blocks) (t .item)) (inPort (v .blocks) (t .item)) .answer ≡ link.Refused r
+      said =
+          subst (λ (s : State). linkPair (s .graph) (outPort (v .blocks) (t .item)) (inPort (v .blocks) (t .item)) .answer ≡ link.Refused r)
+          (sym (part-is v (t .first))) (t .refused)
+
+      none : r ≡ NoRoom
+      none =
+          link-wants-space (rel .fine) (outPort (v .blocks) (t .item)) (inPort (v .blocks) (t .item)) (t .item .source) (t .item .output) (t .item .target) (t .item .input)
+          (source-port rel (v .blocks) has (t .item) here) (target-port rel (v .blocks) has (t .item) here) r said
+
+      over : overflows (roomOf (rel-run (buildOf (withFirst v (t .first))) .0))
+          (linkWorks (run (buildOf (withFirst v (t .first))) .graph) (outPort (v .blocks) (t .item)) (inPort (v .blocks) (t .item))) ≡ true
+      over = link-space (rel .fine) (outPort (v .blocks) (t .item)) (inPort (v .blocks) (t .item)) .no-room-iff .0 (said ∙ ap link.Refused none)
+
+  block-refused : (r : Refusal) → Stop addOf start (v .blocks) r → BuildRefused v r
+  block-refused r t =
+      ⊎-elim
+      (λ k. subst (BuildRefused v) (sym (k .0)) (build-many (t .first) (t .item) (t .later) (t .is) (t .accepted) (k .1)))
+      (λ k. subst (BuildRefused v) (sym (k .0)) (build-no-block (t .first) (t .item) (t .later) (t .is) (t .accepted) (k .1) (k .2)))
+      (add-ends (t .first) (t .item) (t .accepted) r (t .refused))
+
+  -- a build is refused under these conditions,
+  refused-if : (r : Refusal) → BuildRefused v r → firstRefusal emptyGraph (buildOf v) ≡ Refused r
+  refused-if r (build-many first b later is e h) =
+      stops-build TooManyPorts (inl (record { first = first; item = b; later = later; is = is; accepted = e; refused = many-refused first b e h }))
+  refused-if r (build-no-block first b later is e h k) =
+      stops-build NoRoom (inl (record { first = first; item = b; later = later; is = is; accepted = e; refused = ends-refused first b e h k }))
+  refused-if r (build-no-wire first w later is e over) =
+      let a = part-apart v first e in
+      let f = rel-run (buildOf (withFirst v first)) .1 .fine in
+      let said = link-space f (outPort (v .blocks) w) (inPort (v .blocks) w) .no-room-iff .1 over in
+      stops-build NoRoom
+      (inr (
+        a .0,
+        record {
+          first = first;
+          item = w;
+          later = later;
+          is = is;
+          accepted = a .1;
+          refused =
+              subst (λ (s : State). linkPair (s .graph) (outPort (v .blocks) w) (inPort (v .blocks) w) .answer ≡ link.Refused NoRoom)
+              (part-is v first) said;
+        },
+      ))
+
+  -- and under no others: the first block or wire that is not to be had tells the refusal
+  pub build-refusals : Sound v → (r : Refusal) → (firstRefusal emptyGraph (buildOf v) ≡ Refused r) ↔ BuildRefused v r
+  build-refusals sound r = (
+    (λ e. ⊎-elim (block-refused r) (λ k. wire-refused sound r (k .0) (k .1)) (build-stops r e)),
+    refused-if r,
+  )
+
+-- refused with 3 or with 10
+pub three-or-ten : (v : View) (r : Refusal) → BuildRefused v r → (r ≡ TooManyPorts) ⊎ (r ≡ NoRoom)
+three-or-ten v r (build-many first b later is e h) = inl refl
+three-or-ten v r (build-no-block first b later is e h k) = inr refl
+three-or-ten v r (build-no-wire first w later is e over) = inr refl
+
+-- Blocks that fit are all added.
+
+ports-with : (a : List BlockPorts) (c : BlockPorts) (b : List BlockPorts) → firstPort a (length a) + (c .incoming + c .outgoing) ≤ firstPort (a ++ (c ∷ b)) (length (a ++ (c ∷ b)))
+unfolding firstPort
+ports-with [] c b = omega arith
+ports-with (d ∷ a) c b = let h = ports-with a c b in omega arith
+
+-- few enough ports each, and room for all
+pub record BlocksFit (bs : List BlockPorts) : Type 0 where
+  pub few : (b : BlockPorts) → Member b bs → b .incoming + b .outgoing ≤ nodePorts
+  pub nodes : length bs ≤ nodeSlots
+  pub ports : firstPort bs (length bs) ≤ portSlots
+
+pub fitting-added : (bs : List BlockPorts) → BlocksFit bs → firstRefusal emptyGraph (map addOf bs) ≡ Loaded
+fitting-added bs h = ⊎-elim (λ e. e) (λ k. absurd (never (k .0) (first-stop addOf bs start (k .0) (k .1)))) (loaded-or-refused (map addOf bs) emptyGraph)
+  where
+    never : (r : Refusal) → Stop addOf start bs r → ⊥
+    never r t =
+        ⊎-elim
+        (λ k. let m = h .few (t .item) (subst (Member (t .item)) (sym (t .is)) (member-right (t .item) (t .first) (t .item ∷ t .later) (inl refl))) in let l = k .1 in omega arith)
+        (λ k.
+        let n = h .nodes in
+        let p = h .ports in
+        let a = ap length (t .is) in
+        let b = length-append (t .first) (t .item ∷ t .later) in
+        let c = ports-with (t .first) (t .item) (t .later) in
+        let d = ap (λ (l : List BlockPorts). firstPort l (length l)) (t .is) in
+        ⊎-elim (λ z. omega arith) (λ z. omega arith) (k .2))
+        (add-ends (t .first) (t .item) (t .accepted) r (t .refused))

@@ -91,7 +91,7 @@ module _ {A : Type 0} where
   at-get (y ∷ l) (suc r) d h = at-get l r d (omega arith)
 
 -- equal ranges are as long, and begin at the same number if they have one
-range-known : (a k b l : ℕ) → range a k ≡ range b l → (k ≡ l) × (0 < k → a ≡ b)
+pub range-known : (a k b l : ℕ) → range a k ≡ range b l → (k ≡ l) × (0 < k → a ≡ b)
 unfolding range
 range-known a zero b zero e = (refl, λ h. absurd (omega arith))
 range-known a zero b (suc l) e = absurd (zero-is-not-one (cc))

@@ -40,8 +40,9 @@ use Rattle.theorems.specs.WireRule.{Rel}
 use Rattle.theorems.specs.CallLaws.{rel-run}
 use Rattle.files.specs.View.{BlockPorts, RankWire, View}
 use Rattle.files.specs.Loading.{firstPort, outPort, inPort, addOf, linkOf, buildOf, afterCall, firstRefusal}
-use Rattle.files.specs.NextSlots.{NoFree, none-free-at-first, AddsLaid, adds-laid, next-slots}
-use Rattle.files.specs.BuildLaws.{Sound, goes-or-stops, refused-not-loaded, accepted-apart, Runs, HasAll, source-port, target-port, links-entered, sound-runs}
+use Rattle.files.specs.Claims.{At}
+use Rattle.files.specs.NextSlots.{NoFree, blockFrom, none-free-at-first, AddsLaid, adds-laid, next-slots}
+use Rattle.files.specs.BuildLaws.{Sound, range-known, goes-or-stops, refused-not-loaded, accepted-apart, Runs, HasAll, source-port, target-port, links-entered, sound-runs}
 use Rattle.files.specs.declared.load.LoadAnswer.{LoadAnswer}
 use Rattle.files.specs.declared.load.LoadAnswer.the-variants.{Loaded, Refused}
 
@@ -397,3 +398,29 @@ fitting-added bs h = ⊎-elim (λ e. e) (λ k. absurd (never (k .0) (first-stop 
         let d = ap (λ (l : List BlockPorts). firstPort l (length l)) (t .is) in
         ⊎-elim (λ z. omega arith) (λ z. omega arith) (k .2))
         (add-ends (t .first) (t .item) (t .accepted) r (t .refused))
+
+member-at : {A : Type 0} (x : A) (l : List A) → Member x l → (r : ℕ) × At l r x
+member-at x (y ∷ l) (inl e) = (0, e)
+member-at x (y ∷ l) (inr i) = let h = member-at x l i in (suc (h .0), h .1)
+
+pub added-fit : (bs : List BlockPorts) → firstRefusal emptyGraph (map addOf bs) ≡ Loaded → BlocksFit bs
+added-fit bs e =
+    let s = next-slots bs e in
+    let r = rel-run (map addOf bs) .1 in
+    record {
+      few = λ b i.
+          let h = member-at b bs i in
+          let t = r .blocks .right (blockFrom (h .0) (firstPort bs (h .0)) b) (s .has (h .0) b (h .1)) in
+          let k = t .0 in
+          let x = range-known (firstPort bs (h .0)) (b .incoming) (k .«first_port» .0) (k .incoming) (t .2) .0 in
+          let y = range-known (firstPort bs (h .0) + b .incoming) (b .outgoing) (k .«first_port» .0 + k .incoming) (k .outgoing) (t .3) .0 in
+          let u = r .fine .good .portsInBlock (h .0) k (t .1 .1) in
+          let v = r .fine .good .blockSmall (h .0) k (t .1 .1) in
+          omega arith;
+      nodes = s .nodesFit;
+      ports = s .portsFit;
+    }
+
+-- The adds of a build are all accepted exactly if its blocks fit.
+pub blocks-added : (bs : List BlockPorts) → (firstRefusal emptyGraph (map addOf bs) ≡ Loaded) ↔ BlocksFit bs
+blocks-added bs = (added-fit bs, fitting-added bs)

@@ -16,6 +16,10 @@
 --   RankLaws      ranks among the graph's blocks and in the book
 --   ViewLaws      the numbers, counts, blocks and wires of a graph's view
 --   WiringLaws    one view exactly if the same wiring
+--   NextSlots     with no free slots an add gives the next node and the next ports
+--   BuildLaws     a sound view whose adds and links are all accepted is the view of the graph built
+--   PartlyBuilt   what a refused build leaves is not the view to be built
+--   BuildRefusals when a build is refused, with 3 or with 10
 pub mod View
 pub mod Layout
 pub mod Saving

@@ -11,7 +11,8 @@ use lib.ListN.{length, getD}
 use borrow.Author.Tests.{ne-eqb, leb-true, ltb-true, ltb-false, le-ltb}
 use Rattle.portgraph.specs.Limits.{nodeSlots, portSlots, nodePorts, present}
 use Rattle.portgraph.specs.Lists.{range, filter, Member}
-use Rattle.portgraph.specs.Model.{Model}
+use Rattle.portgraph.specs.Model.{Model, Chain, numberOfFirst}
+use Rattle.portgraph.specs.Tables.{headAt}
 use Rattle.portgraph.specs.Meaning.{upd, rest, growth, firstOr, nextSlot, nextBlock, addModel}
 use Rattle.portgraph.specs.SlotHolds.{slotRoom, blockRoom, addWhere, add-law}
 use Rattle.portgraph.specs.GoodSlots.{zero-is-not-one, upd-elim}
@@ -22,7 +23,7 @@ use Rattle.portgraph.specs.declared.slots.NodeAdded as lower-added
 use Rattle.multiportgraph.specs.Calls.{addedAs, addBlock}
 use Rattle.multiportgraph.specs.CaseLaws.{add-cases}
 use Rattle.multiportgraph.specs.Graph.{emptyGraph}
-use Rattle.multiportgraph.specs.Inner.{Fine}
+use Rattle.multiportgraph.specs.Inner.{Fine, MultiWf}
 use Rattle.multiportgraph.specs.PlainLaws.{fine-empty}
 use Rattle.multiportgraph.specs.Space.{Room, roomOf, overflows, addWorks}
 use Rattle.multiportgraph.specs.SpaceLaws.{Spaced, room-is, room-added, add-space}
@@ -34,8 +35,8 @@ use Rattle.multiportgraph.specs.declared.multiportgraph.Refusal.the-variants.{N
 use Rattle.theorems.specs.Book.{Block, Book, emptyBook, bookAdd}
 use Rattle.theorems.specs.History.{State, next, runFrom, run, step}
 use Rattle.theorems.specs.CallLaws.{call-law}
-use Rattle.files.specs.View.{BlockPorts}
-use Rattle.files.specs.Loading.{blockAt, firstPort, addOf, afterCall, firstRefusal}
+use Rattle.files.specs.View.{BlockPorts, RankWire}
+use Rattle.files.specs.Loading.{blockAt, firstPort, outPort, inPort, addOf, afterCall, firstRefusal}
 use Rattle.files.specs.Claims.{rankIn, At}
 use Rattle.files.specs.declared.load.LoadAnswer.{LoadAnswer}
 use Rattle.files.specs.declared.load.LoadAnswer.the-variants.{Loaded, BadSums, BadLayout, Refused}
@@ -82,6 +83,26 @@ module _ {m : MultiPortGraph} {M : Model} (f : Fine m M) (i o : ℕ) where
       go : (b : Bool) → overflows (roomOf M) (addWorks i o) ≡ b → roomOf N ≡ roomOf (addModel M i o)
       go true k = let z = s .no-room-iff .1 k in absurd (zero-is-not-one (cc))
       go false k = room-is (s .room-after k) (g .holds) ∙ sym (room-added (f .good) i o)
+
+-- the same, read off the tables
+numbered-none : (l : List ℕ) → numberOfFirst l ≡ 0 → l ≡ []
+numbered-none [] e = refl
+numbered-none (n ∷ l) e = absurd (omega arith)
+
+chained-none : (t : List ℕ) (h : ℕ) (l : List ℕ) → Chain t h l → h ≡ 0 → l ≡ []
+chained-none t h [] c e = refl
+chained-none t h (b ∷ l) c e = let k = c .0 in absurd (omega arith)
+
+-- In a graph of the calls whose tables list no free node slot, and no free block of this size, an accepted add gives the next node and the next ports.
+pub add-gives-next : (m : MultiPortGraph) → MultiWf m → (i o : ℕ) (n : NodeIndex) (p : PortIndex) → m .graph .«node_free» ≡ 0 → headAt (m .graph .«port_free») (i + o) ≡ 0 →
+    addBlock m i o .answer ≡ add.Added n p → (n .0 ≡ m .graph .«node_len») × (0 < i + o → p .0 ≡ m .graph .«port_len»)
+add-gives-next m w i o n p free none e =
+    let f = w .fine in
+    let h = f .holds in
+    let a = numbered-none (w .model .freeNodes) (sym (h .nodeHead) ∙ free) in
+    let b = chained-none (m .graph .«port_link») _ (w .model .freeBlocks (i + o)) (h .blockChain (i + o)) none in
+    let t = add-takes-next f i o n p a b e in
+    (t .0 ∙ sym (h .nodeLen), λ z. t .1 z ∙ sym (h .portLen))
 
 -- No node slot and no block is free; so many node slots and port slots are used.
 pub record NoFree (M : Model) (n p : ℕ) : Type 0 where
@@ -288,3 +309,36 @@ next-slots bs e =
       nodesFit = let f = a .fine .good .nodesFit in let k = a .none .nodeLen in omega arith;
       portsFit = let f = a .fine .good .portsFit in let k = a .none .portLen in omega arith;
     })
+
+-- Prefix sums.
+
+first-port-first : (bs : List BlockPorts) → firstPort bs 0 ≡ 0
+unfolding firstPort
+first-port-first [] = refl
+first-port-first (b ∷ bs) = refl
+
+-- the first port of the next block
+pub first-port-next : (bs : List BlockPorts) (r : ℕ) → r < length bs → firstPort bs (suc r) ≡ firstPort bs r + (blockAt bs r .incoming + blockAt bs r .outgoing)
+unfolding firstPort
+first-port-next [] r h = absurd (omega arith)
+first-port-next (b ∷ bs) zero h = let z = first-port-first bs in omega arith
+first-port-next (b ∷ bs) (suc r) h = let e = first-port-next bs r (omega arith) in omega arith
+
+-- no first port passes the sum of all
+pub first-port-most : (bs : List BlockPorts) (r : ℕ) → firstPort bs r ≤ firstPort bs (length bs)
+unfolding firstPort
+first-port-most [] r = omega arith
+first-port-most (b ∷ bs) zero = omega arith
+first-port-most (b ∷ bs) (suc r) = let h = first-port-most bs r in omega arith
+
+-- nor does the end of a block
+pub block-within : (bs : List BlockPorts) (r : ℕ) → r < length bs → firstPort bs r + (blockAt bs r .incoming + blockAt bs r .outgoing) ≤ firstPort bs (length bs)
+block-within bs r h = let a = first-port-next bs r h in let b = first-port-most bs (suc r) in omega arith
+
+-- where all adds are accepted, the ports that links name are slots of the tables
+module _ (bs : List BlockPorts) (e : firstRefusal emptyGraph (map addOf bs) ≡ Loaded) (w : RankWire) where
+  pub out-port-in-table : w .source < length bs → w .output < blockAt bs (w .source) .outgoing → outPort bs w < portSlots
+  out-port-in-table h k = let a = block-within bs (w .source) h in let b = next-slots bs e .portsFit in omega arith
+
+  pub in-port-in-table : w .target < length bs → w .input < blockAt bs (w .target) .incoming → inPort bs w < portSlots
+  in-port-in-table h k = let a = block-within bs (w .target) h in let b = next-slots bs e .portsFit in omega arith

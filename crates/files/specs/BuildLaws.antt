@@ -1,21 +1,20 @@
 -- Laws of building: a view whose adds and links are all accepted is the view of the graph that they build.
 use mathlib.Core.Path.{_≡_, refl, sym, ap, _∙_, subst}
-use mathlib.Core.Bool.{Bool, true, false}
+use mathlib.Core.Bool.{Bool}
 use mathlib.Core.List.{List, [], _∷_, _++_, map}
 use mathlib.Core.Logic.{_⊎_, inl, inr, ⊎-elim}
-use Prim.Native.Nat.{ℕ, zero, suc, _+_, _≤_, _<_}
+use Prim.Native.Nat.{ℕ, zero, suc, _+_, _<_}
 use native.Mathlib.Omega.{arith}
 use lib.Dec.{ltb}
 use lib.ListN.{length, getD}
-use Rattle.portgraph.specs.Lists.{range, filter, Member, Rising}
-use Rattle.portgraph.specs.Model as model
-use Rattle.portgraph.specs.Model.{Model, Slots, live, slotOf, countOf, firstOf, sideStart}
+use Rattle.portgraph.specs.Lists.{range, filter, Member}
+use Rattle.portgraph.specs.Model.{Model, Slots, countOf, firstOf, sideStart}
 use Rattle.portgraph.specs.GoodSlots.{zero-is-not-one}
 use Rattle.portgraph.specs.declared.direction.Direction.the-variants.{Incoming, Outgoing}
 use Rattle.multiportgraph.specs.CountLaws.{length-range}
 use Rattle.multiportgraph.specs.Graph.{emptyGraph}
 use Rattle.multiportgraph.specs.Inner.{inner#}
-use Rattle.multiportgraph.specs.Places.{Wire, Spot, spot, flag}
+use Rattle.multiportgraph.specs.Places.{Wire, spot, flag}
 use Rattle.multiportgraph.specs.declared.multiportgraph.MultiPortGraph.{MultiPortGraph}
 use Rattle.multiportgraph.specs.declared.multiportgraph.SubportIndex.{SubportIndex}
 use Rattle.multiportgraph.specs.declared.multiportgraph.AddAnswer.the-variants as add
@@ -32,22 +31,14 @@ use Rattle.theorems.specs.WireRule.{Rel, spot-of}
 use Rattle.theorems.specs.CallLaws.{rel-step, rel-run}
 use Rattle.files.specs.View.{BlockPorts, RankWire, View, rankWire, viewOf}
 use Rattle.files.specs.Loading.{blockAt, firstPort, outPort, inPort, addOf, linkOf, buildOf, afterCall, firstRefusal}
-use Rattle.files.specs.Claims.{rankIn, sameWire, howMany, wiresBetween, HasBlock, At, AtMost}
+use Rattle.files.specs.Claims.{rankIn, sameWire, howMany, wiresBetween, HasBlock, At, Sound}
 use Rattle.files.specs.OrderLaws.{wires-by-counts}
 use Rattle.files.specs.RankLaws.{same-positions}
 use Rattle.files.specs.ViewLaws.{blocks-viewed, wires-viewed}
 use Rattle.files.specs.WiringLaws.{wires-rise}
 use Rattle.files.specs.NextSlots.{blockFrom, NextSlots, next-slots}
 use Rattle.files.specs.declared.load.LoadAnswer.{LoadAnswer}
-use Rattle.files.specs.declared.load.LoadAnswer.the-variants.{Loaded, BadSums, BadLayout, Refused}
-
--- The wires of a view are sorted and run between ports of its blocks.
-pub record Sound (v : View) : Type 0 where
-  pub rise : Rising AtMost (v .wires)
-  pub source : (w : RankWire) → Member w (v .wires) → w .source < length (v .blocks)
-  pub output : (w : RankWire) → Member w (v .wires) → w .output < blockAt (v .blocks) (w .source) .outgoing
-  pub target : (w : RankWire) → Member w (v .wires) → w .target < length (v .blocks)
-  pub input : (w : RankWire) → Member w (v .wires) → w .input < blockAt (v .blocks) (w .target) .incoming
+use Rattle.files.specs.declared.load.LoadAnswer.the-variants.{Loaded, Refused}
 
 -- The first refusal of a list of calls.
 

@@ -1,19 +1,18 @@
 -- When the build of a view is refused: the first block or wire that is not to be had, and why.
 use mathlib.Core.Path.{_≡_, refl, sym, ap, _∙_, subst}
-use mathlib.Core.Bool.{Bool, true, false}
+use mathlib.Core.Bool.{true}
 use mathlib.Core.List.{List, [], _∷_, _++_, map}
 use mathlib.Core.Logic.{_⊎_, inl, inr, ⊎-elim, _↔_}
-use Prim.Native.Nat.{ℕ, zero, suc, _+_, _≤_, _<_}
+use Prim.Native.Nat.{ℕ, suc, _+_, _≤_, _<_}
 use native.Mathlib.Omega.{arith}
 use lib.ListN.{length, length-append}
 use Rattle.portgraph.specs.Limits.{nodeSlots, portSlots, nodePorts}
 use Rattle.portgraph.specs.Lists.{Member}
 use Rattle.portgraph.specs.Model as model
-use Rattle.portgraph.specs.Model.{Model, slotOf}
+use Rattle.portgraph.specs.Model.{Model}
 use Rattle.portgraph.specs.Meaning.{growth}
 use Rattle.portgraph.specs.GoodSlots.{zero-is-not-one, slots-apart}
 use Rattle.portgraph.specs.GoodLaws.{emptyModel}
-use Rattle.portgraph.specs.declared.direction.Direction.{Direction}
 use Rattle.portgraph.specs.declared.direction.Direction.the-variants.{Incoming, Outgoing}
 use Rattle.multiportgraph.specs.Calls.{addBlock, linkPair}
 use Rattle.multiportgraph.specs.Graph.{emptyGraph}
@@ -40,9 +39,9 @@ use Rattle.theorems.specs.WireRule.{Rel}
 use Rattle.theorems.specs.CallLaws.{rel-run}
 use Rattle.files.specs.View.{BlockPorts, RankWire, View}
 use Rattle.files.specs.Loading.{firstPort, outPort, inPort, addOf, linkOf, buildOf, afterCall, firstRefusal}
-use Rattle.files.specs.Claims.{At}
+use Rattle.files.specs.Claims.{At, Sound}
 use Rattle.files.specs.NextSlots.{NoFree, blockFrom, none-free-at-first, AddsLaid, adds-laid, next-slots}
-use Rattle.files.specs.BuildLaws.{Sound, range-known, goes-or-stops, refused-not-loaded, accepted-apart, Runs, HasAll, source-port, target-port, links-entered, sound-runs}
+use Rattle.files.specs.BuildLaws.{range-known, goes-or-stops, refused-not-loaded, accepted-apart, Runs, HasAll, source-port, target-port, links-entered, sound-runs}
 use Rattle.files.specs.declared.load.LoadAnswer.{LoadAnswer}
 use Rattle.files.specs.declared.load.LoadAnswer.the-variants.{Loaded, Refused}
 

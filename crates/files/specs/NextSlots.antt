@@ -6,14 +6,14 @@ use mathlib.Core.List.{List, [], _∷_, map}
 use mathlib.Core.Logic.{_⊎_, inl, inr, ⊎-elim}
 use Prim.Native.Nat.{ℕ, zero, suc, _+_, _≤_, _<_}
 use native.Mathlib.Omega.{arith}
-use lib.Dec.{eqb, leb, ltb}
-use lib.ListN.{length, getD}
+use lib.Dec.{leb, ltb}
+use lib.ListN.{length}
 use borrow.Author.Tests.{ne-eqb, leb-true, ltb-true, ltb-false, le-ltb}
 use Rattle.portgraph.specs.Limits.{nodeSlots, portSlots, nodePorts, present}
 use Rattle.portgraph.specs.Lists.{range, filter, Member}
 use Rattle.portgraph.specs.Model.{Model, Chain, numberOfFirst}
 use Rattle.portgraph.specs.Tables.{headAt}
-use Rattle.portgraph.specs.Meaning.{upd, rest, growth, firstOr, nextSlot, nextBlock, addModel}
+use Rattle.portgraph.specs.Meaning.{rest, growth, firstOr, nextSlot, nextBlock, addModel}
 use Rattle.portgraph.specs.SlotHolds.{slotRoom, blockRoom, addWhere, add-law}
 use Rattle.portgraph.specs.GoodSlots.{zero-is-not-one, upd-elim}
 use Rattle.portgraph.specs.GoodLaws.{emptyModel}
@@ -38,8 +38,7 @@ use Rattle.theorems.specs.CallLaws.{call-law}
 use Rattle.files.specs.View.{BlockPorts, RankWire}
 use Rattle.files.specs.Loading.{blockAt, firstPort, outPort, inPort, addOf, afterCall, firstRefusal}
 use Rattle.files.specs.Claims.{rankIn, At}
-use Rattle.files.specs.declared.load.LoadAnswer.{LoadAnswer}
-use Rattle.files.specs.declared.load.LoadAnswer.the-variants.{Loaded, BadSums, BadLayout, Refused}
+use Rattle.files.specs.declared.load.LoadAnswer.the-variants.{Loaded, Refused}
 
 -- One add.
 

@@ -1,7 +1,7 @@
 -- A build that is refused leaves less than the view says: each call enters one block or wire at most, and a refused one none.
-use mathlib.Core.Path.{_≡_, refl, sym, ap, _∙_, subst}
+use mathlib.Core.Path.{_≡_, sym, ap, _∙_}
 use mathlib.Core.Bool.{Bool, true, false, cond, not}
-use mathlib.Core.List.{List, [], _∷_, _++_, map}
+use mathlib.Core.List.{List, [], _∷_, map}
 use mathlib.Core.Logic.{⊎-elim}
 use Prim.Native.Nat.{ℕ, suc, _+_, _≤_, _<_}
 use native.Mathlib.Omega.{arith}
@@ -26,11 +26,10 @@ use Rattle.theorems.specs.HistoryCounts.{visible-links-of-history, visible-node
 use Rattle.theorems.specs.Conditions.{RefusedBy}
 use Rattle.theorems.specs.CallLaws.{rel-run}
 use Rattle.files.specs.View.{View, viewOf}
-use Rattle.files.specs.Loading.{addOf, linkOf, buildOf, afterCall, firstRefusal}
+use Rattle.files.specs.Loading.{addOf, linkOf, buildOf, firstRefusal}
 use Rattle.files.specs.ViewLaws.{view-blocks, view-wires}
 use Rattle.files.specs.BuildLaws.{goes-or-stops}
-use Rattle.files.specs.declared.load.LoadAnswer.{LoadAnswer}
-use Rattle.files.specs.declared.load.LoadAnswer.the-variants.{Loaded, Refused}
+use Rattle.files.specs.declared.load.LoadAnswer.the-variants.{Refused}
 
 -- blocks and wires of a book
 abbrev pub entries : Book → ℕ

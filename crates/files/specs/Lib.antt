@@ -21,6 +21,10 @@
 --   SoundLaws     the tests of a view say that it is sound; what bytes say fits fields
 --   LaidAgain     what is written of a sound view is laid
 --   ViewSound     the view of a graph of the calls is sound
+--   NextSlots     with no free slots an add gives the next node and the next ports
+--   BuildLaws     a sound view whose adds and links are all accepted is the view of the graph built
+--   PartlyBuilt   what a refused build leaves is not the view to be built
+--   BuildRefusals when a build is refused, with 3 or with 10
 pub mod View
 pub mod Layout
 pub mod Saving
@@ -39,6 +43,10 @@ pub mod WrittenLaws
 pub mod SoundLaws
 pub mod LaidAgain
 pub mod ViewSound
+pub mod NextSlots
+pub mod BuildLaws
+pub mod PartlyBuilt
+pub mod BuildRefusals
 -- the code's own forms
 pub mod Forms
 -- steps that the functions' proofs cite

@@ -40,28 +40,11 @@ use Rattle.theorems.specs.CallLaws.{rel-run}
 use Rattle.files.specs.View.{BlockPorts, RankWire, View}
 use Rattle.files.specs.Loading.{firstPort, outPort, inPort, addOf, linkOf, buildOf, afterCall, firstRefusal}
 use Rattle.files.specs.Claims.{At, Sound}
+use Rattle.files.specs.LoadClaims.{withFirst, BuildRefused, build-many, build-no-block, build-no-wire}
 use Rattle.files.specs.NextSlots.{NoFree, blockFrom, none-free-at-first, AddsLaid, adds-laid, next-slots}
 use Rattle.files.specs.BuildLaws.{range-known, goes-or-stops, refused-not-loaded, accepted-apart, Runs, HasAll, source-port, target-port, links-entered, sound-runs}
 use Rattle.files.specs.declared.load.LoadAnswer.{LoadAnswer}
 use Rattle.files.specs.declared.load.LoadAnswer.the-variants.{Loaded, Refused}
-
--- a view's blocks with the first of its wires
-abbrev pub withFirst : View → List RankWire → View
-withFirst v ws = record { blocks = v .blocks; wires = ws }
-
--- All before this block or wire are accepted, and this one is refused:
-pub data BuildRefused (v : View) : Refusal → Type 0 where
-  -- a block has too many ports,
-  build-many : (first : List BlockPorts) (b : BlockPorts) (later : List BlockPorts) → v .blocks ≡ first ++ (b ∷ later) → firstRefusal emptyGraph (map addOf first) ≡ Loaded →
-      nodePorts < b .incoming + b .outgoing → BuildRefused v TooManyPorts
-  -- or the node slots end with the block before it, or it would end beyond the port slots,
-  build-no-block : (first : List BlockPorts) (b : BlockPorts) (later : List BlockPorts) → v .blocks ≡ first ++ (b ∷ later) → firstRefusal emptyGraph (map addOf first) ≡ Loaded →
-      b .incoming + b .outgoing ≤ nodePorts → (nodeSlots < suc (length first)) ⊎ (portSlots < firstPort first (length first) + (b .incoming + b .outgoing)) →
-      BuildRefused v NoRoom
-  -- or the works of a link overflow
-  build-no-wire : (first : List RankWire) (w : RankWire) (later : List RankWire) → v .wires ≡ first ++ (w ∷ later) → firstRefusal emptyGraph (buildOf (withFirst v first)) ≡ Loaded →
-      overflows (roomOf (rel-run (buildOf (withFirst v first)) .0)) (linkWorks (run (buildOf (withFirst v first)) .graph) (outPort (v .blocks) w) (inPort (v .blocks) w)) ≡ true →
-      BuildRefused v NoRoom
 
 -- The first refusal of a list.
 

@@ -1,13 +1,15 @@
--- A wiring as a file on the stick (document 02, Req 05).
+-- A wiring as a file on the stick: saved and loaded (document 02, Req 05 and 06).
 --
 -- What must be believed, in this order: that these definitions, over those of the multiport graph, say what 02 says.
 --   View          the view of a graph: blocks by rank, wires between ports by rank, sorted
 --   Layout        the bytes of a view, and the view that any bytes say
 --   Saving        the file of a graph; what saving answers and leaves in the lent buffer; refusal 15
 --   Loading       what a file is held to (16, 17), the calls that build its wiring, what a load answers and gives
---   Claims        the words of the theorems: the same wiring, over the wire book; sizes
+--   Claims        the words of the theorems: the same wiring, over the wire book; sizes; sound views
+--   LoadClaims    when a build is refused
 -- Then what is proved of them:
---   FileTheorems  every theorem with a sentence and its statement
+--   FileTheorems  of saving: every theorem with a sentence and its statement
+--   LoadTheorems  of loading, in the same way
 --   LayoutExample one small file, byte by byte
 --
 -- What is proved, and need not be believed: everything else.
@@ -25,12 +27,15 @@
 --   BuildLaws     a sound view whose adds and links are all accepted is the view of the graph built
 --   PartlyBuilt   what a refused build leaves is not the view to be built
 --   BuildRefusals when a build is refused, with 3 or with 10
+--   LoadAnswers   the answers of a load, case by case
 pub mod View
 pub mod Layout
 pub mod Saving
 pub mod Loading
 pub mod Claims
+pub mod LoadClaims
 pub mod FileTheorems
+pub mod LoadTheorems
 pub mod LayoutExample
 -- laws
 pub mod OrderLaws
@@ -47,6 +52,7 @@ pub mod NextSlots
 pub mod BuildLaws
 pub mod PartlyBuilt
 pub mod BuildRefusals
+pub mod LoadAnswers
 -- the code's own forms
 pub mod Forms
 -- steps that the functions' proofs cite

@@ -4,6 +4,7 @@
 --   View          the view of a graph: blocks by rank, wires between ports by rank, sorted
 --   Layout        the bytes of a view, and the view that any bytes say
 --   Saving        the file of a graph; what saving answers and leaves in the lent buffer; refusal 15
+--   Loading       what a file is held to (16, 17), the calls that build its wiring, what a load answers and gives
 --   Claims        the words of the theorems: the same wiring, over the wire book; sizes
 -- Then what is proved of them:
 --   FileTheorems  every theorem with a sentence and its statement
@@ -18,6 +19,7 @@
 pub mod View
 pub mod Layout
 pub mod Saving
+pub mod Loading
 pub mod Claims
 pub mod FileTheorems
 pub mod LayoutExample

@@ -31,9 +31,11 @@ pub mod ViewLaws
 pub mod WiringLaws
 -- the code's own forms
 pub mod Forms
+pub mod LoadForms
 -- steps that the functions' proofs cite
 pub mod TurnSteps
 pub mod ByteSteps
 pub mod SortSteps
 pub mod UnitSteps
 pub mod SaveSteps
+pub mod CheckSteps

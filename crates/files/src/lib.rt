@@ -1,5 +1,6 @@
-// A wiring as a file: saving it.
+// A wiring as a file: saving and loading it.
 pub mod bytes;
+pub mod check;
 pub mod load;
 pub mod ranks;
 pub mod save;

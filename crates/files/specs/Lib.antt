@@ -16,6 +16,7 @@
 --   RankLaws      ranks among the graph's blocks and in the book
 --   ViewLaws      the numbers, counts, blocks and wires of a graph's view
 --   WiringLaws    one view exactly if the same wiring
+--   LaidLaws      what a laid file is, and where its records stand
 pub mod View
 pub mod Layout
 pub mod Saving
@@ -29,6 +30,7 @@ pub mod LayoutLaws
 pub mod RankLaws
 pub mod ViewLaws
 pub mod WiringLaws
+pub mod LaidLaws
 -- the code's own forms
 pub mod Forms
 pub mod LoadForms

@@ -41,3 +41,4 @@ pub mod SortSteps
 pub mod UnitSteps
 pub mod SaveSteps
 pub mod CheckSteps
+pub mod WireSteps

@@ -45,3 +45,39 @@ pub record ShapeIs (bytes : List ℕ) (right : Bool) (blocks wires : ℕ) : Type
   pub units : right ≡ unitsRight (unitList bytes)
   pub blocksMany : right ≡ true → blocks ≡ length (unbytes bytes .blocks)
   pub wiresMany : right ≡ true → wires ≡ length (unbytes bytes .wires)
+
+-- Records by their number.
+
+-- the byte position of a record, among those of the units from one on
+abbrev pub placeOf : ℕ → ℕ → ℕ
+placeOf unit i = 512 * (unit + i / 63) + 4 + 8 * (i % 63)
+
+-- the record at a byte position
+abbrev pub recordIn : List ℕ → ℕ → Record
+recordIn bytes at = record { a = fieldAt bytes at; b = fieldAt bytes (at + 2); c = fieldAt bytes (at + 4); d = fieldAt bytes (at + 6) }
+
+abbrev pub noWire : RankWire
+noWire = record { source = 0; output = 0; target = 0; input = 0 }
+
+-- so many blocks, each read where it stands
+pub record BlocksRead (bytes : List ℕ) (n : ℕ) : Type 0 where
+  pub many : length (unbytes bytes .blocks) ≡ n
+  pub each : (i : ℕ) → i < n → blockAt (unbytes bytes .blocks) i ≡ blockOf (recordIn bytes (placeOf 0 i))
+  pub there : (i : ℕ) → i < n → placeOf 0 i + 8 ≤ length bytes
+
+-- so many wires, from a unit on
+pub record WiresRead (bytes : List ℕ) (unit n : ℕ) : Type 0 where
+  pub many : length (unbytes bytes .wires) ≡ n
+  pub each : (i : ℕ) → i < n → getD (unbytes bytes .wires) i noWire ≡ wireOf (recordIn bytes (placeOf unit i))
+  pub there : (i : ℕ) → i < n → placeOf unit i + 8 ≤ length bytes
+
+-- Wires.
+
+-- a wire goes from an output of a block to an input of one
+unfoldable pub wireFits : List BlockPorts → RankWire → Bool
+wireFits blocks w = ranksRight blocks w && positionsRight blocks w
+
+-- wires one after the other, the first not before one of a number
+unfoldable pub wiresFit : List BlockPorts → ℕ → List RankWire → Bool
+wiresFit blocks n [] = true
+wiresFit blocks n (w ∷ l) = leb n (wireNumber w) && (wireFits blocks w && wiresFit blocks (wireNumber w) l)

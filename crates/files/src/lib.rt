@@ -6,3 +6,4 @@ pub mod ranks;
 pub mod save;
 pub mod sort;
 pub mod units;
+pub mod wires;

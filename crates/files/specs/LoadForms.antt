@@ -6,17 +6,24 @@ use mathlib.Core.List.{List, [], _∷_}
 use Prim.Native.Nat.{ℕ, zero, suc, _+_, _*_, _/_, _%_, _≤_, _<_}
 use lib.Dec.{eqb, leb, ltb}
 use lib.ListN.{length, getD}
+use Rattle.portgraph.specs.Limits.{nodeSlots}
+use Rattle.multiportgraph.specs.Graph.{emptyGraph}
 use Rattle.multiportgraph.specs.Inner.{MultiWf}
+use Rattle.multiportgraph.specs.declared.multiportgraph.AddAnswer.{AddAnswer}
+use Rattle.multiportgraph.specs.declared.multiportgraph.AddAnswer.the-variants as add
+use Rattle.multiportgraph.specs.declared.multiportgraph.LinkAnswer.{LinkAnswer}
+use Rattle.multiportgraph.specs.declared.multiportgraph.LinkAnswer.the-variants as link
 use Rattle.multiportgraph.specs.declared.multiportgraph.MultiPortGraph.{MultiPortGraph}
 use Rattle.theorems.specs.Book.{Call}
-use Rattle.theorems.specs.History.{step}
-use Rattle.files.specs.View.{BlockPorts, RankWire}
-use Rattle.files.specs.Layout.{Record, fieldAt, blockOf, wireOf, unitRecords, unbytes}
-use Rattle.files.specs.Loading.{kindOf, countOf, unitList, zerosRight, unitsRight, ranksRight, blockAt, positionsRight, firstPort, firstRefusal}
+use Rattle.theorems.specs.History.{step, run}
+use Rattle.files.specs.View.{BlockPorts, RankWire, View}
+use Rattle.files.specs.Layout.{Record, fieldAt, blockOf, wireOf, unitRecords, unitsFor, unbytes}
+use Rattle.files.specs.Loading.{kindOf, countOf, unitList, zerosRight, unitsRight, ranksRight, blockAt, positionsRight, viewRight, isLaid, firstPort, buildOf, afterCall, firstRefusal, graphIf}
 use Rattle.files.specs.Forms.{numberOf}
 use Rattle.files.specs.SortSteps.{wireNumber}
 use Rattle.files.specs.declared.load.LoadAnswer.{LoadAnswer}
-use Rattle.files.specs.declared.load.LoadAnswer.the-variants.{Loaded}
+use Rattle.files.specs.declared.load.LoadAnswer.the-variants.{Loaded, BadSums, BadLayout, Refused}
+use Rattle.files.specs.declared.load.FileLoaded.{FileLoaded}
 
 -- Units.
 
@@ -81,3 +88,64 @@ wireFits blocks w = ranksRight blocks w && positionsRight blocks w
 unfoldable pub wiresFit : List BlockPorts → ℕ → List RankWire → Bool
 wiresFit blocks n [] = true
 wiresFit blocks n (w ∷ l) = leb n (wireNumber w) && (wireFits blocks w && wiresFit blocks (wireNumber w) l)
+
+-- laid as the writer lays a file, or not; then so many blocks and wires, each read where it stands
+pub record Laid (bytes : List ℕ) (right : Bool) (blocks wires : ℕ) : Type 0 where
+  pub answer : right ≡ isLaid bytes
+  pub blocksAre : right ≡ true → BlocksRead bytes blocks
+  pub wiresAre : right ≡ true → WiresRead bytes (unitsFor blocks) wires
+  pub sound : right ≡ true → viewRight (unbytes bytes) ≡ true
+
+-- Building.
+
+-- an add, and a link, as a load tells it
+abbrev pub addTold : AddAnswer → LoadAnswer
+addTold (add.Added n p) = Loaded
+addTold (add.Refused r) = Refused r
+
+abbrev pub linkTold : LinkAnswer → LoadAnswer
+linkTold (link.Linked s t) = Loaded
+linkTold (link.Refused r) = Refused r
+
+abbrev pub isLoaded : LoadAnswer → Bool
+isLoaded Loaded = true
+isLoaded BadSums = false
+isLoaded BadLayout = false
+isLoaded (Refused r) = false
+
+-- the graph after calls
+unfoldable pub graphAfter : MultiPortGraph → List Call → MultiPortGraph
+graphAfter m [] = m
+graphAfter m (c ∷ l) = graphAfter (step m c .graph) l
+
+-- one call, as a load tells it
+pub record StepIs (m : MultiPortGraph) (c : Call) (m′ : MultiPortGraph) (a : LoadAnswer) : Type 0 where
+  pub graph : m′ ≡ step m c .graph
+  pub told : a ≡ afterCall c (step m c .answer) Loaded
+  pub kept : MultiWf m′
+
+-- calls, as far as the first that is refused
+pub record Built (m : MultiPortGraph) (calls : List Call) (m′ : MultiPortGraph) (a : LoadAnswer) : Type 0 where
+  pub told : a ≡ firstRefusal m calls
+  pub graph : isLoaded a ≡ true → m′ ≡ graphAfter m calls
+  pub kept : MultiWf m′
+
+-- a table of the first ports of blocks
+pub record Firsts (table bytes : List ℕ) (blocks : ℕ) : Type 0 where
+  pub each : (r : ℕ) → r < blocks → getD table r 0 ≡ firstPort (unbytes bytes .blocks) r
+  pub small : (r : ℕ) → r < blocks → getD table r 0 ≤ 131070 * r
+
+-- a wire at a byte position whose ports can be told
+pub record Linkable (table bytes : List ℕ) (blocks at : ℕ) : Type 0 where
+  pub firsts : Firsts table bytes blocks
+  pub read : BlocksRead bytes blocks
+  pub few : blocks ≤ nodeSlots
+  pub room : at + 8 ≤ length bytes
+  pub source : fieldAt bytes at < blocks
+  pub target : fieldAt bytes (at + 4) < blocks
+
+-- what the build of a view gives
+pub record BuildIs (v : View) (r : FileLoaded) : Type 0 where
+  pub answer : r .answer ≡ firstRefusal emptyGraph (buildOf v)
+  pub graph : r .graph ≡ graphIf (firstRefusal emptyGraph (buildOf v)) (run (buildOf v) .graph)
+  pub kept : MultiWf (r .graph)

@@ -1,4 +1,5 @@
 // A wiring as a file: saving and loading it.
+pub mod build;
 pub mod bytes;
 pub mod check;
 pub mod load;

@@ -42,3 +42,4 @@ pub mod UnitSteps
 pub mod SaveSteps
 pub mod CheckSteps
 pub mod WireSteps
+pub mod BuildSteps

@@ -1,3 +1,9 @@
+-- `files::wires::wire_fits` meets its contract: one test after the other.
+use native.Mathlib.Omega.{arith}
+use mathlib.Core.Path.{ap, _∙_}
+use Prim.Native.Nat.{ℕ, _+_}
+use Rattle.files.specs.Layout.{fieldAt}
+use Rattle.files.specs.WireSteps.{source-wrong, target-wrong, output-wrong, input-tested}
 use borrow.Author.Needs.{needs}
 use Rattle.files.proofs.wires.wire_fits.Statement.{statement}
 use Rattle.files.proofs.wires.wire_fits.Tie as tie
@@ -6,69 +12,53 @@ use Rattle.files.proofs.wires.wire_fits.Lts as lts
 use Rattle.files.proofs.bytes.field_at.Reads as field-at-reads
 use Rattle.files.proofs.wires.place.Reads as place-reads
 
--- src/wires.rt:36:18
 field-at-requires : tie.Need-field-at-requires
 field-at-requires c κs = search needs
 
--- src/wires.rt:37:33
 add-field-at : tie.Need-add-field-at
 add-field-at c = search needs
 
--- src/wires.rt:37:18
 field-at-requires-2 : tie.Need-field-at-requires-2
 field-at-requires-2 c κs = search needs
 
--- src/wires.rt:39:9
 returns : tie.Need-returns
-returns c = ?
+returns c = source-wrong (c .before .before .before .before .args .file .now) (c .before .before .before .before .args .blocks) (c .before .before .before .before .args .at) _ _ (c .before .before .before .before .pre .0) (c .before .before .field-at .ensures .0) (c .before .field-at2 .ensures .0) (c .if1 .taken)
 
--- src/wires.rt:42:9
 returns-2 : tie.Need-returns-2
-returns-2 c = ?
+returns-2 c = target-wrong (c .before .before .before .before .before .args .file .now) (c .before .before .before .before .before .args .blocks) (c .before .before .before .before .before .args .at) _ _ (c .before .before .before .before .before .pre .0) (c .before .before .before .field-at .ensures .0) (c .before .before .field-at2 .ensures .0) (c .if2 .taken)
 
--- src/wires.rt:44:34
 place-requires : tie.Need-place-requires
 place-requires c κs = search needs
 
--- src/wires.rt:44:34
 add-field-at-2 : tie.Need-add-field-at-2
 add-field-at-2 c = search needs
 
--- src/wires.rt:44:9
 field-at-requires-3 : tie.Need-field-at-requires-3
-field-at-requires-3 c κs = ?
+field-at-requires-3 c κs = let h = c .before .before .before .before .before .before .pre .0 .there (c .before .before .before .before .field-at .result) (c .before .before .if1 .left) in omega (arith, c .place .ensures)
 
--- src/wires.rt:45:33
 place-requires-2 : tie.Need-place-requires-2
 place-requires-2 c κs = search needs
 
--- src/wires.rt:45:9
 field-at-requires-4 : tie.Need-field-at-requires-4
-field-at-requires-4 c κs = ?
+field-at-requires-4 c κs = let h = c .before .before .before .before .before .before .before .before .pre .0 .there (c .before .before .before .before .before .field-at2 .result) (c .before .before .before .if2 .left) in omega (arith, c .place2 .ensures)
 
--- src/wires.rt:46:34
 add-field-at-3 : tie.Need-add-field-at-3
 add-field-at-3 c = search needs
 
--- src/wires.rt:46:19
 field-at-requires-5 : tie.Need-field-at-requires-5
 field-at-requires-5 c κs = search needs
 
--- src/wires.rt:47:9
 returns-3 : tie.Need-returns-3
-returns-3 c = ?
+returns-3 c = output-wrong (c .before .before .before .before .before .before .before .before .before .before .before .args .file .now) (c .before .before .before .before .before .before .before .before .before .before .before .args .blocks) (c .before .before .before .before .before .before .before .before .before .before .before .args .at) _ _ (c .before .before .before .before .before .before .before .before .before .before .before .pre .0) (c .before .before .before .before .before .before .before .before .before .field-at .ensures .0) (c .before .before .before .before .before .before .before .before .field-at2 .ensures .0) (c .before .before .before .before .before .before .before .if1 .left) (c .before .before .before .before .before .before .if2 .left) _ _ (c .before .before .before .before .field-at3 .ensures .0 ∙ ap (λ (p : ℕ). fieldAt (c .before .before .before .before .before .before .before .before .before .before .before .args .file .now) (p + 2)) (c .before .before .before .before .before .place .ensures)) (c .before .before .field-at4 .ensures .0 ∙ ap (fieldAt (c .before .before .before .before .before .before .before .before .before .before .before .args .file .now)) (c .before .before .before .place2 .ensures)) _ (c .before .field-at5 .ensures .0) (c .if3 .taken)
 
--- src/wires.rt:49:20
 add-field-at-4 : tie.Need-add-field-at-4
 add-field-at-4 c = search needs
 
--- src/wires.rt:49:5
 field-at-requires-6 : tie.Need-field-at-requires-6
 field-at-requires-6 c κs = search needs
 
--- src/wires.rt:32:1
 returns-4 : tie.Need-returns-4
-returns-4 c = ?
+returns-4 c = input-tested (c .before .before .before .before .before .before .before .before .before .before .before .before .args .file .now) (c .before .before .before .before .before .before .before .before .before .before .before .before .args .blocks) (c .before .before .before .before .before .before .before .before .before .before .before .before .args .at) _ _ (c .before .before .before .before .before .before .before .before .before .before .before .before .pre .0) (c .before .before .before .before .before .before .before .before .before .before .field-at .ensures .0) (c .before .before .before .before .before .before .before .before .before .field-at2 .ensures .0) (c .before .before .before .before .before .before .before .before .if1 .left) (c .before .before .before .before .before .before .before .if2 .left) _ _ (c .before .before .before .before .before .field-at3 .ensures .0 ∙ ap (λ (p : ℕ). fieldAt (c .before .before .before .before .before .before .before .before .before .before .before .before .args .file .now) (p + 2)) (c .before .before .before .before .before .before .place .ensures)) (c .before .before .before .field-at4 .ensures .0 ∙ ap (fieldAt (c .before .before .before .before .before .before .before .before .before .before .before .before .args .file .now)) (c .before .before .before .before .place2 .ensures)) _ _ (c .before .before .field-at5 .ensures .0) (c .field-at6 .ensures .0) (c .before .if3 .left)
 
 pub wire-fits-spec : {M : Type 1} → statement M
 wire-fits-spec =

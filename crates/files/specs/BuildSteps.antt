@@ -7,17 +7,21 @@ use mathlib.Core.Logic.{inl, inr}
 use Prim.Native.Nat.{ℕ, zero, suc, _+_, _-_, _*_, _/_, _%_, _≤_, _<_}
 use native.Mathlib.Omega.{arith}
 use lib.Dec.{eqb, ltb}
-use lib.ListN.{length, getD, set, drop, drop-of-length-le, length-set}
+use lib.ListN.{length, getD, set, drop, replicate, drop-of-length-le, length-set}
 use lib.Seq.{drop-cons, getD-set-same, getD-set-other}
 use borrow.Author.Tests.{ltb-true, eqb-true, eqb-false}
-use Rattle.portgraph.specs.Limits.{nodeSlots}
+use Rattle.portgraph.specs.Limits.{nodeSlots, portSlots, freeLists}
+use Rattle.portgraph.specs.Lent.{nodeWords}
 use Rattle.portgraph.specs.Model.{Model}
 use Rattle.multiportgraph.specs.Calls.{addBlock, linkPair, visibleNodes}
 use Rattle.multiportgraph.specs.CountLaws.{visible-nodes}
 use Rattle.multiportgraph.specs.Frame.{true-not-false}
 use Rattle.multiportgraph.specs.Graph.{emptyGraph}
 use Rattle.multiportgraph.specs.Inner.{MultiWf}
+use Rattle.multiportgraph.specs.LentLaws.{empty-in}
 use Rattle.multiportgraph.specs.Listing.{length-map}
+use Rattle.multiportgraph.specs.MultiLent.{multiIn, noHeld}
+use Rattle.multiportgraph.specs.declared.lent.Held.{Held}
 use Rattle.multiportgraph.specs.declared.multiportgraph.MultiPortGraph.{MultiPortGraph}
 use Rattle.multiportgraph.specs.declared.multiportgraph.AddAnswer.{AddAnswer}
 use Rattle.multiportgraph.specs.declared.multiportgraph.AddAnswer.the-variants as add
@@ -302,7 +306,19 @@ laid-is {bytes} {r = r} s e b w f =
       sound = λ h. sym f ∙ h;
     }
 
+-- so few blocks that a few more fit a number of the machine
+pub blocks-short : {bytes : List ℕ} (n : ℕ) → BlocksRead bytes n → n + n ≤ length bytes
+blocks-short zero r = omega arith
+blocks-short (suc n) r = let h = r .there n (omega arith) in omega arith
+
 -- The whole build.
+
+-- tables without anything are the empty graph
+pub tables-empty : (held : Held) → held ≡ noHeld →
+    multiIn (replicate nodeWords 0) (replicate portSlots 0) (replicate portSlots 0) (replicate freeLists 0) (replicate portSlots false) (replicate nodeSlots false) held ≡ emptyGraph
+tables-empty held e =
+    ap (multiIn (replicate nodeWords 0) (replicate portSlots 0) (replicate portSlots 0) (replicate freeLists 0) (replicate portSlots false) (replicate nodeSlots false)) e
+    ∙ empty-in
 
 first-append : (m : MultiPortGraph) (a b : List Call) → isLoaded (firstRefusal m a) ≡ true → firstRefusal m (a ++ b) ≡ firstRefusal (graphAfter m a) b
 unfolding firstRefusal graphAfter
@@ -396,7 +412,10 @@ module _ (v : View) where
   abbrev links : List Call
   links = map (linkOf (v .blocks)) (v .wires)
 
-  module _ {m₁ : MultiPortGraph} {a₁ : LoadAnswer} (first : Built emptyGraph adds m₁ a₁) where
+  module _ {m₀ m₁ : MultiPortGraph} {a₁ : LoadAnswer} (start : m₀ ≡ emptyGraph) (added : Built m₀ adds m₁ a₁) where
+    first : Built emptyGraph adds m₁ a₁
+    first = subst (λ (m : MultiPortGraph). Built m adds m₁ a₁) start added
+
     pub blocks-fit-table : isLoaded a₁ ≡ true → length (v .blocks) ≤ nodeSlots
     blocks-fit-table h = adds-few (v .blocks) (ap isLoaded (sym (first .told)) ∙ h)
 

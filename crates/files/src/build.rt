@@ -133,11 +133,12 @@ pub(crate) fn add_blocks(
     }
 }
 
-// Enters the first port of each block.
+// Enters the first port of each block in a table, whatever it holds.
 pub(crate) fn fill_firsts(firsts: &mut [u32; NODE_SLOTS], file: &[u8], blocks: usize)
     requires { ⌜ BlocksRead (now file) blocks × (blocks ≤ nodeSlots) ⌝ }
     ensures { λ _. ⌜ Firsts (now (firsts .exit)) (now (file .entry)) blocks ⌝ }
 {
+    *firsts = [0; NODE_SLOTS];
     let mut next: u64 = 0;
     let mut i: usize = 0;
     while i < blocks {

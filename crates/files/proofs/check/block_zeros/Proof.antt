@@ -9,9 +9,6 @@ use Rattle.files.specs.Loading.{every, blockZeros}
 use Rattle.files.specs.CheckSteps.{block-zeros-not, block-zeros-next, block-zeros-end}
 use Rattle.files.proofs.check.block_zeros.Statement.{statement}
 use Rattle.files.proofs.check.block_zeros.Tie as tie
-use Rattle.files.proofs.check.block_zeros.Reads as reads
-use Rattle.files.proofs.check.block_zeros.Lts as lts
-use Rattle.files.proofs.bytes.word_at.Reads as word-at-reads
 
 abbrev Inv-loop : tie.InvT-loop
 Inv-loop unit count i₀ i = (i ≤ count) × (every blockZeros (recordsAt (count - i) (drop (4 + 8 * i) unit)) ≡ every blockZeros (recordsAt count (drop 4 unit)))

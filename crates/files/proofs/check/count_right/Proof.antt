@@ -2,8 +2,6 @@
 use Rattle.files.specs.CheckSteps.{count-none, count-full, count-last}
 use Rattle.files.proofs.check.count_right.Statement.{statement}
 use Rattle.files.proofs.check.count_right.Tie as tie
-use Rattle.files.proofs.check.count_right.Reads as reads
-use Rattle.files.proofs.check.count_right.Lts as lts
 
 -- src/check.rt:56:9
 returns : tie.Need-returns

@@ -8,9 +8,6 @@ use borrow.Author.Tests.{not-true, not-false}
 use Rattle.files.specs.CheckSteps.{Summing, odd-file, sums-begin, sum-wrong, sum-right, sums-end, whole-unit, rest-is}
 use Rattle.files.proofs.check.is_whole.Statement.{statement}
 use Rattle.files.proofs.check.is_whole.Tie as tie
-use Rattle.files.proofs.check.is_whole.Reads as reads
-use Rattle.files.proofs.check.is_whole.Lts as lts
-use Rattle.files.proofs.check.sum_holds.Reads as sum-holds-reads
 
 abbrev Inv-loop : tie.InvT-loop
 Inv-loop file rest₀ rest = Summing file rest

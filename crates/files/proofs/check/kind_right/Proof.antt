@@ -2,8 +2,6 @@
 use Rattle.files.specs.CheckSteps.{kind-blocks, kind-before, kind-other}
 use Rattle.files.proofs.check.kind_right.Statement.{statement}
 use Rattle.files.proofs.check.kind_right.Tie as tie
-use Rattle.files.proofs.check.kind_right.Reads as reads
-use Rattle.files.proofs.check.kind_right.Lts as lts
 
 -- src/check.rt:43:9
 returns : tie.Need-returns

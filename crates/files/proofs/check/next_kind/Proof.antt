@@ -3,9 +3,6 @@ use Rattle.files.specs.CheckSteps.{no-next, next-is}
 use borrow.Author.Needs.{needs}
 use Rattle.files.proofs.check.next_kind.Statement.{statement}
 use Rattle.files.proofs.check.next_kind.Tie as tie
-use Rattle.files.proofs.check.next_kind.Reads as reads
-use Rattle.files.proofs.check.next_kind.Lts as lts
-use Rattle.files.proofs.bytes.field_at.Reads as field-at-reads
 
 -- src/check.rt:122:9
 returns : tie.Need-returns

@@ -10,11 +10,6 @@ use Rattle.files.specs.Layout.{fieldAt}
 use Rattle.files.specs.CheckSteps.{Shaping, shape-begins, shape-broken, shape-few, shape-blocks, shape-wires, shape-ends, whole-unit, rest-is}
 use Rattle.files.proofs.check.shape_of.Statement.{statement}
 use Rattle.files.proofs.check.shape_of.Tie as tie
-use Rattle.files.proofs.check.shape_of.Reads as reads
-use Rattle.files.proofs.check.shape_of.Lts as lts
-use Rattle.files.proofs.bytes.field_at.Reads as field-at-reads
-use Rattle.files.proofs.check.next_kind.Reads as next-kind-reads
-use Rattle.files.proofs.check.unit_right.Reads as unit-right-reads
 
 abbrev Inv-loop : tie.InvT-loop
 Inv-loop file rest₀ blocks₀ wires₀ rest blocks wires = Shaping file rest blocks wires

@@ -3,10 +3,6 @@ use Rattle.files.specs.CheckSteps.{sum-is}
 use borrow.Author.Needs.{needs}
 use Rattle.files.proofs.check.sum_holds.Statement.{statement}
 use Rattle.files.proofs.check.sum_holds.Tie as tie
-use Rattle.files.proofs.check.sum_holds.Reads as reads
-use Rattle.files.proofs.check.sum_holds.Lts as lts
-use Rattle.files.proofs.bytes.word_at.Reads as word-at-reads
-use Rattle.files.proofs.units.sum_words.Reads as sum-words-reads
 
 -- src/check.rt:18:5
 word-at-requires : tie.Need-word-at-requires

@@ -6,13 +6,6 @@ use native.Mathlib.Omega.{arith}
 use borrow.Author.Needs.{needs}
 use Rattle.files.proofs.check.unit_right.Statement.{statement}
 use Rattle.files.proofs.check.unit_right.Tie as tie
-use Rattle.files.proofs.check.unit_right.Reads as reads
-use Rattle.files.proofs.check.unit_right.Lts as lts
-use Rattle.files.proofs.bytes.field_at.Reads as field-at-reads
-use Rattle.files.proofs.check.block_zeros.Reads as block-zeros-reads
-use Rattle.files.proofs.check.count_right.Reads as count-right-reads
-use Rattle.files.proofs.check.kind_right.Reads as kind-right-reads
-use Rattle.files.proofs.check.zeros_from.Reads as zeros-from-reads
 
 field-at-requires : tie.Need-field-at-requires
 field-at-requires c κs = search needs

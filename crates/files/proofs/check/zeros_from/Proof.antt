@@ -9,8 +9,6 @@ use Rattle.files.specs.Loading.{every}
 use Rattle.files.specs.CheckSteps.{zero-not, zero-next, zeros-end}
 use Rattle.files.proofs.check.zeros_from.Statement.{statement}
 use Rattle.files.proofs.check.zeros_from.Tie as tie
-use Rattle.files.proofs.check.zeros_from.Reads as reads
-use Rattle.files.proofs.check.zeros_from.Lts as lts
 
 abbrev Inv-loop : tie.InvT-loop
 Inv-loop unit from i₀ i = (i ≤ 508) × (every (eqb 0) (take (508 - i) (drop i unit)) ≡ every (eqb 0) (take (508 - from) (drop from unit)))

@@ -3,9 +3,6 @@ use Rattle.files.specs.WireSteps.{number-read}
 use borrow.Author.Needs.{needs}
 use Rattle.files.proofs.wires.number_at.Statement.{statement}
 use Rattle.files.proofs.wires.number_at.Tie as tie
-use Rattle.files.proofs.wires.number_at.Reads as reads
-use Rattle.files.proofs.wires.number_at.Lts as lts
-use Rattle.files.proofs.bytes.field_at.Reads as field-at-reads
 
 field-at-requires : tie.Need-field-at-requires
 field-at-requires c κs = search needs

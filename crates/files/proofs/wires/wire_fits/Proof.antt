@@ -7,10 +7,6 @@ use Rattle.files.specs.WireSteps.{source-wrong, target-wrong, output-wro
 use borrow.Author.Needs.{needs}
 use Rattle.files.proofs.wires.wire_fits.Statement.{statement}
 use Rattle.files.proofs.wires.wire_fits.Tie as tie
-use Rattle.files.proofs.wires.wire_fits.Reads as reads
-use Rattle.files.proofs.wires.wire_fits.Lts as lts
-use Rattle.files.proofs.bytes.field_at.Reads as field-at-reads
-use Rattle.files.proofs.wires.place.Reads as place-reads
 
 field-at-requires : tie.Need-field-at-requires
 field-at-requires c κs = search needs

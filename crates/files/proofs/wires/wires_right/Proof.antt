@@ -7,11 +7,6 @@ use borrow.Author.Tests.{not-true, not-false}
 use Rattle.files.specs.WireSteps.{Wiring, wires-begin, wire-room, order-wrong, wire-wrong, wire-next, wires-end}
 use Rattle.files.proofs.wires.wires_right.Statement.{statement}
 use Rattle.files.proofs.wires.wires_right.Tie as tie
-use Rattle.files.proofs.wires.wires_right.Reads as reads
-use Rattle.files.proofs.wires.wires_right.Lts as lts
-use Rattle.files.proofs.wires.number_at.Reads as number-at-reads
-use Rattle.files.proofs.wires.place.Reads as place-reads
-use Rattle.files.proofs.wires.wire_fits.Reads as wire-fits-reads
 
 abbrev Inv-loop : tie.InvT-loop
 Inv-loop file blocks unit wires before₀ i₀ before i = Wiring file unit wires before i

@@ -5,14 +5,14 @@ use mathlib.Core.Bool.{Bool, true, false, cond, _&&_}
 use mathlib.Core.List.{List, [], _∷_, _++_, map}
 use Prim.Native.Nat.{ℕ, zero, suc, _+_, _-_, _*_, _/_, _%_, _≤_, _<_}
 use native.Mathlib.Omega.{arith}
-use lib.Dec.{eqb, leb, ltb}
+use lib.Dec.{leb, ltb}
 use lib.ListN.{length, getD, take, drop, length-append, List·getD-append}
 use lib.Seq.{drop-drop, getD-take, getD-append-add}
 use borrow.Author.Tests.{eqb-true, eq-eqb, leb-true, ltb-true, ltb-false}
 use Rattle.multiportgraph.specs.Frame.{true-not-false}
 use Rattle.multiportgraph.specs.Listing.{length-map}
 use Rattle.files.specs.View.{BlockPorts, RankWire, View}
-use Rattle.files.specs.Layout.{Record, fieldAt, unitRecords, unitsFor, blockOf, wireOf, recordAt, recordsAt, recordsOf, emptyView, withRecords, withUnit, readUnits, unbytes}
+use Rattle.files.specs.Layout.{Record, fieldAt, unitRecords, unitsFor, blockOf, wireOf, recordAt, recordsAt, recordsOf, readUnits, unbytes}
 use Rattle.files.specs.Loading.{every, unitsIn, unitList, kindOf, countOf, ofKind, kindsRight, goesOn, countsRight, zerosRight, unitsRight}
 
 -- Tests.

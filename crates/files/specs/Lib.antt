@@ -17,6 +17,14 @@
 --   ViewLaws      the numbers, counts, blocks and wires of a graph's view
 --   WiringLaws    one view exactly if the same wiring
 --   LaidLaws      what a laid file is, and where its records stand
+--   WrittenLaws   a laid file is what is written of the view that it says
+--   SoundLaws     the tests of a view say that it is sound; what bytes say fits fields
+--   LaidAgain     what is written of a sound view is laid
+--   ViewSound     the view of a graph of the calls is sound
+--   NextSlots     with no free slots an add gives the next node and the next ports
+--   BuildLaws     a sound view whose adds and links are all accepted is the view of the graph built
+--   PartlyBuilt   what a refused build leaves is not the view to be built
+--   BuildRefusals when a build is refused, with 3 or with 10
 pub mod View
 pub mod Layout
 pub mod Saving
@@ -31,6 +39,14 @@ pub mod RankLaws
 pub mod ViewLaws
 pub mod WiringLaws
 pub mod LaidLaws
+pub mod WrittenLaws
+pub mod SoundLaws
+pub mod LaidAgain
+pub mod ViewSound
+pub mod NextSlots
+pub mod BuildLaws
+pub mod PartlyBuilt
+pub mod BuildRefusals
 -- the code's own forms
 pub mod Forms
 pub mod LoadForms

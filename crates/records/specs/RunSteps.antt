@@ -11,7 +11,7 @@ use Rattle.multiportgraph.specs.Inner.{MultiWf}
 use Rattle.theorems.specs.CallLaws.{empty-kept}
 use Rattle.multiportgraph.specs.declared.multiportgraph.MultiPortGraph.{MultiPortGraph}
 use Rattle.records.specs.Words.{bytesOf, Request, requestAt, requestsFrom, requestsOf}
-use Rattle.records.specs.Run.{Asked, asked, after, numbers, five, Answered, answersFrom, answerBytes, returned, written, listTaken}
+use Rattle.records.specs.Run.{Asked, asked, after, numbers, five, Answered, answersFrom, graphFrom, answerBytes, returned, written, listTaken}
 use Rattle.records.specs.WordLaws.{bytes-append, bytes-long, requests-many}
 use Rattle.records.specs.WordSteps.{sets-parts}
 use Rattle.multiportgraph.specs.Graph.{emptyGraph}
@@ -94,6 +94,32 @@ run-ends {requests} {at = at} r l =
 
 pub run-fits : {requests answers : List ℕ} {m : MultiPortGraph} {at : ℕ} → Running requests answers m at → at < length requests → at + 20 ≤ length requests
 run-fits r l = let h = r .whole in omega arith
+
+-- The same loop where no answer is laid: the graph that the rest leaves is that of the whole list.
+pub record Going (requests : List ℕ) (graph : MultiPortGraph) (at : ℕ) : Type 0 where
+  pub inside : at ≤ length requests
+  pub rest : graphFrom graph (requestsLeft requests at) ≡ graphFrom emptyGraph (requestsOf requests)
+  pub kept : MultiWf graph
+
+pub going-starts : {requests : List ℕ} {m : MultiPortGraph} → m ≡ emptyGraph → Going requests m 0
+unfolding requestsOf
+going-starts {requests} e =
+    let n : length requests - 0 ≡ length requests = omega arith in
+    record { inside = omega arith; rest = rw (e, n) refl; kept = rw e empty-kept }
+
+pub going-turns : {requests : List ℕ} {m m′ : MultiPortGraph} {at : ℕ} {x : Asked} {words : List ℕ} → Going requests m at → 20 ≤ length requests - at
+    → x ≡ asked (requestAt requests at) → Answered m x words m′ → Going requests m′ (at + 20)
+unfolding requestsFrom graphFrom
+going-turns {requests} {m} {m′} {at} {x} {words} r l e d =
+    let n : (length requests - at) / 20 ≡ suc ((length requests - (at + 20)) / 20) = omega arith in
+    let whole : graphFrom m (requestsLeft requests at) ≡ graphFrom (after m x) (requestsLeft requests (at + 20)) = rw (n, e) refl in
+    record { inside = omega arith; rest = rw (d .graph) (sym whole) ∙ r .rest; kept = d .kept }
+
+pub going-ends : {requests : List ℕ} {m : MultiPortGraph} {at : ℕ} → Going requests m at → (20 ≤ length requests - at → ⊥) → m ≡ graphFrom emptyGraph (requestsOf requests)
+unfolding requestsFrom graphFrom
+going-ends {requests} {at = at} r l =
+    let n : (length requests - at) / 20 ≡ 0 = omega arith in
+    rw n at (r .rest)
 
 -- Refusal 1.
 module _ (requests answers : List ℕ) where

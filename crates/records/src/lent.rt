@@ -21,7 +21,9 @@ use multiportgraph::lent::subport_link_in;
 use multiportgraph::lent_blocks::cut_port_in;
 use multiportgraph::lent_blocks::remove_in;
 use multiportgraph::lent_blocks::set_quiet_in;
+use multiportgraph::lent_graph::graph_of_tables;
 use multiportgraph::lent_links::link_in;
+use multiportgraph::multiportgraph::MultiPortGraph;
 use portgraph::index::FREE_LISTS;
 use portgraph::index::NODE_SLOTS;
 use portgraph::index::PORT_SLOTS;
@@ -29,9 +31,11 @@ use portgraph::lent::NODE_WORDS;
 ghost use mathlib.Core.Path.{_≡_};
 ghost use Prim.Native.Nat.{_%_};
 ghost use lib.ListN.{length};
+ghost use Rattle.multiportgraph.specs.Graph.{emptyGraph};
 ghost use Rattle.multiportgraph.specs.Inner.{MultiWf};
 ghost use Rattle.multiportgraph.specs.MultiLent.{multiIn};
-ghost use Rattle.records.specs.Run.{answerBytes, Answered};
+ghost use Rattle.records.specs.Words.{requestsOf};
+ghost use Rattle.records.specs.Run.{answerBytes, Answered, graphFrom};
 ghost use Rattle.records.specs.Forms.{meant, words5};
 
 // What stands outside the tables afterwards, and the five words of the answer.
@@ -192,4 +196,34 @@ pub(crate) fn run_list(requests: &[u8], answers: &mut [u8])
         put_answer(answers, at, words);
         at += 20;
     }
+}
+
+// The graph that a list of requests leaves. What stands after the last whole request is not read.
+pub fn graph_of_requests(requests: &[u8]) -> MultiPortGraph
+    ensures { λ r. ⌜ (r ≡ graphFrom emptyGraph (requestsOf (now (requests .entry)))) × MultiWf r ⌝ }
+{
+    let mut nodes = [0u32; NODE_WORDS];
+    let mut links = [0u32; PORT_SLOTS];
+    let mut owners = [0u32; PORT_SLOTS];
+    let mut heads = [0u32; FREE_LISTS];
+    let mut marks = [false; PORT_SLOTS];
+    let mut flags = [false; NODE_SLOTS];
+    let mut held = no_held();
+    let mut at: usize = 0;
+    while 20 <= requests.len() - at {
+        let ask = ask_at(requests, at);
+        let told = one_request(
+            &mut nodes,
+            &mut links,
+            &mut owners,
+            &mut heads,
+            &mut marks,
+            &mut flags,
+            held,
+            ask,
+        );
+        held = told.held;
+        at += 20;
+    }
+    graph_of_tables(&nodes, &links, &owners, &heads, &marks, &flags, held)
 }

@@ -1,0 +1,13 @@
+-- The entries over files: bytes in, bytes out.
+--
+-- What must be believed: that these definitions, over those of records and files, say what the entries are for.
+--   Exports       what each entry returns and leaves in the lent buffer
+--
+-- What is proved, and need not be believed:
+--   ExportLaws    the files that are written are those of histories
+--   ExportSteps   what the functions' proofs cite
+pub mod Exports
+-- laws
+pub mod ExportLaws
+-- steps
+pub mod ExportSteps

@@ -1,0 +1,2 @@
+// What the tablet's Rust calls on files, over bytes alone.
+pub mod saved;

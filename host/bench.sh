@@ -1,7 +1,7 @@
 #!/usr/bin/env bash
 # The benchmark: prints the tables of docs/SPEED.md. Nothing else should be running; instructions are counted where valgrind is.
-# rt makes librecords.a and, in a copy of the repository, libwalks.a from host/walks, which is no part of what is delivered.
-# KANHTREV_RECORDS and KANHTREV_WALKS (folders with these libraries) take the place of what rt makes.
+# rt makes librecords.a, libexports.a and, in a copy of the repository, libwalks.a from host/walks, which is no part of what is
+# delivered. KANHTREV_RECORDS, KANHTREV_EXPORTS and KANHTREV_WALKS (folders with these libraries) take the place of what rt makes.
 set -euo pipefail
 cd "$(dirname "$0")"
 bash setup.sh
@@ -11,6 +11,7 @@ made() { # FOLDER, WORDS of rt: what it says is shown only if it fails
   (cd "$1" && rt "${@:2}") >"$work/log" 2>&1 || { tail -n 20 "$work/log"; echo "rt ${*:2} failed"; exit 1; }
 }
 [ -n "${KANHTREV_RECORDS:-}" ] || made .. staticlib records
+[ -n "${KANHTREV_EXPORTS:-}" ] || made .. staticlib exports
 if [ -z "${KANHTREV_WALKS:-}" ]; then
   made .. check records
   mkdir -p "$work/copy/target"

@@ -1,7 +1,8 @@
 #!/usr/bin/env bash
 # Everything that runs beside the Rust original: the tests, then the differential run. The last line is 'N passed, 0 failed'.
 # Words go to the differential run: --records-only leaves out the program wiring.
-# KANHTREV_RECORDS (a folder with librecords.a) and KANHTREV_WIRING (a program) take the place of what rt makes.
+# KANHTREV_RECORDS and KANHTREV_EXPORTS (folders with librecords.a and libexports.a) and KANHTREV_WIRING (a program) take the
+# place of what rt makes.
 set -euo pipefail
 cd "$(dirname "$0")"
 bash setup.sh
@@ -11,6 +12,7 @@ made() { # WORDS of rt: what it says is shown only if it fails
   (cd .. && rt "$@") >"$log" 2>&1 || { tail -n 20 "$log"; echo "rt $* failed"; exit 1; }
 }
 [ -n "${KANHTREV_RECORDS:-}" ] || made staticlib records
+[ -n "${KANHTREV_EXPORTS:-}" ] || made staticlib exports
 [ -n "${KANHTREV_WIRING:-}" ] || [[ " $* " == *" --records-only "* ]] || made check wiring
 status=0
 cargo test --offline --release --workspace 2>&1 | tee "$log" || status=1

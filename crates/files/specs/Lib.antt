@@ -55,9 +55,13 @@ pub mod BuildRefusals
 pub mod LoadAnswers
 -- the code's own forms
 pub mod Forms
+pub mod LoadForms
 -- steps that the functions' proofs cite
 pub mod TurnSteps
 pub mod ByteSteps
 pub mod SortSteps
 pub mod UnitSteps
 pub mod SaveSteps
+pub mod CheckSteps
+pub mod WireSteps
+pub mod BuildSteps

@@ -16,18 +16,23 @@ pub fn run_records(requests: &[u8], answers: &mut [u8]) -> u32 {
 const UNTOUCHED: u8 = 0xA5;
 const MARGIN: usize = 64;
 
-/// Runs bytes, with an answer buffer of so many; gives the number returned and the buffer. The bytes around it and the
-/// requests must be as before.
-pub fn run(entry: &Entry, requests: &[u8], answer_bytes: usize) -> Result<(u32, Vec<u8>), String> {
-    let lent = requests.to_vec();
-    let mut buffer = vec![UNTOUCHED; MARGIN + answer_bytes + MARGIN];
-    let returned = entry(&lent, &mut buffer[MARGIN..MARGIN + answer_bytes]);
-    let answers = buffer[MARGIN..MARGIN + answer_bytes].to_vec();
-    buffer.drain(MARGIN..MARGIN + answer_bytes);
-    if lent != requests || !untouched(&buffer) {
-        return Err("bytes outside the answer buffer were changed".into());
+/// Lends bytes, and a buffer of so many, to an entry; gives what it returns and the buffer. The bytes around it and those
+/// lent must be as before.
+pub fn lent<T>(bytes: &[u8], room: usize, entry: impl FnOnce(&[u8], &mut [u8]) -> T) -> Result<(T, Vec<u8>), String> {
+    let lent = bytes.to_vec();
+    let mut buffer = vec![UNTOUCHED; MARGIN + room + MARGIN];
+    let returned = entry(&lent, &mut buffer[MARGIN..MARGIN + room]);
+    let within = buffer[MARGIN..MARGIN + room].to_vec();
+    buffer.drain(MARGIN..MARGIN + room);
+    if lent != bytes || !untouched(&buffer) {
+        return Err("bytes outside the buffer were changed".into());
     }
-    Ok((returned, answers))
+    Ok((returned, within))
+}
+
+/// Runs bytes, with an answer buffer of so many; gives the number returned and the buffer.
+pub fn run(entry: &Entry, requests: &[u8], answer_bytes: usize) -> Result<(u32, Vec<u8>), String> {
+    lent(requests, answer_bytes, entry)
 }
 
 /// Whether bytes are as before a run.

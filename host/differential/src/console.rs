@@ -10,7 +10,7 @@ use std::thread;
 use driver::{Answer, Call, Listing, Random, Shape, Side, Sides, Subport, Wire};
 
 use crate::compare::fewest;
-use crate::files::{self, Folder};
+use crate::files::{self, Folder, View};
 use crate::history::History;
 use crate::tally::Tally;
 
@@ -203,7 +203,7 @@ impl Command {
                 item(&[place(*from), place(*to)].concat())
             }),
             Command::Save(_) => {
-                let bytes = files::file(oracle);
+                let bytes = View::of(oracle).file();
                 files::items(&bytes).into_iter().chain([format!("ok {}", bytes.len())]).collect()
             }
             Command::Nonsense(_) => vec![format!("bad line {line}")],

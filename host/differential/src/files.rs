@@ -1,7 +1,8 @@
-//! A second writer of saved files, from document 02's words and the original's listings, and files as lines to compare.
+//! A second writer and a reader of saved files, both from document 02's words, and files as lines to compare.
 //!
 //! A unit has 512 bytes: kind (1 blocks, 2 wires) and record count, up to 63 records of four fields, zeros, and the sum of the
-//! 127 words before. It is written field by field here, and by positions in tables of its own in the port.
+//! 127 words before. It is written field by field here, and by positions in tables of its own in the port. The reader goes
+//! through 02's rules one by one; it knows nothing of the writer.
 
 use std::collections::HashMap;
 use std::env;
@@ -12,17 +13,43 @@ use std::sync::atomic::{AtomicU64, Ordering};
 
 use driver::{Oracle, Side, Sides};
 
+/// Bytes of a unit.
+pub const UNIT: usize = 512;
+/// The most records of a unit.
+pub const MOST_RECORDS: usize = 63;
+/// Where a unit's sum stands, after its records.
+const SUM: usize = 508;
+
 type Record = [u16; 4];
 
+/// What a file says of a wiring.
+#[derive(Clone, Debug, Default, PartialEq, Eq)]
+pub struct View {
+    /// Incoming and outgoing ports of each block, by ascending number; its rank is its position here.
+    pub blocks: Vec<[u16; 2]>,
+    /// Source rank, output position, target rank and input position of each wire, sorted.
+    pub wires: Vec<Record>,
+}
+
+/// The sum, modulo 4,294,967,296, of the 127 words before a unit's own sum.
+fn sum(unit: &[u8]) -> u32 {
+    let words = unit[..SUM].chunks_exact(4).map(|word| u32::from_le_bytes(word.try_into().expect("four bytes")));
+    words.fold(0, u32::wrapping_add)
+}
+
+/// Gives a unit the sum that it must have.
+pub fn mend(unit: &mut [u8]) {
+    let sum = sum(unit);
+    unit[SUM..].copy_from_slice(&sum.to_le_bytes());
+}
+
 fn unit(kind: u16, records: &[Record]) -> Vec<u8> {
-    let mut bytes = Vec::with_capacity(512);
+    let mut bytes = Vec::with_capacity(UNIT);
     bytes.extend(kind.to_le_bytes());
     bytes.extend((records.len() as u16).to_le_bytes());
     bytes.extend(records.iter().flatten().flat_map(|field| field.to_le_bytes()));
-    bytes.resize(508, 0);
-    let words = bytes.chunks_exact(4).map(|word| u32::from_le_bytes(word.try_into().expect("four bytes")));
-    let sum = words.fold(0u32, u32::wrapping_add);
-    bytes.extend(sum.to_le_bytes());
+    bytes.resize(UNIT, 0);
+    mend(&mut bytes);
     bytes
 }
 
@@ -30,26 +57,84 @@ fn field(number: u32) -> u16 {
     u16::try_from(number).expect("no field passes 16 bits")
 }
 
-/// The records of the blocks, by ascending number, and of the wires, sorted.
-pub fn records(oracle: &Oracle) -> (Vec<Record>, Vec<Record>) {
-    let blocks = oracle.blocks();
-    let ranks: HashMap<u32, u16> = blocks.iter().enumerate().map(|(rank, node)| (*node, field(rank as u32))).collect();
-    let ports = |node: u32, side: Side| field(oracle.ports(node, Sides::One(side)).expect("a block").len() as u32);
-    let of_blocks = blocks.iter().map(|node| [ports(*node, Side::Incoming), ports(*node, Side::Outgoing), 0, 0]);
-    let place = |end| oracle.place(end).expect("an end of a wire is live");
-    let mut of_wires: Vec<Record> = (oracle.all_wires().into_iter())
-        .map(|(from, to)| (place(from), place(to)))
-        .map(|(from, to)| [ranks[&from.node], field(from.position), ranks[&to.node], field(to.position)])
-        .collect();
-    of_wires.sort();
-    (of_blocks.collect(), of_wires)
+impl View {
+    /// What the file of the original's graph must say.
+    pub fn of(oracle: &Oracle) -> View {
+        View::listed(oracle).sorted()
+    }
+
+    /// The same with the wires sorted.
+    pub fn sorted(mut self) -> View {
+        self.wires.sort();
+        self
+    }
+
+    /// The blocks of the original's graph, and its wires as it lists them.
+    pub fn listed(oracle: &Oracle) -> View {
+        let blocks = oracle.blocks();
+        let ranks: HashMap<u32, u16> =
+            blocks.iter().enumerate().map(|(rank, node)| (*node, field(rank as u32))).collect();
+        let ports = |node: u32, side: Side| field(oracle.ports(node, Sides::One(side)).expect("a block").len() as u32);
+        let place = |end| oracle.place(end).expect("an end of a wire is live");
+        let wires = (oracle.all_wires().into_iter())
+            .map(|(from, to)| (place(from), place(to)))
+            .map(|(from, to)| [ranks[&from.node], field(from.position), ranks[&to.node], field(to.position)]);
+        let records = blocks.iter().map(|node| [ports(*node, Side::Incoming), ports(*node, Side::Outgoing)]);
+        View { blocks: records.collect(), wires: wires.collect() }
+    }
+
+    /// The file.
+    pub fn file(&self) -> Vec<u8> {
+        let blocks: Vec<Record> = self.blocks.iter().map(|[incoming, outgoing]| [*incoming, *outgoing, 0, 0]).collect();
+        let units = |kind, records: &[Record]| {
+            records.chunks(MOST_RECORDS).flat_map(|part| unit(kind, part)).collect::<Vec<u8>>()
+        };
+        [units(1, &blocks), units(2, &self.wires)].concat()
+    }
 }
 
-/// The file of a graph.
-pub fn file(oracle: &Oracle) -> Vec<u8> {
-    let (blocks, wires) = records(oracle);
-    let units = |kind, records: &[Record]| records.chunks(63).flat_map(|part| unit(kind, part)).collect::<Vec<u8>>();
-    [units(1, &blocks), units(2, &wires)].concat()
+/// Reads a file. 16: the length is not a multiple of 512 or a unit's sum is wrong, over all units before anything else; 17:
+/// kinds, counts, zeros, order, ranks or positions break the layout.
+pub fn read(bytes: &[u8]) -> Result<View, u32> {
+    let units = bytes.chunks_exact(UNIT);
+    if !units.remainder().is_empty() || units.clone().any(|unit| unit[SUM..] != sum(unit).to_le_bytes()) {
+        return Err(16);
+    }
+    let mut view = View::default();
+    let mut before = None;
+    for unit in units {
+        let fields = unit[..SUM].chunks_exact(2).map(|field| u16::from_le_bytes([field[0], field[1]]));
+        let fields: Vec<u16> = fields.collect();
+        let (kind, count, records) = (fields[0], usize::from(fields[1]), &fields[2..]);
+        // Blocks first; and only the last unit of a kind may hold fewer records than it can.
+        let follows = match before {
+            Some((kind_before, count_before)) => {
+                kind_before < kind || kind_before == kind && count_before == MOST_RECORDS
+            }
+            None => true,
+        };
+        if !(1..=2).contains(&kind) || !(1..=MOST_RECORDS).contains(&count) || !follows {
+            return Err(17);
+        }
+        let (used, unused) = records.split_at(4 * count);
+        if unused.iter().any(|field| *field != 0) {
+            return Err(17);
+        }
+        for record in used.chunks_exact(4) {
+            match (kind, record) {
+                (1, [incoming, outgoing, 0, 0]) => view.blocks.push([*incoming, *outgoing]),
+                (2, [source, output, target, input]) => view.wires.push([*source, *output, *target, *input]),
+                _ => return Err(17),
+            }
+        }
+        before = Some((kind, count));
+    }
+    let ports = |rank: u16, side: usize| view.blocks.get(usize::from(rank)).map_or(0, |block| block[side]);
+    let between = |[source, output, target, input]: &Record| *output < ports(*source, 1) && *input < ports(*target, 0);
+    match view.wires.is_sorted() && view.wires.iter().all(between) {
+        true => Ok(view),
+        false => Err(17),
+    }
 }
 
 /// A file as items to compare, one a unit; what is past the last whole unit is an item too.

@@ -63,11 +63,16 @@ impl History {
             history.give(call.to_record());
         }
         while history.steps.len() < calls && !history.ended {
-            let record = history.draw_record(shape, &mut random);
-            history.give(record);
+            history.give_drawn(shape, &mut random);
         }
         history.read_wires(60, &mut random);
         history
+    }
+
+    /// Draws one more call, and asks the original for its answer.
+    pub fn give_drawn(&mut self, shape: &Shape, random: &mut Random) {
+        let record = self.draw_record(shape, random);
+        self.give(record);
     }
 
     fn draw_record(&self, shape: &Shape, random: &mut Random) -> Record {

@@ -4,9 +4,11 @@
 //! - [`compare`]: runs a list through the port; a difference comes with the fewest calls that show it.
 //! - [`exhaustive`], [`damage`]: all short lists over a few calls; lists of wrong lengths and altered bytes.
 //! - [`console`]: listings, move lists and saved files, through the program `wiring`.
-//! - [`files`]: a second writer of saved files, from document 02's words.
+//! - [`files`]: a second writer and a reader of saved files, from document 02's words.
+//! - [`saves`]: files that lists are saved as, beside that writer.
 //! - [`spoil`]: wrong answers put in by hand, to show that they are caught.
-//! - [`lists`], [`plain`]: lists that the original answers itself, and the original without the driver, for the benchmark.
+//! - [`lists`], [`plain`], [`plain_files`]: lists that the original answers itself, the original without the driver, and a plain
+//!   writer of files over it, for the benchmark.
 //!
 //! What a call must answer, and whether it is compared at all, is decided by the driver on the original's side.
 
@@ -19,7 +21,9 @@ pub mod growth;
 pub mod history;
 pub mod lists;
 pub mod plain;
+pub mod plain_files;
 pub mod runs;
+pub mod saves;
 pub mod spoil;
 pub mod tally;
 pub mod walks;

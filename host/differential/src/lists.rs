@@ -3,6 +3,7 @@
 use driver::{to_bytes, Call, Random, Shape};
 
 use crate::history::{By, History, Step};
+use crate::plain;
 
 /// A named list: request bytes, and the original's answers.
 pub struct List {
@@ -70,6 +71,55 @@ fn wired() -> History {
         history.give(Call::Link { a, b }.to_record());
     }
     history
+}
+
+/// How many lists are saved in the benchmark.
+pub const SAVED: usize = 6;
+
+/// A list that is saved in the benchmark: two of the lists above, and wirings of kinds of their own.
+pub fn to_save(list: usize) -> List {
+    let mut random = Random::new(5);
+    let mut shuffled = |count: u32| {
+        let mut left: Vec<u32> = (0..count).collect();
+        (0..count).map(|_| left.swap_remove(random.below(left.len() as u32) as usize)).collect::<Vec<u32>>()
+    };
+    let fan = |inputs: &mut dyn Iterator<Item = u32>| {
+        [add(0, 1), add(500, 0)].into_iter().chain(inputs.map(|input| link(0, 1 + input))).collect()
+    };
+    match list {
+        0 => benchmark(0, 2_000),
+        1 => benchmark(2, 2_000),
+        2 => {
+            let blocks = (0..500).map(|_| add(1, 1));
+            given("many small blocks", blocks.chain((0..499).map(|block| link(2 * block + 1, 2 * block + 2))).collect())
+        }
+        3 => given("500 wires at one output", fan(&mut (0..500))),
+        4 => given("the same, linked in random order", fan(&mut shuffled(500).into_iter())),
+        _ => {
+            let links = shuffled(1_024).into_iter().zip(0..).map(|(output, input): (u32, u32)| {
+                link(4 * (output / 2) + 2 + output % 2, 4 * (input / 2) + input % 2)
+            });
+            given("every slot taken", (0..512).map(|_| add(2, 2)).chain(links).collect())
+        }
+    }
+}
+
+fn add(incoming: u32, outgoing: u32) -> Call {
+    Call::Add { incoming, outgoing }
+}
+
+fn link(a: u32, b: u32) -> Call {
+    Call::Link { a, b }
+}
+
+/// A list of these calls, all of which must be accepted.
+fn given(name: &'static str, calls: Vec<Call>) -> List {
+    let records: Vec<_> = calls.into_iter().map(Call::to_record).collect();
+    let requests = to_bytes(&records);
+    let mut answers = vec![0; requests.len()];
+    plain::run(&requests, &mut answers);
+    assert!(answers.chunks_exact(20).all(|answer| answer[0] == 0), "{name}: a refusal");
+    List { name, requests, answers }
 }
 
 /// The recorded sample: 2,000 calls of all kinds.

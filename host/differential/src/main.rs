@@ -1,6 +1,6 @@
-//! The differential run. `--records-only` leaves out the program `wiring`; `--seed N` and `--calls N` choose where the
-//! seeds begin and how many calls of random lists are compared at least; `--spoil K` puts in the wrong answers of kind K
-//! (from 0), which must be caught.
+//! The differential run. `--records-only` leaves out the program `wiring`; `--seed N`, `--calls N` and `--files N` choose where
+//! the seeds begin and how many calls and how many saved files of random lists are compared at least; `--spoil K` puts in the
+//! wrong answers of kind K (from 0), which must be caught.
 
 use std::env;
 use std::process::ExitCode;
@@ -8,12 +8,14 @@ use std::process::ExitCode;
 use differential::compare::{run_records, Entry};
 use differential::console::{Command, Console};
 use differential::runs::Plan;
-use differential::spoil::{spoiled, spoiled_console, KINDS};
+use differential::saves::{save_records, Save};
+use differential::spoil::{spoiled, spoiled_console, spoiled_save, KINDS};
 use differential::tally::Tally;
 use differential::{console, runs};
 
-/// A run that compares fewer calls of random lists fails.
+/// A run that compares fewer calls of random lists, or fewer saved files, fails.
 const LEAST: u64 = 1_000_000;
+const LEAST_FILES: u64 = 200_000;
 
 struct Options {
     plan: Plan,
@@ -33,6 +35,7 @@ fn options() -> Result<Options, String> {
             "--records-only" => options.records_only = true,
             "--seed" => options.plan.seed = number()?,
             "--calls" => options.plan.calls = number()?,
+            "--files" => options.plan.files = number()?,
             "--spoil" => options.spoil = Some(number()? as usize % KINDS),
             _ => return Err(format!("unknown word {word}")),
         }
@@ -53,6 +56,14 @@ fn run(options: &Options, total: &mut Tally) -> Result<(), String> {
     total.add(&other);
     lines.iter().for_each(|line| println!("{line}"));
     println!("\nrandom lists\n{random}\nother lists\n{other}");
+    let save: &Save = &|requests, file| match spoil {
+        Some(kind) => spoiled_save(kind, requests, file),
+        None => save_records(requests, file),
+    };
+    let (lines, files) = runs::saves(save, &options.plan)?;
+    total.add(&files);
+    lines.iter().for_each(|line| println!("{line}"));
+    println!("{files}");
     if let Some(program) = wiring {
         let mut scripts = Tally::default();
         let seeds = options.plan.script_seeds();
@@ -65,12 +76,18 @@ fn run(options: &Options, total: &mut Tally) -> Result<(), String> {
         console::run(console, seeds, &mut scripts)?;
         console::run_small(console, options.plan.length, &mut scripts)?.iter().for_each(|line| println!("{line}"));
         let sheets = console::all_sheets(console, options.plan.entries, &mut scripts)?;
-        println!("console: {sheets} sheets, all of up to {} entries of five ports on four wirings", options.plan.entries);
+        println!(
+            "console: {sheets} sheets, all of up to {} entries of five ports on four wirings",
+            options.plan.entries
+        );
         println!("{scripts}");
         total.add(&scripts);
     }
     if random.compared() < LEAST {
         return Err(format!("fewer than {LEAST} calls of random lists were compared with the Rust"));
+    }
+    if files.saved < LEAST_FILES {
+        return Err(format!("fewer than {LEAST_FILES} saved files were compared"));
     }
     let missing = total.missing(!options.records_only);
     if !missing.is_empty() {
@@ -93,8 +110,9 @@ fn main() -> ExitCode {
     if let Err(message) = result {
         println!("FAILED: {message}");
     }
-    let (compared, expected, listings) = (total.compared(), total.expected(), total.listings());
-    println!("{compared} calls compared with the Rust, {expected} expected by 01, {listings} listings compared");
-    println!("{} passed, {failed} failed", compared + expected + listings);
+    let (compared, expected, listings, files) = (total.compared(), total.expected(), total.listings(), total.files());
+    println!("{compared} calls compared with the Rust, {expected} expected by 01");
+    println!("{listings} listings compared, {files} saves by records");
+    println!("{} passed, {failed} failed", compared + expected + listings + files);
     ExitCode::from(u8::from(failed > 0))
 }

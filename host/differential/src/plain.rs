@@ -36,6 +36,7 @@ fn refused(graph: &Graph, error: LinkError<u32, u32, u16>, first: u32, second: u
     }
 }
 
+#[inline(always)]
 fn answer(graph: &mut Graph, [code, a, b, c, d]: Words) -> Words {
     match code {
         1 => {
@@ -72,12 +73,25 @@ fn answer(graph: &mut Graph, [code, a, b, c, d]: Words) -> Words {
     }
 }
 
+#[inline(always)]
+fn words(request: &[u8]) -> Words {
+    std::array::from_fn(|at| u32::from_le_bytes(request[4 * at..4 * at + 4].try_into().expect("four bytes a word")))
+}
+
+/// Runs a list from an empty graph, and gives the graph that it leaves; the answers are not kept.
+pub fn graph(requests: &[u8]) -> Graph {
+    let mut graph = Graph::new();
+    for request in requests.chunks_exact(20) {
+        answer(&mut graph, words(request));
+    }
+    graph
+}
+
 /// Runs a list from an empty graph, and gives the graph that it leaves.
 pub fn run(requests: &[u8], answers: &mut [u8]) -> Graph {
     let mut graph = Graph::new();
     for (request, place) in requests.chunks_exact(20).zip(answers.chunks_exact_mut(20)) {
-        let word = |at: usize| u32::from_le_bytes(request[4 * at..4 * at + 4].try_into().expect("four bytes a word"));
-        let answer = answer(&mut graph, std::array::from_fn(word));
+        let answer = answer(&mut graph, words(request));
         for (bytes, word) in place.chunks_exact_mut(4).zip(answer) {
             bytes.copy_from_slice(&word.to_le_bytes());
         }

@@ -6,6 +6,7 @@ use driver::{Random, Shape};
 
 use crate::compare::{compare, Entry};
 use crate::history::History;
+use crate::saves::{self, Save};
 use crate::tally::Tally;
 use crate::{damage, exhaustive};
 
@@ -27,15 +28,42 @@ pub struct Plan {
     pub length: usize,
     /// All sheets of up to so many entries.
     pub entries: u32,
+    /// So many files of random lists are compared, or more.
+    pub files: u64,
+    /// How often files of each size are compared, and full wirings.
+    pub sized: u64,
+    pub full: u64,
 }
 
 impl Plan {
     /// A whole run.
-    pub const WHOLE: Plan =
-        Plan { seed: 1, calls: 3_000_000, shorter: 0, lengths: 130, altered: 2_000, scripts: 600, length: 3, entries: 2 };
+    pub const WHOLE: Plan = Plan {
+        seed: 1,
+        calls: 3_000_000,
+        shorter: 0,
+        lengths: 130,
+        altered: 2_000,
+        scripts: 600,
+        length: 3,
+        entries: 2,
+        files: 300_000,
+        sized: 20,
+        full: 30,
+    };
     /// A run of seconds.
-    pub const SHORT: Plan =
-        Plan { seed: 1, calls: 20_000, shorter: 3, lengths: 45, altered: 20, scripts: 30, length: 2, entries: 1 };
+    pub const SHORT: Plan = Plan {
+        seed: 1,
+        calls: 20_000,
+        shorter: 3,
+        lengths: 45,
+        altered: 20,
+        scripts: 30,
+        length: 2,
+        entries: 1,
+        files: 2_000,
+        sized: 1,
+        full: 3,
+    };
 
     /// The seeds of the altered lists, and of the scripts.
     pub fn altered_seeds(&self) -> Range<u64> {
@@ -76,4 +104,17 @@ pub fn records(entry: &Entry, plan: &Plan) -> Result<(Vec<String>, Tally, Tally)
     damage::bytes(entry, seeds.clone(), &mut other)?;
     lines.push(format!("altered bytes: {} lists, seeds {} to {}", plan.altered, seeds.start, seeds.end - 1));
     Ok((lines, random_tally, other))
+}
+
+/// Files saved by records: of random lists, of sizes about the ends of units, of full wirings, and by buffers and lists of
+/// every length. Gives what was run, and the tally.
+pub fn saves(save: &Save, plan: &Plan) -> Result<(Vec<String>, Tally), String> {
+    let mut tally = Tally::default();
+    let lines = vec![
+        saves::lengths(save, plan.lengths, &mut tally)?,
+        saves::sizes(save, plan.seed..plan.seed + plan.sized, &mut tally)?,
+        saves::full_wirings(save, plan.seed..plan.seed + plan.full, &mut tally)?,
+        saves::random(save, plan.seed, plan.files, &mut tally)?,
+    ];
+    Ok((lines, tally))
 }

@@ -4,6 +4,8 @@ use driver::Call;
 
 use crate::compare::run_records;
 use crate::console::{Block, Command, Console};
+use crate::files::{mend, MOST_RECORDS, UNIT};
+use crate::saves::save_records;
 
 type Words = [u32; 5];
 
@@ -138,7 +140,8 @@ pub const WRONG_LISTINGS: [WrongListing; 7] = [
     WrongListing {
         name: "an entry of a sheet has the answer of the one before it",
         alter: |block| {
-            let place = (1..block.len()).find(|place| block[*place].starts_with("  ok") && block[place - 1] != block[*place]);
+            let place =
+                (1..block.len()).find(|place| block[*place].starts_with("  ok") && block[place - 1] != block[*place]);
             if let Some(place) = place {
                 block[place] = block[place - 1].clone();
             }
@@ -171,14 +174,190 @@ pub const WRONG_COMMANDS: [WrongCommand; 2] = [
     },
 ];
 
-/// All kinds: those of answers, then those of listings, then those of commands.
-pub const KINDS: usize = WRONG.len() + WRONG_LISTINGS.len() + WRONG_COMMANDS.len();
+/// A save's answer: the file's length, or the number of the refusal.
+type Saved = Result<usize, u32>;
+
+/// A kind of wrong save, and how it alters the answer and the buffer: `None` where it doesn't apply.
+pub struct WrongSave {
+    pub name: &'static str,
+    alter: fn(Saved, &mut [u8]) -> Option<Saved>,
+}
+
+/// Alters the first unit of a file for which that can be done, and gives it the sum that it then must have. The unit comes as
+/// its kind, its count and the bytes of its records.
+fn in_a_unit(saved: Saved, buffer: &mut [u8], alter: impl Fn(u8, &mut u8, &mut [u8]) -> bool) -> Option<Saved> {
+    let altered = buffer[..saved.ok()?].chunks_exact_mut(UNIT).any(|unit| {
+        let (head, records) = unit.split_at_mut(4);
+        let altered = alter(head[0], &mut head[2], &mut records[..8 * MOST_RECORDS]);
+        mend(unit);
+        altered
+    });
+    altered.then_some(saved)
+}
+
+/// Alters the first two neighbouring records of a kind for which that can be done.
+fn in_two_records(records: &mut [u8], count: u8, alter: impl Fn(&mut [u8]) -> bool) -> bool {
+    (1..usize::from(count)).any(|record| alter(&mut records[8 * (record - 1)..8 * (record + 1)]))
+}
+
+/// The kinds of wrong saves.
+pub const WRONG_SAVES: [WrongSave; 17] = [
+    WrongSave { name: "a file's length has a unit more", alter: |saved, _| Some(Ok(saved.ok()? + UNIT)) },
+    WrongSave {
+        name: "an empty graph is a unit of zeros",
+        alter: |saved, buffer| {
+            (saved == Ok(0)).then_some(())?;
+            buffer.get_mut(..UNIT)?.fill(0);
+            Some(Ok(UNIT))
+        },
+    },
+    WrongSave {
+        name: "a sum is one too large",
+        alter: |saved, buffer| {
+            let unit = buffer[..saved.ok()?].chunks_exact_mut(UNIT).last()?;
+            unit[508] = unit[508].wrapping_add(1);
+            Some(saved)
+        },
+    },
+    WrongSave {
+        name: "an unused record is not zero",
+        alter: |saved, buffer| {
+            in_a_unit(saved, buffer, |_, count, records| {
+                let applies = usize::from(*count) < MOST_RECORDS;
+                if applies {
+                    records[8 * MOST_RECORDS - 1] = 1;
+                }
+                applies
+            })
+        },
+    },
+    WrongSave {
+        name: "a block's outputs come before its inputs",
+        alter: |saved, buffer| {
+            in_a_unit(saved, buffer, |kind, count, records| {
+                let mut blocks = records.chunks_exact_mut(8).take((*count).into());
+                kind == 1
+                    && blocks.any(|record| {
+                        let applies = record[..2] != record[2..4];
+                        record[..4].rotate_left(2);
+                        applies
+                    })
+            })
+        },
+    },
+    WrongSave {
+        name: "a rank is one too high",
+        alter: |saved, buffer| {
+            in_a_unit(saved, buffer, |kind, _, records| {
+                records[4] = records[4].wrapping_add(u8::from(kind == 2));
+                kind == 2
+            })
+        },
+    },
+    WrongSave {
+        name: "a position is one too high",
+        alter: |saved, buffer| {
+            in_a_unit(saved, buffer, |kind, _, records| {
+                records[6] = records[6].wrapping_add(u8::from(kind == 2));
+                kind == 2
+            })
+        },
+    },
+    WrongSave {
+        name: "wires are not sorted by their inputs",
+        alter: |saved, buffer| {
+            in_a_unit(saved, buffer, |kind, count, records| {
+                kind == 2
+                    && in_two_records(records, *count, |two| {
+                        let applies = two[..6] == two[8..14] && two[6..8] != two[14..];
+                        if applies {
+                            two.rotate_left(8);
+                        }
+                        applies
+                    })
+            })
+        },
+    },
+    WrongSave {
+        name: "two wires between the same ports are one",
+        alter: |saved, buffer| {
+            in_a_unit(saved, buffer, |kind, count, records| {
+                let of_count =
+                    |record: &usize| records[8 * (record - 1)..8 * record] == records[8 * record..8 * (record + 1)];
+                let Some(record) = (1..usize::from(*count)).find(of_count).filter(|_| kind == 2) else { return false };
+                records.copy_within(8 * (record + 1).., 8 * record);
+                records[8 * (MOST_RECORDS - 1)..].fill(0);
+                *count -= 1;
+                true
+            })
+        },
+    },
+    WrongSave {
+        name: "fields have their most significant byte first",
+        alter: |saved, buffer| {
+            in_a_unit(saved, buffer, |_, _, records| {
+                let applies = records[0] != records[1];
+                records.swap(0, 1);
+                applies
+            })
+        },
+    },
+    WrongSave {
+        name: "wires come before blocks",
+        alter: |saved, buffer| {
+            let file = &mut buffer[..saved.ok()?];
+            let blocks = file.chunks_exact(UNIT).position(|unit| unit[0] == 2)?;
+            file.rotate_left(UNIT * blocks);
+            Some(saved)
+        },
+    },
+    WrongSave {
+        name: "a byte past the file is cleared",
+        alter: |saved, buffer| {
+            *buffer.get_mut(saved.ok()?)? = 0;
+            Some(saved)
+        },
+    },
+    WrongSave {
+        name: "a buffer that just holds the file is refused",
+        alter: |saved, buffer| (saved == Ok(buffer.len()) && !buffer.is_empty()).then_some(Err(15)),
+    },
+    WrongSave {
+        name: "a short buffer is written to",
+        alter: |saved, buffer| {
+            (saved == Err(15)).then_some(())?;
+            *buffer.first_mut()? = 1;
+            Some(saved)
+        },
+    },
+    WrongSave { name: "a short buffer is told as refusal 1", alter: |saved, _| (saved == Err(15)).then_some(Err(1)) },
+    WrongSave { name: "a list of wrong length is saved", alter: |saved, _| (saved == Err(1)).then_some(Ok(0)) },
+    WrongSave {
+        name: "a list of wrong length clears the buffer",
+        alter: |saved, buffer| {
+            (saved == Err(1)).then(|| buffer.fill(0))?;
+            Some(saved)
+        },
+    },
+];
+
+/// As the linked entry that saves, with a wrong answer or file where the kind applies.
+pub fn spoiled_save(kind: usize, requests: &[u8], file: &mut [u8]) -> Saved {
+    let saved = save_records(requests, file);
+    let wrong = kind.checked_sub(WRONG.len() + WRONG_LISTINGS.len() + WRONG_COMMANDS.len());
+    let wrong = wrong.and_then(|wrong| WRONG_SAVES.get(wrong));
+    wrong.and_then(|wrong| (wrong.alter)(saved, file)).unwrap_or(saved)
+}
+
+/// All kinds: those of answers, of listings, of commands, and of saves.
+pub const KINDS: usize = WRONG.len() + WRONG_LISTINGS.len() + WRONG_COMMANDS.len() + WRONG_SAVES.len();
 
 /// As a console, with one listing altered, the last of the script that the kind applies to, or with every command altered.
 pub fn spoiled_console(kind: usize, console: &Console, script: &[Command]) -> Result<Vec<Block>, String> {
     let Some(wrong) = kind.checked_sub(WRONG.len()) else { return console(script) };
     if let Some(wrong) = wrong.checked_sub(WRONG_LISTINGS.len()) {
-        let altered: Vec<Command> = script.iter().map(|command| (WRONG_COMMANDS[wrong].alter)(*command)).collect();
+        let Some(wrong) = WRONG_COMMANDS.get(wrong) else { return console(script) };
+        let altered: Vec<Command> = script.iter().map(|command| (wrong.alter)(*command)).collect();
         return console(&altered);
     }
     let mut blocks = console(script)?;

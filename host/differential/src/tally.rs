@@ -5,6 +5,7 @@ use std::fmt;
 
 use crate::console::SHEETS;
 use crate::history::{By, Step, LINK_CLEAN};
+use crate::saves;
 
 /// The calls by code; 0 stands for unknown codes.
 pub const CALLS: [&str; LINK_CLEAN + 1] = [
@@ -27,6 +28,11 @@ pub struct Tally {
     calls: BTreeMap<(By, usize, u32), u64>,
     notes: BTreeMap<&'static str, u64>,
     listings: BTreeMap<&'static str, u64>,
+    files: BTreeMap<&'static str, u64>,
+    /// Files saved by records.
+    pub saved: u64,
+    /// Saves refused, for lack of room or by the list's length, with the buffer untouched.
+    pub saves_refused: u64,
     /// Lists refused as a whole (refusal 1).
     pub lists_refused: u64,
     /// Items of listings and move lists, in the console's answers.
@@ -48,10 +54,27 @@ impl Tally {
         *self.listings.entry(command).or_default() += 1;
     }
 
+    /// Counts a saved file, or a refused save, by its kind.
+    pub fn save(&mut self, kind: &'static str, saved: bool) {
+        self.file(kind);
+        match saved {
+            true => self.saved += 1,
+            false => self.saves_refused += 1,
+        }
+    }
+
+    /// Counts a kind that a file has besides.
+    pub fn file(&mut self, kind: &'static str) {
+        *self.files.entry(kind).or_default() += 1;
+    }
+
     pub fn add(&mut self, other: &Tally) {
         other.calls.iter().for_each(|(key, count)| *self.calls.entry(*key).or_default() += count);
         other.notes.iter().for_each(|(key, count)| *self.notes.entry(key).or_default() += count);
         other.listings.iter().for_each(|(key, count)| *self.listings.entry(key).or_default() += count);
+        other.files.iter().for_each(|(key, count)| *self.files.entry(key).or_default() += count);
+        self.saved += other.saved;
+        self.saves_refused += other.saves_refused;
         self.lists_refused += other.lists_refused;
         self.items += other.items;
     }
@@ -69,6 +92,11 @@ impl Tally {
     /// Listings of the console, and its lines that are no commands.
     pub fn listings(&self) -> u64 {
         self.listings.values().sum()
+    }
+
+    /// Files saved by records, and refused saves.
+    pub fn files(&self) -> u64 {
+        self.saved + self.saves_refused
     }
 
     fn by(&self, who: impl Fn(By) -> bool) -> u64 {
@@ -145,7 +173,8 @@ impl Tally {
         let all = all.chain(reasons).chain(clean);
         let calls = all.filter(|key| !self.calls.contains_key(key)).map(|key| format!("{key:?}"));
         let notes = notes.into_iter().filter(|note| !self.notes.contains_key(note)).map(str::to_string);
-        calls.chain(notes).chain(sheets).collect()
+        let files = saves::kinds().filter(|kind| !self.files.contains_key(kind)).map(str::to_string);
+        calls.chain(notes).chain(sheets).chain(files).collect()
     }
 }
 
@@ -171,7 +200,9 @@ impl fmt::Display for Tally {
         if self.lists_refused > 0 {
             writeln!(f, "expected by 01, refusal 1 with the answer buffer untouched: {}", self.lists_refused)?;
         }
-        writeln!(f, "of these:")?;
+        if !self.notes.is_empty() {
+            writeln!(f, "of these:")?;
+        }
         for (note, count) in &self.notes {
             writeln!(f, "  {note:45} {count:9}")?;
         }
@@ -180,6 +211,12 @@ impl fmt::Display for Tally {
         }
         for (command, count) in &self.listings {
             writeln!(f, "  {command:28} {count:8}")?;
+        }
+        if self.files() > 0 {
+            writeln!(f, "files saved: {}, and {} saves refused", self.saved, self.saves_refused)?;
+        }
+        for (kind, count) in &self.files {
+            writeln!(f, "  {kind:45} {count:9}")?;
         }
         Ok(())
     }

@@ -2,8 +2,9 @@
 
 use differential::compare::run_records;
 use differential::console::{self, faultless};
-use differential::runs::{records, Plan};
-use differential::spoil::{spoiled, spoiled_console, WRONG, WRONG_COMMANDS, WRONG_LISTINGS};
+use differential::runs::{records, saves, Plan};
+use differential::saves::save_records;
+use differential::spoil::{spoiled, spoiled_console, spoiled_save, WRONG, WRONG_COMMANDS, WRONG_LISTINGS, WRONG_SAVES};
 use differential::tally::Tally;
 
 #[test]
@@ -12,6 +13,8 @@ fn nothing_wrong() {
     assert!(random.compared() >= Plan::SHORT.calls && other.expected() > 0);
     console::run(&faultless, Plan::SHORT.script_seeds(), &mut Tally::default()).unwrap();
     console::run_small(&faultless, Plan::SHORT.length, &mut Tally::default()).unwrap();
+    let (_, files) = saves(&save_records, &Plan::SHORT).unwrap();
+    assert!(files.saved >= Plan::SHORT.files && files.saves_refused > 0);
 }
 
 #[test]
@@ -44,5 +47,15 @@ fn wrong_commands_are_caught() {
             let Err(difference) = run else { panic!("not caught: {}", wrong.name) };
             println!("{}: {difference}", wrong.name);
         }
+    }
+}
+
+#[test]
+fn wrong_saves_are_caught() {
+    for (kind, wrong) in WRONG_SAVES.iter().enumerate() {
+        let kind = WRONG.len() + WRONG_LISTINGS.len() + WRONG_COMMANDS.len() + kind;
+        let save = |requests: &[u8], file: &mut [u8]| spoiled_save(kind, requests, file);
+        let Err(difference) = saves(&save, &Plan::SHORT) else { panic!("not caught: {}", wrong.name) };
+        println!("{}: {difference}", wrong.name);
     }
 }

@@ -1,4 +1,5 @@
-//! Lists of wiring calls, run by the proved entry `run_records` of the crate `records`.
+//! Lists of wiring calls, run by the proved entry `run_records` of the crate `records`, and saved by `save_records` of the
+//! crate `exports`.
 //!
 //! A [`List`] collects calls and runs them from an empty graph; it holds no graph itself. A refused call changes nothing
 //! but what refusals 11 and 12 of a link leave prepared, and the run goes on past it.
@@ -23,12 +24,36 @@
 //! assert_eq!(direction, Direction::Incoming);
 //! assert_eq!(answers[counts], Ok(Answer::Counts(Counts { nodes: 2, ports: 3, links: 2 })));
 //! ```
+//!
+//! The wiring that a list leaves can be saved: a file of 512-byte units, those of its blocks first, then those of its wires.
+//! The file doesn't tell subports, hidden nodes or numbers: the same blocks and wires give the same bytes.
+//!
+//! ```
+//! use kanhtrev::{List, Node, Port};
+//!
+//! let mut list = List::new();
+//! list.add(0, 1);
+//! list.add(2, 0);
+//! list.link(Port(0), Port(1));
+//! let file = list.save();
+//! assert_eq!(file.len(), 1_024);
+//! assert_eq!(file[..12], [1, 0, 2, 0, 0, 0, 1, 0, 0, 0, 0, 0]); // two blocks, the first with one output
+//! assert_eq!(file[512..524], [2, 0, 1, 0, 0, 0, 0, 0, 1, 0, 0, 0]); // one wire, to the second block's first input
+//!
+//! list.add(0, 0);
+//! list.remove(Node(2));
+//! assert_eq!(list.save(), file);
+//! assert_eq!(List::new().save(), []);
+//! ```
 
 use std::error::Error;
 use std::fmt;
 
 /// Bytes of a request, and of an answer: five little-endian `u32`.
 pub const RECORD: usize = 20;
+
+/// Bytes of the longest file: 9 units of blocks, for 512 of them, and 17 of wires, for 1,024.
+pub const LONGEST_FILE: usize = 512 * (9 + 17);
 
 /// A node's number.
 #[derive(Clone, Copy, Debug, PartialEq, Eq, PartialOrd, Ord, Hash)]
@@ -88,7 +113,8 @@ pub enum Answer {
 /// Why a list or a call is refused, with what the refusal carries.
 #[derive(Clone, Copy, Debug, PartialEq, Eq)]
 pub enum Refusal {
-    /// 1: the length of a record list is not a multiple of 20, or differs from the answer buffer's. Only [`run_bytes`].
+    /// 1: the length of a record list is not a multiple of 20, or differs from the answer buffer's. Only [`run_bytes`]
+    /// and [`save_bytes`].
     Length,
     /// 2: unknown code, an unused word that is not 0, or an offset above 65,534.
     Malformed,
@@ -114,10 +140,12 @@ pub enum Refusal {
     SameDirection { a: Port, b: Port, direction: Direction },
     /// 13: an end is linked. The port is an inner one.
     AlreadyLinked(Port),
+    /// 15: the lent buffer is too short. Only [`save_bytes`].
+    BufferShort,
 }
 
 impl Refusal {
-    /// The number of the refusal, from 1 to 13.
+    /// The number of the refusal.
     pub fn number(&self) -> u32 {
         match self {
             Refusal::Length => 1,
@@ -133,9 +161,11 @@ impl Refusal {
             Refusal::SecondPortNotLive(_) => 11,
             Refusal::SameDirection { .. } => 12,
             Refusal::AlreadyLinked(_) => 13,
+            Refusal::BufferShort => 15,
         }
     }
 
+    /// The refusal of a call, from its answer.
     fn read([number, a, b, direction, _]: [u32; 5]) -> Refusal {
         match number {
             2 => Refusal::Malformed,
@@ -249,6 +279,14 @@ impl List {
         run_bytes(&self.requests, &mut answers).expect("both buffers hold a record for each call");
         words(&self.requests).zip(words(&answers)).map(|(request, answer)| read(request, answer)).collect()
     }
+
+    /// Runs the calls from an empty graph, and gives the file of the wiring that they leave.
+    pub fn save(&self) -> Vec<u8> {
+        let mut file = vec![0; LONGEST_FILE];
+        let length = save_bytes(&self.requests, &mut file).expect("whole records, and room for the longest file");
+        file.truncate(length);
+        file
+    }
 }
 
 /// Runs a list of request bytes from an empty graph and writes the answer bytes. Refused as [`Refusal::Length`] if the
@@ -265,6 +303,27 @@ pub fn run_bytes(requests: &[u8], answers: &mut [u8]) -> Result<(), Refusal> {
         1 => Err(Refusal::Length),
         other => unreachable!("run_records returns 0 or 1, not {other}"),
     }
+}
+
+/// Runs a list of request bytes from an empty graph, writes the file of the wiring that it leaves, and gives its length;
+/// bytes past it are as before. Refused as [`Refusal::Length`] if the requests are no whole records, else as
+/// [`Refusal::BufferShort`] if the file is longer than the buffer; the buffer is then as before.
+pub fn save_bytes(requests: &[u8], file: &mut [u8]) -> Result<usize, Refusal> {
+    extern "C" {
+        fn save_records(requests: *const u8, request_bytes: usize, file: *mut u8, file_bytes: usize) -> u64;
+    }
+    // SAFETY: as in `run_bytes`.
+    length(unsafe { save_records(requests.as_ptr(), requests.len(), file.as_mut_ptr(), file.len()) })
+}
+
+/// What an entry that answers a length returned: from 4,294,967,296 on, what is above it is the number of a refusal.
+fn length(returned: u64) -> Result<usize, Refusal> {
+    let Some(refusal) = returned.checked_sub(1 << 32) else { return Ok(returned as usize) };
+    Err(match refusal {
+        1 => Refusal::Length,
+        15 => Refusal::BufferShort,
+        other => unreachable!("no refusal {other} of a file"),
+    })
 }
 
 fn words(bytes: &[u8]) -> impl Iterator<Item = [u32; 5]> + '_ {

@@ -1,6 +1,6 @@
-//! The bench wiring through the typed list: cases A to J, and K's answers.
+//! The bench wiring through the typed list: cases A to J, K's answers, and its file.
 
-use kanhtrev::{run_bytes, Answer, Counts, Direction, List, Node, Port, Refusal, Subport};
+use kanhtrev::{run_bytes, save_bytes, Answer, Counts, Direction, List, Node, Port, Refusal, Subport, LONGEST_FILE};
 
 type Ends = (Subport, Subport);
 
@@ -108,4 +108,54 @@ fn lengths() {
     }
     assert_eq!(run_bytes(&[], &mut []), Ok(()));
     assert!(List::new().run().is_empty());
+}
+
+/// The file of the bench wiring after case C, byte for byte.
+fn file() -> Vec<u8> {
+    let mut bytes = vec![1, 0, 2, 0, 0, 0, 1, 0, 0, 0, 0, 0, 2, 0, 0, 0, 0, 0, 0, 0];
+    bytes.resize(508, 0);
+    bytes.extend([3, 0, 3, 0]);
+    bytes.extend([2, 0, 3, 0, 0, 0, 0, 0, 1, 0, 0, 0, 0, 0, 0, 0, 1, 0, 1, 0, 0, 0, 0, 0, 1, 0, 1, 0]);
+    bytes.resize(1_020, 0);
+    bytes.extend([5, 0, 5, 0]);
+    bytes
+}
+
+#[test]
+fn saved() {
+    assert_eq!(after(3).save(), file());
+    assert_eq!(List::new().save(), []);
+    // Ranks in place of node numbers, and an order of the wires that is not that of their making.
+    let mut list = List::new();
+    list.add(0, 0);
+    list.add(0, 1);
+    list.add(2, 0);
+    list.remove(Node(0));
+    for input in [2, 1, 2] {
+        list.link(Port(0), Port(input));
+    }
+    assert_eq!(list.save(), file());
+}
+
+#[test]
+fn room_for_a_file() {
+    let (list, file) = (after(3), file());
+    for room in [1_024, 1_025, 1_600, LONGEST_FILE] {
+        let mut buffer = vec![0xA5; room];
+        assert_eq!(save_bytes(list.bytes(), &mut buffer), Ok(1_024));
+        assert_eq!(buffer[..1_024], file);
+        assert!(buffer[1_024..].iter().all(|byte| *byte == 0xA5), "bytes past the file were changed");
+    }
+    let refused = |request_bytes, room, refusal: Refusal| {
+        let mut buffer = vec![0xA5; room];
+        assert_eq!(save_bytes(&list.bytes()[..request_bytes], &mut buffer), Err(refusal));
+        assert!(buffer.iter().all(|byte| *byte == 0xA5), "the buffer was changed");
+    };
+    for room in [0, 1, 511, 512, 1_023] {
+        refused(100, room, Refusal::BufferShort);
+    }
+    for (request_bytes, room) in [(99, 0), (99, 1_024), (1, 0), (81, LONGEST_FILE)] {
+        refused(request_bytes, room, Refusal::Length);
+    }
+    assert_eq!(save_bytes(&[], &mut []), Ok(0));
 }

@@ -1,6 +1,6 @@
 //! The port beside the Rust original, in one process, by turns: the tables of `docs/SPEED.md`.
 //!
-//! `bench port|rust LIST TIMES` only runs a list so often: the benchmark runs itself so under valgrind, which counts.
+//! `bench SIDE LIST TIMES` only runs a list so often: the benchmark runs itself so under valgrind, which counts.
 
 use std::env;
 use std::hint::black_box;
@@ -9,8 +9,11 @@ use std::time::Instant;
 
 use differential::compare::run_records;
 use differential::growth::{tables, Case, Table};
-use differential::lists::{benchmark, List, LISTS};
-use differential::plain;
+use differential::lists::{benchmark, to_save, List, LISTS, SAVED};
+use differential::saves::save_records;
+use differential::{plain, plain_files};
+use driver::Graph;
+use portgraph::{LinkView, PortView};
 
 const CALLS: usize = 2_000;
 const ROUNDS: usize = 40;
@@ -59,11 +62,16 @@ fn instructions(words: [&str; 3]) -> Option<u64> {
     said.split("Collected : ").nth(1)?.split_whitespace().next()?.parse().ok()
 }
 
-/// Instructions a call: a list is run once and three times, and the difference counted, so that drawing it doesn't count.
-fn instructions_a_call(side: &str, list: usize) -> Option<f64> {
+/// Instructions of a run: a list is run once and three times, and the difference counted, so that drawing it doesn't count.
+fn instructions_a_run(side: &str, list: usize) -> Option<f64> {
     let number = list.to_string();
     let [once, thrice] = ["1", "3"].map(|times| instructions([side, &number, times]));
-    Some((thrice? - once?) as f64 / (2 * CALLS) as f64)
+    Some((thrice? - once?) as f64 / 2.0)
+}
+
+/// Instructions a call.
+fn instructions_a_call(side: &str, list: usize) -> Option<f64> {
+    Some(instructions_a_run(side, list)? / CALLS as f64)
 }
 
 fn the_entry() {
@@ -78,6 +86,61 @@ fn the_entry() {
             (Some(ours), Some(theirs)) => println!(" {ours:.0} | {theirs:.0} | {:.2} |", ours / theirs),
             _ => println!(" no valgrind | | |"),
         }
+    }
+}
+
+/// The sides of saving a list, by what they do: the list run, the same and saved; the plain writer on the graph that the list
+/// leaves, the original and then this writer.
+const SAVING: [&str; 4] = ["run", "save", "write", "rust-save"];
+
+/// Runs a list by a side of saving, so often; gives the file's length.
+fn saving(side: &str, list: &List, graph: &Graph, buffer: &mut [u8], times: usize) -> usize {
+    let requests = &list.requests;
+    let mut run: Box<dyn FnMut() -> usize> = match side {
+        "run" => Box::new(|| {
+            port(requests, &mut buffer[..requests.len()]);
+            0
+        }),
+        "save" => Box::new(|| save_records(black_box(requests), buffer).expect("there is room")),
+        "write" => Box::new(|| plain_files::save(black_box(graph), buffer).expect("there is room")),
+        _ => Box::new(|| plain_files::save(&plain::graph(black_box(requests)), buffer).expect("there is room")),
+    };
+    (0..times).map(|_| run()).last().unwrap_or(0)
+}
+
+/// Saving: the file alone, ours as the list saved less the list run; then the list with its file.
+fn files() {
+    const TIMES: usize = 20;
+    let cells = |ours: f64, theirs: f64| format!(" {ours:.1} | {theirs:.1} | {:.2} |", ours / theirs);
+    let mut rows = [Vec::new(), Vec::new()];
+    for number in 0..SAVED {
+        let list = to_save(number);
+        let graph = plain::graph(&list.requests);
+        let mut buffers = SAVING.map(|_| vec![0; kanhtrev::LONGEST_FILE.max(list.requests.len())]);
+        let mut lengths = [0; 4];
+        let times = {
+            let mut sides = SAVING.iter().zip(&mut buffers).zip(&mut lengths).map(|((side, buffer), length)| {
+                let (list, graph) = (&list, &graph);
+                move || *length = saving(side, list, graph, buffer, TIMES)
+            });
+            let [mut a, mut b, mut c, mut d] = std::array::from_fn(|_| sides.next().expect("four sides"));
+            least([&mut a, &mut b, &mut c, &mut d])
+        };
+        let file = |side: usize| &buffers[side][..lengths[side]];
+        assert!(file(1) == file(2) && file(1) == file(3), "{}: another file than the plain writer's", list.name);
+        let [run, save, write, rust_save] = times.map(|time| time / (1_000 * TIMES) as f64);
+        let name = format!("| {} | {}, {} |", list.name, graph.node_count(), graph.link_count());
+        let counted = SAVING.map(|side| instructions_a_run(side, number).map(|count| count / 1_000.0));
+        let [alone, whole] = match counted {
+            [Some(run), Some(save), Some(write), Some(rust_save)] => [cells(save - run, write), cells(save, rust_save)],
+            _ => [(); 2].map(|()| " no valgrind | | |".into()),
+        };
+        rows[0].push(format!("{name}{}{alone}", cells(save - run, write)));
+        rows[1].push(format!("{name}{}{whole}", cells(save, rust_save)));
+    }
+    for (what, rows) in ["The file alone", "The list and its file"].iter().zip(rows) {
+        println!("\n| {what} | blocks, wires | us | Rust, us | ratio | thousand instructions | Rust | ratio |");
+        println!("|---|---|---|---|---|---|---|---|\n{}", rows.join("\n"));
     }
 }
 
@@ -140,20 +203,35 @@ fn by_value() {
     );
 }
 
+/// Runs a list by a side, so often, for valgrind to count.
+fn counted(side: &str, list: usize, times: usize) {
+    let list = if SAVING.contains(&side) { to_save(list) } else { benchmark(list, CALLS) };
+    let mut buffer = vec![0; kanhtrev::LONGEST_FILE.max(list.requests.len())];
+    let answers = &mut buffer[..list.requests.len()];
+    match side {
+        "port" => (0..times).for_each(|_| port(&list.requests, answers)),
+        "rust" => (0..times).for_each(|_| rust(&list.requests, answers)),
+        side if SAVING.contains(&side) => {
+            saving(side, &list, &plain::graph(&list.requests), &mut buffer, times);
+        }
+        _ => panic!("no side {side}"),
+    }
+}
+
 fn main() {
     let words: Vec<String> = env::args().skip(1).collect();
     match words.iter().map(String::as_str).collect::<Vec<_>>()[..] {
         [] => {
             the_entry();
+            files();
             by_value();
             tables().iter().for_each(growth);
         }
-        [side @ ("port" | "rust"), list, times] => {
-            let run = if side == "port" { port } else { rust };
-            let list = benchmark(list.parse().expect("the number of a list"), CALLS);
-            let mut answers = vec![0; list.answers.len()];
-            (0..times.parse::<usize>().expect("how often")).for_each(|_| run(&list.requests, &mut answers));
+        [side, list, times] => {
+            let list = list.parse().expect("the number of a list");
+            let times = times.parse().expect("how often");
+            counted(side, list, times);
         }
-        _ => panic!("bench, or bench port|rust LIST TIMES"),
+        _ => panic!("bench, or bench SIDE LIST TIMES"),
     }
 }

@@ -25,7 +25,10 @@ pub struct FileRead {
 }
 
 fn not_read(error: i32) -> FileRead {
-    FileRead { len: 0, error: error }
+    FileRead {
+        len: 0,
+        error: error,
+    }
 }
 
 // Reads a file to its end.
@@ -73,7 +76,13 @@ pub(crate) fn load_from(graph: MultiPortGraph, order: Order, text: &[u8]) -> Mul
         show_failure(b"cannot read ", name, read.error);
         return graph;
     }
-    let loaded = load(part(&buffer, Span { from: 0, to: read.len }));
+    let loaded = load(part(
+        &buffer,
+        Span {
+            from: 0,
+            to: read.len,
+        },
+    ));
     let answer = loaded.answer;
     match answer {
         LoadAnswer::Loaded => {

@@ -9,7 +9,7 @@
 //! - [`loads`], [`broken`]: files that are loaded, whole and damaged, beside that reader and the original.
 //! - [`spoil`]: wrong answers put in by hand, to show that they are caught.
 //! - [`lists`], [`plain`], [`plain_files`]: lists that the original answers itself, the original without the driver, and a plain
-//!   writer of files over it, for the benchmark.
+//!   writer and reader of files over it, for the benchmark.
 //!
 //! What a call must answer, and whether it is compared at all, is decided by the driver on the original's side.
 

@@ -227,3 +227,26 @@ fn room_for_requests() {
     }
     assert_eq!(load_bytes(&[], &mut []), Ok(0));
 }
+
+#[test]
+fn a_kit_may_refuse_its_own_save() {
+    // Three wires at one output free a block of 3, which the add after them takes; loading adds all blocks first.
+    let filled = |rest| {
+        let mut list = List::new();
+        list.add(0, 1);
+        list.add(3, 0);
+        for input in 1..=3 {
+            list.link(Port(0), Port(input));
+        }
+        list.add(0, 3);
+        list.add(1_024, 0);
+        list.add(rest, 0);
+        list
+    };
+    let accepted = |list: &List| list.run().iter().all(Result::is_ok);
+    let most = (0..1_024).rev().find(|rest| accepted(&filled(*rest))).unwrap();
+    assert_eq!(List::load(&filled(most).save()).unwrap_err(), Refusal::NoSpace);
+    let less = (0..most).rev().find(|rest| List::load(&filled(*rest).save()).is_ok()).unwrap();
+    assert_eq!(most - less, 3);
+    assert_eq!(List::load(&filled(less).save()).unwrap().save(), filled(less).save());
+}

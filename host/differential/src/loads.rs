@@ -176,7 +176,7 @@ fn drawn(random: &mut Random) -> View {
     };
     let count = |bound: u32, random: &mut Random| random.below(bound) as u16;
     let mut view = View::default();
-    for _ in 0..random.below(blocks) {
+    for _ in 0..if random.one_in(20) { 0 } else { 1 + random.below(blocks) } {
         view.blocks.push([count(ports, random), count(ports, random)]);
     }
     match random.below(60) {

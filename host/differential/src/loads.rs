@@ -41,14 +41,14 @@ pub fn kinds() -> impl Iterator<Item = &'static str> {
 }
 
 /// What a file's wiring is built by, on the original.
-struct Built {
+pub(crate) struct Built {
     view: View,
     records: Vec<Record>,
-    oracle: Oracle,
+    pub(crate) oracle: Oracle,
 }
 
 /// What loading must give: 16 or 17 from the reader, then 3 or 10 from the build.
-fn built(file: &[u8]) -> Result<Built, u32> {
+pub(crate) fn built(file: &[u8]) -> Result<Built, u32> {
     let view = read(file)?;
     let (calls, oracle) = Oracle::build(&view.blocks, &view.wires)?;
     Ok(Built { view, records: calls.into_iter().map(Call::to_record).collect(), oracle })
@@ -206,6 +206,30 @@ fn drawn(random: &mut Random) -> View {
         });
     }
     view.sorted()
+}
+
+/// A file for a script to load, by its number. The first five are a small wiring, and what is refused by 16, 17, 3 and 10; the
+/// others are of any wirings, as often as not damaged, at times too wide or too large.
+pub fn given(number: u32) -> Vec<u8> {
+    let mut random = Random::new(number.into());
+    let mut view = match number {
+        0..=2 => View { blocks: vec![[0, 1], [2, 0]], wires: vec![[0, 0, 1, 0], [0, 0, 1, 1]] },
+        3 | 4 => View::default(),
+        _ => drawn(&mut random),
+    };
+    match (number, number % 8) {
+        (2, _) => view.wires.reverse(),
+        (_, 3) => view.blocks.push([1_025, 0]),
+        (_, 4) => view.blocks.extend([[1_024, 0], [0, 1_024], [1, 1]]),
+        _ => {}
+    }
+    let mut file = view.file();
+    match (number, number % 8) {
+        (1, _) => file[508] ^= 1,
+        (5.., 5..) => _ = damage(&mut file, &drawn(&mut random).file(), &mut random),
+        _ => {}
+    }
+    file
 }
 
 /// Files of any wirings, loaded closely.

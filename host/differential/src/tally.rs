@@ -3,7 +3,7 @@
 use std::collections::BTreeMap;
 use std::fmt;
 
-use crate::console::SHEETS;
+use crate::console::{LOADS, SHEETS};
 use crate::history::{By, Step, LINK_CLEAN};
 use crate::{loads, saves};
 
@@ -180,8 +180,8 @@ impl Tally {
         ];
         let clean = [(By::Rust, 0), (By::Rust, 7), (By::Added, 8), (By::Added, 10), (By::Added, 11), (By::Added, 12)];
         let clean = clean.into_iter().filter(|_| console).map(|(by, refusal)| (by, LINK_CLEAN, refusal));
-        let kinds = if self.listings() > 0 { &SHEETS[..] } else { &[] };
-        let sheets = kinds.iter().filter(|kind| !self.listings.contains_key(*kind)).map(|kind| kind.to_string());
+        let kinds = SHEETS.into_iter().chain(LOADS).filter(|_| self.listings() > 0);
+        let sheets = kinds.filter(|kind| !self.listings.contains_key(kind)).map(str::to_string);
         let all = given.into_iter().map(|(code, refusal)| (By::Rust, code, refusal));
         let all = all.chain(added.into_iter().map(|(code, refusal)| (By::Added, code, refusal)));
         let all = all.chain(reasons).chain(clean);

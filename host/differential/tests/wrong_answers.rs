@@ -1,7 +1,7 @@
 //! Wrong answers put in by hand are caught, each kind alone; without them a short run finds nothing.
 
 use differential::compare::run_records;
-use differential::console::{self, faultless};
+use differential::console::{self, careless, faultless, Careless};
 use differential::loads::{records_of_file, Entries};
 use differential::runs::{loads, records, saves, Plan};
 use differential::saves::save_records;
@@ -74,5 +74,19 @@ fn wrong_loads_are_caught() {
         let entries = Entries { load: &load, save: &save_records, run: &run_records };
         let Err(difference) = loads(entries, &Plan::SHORT) else { panic!("not caught: {}", wrong.name) };
         println!("{}: {difference}", wrong.name);
+    }
+}
+
+#[test]
+fn careless_loads_are_caught() {
+    for how in [Careless::RefusedEmpties, Careless::AcceptedKeeps, Careless::LinksBackwards] {
+        let console = |script: &[_]| careless(how, script);
+        for run in [
+            console::run(&console, Plan::SHORT.script_seeds(), &mut Tally::default()),
+            console::run_small(&console, Plan::SHORT.length, &mut Tally::default()).map(|_| ()),
+        ] {
+            let Err(difference) = run else { panic!("not caught: {how:?}") };
+            println!("{how:?}: {difference}");
+        }
     }
 }

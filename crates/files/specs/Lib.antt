@@ -5,6 +5,7 @@
 --   Layout        the bytes of a view, and the view that any bytes say
 --   Saving        the file of a graph; what saving answers and leaves in the lent buffer; refusal 15
 --   Loading       what a file is held to (16, 17), the calls that build its wiring, what a load answers and gives
+--   BuildList     the build of a file as numbers, for those who ask it elsewhere
 --   Claims        the words of the theorems: the same wiring, over the wire book; sizes
 -- Then what is proved of them:
 --   FileTheorems  every theorem with a sentence and its statement
@@ -29,6 +30,7 @@ pub mod View
 pub mod Layout
 pub mod Saving
 pub mod Loading
+pub mod BuildList
 pub mod Claims
 pub mod FileTheorems
 pub mod LayoutExample
@@ -59,3 +61,4 @@ pub mod SaveSteps
 pub mod CheckSteps
 pub mod WireSteps
 pub mod BuildSteps
+pub mod ListingSteps

@@ -105,7 +105,7 @@ pairs-counted code (suc n) (a ∷ b ∷ l) h =
     let e = bytes-long (code ∷ a ∷ b ∷ 0 ∷ 0 ∷ []) in
     omega arith
 
-requests-many : {A : Type 0} (code : ℕ) (f : A → List ℕ) → ((x : A) → length (f x) ≡ 2) → (l : List A) → length (pairRequests code (flatMap f l)) ≡ 20 * length l
+pub requests-many : {A : Type 0} (code : ℕ) (f : A → List ℕ) → ((x : A) → length (f x) ≡ 2) → (l : List A) → length (pairRequests code (flatMap f l)) ≡ 20 * length l
 requests-many code f h l = pairs-counted code (length l) (flatMap f l) (pairs-long f h l)
 
 -- Laid one after the other.

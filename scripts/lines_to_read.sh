@@ -20,4 +20,5 @@ lines portgraph Walks LinkWalks
 lines multiportgraph Walks WalkNumbers Lookups Listed
 echo 'for sheets and files besides:'
 lines sheets Theorems Sheets SheetHistory Held
-lines files View Layout Saving Claims FileTheorems
+lines files View Layout Saving Loading BuildList Claims LoadClaims FileTheorems LoadTheorems
+lines exports Exports

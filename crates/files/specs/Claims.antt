@@ -6,14 +6,15 @@ use mathlib.Core.List.{List, [], _∷_}
 use mathlib.Core.Logic.{_↔_}
 use Prim.Native.Nat.{ℕ, zero, suc, _+_, _/_, _≤_, _<_}
 use lib.Dec.{eqb, ltb}
-use lib.ListN.{length}
+use lib.ListN.{length, getD}
 use Rattle.portgraph.specs.Limits.{nodeSlots, portSlots, nodePorts}
-use Rattle.portgraph.specs.Lists.{filter, Member}
+use Rattle.portgraph.specs.Lists.{filter, Member, Rising}
 use Rattle.multiportgraph.specs.Places.{Wire, flag}
 use Rattle.theorems.specs.Book.{Block, Book}
 use Rattle.theorems.specs.Claims.{count}
 use Rattle.files.specs.View.{BlockPorts, RankWire, View, isBefore, rankWire}
 use Rattle.files.specs.Layout.{fileLength}
+use Rattle.files.specs.Loading.{blockAt}
 
 -- the rank of a node: how many blocks of the book have a smaller number
 unfoldable pub rankIn : Book → ℕ → ℕ
@@ -66,6 +67,18 @@ pub record WithinLimits (v : View) : Type 0 where
   pub output : (w : RankWire) → Member w (v .wires) → w .output < nodePorts
   pub target : (w : RankWire) → Member w (v .wires) → w .target < nodeSlots
   pub input : (w : RankWire) → Member w (v .wires) → w .input < nodePorts
+
+-- What a file may say: wires that are sorted, each from an output of a block to an input of a block.
+pub record Sound (v : View) : Type 0 where
+  pub rise : Rising AtMost (v .wires)
+  pub source : (w : RankWire) → Member w (v .wires) → w .source < length (v .blocks)
+  pub output : (w : RankWire) → Member w (v .wires) → w .output < blockAt (v .blocks) (w .source) .outgoing
+  pub target : (w : RankWire) → Member w (v .wires) → w .target < length (v .blocks)
+  pub input : (w : RankWire) → Member w (v .wires) → w .input < blockAt (v .blocks) (w .target) .incoming
+
+-- every number of a list is a byte
+abbrev pub Bytes : List ℕ → Type 0
+Bytes l = (i : ℕ) → getD l i 0 < 256
 
 -- the length of the longest file: every node slot a block, every two port slots a wire
 unfoldable pub longestFile : ℕ

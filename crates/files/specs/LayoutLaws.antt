@@ -25,7 +25,7 @@ AllFit records = (r : Record) → Member r records → FieldsFit r
 
 -- Lengths.
 
-records-length : (records : List Record) → length (flatMap recordBytes records) ≡ 8 * length records
+pub records-length : (records : List Record) → length (flatMap recordBytes records) ≡ 8 * length records
 unfolding flatMap recordBytes fieldBytes
 records-length [] = refl
 records-length (r ∷ l) = let e = records-length l in omega arith
@@ -99,16 +99,16 @@ records-read (r ∷ records) l f =
 
 module _ (kind : ℕ) (records : List Record) (l : List ℕ) where
   -- a unit and what follows it
-  unit-then : unit kind records ++ l
+  pub unit-then : unit kind records ++ l
       ≡ fieldBytes kind ++ (fieldBytes (length records) ++ (flatMap recordBytes records ++ (replicate (8 * (unitRecords - length records)) 0 ++ (wordBytes (sumOf (unitHead kind records)) ++ l))))
   unfolding unit unitHead
   unit-then = simp append-assoc
 
-  kind-read : kind < 65536 → fieldAt (unit kind records ++ l) 0 ≡ kind
+  pub kind-read : kind < 65536 → fieldAt (unit kind records ++ l) 0 ≡ kind
   unfolding fieldAt fieldBytes
   kind-read h = rw unit-then (omega arith)
 
-  unit-read : length records ≤ unitRecords → AllFit records → recordsOf (unit kind records ++ l) ≡ records
+  pub unit-read : length records ≤ unitRecords → AllFit records → recordsOf (unit kind records ++ l) ≡ records
   unfolding recordsOf fieldBytes fieldAt
   unit-read h f =
       let c : length records % 256 + 256 * (length records / 256 % 256) ≡ length records = omega arith in

@@ -39,7 +39,7 @@ fn put_records(bytes: &mut [u8], at: usize, records: &[u64], from: usize)
 }
 
 // The sum, modulo 4,294,967,296, of the 127 words from a byte position on.
-fn sum_words(bytes: &[u8], at: usize) -> u64
+pub(crate) fn sum_words(bytes: &[u8], at: usize) -> u64
     requires { ⌜ at + 508 ≤ length (now bytes) ⌝ }
     ensures { λ r. ⌜ r ≡ total 127 (λ i. wordAt (now (bytes .entry)) (at + 4 * i)) % 4294967296 ⌝ }
 {

@@ -1,4 +1,5 @@
 // One command on the graph, and the lines that answer it.
+use crate::fetch::load_from;
 use crate::help::show_help;
 use crate::listing::list;
 use crate::orders::ADD;
@@ -10,6 +11,7 @@ use crate::orders::HELP;
 use crate::orders::LINK;
 use crate::orders::LINKCLEAN;
 use crate::orders::LINKSUB;
+use crate::orders::LOAD;
 use crate::orders::NOTHING;
 use crate::orders::Order;
 use crate::orders::PLACES;
@@ -66,6 +68,7 @@ pub(crate) fn run(graph: MultiPortGraph, order: Order, text: &[u8]) -> MultiPort
         NOTHING | QUIT => graph,
         RESIZE => resize_block(graph, order),
         SHEET => link_pairs(graph, order, text),
+        LOAD => load_from(graph, order, text),
         REMOVE => request(graph, order, 0),
         ADD => request(graph, order, 2),
         UNLINK | UNLINKSUB | SUBLINK | COUNTS => request(graph, order, 3),

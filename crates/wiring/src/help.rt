@@ -43,6 +43,7 @@ List (each ends in ok NUMBER; SIDE is 0 incoming, 1 outgoing, 2 both):
   places                  all wires: NODE POSITION OFFSET NODE POSITION OFFSET each
 Keep:
   save NAME               writes the wiring to a file, at once or not at all: ok LENGTH
+  load NAME               the wiring of a file in place of this one, which stays if it is refused: ok
 Besides:
   help                    these lines
   quit                    ends the program

@@ -3,6 +3,7 @@
 mod arguments;
 mod commands;
 mod console;
+mod fetch;
 mod help;
 mod listing;
 mod orders;

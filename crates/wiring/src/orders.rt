@@ -59,9 +59,11 @@ pub(crate) const LINKCLEAN: u32 = 22;
 
 pub(crate) const SAVE: u32 = 23;
 
-pub(crate) const HELP: u32 = 24;
+pub(crate) const LOAD: u32 = 24;
 
-pub(crate) const QUIT: u32 = 25;
+pub(crate) const HELP: u32 = 25;
+
+pub(crate) const QUIT: u32 = 26;
 
 // There are fewer rows than this.
 const ROWS: u32 = 64;
@@ -278,6 +280,7 @@ places
 sheet A B A B ..
 linkclean A B
 save NAME
+load NAME
 help
 quit
 ";

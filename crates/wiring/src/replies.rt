@@ -56,6 +56,8 @@ both ends are inputs
 this end has its wire
 a sheet has at most 64 entries
 the buffer is too short for the file
+the file is damaged: a sum or the length is wrong
+the file is not laid out as a wiring's is
 ";
     line.with(b"  # ")
         .with(part(reasons, line_at(reasons, number)))

@@ -13,6 +13,7 @@ use files::save::LONGEST_FILE;
 use files::save::SaveAnswer;
 use files::save::save;
 use libc::EACCES;
+use libc::EFBIG;
 use libc::EINVAL;
 use libc::EIO;
 use libc::EISDIR;
@@ -38,6 +39,7 @@ fn show_reason(error: i32) {
         ENOTDIR => write_bytes(b"a part of the name is no folder"),
         EISDIR => write_bytes(b"this is a folder"),
         EINVAL => write_bytes(b"this is no name of a file"),
+        EFBIG => write_bytes(b"a file has at most 65536 bytes"),
         ENOSPC => write_bytes(b"the disk is full"),
         EROFS => write_bytes(b"the disk can only be read"),
         ENAMETOOLONG => write_bytes(b"the name is too long"),
@@ -46,7 +48,7 @@ fn show_reason(error: i32) {
 }
 
 // What cannot be done to a file, with the reason.
-fn show_failure(what: &[u8], name: &[u8], error: i32) {
+pub(crate) fn show_failure(what: &[u8], name: &[u8], error: i32) {
     write_bytes(what);
     write_bytes(name);
     write_bytes(b"  # ");
@@ -55,7 +57,7 @@ fn show_failure(what: &[u8], name: &[u8], error: i32) {
 }
 
 // Why the call before it failed.
-fn last_error() -> i32 {
+pub(crate) fn last_error() -> i32 {
     let error = os::errno();
     if error == 0 { EIO } else { error }
 }
@@ -73,7 +75,7 @@ fn folder_len(path: &[u8]) -> usize {
 }
 
 // Copies a text into a path from a place on.
-fn put_text(path: &mut [u8], at: usize, text: &[u8]) {
+pub(crate) fn put_text(path: &mut [u8], at: usize, text: &[u8]) {
     let mut i: usize = 0;
     while i < text.len() {
         if path.len() <= at {

@@ -35,6 +35,30 @@ pub fn run(entry: &Entry, requests: &[u8], answer_bytes: usize) -> Result<(u32, 
     lent(requests, answer_bytes, entry)
 }
 
+/// An entry that writes bytes to a buffer: what it is given, the buffer, and how many it wrote or the number of the refusal.
+pub type Writes<'a> = dyn Fn(&[u8], &mut [u8]) -> Result<usize, u32> + 'a;
+
+/// Lends bytes, and a buffer of so many, to such an entry. It must write what is expected, or refuse by that number, or by 15 if
+/// the buffer is too short; what it doesn't write must be as before.
+pub fn write(entry: &Writes, bytes: &[u8], room: usize, expected: Result<&[u8], u32>) -> Result<(), String> {
+    let expected = expected.and_then(|expected| if room < expected.len() { Err(15) } else { Ok(expected) });
+    let at = || format!("a buffer of {room} bytes");
+    let (answer, buffer) = lent(bytes, room, entry).map_err(|text| format!("{}: {text}", at()))?;
+    let must = expected.map(<[u8]>::len);
+    if answer != must {
+        return Err(format!("{}: must be {must:?}, and is {answer:?}", at()));
+    }
+    let expected = expected.unwrap_or_default();
+    let (written, rest) = buffer.split_at(expected.len());
+    if let Some(place) = written.iter().zip(expected).position(|(ours, theirs)| ours != theirs) {
+        return Err(format!("{}: byte {place} must be {}, and is {}", at(), expected[place], written[place]));
+    }
+    match untouched(rest) {
+        true => Ok(()),
+        false => Err(format!("{}: bytes that are not written were changed", at())),
+    }
+}
+
 /// Whether bytes are as before a run.
 pub fn untouched(bytes: &[u8]) -> bool {
     bytes.iter().all(|byte| *byte == UNTOUCHED)

@@ -1,5 +1,6 @@
-//! Listings, move lists and saved files: scripts for the program `wiring`, and what it must write, from the original.
+//! Listings, move lists, saved and loaded files: scripts for the program `wiring`, and what it must write, from the original.
 
+use std::collections::HashMap;
 use std::env;
 use std::io::{Read, Write};
 use std::ops::Range;
@@ -7,11 +8,12 @@ use std::path::{Path, PathBuf};
 use std::process::{Command as Process, Stdio};
 use std::thread;
 
-use driver::{Answer, Call, Listing, Random, Shape, Side, Sides, Subport, Wire};
+use driver::{Answer, Call, Listing, Oracle, Random, Shape, Side, Sides, Subport, Wire};
 
 use crate::compare::fewest;
 use crate::files::{self, Folder, View};
 use crate::history::History;
+use crate::loads::{built, given};
 use crate::tally::Tally;
 
 /// A sheet may have so many entries.
@@ -22,6 +24,24 @@ const SHEET_ENTRIES: usize = 64;
 pub struct Sheet {
     count: usize,
     pairs: [[u32; 2]; 2 * SHEET_ENTRIES],
+}
+
+/// What a script loads.
+#[derive(Clone, Copy, Debug)]
+pub enum Source {
+    /// What it saved under this number; there is no such file if it didn't.
+    Saved(u32),
+    /// A file that is there before it.
+    Given(u32),
+}
+
+impl Source {
+    fn name(self) -> String {
+        match self {
+            Source::Saved(number) => files::name(number),
+            Source::Given(number) => files::given_name(number),
+        }
+    }
 }
 
 /// A line for the console.
@@ -44,8 +64,29 @@ pub enum Command {
     Places,
     /// Saves the wiring, under a name of this number; what is compared is the file, unit by unit.
     Save(u32),
+    /// Loads a wiring.
+    Load(Source),
     /// A line that is no command.
     Nonsense(&'static str),
+}
+
+/// What a script left so far: its history and what it saved.
+#[derive(Default)]
+struct Hand {
+    history: History,
+    saved: HashMap<u32, Vec<u8>>,
+    careless: Option<Careless>,
+}
+
+/// How a console can be wrong about loading.
+#[derive(Clone, Copy, Debug)]
+pub enum Careless {
+    /// A refused load leaves an empty wiring.
+    RefusedEmpties,
+    /// An accepted load leaves the wiring in hand.
+    AcceptedKeeps,
+    /// A load links its wires from the last to the first.
+    LinksBackwards,
 }
 
 /// What the console writes for a command: items, then the last line.
@@ -136,6 +177,7 @@ impl Command {
             Command::Wires => "wires",
             Command::Places => "places",
             Command::Save(_) => "save",
+            Command::Load(_) => "load",
             Command::Nonsense(_) => "no command",
         }
     }
@@ -163,22 +205,27 @@ impl Command {
             Command::Connections(from, to) => vec![from, to],
             Command::Blocks | Command::Wires | Command::Places => Vec::new(),
             Command::Save(number) => return format!("save {}", files::name(number)),
+            Command::Load(source) => return format!("load {}", source.name()),
             Command::Nonsense(text) => return text.into(),
         };
         format!("{}{}", self.name(), words(&arguments))
     }
 
     /// What the console must write, as the line of that number; a call is made in the history.
-    fn block(self, history: &mut History, line: usize) -> Block {
+    fn block(self, hand: &mut Hand, line: usize) -> Block {
         match self {
-            Command::Call(call) => return call_block(call, history),
-            Command::LinkClean(a, b) => return link_clean_block(a, b, history),
-            Command::Sheet(sheet) => return sheet.block(history),
+            Command::Call(call) => return call_block(call, &mut hand.history),
+            Command::LinkClean(a, b) => return link_clean_block(a, b, &mut hand.history),
+            Command::Sheet(sheet) => return sheet.block(&mut hand.history),
+            Command::Load(source) => return hand.load(source),
+            Command::Save(number) => return hand.save(number),
             _ => {}
         }
-        let oracle = &history.oracle;
+        let oracle = &hand.history.oracle;
         match self {
-            Command::Call(_) | Command::LinkClean(..) | Command::Sheet(_) => unreachable!("answered above"),
+            Command::Call(_) | Command::LinkClean(..) | Command::Sheet(_) | Command::Load(_) | Command::Save(_) => {
+                unreachable!("answered above")
+            }
             Command::FanOut(port) => number(oracle.port_fan_out(port)),
             Command::BlockFanOut(node) => number(oracle.fan_out(node)),
             Command::Blocks => listing(Ok(oracle.blocks()), one),
@@ -202,15 +249,11 @@ impl Command {
                 };
                 item(&[place(*from), place(*to)].concat())
             }),
-            Command::Save(_) => {
-                let bytes = View::of(oracle).file();
-                files::items(&bytes).into_iter().chain([format!("ok {}", bytes.len())]).collect()
-            }
             Command::Nonsense(_) => vec![format!("bad line {line}")],
         }
     }
 
-    /// Whether it leaves the graph as it is, so that it may follow the resize set apart.
+    /// Whether it leaves the graph as it is, or doesn't depend on it, so that it may follow the resize set apart.
     fn reads(self) -> bool {
         match self {
             Command::Call(call) => matches!(call, Call::SubportLink { .. } | Call::Counts),
@@ -218,6 +261,40 @@ impl Command {
             Command::Sheet(_) => false,
             _ => true,
         }
+    }
+}
+
+impl Hand {
+    fn save(&mut self, number: u32) -> Block {
+        let bytes = View::of(&self.history.oracle).file();
+        let block = files::items(&bytes).into_iter().chain([format!("ok {}", bytes.len())]).collect();
+        self.saved.insert(number, bytes);
+        block
+    }
+
+    fn load(&mut self, source: Source) -> Block {
+        let file = match source {
+            Source::Saved(number) => self.saved.get(&number).cloned(),
+            Source::Given(number) => Some(given(number)),
+        };
+        let Some(file) = file else { return vec![format!("cannot read {}", source.name())] };
+        match (built(&file), self.careless) {
+            (Ok(_), Some(Careless::AcceptedKeeps)) => {}
+            (Ok(_), Some(Careless::LinksBackwards)) => {
+                let view = files::read(&file).expect("it was built");
+                let backwards: Vec<_> = view.wires.into_iter().rev().collect();
+                self.history
+                    .load(Oracle::build(&view.blocks, &backwards).map_or_else(|_| Oracle::new(), |built| built.1));
+            }
+            (Ok(built), _) => self.history.load(built.oracle),
+            (Err(refusal), careless) => {
+                if let Some(Careless::RefusedEmpties) = careless {
+                    self.history.load(Oracle::new());
+                }
+                return refused([refusal, 0, 0, 0, 0]);
+            }
+        }
+        vec!["ok".into()]
     }
 }
 
@@ -300,16 +377,42 @@ fn link_clean_block(a: u32, b: u32, history: &mut History) -> Block {
     }
 }
 
+/// The kinds of loads.
+pub const LOADS: [&str; 6] =
+    ["load, accepted", "load, no file", "load, refused 16", "load, refused 17", "load, refused 3", "load, refused 10"];
+
+/// What kind of load it is, by what the console must write for it.
+fn load_kind(block: &Block) -> &'static str {
+    match block[0].as_str() {
+        "ok" => LOADS[0],
+        "refused 16" => LOADS[2],
+        "refused 17" => LOADS[3],
+        "refused 3" => LOADS[4],
+        "refused 10" => LOADS[5],
+        _ => LOADS[1],
+    }
+}
+
+/// What the console writes for each line of a script.
+fn blocks(hand: &mut Hand, script: &[Command]) -> Vec<Block> {
+    script.iter().enumerate().map(|(line, command)| command.block(hand, line + 1)).collect()
+}
+
 /// The history of a script, and what the console must write for each line.
 fn expected(script: &[Command]) -> (History, Vec<Block>) {
-    let mut history = History::default();
-    let blocks = script.iter().enumerate().map(|(line, command)| command.block(&mut history, line + 1)).collect();
-    (history, blocks)
+    let mut hand = Hand::default();
+    let blocks = blocks(&mut hand, script);
+    (hand.history, blocks)
 }
 
 /// A console that writes what it must.
 pub fn faultless(script: &[Command]) -> Result<Vec<Block>, String> {
     Ok(expected(script).1)
+}
+
+/// A console that is wrong about loading.
+pub fn careless(how: Careless, script: &[Command]) -> Result<Vec<Block>, String> {
+    Ok(blocks(&mut Hand { careless: Some(how), ..Hand::default() }, script))
 }
 
 /// A line without the reason in words, which is for people.
@@ -321,6 +424,11 @@ pub fn without_reason(line: &str) -> &str {
 pub fn written(program: &Path, script: &[Command]) -> Result<Vec<Block>, String> {
     let failed = |error: std::io::Error| format!("{}: {error}", program.display());
     let folder = Folder::new().map_err(failed)?;
+    for command in script {
+        if let Command::Load(source @ Source::Given(number)) = command {
+            folder.put(&source.name(), &given(*number)).map_err(failed)?;
+        }
+    }
     let mut process = Process::new(program);
     process.current_dir(folder.path()).stdin(Stdio::piped()).stdout(Stdio::piped());
     let mut child = process.spawn().map_err(failed)?;
@@ -362,11 +470,11 @@ fn first_difference(console: &Console, script: &[Command]) -> Result<Option<(usi
 
 /// A script without what may not follow the resize set apart.
 fn tidy(script: &[Command]) -> Vec<Command> {
-    let mut history = History::default();
+    let mut hand = Hand::default();
     let mut kept = Vec::new();
     for command in script {
-        if !history.ended || command.reads() {
-            command.block(&mut history, 0);
+        if !hand.history.ended || command.reads() {
+            command.block(&mut hand, 0);
             kept.push(*command);
         }
     }
@@ -382,6 +490,7 @@ fn compare(console: &Console, script: &[Command], tally: &mut Tally) -> Result<(
             match command {
                 Command::Call(_) | Command::LinkClean(..) => {}
                 Command::Sheet(sheet) => tally.list(sheet.kind(&block)),
+                Command::Load(_) => tally.list(load_kind(&block)),
                 _ => tally.list(command.name()),
             }
         }
@@ -449,45 +558,92 @@ fn whole(history: &History) -> Vec<Command> {
     lists.into_iter().chain(history.oracle.blocks().into_iter().map(subports)).collect()
 }
 
-/// A random script: calls, each followed by a listing as often as not. As many links leave no stub as leave one; after a
-/// refused one of these everything is listed. Calls of refusal 2 are for records only.
-fn draw(shape: &Shape, seed: u64, lines: usize) -> Vec<Command> {
-    let mut random = Random::new(seed);
-    let mut history = History::default();
-    let mut script = Vec::new();
-    for call in shape.first_calls(&mut random) {
-        history.give(call.to_record());
-        script.push(Command::Call(call));
+/// A script as it is drawn.
+struct Drawing {
+    script: Vec<Command>,
+    hand: Hand,
+    random: Random,
+}
+
+impl Drawing {
+    fn push(&mut self, command: Command) -> Block {
+        let block = command.block(&mut self.hand, 0);
+        self.script.push(command);
+        block
     }
-    let mut drawn = 0;
-    while drawn < lines && !history.ended {
-        let call = shape.call(&history.oracle, &mut random);
-        let apart = history.set_apart(call.to_record());
-        let malformed = history.oracle.clone().ask(call).expected().is_some_and(|answer| answer[0] == 2);
-        let command = match random.below(100) {
-            0 => Command::Nonsense(random.pick(&NONSENSE).expect("some")),
-            1..=4 => Command::Save(script.len() as u32),
-            5..=49 => draw_listing(shape, &history, &mut random),
-            50..=55 => Command::Sheet(draw_sheet(shape, &history, &mut random)),
-            _ if malformed || (apart && !random.one_in(12)) => Command::Places,
-            _ => match call {
-                Call::Link { a, b } if random.one_in(2) => Command::LinkClean(a, b),
-                _ => Command::Call(call),
-            },
-        };
-        let answered = command.block(&mut history, 0);
-        script.push(command);
-        drawn += 1;
-        if matches!(command, Command::LinkClean(..)) && answered[0].starts_with("refused") {
-            script.extend(whole(&history));
+
+    /// So many calls, each followed by a listing as often as not. As many links leave no stub as leave one; after a refused one
+    /// of these everything is listed. Calls of refusal 2 are for records only.
+    fn calls(&mut self, shape: &Shape, lines: usize) {
+        let mut drawn = 0;
+        while drawn < lines && !self.hand.history.ended {
+            let (history, random) = (&self.hand.history, &mut self.random);
+            let call = shape.call(&history.oracle, random);
+            let apart = history.set_apart(call.to_record());
+            let malformed = history.oracle.clone().ask(call).expected().is_some_and(|answer| answer[0] == 2);
+            let command = match random.below(100) {
+                0 => Command::Nonsense(random.pick(&NONSENSE).expect("some")),
+                1..=4 => Command::Save(self.script.len() as u32),
+                5..=49 => draw_listing(shape, history, random),
+                50..=55 => Command::Sheet(draw_sheet(shape, history, random)),
+                _ if malformed || (apart && !random.one_in(12)) => Command::Places,
+                _ => match call {
+                    Call::Link { a, b } if random.one_in(2) => Command::LinkClean(a, b),
+                    _ => Command::Call(call),
+                },
+            };
+            let answered = self.push(command);
+            drawn += 1;
+            if matches!(command, Command::LinkClean(..)) && answered[0].starts_with("refused") {
+                self.script.extend(whole(&self.hand.history));
+            }
         }
     }
-    script.extend([Command::Wires, Command::Places, Command::Blocks, Command::Call(Call::Counts)]);
-    script.push(Command::Save(script.len() as u32));
-    for node in history.oracle.blocks().into_iter().take(8) {
-        script.extend([Command::Subports(node, Sides::Both), Command::NodeLinks(node, Sides::Both, 0, 0)]);
+
+    /// Saves the wiring; gives the number under which it did.
+    fn save(&mut self) -> u32 {
+        let number = self.script.len() as u32;
+        self.push(Command::Save(number));
+        number
     }
-    script
+
+    /// Loads, and lists everything.
+    fn load(&mut self, source: Source) {
+        self.push(Command::Load(source));
+        self.script.extend(whole(&self.hand.history));
+    }
+}
+
+/// A random script: calls and listings; then what it saved is loaded, something else is, it goes on from there, and what it saved
+/// before is loaded again.
+fn draw(shape: &Shape, seed: u64, lines: usize) -> Vec<Command> {
+    let mut drawing = Drawing { script: Vec::new(), hand: Hand::default(), random: Random::new(seed) };
+    for call in shape.first_calls(&mut drawing.random) {
+        drawing.push(Command::Call(call));
+    }
+    drawing.calls(shape, lines);
+    for command in [Command::Wires, Command::Places, Command::Blocks, Command::Call(Call::Counts)] {
+        drawing.push(command);
+    }
+    let saved = drawing.save();
+    for node in drawing.hand.history.oracle.blocks().into_iter().take(8) {
+        drawing.push(Command::Subports(node, Sides::Both));
+        drawing.push(Command::NodeLinks(node, Sides::Both, 0, 0));
+    }
+    if seed % 2 == 0 {
+        drawing.load(Source::Saved(saved));
+        drawing.calls(shape, 10);
+    }
+    for _ in 0..2 {
+        let other = Source::Given(drawing.random.below(1_000_000));
+        drawing.load(other);
+        drawing.calls(shape, 10);
+    }
+    // The first is a file that is there if no line was left out; the other never is.
+    drawing.load(Source::Saved(saved));
+    drawing.load(Source::Saved(saved + 1));
+    drawing.save();
+    drawing.script
 }
 
 /// All sheets of up to so many entries of a few ports (live, hidden after the first split, and dead), on the bench wiring's states start,
@@ -547,7 +703,7 @@ const fn unlink(port: u32) -> Command {
     Command::Call(Call::Unlink { port })
 }
 
-const SMALL: [Small; 2] = [
+const SMALL: [Small; 3] = [
     Small {
         name: "one outgoing port, two incoming",
         start: &[add(0, 1), add(2, 0)],
@@ -564,6 +720,25 @@ const SMALL: [Small; 2] = [
             unlink(0),
             Command::Call(Call::Remove { node: 1 }),
             Command::Call(add(2, 0)),
+        ],
+    },
+    Small {
+        // To save, and to load what was saved last; the numbers are given when the script is put together.
+        name: "saved and loaded",
+        start: &[add(0, 1), add(2, 0), Call::Link { a: 0, b: 2 }, Call::Link { a: 0, b: 1 }],
+        commands: &[
+            link(0, 1),
+            link(1, 2),
+            unlink(0),
+            Command::Call(Call::Remove { node: 0 }),
+            Command::Call(add(0, 2)),
+            Command::Save(0),
+            Command::Load(Source::Saved(0)),
+            Command::Load(Source::Given(0)),
+            Command::Load(Source::Given(1)),
+            Command::Load(Source::Given(2)),
+            Command::Load(Source::Given(3)),
+            Command::Load(Source::Given(4)),
         ],
     },
     Small {
@@ -597,13 +772,22 @@ fn run_all(console: &Console, small: &Small, most: usize, tally: &mut Tally) -> 
             .collect();
     }
     for commands in &scripts {
-        let mut history = History::default();
+        let mut hand = Hand::default();
         let mut script = Vec::new();
+        let mut last = 0;
         for command in small.start.iter().map(|call| Command::Call(*call)).chain(commands.iter().copied()) {
-            command.block(&mut history, 0);
+            let command = match command {
+                Command::Save(_) => {
+                    last = script.len() as u32;
+                    Command::Save(last)
+                }
+                Command::Load(Source::Saved(_)) => Command::Load(Source::Saved(last)),
+                other => other,
+            };
+            command.block(&mut hand, 0);
             script.push(command);
             if script.len() > small.start.len() {
-                script.extend(whole(&history));
+                script.extend(whole(&hand.history));
             }
         }
         compare(console, &script, tally).map_err(|text| format!("console, {}: {text}", small.name))?;

@@ -148,6 +148,11 @@ pub fn name(number: u32) -> String {
     format!("saved-{number}")
 }
 
+/// The name of a file that is there before a script.
+pub fn given_name(number: u32) -> String {
+    format!("given-{number}")
+}
+
 /// An empty folder of its own, which goes in the end.
 pub struct Folder(PathBuf);
 
@@ -167,6 +172,11 @@ impl Folder {
     /// The items of a file in it; none where there is no such file.
     pub fn items(&self, name: &str) -> Vec<String> {
         fs::read(self.0.join(name)).map_or_else(|_| vec!["  no file".into()], |bytes| items(&bytes))
+    }
+
+    /// Puts a file in it.
+    pub fn put(&self, name: &str, bytes: &[u8]) -> std::io::Result<()> {
+        fs::write(self.0.join(name), bytes)
     }
 
     /// The names of the files in it.

@@ -69,6 +69,12 @@ impl History {
         history
     }
 
+    /// Goes on from a loaded graph, also after the resize set apart.
+    pub fn load(&mut self, oracle: Oracle) {
+        self.oracle = oracle;
+        self.ended = false;
+    }
+
     /// Draws one more call, and asks the original for its answer.
     pub fn give_drawn(&mut self, shape: &Shape, random: &mut Random) {
         let record = self.draw_record(shape, random);

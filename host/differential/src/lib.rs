@@ -6,12 +6,14 @@
 //! - [`console`]: listings, move lists and saved files, through the program `wiring`.
 //! - [`files`]: a second writer and a reader of saved files, from document 02's words.
 //! - [`saves`]: files that lists are saved as, beside that writer.
+//! - [`loads`], [`broken`]: files that are loaded, whole and damaged, beside that reader and the original.
 //! - [`spoil`]: wrong answers put in by hand, to show that they are caught.
 //! - [`lists`], [`plain`], [`plain_files`]: lists that the original answers itself, the original without the driver, and a plain
-//!   writer of files over it, for the benchmark.
+//!   writer and reader of files over it, for the benchmark.
 //!
 //! What a call must answer, and whether it is compared at all, is decided by the driver on the original's side.
 
+pub mod broken;
 pub mod compare;
 pub mod console;
 pub mod damage;
@@ -20,6 +22,7 @@ pub mod files;
 pub mod growth;
 pub mod history;
 pub mod lists;
+pub mod loads;
 pub mod plain;
 pub mod plain_files;
 pub mod runs;

@@ -1,15 +1,16 @@
-//! The differential run. `--records-only` leaves out the program `wiring`; `--seed N`, `--calls N` and `--files N` choose where
-//! the seeds begin and how many calls and how many saved files of random lists are compared at least; `--spoil K` puts in the
-//! wrong answers of kind K (from 0), which must be caught.
+//! The differential run. `--records-only` leaves out the program `wiring`; `--seed N` chooses where the seeds begin; `--calls N`
+//! and `--files N` how many calls and how many saved files of random lists are compared at least, `--damaged N` how many damaged
+//! files are loaded; `--spoil K` puts in the wrong answers of kind K (from 0), which must be caught.
 
 use std::env;
 use std::process::ExitCode;
 
-use differential::compare::{run_records, Entry};
+use differential::compare::{run_records, Entry, Writes};
 use differential::console::{Command, Console};
+use differential::loads::{records_of_file, Entries};
 use differential::runs::Plan;
-use differential::saves::{save_records, Save};
-use differential::spoil::{spoiled, spoiled_console, spoiled_save, KINDS};
+use differential::saves::save_records;
+use differential::spoil::{spoiled, spoiled_console, spoiled_load, spoiled_save, KINDS};
 use differential::tally::Tally;
 use differential::{console, runs};
 
@@ -36,6 +37,7 @@ fn options() -> Result<Options, String> {
             "--seed" => options.plan.seed = number()?,
             "--calls" => options.plan.calls = number()?,
             "--files" => options.plan.files = number()?,
+            "--damaged" => options.plan.damaged = number()?,
             "--spoil" => options.spoil = Some(number()? as usize % KINDS),
             _ => return Err(format!("unknown word {word}")),
         }
@@ -56,7 +58,7 @@ fn run(options: &Options, total: &mut Tally) -> Result<(), String> {
     total.add(&other);
     lines.iter().for_each(|line| println!("{line}"));
     println!("\nrandom lists\n{random}\nother lists\n{other}");
-    let save: &Save = &|requests, file| match spoil {
+    let save: &Writes = &|requests, file| match spoil {
         Some(kind) => spoiled_save(kind, requests, file),
         None => save_records(requests, file),
     };
@@ -64,6 +66,15 @@ fn run(options: &Options, total: &mut Tally) -> Result<(), String> {
     total.add(&files);
     lines.iter().for_each(|line| println!("{line}"));
     println!("{files}");
+    let load: &Writes = &|file, requests| match spoil {
+        Some(kind) => spoiled_load(kind, file, requests),
+        None => records_of_file(file, requests),
+    };
+    let entries = Entries { load, save, run: entry };
+    let (lines, loaded) = runs::loads(entries, &options.plan)?;
+    total.add(&loaded);
+    lines.iter().for_each(|line| println!("{line}"));
+    println!("{loaded}");
     if let Some(program) = wiring {
         let mut scripts = Tally::default();
         let seeds = options.plan.script_seeds();
@@ -112,7 +123,7 @@ fn main() -> ExitCode {
     }
     let (compared, expected, listings, files) = (total.compared(), total.expected(), total.listings(), total.files());
     println!("{compared} calls compared with the Rust, {expected} expected by 01");
-    println!("{listings} listings compared, {files} saves by records");
+    println!("{listings} listings compared, {files} files saved or loaded by records");
     println!("{} passed, {failed} failed", compared + expected + listings + files);
     ExitCode::from(u8::from(failed > 0))
 }

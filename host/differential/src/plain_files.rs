@@ -1,9 +1,16 @@
-//! A plain writer of saved files over the original's graph, as one would write it in Rust. For the benchmark.
+//! A plain writer and a plain reader of saved files over the original's graph, as one would write them in Rust. For the
+//! benchmark.
 
-use driver::Graph;
-use portgraph::{LinkView, PortView};
+use driver::{Graph, MOST_PORTS};
+use portgraph::{LinkMut, LinkView, PortMut, PortView};
 
 type Record = [u16; 4];
+
+/// The sum of the 127 words before a unit's own.
+fn sum(unit: &[u8]) -> u32 {
+    let words = unit[..508].chunks_exact(4).map(|word| u32::from_le_bytes(word.try_into().expect("four bytes")));
+    words.fold(0, u32::wrapping_add)
+}
 
 /// Lays the units of a kind.
 fn lay(kind: u16, records: &[Record], units: &mut [u8]) {
@@ -15,8 +22,7 @@ fn lay(kind: u16, records: &[Record], units: &mut [u8]) {
             bytes.copy_from_slice(&field.to_le_bytes());
         }
         unused.fill(0);
-        let words = unit[..508].chunks_exact(4).map(|word| u32::from_le_bytes(word.try_into().expect("four bytes")));
-        let sum = words.fold(0, u32::wrapping_add);
+        let sum = sum(unit);
         unit[508..].copy_from_slice(&sum.to_le_bytes());
     }
 }
@@ -48,4 +54,53 @@ pub fn save(graph: &Graph, buffer: &mut [u8]) -> Option<usize> {
     lay(1, &blocks, for_blocks);
     lay(2, &wires, for_wires);
     Some(length)
+}
+
+/// Reads a file and builds its wiring; 16, 17 or 3 where it is refused. The original's tables have no end, so there is no 10.
+pub fn load(file: &[u8]) -> Result<Graph, u32> {
+    let units = file.chunks_exact(512);
+    if !units.remainder().is_empty() || units.clone().any(|unit| unit[508..] != sum(unit).to_le_bytes()) {
+        return Err(16);
+    }
+    let mut records = [Vec::with_capacity(file.len() / 8), Vec::with_capacity(file.len() / 8)];
+    let (mut kind_before, mut count_before) = (1, 63);
+    for unit in units {
+        let field = |at: usize| u16::from_le_bytes([unit[at], unit[at + 1]]);
+        let (kind, count) = (field(0), usize::from(field(2)));
+        if !(kind_before..=2).contains(&kind) || !(1..=63).contains(&count) || kind == kind_before && count_before < 63
+        {
+            return Err(17);
+        }
+        let (used, unused) = unit[4..508].split_at(8 * count);
+        if unused.iter().any(|byte| *byte != 0) {
+            return Err(17);
+        }
+        let record = |bytes: &[u8]| -> Record {
+            std::array::from_fn(|at| u16::from_le_bytes([bytes[2 * at], bytes[2 * at + 1]]))
+        };
+        records[usize::from(kind) - 1].extend(used.chunks_exact(8).map(record));
+        (kind_before, count_before) = (kind, count);
+    }
+    let [blocks, wires] = records;
+    let between = |[source, output, target, input]: &Record| {
+        let count = |rank: &u16, side: usize| blocks.get(usize::from(*rank)).map_or(0, |block| block[side]);
+        *output < count(source, 1) && *input < count(target, 0)
+    };
+    if blocks.iter().any(|block| block[2..] != [0, 0]) || !wires.is_sorted() || !wires.iter().all(between) {
+        return Err(17);
+    }
+    let mut graph = Graph::new();
+    let mut nodes = Vec::with_capacity(blocks.len());
+    for [incoming, outgoing, ..] in &blocks {
+        if u64::from(*incoming) + u64::from(*outgoing) > MOST_PORTS {
+            return Err(3);
+        }
+        nodes.push(graph.add_node((*incoming).into(), (*outgoing).into()));
+    }
+    for [source, output, target, input] in &wires {
+        let from = graph.output(nodes[usize::from(*source)], (*output).into()).expect("a position that is there");
+        let to = graph.input(nodes[usize::from(*target)], (*input).into()).expect("a position that is there");
+        graph.link_ports(from, to).expect("an output and an input");
+    }
+    Ok(graph)
 }

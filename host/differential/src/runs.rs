@@ -4,11 +4,11 @@ use std::ops::Range;
 
 use driver::{Random, Shape};
 
-use crate::compare::{compare, Entry};
+use crate::compare::{compare, Entry, Writes};
 use crate::history::History;
-use crate::saves::{self, Save};
+use crate::loads::Entries;
 use crate::tally::Tally;
-use crate::{damage, exhaustive};
+use crate::{damage, exhaustive, loads, saves};
 
 /// How much is run.
 #[derive(Clone, Copy, Debug)]
@@ -33,6 +33,10 @@ pub struct Plan {
     /// How often files of each size are compared, and full wirings.
     pub sized: u64,
     pub full: u64,
+    /// Loaded files: saved ones and others; small ones of which every byte is changed; damaged ones.
+    pub loads: u64,
+    pub small: u64,
+    pub damaged: u64,
 }
 
 impl Plan {
@@ -49,6 +53,9 @@ impl Plan {
         files: 300_000,
         sized: 20,
         full: 30,
+        loads: 20_000,
+        small: 8,
+        damaged: 1_000_000,
     };
     /// A run of seconds.
     pub const SHORT: Plan = Plan {
@@ -63,6 +70,9 @@ impl Plan {
         files: 2_000,
         sized: 1,
         full: 3,
+        loads: 400,
+        small: 1,
+        damaged: 20_000,
     };
 
     /// The seeds of the altered lists, and of the scripts.
@@ -108,13 +118,26 @@ pub fn records(entry: &Entry, plan: &Plan) -> Result<(Vec<String>, Tally, Tally)
 
 /// Files saved by records: of random lists, of sizes about the ends of units, of full wirings, and by buffers and lists of
 /// every length. Gives what was run, and the tally.
-pub fn saves(save: &Save, plan: &Plan) -> Result<(Vec<String>, Tally), String> {
+pub fn saves(save: &Writes, plan: &Plan) -> Result<(Vec<String>, Tally), String> {
     let mut tally = Tally::default();
     let lines = vec![
         saves::lengths(save, plan.lengths, &mut tally)?,
         saves::sizes(save, plan.seed..plan.seed + plan.sized, &mut tally)?,
         saves::full_wirings(save, plan.seed..plan.seed + plan.full, &mut tally)?,
         saves::random(save, plan.seed, plan.files, &mut tally)?,
+    ];
+    Ok((lines, tally))
+}
+
+/// Files loaded as records: saved ones, those of any wirings, and damaged ones. Gives what was run, and the tally.
+pub fn loads(entries: Entries, plan: &Plan) -> Result<(Vec<String>, Tally), String> {
+    let mut tally = Tally::default();
+    let lines = vec![
+        loads::saved(entries, plan.seed, plan.loads, &mut tally)?,
+        loads::any(entries, plan.seed, plan.loads, &mut tally)?,
+        loads::long(entries, &mut tally)?,
+        loads::every_byte(entries, plan.small, &mut tally)?,
+        loads::damaged(entries, plan.seed, plan.damaged, &mut tally)?,
     ];
     Ok((lines, tally))
 }

@@ -2,15 +2,12 @@
 
 use driver::{to_bytes, Call, End, Oracle, Random, Shape, Side, Sides, NODE_SLOTS, PORT_SLOTS};
 
-use crate::compare::{fewest, lent, untouched};
+use crate::compare::{fewest, write, Writes};
 use crate::files::{read, View};
 use crate::history::{History, Record};
 use crate::tally::Tally;
 
-/// The port's entry that saves: request bytes, the buffer, and the file's length or the number of the refusal.
-pub type Save<'a> = dyn Fn(&[u8], &mut [u8]) -> Result<usize, u32> + 'a;
-
-/// The entry that is linked.
+/// The entry that is linked: request bytes, the buffer, and the file's length or the number of the refusal.
 pub fn save_records(requests: &[u8], file: &mut [u8]) -> Result<usize, u32> {
     kanhtrev::save_bytes(requests, file).map_err(|refusal| refusal.number())
 }
@@ -39,7 +36,7 @@ const NONE: &str = "a buffer of no bytes";
 const LENGTH: &str = "a list of wrong length";
 
 /// The kinds of saved files, buffers and lists that a whole run must bring up.
-pub const KINDS: [&str; 13] =
+const KINDS: [&str; 13] =
     [EMPTY, PORTLESS, RANKS, REPEATS, UNSORTED, FULL, LONGEST, EXACT, LONGER, ONE_SHORT, SHORT, NONE, LENGTH];
 
 /// Those and the counts of records.
@@ -77,27 +74,8 @@ fn room_kind(room: usize, length: usize) -> &'static str {
 }
 
 /// Saves a list to a buffer of so many bytes, where `file` is the file of the wiring that it leaves.
-fn check(save: &Save, requests: &[u8], room: usize, file: &[u8]) -> Result<(), String> {
-    let expected = match () {
-        _ if requests.len() % 20 != 0 => Err(1),
-        _ if room < file.len() => Err(15),
-        _ => Ok(file.len()),
-    };
-    let at = format!("a buffer of {room} bytes");
-    let (answer, buffer) = lent(requests, room, save).map_err(|text| format!("{at}: {text}"))?;
-    if answer != expected {
-        return Err(format!("{at}: must be {expected:?}, and is {answer:?}"));
-    }
-    let (written, rest) = buffer.split_at(expected.unwrap_or(0));
-    if let Some(place) = written.iter().zip(file).position(|(ours, theirs)| ours != theirs) {
-        let (ours, theirs) = (written[place], file[place]);
-        let (unit, byte) = (place / 512, place % 512);
-        return Err(format!("{at}: byte {byte} of unit {unit} must be {theirs}, and is {ours}"));
-    }
-    match untouched(rest) {
-        true => Ok(()),
-        false => Err(format!("{at}: bytes that are no part of the file were changed")),
-    }
+fn check(save: &Writes, requests: &[u8], room: usize, file: &[u8]) -> Result<(), String> {
+    write(save, requests, room, if requests.len() % 20 == 0 { Ok(file) } else { Err(1) })
 }
 
 /// The file of what a history leaves.
@@ -106,7 +84,7 @@ fn file_of(history: &History) -> Vec<u8> {
 }
 
 /// A difference with the fewest calls that show it.
-fn shown(save: &Save, history: &History, text: String) -> String {
+fn shown(save: &Writes, history: &History, text: String) -> String {
     let difference = |records: &[Record]| {
         let history = History::of(records);
         let (requests, file) = (to_bytes(&history.records(history.steps.len())), file_of(&history));
@@ -124,7 +102,7 @@ fn shown(save: &Save, history: &History, text: String) -> String {
 }
 
 /// Compares the file of what a history leaves, in a buffer that holds it and at times in one that does not.
-fn compare(save: &Save, history: &History, random: &mut Random, tally: &mut Tally) -> Result<(), String> {
+fn compare(save: &Writes, history: &History, random: &mut Random, tally: &mut Tally) -> Result<(), String> {
     let requests = to_bytes(&history.records(history.steps.len()));
     let listed = View::listed(&history.oracle);
     let view = listed.clone().sorted();
@@ -154,7 +132,7 @@ fn compare(save: &Save, history: &History, random: &mut Random, tally: &mut Tall
 }
 
 /// Random lists of up to 400 calls, of each shape in turn, saved after each call, until so many files were compared.
-pub fn random(save: &Save, seed: u64, files: u64, tally: &mut Tally) -> Result<String, String> {
+pub fn random(save: &Writes, seed: u64, files: u64, tally: &mut Tally) -> Result<String, String> {
     let before = tally.saved;
     let mut next = seed;
     while tally.saved - before < files {
@@ -203,7 +181,7 @@ fn ports(history: &History, side: Side) -> Vec<u32> {
 
 /// A history that leaves so many blocks and so many wires. Blocks come and go before, so that numbers are used again; wires
 /// are cut at times, and repeat.
-fn sized(blocks: usize, wires: usize, random: &mut Random) -> History {
+pub(crate) fn sized(blocks: usize, wires: usize, random: &mut Random) -> History {
     let mut history = History::default();
     let spare = random.below(5) as usize;
     for _ in 0..blocks + spare {
@@ -242,7 +220,7 @@ fn sized(blocks: usize, wires: usize, random: &mut Random) -> History {
 
 /// Files of every number of blocks with every number of wires, about the ends of units, so many times; an empty graph has no
 /// wires.
-pub fn sizes(save: &Save, seeds: std::ops::Range<u64>, tally: &mut Tally) -> Result<String, String> {
+pub fn sizes(save: &Writes, seeds: std::ops::Range<u64>, tally: &mut Tally) -> Result<String, String> {
     let before = tally.saved;
     let counts = || [0, 1].into_iter().chain(SIZES.into_iter().map(|(size, _, _)| size));
     for seed in seeds.clone() {
@@ -262,7 +240,7 @@ pub fn sizes(save: &Save, seeds: std::ops::Range<u64>, tally: &mut Tally) -> Res
 }
 
 /// A history in which every port slot is wired: by many blocks, by two, or by some of random sizes.
-fn full(random: &mut Random) -> History {
+pub(crate) fn full(random: &mut Random) -> History {
     let mut history = History::default();
     match random.below(3) {
         // Two blocks that are each other's mirror, 4 ports each.
@@ -301,7 +279,7 @@ fn wire_all(history: &mut History, random: &mut Random) {
 }
 
 /// Full wirings; then blocks of each go and come again, and are wired otherwise.
-pub fn full_wirings(save: &Save, seeds: std::ops::Range<u64>, tally: &mut Tally) -> Result<String, String> {
+pub fn full_wirings(save: &Writes, seeds: std::ops::Range<u64>, tally: &mut Tally) -> Result<String, String> {
     let before = tally.saved;
     for seed in seeds.clone() {
         let mut random = Random::new(seed);
@@ -330,7 +308,7 @@ pub fn full_wirings(save: &Save, seeds: std::ops::Range<u64>, tally: &mut Tally)
 }
 
 /// Buffers of every length up to the longest that matters, for a few lists; and lists cut to every length up to so many bytes.
-pub fn lengths(save: &Save, most: usize, tally: &mut Tally) -> Result<String, String> {
+pub fn lengths(save: &Writes, most: usize, tally: &mut Tally) -> Result<String, String> {
     for (blocks, wires) in [(0, 0), (2, 1), (63, 64)] {
         let history = sized(blocks, wires, &mut Random::new(1));
         let (requests, file) = (to_bytes(&history.records(history.steps.len())), file_of(&history));

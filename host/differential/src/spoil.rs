@@ -5,6 +5,7 @@ use driver::Call;
 use crate::compare::run_records;
 use crate::console::{Block, Command, Console};
 use crate::files::{mend, MOST_RECORDS, UNIT};
+use crate::loads::records_of_file;
 use crate::saves::save_records;
 
 type Words = [u32; 5];
@@ -349,8 +350,173 @@ pub fn spoiled_save(kind: usize, requests: &[u8], file: &mut [u8]) -> Saved {
     wrong.and_then(|wrong| (wrong.alter)(saved, file)).unwrap_or(saved)
 }
 
-/// All kinds: those of answers, of listings, of commands, and of saves.
-pub const KINDS: usize = WRONG.len() + WRONG_LISTINGS.len() + WRONG_COMMANDS.len() + WRONG_SAVES.len();
+/// A load's answer: the requests' length, or the number of the refusal.
+type Loaded = Result<usize, u32>;
+
+/// A kind of wrong load, and how it alters the answer and the buffer: `None` where it doesn't apply.
+pub struct WrongLoad {
+    pub name: &'static str,
+    alter: fn(&[u8], Loaded, &mut [u8]) -> Option<Loaded>,
+}
+
+/// Loads a file that is refused for its layout after altering each unit, which comes as its kind, its count and the bytes of its
+/// records; applies where the altered file is accepted.
+fn overlooked(file: &[u8], loaded: Loaded, buffer: &mut [u8], alter: impl Fn(u8, u8, &mut [u8])) -> Option<Loaded> {
+    (loaded == Err(17)).then_some(())?;
+    let mut altered = file.to_vec();
+    for unit in altered.chunks_exact_mut(UNIT) {
+        let (head, records) = unit.split_at_mut(4);
+        alter(head[0], head[2], &mut records[..8 * MOST_RECORDS]);
+        mend(unit);
+    }
+    records_of_file(&altered, buffer).ok().map(Ok)
+}
+
+/// The last request, if it is a link.
+fn last_link(loaded: Loaded, buffer: &mut [u8]) -> Option<&mut [u8]> {
+    buffer[..loaded.ok()?].chunks_exact_mut(20).last().filter(|request| request[0] == 4)
+}
+
+/// The kinds of wrong loads.
+pub const WRONG_LOADS: [WrongLoad; 21] = [
+    WrongLoad { name: "a wrong sum is told as 17", alter: |_, loaded, _| (loaded == Err(16)).then_some(Err(17)) },
+    WrongLoad { name: "a wrong layout is told as 16", alter: |_, loaded, _| (loaded == Err(17)).then_some(Err(16)) },
+    WrongLoad {
+        name: "the layout of a unit is tested before the sum of a later one",
+        alter: |file, loaded, _| {
+            let first = file.get(..UNIT)?;
+            let broken = records_of_file(first, &mut []) == Err(17);
+            (loaded == Err(16) && broken).then_some(Err(17))
+        },
+    },
+    WrongLoad {
+        name: "a file with a wrong sum is accepted",
+        alter: |_, loaded, _| (loaded == Err(16)).then_some(Ok(0)),
+    },
+    WrongLoad {
+        name: "what follows the last whole unit is overlooked",
+        alter: |file, loaded, buffer| {
+            let whole = &file[..file.len() / UNIT * UNIT];
+            (loaded == Err(16) && whole != file).then(|| records_of_file(whole, buffer))
+        },
+    },
+    WrongLoad {
+        name: "wires that are not sorted are accepted",
+        alter: |file, loaded, buffer| {
+            overlooked(file, loaded, buffer, |kind, count, records| {
+                let used = &mut records[..8 * usize::from(count).min(MOST_RECORDS)];
+                if kind == 2 {
+                    let mut wires: Vec<Vec<u8>> = used.chunks_exact(8).map(<[u8]>::to_vec).collect();
+                    wires.sort_by_key(|wire| [1, 0, 3, 2, 5, 4, 7, 6].map(|byte: usize| wire[byte]));
+                    used.copy_from_slice(&wires.concat());
+                }
+            })
+        },
+    },
+    WrongLoad {
+        name: "unused records that are not zero are accepted",
+        alter: |file, loaded, buffer| {
+            overlooked(file, loaded, buffer, |_, count, records| {
+                records[8 * usize::from(count).min(MOST_RECORDS)..].fill(0)
+            })
+        },
+    },
+    WrongLoad {
+        name: "a block's last two fields may be any",
+        alter: |file, loaded, buffer| {
+            overlooked(file, loaded, buffer, |kind, _, records| {
+                let blocks = records.chunks_exact_mut(8).filter(|_| kind == 1);
+                blocks.for_each(|block| block[4..].fill(0));
+            })
+        },
+    },
+    WrongLoad {
+        name: "a position is held against the count of the other side",
+        alter: |file, loaded, buffer| {
+            overlooked(file, loaded, buffer, |kind, _, records| {
+                let blocks = records.chunks_exact_mut(8).filter(|_| kind == 1);
+                blocks.for_each(|block| block[..4].rotate_left(2));
+            })
+        },
+    },
+    WrongLoad { name: "a block too wide is told as 10", alter: |_, loaded, _| (loaded == Err(3)).then_some(Err(10)) },
+    WrongLoad {
+        name: "a lack of space is told as a block too wide",
+        alter: |_, loaded, _| (loaded == Err(10)).then_some(Err(3)),
+    },
+    WrongLoad {
+        name: "a wiring without space is loaded in part",
+        alter: |_, loaded, _| (loaded == Err(10)).then_some(Ok(0)),
+    },
+    WrongLoad {
+        name: "a link names the input first",
+        alter: |_, loaded, buffer| {
+            last_link(loaded, buffer)?[4..12].rotate_left(4);
+            Some(loaded)
+        },
+    },
+    WrongLoad {
+        name: "a link names the next port",
+        alter: |_, loaded, buffer| {
+            let link = last_link(loaded, buffer)?;
+            link[8] = link[8].wrapping_add(1);
+            Some(loaded)
+        },
+    },
+    WrongLoad {
+        name: "a link is left out",
+        alter: |_, loaded, buffer| {
+            last_link(loaded, buffer)?;
+            Some(Ok(loaded.ok()? - 20))
+        },
+    },
+    WrongLoad {
+        name: "links come before adds",
+        alter: |_, loaded, buffer| {
+            last_link(loaded, buffer)?;
+            buffer[..loaded.ok()?].rotate_right(20);
+            Some(loaded)
+        },
+    },
+    WrongLoad {
+        name: "a byte past the requests is cleared",
+        alter: |_, loaded, buffer| {
+            *buffer.get_mut(loaded.ok()?)? = 0;
+            Some(loaded)
+        },
+    },
+    WrongLoad {
+        name: "a refused load writes to the buffer",
+        alter: |_, loaded, buffer| {
+            loaded.err()?;
+            *buffer.first_mut()? = 1;
+            Some(loaded)
+        },
+    },
+    WrongLoad {
+        name: "a short buffer is told as no space",
+        alter: |_, loaded, _| (loaded == Err(15)).then_some(Err(10)),
+    },
+    WrongLoad {
+        name: "a buffer that just holds the requests is refused",
+        alter: |_, loaded, buffer| (loaded == Ok(buffer.len()) && !buffer.is_empty()).then_some(Err(15)),
+    },
+    WrongLoad {
+        name: "a file of no bytes is refused",
+        alter: |file, loaded, _| (file.is_empty() && loaded.is_ok()).then_some(Err(16)),
+    },
+];
+
+/// As the linked entry that loads, with a wrong answer or wrong requests where the kind applies.
+pub fn spoiled_load(kind: usize, file: &[u8], requests: &mut [u8]) -> Loaded {
+    let loaded = records_of_file(file, requests);
+    let wrong = kind.checked_sub(KINDS - WRONG_LOADS.len()).and_then(|wrong| WRONG_LOADS.get(wrong));
+    wrong.and_then(|wrong| (wrong.alter)(file, loaded, requests)).unwrap_or(loaded)
+}
+
+/// All kinds: those of answers, of listings, of commands, of saves and of loads.
+pub const KINDS: usize =
+    WRONG.len() + WRONG_LISTINGS.len() + WRONG_COMMANDS.len() + WRONG_SAVES.len() + WRONG_LOADS.len();
 
 /// As a console, with one listing altered, the last of the script that the kind applies to, or with every command altered.
 pub fn spoiled_console(kind: usize, console: &Console, script: &[Command]) -> Result<Vec<Block>, String> {

@@ -3,9 +3,9 @@
 use std::collections::BTreeMap;
 use std::fmt;
 
-use crate::console::SHEETS;
+use crate::console::{LOADS, SHEETS};
 use crate::history::{By, Step, LINK_CLEAN};
-use crate::saves;
+use crate::{loads, saves};
 
 /// The calls by code; 0 stands for unknown codes.
 pub const CALLS: [&str; LINK_CLEAN + 1] = [
@@ -33,6 +33,9 @@ pub struct Tally {
     pub saved: u64,
     /// Saves refused, for lack of room or by the list's length, with the buffer untouched.
     pub saves_refused: u64,
+    /// Files loaded, and loads refused, with the buffer untouched.
+    pub loaded: u64,
+    pub loads_refused: u64,
     /// Lists refused as a whole (refusal 1).
     pub lists_refused: u64,
     /// Items of listings and move lists, in the console's answers.
@@ -63,6 +66,15 @@ impl Tally {
         }
     }
 
+    /// Counts a loaded file, or a refused one, by its kind.
+    pub fn load(&mut self, kind: &'static str, loaded: bool) {
+        self.file(kind);
+        match loaded {
+            true => self.loaded += 1,
+            false => self.loads_refused += 1,
+        }
+    }
+
     /// Counts a kind that a file has besides.
     pub fn file(&mut self, kind: &'static str) {
         *self.files.entry(kind).or_default() += 1;
@@ -75,6 +87,8 @@ impl Tally {
         other.files.iter().for_each(|(key, count)| *self.files.entry(key).or_default() += count);
         self.saved += other.saved;
         self.saves_refused += other.saves_refused;
+        self.loaded += other.loaded;
+        self.loads_refused += other.loads_refused;
         self.lists_refused += other.lists_refused;
         self.items += other.items;
     }
@@ -94,9 +108,9 @@ impl Tally {
         self.listings.values().sum()
     }
 
-    /// Files saved by records, and refused saves.
+    /// Files saved by records and loaded as records, the refused ones included.
     pub fn files(&self) -> u64 {
-        self.saved + self.saves_refused
+        self.saved + self.saves_refused + self.loaded + self.loads_refused
     }
 
     fn by(&self, who: impl Fn(By) -> bool) -> u64 {
@@ -166,14 +180,15 @@ impl Tally {
         ];
         let clean = [(By::Rust, 0), (By::Rust, 7), (By::Added, 8), (By::Added, 10), (By::Added, 11), (By::Added, 12)];
         let clean = clean.into_iter().filter(|_| console).map(|(by, refusal)| (by, LINK_CLEAN, refusal));
-        let kinds = if self.listings() > 0 { &SHEETS[..] } else { &[] };
-        let sheets = kinds.iter().filter(|kind| !self.listings.contains_key(*kind)).map(|kind| kind.to_string());
+        let kinds = SHEETS.into_iter().chain(LOADS).filter(|_| self.listings() > 0);
+        let sheets = kinds.filter(|kind| !self.listings.contains_key(kind)).map(str::to_string);
         let all = given.into_iter().map(|(code, refusal)| (By::Rust, code, refusal));
         let all = all.chain(added.into_iter().map(|(code, refusal)| (By::Added, code, refusal)));
         let all = all.chain(reasons).chain(clean);
         let calls = all.filter(|key| !self.calls.contains_key(key)).map(|key| format!("{key:?}"));
         let notes = notes.into_iter().filter(|note| !self.notes.contains_key(note)).map(str::to_string);
-        let files = saves::kinds().filter(|kind| !self.files.contains_key(kind)).map(str::to_string);
+        let files =
+            saves::kinds().chain(loads::kinds()).filter(|kind| !self.files.contains_key(kind)).map(str::to_string);
         calls.chain(notes).chain(sheets).chain(files).collect()
     }
 }
@@ -212,8 +227,11 @@ impl fmt::Display for Tally {
         for (command, count) in &self.listings {
             writeln!(f, "  {command:28} {count:8}")?;
         }
-        if self.files() > 0 {
+        if self.saved > 0 {
             writeln!(f, "files saved: {}, and {} saves refused", self.saved, self.saves_refused)?;
+        }
+        if self.loaded > 0 {
+            writeln!(f, "files loaded: {}, and {} loads refused", self.loaded, self.loads_refused)?;
         }
         for (kind, count) in &self.files {
             writeln!(f, "  {kind:45} {count:9}")?;

@@ -1,11 +1,12 @@
 //! The reader of saved files, rule by rule, on small files made by hand; that it reads what the writer writes; and that the
-//! benchmark's plain writer writes the same.
+//! benchmark's plain writer and reader do the same.
 
+use differential::broken::damage;
 use differential::files::{mend, read, View, UNIT};
 use differential::history::History;
 use differential::lists::{to_save, SAVED};
 use differential::{plain, plain_files};
-use driver::{NODE_SLOTS, PORT_SLOTS};
+use driver::{Random, NODE_SLOTS, PORT_SLOTS};
 
 /// A unit of these fields from its start, the rest zeros, with its sum.
 fn unit(fields: &[u16]) -> Vec<u8> {
@@ -201,4 +202,38 @@ fn the_plain_writer() {
         assert!(buffer[..file.len()] == file && buffer[file.len()..] == [0xA5; 10], "{}", list.name);
         assert_eq!(plain_files::save(&graph, &mut buffer[..file.len() - 1]), None);
     }
+}
+
+#[test]
+fn the_plain_reader() {
+    let again = |file: &[u8]| {
+        let graph = plain_files::load(file)?;
+        let mut buffer = vec![0xA5; file.len()];
+        assert_eq!(plain_files::save(&graph, &mut buffer), Some(file.len()));
+        Ok::<_, u32>(buffer)
+    };
+    let mut random = Random::new(1);
+    let mut accepted = 0;
+    for list in (0..SAVED).map(to_save) {
+        let mut file = vec![0; kanhtrev::LONGEST_FILE];
+        let length = plain_files::save(&plain::graph(&list.requests), &mut file).unwrap();
+        file.truncate(length);
+        assert!(again(&file) == Ok(file.clone()), "{}", list.name);
+        // Damaged as the reader of the runs sees it, as long as no block is too wide.
+        for _ in 0..2_000 {
+            let mut damaged = file.clone();
+            damage(&mut damaged, &kit(&[0, 1]), &mut random);
+            let read = read(&damaged);
+            let wide = |view: &View| view.blocks.iter().any(|[one, other]| u32::from(*one) + u32::from(*other) > 1_024);
+            match read {
+                Ok(view) if wide(&view) => assert_eq!(again(&damaged), Err(3)),
+                Ok(_) => {
+                    assert!(again(&damaged) == Ok(damaged));
+                    accepted += 1;
+                }
+                Err(refusal) => assert_eq!(again(&damaged), Err(refusal)),
+            }
+        }
+    }
+    assert!(accepted > 100);
 }

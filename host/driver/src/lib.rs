@@ -2,12 +2,14 @@
 //!
 //! - [`Call`]: the nine calls, and their records.
 //! - [`Oracle`]: one graph of the original; [`Oracle::ask`] gives a call to it, or says why it is not given.
+//! - [`Oracle::build`]: a wiring built as a file has it, its blocks and then its wires.
 //! - [`run_list`]: a list of request records, run from an empty graph.
 //! - [`Shape`]: random calls for histories of many shapes.
 //! - The listings of [`Oracle`] (module `walk`): each walk, from the original's iterators.
 //!
 //! Everything here is decided from the original alone: from its inner graph before a call, or from the call on a clone.
 
+mod build;
 mod call;
 mod draw;
 mod list;

@@ -90,11 +90,11 @@ pub(crate) enum Standing {
 pub struct Oracle {
     pub(crate) graph: Graph,
     /// Length of the original's node table: one more than the highest node number ever live.
-    node_table: usize,
+    pub(crate) node_table: usize,
     /// Length of the original's port table.
-    port_table: usize,
+    pub(crate) port_table: usize,
     /// Events of the last accepted resize.
-    moves: Vec<Event>,
+    pub(crate) moves: Vec<Event>,
 }
 
 impl Default for Oracle {
@@ -132,7 +132,7 @@ fn event(port: PortIndex<u32>, operation: PortOperation<u32>) -> Event {
 
 /// Length of the port table: the next block at its end starts there. The original hides its vectors, and a portless
 /// node with a block of 1 hides that block's slot, so the highest live port doesn't tell.
-fn port_table(inner: &Inner) -> usize {
+pub(crate) fn port_table(inner: &Inner) -> usize {
     let mut probe = inner.clone();
     let node = probe.add_node(0, LARGER_THAN_ANY_BLOCK);
     let first = probe.all_ports(node).next().expect("the probe has ports");
@@ -140,7 +140,7 @@ fn port_table(inner: &Inner) -> usize {
 }
 
 /// One more than the highest live node number.
-fn highest_node(inner: &Inner) -> usize {
+pub(crate) fn highest_node(inner: &Inner) -> usize {
     inner.nodes_iter().last().map_or(0, |node| node.index() + 1)
 }
 

@@ -1,5 +1,5 @@
-//! Lists of wiring calls, run by the proved entry `run_records` of the crate `records`, and saved by `save_records` of the
-//! crate `exports`.
+//! Lists of wiring calls, run by the proved entry `run_records` of the crate `records`, and saved and loaded by `save_records`
+//! and `records_of_file` of the crate `exports`.
 //!
 //! A [`List`] collects calls and runs them from an empty graph; it holds no graph itself. A refused call changes nothing
 //! but what refusals 11 and 12 of a link leave prepared, and the run goes on past it.
@@ -45,6 +45,27 @@
 //! assert_eq!(list.save(), file);
 //! assert_eq!(List::new().save(), []);
 //! ```
+//!
+//! A file is loaded as the list that builds its wiring: adds and links in file order. More calls may follow.
+//!
+//! ```
+//! use kanhtrev::{Answer, Counts, List, Port, Refusal};
+//!
+//! let mut list = List::new();
+//! list.add(0, 1);
+//! list.add(2, 0);
+//! list.link(Port(0), Port(1));
+//! let mut file = list.save();
+//!
+//! let mut loaded = List::load(&file).unwrap();
+//! assert_eq!(loaded.bytes(), list.bytes());
+//! loaded.link(Port(0), Port(2));
+//! let counts = loaded.counts();
+//! assert_eq!(loaded.run()[counts], Ok(Answer::Counts(Counts { nodes: 2, ports: 3, links: 2 })));
+//!
+//! file[6] = 0; // the first block's output, without which the sum is wrong
+//! assert_eq!(List::load(&file).unwrap_err(), Refusal::WrongSum);
+//! ```
 
 use std::error::Error;
 use std::fmt;
@@ -54,6 +75,9 @@ pub const RECORD: usize = 20;
 
 /// Bytes of the longest file: 9 units of blocks, for 512 of them, and 17 of wires, for 1,024.
 pub const LONGEST_FILE: usize = 512 * (9 + 17);
+
+/// Bytes of the longest list that a file is loaded as: 512 adds and 1,024 links.
+pub const LONGEST_LOAD: usize = RECORD * (512 + 1_024);
 
 /// A node's number.
 #[derive(Clone, Copy, Debug, PartialEq, Eq, PartialOrd, Ord, Hash)]
@@ -140,8 +164,12 @@ pub enum Refusal {
     SameDirection { a: Port, b: Port, direction: Direction },
     /// 13: an end is linked. The port is an inner one.
     AlreadyLinked(Port),
-    /// 15: the lent buffer is too short. Only [`save_bytes`].
+    /// 15: the lent buffer is too short. Only [`save_bytes`] and [`load_bytes`].
     BufferShort,
+    /// 16: the length of a file is not a multiple of 512, or a unit's sum is wrong. Only [`load_bytes`].
+    WrongSum,
+    /// 17: kinds, counts, zeros, order, ranks or positions break a file's layout. Only [`load_bytes`].
+    WrongLayout,
 }
 
 impl Refusal {
@@ -162,6 +190,8 @@ impl Refusal {
             Refusal::SameDirection { .. } => 12,
             Refusal::AlreadyLinked(_) => 13,
             Refusal::BufferShort => 15,
+            Refusal::WrongSum => 16,
+            Refusal::WrongLayout => 17,
         }
     }
 
@@ -280,6 +310,15 @@ impl List {
         words(&self.requests).zip(words(&answers)).map(|(request, answer)| read(request, answer)).collect()
     }
 
+    /// The adds and links that build a file's wiring from an empty graph, in file order. Refused as [`Refusal::WrongSum`], then
+    /// as [`Refusal::WrongLayout`], then as the first of these calls that is refused.
+    pub fn load(file: &[u8]) -> Result<Self, Refusal> {
+        let mut requests = vec![0; LONGEST_LOAD];
+        let length = load_bytes(file, &mut requests)?;
+        requests.truncate(length);
+        Ok(Self { requests })
+    }
+
     /// Runs the calls from an empty graph, and gives the file of the wiring that they leave.
     pub fn save(&self) -> Vec<u8> {
         let mut file = vec![0; LONGEST_FILE];
@@ -316,12 +355,27 @@ pub fn save_bytes(requests: &[u8], file: &mut [u8]) -> Result<usize, Refusal> {
     length(unsafe { save_records(requests.as_ptr(), requests.len(), file.as_mut_ptr(), file.len()) })
 }
 
+/// Reads a file, writes the request bytes of the adds and links that build its wiring, and gives their length; bytes past
+/// them are as before. Refused as [`List::load`] is, else as [`Refusal::BufferShort`] if the requests are longer than the
+/// buffer; the buffer is then as before.
+pub fn load_bytes(file: &[u8], requests: &mut [u8]) -> Result<usize, Refusal> {
+    extern "C" {
+        fn records_of_file(file: *const u8, file_bytes: usize, requests: *mut u8, request_bytes: usize) -> u64;
+    }
+    // SAFETY: as in `run_bytes`.
+    length(unsafe { records_of_file(file.as_ptr(), file.len(), requests.as_mut_ptr(), requests.len()) })
+}
+
 /// What an entry that answers a length returned: from 4,294,967,296 on, what is above it is the number of a refusal.
 fn length(returned: u64) -> Result<usize, Refusal> {
     let Some(refusal) = returned.checked_sub(1 << 32) else { return Ok(returned as usize) };
     Err(match refusal {
         1 => Refusal::Length,
+        3 => Refusal::TooManyPorts,
+        10 => Refusal::NoSpace,
         15 => Refusal::BufferShort,
+        16 => Refusal::WrongSum,
+        17 => Refusal::WrongLayout,
         other => unreachable!("no refusal {other} of a file"),
     })
 }

@@ -1,6 +1,9 @@
 //! The bench wiring through the typed list: cases A to J, K's answers, and its file.
 
-use kanhtrev::{run_bytes, save_bytes, Answer, Counts, Direction, List, Node, Port, Refusal, Subport, LONGEST_FILE};
+use kanhtrev::{
+    load_bytes, run_bytes, save_bytes, Answer, Counts, Direction, List, Node, Port, Refusal, Subport, LONGEST_FILE,
+    LONGEST_LOAD,
+};
 
 type Ends = (Subport, Subport);
 
@@ -158,4 +161,92 @@ fn room_for_a_file() {
         refused(request_bytes, room, Refusal::Length);
     }
     assert_eq!(save_bytes(&[], &mut []), Ok(0));
+}
+
+#[test]
+fn loaded() {
+    let list = List::load(&file()).unwrap();
+    assert_eq!(list.bytes(), after(3).bytes());
+    assert_eq!(list.save(), file());
+    assert!(List::load(&[]).unwrap().is_empty());
+    // The first unit alone: the two blocks.
+    assert_eq!(List::load(&file()[..512]).unwrap().bytes(), after(0).bytes());
+    for length in [1, 511, 513, 1_023] {
+        assert_eq!(List::load(&file()[..length]).unwrap_err(), Refusal::WrongSum);
+    }
+}
+
+/// A file of one unit of blocks, with its sum.
+fn blocks(counts: &[[u16; 2]]) -> Vec<u8> {
+    let mut bytes = vec![1, 0, counts.len() as u8, 0];
+    for [incoming, outgoing] in counts {
+        bytes.extend([*incoming, *outgoing, 0, 0].iter().flat_map(|field| field.to_le_bytes()));
+    }
+    bytes.resize(508, 0);
+    let words = bytes.chunks_exact(4).map(|word| u32::from_le_bytes(word.try_into().unwrap()));
+    let sum = words.fold(0, u32::wrapping_add);
+    bytes.extend(sum.to_le_bytes());
+    bytes
+}
+
+#[test]
+fn refused_files() {
+    let refused = |file: &[u8]| List::load(file).unwrap_err();
+    assert_eq!(refused(&blocks(&[[2_000, 0]])), Refusal::TooManyPorts);
+    assert_eq!(refused(&blocks(&[[1_024, 0], [0, 1_024], [1, 0]])), Refusal::NoSpace);
+    assert_eq!(refused(&blocks(&[[1_024, 0], [0, 1_024], [1, 0], [2_000, 0]])), Refusal::NoSpace);
+    assert_eq!(refused(&blocks(&[[1_024, 0], [0, 1_024], [2_000, 0], [1, 0]])), Refusal::TooManyPorts);
+    assert_eq!(List::load(&blocks(&[[1_024, 0], [0, 1_024], [0, 0]])).unwrap().len(), 3);
+    let mut damaged = file();
+    damaged[512 + 4..512 + 20].rotate_left(8);
+    assert_eq!(refused(&damaged), Refusal::WrongLayout);
+    damaged[0] = 2;
+    assert_eq!(refused(&damaged), Refusal::WrongSum);
+}
+
+#[test]
+fn room_for_requests() {
+    let (list, file) = (after(3), file());
+    for room in [100, 101, 1_000, LONGEST_LOAD] {
+        let mut buffer = vec![0xA5; room];
+        assert_eq!(load_bytes(&file, &mut buffer), Ok(100));
+        assert_eq!(&buffer[..100], list.bytes());
+        assert!(buffer[100..].iter().all(|byte| *byte == 0xA5), "bytes past the requests were changed");
+    }
+    let refused = |file: &[u8], room, refusal: Refusal| {
+        let mut buffer = vec![0xA5; room];
+        assert_eq!(load_bytes(file, &mut buffer), Err(refusal));
+        assert!(buffer.iter().all(|byte| *byte == 0xA5), "the buffer was changed");
+    };
+    for room in [0, 1, 20, 80, 99] {
+        refused(&file, room, Refusal::BufferShort);
+        // What is wrong with a file is told first.
+        refused(&file[..600], room, Refusal::WrongSum);
+        refused(&file[512..], room, Refusal::WrongLayout);
+        refused(&blocks(&[[1_024, 1]]), room, Refusal::TooManyPorts);
+    }
+    assert_eq!(load_bytes(&[], &mut []), Ok(0));
+}
+
+#[test]
+fn a_kit_may_refuse_its_own_save() {
+    // Three wires at one output free a block of 3, which the add after them takes; loading adds all blocks first.
+    let filled = |rest| {
+        let mut list = List::new();
+        list.add(0, 1);
+        list.add(3, 0);
+        for input in 1..=3 {
+            list.link(Port(0), Port(input));
+        }
+        list.add(0, 3);
+        list.add(1_024, 0);
+        list.add(rest, 0);
+        list
+    };
+    let accepted = |list: &List| list.run().iter().all(Result::is_ok);
+    let most = (0..1_024).rev().find(|rest| accepted(&filled(*rest))).unwrap();
+    assert_eq!(List::load(&filled(most).save()).unwrap_err(), Refusal::NoSpace);
+    let less = (0..most).rev().find(|rest| List::load(&filled(*rest).save()).is_ok()).unwrap();
+    assert_eq!(most - less, 3);
+    assert_eq!(List::load(&filled(less).save()).unwrap().save(), filled(less).save());
 }

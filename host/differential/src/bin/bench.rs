@@ -10,6 +10,7 @@ use std::time::Instant;
 use differential::compare::run_records;
 use differential::growth::{tables, Case, Table};
 use differential::lists::{benchmark, to_save, List, LISTS, SAVED};
+use differential::loads::records_of_file;
 use differential::saves::save_records;
 use differential::{plain, plain_files};
 use driver::Graph;
@@ -144,6 +145,56 @@ fn files() {
     }
 }
 
+/// The sides of loading a file: the requests of its wiring, and the plain reader with the original's calls.
+const LOADING: [&str; 2] = ["load", "rust-load"];
+
+/// Loads a file by a side, so often; gives how many calls or wires it had.
+fn loading(side: &str, file: &[u8], requests: &mut [u8], times: usize) -> usize {
+    let mut run: Box<dyn FnMut() -> usize> = match side {
+        "load" => Box::new(|| records_of_file(black_box(file), requests).expect("a file that loads") / 20),
+        _ => Box::new(|| plain_files::load(black_box(file)).expect("a file that loads").link_count()),
+    };
+    (0..times).map(|_| run()).last().unwrap_or(0)
+}
+
+/// The file of a list that is saved in the benchmark.
+fn saved(list: &List) -> Vec<u8> {
+    let mut file = vec![0; kanhtrev::LONGEST_FILE];
+    let length = plain_files::save(&plain::graph(&list.requests), &mut file).expect("there is room");
+    file.truncate(length);
+    file
+}
+
+/// Loading: read, built and told as requests, beside the plain reader and the original's calls.
+fn loads() {
+    const TIMES: usize = 20;
+    let cells = |ours: f64, theirs: f64| format!(" {ours:.1} | {theirs:.1} | {:.2} |", ours / theirs);
+    println!("\n| A file loaded | blocks, wires | us | Rust, us | ratio | thousand instructions | Rust | ratio |");
+    println!("|---|---|---|---|---|---|---|---|");
+    for number in 0..SAVED {
+        let list = to_save(number);
+        let file = saved(&list);
+        let mut requests = vec![0; kanhtrev::LONGEST_LOAD];
+        let (mut calls, mut wires) = (0, 0);
+        let [ours, theirs] = least([&mut || calls = loading("load", &file, &mut requests, TIMES), &mut || {
+            wires = loading("rust-load", &file, &mut [], TIMES)
+        }]);
+        let graph = plain::graph(&requests[..20 * calls]);
+        let mut again = vec![0; file.len()];
+        assert!(
+            plain_files::save(&graph, &mut again) == Some(file.len()) && again == file,
+            "{}: another wiring",
+            list.name
+        );
+        print!("| {} | {}, {wires} |", list.name, graph.node_count());
+        print!("{}", cells(ours / (1_000 * TIMES) as f64, theirs / (1_000 * TIMES) as f64));
+        match LOADING.map(|side| instructions_a_run(side, number).map(|count| count / 1_000.0)) {
+            [Some(ours), Some(theirs)] => println!("{}", cells(ours, theirs)),
+            _ => println!(" no valgrind | | |"),
+        }
+    }
+}
+
 /// The time of a call of a case: that of many turns, less that of making the graph.
 fn a_turn(case: &Case) -> [f64; 2] {
     const TURNS: usize = 20_000;
@@ -205,14 +256,17 @@ fn by_value() {
 
 /// Runs a list by a side, so often, for valgrind to count.
 fn counted(side: &str, list: usize, times: usize) {
-    let list = if SAVING.contains(&side) { to_save(list) } else { benchmark(list, CALLS) };
-    let mut buffer = vec![0; kanhtrev::LONGEST_FILE.max(list.requests.len())];
+    let list = if matches!(side, "port" | "rust") { benchmark(list, CALLS) } else { to_save(list) };
+    let mut buffer = vec![0; kanhtrev::LONGEST_LOAD.max(list.requests.len())];
     let answers = &mut buffer[..list.requests.len()];
     match side {
         "port" => (0..times).for_each(|_| port(&list.requests, answers)),
         "rust" => (0..times).for_each(|_| rust(&list.requests, answers)),
         side if SAVING.contains(&side) => {
             saving(side, &list, &plain::graph(&list.requests), &mut buffer, times);
+        }
+        side if LOADING.contains(&side) => {
+            loading(side, &saved(&list), &mut buffer, times);
         }
         _ => panic!("no side {side}"),
     }
@@ -224,6 +278,7 @@ fn main() {
         [] => {
             the_entry();
             files();
+            loads();
             by_value();
             tables().iter().for_each(growth);
         }

@@ -1,0 +1,143 @@
+// Loading a file: sums and layout are held against the whole file, then its blocks are added and its wires linked.
+use crate::build::accepted;
+use crate::build::add_blocks;
+use crate::build::fill_firsts;
+use crate::build::link_wires;
+use crate::check::Shape;
+use crate::check::is_whole;
+use crate::check::shape_of;
+use crate::wires::wires_right;
+use multiportgraph::lent::no_held;
+use multiportgraph::lent_graph::graph_of_tables;
+use multiportgraph::multiportgraph::MultiPortGraph;
+use multiportgraph::multiportgraph::Refusal;
+use portgraph::index::FREE_LISTS;
+use portgraph::index::NODE_SLOTS;
+use portgraph::index::PORT_SLOTS;
+use portgraph::lent::NODE_WORDS;
+ghost use mathlib.Core.Path.{_≡_};
+ghost use mathlib.Core.Bool.{true};
+ghost use Prim.Native.Nat.{_%_};
+ghost use lib.ListN.{length};
+ghost use Rattle.multiportgraph.specs.Graph.{emptyGraph};
+ghost use Rattle.multiportgraph.specs.Inner.{MultiWf};
+ghost use Rattle.files.specs.Layout.{unbytes};
+ghost use Rattle.files.specs.Loading.{loadAnswer, loadGraph};
+ghost use Rattle.files.specs.LoadForms.{Laid, BuildIs};
+
+// What loading comes to.
+pub enum LoadAnswer {
+    Loaded,
+    // Refusal 16: the length is not a multiple of 512, or a unit's sum is wrong.
+    BadSums,
+    // Refusal 17: kinds, counts, zeros, order, ranks or positions break the layout.
+    BadLayout,
+    // 3 or 10: what the first add or link that is refused gives.
+    Refused(Refusal),
+}
+
+// The graph of its own that a load gives, the empty one where it is refused, and the answer.
+pub struct FileLoaded {
+    pub graph: MultiPortGraph,
+    pub answer: LoadAnswer,
+}
+
+// A refused load: the empty graph.
+fn refused(answer: LoadAnswer) -> FileLoaded
+    ensures { λ r. ⌜ r ≡ record { graph = emptyGraph; answer = answer } ⌝ }
+{
+    let graph = MultiPortGraph::new();
+    FileLoaded {
+        graph: graph,
+        answer: answer,
+    }
+}
+
+// Whether a file is laid as the writer lays it, and how many blocks and wires it then has.
+pub(crate) fn laid(file: &[u8]) -> Shape
+    requires { ⌜ length (now file) % 512 ≡ 0 ⌝ }
+    ensures { λ r. ⌜ Laid (now (file .entry)) (r .right) (r .blocks) (r .wires) ⌝ }
+{
+    let shape = shape_of(file);
+    if !shape.right {
+        return shape;
+    }
+    let blocks = shape.blocks;
+    let wires = shape.wires;
+    Shape {
+        right: wires_right(file, blocks, (blocks + 62) / 63, wires),
+        blocks: blocks,
+        wires: wires,
+    }
+}
+
+// Builds the wiring of a laid file.
+pub(crate) fn build(file: &[u8], blocks: usize, wires: usize) -> FileLoaded
+    requires { ⌜ Laid (now file) true blocks wires ⌝ }
+    ensures { λ r. ⌜ BuildIs (unbytes (now (file .entry))) r ⌝ }
+{
+    let mut nodes = [0u32; NODE_WORDS];
+    let mut links = [0u32; PORT_SLOTS];
+    let mut owners = [0u32; PORT_SLOTS];
+    let mut heads = [0u32; FREE_LISTS];
+    let mut marks = [false; PORT_SLOTS];
+    let mut flags = [false; NODE_SLOTS];
+    let held = no_held();
+    let added = add_blocks(
+        &mut nodes,
+        &mut links,
+        &mut owners,
+        &mut heads,
+        &mut marks,
+        &mut flags,
+        held,
+        file,
+        blocks,
+    );
+    let first = added.answer;
+    if !accepted(first) {
+        return refused(first);
+    }
+    let middle = added.held;
+    let mut firsts = [0u32; NODE_SLOTS];
+    fill_firsts(&mut firsts, file, blocks);
+    let linked = link_wires(
+        &mut nodes,
+        &mut links,
+        &mut owners,
+        &mut heads,
+        &mut marks,
+        &mut flags,
+        middle,
+        &firsts,
+        file,
+        blocks,
+        (blocks + 62) / 63,
+        wires,
+    );
+    let second = linked.answer;
+    if !accepted(second) {
+        return refused(second);
+    }
+    let after = linked.held;
+    let graph = graph_of_tables(&nodes, &links, &owners, &heads, &marks, &flags, after);
+    FileLoaded {
+        graph: graph,
+        answer: LoadAnswer::Loaded,
+    }
+}
+
+// Loads a file: a graph of its own and the answer. Sums are held first, over all units; then the layout, over the whole file; then the blocks
+// are added and the wires linked, as far as the first that is refused.
+pub fn load(file: &[u8]) -> FileLoaded
+    ensures { λ r. ⌜ (r ≡ record { graph = loadGraph (now (file .entry)); answer = loadAnswer (now (file .entry)) }) × MultiWf (r .graph) ⌝ }
+{
+    if !is_whole(file) {
+        return refused(LoadAnswer::BadSums);
+    }
+    let shape = laid(file);
+    if !shape.right {
+        return refused(LoadAnswer::BadLayout);
+    }
+    build(file, shape.blocks, shape.wires)
+}

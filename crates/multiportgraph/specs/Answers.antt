@@ -14,6 +14,8 @@ use Rattle.multiportgraph.specs.declared.multiportgraph.LinkAnswer.{Link
 use Rattle.multiportgraph.specs.declared.multiportgraph.LinkAnswer.the-variants as link
 use Rattle.multiportgraph.specs.declared.multiportgraph.CutAnswer.{CutAnswer}
 use Rattle.multiportgraph.specs.declared.multiportgraph.CutAnswer.the-variants as cutting
+use Rattle.multiportgraph.specs.declared.multiportgraph.EndAnswer.{EndAnswer}
+use Rattle.multiportgraph.specs.declared.multiportgraph.EndAnswer.the-variants as end
 
 abbrev pub refusalNumbers : Refusal → List ℕ
 refusalNumbers BadOffset = 2 ∷ []
@@ -46,6 +48,17 @@ linkNumbers (link.Linked a b) = 0 ∷ a .port .0 ∷ a .«subport_offset» ∷ b
 linkNumbers (link.Refused r) = refusalNumbers r
 
 abbrev pub cutNumbers : CutAnswer → List ℕ
-cutNumbers (cutting.Found s) = 0 ∷ 1 ∷ s .port .0 ∷ s .«subport_offset» ∷ []
+cutNumbers (cutting.Found s x) = 0 ∷ 1 ∷ s .port .0 ∷ s .«subport_offset» ∷ x .node .0 ∷ sideNumber (x .side) ∷ x .position ∷ []
 cutNumbers cutting.Nothing = 0 ∷ 0 ∷ 0 ∷ 0 ∷ []
 cutNumbers (cutting.Refused r) = refusalNumbers r
+
+-- The answer without the place, as the calls over lent tables give it; nothing else is left out.
+abbrev pub unplaced : CutAnswer → EndAnswer
+unplaced (cutting.Found s x) = end.Found s
+unplaced cutting.Nothing = end.Nothing
+unplaced (cutting.Refused r) = end.Refused r
+
+abbrev pub unplacedNumbers : EndAnswer → List ℕ
+unplacedNumbers (end.Found s) = 0 ∷ 1 ∷ s .port .0 ∷ s .«subport_offset» ∷ []
+unplacedNumbers end.Nothing = 0 ∷ 0 ∷ 0 ∷ 0 ∷ []
+unplacedNumbers (end.Refused r) = refusalNumbers r

@@ -15,7 +15,7 @@ use Rattle.portgraph.specs.declared.portgraph.PortLink.{PortLink}
 use Rattle.portgraph.specs.declared.portgraph.PortUnlinked as lower-unlinked
 use Rattle.portgraph.specs.declared.slots.NodeAdded as lower-added
 use Rattle.portgraph.specs.declared.slots.AddAnswer as lower-add
-use Rattle.multiportgraph.specs.Reading.{Port, dead, hidden, visible, seen, End, inner, lacking, isSplit, subport#}
+use Rattle.multiportgraph.specs.Reading.{Port, dead, hidden, visible, seen, End, inner, lacking, isSplit, subport#, standing}
 use Rattle.multiportgraph.specs.Calls.{addedAs, addBlock, cutPlain, cutPort, addBlockUnder}
 use Rattle.multiportgraph.specs.Forms.{seenAs, endAs}
 use Rattle.multiportgraph.specs.Inner.{MultiWf}
@@ -102,14 +102,14 @@ module _ (m : MultiPortGraph) where
     cut-port-seen s e = ap (cutSeen m p) (sym e) ∙ sym (cut-cases m p)
 
     pub cut-port-split : (n : ℕ) (d : Direction) (r : MultiPortGraph) → seen m p ≡ visible n d → isSplit m p ≡ true → r ≡ unsplit m p
-        → _≡_ {A = PortUnlinked} (record { graph = r; answer = cutting.Found (subport# p 0) }) (cutPort m p)
+        → _≡_ {A = PortUnlinked} (record { graph = r; answer = cutting.Found (subport# p 0) (standing m (subport# p 0)) }) (cutPort m p)
     unfolding cutPort
     cut-port-split n d r e s h = rw (e, s, h)
 
     pub cut-port-plain : (n : ℕ) (d : Direction) (u : lower-unlinked.PortUnlinked) (l : PortLink) → seen m p ≡ visible n d → isSplit m p ≡ false
-        → u ≡ unlinkPort (m .graph) p → u .answer ≡ l → _≡_ {A = PortUnlinked} (record { graph = withGraph m (u .graph); answer = cutPlain l }) (cutPort m p)
+        → u ≡ unlinkPort (m .graph) p → u .answer ≡ l → _≡_ {A = PortUnlinked} (record { graph = withGraph m (u .graph); answer = cutPlain m l }) (cutPort m p)
     unfolding cutPort
     cut-port-plain n d u l e s h k =
-        ap (λ (a : PortLink). record { graph = withGraph m (u .graph); answer = cutPlain a }) (sym k)
-        ∙ ap (λ (a : lower-unlinked.PortUnlinked). record { graph = withGraph m (a .graph); answer = cutPlain (a .answer) }) h
+        ap (λ (a : PortLink). record { graph = withGraph m (u .graph); answer = cutPlain m a }) (sym k)
+        ∙ ap (λ (a : lower-unlinked.PortUnlinked). record { graph = withGraph m (a .graph); answer = cutPlain m (a .answer) }) h
         ∙ rw (e, s)

@@ -19,15 +19,21 @@ use Rattle.portgraph.specs.declared.direction.Direction.the-variants.{Incoming,
 use Rattle.portgraph.specs.declared.port_entry.PortMeta.{PortMeta}
 use Rattle.portgraph.specs.declared.port_entry.PortEntry.{PortEntry}
 use Rattle.portgraph.specs.declared.port_entry.PortEntry.the-variants as port-variants
-use Rattle.multiportgraph.specs.Reading.{isHidden, isSplit, hidden, visible, seenEntry, seen, ownerOf, copyNode, copySide, subports, subportAt, inner, lacking, End, endAt, portOf, subport#, subportOf}
-use Rattle.multiportgraph.specs.Calls.{farSubport}
+use Rattle.multiportgraph.specs.Reading.{isHidden, isSplit, hidden, visible, seenEntry, seen, ownerOf, copyNode, copySide, subports, subportAt, inner, lacking, End, endAt, portOf, subport#, subportOf, standing, standingOf}
+use Rattle.multiportgraph.specs.Places.{portPlace}
+use Rattle.multiportgraph.specs.Calls.{farSubport, cutPlain}
 use Rattle.multiportgraph.specs.Forms.{flagAt}
 use Rattle.multiportgraph.specs.FormSteps.{flag-is}
-use Rattle.multiportgraph.specs.Inner.{inner#, copyPlace, Fine, IsEnd}
-use Rattle.multiportgraph.specs.Ends.{BlockPort, EndOf, block-seen, Hangs, split-has-copy, copy-count, copy-valid, port-of, owner-of, end-side, end-read, ends-join-ends, subport-of-hidden, subport-of-block}
-use Rattle.multiportgraph.specs.Reads.{farIn, ownerIn, seenOwner, seenIn, run, ownsUp, ownsDown, runUp, runDown, countBeside, firstBeside, endBeside, subportsIn, firstIn, endIn, copyBeside, subportOwned, subportIn, wireIn}
+use Rattle.multiportgraph.specs.Inner.{inner#, copyPlace, Fine, IsEnd, Seen}
+use Rattle.multiportgraph.specs.Ends.{BlockPort, EndOf, block-seen, Hangs, split-has-copy, copy-count, copy-valid, port-of, owner-of, end-side, end-read, ends-join-ends, subport-of-hidden, subport-of-block, outer-seen, place-of-sub, unsplit-is-end}
+use Rattle.multiportgraph.specs.Reads.{farIn, ownerIn, seenOwner, seenIn, run, ownsUp, ownsDown, runUp, runDown, countBeside, firstBeside, endBeside, subportsIn, firstIn, endIn, copyBeside, subportOwned, subportIn, placeOwned, placeIn, placedIn, wireIn, wireEndIn, plainIn}
 use Rattle.multiportgraph.specs.declared.multiportgraph.MultiPortGraph.{MultiPortGraph}
+use Rattle.multiportgraph.specs.declared.multiportgraph.SubportIndex.{SubportIndex}
+use Rattle.multiportgraph.specs.declared.multiportgraph.CutAnswer.{CutAnswer}
 use Rattle.multiportgraph.specs.declared.multiportgraph.CutAnswer.the-variants as cutting
+use Rattle.multiportgraph.specs.declared.multiportgraph.EndAnswer.the-variants as end
+use Rattle.multiportgraph.specs.declared.reads.PlacedEnd.{PlacedEnd}
+use Rattle.multiportgraph.specs.Answers.{unplaced}
 
 -- Runs.
 
@@ -162,6 +168,19 @@ twice-reversed Outgoing Incoming q = refl
 twice-reversed Incoming Incoming q = absurd (zero-is-not-one (cc))
 twice-reversed Outgoing Outgoing q = absurd (zero-is-not-one (cc))
 
+-- the reader that leaves the place out gives the same end
+pub wire-unplaced : (links owners : List ℕ) (flags : List Bool) (q : ℕ) → wireEndIn links owners flags q ≡ unplaced (wireIn links owners flags q)
+unfolding wireEndIn wireIn placedIn
+wire-unplaced links owners flags q = go (eqb (at links q) 0)
+  where
+    go : (b : Bool) → cond b end.Nothing (end.Found (subportIn links owners flags (farIn links q)))
+        ≡ unplaced (cond b cutting.Nothing (cutting.Found (subportIn links owners flags (farIn links q)) (placeIn owners (subportIn links owners flags (farIn links q) .port .0))))
+    go true = refl
+    go false = refl
+
+abbrev foundAt : PlacedEnd → CutAnswer
+foundAt r = cutting.Found (r .end) (r .place)
+
 -- the slot of the first port of a node's side
 abbrev pub rowStart : Model → ℕ → Direction → ℕ
 rowStart M c d = firstOf (M .node c) + sideStart (M .node c) d
@@ -285,6 +304,31 @@ module _ {m : MultiPortGraph} {M : Model} (f : Fine m M) where
           rw (flagged-as true h) ((λ i. subport# (c i) (o i)) ∙ sym (subport-of-hidden f z (k .main) v h (k .joined)))
       go false h = rw (flagged-as false h) (sym (subport-of-block f z (e .valid, h)))
 
+  -- where a port of a block stands
+  place-there : (x : model.InnerPlace) (o : ℕ) → Seen m M x → placeIn (m .graph .«port_meta») (slotOf (M .node) x) ≡ standing m (subport# (slotOf (M .node) x) o)
+  unfolding placeIn
+  place-there x o s =
+      let v = s .0 in
+      let r = side-row (x .node) (x .side) (omega arith) in
+      let i : runDown (m .graph .«port_meta») (at (m .graph .«port_meta») (slotOf (M .node) x)) (slotOf (M .node) x) ≡ x .pos =
+      row-offset r (slotOf (M .node) x) (omega arith) (omega arith) ∙ omega arith in
+      ap (placeOwned (m .graph .«port_meta») (slotOf (M .node) x)) (port-of-place (f .good) (f .holds) x v)
+      ∙ (ap (λ (k : ℕ). record { node = node# (x .node); side = x .side; position = k }) i
+      ∙ sym (ap portPlace (place-of-sub f x o s)))
+
+  -- an end as an inner port, and where its visible end stands
+  placed-there : (z : model.InnerPlace) → IsEnd m M z →
+      placedIn (m .graph .«port_link») (m .graph .«port_meta») (m .«copy_node») (slotOf (M .node) z)
+      ≡ record { end = subportOf m (slotOf (M .node) z); place = standingOf m (slotOf (M .node) z) }
+  unfolding placedIn
+  placed-there z e =
+      let r = outer-seen f z e in
+      let s = subport-there z e in
+      let x : placeIn (m .graph .«port_meta») (subportIn (m .graph .«port_link») (m .graph .«port_meta») (m .«copy_node») (slotOf (M .node) z) .port .0) ≡ standingOf m (slotOf (M .node) z) =
+      ap (λ (t : SubportIndex). placeIn (m .graph .«port_meta») (t .port .0)) (s ∙ r .read)
+      ∙ (place-there (r .main) (r .offset) (r .isSeen) ∙ sym (ap (standing m) (r .read))) in
+      λ i. record { end = s i; place = x i }
+
   wire-there : (x : model.InnerPlace) → IsEnd m M x →
       wireIn (m .graph .«port_link») (m .graph .«port_meta») (m .«copy_node») (slotOf (M .node) x) ≡ farSubport m (portLink (m .graph) (slotOf (M .node) x))
   unfolding wireIn
@@ -292,7 +336,7 @@ module _ {m : MultiPortGraph} {M : Model} (f : Fine m M) where
     where
       go : (y : Far) → M .join x ≡ y →
           cond (eqb (at (m .graph .«port_link») (slotOf (M .node) x)) 0) cutting.Nothing
-          (cutting.Found (subportIn (m .graph .«port_link») (m .graph .«port_meta») (m .«copy_node») (farIn (m .graph .«port_link») (slotOf (M .node) x))))
+          (foundAt (placedIn (m .graph .«port_link») (m .graph .«port_meta») (m .«copy_node») (farIn (m .graph .«port_link») (slotOf (M .node) x))))
           ≡ farSubport m (portLink (m .graph) (slotOf (M .node) x))
       go nowhere j =
           rw (eq-eqb (at (m .graph .«port_link») (slotOf (M .node) x)) 0 (link-none (f .good) (f .holds) x (e .valid) j))
@@ -300,7 +344,26 @@ module _ {m : MultiPortGraph} {M : Model} (f : Fine m M) where
       go (to y) j =
           let l = link-to (f .good) (f .holds) x y (e .valid) j in
           rw (ne-eqb (at (m .graph .«port_link») (slotOf (M .node) x)) 0 (λ z. omega arith), far-is x y j)
-          (ap cutting.Found (subport-there y (ends-join-ends f x y e j)) ∙ sym (ap (farSubport m) (port-link-to (f .good) (f .holds) x y (e .valid) j)))
+          (ap foundAt (placed-there y (ends-join-ends f x y e j)) ∙ sym (ap (farSubport m) (port-link-to (f .good) (f .holds) x y (e .valid) j)))
+
+  -- an unsplit port: what cutting it answers
+  plain-there : (x : model.InnerPlace) → IsEnd m M x →
+      plainIn (m .graph .«port_link») (m .graph .«port_meta») (m .«copy_node») (slotOf (M .node) x) ≡ cutPlain m (portLink (m .graph) (slotOf (M .node) x))
+  unfolding plainIn
+  plain-there x e = go (M .join x) refl
+    where
+      go : (y : Far) → M .join x ≡ y →
+          cond (eqb (at (m .graph .«port_link») (slotOf (M .node) x)) 0) cutting.Nothing
+          (cutting.Found (subport# (farIn (m .graph .«port_link») (slotOf (M .node) x)) 0) (placedIn (m .graph .«port_link») (m .graph .«port_meta») (m .«copy_node») (farIn (m .graph .«port_link») (slotOf (M .node) x)) .place))
+          ≡ cutPlain m (portLink (m .graph) (slotOf (M .node) x))
+      go nowhere j =
+          rw (eq-eqb (at (m .graph .«port_link») (slotOf (M .node) x)) 0 (link-none (f .good) (f .holds) x (e .valid) j))
+          (sym (ap (cutPlain m) (port-link-none (f .good) (f .holds) x (e .valid) j)))
+      go (to y) j =
+          let l = link-to (f .good) (f .holds) x y (e .valid) j in
+          rw (ne-eqb (at (m .graph .«port_link») (slotOf (M .node) x)) 0 (λ z. omega arith), far-is x y j)
+          (ap (λ (r : PlacedEnd). cutting.Found (subport# (slotOf (M .node) y) 0) (r .place)) (placed-there y (ends-join-ends f x y e j))
+          ∙ sym (ap (cutPlain m) (port-link-to (f .good) (f .holds) x y (e .valid) j)))
 
   -- By numbers, as the code has them.
   module _ (p n : ℕ) (d : Direction) (s : seen m p ≡ visible n d) where
@@ -319,6 +382,15 @@ module _ {m : MultiPortGraph} {M : Model} (f : Fine m M) where
     first-read t =
         (λ i. firstIn (m .graph .«port_link») (m .graph .«port_meta») (sym (block .slot) i) (sym (block .side) i))
         ∙ (first-there (block .place) (split-there t) ∙ (λ i. subportAt m (block .slot i) (block .side i) 0))
+
+    -- where the port stands, and what cutting it answers where it is not split
+    pub place-read : placeIn (m .graph .«port_meta») p ≡ standing m (subport# p 0)
+    place-read = subst (λ (q : ℕ). placeIn (m .graph .«port_meta») q ≡ standing m (subport# q 0)) (block .slot) (place-there (block .place) 0 (block .isSeen))
+
+    pub plain-read : isSplit m p ≡ false → plainIn (m .graph .«port_link») (m .graph .«port_meta») (m .«copy_node») p ≡ cutPlain m (portLink (m .graph) p)
+    plain-read t =
+        subst (λ (q : ℕ). plainIn (m .graph .«port_link») (m .graph .«port_meta») (m .«copy_node») q ≡ cutPlain m (portLink (m .graph) q)) (block .slot)
+        (plain-there (block .place) (unsplit-is-end f (block .place) (block .isSeen) (ap (isSplit m) (block .slot) ∙ t)))
 
     -- the hidden node of a split port: its number, its copy port, and its other side
     pub owner-read : isSplit m p ≡ true → ownerIn (m .graph .«port_meta») (farIn (m .graph .«port_link») p) ≡ copyNode m p

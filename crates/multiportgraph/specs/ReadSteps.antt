@@ -4,6 +4,7 @@ use mathlib.Core.Bool.{Bool, true, false, cond}
 use mathlib.Core.List.{List}
 use Prim.Native.Nat.{ℕ, zero, suc, _+_, _-_, _≤_, _<_, min}
 use native.Mathlib.Omega.{arith}
+use lib.Dec.{eqb}
 use borrow.Author.Tests.{eq-eqb, ne-eqb, lt-ltb, le-ltb}
 use Rattle.portgraph.specs.Limits.{nodeSlots, portSlots}
 use Rattle.portgraph.specs.Entries.{portEntry}
@@ -14,12 +15,15 @@ use Rattle.portgraph.specs.declared.port_entry.PortMeta.{PortMeta}
 use Rattle.portgraph.specs.declared.port_entry.PortEntry.the-variants as port-variants
 use Rattle.multiportgraph.specs.Reading.{hidden, visible, subport#}
 use Rattle.multiportgraph.specs.Forms.{flagAt, seenAs, endAs}
-use Rattle.multiportgraph.specs.Reads.{farIn, seenOwner, seenIn, run, ownsUp, ownsDown, runUp, runDown, countBeside, firstBeside, endBeside, subportsIn, firstIn, endIn, copyBeside, subportOwned, subportIn, wireIn}
+use Rattle.multiportgraph.specs.Reads.{farIn, seenOwner, seenIn, run, ownsUp, ownsDown, runUp, runDown, countBeside, firstBeside, endBeside, subportsIn, firstIn, endIn, copyBeside, subportOwned, subportIn, noPlace, placeOwned, placeIn, placedIn, wireIn, wireEndIn, plainIn}
 use Rattle.multiportgraph.specs.declared.ends.SeenPort.the-variants as seen-port
 use Rattle.multiportgraph.specs.declared.ends.EndFound.{EndFound}
 use Rattle.multiportgraph.specs.declared.ends.EndFound.the-variants as end-found
 use Rattle.multiportgraph.specs.declared.multiportgraph.SubportIndex.{SubportIndex}
+use Rattle.multiportgraph.specs.declared.multiportgraph.PortPlace.{PortPlace}
 use Rattle.multiportgraph.specs.declared.multiportgraph.CutAnswer.the-variants as cutting
+use Rattle.multiportgraph.specs.declared.multiportgraph.EndAnswer.the-variants as end
+use Rattle.multiportgraph.specs.declared.reads.PlacedEnd.{PlacedEnd}
 
 -- The loop of a run.
 
@@ -221,14 +225,60 @@ module _ (owners : List ℕ) (flags : List Bool) (p w a : ℕ) (e : w ≡ p) (f 
         ap (λ (q : Bool). cond q (subport# (farIn links (copyBeside owners p (k .direction))) (runDown owners (at owners p) p)) (subport# p 0)) (sym (flag-told false n))
         ∙ ap (subportOwned links owners flags p) (sym g ∙ owner-is)
 
+-- Where a port stands.
+module _ (owners : List ℕ) (p w a : ℕ) (e : w ≡ p) (f : a ≡ at owners w) where
+  owned : portEntry a ≡ portEntry (at owners p)
+  owned = ap portEntry (f ∙ ap (at owners) e)
+
+  pub place-nowhere : (x : PortPlace) → portEntry a ≡ port-variants.Free → x ≡ noPlace → x ≡ placeIn owners p
+  unfolding placeIn
+  place-nowhere x g h = h ∙ ap (placeOwned owners p) (sym g ∙ owned)
+
+  pub place-told : (k : PortMeta) (n u : ℕ) → portEntry a ≡ port-variants.Port k → u ≡ p → n ≡ runDown owners a u →
+      _≡_ {A = PortPlace} (record { node = k .node; side = k .direction; position = n }) (placeIn owners p)
+  unfolding placeIn
+  place-told k n u g h l =
+      let y : n ≡ runDown owners (at owners p) p = rw (l, h, f, e) in
+      ap (λ (i : ℕ). record { node = k .node; side = k .direction; position = i }) y ∙ ap (placeOwned owners p) (sym g ∙ owned)
+
+-- a visible end, by its subport and its place
+pub placed-told : (links owners : List ℕ) (flags : List Bool) (q : ℕ) (s : SubportIndex) (x : PortPlace) → s ≡ subportIn links owners flags q → x ≡ placeIn owners (s .port .0)
+    → _≡_ {A = PlacedEnd} (record { end = s; place = x }) (placedIn links owners flags q)
+unfolding placedIn
+placed-told links owners flags q s x g h =
+    let y : x ≡ placeIn owners (subportIn links owners flags q .port .0) = h ∙ ap (λ (t : SubportIndex). placeIn owners (t .port .0)) g in
+    λ i. record { end = g i; place = y i }
+
 module _ (links owners : List ℕ) (flags : List Bool) (p w a : ℕ) (e : w ≡ p) (f : a ≡ at links w) where
+  none-there : a ≡ 0 → eqb (at links p) 0 ≡ true
+  none-there z = eq-eqb (at links p) 0 (ap (at links) (sym e) ∙ sym f ∙ z)
+
+  one-there : (a ≡ 0 → ⊥) → eqb (at links p) 0 ≡ false
+  one-there z = ne-eqb (at links p) 0 (λ y. z (f ∙ ap (at links) e ∙ y))
+
   pub no-wire : a ≡ 0 → cutting.Nothing ≡ wireIn links owners flags p
   unfolding wireIn
-  no-wire z = rw (eq-eqb (at links p) 0 (ap (at links) (sym e) ∙ sym f ∙ z))
+  no-wire z = rw (none-there z)
 
-  pub one-wire : (v q : ℕ) (s : SubportIndex) → (a ≡ 0 → ⊥) → v ≡ p → q ≡ farIn links v → s ≡ subportIn links owners flags q → cutting.Found s ≡ wireIn links owners flags p
+  pub one-wire : (v q : ℕ) (s : PlacedEnd) → (a ≡ 0 → ⊥) → v ≡ p → q ≡ farIn links v → s ≡ placedIn links owners flags q → cutting.Found (s .end) (s .place) ≡ wireIn links owners flags p
   unfolding wireIn
-  one-wire v q s z h g k = rw (ne-eqb (at links p) 0 (λ y. z (f ∙ ap (at links) e ∙ y)), k, g, h)
+  one-wire v q s z h g k = rw (one-there z, k, g, h)
+
+  pub no-wire-end : a ≡ 0 → end.Nothing ≡ wireEndIn links owners flags p
+  unfolding wireEndIn
+  no-wire-end z = rw (none-there z)
+
+  pub one-wire-end : (v q : ℕ) (s : SubportIndex) → (a ≡ 0 → ⊥) → v ≡ p → q ≡ farIn links v → s ≡ subportIn links owners flags q → end.Found s ≡ wireEndIn links owners flags p
+  unfolding wireEndIn
+  one-wire-end v q s z h g k = rw (one-there z, k, g, h)
+
+  pub no-plain : a ≡ 0 → cutting.Nothing ≡ plainIn links owners flags p
+  unfolding plainIn
+  no-plain z = rw (none-there z)
+
+  pub one-plain : (v q : ℕ) (s : PlacedEnd) → (a ≡ 0 → ⊥) → v ≡ p → q ≡ farIn links v → s ≡ placedIn links owners flags q → cutting.Found (subport# q 0) (s .place) ≡ plainIn links owners flags p
+  unfolding plainIn
+  one-plain v q s z h g k = rw (one-there z, k, g, h)
 
 pub subports-bound : (links owners : List ℕ) (p : ℕ) (d : Direction) → subportsIn links owners p d ≤ portSlots
 unfolding subportsIn countBeside

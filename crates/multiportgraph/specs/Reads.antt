@@ -7,7 +7,7 @@ use lib.Dec.{eqb, ltb}
 use Rattle.portgraph.specs.Limits.{nodeSlots, portSlots}
 use Rattle.portgraph.specs.Entries.{portEntry}
 use Rattle.portgraph.specs.Tables.{at, linkBoth, cut}
-use Rattle.portgraph.specs.Lookups.{nodeOf}
+use Rattle.portgraph.specs.Lookups.{node#, nodeOf}
 use Rattle.portgraph.specs.declared.direction.Direction.{Direction}
 use Rattle.portgraph.specs.declared.direction.Direction.the-variants.{Incoming, Outgoing}
 use Rattle.portgraph.specs.declared.port_entry.PortEntry.{PortEntry}
@@ -15,8 +15,12 @@ use Rattle.portgraph.specs.declared.port_entry.PortEntry.the-variants as port-v
 use Rattle.multiportgraph.specs.Reading.{nodeNumber, Port, dead, hidden, visible, End, inner, lacking, subport#}
 use Rattle.multiportgraph.specs.Forms.{flagAt}
 use Rattle.multiportgraph.specs.declared.multiportgraph.SubportIndex.{SubportIndex}
+use Rattle.multiportgraph.specs.declared.multiportgraph.PortPlace.{PortPlace}
 use Rattle.multiportgraph.specs.declared.multiportgraph.CutAnswer.{CutAnswer}
 use Rattle.multiportgraph.specs.declared.multiportgraph.CutAnswer.the-variants as cutting
+use Rattle.multiportgraph.specs.declared.multiportgraph.EndAnswer.{EndAnswer}
+use Rattle.multiportgraph.specs.declared.multiportgraph.EndAnswer.the-variants as end
+use Rattle.multiportgraph.specs.declared.reads.PlacedEnd.{PlacedEnd}
 
 -- the slot that a slot is linked with; 0 for none
 unfoldable pub farIn : List ℕ → ℕ → ℕ
@@ -97,9 +101,37 @@ subportOwned links owners flags q (port-variants.Port k) =
 unfoldable pub subportIn : List ℕ → List ℕ → List Bool → ℕ → SubportIndex
 subportIn links owners flags q = subportOwned links owners flags q (portEntry (at owners q))
 
--- what an end is linked with
+-- Where a port of a block stands: its owner tells node and side, and as many slots of that owner lie below it as its position says.
+
+abbrev pub noPlace : PortPlace
+noPlace = record { node = node# 0; side = Incoming; position = 0 }
+
+abbrev pub placeOwned : List ℕ → ℕ → PortEntry → PortPlace
+placeOwned owners p port-variants.Free = noPlace
+placeOwned owners p (port-variants.Port k) = record { node = k .node; side = k .direction; position = runDown owners (at owners p) p }
+
+unfoldable pub placeIn : List ℕ → ℕ → PortPlace
+placeIn owners p = placeOwned owners p (portEntry (at owners p))
+
+-- an inner port's visible end, with where it stands
+unfoldable pub placedIn : List ℕ → List ℕ → List Bool → ℕ → PlacedEnd
+placedIn links owners flags q =
+    record { end = subportIn links owners flags q; place = placeIn owners (subportIn links owners flags q .port .0) }
+
+-- what an end is linked with; the same without the place
 unfoldable pub wireIn : List ℕ → List ℕ → List Bool → ℕ → CutAnswer
-wireIn links owners flags q = cond (eqb (at links q) 0) cutting.Nothing (cutting.Found (subportIn links owners flags (farIn links q)))
+wireIn links owners flags q =
+    cond (eqb (at links q) 0) cutting.Nothing
+    (cutting.Found (placedIn links owners flags (farIn links q) .end) (placedIn links owners flags (farIn links q) .place))
+
+unfoldable pub wireEndIn : List ℕ → List ℕ → List Bool → ℕ → EndAnswer
+wireEndIn links owners flags q = cond (eqb (at links q) 0) end.Nothing (end.Found (subportIn links owners flags (farIn links q)))
+
+-- what cutting an unsplit port answers
+unfoldable pub plainIn : List ℕ → List ℕ → List Bool → ℕ → CutAnswer
+plainIn links owners flags p =
+    cond (eqb (at links p) 0) cutting.Nothing
+    (cutting.Found (subport# (farIn links p) 0) (placedIn links owners flags (farIn links p) .place))
 
 -- What a split does to the links: the port hangs on the copy port, and its old link is at the first subport.
 unfoldable pub hangOn : List ℕ → ℕ → ℕ → ℕ → List ℕ

@@ -34,6 +34,7 @@ use Rattle.multiportgraph.specs.Wires.{wireTo}
 use Rattle.multiportgraph.specs.Listing.{filter-append}
 use Rattle.multiportgraph.specs.Scans.{firstFound, linkPort, spanFirst, spanCount, notOwnOutput, passesIn, linksIn, portLinksBy, portLinksIn, linksRest, beyondIn, blockLinksIn, wiresIn}
 use Rattle.multiportgraph.specs.declared.multiportgraph.SubportIndex.{SubportIndex}
+use Rattle.multiportgraph.specs.declared.multiportgraph.PortPlace.{PortPlace}
 use Rattle.multiportgraph.specs.declared.multiportgraph.SubportLink.{SubportLink}
 use Rattle.multiportgraph.specs.declared.multiportgraph.Refusal.{Refusal}
 use Rattle.multiportgraph.specs.declared.multiportgraph.CutAnswer.{CutAnswer}
@@ -149,15 +150,15 @@ module _ (links owners : List ℕ) (flags : List Bool) (t : SubportLink → Bool
   unfolding firstFound filter
   end-nothing x e h = ap (λ y. firstFound (filter t (wireTo q y))) (sym h) ∙ end-by x e
 
-  module _ (x : CutAnswer) (to : SubportIndex) (e : x ≡ wireIn links owners flags s) (h : x ≡ cutting.Found to) where
-    end-found : firstFound (filter t (record { from = q; to = to } ∷ [])) ≡ firstFound (filter t (wireTo q (wireIn links owners flags s)))
+  module _ (x : CutAnswer) (to : SubportIndex) (place : PortPlace) (e : x ≡ wireIn links owners flags s) (h : x ≡ cutting.Found to place) where
+    end-found : firstFound (filter t (record { from = q; to = to; place = place } ∷ [])) ≡ firstFound (filter t (wireTo q (wireIn links owners flags s)))
     end-found = ap (λ y. firstFound (filter t (wireTo q y))) (sym h) ∙ end-by x e
 
-    pub end-given : t (record { from = q; to = to }) ≡ true → found.Link (record { from = q; to = to }) ≡ firstFound (filter t (wireTo q (wireIn links owners flags s)))
+    pub end-given : t (record { from = q; to = to; place = place }) ≡ true → found.Link (record { from = q; to = to; place = place }) ≡ firstFound (filter t (wireTo q (wireIn links owners flags s)))
     unfolding firstFound filter
     end-given g = rw (sym end-found, g)
 
-    pub end-passed : t (record { from = q; to = to }) ≡ false → found.None ≡ firstFound (filter t (wireTo q (wireIn links owners flags s)))
+    pub end-passed : t (record { from = q; to = to; place = place }) ≡ false → found.None ≡ firstFound (filter t (wireTo q (wireIn links owners flags s)))
     unfolding firstFound filter
     end-passed g = rw (sym end-found, g)
 

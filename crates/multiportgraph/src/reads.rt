@@ -5,9 +5,12 @@ use crate::ends::SeenPort;
 use crate::marks::flagged;
 use crate::marks::marked;
 use crate::multiportgraph::CutAnswer;
+use crate::multiportgraph::EndAnswer;
+use crate::multiportgraph::PortPlace;
 use crate::multiportgraph::SubportIndex;
 use portgraph::direction::Direction;
 use portgraph::index::NODE_SLOTS;
+use portgraph::index::NodeIndex;
 use portgraph::index::PORT_SLOTS;
 use portgraph::index::PortIndex;
 use portgraph::numbers::less;
@@ -19,7 +22,24 @@ ghost use mathlib.Core.Path.{_≡_};
 ghost use Prim.Native.Nat.{_+_, _≤_, min};
 ghost use Rattle.portgraph.specs.Limits.{portSlots};
 ghost use Rattle.multiportgraph.specs.Forms.{seenAs, endAs, lowestUnlinked};
-ghost use Rattle.multiportgraph.specs.Reads.{farIn, ownerIn, seenIn, runUp, runDown, countBeside, firstBeside, endBeside, subportsIn, firstIn, endIn, copyBeside, subportIn, wireIn};
+ghost use Rattle.multiportgraph.specs.Reads.{farIn, ownerIn, seenIn, runUp, runDown, countBeside, firstBeside, endBeside, subportsIn, firstIn, endIn, copyBeside, subportIn, noPlace, placeIn, placedIn, wireIn, wireEndIn, plainIn};
+
+// A subport with where it stands.
+pub struct PlacedEnd {
+    pub end: SubportIndex,
+    pub place: PortPlace,
+}
+
+// The place that a port which is not live is given.
+fn nowhere() -> PortPlace
+    ensures { λ r. ⌜ r ≡ noPlace ⌝ }
+{
+    PortPlace {
+        node: NodeIndex(0),
+        side: Direction::Incoming,
+        position: 0,
+    }
+}
 
 // The slot that a slot is linked with; 0 for none.
 pub(crate) fn far_in(links: &[u32; PORT_SLOTS], slot: usize) -> u32
@@ -228,7 +248,68 @@ pub(crate) fn subport_in<'a>(
     }
 }
 
-// What an end is linked with.
+// Where a port of a block stands.
+pub(crate) fn place_in(owners: &[u32; PORT_SLOTS], port: u32) -> PortPlace
+    ensures { λ r. ⌜ r ≡ placeIn (now (owners .entry)) port ⌝ }
+{
+    let owner = at(owners, wide(port));
+    let PortEntry::Port(meta) = PortEntry::read(owner) else {
+        return nowhere();
+    };
+    let position = run_down(owners, owner, wide(port));
+    PortPlace {
+        node: meta.node,
+        side: meta.direction,
+        position: position as u16,
+    }
+}
+
+// The subport that an inner port is, and where it stands. A run along its owner tells its offset, or its position.
+fn placed_in<'a>(
+    links: &'a [u32; PORT_SLOTS],
+    owners: &'a [u32; PORT_SLOTS],
+    flags: &'a [bool; NODE_SLOTS],
+    port: u32,
+) -> PlacedEnd
+    ensures { λ r. ⌜ r ≡ placedIn (now (links .entry)) (now (owners .entry)) (now (flags .entry)) port ⌝ }
+{
+    let owner = at(owners, wide(port));
+    let PortEntry::Port(meta) = PortEntry::read(owner) else {
+        return PlacedEnd {
+            end: SubportIndex {
+                port: PortIndex(port),
+                subport_offset: 0,
+            },
+            place: nowhere(),
+        };
+    };
+    let node = meta.node;
+    let direction = meta.direction;
+    let below = run_down(owners, owner, wide(port));
+    if flagged(flags, wide(node.0)) {
+        let main = far_in(links, copy_beside(owners, port, direction));
+        return PlacedEnd {
+            end: SubportIndex {
+                port: PortIndex(main),
+                subport_offset: below as u16,
+            },
+            place: place_in(owners, main),
+        };
+    }
+    PlacedEnd {
+        end: SubportIndex {
+            port: PortIndex(port),
+            subport_offset: 0,
+        },
+        place: PortPlace {
+            node: node,
+            side: direction,
+            position: below as u16,
+        },
+    }
+}
+
+// What an end is linked with, and where that stands.
 pub(crate) fn wire_in<'a>(
     links: &'a [u32; PORT_SLOTS],
     owners: &'a [u32; PORT_SLOTS],
@@ -240,7 +321,46 @@ pub(crate) fn wire_in<'a>(
     if at(links, wide(port)) == 0 {
         return CutAnswer::Nothing;
     }
-    CutAnswer::Found(subport_in(links, owners, flags, far_in(links, wide(port))))
+    let far = placed_in(links, owners, flags, far_in(links, wide(port)));
+    CutAnswer::Found(far.end, far.place)
+}
+
+// What an end is linked with.
+pub(crate) fn wire_end_in<'a>(
+    links: &'a [u32; PORT_SLOTS],
+    owners: &'a [u32; PORT_SLOTS],
+    flags: &'a [bool; NODE_SLOTS],
+    port: u32,
+) -> EndAnswer
+    ensures { λ r. ⌜ r ≡ wireEndIn (now (links .entry)) (now (owners .entry)) (now (flags .entry)) port ⌝ }
+{
+    if at(links, wide(port)) == 0 {
+        return EndAnswer::Nothing;
+    }
+    EndAnswer::Found(subport_in(links, owners, flags, far_in(links, wide(port))))
+}
+
+// What cutting an unsplit port answers: its inner far port, and where the visible end of that stands.
+pub(crate) fn plain_in<'a>(
+    links: &'a [u32; PORT_SLOTS],
+    owners: &'a [u32; PORT_SLOTS],
+    flags: &'a [bool; NODE_SLOTS],
+    port: u32,
+) -> CutAnswer
+    ensures { λ r. ⌜ r ≡ plainIn (now (links .entry)) (now (owners .entry)) (now (flags .entry)) port ⌝ }
+{
+    if at(links, wide(port)) == 0 {
+        return CutAnswer::Nothing;
+    }
+    let inner = far_in(links, wide(port));
+    let far = placed_in(links, owners, flags, inner);
+    CutAnswer::Found(
+        SubportIndex {
+            port: PortIndex(inner),
+            subport_offset: 0,
+        },
+        far.place,
+    )
 }
 
 // The lowest offset from 0 whose port, counted from `first`, has no link; `count` where all have.

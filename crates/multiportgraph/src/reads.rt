@@ -256,10 +256,12 @@ pub(crate) fn place_in(owners: &[u32; PORT_SLOTS], port: u32) -> PortPlace
     let PortEntry::Port(meta) = PortEntry::read(owner) else {
         return nowhere();
     };
+    let node = meta.node;
+    let direction = meta.direction;
     let position = run_down(owners, owner, wide(port));
     PortPlace {
-        node: meta.node,
-        side: meta.direction,
+        node: node,
+        side: direction,
         position: position as u16,
     }
 }
@@ -322,7 +324,9 @@ pub(crate) fn wire_in<'a>(
         return CutAnswer::Nothing;
     }
     let far = placed_in(links, owners, flags, far_in(links, wide(port)));
-    CutAnswer::Found(far.end, far.place)
+    let end = far.end;
+    let place = far.place;
+    CutAnswer::Found(end, place)
 }
 
 // What an end is linked with.
@@ -354,12 +358,13 @@ pub(crate) fn plain_in<'a>(
     }
     let inner = far_in(links, wide(port));
     let far = placed_in(links, owners, flags, inner);
+    let place = far.place;
     CutAnswer::Found(
         SubportIndex {
             port: PortIndex(inner),
             subport_offset: 0,
         },
-        far.place,
+        place,
     )
 }
 

@@ -143,7 +143,7 @@ pub(crate) fn link_at<'a>(
         return match wire {
             CutAnswer::Nothing => LinkFound::None,
             CutAnswer::Refused(_) => LinkFound::None,
-            CutAnswer::Found(to) => {
+            CutAnswer::Found(to, place) => {
                 let far = to.port;
                 if passes(owners, flags, only, far.0) {
                     return LinkFound::Link(SubportLink {
@@ -152,6 +152,7 @@ pub(crate) fn link_at<'a>(
                             subport_offset: offset,
                         },
                         to: to,
+                        place: place,
                     });
                 }
                 LinkFound::None

@@ -26,7 +26,7 @@ passes-requires : tie.Need-passes-requires
 passes-requires c κs = search needs
 
 returns : tie.Need-returns
-returns c = (end-given (c .before .before .before .before .before .before .before .before .args .links .now) (c .before .before .before .before .before .before .before .before .args .owners .now) (c .before .before .before .before .before .before .before .before .args .flags .now) (λ w. passesIn (c .before .before .before .before .before .before .before .before .args .owners .now) (c .before .before .before .before .before .before .before .before .args .flags .now) (c .before .before .before .before .before .before .before .before .args .only) (w .to .port .0)) (subport# (c .before .before .before .before .before .before .before .before .args .port) (c .before .before .before .before .before .before .before .before .args .offset)) (c .before .before .before .before .before .before .before .before .args .slot) _ _ (c .before .before .before .before .before .before .wire-in .ensures) (c .before .before .before .before .wire .given .1) (sym (c .before .passes .ensures) ∙ c .if2 .taken), refl)
+returns c = (end-given (c .before .before .before .before .before .before .before .before .args .links .now) (c .before .before .before .before .before .before .before .before .args .owners .now) (c .before .before .before .before .before .before .before .before .args .flags .now) (λ w. passesIn (c .before .before .before .before .before .before .before .before .args .owners .now) (c .before .before .before .before .before .before .before .before .args .flags .now) (c .before .before .before .before .before .before .before .before .args .only) (w .to .port .0)) (subport# (c .before .before .before .before .before .before .before .before .args .port) (c .before .before .before .before .before .before .before .before .args .offset)) (c .before .before .before .before .before .before .before .before .args .slot) _ _ _ (c .before .before .before .before .before .before .wire-in .ensures) (c .before .before .before .before .wire .given .1) (sym (c .before .passes .ensures) ∙ c .if2 .taken), refl)
 
 returns-2 : tie.Need-returns-2
 returns-2 c = (end-nothing (c .before .before .before .before .args .links .now) (c .before .before .before .before .args .owners .now) (c .before .before .before .before .args .flags .now) (λ w. passesIn (c .before .before .before .before .args .owners .now) (c .before .before .before .before .args .flags .now) (c .before .before .before .before .args .only) (w .to .port .0)) (subport# (c .before .before .before .before .args .port) (c .before .before .before .before .args .offset)) (c .before .before .before .before .args .slot) _ (c .before .before .wire-in .ensures) (c .enum-told .given .1), refl)
@@ -35,7 +35,7 @@ returns-3 : tie.Need-returns-3
 returns-3 c = (end-refused (c .before .before .before .before .args .links .now) (c .before .before .before .before .args .owners .now) (c .before .before .before .before .args .flags .now) (λ w. passesIn (c .before .before .before .before .args .owners .now) (c .before .before .before .before .args .flags .now) (c .before .before .before .before .args .only) (w .to .port .0)) (subport# (c .before .before .before .before .args .port) (c .before .before .before .before .args .offset)) (c .before .before .before .before .args .slot) _ _ (c .before .before .wire-in .ensures) (c .enum-told2 .given .1), refl)
 
 returns-4 : tie.Need-returns-4
-returns-4 c = (end-passed (c .before .before .before .before .before .before .before .before .args .links .now) (c .before .before .before .before .before .before .before .before .args .owners .now) (c .before .before .before .before .before .before .before .before .args .flags .now) (λ w. passesIn (c .before .before .before .before .before .before .before .before .args .owners .now) (c .before .before .before .before .before .before .before .before .args .flags .now) (c .before .before .before .before .before .before .before .before .args .only) (w .to .port .0)) (subport# (c .before .before .before .before .before .before .before .before .args .port) (c .before .before .before .before .before .before .before .before .args .offset)) (c .before .before .before .before .before .before .before .before .args .slot) _ _ (c .before .before .before .before .before .before .wire-in .ensures) (c .before .before .before .before .wire .given .1) (sym (c .before .passes .ensures) ∙ c .if2 .left), refl)
+returns-4 c = (end-passed (c .before .before .before .before .before .before .before .before .args .links .now) (c .before .before .before .before .before .before .before .before .args .owners .now) (c .before .before .before .before .before .before .before .before .args .flags .now) (λ w. passesIn (c .before .before .before .before .before .before .before .before .args .owners .now) (c .before .before .before .before .before .before .before .before .args .flags .now) (c .before .before .before .before .before .before .before .before .args .only) (w .to .port .0)) (subport# (c .before .before .before .before .before .before .before .before .args .port) (c .before .before .before .before .before .before .before .before .args .offset)) (c .before .before .before .before .before .before .before .before .args .slot) _ _ _ (c .before .before .before .before .before .before .wire-in .ensures) (c .before .before .before .before .wire .given .1) (sym (c .before .passes .ensures) ∙ c .if2 .left), refl)
 
 returns-5 : tie.Need-returns-5
 returns-5 c = (end-outside (c .before .args .links .now) (c .before .args .owners .now) (c .before .args .flags .now) (λ w. passesIn (c .before .args .owners .now) (c .before .args .flags .now) (c .before .args .only) (w .to .port .0)) (subport# (c .before .args .port) (c .before .args .offset)) (c .before .args .slot) (c .if1 .left), refl)

@@ -3,6 +3,7 @@ use crate::ends::SeenPort;
 use crate::marks::marked;
 use crate::multiportgraph::AddAnswer;
 use crate::multiportgraph::CutAnswer;
+use crate::multiportgraph::EndAnswer;
 use crate::multiportgraph::LinkAnswer;
 use crate::multiportgraph::MultiPortGraph;
 use crate::multiportgraph::NodeAdded;
@@ -37,7 +38,20 @@ ghost use Rattle.portgraph.specs.Tables.{linkCount};
 ghost use Rattle.multiportgraph.specs.Calls.{addBlock, linkSub, cutPort, cutSub, subportLink, visibleNodes, visiblePorts, visibleLinks};
 ghost use Rattle.multiportgraph.specs.Inner.{MultiWf};
 ghost use Rattle.multiportgraph.specs.Graph.{emptyGraph};
-ghost use Rattle.multiportgraph.specs.Answers.{addNumbers, linkNumbers, cutNumbers};
+ghost use Rattle.multiportgraph.specs.Answers.{addNumbers, linkNumbers, cutNumbers, unplaced, unplacedNumbers};
+
+impl CutAnswer {
+    // The same without the place.
+    pub fn unplaced(self) -> EndAnswer
+        ensures { λ r. ⌜ (r ≡ unplaced self) × (unplacedNumbers r ≡ unplacedNumbers (unplaced self)) ⌝ }
+    {
+        match self {
+            CutAnswer::Found(end, _) => EndAnswer::Found(end),
+            CutAnswer::Nothing => EndAnswer::Nothing,
+            CutAnswer::Refused(refusal) => EndAnswer::Refused(refusal),
+        }
+    }
+}
 
 impl MultiPortGraph {
     // The empty graph.

@@ -1,29 +1,28 @@
 -- Where an end that is answered, or given by a walk, stands: at the far end of the book's wire.
 use mathlib.Core.Path.{_≡_, refl, sym, _∙_, ap, subst}
 use mathlib.Core.Bool.{Bool, true, false, cond}
-use mathlib.Core.List.{List, [], _∷_, _++_}
-use mathlib.Core.Logic.{inl, ⊎-elim}
-use Prim.Native.Nat.{ℕ, zero, suc, _-_}
+use mathlib.Core.List.{List, [], _∷_}
+use mathlib.Core.Logic.{inl}
+use Prim.Native.Nat.{ℕ, zero, suc}
 use native.Mathlib.Omega.{arith}
-use lib.Dec.{eqb, ltb}
 use borrow.Author.Tests.{ltb-true, eq-eqb}
 use Rattle.portgraph.specs.Limits.{nodeSlots}
-use Rattle.portgraph.specs.Lists.{range, filter, Member}
+use Rattle.portgraph.specs.Lists.{range, Member}
 use Rattle.portgraph.specs.Model as model
 use Rattle.portgraph.specs.Model.{Model, Far, nowhere, to, slotOf}
 use Rattle.portgraph.specs.GoodSlots.{zero-is-not-one}
 use Rattle.portgraph.specs.declared.direction.Direction.{Direction}
-use Rattle.portgraph.specs.declared.direction.Direction.the-variants.{Incoming, Outgoing}
-use Rattle.multiportgraph.specs.Reading.{isSplit, Port, dead, hidden, visible, seen, End, inner, lacking, endAt, subport#, asRead, subportOf, standing, standingOf}
+use Rattle.portgraph.specs.declared.direction.Direction.the-variants.{Outgoing}
+use Rattle.multiportgraph.specs.Reading.{isSplit, Port, dead, hidden, visible, seen, End, inner, lacking, endAt, subport#, asRead, subportOf, standing}
 use Rattle.multiportgraph.specs.Refusals.{goodOffset}
-use Rattle.multiportgraph.specs.Calls.{linkOfEnd, subportLink, cutPort, cutSub}
+use Rattle.multiportgraph.specs.Calls.{linkOfEnd, subportLink, cutPort}
 use Rattle.multiportgraph.specs.Cases.{linkOfSeen, cutSeen}
 use Rattle.multiportgraph.specs.CaseLaws.{cut-cases, subport-link-cases}
 use Rattle.multiportgraph.specs.Answers.{unplaced}
-use Rattle.multiportgraph.specs.Places.{Place, Wire, spot, portPlace, wireOfSides}
-use Rattle.multiportgraph.specs.Wires.{isBlock, blocks, sideLinks, allWires, placeOf, stepWires, firstItem, wiresSeen}
-use Rattle.multiportgraph.specs.Walks.{portLinksSeen, portLinks, notSkipped, nodeLinks, connections, stepFront, stepBack, stepLinks, stepConnections}
-use Rattle.multiportgraph.specs.Inner.{inner#, Seen}
+use Rattle.multiportgraph.specs.Places.{Place, spot, portPlace, wireOfSides}
+use Rattle.multiportgraph.specs.Wires.{isBlock, blocks, sideLinks, allWires, placeOf, stepWires, firstItem}
+use Rattle.multiportgraph.specs.Walks.{portLinksSeen, portLinks, notSkipped, nodeLinks, connections, stepLinks, stepConnections}
+use Rattle.multiportgraph.specs.Inner.{inner#}
 use Rattle.multiportgraph.specs.Ends.{block-seen}
 use Rattle.multiportgraph.specs.Listing.{member-right, member-filter, member-flatMap}
 use Rattle.multiportgraph.specs.ScanLaws.{block-not-hidden}
@@ -35,8 +34,6 @@ use Rattle.multiportgraph.specs.declared.multiportgraph.PortUnlinked.{PortUnlin
 use Rattle.multiportgraph.specs.declared.multiportgraph.Refusal.the-variants.{BadOffset}
 use Rattle.multiportgraph.specs.declared.multiportgraph.CutAnswer.{CutAnswer}
 use Rattle.multiportgraph.specs.declared.multiportgraph.CutAnswer.the-variants as cutting
-use Rattle.multiportgraph.specs.declared.iter.PortLinks.{PortLinks}
-use Rattle.multiportgraph.specs.declared.iter.PortLinksStep.the-variants as port-step
 use Rattle.multiportgraph.specs.declared.iter.NodeLinks.{NodeLinks}
 use Rattle.multiportgraph.specs.declared.iter.NodeLinksStep.the-variants as links-step
 use Rattle.multiportgraph.specs.declared.iter.NodeConnections.{NodeConnections}
@@ -49,7 +46,6 @@ use Rattle.theorems.specs.WireRule.{Rel, spot-of}
 use Rattle.theorems.specs.CallLaws.{rel-run}
 use Rattle.theorems.specs.AnswerClaims.{wireBetween, PortOfBlock, EndThere}
 use Rattle.theorems.specs.AnswerWires.{place-at, asked-linked, asked-far, found-link, found-booked, here, itself, read-plain, cut-linked, cut-free, cut-split, cut-sub-answers}
-use Rattle.theorems.specs.ListingClaims.{farFrom}
 use Rattle.theorems.specs.ListingWires.{LinkIs, far-end, from-place, link-wire, side-link, port-link}
 use Rattle.theorems.specs.BlockWalkLaws.{by-sides-member}
 use Rattle.theorems.specs.WalkHeldLaws.{port-links-give, port-links-give-back, links-give, links-end, connections-give, connections-end}

@@ -22,13 +22,10 @@ ghost use mathlib.Core.Path.{_≡_};
 ghost use Prim.Native.Nat.{_+_, _≤_, min};
 ghost use Rattle.portgraph.specs.Limits.{portSlots};
 ghost use Rattle.multiportgraph.specs.Forms.{seenAs, endAs, lowestUnlinked};
-ghost use Rattle.multiportgraph.specs.Reads.{farIn, ownerIn, seenIn, runUp, runDown, countBeside, firstBeside, endBeside, subportsIn, firstIn, endIn, copyBeside, subportIn, noPlace, placeIn, placedIn, wireIn, wireEndIn, plainIn};
+ghost use Rattle.multiportgraph.specs.Reads.{farIn, ownerIn, seenIn, runUp, runDown, countBeside, firstBeside, endBeside, subportsIn, firstIn, endIn, copyBeside, subportIn, noPlace, placeIn, wireIn, wireEndIn, plainIn, leapDown, rowBelow};
 
-// A subport with where it stands.
-pub struct PlacedEnd {
-    pub end: SubportIndex,
-    pub place: PortPlace,
-}
+// So many slots are leapt over at once.
+const LEAP: usize = 32;
 
 // The place that a port which is not live is given.
 fn nowhere() -> PortPlace
@@ -114,6 +111,29 @@ fn run_down(owners: &[u32; PORT_SLOTS], owner: u32, from: usize) -> usize
         k += 1;
     }
     k
+}
+
+// How many leaps below `from` in a row end at a slot of this owner.
+fn leap_down(owners: &[u32; PORT_SLOTS], owner: u32, from: usize) -> usize
+    ensures { λ r. ⌜ r ≡ leapDown (now (owners .entry)) owner from ⌝ }
+{
+    let most = within(from) / LEAP;
+    let mut k: usize = 0;
+    while k < most {
+        if at(owners, from - LEAP * (k + 1)) != owner {
+            return k;
+        }
+        k += 1;
+    }
+    k
+}
+
+// The same as `run_down` where the slots of an owner lie in a row: most of them are leapt over.
+fn row_below(owners: &[u32; PORT_SLOTS], owner: u32, from: usize) -> usize
+    ensures { λ r. ⌜ r ≡ rowBelow (now (owners .entry)) owner from ⌝ }
+{
+    let leapt = LEAP * leap_down(owners, owner, from);
+    leapt + run_down(owners, owner, from - leapt)
 }
 
 // How many subports lie beside a copy port.
@@ -258,56 +278,11 @@ pub(crate) fn place_in(owners: &[u32; PORT_SLOTS], port: u32) -> PortPlace
     };
     let node = meta.node;
     let direction = meta.direction;
-    let position = run_down(owners, owner, wide(port));
+    let position = row_below(owners, owner, wide(port));
     PortPlace {
         node: node,
         side: direction,
         position: position as u16,
-    }
-}
-
-// The subport that an inner port is, and where it stands. A run along its owner tells its offset, or its position.
-fn placed_in<'a>(
-    links: &'a [u32; PORT_SLOTS],
-    owners: &'a [u32; PORT_SLOTS],
-    flags: &'a [bool; NODE_SLOTS],
-    port: u32,
-) -> PlacedEnd
-    ensures { λ r. ⌜ r ≡ placedIn (now (links .entry)) (now (owners .entry)) (now (flags .entry)) port ⌝ }
-{
-    let owner = at(owners, wide(port));
-    let PortEntry::Port(meta) = PortEntry::read(owner) else {
-        return PlacedEnd {
-            end: SubportIndex {
-                port: PortIndex(port),
-                subport_offset: 0,
-            },
-            place: nowhere(),
-        };
-    };
-    let node = meta.node;
-    let direction = meta.direction;
-    let below = run_down(owners, owner, wide(port));
-    if flagged(flags, wide(node.0)) {
-        let main = far_in(links, copy_beside(owners, port, direction));
-        return PlacedEnd {
-            end: SubportIndex {
-                port: PortIndex(main),
-                subport_offset: below as u16,
-            },
-            place: place_in(owners, main),
-        };
-    }
-    PlacedEnd {
-        end: SubportIndex {
-            port: PortIndex(port),
-            subport_offset: 0,
-        },
-        place: PortPlace {
-            node: node,
-            side: direction,
-            position: below as u16,
-        },
     }
 }
 
@@ -323,10 +298,9 @@ pub(crate) fn wire_in<'a>(
     if at(links, wide(port)) == 0 {
         return CutAnswer::Nothing;
     }
-    let far = placed_in(links, owners, flags, far_in(links, wide(port)));
-    let end = far.end;
-    let place = far.place;
-    CutAnswer::Found(end, place)
+    let end = subport_in(links, owners, flags, far_in(links, wide(port)));
+    let far = end.port;
+    CutAnswer::Found(end, place_in(owners, far.0))
 }
 
 // What an end is linked with.
@@ -357,14 +331,14 @@ pub(crate) fn plain_in<'a>(
         return CutAnswer::Nothing;
     }
     let inner = far_in(links, wide(port));
-    let far = placed_in(links, owners, flags, inner);
-    let place = far.place;
+    let end = subport_in(links, owners, flags, inner);
+    let far = end.port;
     CutAnswer::Found(
         SubportIndex {
             port: PortIndex(inner),
             subport_offset: 0,
         },
-        place,
+        place_in(owners, far.0),
     )
 }
 

@@ -2,7 +2,7 @@
 use mathlib.Core.Path.{sym, _∙_}
 use native.Mathlib.Omega.{arith}
 use borrow.Author.Needs.{needs}
-use Rattle.multiportgraph.specs.ReadSteps.{down-bound, place-nowhere, place-told}
+use Rattle.multiportgraph.specs.ReadSteps.{row-bound, place-nowhere, place-told}
 use Rattle.multiportgraph.proofs.reads.place_in.Statement.{statement}
 use Rattle.multiportgraph.proofs.reads.place_in.Tie as tie
 
@@ -30,14 +30,14 @@ returns c = place-nowhere _ _ _ _ (c .before .before .before .before .before .wi
 wide-requires-2 : tie.Need-wide-requires-2
 wide-requires-2 c κs = search needs
 
-run-down-requires : tie.Need-run-down-requires
-run-down-requires c κs = search needs
+row-below-requires : tie.Need-row-below-requires
+row-below-requires c κs = search needs
 
 cast-t10 : tie.Need-cast-t10
-cast-t10 c = let e = c .run-down .ensures in let b = down-bound (c .before .before .before .before .before .before .before .before .before .args .owners .now) (c .before .before .before .before .before .before .before .at .result) (c .before .wide2 .result) in omega arith
+cast-t10 c = let e = c .row-below .ensures in let b = row-bound (c .before .before .before .before .before .before .before .before .before .args .owners .now) (c .before .before .before .before .before .before .before .at .result) (c .before .wide2 .result) in omega arith
 
 returns-2 : tie.Need-returns-2
-returns-2 c = place-told _ _ _ _ (c .before .before .before .before .before .before .before .before .wide .ensures) (c .before .before .before .before .before .before .before .at .ensures) _ _ _ (sym (c .before .before .before .before .before .before .read .ensures .0) ∙ c .before .before .before .before .meta .given .1) (c .before .wide2 .ensures) (c .run-down .ensures)
+returns-2 c = place-told _ _ _ _ (c .before .before .before .before .before .before .before .before .wide .ensures) (c .before .before .before .before .before .before .before .at .ensures) _ _ _ (sym (c .before .before .before .before .before .before .read .ensures .0) ∙ c .before .before .before .before .meta .given .1) (c .before .wide2 .ensures) (c .row-below .ensures)
 
 pub place-in-spec : {M : Type 1} → statement M
 place-in-spec =
@@ -51,6 +51,6 @@ place-in-spec =
     nowhere-requires
     returns
     wide-requires-2
-    run-down-requires
+    row-below-requires
     cast-t10
     returns-2)

@@ -19,11 +19,14 @@ wide-requires-2 c κs = search needs
 far-in-requires : tie.Need-far-in-requires
 far-in-requires c κs = search needs
 
-placed-in-requires : tie.Need-placed-in-requires
-placed-in-requires c κs = search needs
+subport-in-requires : tie.Need-subport-in-requires
+subport-in-requires c κs = search needs
+
+place-in-requires : tie.Need-place-in-requires
+place-in-requires c κs = search needs
 
 returns-2 : tie.Need-returns-2
-returns-2 c = one-plain _ _ _ _ _ _ (c .before .before .before .before .before .before .wide .ensures) (c .before .before .before .before .before .at .ensures) _ _ _ (c .before .before .before .before .if1 .left) (c .before .before .before .wide2 .ensures) (c .before .before .far-in .ensures) (c .before .placed-in .ensures)
+returns-2 c = one-plain _ _ _ _ _ _ (c .before .before .before .before .before .before .before .wide .ensures) (c .before .before .before .before .before .before .at .ensures) _ _ _ _ (c .before .before .before .before .before .if1 .left) (c .before .before .before .before .wide2 .ensures) (c .before .before .before .far-in .ensures) (c .before .before .subport-in .ensures) (c .place-in .ensures)
 
 pub plain-in-spec : {M : Type 1} → statement M
 plain-in-spec =
@@ -34,5 +37,6 @@ plain-in-spec =
     returns
     wide-requires-2
     far-in-requires
-    placed-in-requires
+    subport-in-requires
+    place-in-requires
     returns-2)

@@ -3,6 +3,7 @@
 mod arguments;
 mod commands;
 mod console;
+mod cuts;
 mod help;
 mod listing;
 mod orders;

@@ -23,7 +23,7 @@ fn show_block(numbers: &[u32; ROOM], block: usize) {
     }
 }
 
-// A wire by its ports, each with its offset.
+// A wire by its ports, each with its offset, and node, side and position of the second, which is an input.
 fn show_wire(numbers: &[u32; ROOM], wire: usize) {
     if wire < ROOM {
         let at = 8 * wire;
@@ -32,6 +32,9 @@ fn show_wire(numbers: &[u32; ROOM], wire: usize) {
             .number(number_at(numbers, at + 1))
             .number(number_at(numbers, at + 4))
             .number(number_at(numbers, at + 5))
+            .number(number_at(numbers, at + 6))
+            .number(0)
+            .number(number_at(numbers, at + 7))
             .write();
     }
 }

@@ -1,13 +1,18 @@
 -- What the entries over files return and leave in the lent buffer.
 use mathlib.Core.Bool.{Bool, cond}
-use mathlib.Core.List.{List}
+use mathlib.Core.List.{List, [], _∷_, _++_, flatMap}
 use Prim.Native.Nat.{ℕ, _+_, _%_}
-use lib.Dec.{eqb}
-use lib.ListN.{length}
+use lib.Dec.{eqb, leb}
+use lib.ListN.{length, getD}
 use Rattle.multiportgraph.specs.declared.multiportgraph.MultiPortGraph.{MultiPortGraph}
 use Rattle.multiportgraph.specs.Graph.{emptyGraph}
-use Rattle.records.specs.Words.{requestsOf}
+use Rattle.multiportgraph.specs.Listed.{listAfter}
+use Rattle.records.specs.Words.{bytesOf, requestsOf}
 use Rattle.records.specs.Run.{graphFrom}
+use Rattle.files.specs.View.{BlockPorts, RankWire, View}
+use Rattle.files.specs.Layout.{unbytes}
+use Rattle.files.specs.Loading.{outPort, inPort, loadAnswer, loadNumbers}
+use Rattle.files.specs.BuildList.{ifLoaded}
 use Rattle.files.specs.Saving.{saveAnswer, saveBuffer}
 use Rattle.files.specs.declared.save.SaveAnswer.{SaveAnswer}
 use Rattle.files.specs.declared.save.SaveAnswer.the-variants.{Saved, BufferShort}
@@ -33,3 +38,28 @@ saveReturn requests file = cond (listWhole requests) (saveTold (saveAnswer (grap
 
 unfoldable pub saveWritten : List ℕ → List ℕ → List ℕ
 saveWritten requests file = cond (listWhole requests) (saveBuffer (graphLeft requests) file) file
+
+-- The build of a file as requests: adds, of code 1, and links, of code 4.
+
+abbrev pub addWords : BlockPorts → List ℕ
+addWords b = 1 ∷ b .incoming ∷ b .outgoing ∷ 0 ∷ 0 ∷ []
+
+abbrev pub linkWords : List BlockPorts → RankWire → List ℕ
+linkWords blocks w = 4 ∷ outPort blocks w ∷ inPort blocks w ∷ 0 ∷ 0 ∷ []
+
+unfoldable pub buildRequests : View → List ℕ
+buildRequests v = bytesOf (flatMap addWords (v .blocks) ++ flatMap (linkWords (v .blocks)) (v .wires))
+
+abbrev pub fileRequests : List ℕ → List ℕ
+fileRequests file = buildRequests (unbytes file)
+
+-- the length of the requests, 15 last, or what a refused load gives
+unfoldable pub recordsReturn : List ℕ → List ℕ → ℕ
+recordsReturn file requests =
+    ifLoaded (loadAnswer file)
+    (cond (leb (length (fileRequests file)) (length requests)) (length (fileRequests file)) (refusedWith 15))
+    (refusedWith (getD (loadNumbers (loadAnswer file)) 0 0))
+
+-- the requests, and past them what the buffer held; as it was if it is too short or the load is refused
+unfoldable pub recordsWritten : List ℕ → List ℕ → List ℕ
+recordsWritten file requests = ifLoaded (loadAnswer file) (listAfter (fileRequests file) requests) requests

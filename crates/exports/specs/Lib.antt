@@ -5,9 +5,12 @@
 --
 -- What is proved, and need not be believed:
 --   ExportLaws    the files that are written are those of histories
---   ExportSteps   what the functions' proofs cite
+--   LoadedLaws    the requests of a file are its build, and a list that begins with them goes on from the loaded graph
+--   ExportSteps, LoadedSteps   what the functions' proofs cite
 pub mod Exports
 -- laws
 pub mod ExportLaws
+pub mod LoadedLaws
 -- steps
 pub mod ExportSteps
+pub mod LoadedSteps

@@ -1,2 +1,3 @@
 // What the tablet's Rust calls on files, over bytes alone.
+pub mod loaded;
 pub mod saved;

@@ -1,7 +1,12 @@
 // A list of requests in, the file of what it leaves out.
 use files::save::SaveAnswer;
-use files::save::save;
-use records::lent::graph_of_requests;
+use files::save::save_in;
+use multiportgraph::lent::no_held;
+use portgraph::index::FREE_LISTS;
+use portgraph::index::NODE_SLOTS;
+use portgraph::index::PORT_SLOTS;
+use portgraph::lent::NODE_WORDS;
+use records::lent::run_tables;
 ghost use mathlib.Core.Path.{_≡_};
 ghost use Rattle.exports.specs.Exports.{saveTold, saveReturn, saveWritten};
 
@@ -25,5 +30,21 @@ pub extern "C" fn save_records(requests: &[u8], file: &mut [u8]) -> u64
     if requests.len() % 20 != 0 {
         return 4294967297;
     }
-    save_told(save(graph_of_requests(requests), file))
+    let mut nodes = [0u32; NODE_WORDS];
+    let mut links = [0u32; PORT_SLOTS];
+    let mut owners = [0u32; PORT_SLOTS];
+    let mut heads = [0u32; FREE_LISTS];
+    let mut marks = [false; PORT_SLOTS];
+    let mut flags = [false; NODE_SLOTS];
+    let held = run_tables(
+        &mut nodes,
+        &mut links,
+        &mut owners,
+        &mut heads,
+        &mut marks,
+        &mut flags,
+        no_held(),
+        requests,
+    );
+    save_told(save_in(&nodes, &links, &owners, &heads, &marks, &flags, held, file))
 }

@@ -36,6 +36,7 @@ use Rattle.files.specs.View.{BlockPorts, RankWire, View}
 use Rattle.files.specs.Layout.{fieldAt, blockOf, wireOf, unitsFor, unbytes}
 use Rattle.files.specs.Loading.{every, unitList, isLaid, unitsRight, ranksRight, blockAt, positionsRight, orderRight, viewRight, firstPort, outPort, inPort, addOf, linkOf, buildOf, afterCall, firstRefusal, graphIf, isWhole, loadAnswer, loadGraph}
 use Rattle.files.specs.LaidLaws.{both-true}
+use Rattle.files.specs.NextSlots.{first-port-first, first-port-next}
 use Rattle.files.specs.ViewLaws.{blocks-few}
 use Rattle.files.specs.LoadForms.{placeOf, recordIn, noWire, BlocksRead, WiresRead, ShapeIs, Laid, addTold, linkTold, isLoaded, graphAfter, StepIs, Built, Firsts, Linkable, BuildIs}
 use Rattle.files.specs.declared.load.LoadAnswer.{LoadAnswer}
@@ -168,17 +169,6 @@ module _ {bytes : List ℕ} {u n : ℕ} (r : WiresRead bytes u n) where
 
 -- First ports.
 
-first-none : (l : List BlockPorts) → firstPort l 0 ≡ 0
-unfolding firstPort
-first-none [] = refl
-first-none (b ∷ l) = refl
-
-first-next : (l : List BlockPorts) (i : ℕ) → i < length l → firstPort l (suc i) ≡ firstPort l i + (blockAt l i .incoming + blockAt l i .outgoing)
-unfolding firstPort
-first-next [] i h = absurd (omega arith)
-first-next (b ∷ l) zero h = let e = first-none l in omega arith
-first-next (b ∷ l) (suc i) h = let e = first-next l i (omega arith) in omega arith
-
 pub record Filling (bytes : List ℕ) (blocks : ℕ) (table : List ℕ) (next i : ℕ) : Type 0 where
   pub inside : i ≤ blocks
   pub long : length table ≡ nodeSlots
@@ -192,7 +182,7 @@ filling-begins bytes blocks table l =
     record {
       inside = omega arith;
       long = l;
-      nextIs = sym (first-none (unbytes bytes .blocks));
+      nextIs = sym (first-port-first (unbytes bytes .blocks));
       nextSmall = omega arith;
       each = λ r h. absurd (omega arith);
       small = λ r h. absurd (omega arith);
@@ -207,7 +197,7 @@ module _ {bytes : List ℕ} {blocks : ℕ} {table : List ℕ} {next i : ℕ} (re
       let z : blockAt (unbytes bytes .blocks) i ≡ blockOf (recordIn bytes at) = read .each i h ∙ ap (λ (k : ℕ). blockOf (recordIn bytes k)) (sym e) in
       let z₁ = ap (λ (k : BlockPorts). k .incoming) z in
       let z₂ = ap (λ (k : BlockPorts). k .outgoing) z in
-      let n = first-next (unbytes bytes .blocks) i (omega arith) in
+      let n = first-port-next (unbytes bytes .blocks) i (omega arith) in
       let n₂ = ap (firstPort (unbytes bytes .blocks)) s in
       let k = f .nextIs in
       let l = f .nextSmall in
@@ -334,7 +324,7 @@ first-append m (c ∷ a) b h = go (isLoaded (afterCall c (step m c .answer) Load
     go true e more = after-loaded c (step m c .answer) _ e ∙ more (ap isLoaded (sym (after-loaded c (step m c .answer) rest e)) ∙ h)
     go false e more = absurd (true-not-false (ap isLoaded (sym (after-refused c (step m c .answer) rest e)) ∙ h) e)
 
-first-refused : (m : MultiPortGraph) (a b : List Call) → isLoaded (firstRefusal m a) ≡ false → firstRefusal m (a ++ b) ≡ firstRefusal m a
+pub first-refused : (m : MultiPortGraph) (a b : List Call) → isLoaded (firstRefusal m a) ≡ false → firstRefusal m (a ++ b) ≡ firstRefusal m a
 unfolding firstRefusal
 first-refused m [] b h = absurd (true-not-false refl h)
 first-refused m (c ∷ a) b h = go (isLoaded (afterCall c (step m c .answer) Loaded)) refl (first-refused (step m c .graph) a b)
@@ -369,7 +359,7 @@ graph-refused BadSums m h = refl
 graph-refused BadLayout m h = refl
 graph-refused (Refused r) m h = refl
 
-is-loaded : (a : LoadAnswer) → isLoaded a ≡ true → a ≡ Loaded
+pub is-loaded : (a : LoadAnswer) → isLoaded a ≡ true → a ≡ Loaded
 is-loaded Loaded h = refl
 is-loaded BadSums h = absurd (true-not-false h refl)
 is-loaded BadLayout h = absurd (true-not-false h refl)

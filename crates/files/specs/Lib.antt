@@ -5,6 +5,7 @@
 --   Layout        the bytes of a view, and the view that any bytes say
 --   Saving        the file of a graph; what saving answers and leaves in the lent buffer; refusal 15
 --   Loading       what a file is held to (16, 17), the calls that build its wiring, what a load answers and gives
+--   BuildList     the build of a file as numbers, for those who ask it elsewhere
 --   Claims        the words of the theorems: the same wiring, over the wire book; sizes; sound views
 --   LoadClaims    when a build is refused
 -- Then what is proved of them:
@@ -32,6 +33,7 @@ pub mod View
 pub mod Layout
 pub mod Saving
 pub mod Loading
+pub mod BuildList
 pub mod Claims
 pub mod LoadClaims
 pub mod FileTheorems
@@ -65,3 +67,4 @@ pub mod SaveSteps
 pub mod CheckSteps
 pub mod WireSteps
 pub mod BuildSteps
+pub mod ListingSteps

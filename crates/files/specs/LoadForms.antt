@@ -135,6 +135,14 @@ pub record Firsts (table bytes : List ℕ) (blocks : ℕ) : Type 0 where
   pub each : (r : ℕ) → r < blocks → getD table r 0 ≡ firstPort (unbytes bytes .blocks) r
   pub small : (r : ℕ) → r < blocks → getD table r 0 ≤ 131070 * r
 
+-- wires from a unit on whose ports can be told
+pub record Linked (table bytes : List ℕ) (blocks unit wires : ℕ) : Type 0 where
+  pub firsts : Firsts table bytes blocks
+  pub read : BlocksRead bytes blocks
+  pub wiresAre : WiresRead bytes unit wires
+  pub sound : viewRight (unbytes bytes) ≡ true
+  pub few : blocks ≤ nodeSlots
+
 -- a wire at a byte position whose ports can be told
 pub record Linkable (table bytes : List ℕ) (blocks at : ℕ) : Type 0 where
   pub firsts : Firsts table bytes blocks

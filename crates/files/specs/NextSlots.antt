@@ -311,7 +311,7 @@ next-slots bs e =
 
 -- Prefix sums.
 
-first-port-first : (bs : List BlockPorts) → firstPort bs 0 ≡ 0
+pub first-port-first : (bs : List BlockPorts) → firstPort bs 0 ≡ 0
 unfolding firstPort
 first-port-first [] = refl
 first-port-first (b ∷ bs) = refl

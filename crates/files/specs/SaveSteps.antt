@@ -34,7 +34,7 @@ use Rattle.files.specs.Saving.{fileOf, saveAnswer, saveBuffer}
 use Rattle.files.specs.Claims.{At}
 use Rattle.files.specs.OrderLaws.{sorted-member, sorted-length}
 use Rattle.files.specs.RankLaws.{at-member, rank-below, blocks-rise}
-use Rattle.files.specs.ViewLaws.{EndFits, walked-places, walked-fits, ports-small, node-in-table, blocks-few, wires-few, file-length-is}
+use Rattle.files.specs.ViewLaws.{EndFits, walked-places, walked-fits, ports-small, node-in-use, blocks-few, wires-few, file-length-is}
 use Rattle.files.specs.Forms.{numberOf, recordOf, turns, blocksIn, nodeListed, blockListed, nodesOf, blocksOf, BlocksFit, rankTurn, blockTurn, wiresIn, wireListed, wiresOf, rankRead, WiresFit, wireTurn, Listings}
 use Rattle.files.specs.SortSteps.{number-back, wireNumber, wires-numbered}
 use Rattle.files.specs.declared.save.SaveAnswer.the-variants.{Saved, BufferShort}
@@ -74,11 +74,11 @@ module _ (listed : List ℕ) where
       go false e (inr j) rest = let a = rest j in omega arith
 
   -- the table of ranks, at each block
-  pub ranks-read : (table : List ℕ) → length table ≡ nodeSlots → Rising Apart (nodesOf listed) → ((k : ℕ) → Member k (nodesOf listed) → k < nodeSlots) → (x : ℕ) → Member x (nodesOf listed) →
+  pub ranks-read : (table : List ℕ) → Rising Apart (nodesOf listed) → ((k : ℕ) → Member k (nodesOf listed) → k < length table) → (x : ℕ) → Member x (nodesOf listed) →
       getD (turns (rankTurn listed) 0 (blocksIn listed) table) x 0 ≡ rankAmong (nodesOf listed) x
   unfolding nodesOf
-  ranks-read table e r h x k =
-      let a = rank-written (blocksIn listed) 0 x table r (λ y m. subst (λ (n : ℕ). y < n) (sym e) (h y m)) k in
+  ranks-read table r h x k =
+      let a = rank-written (blocksIn listed) 0 x table r h k in
       omega arith
 
 -- Records of blocks.
@@ -124,7 +124,7 @@ block-records listed numbers h f =
 
 -- Records of wires.
 
-module _ {listed ends : List ℕ} (p : Listings listed ends) (table : List ℕ) (long : length table ≡ nodeSlots) where
+module _ {listed ends : List ℕ} (table : List ℕ) (p : Listings listed ends (length table)) where
   abbrev ranks : List ℕ
   ranks = turns (rankTurn listed) 0 (blocksIn listed) table
 
@@ -133,7 +133,7 @@ module _ {listed ends : List ℕ} (p : Listings listed ends) (table : List ℕ) 
   nodes-many = length-map (nodeListed listed) (range 0 (blocksIn listed)) ∙ length-range 0 (blocksIn listed)
 
   rank-is : (n : ℕ) → Member n (nodesOf listed) → getD ranks n 0 ≡ rankAmong (nodesOf listed) n
-  rank-is n i = ranks-read listed table long (p .apart) (p .inTable) n i
+  rank-is n i = ranks-read listed table (p .apart) (p .inTable) n i
 
   rank-small : (n : ℕ) → Member n (nodesOf listed) → getD ranks n 0 < 65536
   rank-small n i =
@@ -303,14 +303,13 @@ module _ (m : MultiPortGraph) where
         let k = subst (λ (l : List Wire). Member (wirePlaces m (x .0)) l) (sym (walked-places f)) (map-member (wirePlaces m) (x .0) (allWires m) (at-member (allWires m) i (x .0) (x .1))) in
         (x .0, x .1, walked-fits f (wirePlaces m (x .0)) k)
 
-    pub listings : Listings (blocksListed m) (wiresListed m)
+    pub listings : {slots : ℕ} → m .graph .«node_len» ≤ slots → Listings (blocksListed m) (wiresListed m) slots
     unfolding wireNumbers endNumbers
-    listings =
+    listings long =
         record {
           few = let e = blocks-in in let h = blocks-few f in omega arith;
           apart = subst (Rising Apart) (sym nodes-are) (rising-apart (blocks m) (blocks-rise m));
-          inTable = λ n i. node-in-table f n (subst (λ (l : List ℕ). Member n l) nodes-are i);
-          wiresFew = let e = wires-in in let h = wires-few f in let k = ap length (walked-places f) ∙ length-map (wirePlaces m) (allWires m) in omega arith;
+          inTable = λ n i. let u = node-in-use f n (subst (λ (l : List ℕ). Member n l) nodes-are i) in omega arith;
           source = λ i h.
               let x = wire-there i h in
               subst (λ (l : List ℕ). Member (getD (wiresListed m) (8 * i + 2) 0) l) (sym nodes-are)
@@ -342,7 +341,10 @@ listing-taken numbers list n e h = rw (le-leb (length numbers) (length list) h, 
 
 -- so many blocks and wires there are, and so many numbers are listed: there is room for them
 module _ {m : MultiPortGraph} {M : Model} (f : Fine m M) where
-  pub counts-few : {n k : ℕ} → n ≡ visibleNodes m → k ≡ visibleLinks m → (n ≤ nodeSlots) × (k ≤ portSlots)
+  pub slots-few : m .graph .«node_len» ≤ nodeSlots
+  slots-few = let a = f .holds .nodeLen in let b = f .good .nodesFit in omega arith
+
+  pub counts-few : {n k : ℕ} → n ≡ visibleNodes m → k ≡ visibleLinks m → (n ≤ nodeSlots) × (2 * k ≤ portSlots)
   counts-few e h =
       let a = visible-nodes f in
       let b = blocks-few f in
@@ -370,9 +372,16 @@ module _ {m : MultiPortGraph} {M : Model} (f : Fine m M) (buffer : List ℕ) (si
       let t = lt-leb (length (fileOf m)) (length buffer) (omega arith) in
       (rw t, rw t)
 
-  pub save-full : (buffer₁ buffer₂ a b : List ℕ) (at : ℕ) → size ≤ length buffer → at ≡ length a → buffer₁ ≡ sets buffer 0 a → buffer₂ ≡ sets buffer₁ at b → a ++ b ≡ fileOf m →
-      (Saved size ≡ saveAnswer m buffer) × (buffer₂ ≡ saveBuffer m buffer)
-  unfolding saveAnswer saveBuffer listAfter
+  pub save-answered : size ≤ length buffer → Saved size ≡ saveAnswer m buffer
+  unfolding saveAnswer
+  save-answered h =
+      let e = file-length-is f in
+      let t = le-leb (length (fileOf m)) (length buffer) (omega arith) in
+      rw t (ap Saved (sized ∙ sym e))
+
+  save-full : (buffer₁ buffer₂ a b : List ℕ) (at : ℕ) → size ≤ length buffer → at ≡ length a → buffer₁ ≡ sets buffer 0 a → buffer₂ ≡ sets buffer₁ at b → a ++ b ≡ fileOf m →
+      buffer₂ ≡ saveBuffer m buffer
+  unfolding saveBuffer listAfter
   save-full buffer₁ buffer₂ a b at h n e₁ e₂ whole =
       let e = file-length-is f in
       let t = le-leb (length (fileOf m)) (length buffer) (omega arith) in
@@ -380,7 +389,7 @@ module _ {m : MultiPortGraph} {M : Model} (f : Fine m M) (buffer : List ℕ) (si
       let y : 0 + length (fileOf m) ≡ length (fileOf m) = omega arith in
       let s : buffer₂ ≡ sets buffer 0 (fileOf m) =
       e₂ ∙ ((λ j. sets (e₁ j) ((n ∙ sym z) j) b) ∙ (sets-append buffer 0 a b ∙ ap (sets buffer 0) whole)) in
-      (rw t (ap Saved (sized ∙ sym e)), rw t (s ∙ (sets-eq (fileOf m) buffer 0 (omega arith) ∙ ap (λ (k : ℕ). fileOf m ++ drop k buffer) y)))
+      rw t (s ∙ (sets-eq (fileOf m) buffer 0 (omega arith) ∙ ap (λ (k : ℕ). fileOf m ++ drop k buffer) y))
 
   -- what the functions for blocks and wires presume, of the parts of the listings that they are lent
   module _ (enough : size ≤ length buffer) (listed ends : List ℕ) (isBlocks : listed ≡ blocksListed m) (isWires : ends ≡ wiresListed m) where
@@ -394,26 +403,27 @@ module _ {m : MultiPortGraph} {M : Model} (f : Fine m M) (buffer : List ℕ) (si
     unfolding fileLength
     length-split = let a = ap unitsFor blocks-counted in let b = ap unitsFor wires-counted in omega arith
 
-    pub blocks-room : (blocksIn listed ≤ nodeSlots) × BlocksFit listed × (512 * unitsFor (blocksIn listed) ≤ length buffer)
-    blocks-room =
+    pub blocks-room : {room : ℕ} → visibleNodes m ≤ room → (blocksIn listed ≤ room) × BlocksFit listed × (512 * unitsFor (blocksIn listed) ≤ length buffer)
+    blocks-room h =
         let e = length-split in (
-          subst (λ (l : List ℕ). blocksIn l ≤ nodeSlots) (sym isBlocks) (listings m f .few),
+          let n = blocks-counted in omega arith,
           subst BlocksFit (sym isBlocks) (blocks-fit m f),
           omega arith,
         )
 
     module _ (buffer₁ : List ℕ) (at : ℕ) (isAt : at ≡ 512 * unitsFor (blocksIn listed)) where
-      pub wires-room : length buffer₁ ≡ length buffer → Listings listed ends × (at + 512 * unitsFor (wiresIn ends) ≤ length buffer₁)
-      wires-room n =
+      pub wires-room : {slots room : ℕ} → m .graph .«node_len» ≤ slots → visibleLinks m ≤ room → length buffer₁ ≡ length buffer →
+          Listings listed ends slots × (wiresIn ends ≤ room) × (at + 512 * unitsFor (wiresIn ends) ≤ length buffer₁)
+      wires-room {slots} long h n =
           let e = length-split in (
-            subst₂ Listings (sym isBlocks) (sym isWires) (listings m f),
+            subst₂ (λ (a b : List ℕ). Listings a b slots) (sym isBlocks) (sym isWires) (listings m f long),
+            let k = wires-counted in omega arith,
             omega arith,
           )
 
       -- and both kinds of units laid are the file
       pub saved : (buffer₂ : List ℕ) → buffer₁ ≡ sets buffer 0 (unitsOf 1 (map blockRecord (blocksOf listed))) →
-          buffer₂ ≡ sets buffer₁ at (unitsOf 2 (map wireRecord (sorted (wiresOf (rankAmong (nodesOf listed)) ends)))) →
-          (Saved size ≡ saveAnswer m buffer) × (buffer₂ ≡ saveBuffer m buffer)
+          buffer₂ ≡ sets buffer₁ at (unitsOf 2 (map wireRecord (sorted (wiresOf (rankAmong (nodesOf listed)) ends)))) → buffer₂ ≡ saveBuffer m buffer
       unfolding unitsOf blocksOf
       saved buffer₂ e₁ e₂ =
           let records = map blockRecord (blocksOf listed) in

@@ -78,11 +78,15 @@ module _ {m : MultiPortGraph} {M : Model} (f : Fine m M) where
 
   -- Numbers within the limits.
 
-  pub node-in-table : (n : ℕ) → Member n (blocks m) → n < nodeSlots
-  node-in-table n i = let k = blocks-list f .only n i in let u = f .good .nodeUsed n (k .0) (k .1 .1) in let v = f .good .nodesFit in omega arith
+  -- a block's node is one of the slots in use
+  pub node-in-use : (n : ℕ) → Member n (blocks m) → n < m .graph .«node_len»
+  node-in-use n i = let k = blocks-list f .only n i in let u = f .good .nodeUsed n (k .0) (k .1 .1) in let v = f .holds .nodeLen in omega arith
+
+  pub blocks-in-use : length (blocks m) ≤ m .graph .«node_len»
+  blocks-in-use = apart-below (m .graph .«node_len») (blocks m) (rising-apart (blocks m) (blocks-rise m)) node-in-use
 
   pub blocks-few : length (blocks m) ≤ nodeSlots
-  blocks-few = apart-below nodeSlots (blocks m) (rising-apart (blocks m) (blocks-rise m)) node-in-table
+  blocks-few = let u = blocks-in-use in let v = f .holds .nodeLen in let w = f .good .nodesFit in omega arith
 
   pub view-within : WithinLimits (viewOf m)
   unfolding viewOf blockPorts

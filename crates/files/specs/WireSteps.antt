@@ -9,12 +9,13 @@ use lib.Dec.{eqb, leb, ltb}
 use lib.ListN.{length, getD, drop, drop-of-length-le}
 use lib.Seq.{drop-cons, getD-drop}
 use borrow.Author.Tests.{ltb-true, ltb-false, lt-ltb, le-ltb, le-leb, lt-leb}
-use Rattle.portgraph.specs.Lists.{Member}
+use Rattle.multiportgraph.specs.Listing.{map-member}
 use Rattle.files.specs.View.{BlockPorts, RankWire, View, isBefore}
 use Rattle.files.specs.Layout.{Record, fieldAt, unitsFor, blockOf, wireOf, wireRecord, recordAt, unbytes}
 use Rattle.files.specs.LayoutLaws.{FieldsFit}
 use Rattle.files.specs.Loading.{every, unitList, orderRight, ranksRight, blockAt, positionsRight, unitsRight, viewRight}
 use Rattle.files.specs.LaidLaws.{block-placed, wire-placed, all-units}
+use Rattle.files.specs.SoundLaws.{said-fits}
 use Rattle.files.specs.Forms.{numberOf}
 use Rattle.files.specs.SortSteps.{wireNumber, number-order, WiresSmall}
 use Rattle.files.specs.LoadForms.{placeOf, recordIn, noWire, BlocksRead, WiresRead, wireFits, wiresFit}
@@ -145,24 +146,8 @@ view-as : (v : View) → WiresSmall (v .wires) → wiresFit (v .blocks) 0 (v .wi
 unfolding viewRight
 view-as v g = wires-as (v .blocks) 0 (v .wires) ∙ ap (λ (b : Bool). b && (every (ranksRight (v .blocks)) (v .wires) && every (positionsRight (v .blocks)) (v .wires))) (sym (order-as (v .wires) g))
 
--- the position of a member
-member-place : (l : List RankWire) (w : RankWire) → Member w l → (i : ℕ) × (i < length l) × (getD l i noWire ≡ w)
-member-place (v ∷ l) w (inl e) = (0, omega arith, sym e)
-member-place (v ∷ l) w (inr k) = let r = member-place l w k in let h = r .1 in (suc (r .0), omega arith, r .2)
-
-field-small : (bytes : List ℕ) (at : ℕ) → ((k : ℕ) → getD bytes k 0 < 256) → fieldAt bytes at < 65536
-unfolding fieldAt
-field-small bytes at h = let a = h at in let b = h (at + 1) in omega arith
-
-wires-small : (bytes : List ℕ) (u n : ℕ) → ((k : ℕ) → getD bytes k 0 < 256) → WiresRead bytes u n → WiresSmall (unbytes bytes .wires)
-wires-small bytes u n h r w k =
-    let p = member-place (unbytes bytes .wires) w k in
-    let i = p .0 in
-    let m = r .many in
-    let l = p .1 in
-    let e = sym (r .each i (omega arith)) ∙ p .2 in
-    let at = placeOf u i in
-    subst (λ (v : RankWire). FieldsFit (wireRecord v)) e (record { a = field-small bytes at h; b = field-small bytes (at + 2) h; c = field-small bytes (at + 4) h; d = field-small bytes (at + 6) h })
+wires-small : (bytes : List ℕ) → ((k : ℕ) → getD bytes k 0 < 256) → WiresSmall (unbytes bytes .wires)
+wires-small bytes h w k = said-fits bytes h .1 (wireRecord w) (map-member wireRecord w (unbytes bytes .wires) k)
 
 -- The loop.
 
@@ -171,7 +156,7 @@ pub record Wiring (bytes : List ℕ) (unit wires before i : ℕ) : Type 0 where
   pub rest : wiresFit (unbytes bytes .blocks) before (drop i (unbytes bytes .wires)) ≡ viewRight (unbytes bytes)
 
 pub wires-begin : (bytes : List ℕ) (u n : ℕ) → ((k : ℕ) → getD bytes k 0 < 256) → WiresRead bytes u n → Wiring bytes u n 0 0
-wires-begin bytes u n h r = record { inside = omega arith; rest = view-as (unbytes bytes) (wires-small bytes u n h r) }
+wires-begin bytes u n h r = record { inside = omega arith; rest = view-as (unbytes bytes) (wires-small bytes h) }
 
 module _ {bytes : List ℕ} {u n before i : ℕ} (r : WiresRead bytes u n) (w : Wiring bytes u n before i) where
   pub wires-end : n ≤ i → true ≡ viewRight (unbytes bytes)

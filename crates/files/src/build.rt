@@ -150,7 +150,7 @@ pub(crate) fn fill_firsts(firsts: &mut [u32; NODE_SLOTS], file: &[u8], blocks: u
 }
 
 // The output of the wire at a byte position.
-fn out_port<'a>(
+pub(crate) fn out_port<'a>(
     firsts: &'a [u32; NODE_SLOTS],
     file: &'a [u8],
     blocks: usize,
@@ -166,7 +166,12 @@ fn out_port<'a>(
 }
 
 // Its input.
-fn in_port<'a>(firsts: &'a [u32; NODE_SLOTS], file: &'a [u8], blocks: usize, at: usize) -> PortIndex
+pub(crate) fn in_port<'a>(
+    firsts: &'a [u32; NODE_SLOTS],
+    file: &'a [u8],
+    blocks: usize,
+    at: usize,
+) -> PortIndex
     requires { ⌜ Linkable (now firsts) (now file) blocks at ⌝ }
     ensures { λ r. ⌜ r .0 ≡ inPort (unbytes (now (file .entry)) .blocks) (wireOf (recordIn (now (file .entry)) at)) ⌝ }
 {

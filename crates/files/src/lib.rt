@@ -2,6 +2,7 @@
 pub mod build;
 pub mod bytes;
 pub mod check;
+pub mod listing;
 pub mod load;
 pub mod ranks;
 pub mod save;

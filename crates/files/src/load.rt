@@ -54,7 +54,7 @@ fn refused(answer: LoadAnswer) -> FileLoaded
 }
 
 // Whether a file is laid as the writer lays it, and how many blocks and wires it then has.
-fn laid(file: &[u8]) -> Shape
+pub(crate) fn laid(file: &[u8]) -> Shape
     requires { ⌜ length (now file) % 512 ≡ 0 ⌝ }
     ensures { λ r. ⌜ Laid (now (file .entry)) (r .right) (r .blocks) (r .wires) ⌝ }
 {
@@ -72,7 +72,7 @@ fn laid(file: &[u8]) -> Shape
 }
 
 // Builds the wiring of a laid file.
-fn build(file: &[u8], blocks: usize, wires: usize) -> FileLoaded
+pub(crate) fn build(file: &[u8], blocks: usize, wires: usize) -> FileLoaded
     requires { ⌜ Laid (now file) true blocks wires ⌝ }
     ensures { λ r. ⌜ BuildIs (unbytes (now (file .entry))) r ⌝ }
 {

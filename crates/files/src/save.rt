@@ -3,27 +3,39 @@ use crate::ranks::block_numbers;
 use crate::ranks::fill_ranks;
 use crate::ranks::wire_numbers;
 use crate::units::put_units;
+use multiportgraph::lent::Held;
+use multiportgraph::lent::link_count_in;
+use multiportgraph::lent::node_count_in;
+use multiportgraph::lent_graph::tables_of_graph;
+use multiportgraph::list_blocks::blocks_in;
+use multiportgraph::list_wires::wires_in;
 use multiportgraph::multiportgraph::MultiPortGraph;
+use portgraph::index::FREE_LISTS;
 use portgraph::index::NODE_SLOTS;
 use portgraph::index::PORT_SLOTS;
+use portgraph::lent::NODE_WORDS;
+use portgraph::numbers::larger;
 ghost use mathlib.Core.Path.{_≡_};
 ghost use mathlib.Core.List.{map};
 ghost use Prim.Native.Nat.{_+_, _*_, _≤_};
 ghost use lib.ListN.{length};
 ghost use lib.Seq.{sets};
 ghost use Rattle.portgraph.specs.Limits.{nodeSlots, portSlots};
+ghost use Rattle.multiportgraph.specs.Calls.{visibleNodes, visibleLinks};
 ghost use Rattle.multiportgraph.specs.Inner.{MultiWf};
+ghost use Rattle.multiportgraph.specs.MultiLent.{multiIn};
 ghost use Rattle.files.specs.View.{rankAmong, sorted};
 ghost use Rattle.files.specs.Layout.{blockRecord, wireRecord, unitsFor, unitsOf, fileLength};
 ghost use Rattle.files.specs.Saving.{saveAnswer, saveBuffer};
 ghost use Rattle.files.specs.Forms.{blocksIn, nodesOf, blocksOf, BlocksFit, wiresIn, wiresOf, Listings};
 
-// Four numbers a block, and eight a wire, which takes two port slots.
-const BLOCK_WORDS: usize = 4 * NODE_SLOTS;
-
+// A wire takes two port slots.
 const MOST_WIRES: usize = PORT_SLOTS / 2;
 
-const WIRE_WORDS: usize = 8 * MOST_WIRES;
+// So many blocks and wires a small wiring has, and a middling one: shorter working lists are cleared faster.
+const FEW: usize = 63;
+
+const SOME: usize = 126;
 
 // No file is longer than this, so a buffer of so many bytes is never too short.
 pub const LONGEST_FILE: usize = 512 * ((NODE_SLOTS + 62) / 63 + (MOST_WIRES + 62) / 63);
@@ -45,48 +57,246 @@ fn file_length(blocks: usize, wires: usize) -> usize
 }
 
 // Lays the units of the blocks of a listing from the buffer's start on; answers the place after them.
-fn put_blocks(listed: &[u32], buffer: &mut [u8]) -> usize
-    requires { ⌜ (blocksIn (now listed) ≤ nodeSlots) × BlocksFit (now listed) × (512 * unitsFor (blocksIn (now listed)) ≤ length (now buffer)) ⌝ }
+fn put_blocks(listed: &[u32], numbers: &mut [u64], buffer: &mut [u8]) -> usize
+    requires { ⌜ (blocksIn (now listed) ≤ length (now numbers)) × BlocksFit (now listed) × (512 * unitsFor (blocksIn (now listed)) ≤ length (now buffer)) ⌝ }
     ensures { λ r. ⌜ (r ≡ 512 * unitsFor (blocksIn (now (listed .entry))))
         × (now (buffer .exit) ≡ sets (now (buffer .entry)) 0 (unitsOf 1 (map blockRecord (blocksOf (now (listed .entry)))))) ⌝ }
 {
-    let mut numbers = [0u64; NODE_SLOTS];
-    block_numbers(listed, &mut numbers);
+    block_numbers(listed, numbers);
     let count = listed.len() / 4;
     put_units(buffer, 0, 1, &numbers[..count])
 }
 
 // Lays the units of the wires of a listing from a place on, by the ranks of their blocks.
-fn put_wires<'a>(listed: &'a [u32], ends: &'a [u32], buffer: &mut [u8], at: usize)
-    requires { ⌜ Listings (now listed) (now ends) × (at + 512 * unitsFor (wiresIn (now ends)) ≤ length (now buffer)) ⌝ }
+fn put_wires<'a>(
+    listed: &'a [u32],
+    ends: &'a [u32],
+    ranks: &mut [u32],
+    numbers: &mut [u64],
+    buffer: &mut [u8],
+    at: usize,
+)
+    requires { ⌜ Listings (now listed) (now ends) (length (now ranks)) × (wiresIn (now ends) ≤ length (now numbers)) × (at + 512 * unitsFor (wiresIn (now ends)) ≤ length (now buffer)) ⌝ }
     ensures { λ _. ⌜ now (buffer .exit) ≡ sets (now (buffer .entry)) at (unitsOf 2 (map wireRecord (sorted (wiresOf (rankAmong (nodesOf (now (listed .entry)))) (now (ends .entry)))))) ⌝ }
 {
-    let mut ranks = [0u32; NODE_SLOTS];
-    fill_ranks(listed, &mut ranks);
-    let mut numbers = [0u64; MOST_WIRES];
-    wire_numbers(ends, &ranks, &mut numbers);
+    fill_ranks(listed, ranks);
+    wire_numbers(ends, ranks, numbers);
     let count = ends.len() / 8;
     put_units(buffer, at, 2, &numbers[..count]);
 }
 
-// Writes a graph to a lent buffer and answers the file's length; bytes past it keep their contents, and so does a buffer that is too short.
-pub fn save(graph: MultiPortGraph, buffer: &mut [u8]) -> SaveAnswer
-    requires { ⌜ MultiWf graph ⌝ }
-    ensures { λ r. ⌜ (r ≡ saveAnswer graph (now (buffer .entry))) × (now (buffer .exit) ≡ saveBuffer graph (now (buffer .entry))) ⌝ }
+// Lays the file of lent tables from the buffer's start on, by working lists that are long enough.
+fn write_in<'a>(
+    nodes: &'a [u32; NODE_WORDS],
+    links: &'a [u32; PORT_SLOTS],
+    owners: &'a [u32; PORT_SLOTS],
+    heads: &'a [u32; FREE_LISTS],
+    marks: &'a [bool; PORT_SLOTS],
+    flags: &'a [bool; NODE_SLOTS],
+    held: Held,
+    listed: &mut [u32],
+    ends: &mut [u32],
+    ranks: &mut [u32],
+    numbers: &mut [u64],
+    buffer: &mut [u8],
+)
+    requires { ⌜ MultiWf (multiIn (now nodes) (now links) (now owners) (now heads) (now marks) (now flags) held)
+        × (4 * visibleNodes (multiIn (now nodes) (now links) (now owners) (now heads) (now marks) (now flags) held) ≤ length (now listed))
+        × (8 * visibleLinks (multiIn (now nodes) (now links) (now owners) (now heads) (now marks) (now flags) held) ≤ length (now ends))
+        × (held .counts .«node_len» ≤ length (now ranks))
+        × (visibleNodes (multiIn (now nodes) (now links) (now owners) (now heads) (now marks) (now flags) held) ≤ length (now numbers))
+        × (visibleLinks (multiIn (now nodes) (now links) (now owners) (now heads) (now marks) (now flags) held) ≤ length (now numbers))
+        × (fileLength (visibleNodes (multiIn (now nodes) (now links) (now owners) (now heads) (now marks) (now flags) held)) (visibleLinks (multiIn (now nodes) (now links) (now owners) (now heads) (now marks) (now flags) held)) ≤ length (now buffer)) ⌝ }
+    ensures { λ _. ⌜ now (buffer .exit) ≡ saveBuffer (multiIn (now (nodes .entry)) (now (links .entry)) (now (owners .entry)) (now (heads .entry)) (now (marks .entry)) (now (flags .entry)) held) (now (buffer .entry)) ⌝ }
 {
-    let blocks = graph.node_count();
-    let wires = graph.link_count();
+    let blocks = node_count_in(held);
+    let wires = link_count_in(held);
+    blocks_in(nodes, links, owners, heads, marks, flags, held, listed);
+    wires_in(nodes, links, owners, heads, marks, flags, held, ends);
+    let block_end = 4 * blocks;
+    let wire_end = 8 * wires;
+    let next = put_blocks(&listed[..block_end], numbers, buffer);
+    put_wires(
+        &listed[..block_end],
+        &ends[..wire_end],
+        ranks,
+        numbers,
+        buffer,
+        next,
+    );
+}
+
+// The same by lists for up to 63 blocks and wires.
+fn write_few<'a>(
+    nodes: &'a [u32; NODE_WORDS],
+    links: &'a [u32; PORT_SLOTS],
+    owners: &'a [u32; PORT_SLOTS],
+    heads: &'a [u32; FREE_LISTS],
+    marks: &'a [bool; PORT_SLOTS],
+    flags: &'a [bool; NODE_SLOTS],
+    held: Held,
+    buffer: &mut [u8],
+)
+    requires { ⌜ MultiWf (multiIn (now nodes) (now links) (now owners) (now heads) (now marks) (now flags) held)
+        × (visibleNodes (multiIn (now nodes) (now links) (now owners) (now heads) (now marks) (now flags) held) ≤ 63)
+        × (visibleLinks (multiIn (now nodes) (now links) (now owners) (now heads) (now marks) (now flags) held) ≤ 63)
+        × (fileLength (visibleNodes (multiIn (now nodes) (now links) (now owners) (now heads) (now marks) (now flags) held)) (visibleLinks (multiIn (now nodes) (now links) (now owners) (now heads) (now marks) (now flags) held)) ≤ length (now buffer)) ⌝ }
+    ensures { λ _. ⌜ now (buffer .exit) ≡ saveBuffer (multiIn (now (nodes .entry)) (now (links .entry)) (now (owners .entry)) (now (heads .entry)) (now (marks .entry)) (now (flags .entry)) held) (now (buffer .entry)) ⌝ }
+{
+    let mut listed = [0u32; 4 * FEW];
+    let mut ends = [0u32; 8 * FEW];
+    let mut ranks = [0u32; NODE_SLOTS];
+    let mut numbers = [0u64; FEW];
+    write_in(
+        nodes,
+        links,
+        owners,
+        heads,
+        marks,
+        flags,
+        held,
+        &mut listed,
+        &mut ends,
+        &mut ranks,
+        &mut numbers,
+        buffer,
+    );
+}
+
+// The same by lists for up to 126.
+fn write_some<'a>(
+    nodes: &'a [u32; NODE_WORDS],
+    links: &'a [u32; PORT_SLOTS],
+    owners: &'a [u32; PORT_SLOTS],
+    heads: &'a [u32; FREE_LISTS],
+    marks: &'a [bool; PORT_SLOTS],
+    flags: &'a [bool; NODE_SLOTS],
+    held: Held,
+    buffer: &mut [u8],
+)
+    requires { ⌜ MultiWf (multiIn (now nodes) (now links) (now owners) (now heads) (now marks) (now flags) held)
+        × (visibleNodes (multiIn (now nodes) (now links) (now owners) (now heads) (now marks) (now flags) held) ≤ 126)
+        × (visibleLinks (multiIn (now nodes) (now links) (now owners) (now heads) (now marks) (now flags) held) ≤ 126)
+        × (fileLength (visibleNodes (multiIn (now nodes) (now links) (now owners) (now heads) (now marks) (now flags) held)) (visibleLinks (multiIn (now nodes) (now links) (now owners) (now heads) (now marks) (now flags) held)) ≤ length (now buffer)) ⌝ }
+    ensures { λ _. ⌜ now (buffer .exit) ≡ saveBuffer (multiIn (now (nodes .entry)) (now (links .entry)) (now (owners .entry)) (now (heads .entry)) (now (marks .entry)) (now (flags .entry)) held) (now (buffer .entry)) ⌝ }
+{
+    let mut listed = [0u32; 4 * SOME];
+    let mut ends = [0u32; 8 * SOME];
+    let mut ranks = [0u32; NODE_SLOTS];
+    let mut numbers = [0u64; SOME];
+    write_in(
+        nodes,
+        links,
+        owners,
+        heads,
+        marks,
+        flags,
+        held,
+        &mut listed,
+        &mut ends,
+        &mut ranks,
+        &mut numbers,
+        buffer,
+    );
+}
+
+// The same by lists for every graph.
+fn write_all<'a>(
+    nodes: &'a [u32; NODE_WORDS],
+    links: &'a [u32; PORT_SLOTS],
+    owners: &'a [u32; PORT_SLOTS],
+    heads: &'a [u32; FREE_LISTS],
+    marks: &'a [bool; PORT_SLOTS],
+    flags: &'a [bool; NODE_SLOTS],
+    held: Held,
+    buffer: &mut [u8],
+)
+    requires { ⌜ MultiWf (multiIn (now nodes) (now links) (now owners) (now heads) (now marks) (now flags) held)
+        × (fileLength (visibleNodes (multiIn (now nodes) (now links) (now owners) (now heads) (now marks) (now flags) held)) (visibleLinks (multiIn (now nodes) (now links) (now owners) (now heads) (now marks) (now flags) held)) ≤ length (now buffer)) ⌝ }
+    ensures { λ _. ⌜ now (buffer .exit) ≡ saveBuffer (multiIn (now (nodes .entry)) (now (links .entry)) (now (owners .entry)) (now (heads .entry)) (now (marks .entry)) (now (flags .entry)) held) (now (buffer .entry)) ⌝ }
+{
+    let mut listed = [0u32; 4 * NODE_SLOTS];
+    let mut ends = [0u32; 8 * MOST_WIRES];
+    let mut ranks = [0u32; NODE_SLOTS];
+    let mut numbers = [0u64; MOST_WIRES];
+    write_in(
+        nodes,
+        links,
+        owners,
+        heads,
+        marks,
+        flags,
+        held,
+        &mut listed,
+        &mut ends,
+        &mut ranks,
+        &mut numbers,
+        buffer,
+    );
+}
+
+// Writes lent tables to a lent buffer and answers the file's length; bytes past it keep their contents, and so does a buffer that is too short.
+pub fn save_in<'a>(
+    nodes: &'a [u32; NODE_WORDS],
+    links: &'a [u32; PORT_SLOTS],
+    owners: &'a [u32; PORT_SLOTS],
+    heads: &'a [u32; FREE_LISTS],
+    marks: &'a [bool; PORT_SLOTS],
+    flags: &'a [bool; NODE_SLOTS],
+    held: Held,
+    buffer: &mut [u8],
+) -> SaveAnswer
+    requires { ⌜ MultiWf (multiIn (now nodes) (now links) (now owners) (now heads) (now marks) (now flags) held) ⌝ }
+    ensures { λ r. ⌜ (r ≡ saveAnswer (multiIn (now (nodes .entry)) (now (links .entry)) (now (owners .entry)) (now (heads .entry)) (now (marks .entry)) (now (flags .entry)) held) (now (buffer .entry)))
+        × (now (buffer .exit) ≡ saveBuffer (multiIn (now (nodes .entry)) (now (links .entry)) (now (owners .entry)) (now (heads .entry)) (now (marks .entry)) (now (flags .entry)) held) (now (buffer .entry))) ⌝ }
+{
+    let blocks = node_count_in(held);
+    let wires = link_count_in(held);
     let size = file_length(blocks, wires);
     if buffer.len() < size {
         return SaveAnswer::BufferShort;
     }
-    let mut listed = [0u32; BLOCK_WORDS];
-    graph.list_blocks(&mut listed);
-    let mut ends = [0u32; WIRE_WORDS];
-    graph.list_wires(&mut ends);
-    let block_end = 4 * blocks;
-    let wire_end = 8 * wires;
-    let next = put_blocks(&listed[..block_end], buffer);
-    put_wires(&listed[..block_end], &ends[..wire_end], buffer, next);
+    let most = larger(blocks, wires);
+    if most <= FEW {
+        write_few(nodes, links, owners, heads, marks, flags, held, buffer);
+        return SaveAnswer::Saved(size);
+    }
+    if most <= SOME {
+        write_some(nodes, links, owners, heads, marks, flags, held, buffer);
+        return SaveAnswer::Saved(size);
+    }
+    write_all(nodes, links, owners, heads, marks, flags, held, buffer);
     SaveAnswer::Saved(size)
+}
+
+// The same of a graph by value.
+pub fn save(graph: MultiPortGraph, buffer: &mut [u8]) -> SaveAnswer
+    requires { ⌜ MultiWf graph ⌝ }
+    ensures { λ r. ⌜ (r ≡ saveAnswer graph (now (buffer .entry))) × (now (buffer .exit) ≡ saveBuffer graph (now (buffer .entry))) ⌝ }
+{
+    let mut nodes = [0u32; NODE_WORDS];
+    let mut links = [0u32; PORT_SLOTS];
+    let mut owners = [0u32; PORT_SLOTS];
+    let mut heads = [0u32; FREE_LISTS];
+    let mut marks = [false; PORT_SLOTS];
+    let mut flags = [false; NODE_SLOTS];
+    let held = tables_of_graph(
+        graph,
+        &mut nodes,
+        &mut links,
+        &mut owners,
+        &mut heads,
+        &mut marks,
+        &mut flags,
+    );
+    save_in(
+        &nodes,
+        &links,
+        &owners,
+        &heads,
+        &marks,
+        &flags,
+        held,
+        buffer,
+    )
 }

@@ -95,27 +95,27 @@ run-ends {requests} {at = at} r l =
 pub run-fits : {requests answers : List ℕ} {m : MultiPortGraph} {at : ℕ} → Running requests answers m at → at < length requests → at + 20 ≤ length requests
 run-fits r l = let h = r .whole in omega arith
 
--- The same loop where no answer is laid: the graph that the rest leaves is that of the whole list.
-pub record Going (requests : List ℕ) (graph : MultiPortGraph) (at : ℕ) : Type 0 where
+-- The same loop on any graph, where no answer is laid: the graph that the rest leaves is that of the whole list.
+pub record Going (requests : List ℕ) (start graph : MultiPortGraph) (at : ℕ) : Type 0 where
   pub inside : at ≤ length requests
-  pub rest : graphFrom graph (requestsLeft requests at) ≡ graphFrom emptyGraph (requestsOf requests)
+  pub rest : graphFrom graph (requestsLeft requests at) ≡ graphFrom start (requestsOf requests)
   pub kept : MultiWf graph
 
-pub going-starts : {requests : List ℕ} {m : MultiPortGraph} → m ≡ emptyGraph → Going requests m 0
+pub going-starts : {requests : List ℕ} {m : MultiPortGraph} → MultiWf m → Going requests m m 0
 unfolding requestsOf
-going-starts {requests} e =
+going-starts {requests} w =
     let n : length requests - 0 ≡ length requests = omega arith in
-    record { inside = omega arith; rest = rw (e, n) refl; kept = rw e empty-kept }
+    record { inside = omega arith; rest = rw n refl; kept = w }
 
-pub going-turns : {requests : List ℕ} {m m′ : MultiPortGraph} {at : ℕ} {x : Asked} {words : List ℕ} → Going requests m at → 20 ≤ length requests - at
-    → x ≡ asked (requestAt requests at) → Answered m x words m′ → Going requests m′ (at + 20)
+pub going-turns : {requests : List ℕ} {start m m′ : MultiPortGraph} {at : ℕ} {x : Asked} {words : List ℕ} → Going requests start m at → 20 ≤ length requests - at
+    → x ≡ asked (requestAt requests at) → Answered m x words m′ → Going requests start m′ (at + 20)
 unfolding requestsFrom graphFrom
-going-turns {requests} {m} {m′} {at} {x} {words} r l e d =
+going-turns {requests} {start} {m} {m′} {at} {x} {words} r l e d =
     let n : (length requests - at) / 20 ≡ suc ((length requests - (at + 20)) / 20) = omega arith in
     let whole : graphFrom m (requestsLeft requests at) ≡ graphFrom (after m x) (requestsLeft requests (at + 20)) = rw (n, e) refl in
     record { inside = omega arith; rest = rw (d .graph) (sym whole) ∙ r .rest; kept = d .kept }
 
-pub going-ends : {requests : List ℕ} {m : MultiPortGraph} {at : ℕ} → Going requests m at → (20 ≤ length requests - at → ⊥) → m ≡ graphFrom emptyGraph (requestsOf requests)
+pub going-ends : {requests : List ℕ} {start m : MultiPortGraph} {at : ℕ} → Going requests start m at → (20 ≤ length requests - at → ⊥) → m ≡ graphFrom start (requestsOf requests)
 unfolding requestsFrom graphFrom
 going-ends {requests} {at = at} r l =
     let n : (length requests - at) / 20 ≡ 0 = omega arith in

@@ -21,9 +21,7 @@ use multiportgraph::lent::subport_link_in;
 use multiportgraph::lent_blocks::cut_port_in;
 use multiportgraph::lent_blocks::remove_in;
 use multiportgraph::lent_blocks::set_quiet_in;
-use multiportgraph::lent_graph::graph_of_tables;
 use multiportgraph::lent_links::link_in;
-use multiportgraph::multiportgraph::MultiPortGraph;
 use portgraph::index::FREE_LISTS;
 use portgraph::index::NODE_SLOTS;
 use portgraph::index::PORT_SLOTS;
@@ -31,7 +29,6 @@ use portgraph::lent::NODE_WORDS;
 ghost use mathlib.Core.Path.{_≡_};
 ghost use Prim.Native.Nat.{_%_};
 ghost use lib.ListN.{length};
-ghost use Rattle.multiportgraph.specs.Graph.{emptyGraph};
 ghost use Rattle.multiportgraph.specs.Inner.{MultiWf};
 ghost use Rattle.multiportgraph.specs.MultiLent.{multiIn};
 ghost use Rattle.records.specs.Words.{requestsOf};
@@ -198,32 +195,29 @@ pub(crate) fn run_list(requests: &[u8], answers: &mut [u8])
     }
 }
 
-// The graph that a list of requests leaves. What stands after the last whole request is not read.
-pub fn graph_of_requests(requests: &[u8]) -> MultiPortGraph
-    ensures { λ r. ⌜ (r ≡ graphFrom emptyGraph (requestsOf (now (requests .entry)))) × MultiWf r ⌝ }
+// Runs a list of requests on lent tables, past refused calls, and answers what stands outside the tables afterwards. What stands after the last
+// whole request is not read.
+pub fn run_tables(
+    nodes: &mut [u32; NODE_WORDS],
+    links: &mut [u32; PORT_SLOTS],
+    owners: &mut [u32; PORT_SLOTS],
+    heads: &mut [u32; FREE_LISTS],
+    marks: &mut [bool; PORT_SLOTS],
+    flags: &mut [bool; NODE_SLOTS],
+    held: Held,
+    requests: &[u8],
+) -> Held
+    requires { ⌜ MultiWf (multiIn (now nodes) (now links) (now owners) (now heads) (now marks) (now flags) held) ⌝ }
+    ensures { λ r. ⌜ (multiIn (now (nodes .exit)) (now (links .exit)) (now (owners .exit)) (now (heads .exit)) (now (marks .exit)) (now (flags .exit)) r ≡ graphFrom (multiIn (now (nodes .entry)) (now (links .entry)) (now (owners .entry)) (now (heads .entry)) (now (marks .entry)) (now (flags .entry)) held) (requestsOf (now (requests .entry))))
+        × MultiWf (multiIn (now (nodes .exit)) (now (links .exit)) (now (owners .exit)) (now (heads .exit)) (now (marks .exit)) (now (flags .exit)) r) ⌝ }
 {
-    let mut nodes = [0u32; NODE_WORDS];
-    let mut links = [0u32; PORT_SLOTS];
-    let mut owners = [0u32; PORT_SLOTS];
-    let mut heads = [0u32; FREE_LISTS];
-    let mut marks = [false; PORT_SLOTS];
-    let mut flags = [false; NODE_SLOTS];
-    let mut held = no_held();
+    let mut after = held;
     let mut at: usize = 0;
     while 20 <= requests.len() - at {
         let ask = ask_at(requests, at);
-        let told = one_request(
-            &mut nodes,
-            &mut links,
-            &mut owners,
-            &mut heads,
-            &mut marks,
-            &mut flags,
-            held,
-            ask,
-        );
-        held = told.held;
+        let told = one_request(nodes, links, owners, heads, marks, flags, after, ask);
+        after = told.held;
         at += 20;
     }
-    graph_of_tables(&nodes, &links, &owners, &heads, &marks, &flags, held)
+    after
 }

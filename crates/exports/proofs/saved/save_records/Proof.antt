@@ -1,6 +1,12 @@
 -- `exports::saved::save_records` meets its contract: refusal 1, else the file of the graph that the list leaves.
-use mathlib.Core.Path.{_∙_}
+use mathlib.Core.Path.{sym, ap, _∙_, subst}
 use borrow.Author.Needs.{needs}
+use Rattle.multiportgraph.specs.Inner.{MultiWf}
+use Rattle.multiportgraph.specs.declared.multiportgraph.MultiPortGraph.{MultiPortGraph}
+use Rattle.theorems.specs.CallLaws.{empty-kept}
+use Rattle.records.specs.Words.{requestsOf}
+use Rattle.records.specs.Run.{graphFrom}
+use Rattle.records.specs.LentSteps.{start-in}
 use Rattle.exports.specs.ExportSteps.{save-odd, save-done}
 use Rattle.exports.proofs.saved.save_records.Statement.{statement}
 use Rattle.exports.proofs.saved.save_records.Tie as tie
@@ -8,11 +14,14 @@ use Rattle.exports.proofs.saved.save_records.Tie as tie
 returns : tie.Need-returns
 returns c = save-odd (c .before .before .before .args .requests .now) (c .before .before .before .args .file .now) (c .if1 .taken)
 
-graph-of-requests-requires : tie.Need-graph-of-requests-requires
-graph-of-requests-requires c κs = search needs
+no-held-requires : tie.Need-no-held-requires
+no-held-requires c κs = search needs
 
-save-requires : tie.Need-save-requires
-save-requires c κs = c .before .graph-of-requests .ensures .1
+run-tables-requires : tie.Need-run-tables-requires
+run-tables-requires c κs = subst MultiWf (sym (start-in _ (c .no-held .ensures))) empty-kept
+
+save-in-requires : tie.Need-save-in-requires
+save-in-requires c κs = c .before .before .before .before .before .before .before .run-tables .ensures .1
 
 save-told-requires : tie.Need-save-told-requires
 save-told-requires c κs = search needs
@@ -22,7 +31,9 @@ same-length c = search needs
 
 returns-2 : tie.Need-returns-2
 returns-2 c =
-    let d = save-done (c .before .before .before .before .before .before .before .before .before .args .requests .now) (c .before .before .before .before .before .before .before .before .before .args .file .now) _ _ _ (c .before .before .before .before .before .before .if1 .left) (c .before .before .before .before .before .graph-of-requests .ensures .0) (c .before .before .before .save .ensures) in
+    let a = c .before .before .before .before .before .before .before .before .before .before .before .before .before .before .before .before .before .before .before .before .before .before .args in
+    let m = c .before .before .before .before .before .before .before .before .before .before .before .run-tables .ensures .0 ∙ ap (λ (g : MultiPortGraph). graphFrom g (requestsOf (a .requests .now))) (start-in _ (c .before .before .before .before .before .before .before .before .before .before .before .before .no-held .ensures)) in
+    let d = save-done (a .requests .now) (a .file .now) _ _ _ (c .before .before .before .before .before .before .before .before .before .before .before .before .before .before .before .before .before .before .before .if1 .left) m (c .before .before .before .save-in .ensures) in
     (c .save-told .ensures ∙ d .0, d .1)
 
 pub save-records-spec : {M : Type 1} → statement M
@@ -30,8 +41,9 @@ save-records-spec =
     tie.close
     (tie.spec
     returns
-    graph-of-requests-requires
-    save-requires
+    no-held-requires
+    run-tables-requires
+    save-in-requires
     save-told-requires
     same-length
     returns-2)

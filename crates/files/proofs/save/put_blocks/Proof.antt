@@ -3,9 +3,8 @@ use native.Mathlib.Omega.{arith}
 use mathlib.Core.Path.{_≡_, sym, ap, _∙_}
 use mathlib.Core.List.{List, map}
 use Prim.Native.Nat.{ℕ}
-use lib.ListN.{length, take, replicate}
+use lib.ListN.{length, take}
 use lib.Seq.{sets, length-take-le}
-use Rattle.portgraph.specs.Limits.{nodeSlots}
 use Rattle.files.specs.Layout.{Record, unitsFor, unitsOf}
 use Rattle.files.specs.Forms.{recordOf, blocksIn}
 use Rattle.files.specs.SaveSteps.{block-records}
@@ -14,46 +13,44 @@ use Rattle.files.proofs.save.put_blocks.Statement.{statement}
 use Rattle.files.proofs.save.put_blocks.Tie as tie
 
 -- as many numbers are lent as there are blocks
-many : (c : tie.After-numbers3) → length (take (blocksIn (c .before .before .before .before .before .before .before .args .listed .now)) (c .before .before .before .block-numbers .last .1 .0)) ≡ blocksIn (c .before .before .before .before .before .before .before .args .listed .now)
-many c = length-take-le (blocksIn (c .before .before .before .before .before .before .before .args .listed .now)) (c .before .before .before .block-numbers .last .1 .0) (omega (arith, c .before .before .numbers2 .given, c .before .before .before .before .before .before .before .pre .0))
-
-slice-aggregate-block-numbers : tie.Need-slice-aggregate-block-numbers
-slice-aggregate-block-numbers c = search needs
+many : (c : tie.After-slice-known3) → length (take (blocksIn (c .before .before .before .before .before .before .before .args .listed .now)) (c .before .before .block-numbers .last .1 .0)) ≡ blocksIn (c .before .before .before .before .before .before .before .args .listed .now)
+many c = length-take-le (blocksIn (c .before .before .before .before .before .before .before .args .listed .now)) (c .before .before .block-numbers .last .1 .0) (omega (arith, c .before .numbers .given, c .before .before .before .before .before .before .before .pre .0))
 
 block-numbers-requires : tie.Need-block-numbers-requires
 block-numbers-requires c κs = search needs
 
-array-share-prefix-numbers : tie.Need-array-share-prefix-numbers
-array-share-prefix-numbers c = search needs
+slice-reshare-prefix-put-units : tie.Need-slice-reshare-prefix-put-units
+slice-reshare-prefix-put-units c = search needs
 
 slice-aggregate-put-units : tie.Need-slice-aggregate-put-units
-slice-aggregate-put-units c = sym (many c)
+slice-aggregate-put-units c = sym (many (c .before .before))
 
 put-units-requires : tie.Need-put-units-requires
-put-units-requires c κs = let e = ap unitsFor (many c) in omega (arith, e, c .before .before .before .before .before .before .before .pre .2)
+put-units-requires c κs = let e = ap unitsFor (many (c .before .before)) in omega (arith, e, c .before .before .before .before .before .before .before .before .before .pre .2)
 
 same-length : tie.Need-same-length
 same-length c = search needs
 
+same-length-2 : tie.Need-same-length-2
+same-length-2 c = search needs
+
 returns : tie.Need-returns
 returns c =
-    let d = c .before .before .before in
-    let a = c .before .before .before .before .before .before .before .before .before .before .args in
-    let p = c .before .before .before .before .before .before .before .before .before .before .pre in
+    let a = c .before .before .before .before .before .before .before .before .before .before .before .before .args in
     let u = c .before .before .put-units .ensures in
-    let e = ap unitsFor (many d) in
+    let e = ap unitsFor (many (c .before .before .before .before .before)) in
     let n = blocksIn (a .listed .now) in
-    let r = ap (λ (l : List ℕ). map recordOf (take n l)) (c .before .before .before .before .before .before .block-numbers .ensures) ∙ block-records (a .listed .now) (replicate nodeSlots 0) (p .0) (p .1) in
+    let r = ap (λ (l : List ℕ). map recordOf (take n l)) (c .before .before .before .before .before .before .before .block-numbers .ensures) ∙ block-records (a .listed .now) (a .numbers .now) (c .before .before .before .before .before .before .before .before .before .before .before .before .pre .0) (c .before .before .before .before .before .before .before .before .before .before .before .before .pre .1) in
     (omega (arith, u .0, e), u .1 ∙ ap (λ (l : List Record). sets (a .buffer .now) 0 (unitsOf 1 l)) r)
 
 pub put-blocks-spec : {M : Type 1} → statement M
 put-blocks-spec =
     tie.close
     (tie.spec
-    slice-aggregate-block-numbers
     block-numbers-requires
-    array-share-prefix-numbers
+    slice-reshare-prefix-put-units
     slice-aggregate-put-units
     put-units-requires
     same-length
+    same-length-2
     returns)

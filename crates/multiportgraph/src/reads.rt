@@ -1,4 +1,5 @@
-// Leaves that read lent tables: what a port number is, the subports of a split port, the ends, and what an end is linked with.
+// Leaves that read lent tables: what a port number is, the subports of a split port, the ends, what an end is linked with, and where
+// that stands.
 // No leaf takes the graph, and none asks anything of its port.
 use crate::ends::EndFound;
 use crate::ends::SeenPort;

@@ -7,8 +7,7 @@ use Rattle.multiportgraph.specs.declared.multiportgraph.PortsLinked.{PortsLinke
 use Rattle.multiportgraph.specs.declared.multiportgraph.PortUnlinked.{PortUnlinked}
 use Rattle.records.specs.Run.{five}
 use Rattle.records.specs.Forms.{meant}
-use Rattle.records.specs.AskSteps.{answered}
-use Rattle.records.specs.AnswerSteps.{cut-told}
+use Rattle.records.specs.AskSteps.{answered, cut-answered, cut-sub-answered, link-of-answered}
 use Rattle.multiportgraph.specs.Answers.{unplaced}
 use Rattle.records.proofs.ask.answer.Statement.{statement}
 use Rattle.records.proofs.ask.answer.Tie as tie
@@ -129,8 +128,8 @@ returns-4 c =
 
 returns-5 : tie.Need-returns-5
 returns-5 c =
-    answered (c .before .before .before .before .before .before .before .pre) (ap meant (c .before .before .before .before .before .asked5 .given .1))
-    (cut-told _ (c .cut-words .ensures) (c .before .unplaced .ensures .0 ∙ ap (λ (r : PortUnlinked). unplaced (r .answer)) (c .before .before .before .unlink-port .ensures .0)))
+    cut-answered (c .before .before .before .before .before .before .before .pre) (ap meant (c .before .before .before .before .before .asked5 .given .1)) (c .cut-words .ensures)
+    (c .before .unplaced .ensures .0 ∙ ap (λ (r : PortUnlinked). unplaced (r .answer)) (c .before .before .before .unlink-port .ensures .0))
     (ap (λ (r : PortUnlinked). r .graph) (c .before .before .before .unlink-port .ensures .0))
 
 returns-6 : tie.Need-returns-6
@@ -140,13 +139,14 @@ returns-6 c =
 
 returns-7 : tie.Need-returns-7
 returns-7 c =
-    answered (c .before .before .before .before .before .before .before .pre) (ap meant (c .before .before .before .before .before .asked7 .given .1))
-    (cut-told _ (c .cut-words2 .ensures) (c .before .unplaced2 .ensures .0 ∙ ap (λ (r : PortUnlinked). unplaced (r .answer)) (c .before .before .before .unlink-subport .ensures .0)))
+    cut-sub-answered (c .before .before .before .before .before .before .before .pre) (ap meant (c .before .before .before .before .before .asked7 .given .1)) (c .cut-words2 .ensures)
+    (c .before .unplaced2 .ensures .0 ∙ ap (λ (r : PortUnlinked). unplaced (r .answer)) (c .before .before .before .unlink-subport .ensures .0))
     (ap (λ (r : PortUnlinked). r .graph) (c .before .before .before .unlink-subport .ensures .0))
 
 returns-8 : tie.Need-returns-8
 returns-8 c =
-    answered (c .before .before .before .before .before .before .pre) (ap meant (c .before .before .before .before .asked8 .given .1)) (cut-told _ (c .cut-words3 .ensures) (c .before .unplaced3 .ensures .0 ∙ ap unplaced (c .before .before .subport-link .ensures .0))) refl
+    link-of-answered (c .before .before .before .before .before .before .pre) (ap meant (c .before .before .before .before .asked8 .given .1)) (c .cut-words3 .ensures)
+    (c .before .unplaced3 .ensures .0 ∙ ap unplaced (c .before .before .subport-link .ensures .0))
 
 returns-9 : tie.Need-returns-9
 returns-9 c = answered (c .before .before .before .pre) (ap meant (c .before .enum-told .given .1)) (c .count-words .ensures) refl

@@ -59,7 +59,7 @@ link-one B a b (link.Linked s t) =
 link-one B a b (link.Refused r) = omega arith
 
 cut-none : (B : Book) (f : Place → Bool) (v : CutAnswer) → entries (bookCut B f v) ≤ suc (entries B)
-cut-none B f (cutting.Found s) = let h = without-short f (B .wires) in omega arith
+cut-none B f (cutting.Found s x) = let h = without-short f (B .wires) in omega arith
 cut-none B f cutting.Nothing = let h = without-short f (B .wires) in omega arith
 cut-none B f (cutting.Refused r) = omega arith
 

@@ -12,8 +12,11 @@ use Rattle.multiportgraph.specs.declared.multiportgraph.SetAnswer.{SetAn
 use Rattle.multiportgraph.specs.declared.multiportgraph.SetAnswer.the-variants as resize
 use Rattle.multiportgraph.specs.declared.multiportgraph.LinkAnswer.{LinkAnswer}
 use Rattle.multiportgraph.specs.declared.multiportgraph.LinkAnswer.the-variants as link
+use Rattle.multiportgraph.specs.declared.multiportgraph.PortPlace.{PortPlace}
 use Rattle.multiportgraph.specs.declared.multiportgraph.CutAnswer.{CutAnswer}
 use Rattle.multiportgraph.specs.declared.multiportgraph.CutAnswer.the-variants as cutting
+use Rattle.multiportgraph.specs.declared.multiportgraph.EndAnswer.{EndAnswer}
+use Rattle.multiportgraph.specs.declared.multiportgraph.EndAnswer.the-variants as end
 
 abbrev pub refusalNumbers : Refusal → List ℕ
 refusalNumbers BadOffset = 2 ∷ []
@@ -45,7 +48,22 @@ abbrev pub linkNumbers : LinkAnswer → List ℕ
 linkNumbers (link.Linked a b) = 0 ∷ a .port .0 ∷ a .«subport_offset» ∷ b .port .0 ∷ b .«subport_offset» ∷ []
 linkNumbers (link.Refused r) = refusalNumbers r
 
+-- where an end stands: node, side and position
+abbrev pub placeNumbers : PortPlace → List ℕ
+placeNumbers x = x .node .0 ∷ sideNumber (x .side) ∷ x .position ∷ []
+
 abbrev pub cutNumbers : CutAnswer → List ℕ
-cutNumbers (cutting.Found s) = 0 ∷ 1 ∷ s .port .0 ∷ s .«subport_offset» ∷ []
+cutNumbers (cutting.Found s x) = 0 ∷ 1 ∷ s .port .0 ∷ s .«subport_offset» ∷ placeNumbers x
 cutNumbers cutting.Nothing = 0 ∷ 0 ∷ 0 ∷ 0 ∷ []
 cutNumbers (cutting.Refused r) = refusalNumbers r
+
+-- The answer without the place, as the calls over lent tables give it; nothing else is left out.
+abbrev pub unplaced : CutAnswer → EndAnswer
+unplaced (cutting.Found s x) = end.Found s
+unplaced cutting.Nothing = end.Nothing
+unplaced (cutting.Refused r) = end.Refused r
+
+abbrev pub unplacedNumbers : EndAnswer → List ℕ
+unplacedNumbers (end.Found s) = 0 ∷ 1 ∷ s .port .0 ∷ s .«subport_offset» ∷ []
+unplacedNumbers end.Nothing = 0 ∷ 0 ∷ 0 ∷ 0 ∷ []
+unplacedNumbers (end.Refused r) = refusalNumbers r

@@ -15,12 +15,13 @@ use Rattle.portgraph.specs.declared.portgraph.PortLink.{PortLink}
 use Rattle.portgraph.specs.declared.portgraph.PortUnlinked as lower-unlinked
 use Rattle.portgraph.specs.declared.slots.NodeAdded as lower-added
 use Rattle.portgraph.specs.declared.slots.AddAnswer as lower-add
-use Rattle.multiportgraph.specs.Reading.{Port, dead, hidden, visible, seen, End, inner, lacking, isSplit, subport#}
+use Rattle.multiportgraph.specs.Reading.{Port, dead, hidden, visible, seen, End, inner, lacking, isSplit, subport#, standing}
 use Rattle.multiportgraph.specs.Calls.{addedAs, addBlock, cutPlain, cutPort, addBlockUnder}
 use Rattle.multiportgraph.specs.Forms.{seenAs, endAs}
 use Rattle.multiportgraph.specs.Inner.{MultiWf}
 use Rattle.multiportgraph.specs.declared.multiportgraph.MultiPortGraph.{MultiPortGraph}
 use Rattle.multiportgraph.specs.declared.multiportgraph.NodeAdded.{NodeAdded}
+use Rattle.multiportgraph.specs.declared.multiportgraph.PortPlace.{PortPlace}
 use Rattle.multiportgraph.specs.declared.multiportgraph.CutAnswer.the-variants as cutting
 use Rattle.multiportgraph.specs.declared.multiportgraph.PortUnlinked.{PortUnlinked}
 use Rattle.multiportgraph.specs.declared.ends.SeenPort.{SeenPort}
@@ -101,15 +102,15 @@ module _ (m : MultiPortGraph) where
     pub cut-port-seen : (s : Port) → seen m p ≡ s → cutSeen m p s ≡ cutPort m p
     cut-port-seen s e = ap (cutSeen m p) (sym e) ∙ sym (cut-cases m p)
 
-    pub cut-port-split : (n : ℕ) (d : Direction) (r : MultiPortGraph) → seen m p ≡ visible n d → isSplit m p ≡ true → r ≡ unsplit m p
-        → _≡_ {A = PortUnlinked} (record { graph = r; answer = cutting.Found (subport# p 0) }) (cutPort m p)
+    pub cut-port-split : (n : ℕ) (d : Direction) (r : MultiPortGraph) {x : PortPlace} → seen m p ≡ visible n d → isSplit m p ≡ true → r ≡ unsplit m p → x ≡ standing m (subport# p 0)
+        → _≡_ {A = PortUnlinked} (record { graph = r; answer = cutting.Found (subport# p 0) x }) (cutPort m p)
     unfolding cutPort
-    cut-port-split n d r e s h = rw (e, s, h)
+    cut-port-split n d r e s h k = rw (e, s, h, k)
 
     pub cut-port-plain : (n : ℕ) (d : Direction) (u : lower-unlinked.PortUnlinked) (l : PortLink) → seen m p ≡ visible n d → isSplit m p ≡ false
-        → u ≡ unlinkPort (m .graph) p → u .answer ≡ l → _≡_ {A = PortUnlinked} (record { graph = withGraph m (u .graph); answer = cutPlain l }) (cutPort m p)
+        → u ≡ unlinkPort (m .graph) p → u .answer ≡ l → _≡_ {A = PortUnlinked} (record { graph = withGraph m (u .graph); answer = cutPlain m l }) (cutPort m p)
     unfolding cutPort
     cut-port-plain n d u l e s h k =
-        ap (λ (a : PortLink). record { graph = withGraph m (u .graph); answer = cutPlain a }) (sym k)
-        ∙ ap (λ (a : lower-unlinked.PortUnlinked). record { graph = withGraph m (a .graph); answer = cutPlain (a .answer) }) h
+        ap (λ (a : PortLink). record { graph = withGraph m (u .graph); answer = cutPlain m a }) (sym k)
+        ∙ ap (λ (a : lower-unlinked.PortUnlinked). record { graph = withGraph m (a .graph); answer = cutPlain m (a .answer) }) h
         ∙ rw (e, s)

@@ -18,7 +18,7 @@ use Rattle.portgraph.specs.declared.slots.AddAnswer as lower-add-answer
 use Rattle.portgraph.specs.declared.slots.AddAnswer.the-variants as lower-add
 use Rattle.portgraph.specs.declared.resize.SetAnswer as lower-set-answer
 use Rattle.portgraph.specs.declared.resize.SetAnswer.the-variants as lower-set
-use Rattle.multiportgraph.specs.Reading.{End, inner, lacking, isHidden, isSplit, subport#, asRead, subportOf}
+use Rattle.multiportgraph.specs.Reading.{End, inner, lacking, isHidden, isSplit, subport#, asRead, subportOf, standing, standingOf}
 use Rattle.multiportgraph.specs.declared.multiportgraph.MultiPortGraph.{MultiPortGraph}
 use Rattle.multiportgraph.specs.declared.multiportgraph.SubportIndex.{SubportIndex}
 use Rattle.multiportgraph.specs.declared.multiportgraph.Refusal.the-variants.{TooManyPorts, UnknownNode, MovesTooShort, UnknownPort, UnknownOffset, NoRoom, UnknownSecondPort, IncompatibleDirections, AlreadyLinked}
@@ -157,23 +157,23 @@ linkSub m p o q r =
 
 -- Cutting.
 
--- the inner far port, with offset 0
-abbrev pub cutPlain : PortLink → CutAnswer
-cutPlain (lower-cut.Linked q) = cutting.Found (subport# (q .0) 0)
-cutPlain lower-cut.Unlinked = cutting.Nothing
-cutPlain (lower-cut.UnknownPort p) = cutting.Nothing
+-- the inner far port, with offset 0, and where its visible end stands before the cut
+abbrev pub cutPlain : MultiPortGraph → PortLink → CutAnswer
+cutPlain m (lower-cut.Linked q) = cutting.Found (subport# (q .0) 0) (standingOf m (q .0))
+cutPlain m lower-cut.Unlinked = cutting.Nothing
+cutPlain m (lower-cut.UnknownPort p) = cutting.Nothing
 
--- a split port loses its hidden node and every wire on it, and answers itself
+-- a split port loses its hidden node and every wire on it, and answers itself, where it stands
 unfoldable pub cutPort : MultiPortGraph → ℕ → PortUnlinked
 cutPort m p =
     checked (cutRefusals m p) (λ l. record { graph = l .leaves; answer = cutting.Refused (l .refusal) })
     (cond (isSplit m p)
-    (record { graph = unsplit m p; answer = cutting.Found (subport# p 0) })
-    (record { graph = withGraph m (unlinkPort (m .graph) p .graph); answer = cutPlain (unlinkPort (m .graph) p .answer) }))
+    (record { graph = unsplit m p; answer = cutting.Found (subport# p 0) (standing m (subport# p 0)) })
+    (record { graph = withGraph m (unlinkPort (m .graph) p .graph); answer = cutPlain m (unlinkPort (m .graph) p .answer) }))
 
--- the subport at the far end
+-- the subport at the far end, and where it stands
 abbrev pub farSubport : MultiPortGraph → PortLink → CutAnswer
-farSubport m (lower-cut.Linked q) = cutting.Found (subportOf m (q .0))
+farSubport m (lower-cut.Linked q) = cutting.Found (subportOf m (q .0)) (standingOf m (q .0))
 farSubport m lower-cut.Unlinked = cutting.Nothing
 farSubport m (lower-cut.UnknownPort p) = cutting.Nothing
 

@@ -15,7 +15,7 @@ use Rattle.portgraph.specs.declared.portgraph.LinkAnswer as lower-link-answer
 use Rattle.portgraph.specs.declared.portgraph.LinkAnswer.the-variants as lower-link
 use Rattle.portgraph.specs.declared.resize.SetAnswer as lower-set-answer
 use Rattle.portgraph.specs.declared.resize.SetAnswer.the-variants as lower-set
-use Rattle.multiportgraph.specs.Reading.{isHidden, isSplit, Port, dead, hidden, visible, End, inner, lacking, endAt, subport#, asRead}
+use Rattle.multiportgraph.specs.Reading.{isHidden, isSplit, Port, dead, hidden, visible, End, inner, lacking, endAt, subport#, asRead, standing}
 use Rattle.multiportgraph.specs.declared.multiportgraph.MultiPortGraph.{MultiPortGraph}
 use Rattle.multiportgraph.specs.declared.multiportgraph.SubportIndex.{SubportIndex}
 use Rattle.multiportgraph.specs.declared.multiportgraph.Refusal.{Refusal}
@@ -163,8 +163,8 @@ cutSeen m p dead = cutRefused m (UnknownPort (port# p))
 cutSeen m p hidden = cutRefused m (HiddenPort (port# p))
 cutSeen m p (visible n d) =
     cond (isSplit m p)
-    (record { graph = unsplit m p; answer = cutting.Found (subport# p 0) })
-    (record { graph = withGraph m (unlinkPort (m .graph) p .graph); answer = cutPlain (unlinkPort (m .graph) p .answer) })
+    (record { graph = unsplit m p; answer = cutting.Found (subport# p 0) (standing m (subport# p 0)) })
+    (record { graph = withGraph m (unlinkPort (m .graph) p .graph); answer = cutPlain m (unlinkPort (m .graph) p .answer) })
 
 abbrev pub cutEnd : MultiPortGraph → ℕ → End → PortUnlinked
 cutEnd m p lacking = cutRefused m (UnknownOffset (port# p))

@@ -27,7 +27,7 @@ use Rattle.portgraph.specs.declared.node_entry.NodeMeta.{NodeMeta}
 use Rattle.portgraph.specs.declared.portgraph.PortGraph.{PortGraph}
 use Rattle.portgraph.specs.declared.portgraph.PortLink.{PortLink}
 use Rattle.portgraph.specs.declared.portgraph.PortLink.the-variants as lower-cut
-use Rattle.multiportgraph.specs.Reading.{isHidden, isSplit, copySide, copyNode, portOf, Port, dead, hidden, visible, seen, subport#}
+use Rattle.multiportgraph.specs.Reading.{isHidden, isSplit, copySide, copyNode, portOf, Port, dead, hidden, visible, seen, subport#, standing}
 use Rattle.multiportgraph.specs.Calls.{cutPort, cutPlain}
 use Rattle.multiportgraph.specs.Inner.{copyPlace, Fine, Seen, outer, lift, IsEnd, WireIn, SameBlocks, Wiring, subportsOfSlot}
 use Rattle.multiportgraph.specs.Ends.{BlockPort, Hangs, port-of, count-of, copy-valid, main-seen, main-back, outer-of-subport, outer-of-block, one-copy, unsplit-no-copy, split-has-copy, block-seen, ends-join-ends, outer-of-unsplit}
@@ -419,15 +419,15 @@ module _ {m : MultiPortGraph} {M : Model} (f : Fine m M) where
   pub cut-port-law : (p : ℕ) → CutSays m M p portAt (cutPort m p .graph) (cutPort m p .answer)
   cut-port-law p = subst (CutSaid m M p portAt) (sym (cut-cases m p)) (ports (seen m p) refl)
     where
-      told : (m′ : MultiPortGraph) → CutDone m M m′ p portAt → (v : PortLink) → CutSays m M p portAt m′ (cutPlain v)
+      told : (m′ : MultiPortGraph) → CutDone m M m′ p portAt → (v : PortLink) → CutSays m M p portAt m′ (cutPlain m v)
       told m′ d (lower-cut.Linked q) = d
       told m′ d lower-cut.Unlinked = d
       told m′ d (lower-cut.UnknownPort q) = d
 
       marks : (n : ℕ) (d : Direction) → BlockPort m M p n d → (b : Bool) → isSplit m p ≡ b
           → CutSaid m M p portAt
-          (cond b (record { graph = unsplit m p; answer = cutting.Found (subport# p 0) })
-          (record { graph = withGraph m (unlinkPort (m .graph) p .graph); answer = cutPlain (unlinkPort (m .graph) p .answer) }))
+          (cond b (record { graph = unsplit m p; answer = cutting.Found (subport# p 0) (standing m (subport# p 0)) })
+          (record { graph = withGraph m (unlinkPort (m .graph) p .graph); answer = cutPlain m (unlinkPort (m .graph) p .answer) }))
       marks n d b true e =
           subst (λ (c : ℕ). CutDone m M (unsplit m c) c portAt) (b .slot) (split-cut (b .place) (b .isSeen) (ap (isSplit m) (b .slot) ∙ e))
       marks n d b false e =

@@ -37,15 +37,16 @@ use Rattle.portgraph.specs.declared.slots.NodeRemoved as lower-removed
 use Rattle.portgraph.specs.declared.resize.SetAnswer as lower-set
 use Rattle.portgraph.specs.declared.resize.SetAnswer.the-variants as lower-set-variants
 use Rattle.multiportgraph.specs.Reading.{portNumber, isHidden, isSplit, copyNode, subport#}
-use Rattle.multiportgraph.specs.Reads.{farIn, ownerIn, wireIn}
-use Rattle.multiportgraph.specs.Calls.{addedAs, addBlock, removeBlock, cutPort, cutSub, linkSub}
+use Rattle.multiportgraph.specs.Reads.{farIn, ownerIn, wireIn, wireEndIn}
+use Rattle.multiportgraph.specs.Calls.{addedAs, addBlock, removeBlock, cutPort, cutSub, linkSub, subportLink}
 use Rattle.multiportgraph.specs.Forms.{flagAt, putFlag}
 use Rattle.multiportgraph.specs.FormSteps.{flag-is}
 use Rattle.multiportgraph.specs.CallSteps.{block-added}
 use Rattle.multiportgraph.specs.CopySteps.{copy-removed, unsplit-split, unsplit-plain}
 use Rattle.multiportgraph.specs.BlockSteps.{lone-removed, remove-removed}
 use Rattle.multiportgraph.specs.Named.{endNamed, linkNamed, readIn}
-use Rattle.multiportgraph.specs.NamedLaws.{cut-done, link-done, end-cut, join-made, port-cut-none, port-cut-far}
+use Rattle.multiportgraph.specs.ReadLaws.{wire-unplaced}
+use Rattle.multiportgraph.specs.NamedLaws.{read-done, cut-done, link-done, end-cut, join-made, port-cut-none, port-cut-far}
 use Rattle.multiportgraph.specs.Inner.{MultiWf}
 use Rattle.multiportgraph.specs.MultiLent.{multiIn, heldCounts, heldLinks, portOfIn, copySideIn, farEntry, farPortIn, copyNodeIn, Sound, FitsIf}
 use Rattle.multiportgraph.specs.LentLaws.{port-of-read, count-read, copy-side-read, copy-node-read}
@@ -59,7 +60,9 @@ use Rattle.multiportgraph.specs.declared.multiportgraph.NodeRemoved.{Nod
 use Rattle.multiportgraph.specs.declared.multiportgraph.SetAnswer.{SetAnswer}
 use Rattle.multiportgraph.specs.declared.multiportgraph.PortsSet.{PortsSet}
 use Rattle.multiportgraph.specs.declared.multiportgraph.CutAnswer.{CutAnswer}
-use Rattle.multiportgraph.specs.declared.multiportgraph.CutAnswer.the-variants as cutting
+use Rattle.multiportgraph.specs.declared.multiportgraph.EndAnswer.{EndAnswer}
+use Rattle.multiportgraph.specs.declared.multiportgraph.EndAnswer.the-variants as answered
+use Rattle.multiportgraph.specs.Answers.{unplaced}
 use Rattle.multiportgraph.specs.declared.multiportgraph.PortUnlinked.{PortUnlinked}
 use Rattle.multiportgraph.specs.declared.multiportgraph.LinkAnswer.{LinkAnswer}
 use Rattle.multiportgraph.specs.declared.multiportgraph.LinkAnswer.the-variants as link
@@ -74,8 +77,12 @@ use Rattle.multiportgraph.specs.HiddenNodes.{removeCopy, unsplit, unspli
 use Rattle.multiportgraph.specs.Presumed.{OnBlock}
 
 -- graph and answer of a call, each by itself
-pub cut-parts : {g : MultiPortGraph} {a : CutAnswer} {r : PortUnlinked} → _≡_ {A = PortUnlinked} (record { graph = g; answer = a }) r → (g ≡ r .graph) × (a ≡ r .answer)
+cut-parts : {g : MultiPortGraph} {a : CutAnswer} {r : PortUnlinked} → _≡_ {A = PortUnlinked} (record { graph = g; answer = a }) r → (g ≡ r .graph) × (a ≡ r .answer)
 cut-parts e = (ap (λ (x : PortUnlinked). x .graph) e, ap (λ (x : PortUnlinked). x .answer) e)
+
+-- a cut's answer without the place
+pub unplaced-parts : {g : MultiPortGraph} {a : CutAnswer} {r : PortUnlinked} → _≡_ {A = PortUnlinked} (record { graph = g; answer = a }) r → (g ≡ r .graph) × (unplaced a ≡ unplaced (r .answer))
+unplaced-parts e = let k = cut-parts e in (k .0, ap unplaced (k .1))
 
 pub link-parts : {g : MultiPortGraph} {a : LinkAnswer} {r : PortsLinked} → _≡_ {A = PortsLinked} (record { graph = g; answer = a }) r → (g ≡ r .graph) × (a ≡ r .answer)
 link-parts e = (ap (λ (x : PortsLinked). x .graph) e, ap (λ (x : PortsLinked). x .answer) e)
@@ -102,17 +109,24 @@ module _ (nodes links owners heads : List ℕ) (marks flags : List Bool) (held :
     module _ (p o : ℕ) {e : NamedEnd} (is : e ≡ endNamed marks links owners flags p o) where
       pub cut-refused-in : {r : Refusal} → e ≡ end.Refused r →
           (multiIn nodes links owners heads marks flags held ≡ cutSub (multiIn nodes links owners heads marks flags held) p o .graph)
-          × (cutting.Refused r ≡ cutSub (multiIn nodes links owners heads marks flags held) p o .answer)
-      cut-refused-in {r} t = cut-parts (cut-done w p o is t refl)
+          × (answered.Refused r ≡ unplaced (cutSub (multiIn nodes links owners heads marks flags held) p o .answer))
+      cut-refused-in {r} t = unplaced-parts (cut-done w p o is t refl)
 
-      pub cut-made-in : {x v far n : ℕ} {links′ : List ℕ} {held′ : Held} {a : CutAnswer} → e ≡ end.At x → a ≡ wireIn links owners flags x →
+      pub cut-made-in : {x v far n : ℕ} {links′ : List ℕ} {held′ : Held} {a : EndAnswer} → e ≡ end.At x → a ≡ wireEndIn links owners flags x →
           v ≡ x → far ≡ at links v → links′ ≡ cut links v → n ≡ held .counts .«link_count» - linkCount far → held′ ≡ heldLinks held n →
           (multiIn nodes links′ owners heads marks flags held′ ≡ cutSub (multiIn nodes links owners heads marks flags held) p o .graph)
-          × (a ≡ cutSub (multiIn nodes links owners heads marks flags held) p o .answer)
+          × (a ≡ unplaced (cutSub (multiIn nodes links owners heads marks flags held) p o .answer))
       cut-made-in {x} {v} {far} {n} {links′} {held′} {a} t b c d f g h =
           let m = multiIn nodes links owners heads marks flags held in
-          let k = cut-parts (cut-done w p o is t {r = record { graph = multiIn nodes links′ owners heads marks flags (heldLinks held n); answer = a }} (end-cut m {x = x} c d f g b)) in
-          (ap (multiIn nodes links′ owners heads marks flags) h ∙ k .0, k .1)
+          let k = unplaced-parts (cut-done w p o is t {r = record { graph = multiIn nodes links′ owners heads marks flags (heldLinks held n); answer = wireIn links owners flags x }} (end-cut m {x = x} c d f g refl)) in
+          (ap (multiIn nodes links′ owners heads marks flags) h ∙ k .0, b ∙ (wire-unplaced links owners flags x ∙ k .1))
+
+      -- what it is linked with, or a refusal
+      pub read-made-in : {x : ℕ} {a : EndAnswer} → e ≡ end.At x → a ≡ wireEndIn links owners flags x → a ≡ unplaced (subportLink (multiIn nodes links owners heads marks flags held) p o)
+      read-made-in {x} t b = b ∙ (wire-unplaced links owners flags x ∙ ap unplaced (read-done w p o is t refl))
+
+      pub read-refused-in : {r : Refusal} → e ≡ end.Refused r → answered.Refused r ≡ unplaced (subportLink (multiIn nodes links owners heads marks flags held) p o)
+      read-refused-in t = ap unplaced (read-done w p o is t refl)
 
     -- two ends are linked, or refused
     module _ (p o q r : ℕ) {e : NamedLink} (is : e ≡ linkNamed marks links owners flags p o q r) where
@@ -305,16 +319,16 @@ module _ (nodes links owners heads : List ℕ) (marks flags : List Bool) (held :
     (s : isSplit (multiIn nodes links owners heads marks flags held) p ≡ false) {v far n : ℕ} {links′ : List ℕ} {held′ : Held} (e : v ≡ p) (f : far ≡ at links v) (g : links′ ≡ cut links v)
     (h : n ≡ held .counts .«link_count» - linkCount far) (k : held′ ≡ heldLinks held n) where
   cut-with : {a : CutAnswer} → _≡_ {A = PortUnlinked} (record { graph = multiIn nodes links′ owners heads marks flags (heldLinks held n); answer = a }) (cutPort (multiIn nodes links owners heads marks flags held) p) →
-      (multiIn nodes links′ owners heads marks flags held′ ≡ cutPort (multiIn nodes links owners heads marks flags held) p .graph) × (a ≡ cutPort (multiIn nodes links owners heads marks flags held) p .answer)
-  cut-with z = let u = cut-parts z in (ap (multiIn nodes links′ owners heads marks flags) k ∙ u .0, u .1)
+      (multiIn nodes links′ owners heads marks flags held′ ≡ cutPort (multiIn nodes links owners heads marks flags held) p .graph) × (unplaced a ≡ unplaced (cutPort (multiIn nodes links owners heads marks flags held) p .answer))
+  cut-with z = let u = unplaced-parts z in (ap (multiIn nodes links′ owners heads marks flags) k ∙ u .0, u .1)
 
   pub port-cut-none-in : far ≡ 0 →
-      (multiIn nodes links′ owners heads marks flags held′ ≡ cutPort (multiIn nodes links owners heads marks flags held) p .graph) × (cutting.Nothing ≡ cutPort (multiIn nodes links owners heads marks flags held) p .answer)
+      (multiIn nodes links′ owners heads marks flags held′ ≡ cutPort (multiIn nodes links owners heads marks flags held) p .graph) × (answered.Nothing ≡ unplaced (cutPort (multiIn nodes links owners heads marks flags held) p .answer))
   port-cut-none-in z = cut-with (port-cut-none b s e f g h z)
 
   pub port-cut-far-in : (far ≡ 0 → ⊥) →
       (multiIn nodes links′ owners heads marks flags held′ ≡ cutPort (multiIn nodes links owners heads marks flags held) p .graph)
-      × (cutting.Found (subport# (far - 1) 0) ≡ cutPort (multiIn nodes links owners heads marks flags held) p .answer)
+      × (answered.Found (subport# (far - 1) 0) ≡ unplaced (cutPort (multiIn nodes links owners heads marks flags held) p .answer))
   port-cut-far-in z = cut-with (port-cut-far b s e f g h z)
 
 -- the hidden nodes of ports do not depend on the numbers outside the tables

@@ -2,13 +2,13 @@
 -- `theorems`; here stand the definitions that contracts and theorems cite, and the laws behind the code.
 --
 -- What must be believed: that these definitions, over the lower crate's, say what document 01 says. In this order:
---   Reading       how a port number is read: live, hidden, split; ends and subports
+--   Places        places and the wires between them, with no graph in their types
+--   Reading       how a port number is read: live, hidden, split; ends and subports, and where an end stands
 --   Graph         a graph from its parts: every other graph is made by these (`withGraph`, `withMarks`, `withHidden`)
 --   Answers       01's numbers and values of each answer
 --   HiddenNodes   how hidden nodes go, how they move with their ports, and how an end of a link is prepared
 --   Refusals      the refusals of each call in their order, as a table: condition, refusal, graph left
 --   Calls         each call: the first line of its table that applies, else what is done
---   Places        places and the wires between them, with no graph in their types
 --   Wires         the list of all wires and the cursor that walks it
 --   Walks, WalkNumbers     the other walks, their starts, and fan-out
 --   Lookups       lookups on blocks and ports
@@ -21,13 +21,13 @@
 --   visible-nodes, visible-ports, visible-links, split-one-copy, copy-one-split, no-wire-at-hidden (CountLaws)
 --   the work of a call is what it takes and gives back, and 10 is given exactly if a table would grow past its limit (SpaceLaws)
 -- They speak in the words of Model (a node is live, a port stands at a place) and, for 10, of Space (the work of a call).
+pub mod Places
 pub mod Reading
 pub mod Graph
 pub mod Answers
 pub mod HiddenNodes
 pub mod Refusals
 pub mod Calls
-pub mod Places
 pub mod Wires
 pub mod Walks
 pub mod WalkNumbers

@@ -243,7 +243,7 @@ module _ (links owners : List ℕ) (flags : List Bool) (p first : ℕ) where
   last-of-one : (a : List SubportLink) (s : SubportIndex) (x : CutAnswer) (r : LinkFound) → r ≡ firstFound (filter (λ (v : SubportLink). true) (wireTo s x))
       → ((w : SubportLink) → r ≡ found.Link w → r ≡ lastFound (a ++ wireTo s x)) × (r ≡ found.None → lastFound a ≡ lastFound (a ++ wireTo s x))
   unfolding firstFound filter lastFound
-  last-of-one a s (cutting.Found t) r e = (λ w h. e ∙ sym (last-after found.None a (record { from = s; to = t })), λ h. let z : _≡_ {A = ℕ} 0 1 = cc in absurd (omega arith))
+  last-of-one a s (cutting.Found t x) r e = (λ w h. e ∙ sym (last-after found.None a (record { from = s; to = t; place = x })), λ h. let z : _≡_ {A = ℕ} 0 1 = cc in absurd (omega arith))
   last-of-one a s cutting.Nothing r e = (λ w h. let z : _≡_ {A = ℕ} 0 1 = cc in absurd (omega arith), λ h. ap (onLast found.None found.Link) (sym (append-nil a)))
   last-of-one a s (cutting.Refused q) r e = (λ w h. let z : _≡_ {A = ℕ} 0 1 = cc in absurd (omega arith), λ h. ap (onLast found.None found.Link) (sym (append-nil a)))
 

@@ -29,7 +29,7 @@ use Rattle.portgraph.specs.declared.iter.Sides.the-variants.{One}
 use Rattle.portgraph.specs.declared.node_entry.NodeMeta.{NodeMeta}
 use Rattle.portgraph.specs.declared.node_entry.MaybeNodeMeta.{MaybeNodeMeta}
 use Rattle.portgraph.specs.declared.node_entry.MaybeNodeMeta.the-variants as maybe-meta
-use Rattle.multiportgraph.specs.Reading.{ownerOf, positionOf, isHidden, isSplit, visible, seen, copyNode, copySide, subports, subportAt, inner, End, endAt, subport#, subportOf}
+use Rattle.multiportgraph.specs.Reading.{ownerOf, positionOf, isHidden, isSplit, visible, seen, copyNode, copySide, subports, subportAt, inner, End, endAt, subport#, subportOf, standingOf}
 use Rattle.multiportgraph.specs.Calls.{farSubport, linkOfEnd, visibleNodes, visibleLinks}
 use Rattle.multiportgraph.specs.Wires.{isBlock, blocks, wireTo, wireOf, sideLinks, allWires, placeOf}
 use Rattle.multiportgraph.specs.Walks.{portLinks}
@@ -48,6 +48,7 @@ use Rattle.multiportgraph.specs.Listed.{endNumbers, wireNumbers, wiresLi
 use Rattle.multiportgraph.specs.ListScans.{endWords, firstOfMeta, inEnd, farEnd, outEnd, slotWire, subportWire, splitWires, portWires, placeWires, sideWires, nodeWires, tableWires, ofBlock, portOfMeta, blockWords, nodeBlock, tableBlocks, AllFit}
 use Rattle.multiportgraph.specs.declared.multiportgraph.MultiPortGraph.{MultiPortGraph}
 use Rattle.multiportgraph.specs.declared.multiportgraph.SubportIndex.{SubportIndex}
+use Rattle.multiportgraph.specs.declared.multiportgraph.PortPlace.{PortPlace}
 use Rattle.multiportgraph.specs.declared.multiportgraph.SubportLink.{SubportLink}
 use Rattle.multiportgraph.specs.declared.lent.Held.{Held}
 
@@ -197,9 +198,9 @@ module _ (nodes links owners heads : List ℕ) (marks flags : List Bool) (held :
   unfolding wireOf
   wire-by-end p o s e = ap (λ (x : End). wireTo (subport# p o) (linkOfEnd graph p x)) e
 
-  one-wire : (a b : SubportIndex) → flatMap (wireNumbers graph) (record { from = a; to = b } ∷ []) ≡ endNumbers graph a ++ endNumbers graph b
+  one-wire : (a b : SubportIndex) (x : PortPlace) → flatMap (wireNumbers graph) (record { from = a; to = b; place = x } ∷ []) ≡ endNumbers graph a ++ endNumbers graph b
   unfolding flatMap wireNumbers
-  one-wire a b = append-nil (endNumbers graph a ++ endNumbers graph b)
+  one-wire a b x = append-nil (endNumbers graph a ++ endNumbers graph b)
 
   no-wire : flatMap (wireNumbers graph) [] ≡ []
   unfolding flatMap
@@ -239,7 +240,7 @@ module _ (nodes links owners heads : List ℕ) (marks flags : List Bool) (held :
           ap (λ (x : ℕ). endWords (farEnd nodes links owners flags x)) q ∙ far-end-is y (ends-join-ends (w .fine) (end .end) y (end .isEnd) j) d in
           rw (ne-eqb (at links s) 0 (λ h. omega arith))
           ((λ x. from x ++ t x)
-          ∙ (sym (one-wire (subport# p o) (subportOf graph (slotOf (M .node) y)))
+          ∙ (sym (one-wire (subport# p o) (subportOf graph (slotOf (M .node) y)) (standingOf graph (slotOf (M .node) y)))
           ∙ ap (flatMap (wireNumbers graph)) (sym (wire-by-end p o s e ∙ ap (λ (x : PortLink). wireTo (subport# p o) (farSubport graph x)) l))))
 
   -- the wires of a block's outgoing port

@@ -29,7 +29,7 @@ use Rattle.portgraph.specs.declared.portgraph.PortsLinked as lower-linked
 use Rattle.portgraph.specs.declared.portgraph.PortUnlinked as lower-unlinked
 use Rattle.portgraph.specs.declared.portgraph.LinkAnswer.the-variants as lower-link
 use Rattle.portgraph.specs.declared.slots.NodeRemoved.{NodeRemoved}
-use Rattle.multiportgraph.specs.Reading.{isLinked, hasLink, isSplit, Port, dead, hidden, visible, seen, copyNode, subports, subportAt, End, inner, lacking, endAt, portOf, subport#, asRead, copySide}
+use Rattle.multiportgraph.specs.Reading.{isLinked, hasLink, isSplit, Port, dead, hidden, visible, seen, copyNode, subports, subportAt, End, inner, lacking, endAt, portOf, subport#, asRead, copySide, standingOf}
 use Rattle.multiportgraph.specs.HiddenNodes as hiding
 use Rattle.multiportgraph.specs.Cases as cases
 use Rattle.multiportgraph.specs.Calls.{subportLink, linkOfEnd, farSubport, cutSub, cutPlain, cutPort, linkSub, linkPair, linkPairUnder, linkClean}
@@ -42,8 +42,8 @@ use Rattle.multiportgraph.specs.SplitLaws.{PreparedEnd}
 use Rattle.multiportgraph.specs.PrepareLaws.{prepare-law}
 use Rattle.multiportgraph.specs.PrepareSteps.{lower-wf, first-fits, lowest-same}
 use Rattle.multiportgraph.specs.LinkSteps.{is-ready, others-stay, both-linked}
-use Rattle.multiportgraph.specs.Reads.{farIn, ownerIn, seenIn, wireIn, subportsIn, firstIn}
-use Rattle.multiportgraph.specs.ReadLaws.{mark-told, seen-read, owner-read, copy-read, side-read, subports-read, first-read, end-read-off, wire-read, end-is-port}
+use Rattle.multiportgraph.specs.Reads.{farIn, ownerIn, seenIn, wireIn, plainIn, subportsIn, firstIn}
+use Rattle.multiportgraph.specs.ReadLaws.{mark-told, seen-read, owner-read, copy-read, side-read, subports-read, first-read, end-read-off, wire-read, plain-read, end-is-port}
 use Rattle.multiportgraph.specs.Named.{endOr, endSeen, endNamed, freeEnds, secondOr, secondSeen, secondEnd, firstOr, firstEnd, bothSeen, linkNamed, readIn, reuseAt, reuseIn, needIn, secondReady, bothReady, firstReady, firstNeed, bothNeed, linkSeen, linkNeed, pairNamed, joinedAt, cutAt, readNamed, cutNamed, linkBy, preparedBy, linkedBy}
 use Rattle.multiportgraph.specs.declared.multiportgraph.MultiPortGraph.{MultiPortGraph}
 use Rattle.multiportgraph.specs.declared.multiportgraph.SubportIndex.{SubportIndex}
@@ -501,16 +501,23 @@ module _ {m : MultiPortGraph} {p : ℕ} {d : Direction} (b : OnBlock m p d) (s :
       let q = block-seen (b .wf .fine) p (b .node) d (b .is) in
       (metaOfPlace (q .place), sym (ap (portAt (m .graph)) (sym (q .slot)) ∙ port-of-place (b .wf .fine .good) (b .wf .fine .holds) (q .place) (q .isSeen .0)))
 
-  port-cut : (l : PortLink) → l ≡ portLink (m .graph) p → _≡_ {A = PortUnlinked} (record { graph = withGraph m (withLinks (m .graph) t n); answer = cutPlain l }) (cutPort m p)
-  port-cut l k =
+  port-cut-by : (l : PortLink) → l ≡ portLink (m .graph) p → _≡_ {A = PortUnlinked} (record { graph = withGraph m (withLinks (m .graph) t n); answer = cutPlain m l }) (cutPort m p)
+  port-cut-by l k =
       cut-port-plain m p (b .node) d (record { graph = withLinks (m .graph) t n; answer = l }) l (b .is) s
       (unlink-live (m .graph) p v far n t l (port-live .0) (port-live .1) e f g h k) refl
 
   pub port-cut-none : far ≡ 0 → _≡_ {A = PortUnlinked} (record { graph = withGraph m (withLinks (m .graph) t n); answer = cutting.Nothing }) (cutPort m p)
-  port-cut-none z = port-cut link-variants.Unlinked (no-link (m .graph) p v far (port-live .0) (port-live .1) e f z)
+  port-cut-none z = port-cut-by link-variants.Unlinked (no-link (m .graph) p v far (port-live .0) (port-live .1) e f z)
 
-  pub port-cut-far : (far ≡ 0 → ⊥) → _≡_ {A = PortUnlinked} (record { graph = withGraph m (withLinks (m .graph) t n); answer = cutting.Found (subport# (far - 1) 0) }) (cutPort m p)
-  port-cut-far z = port-cut (link-variants.Linked (port# (far - 1))) (link-to (m .graph) p v far (port-live .0) (port-live .1) e f z)
+  pub port-cut-far : (far ≡ 0 → ⊥) → _≡_ {A = PortUnlinked} (record { graph = withGraph m (withLinks (m .graph) t n); answer = cutting.Found (subport# (far - 1) 0) (standingOf m (far - 1)) }) (cutPort m p)
+  port-cut-far z = port-cut-by (link-variants.Linked (port# (far - 1))) (link-to (m .graph) p v far (port-live .0) (port-live .1) e f z)
+
+  -- by what was read before the cut
+  pub port-cut : {a : CutAnswer} → a ≡ plainIn (m .graph .«port_link») (m .graph .«port_meta») (m .«copy_node») p →
+      _≡_ {A = PortUnlinked} (record { graph = withGraph m (withLinks (m .graph) t n); answer = a }) (cutPort m p)
+  port-cut k =
+      ap (λ (x : CutAnswer). record { graph = withGraph m (withLinks (m .graph) t n); answer = x }) (k ∙ plain-read (b .wf .fine) p (b .node) d (b .is) s)
+      ∙ port-cut-by (portLink (m .graph) p) refl
 
 -- how a port number is seen by the tables, and by the graph
 pub seen-as : {m : MultiPortGraph} (w : MultiWf m) (p : ℕ) {s : SeenPort} → s ≡ seenAs (seenIn (m .graph .«port_meta») (m .«copy_node») p) → s ≡ seenAs (seen m p)

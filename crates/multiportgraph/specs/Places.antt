@@ -2,9 +2,11 @@
 use mathlib.Core.Bool.{Bool, true, false, cond, _||_}
 use Prim.Native.Nat.{ℕ}
 use lib.Dec.{eqb, leb}
+use Rattle.portgraph.specs.Lookups.{node#}
 use Rattle.portgraph.specs.Meaning.{sameSide, newCount}
 use Rattle.portgraph.specs.declared.direction.Direction.{Direction}
 use Rattle.portgraph.specs.declared.direction.Direction.the-variants.{Incoming, Outgoing}
+use Rattle.multiportgraph.specs.declared.multiportgraph.PortPlace.{PortPlace}
 
 -- 01's place of an end: node, side, port position on that side, subport offset
 pub record Place : Type 0 where
@@ -12,6 +14,10 @@ pub record Place : Type 0 where
   pub side : Direction
   pub pos : ℕ
   pub offset : ℕ
+
+-- the place of an end as answers and walks give it: its offset stands in the subport beside it
+abbrev pub portPlace : Place → PortPlace
+portPlace x = record { node = node# (x .node); side = x .side; position = x .pos }
 
 -- a wire between places, the outgoing one first
 pub record Wire : Type 0 where

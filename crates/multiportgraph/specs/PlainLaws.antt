@@ -579,7 +579,7 @@ pub record CutDone (m : MultiPortGraph) (M : Model) (m′ : MultiPortGraph) (p :
 
 -- not refused: the wires at the ends named are gone; refused: the graph stays
 abbrev pub CutSays : MultiPortGraph → Model → ℕ → (model.InnerPlace → Place → Bool) → MultiPortGraph → CutAnswer → Type 0
-CutSays m M p dropped m′ (cutting.Found s) = CutDone m M m′ p dropped
+CutSays m M p dropped m′ (cutting.Found s x) = CutDone m M m′ p dropped
 CutSays m M p dropped m′ cutting.Nothing = CutDone m M m′ p dropped
 CutSays m M p dropped m′ (cutting.Refused r) = m′ ≡ m
 

@@ -19,15 +19,19 @@ use Rattle.portgraph.specs.declared.direction.Direction.the-variants.{Incoming,
 use Rattle.portgraph.specs.declared.port_entry.PortMeta.{PortMeta}
 use Rattle.portgraph.specs.declared.port_entry.PortEntry.{PortEntry}
 use Rattle.portgraph.specs.declared.port_entry.PortEntry.the-variants as port-variants
-use Rattle.multiportgraph.specs.Reading.{isHidden, isSplit, hidden, visible, seenEntry, seen, ownerOf, copyNode, copySide, subports, subportAt, inner, lacking, End, endAt, portOf, subport#, subportOf}
-use Rattle.multiportgraph.specs.Calls.{farSubport}
+use Rattle.multiportgraph.specs.Reading.{isHidden, isSplit, hidden, visible, seenEntry, seen, ownerOf, copyNode, copySide, subports, subportAt, inner, lacking, End, endAt, portOf, subport#, subportOf, standing, standingOf}
+use Rattle.multiportgraph.specs.Places.{portPlace}
+use Rattle.multiportgraph.specs.Calls.{farSubport, cutPlain}
 use Rattle.multiportgraph.specs.Forms.{flagAt}
 use Rattle.multiportgraph.specs.FormSteps.{flag-is}
-use Rattle.multiportgraph.specs.Inner.{inner#, copyPlace, Fine, IsEnd}
-use Rattle.multiportgraph.specs.Ends.{BlockPort, EndOf, block-seen, Hangs, split-has-copy, copy-count, copy-valid, port-of, owner-of, end-side, end-read, ends-join-ends, subport-of-hidden, subport-of-block}
-use Rattle.multiportgraph.specs.Reads.{farIn, ownerIn, seenOwner, seenIn, run, ownsUp, ownsDown, runUp, runDown, countBeside, firstBeside, endBeside, subportsIn, firstIn, endIn, copyBeside, subportOwned, subportIn, wireIn}
+use Rattle.multiportgraph.specs.Inner.{inner#, copyPlace, Fine, IsEnd, Seen}
+use Rattle.multiportgraph.specs.Ends.{BlockPort, EndOf, block-seen, Hangs, split-has-copy, copy-count, copy-valid, port-of, owner-of, end-side, end-read, ends-join-ends, subport-of-hidden, subport-of-block, outer-seen, place-of-sub, unsplit-is-end}
+use Rattle.multiportgraph.specs.Reads.{farIn, ownerIn, seenOwner, seenIn, run, ownsUp, ownsDown, runUp, runDown, countBeside, firstBeside, endBeside, subportsIn, firstIn, endIn, copyBeside, subportOwned, subportIn, leapsDown, leapDown, rowBelow, placeOwned, placeIn, farPlaceIn, wireIn, wireEndIn, plainIn}
 use Rattle.multiportgraph.specs.declared.multiportgraph.MultiPortGraph.{MultiPortGraph}
+use Rattle.multiportgraph.specs.declared.multiportgraph.SubportIndex.{SubportIndex}
 use Rattle.multiportgraph.specs.declared.multiportgraph.CutAnswer.the-variants as cutting
+use Rattle.multiportgraph.specs.declared.multiportgraph.EndAnswer.the-variants as end
+use Rattle.multiportgraph.specs.Answers.{unplaced}
 
 -- Runs.
 
@@ -69,6 +73,23 @@ module _ {t : List ℕ} {x start count : ℕ} (r : Row t x start count) where
       (λ j h. eq-eqb (at t (i - suc (0 + j))) x (in-row (i - suc (0 + j)) (omega arith) (omega arith)))
       (omega arith)
       (λ h. ne-eqb (at t (i - suc (0 + (i - start)))) x (λ e. let o = r .only (i - suc (0 + (i - start))) e in omega arith))
+
+  pub row-leap : (i : ℕ) → start ≤ i → i ≤ start + count → leapDown t x i ≡ (i - start) / 32
+  unfolding leapDown leapsDown
+  row-leap i a b =
+      let ends = r .ends in
+      run-from (leapsDown t x i) 0 ((i - start) / 32) (min i portSlots / 32)
+      (λ j h. eq-eqb (at t (i - 32 * suc (0 + j))) x (in-row (i - 32 * suc (0 + j)) (omega arith) (omega arith)))
+      (omega arith)
+      (λ h. ne-eqb (at t (i - 32 * suc (0 + (i - start) / 32))) x (λ e. let o = r .only (i - 32 * suc (0 + (i - start) / 32)) e in omega arith))
+
+  -- leaps and a run come to a run
+  pub row-below : (i : ℕ) → start ≤ i → i ≤ start + count → rowBelow t x i ≡ i - start
+  unfolding rowBelow
+  row-below i a b =
+      let l = row-leap i a b in
+      let d = row-down (i - 32 * leapDown t x i) (omega arith) (omega arith) in
+      omega arith
 
 -- a slot stands just after the row of incoming subports, or just before the row of outgoing ones
 abbrev pub Beside : Direction → ℕ → ℕ → ℕ → Type 0
@@ -118,6 +139,9 @@ module _ {t : List ℕ} {x start count : ℕ} (r : Row t x start count) where
     pub row-offset : runDown t (at t z) z ≡ z - start
     row-offset = ap (λ (y : ℕ). runDown t y z) (in-row r z a b) ∙ row-down r z a (omega arith)
 
+    pub row-position : rowBelow t (at t z) z ≡ z - start
+    row-position = ap (λ (y : ℕ). rowBelow t y z) (in-row r z a b) ∙ row-below r z a (omega arith)
+
     pub row-copy : (d : Direction) (q : ℕ) → Beside d q start count → copyBeside t z d ≡ q
     unfolding copyBeside
     row-copy Incoming q e =
@@ -161,6 +185,16 @@ twice-reversed Incoming Outgoing q = refl
 twice-reversed Outgoing Incoming q = refl
 twice-reversed Incoming Incoming q = absurd (zero-is-not-one (cc))
 twice-reversed Outgoing Outgoing q = absurd (zero-is-not-one (cc))
+
+-- the reader that leaves the place out gives the same end
+pub wire-unplaced : (links owners : List ℕ) (flags : List Bool) (q : ℕ) → wireEndIn links owners flags q ≡ unplaced (wireIn links owners flags q)
+unfolding wireEndIn wireIn
+wire-unplaced links owners flags q = go (eqb (at links q) 0)
+  where
+    go : (b : Bool) → cond b end.Nothing (end.Found (subportIn links owners flags (farIn links q)))
+        ≡ unplaced (cond b cutting.Nothing (cutting.Found (subportIn links owners flags (farIn links q)) (placeIn owners (subportIn links owners flags (farIn links q) .port .0))))
+    go true = refl
+    go false = refl
 
 -- the slot of the first port of a node's side
 abbrev pub rowStart : Model → ℕ → Direction → ℕ
@@ -285,6 +319,26 @@ module _ {m : MultiPortGraph} {M : Model} (f : Fine m M) where
           rw (flagged-as true h) ((λ i. subport# (c i) (o i)) ∙ sym (subport-of-hidden f z (k .main) v h (k .joined)))
       go false h = rw (flagged-as false h) (sym (subport-of-block f z (e .valid, h)))
 
+  -- where a port of a block stands
+  place-there : (x : model.InnerPlace) (o : ℕ) → Seen m M x → placeIn (m .graph .«port_meta») (slotOf (M .node) x) ≡ standing m (subport# (slotOf (M .node) x) o)
+  unfolding placeIn
+  place-there x o s =
+      let v = s .0 in
+      let r = side-row (x .node) (x .side) (omega arith) in
+      let i : rowBelow (m .graph .«port_meta») (at (m .graph .«port_meta») (slotOf (M .node) x)) (slotOf (M .node) x) ≡ x .pos =
+      row-position r (slotOf (M .node) x) (omega arith) (omega arith) ∙ omega arith in
+      ap (placeOwned (m .graph .«port_meta») (slotOf (M .node) x)) (port-of-place (f .good) (f .holds) x v)
+      ∙ (ap (λ (k : ℕ). record { node = node# (x .node); side = x .side; position = k }) i
+      ∙ sym (ap portPlace (place-of-sub f x o s)))
+
+  -- where the visible end of an inner port stands
+  far-place-there : (z : model.InnerPlace) → IsEnd m M z →
+      farPlaceIn (m .graph .«port_link») (m .graph .«port_meta») (m .«copy_node») (slotOf (M .node) z) ≡ standingOf m (slotOf (M .node) z)
+  far-place-there z e =
+      let r = outer-seen f z e in
+      ap (λ (t : SubportIndex). placeIn (m .graph .«port_meta») (t .port .0)) (subport-there z e ∙ r .read)
+      ∙ (place-there (r .main) (r .offset) (r .isSeen) ∙ sym (ap (standing m) (r .read)))
+
   wire-there : (x : model.InnerPlace) → IsEnd m M x →
       wireIn (m .graph .«port_link») (m .graph .«port_meta») (m .«copy_node») (slotOf (M .node) x) ≡ farSubport m (portLink (m .graph) (slotOf (M .node) x))
   unfolding wireIn
@@ -292,7 +346,8 @@ module _ {m : MultiPortGraph} {M : Model} (f : Fine m M) where
     where
       go : (y : Far) → M .join x ≡ y →
           cond (eqb (at (m .graph .«port_link») (slotOf (M .node) x)) 0) cutting.Nothing
-          (cutting.Found (subportIn (m .graph .«port_link») (m .graph .«port_meta») (m .«copy_node») (farIn (m .graph .«port_link») (slotOf (M .node) x))))
+          (cutting.Found (subportIn (m .graph .«port_link») (m .graph .«port_meta») (m .«copy_node») (farIn (m .graph .«port_link») (slotOf (M .node) x)))
+          (farPlaceIn (m .graph .«port_link») (m .graph .«port_meta») (m .«copy_node») (farIn (m .graph .«port_link») (slotOf (M .node) x))))
           ≡ farSubport m (portLink (m .graph) (slotOf (M .node) x))
       go nowhere j =
           rw (eq-eqb (at (m .graph .«port_link») (slotOf (M .node) x)) 0 (link-none (f .good) (f .holds) x (e .valid) j))
@@ -300,7 +355,27 @@ module _ {m : MultiPortGraph} {M : Model} (f : Fine m M) where
       go (to y) j =
           let l = link-to (f .good) (f .holds) x y (e .valid) j in
           rw (ne-eqb (at (m .graph .«port_link») (slotOf (M .node) x)) 0 (λ z. omega arith), far-is x y j)
-          (ap cutting.Found (subport-there y (ends-join-ends f x y e j)) ∙ sym (ap (farSubport m) (port-link-to (f .good) (f .holds) x y (e .valid) j)))
+          ((λ i. cutting.Found (subport-there y (ends-join-ends f x y e j) i) (far-place-there y (ends-join-ends f x y e j) i))
+          ∙ sym (ap (farSubport m) (port-link-to (f .good) (f .holds) x y (e .valid) j)))
+
+  -- an unsplit port: what cutting it answers
+  plain-there : (x : model.InnerPlace) → IsEnd m M x →
+      plainIn (m .graph .«port_link») (m .graph .«port_meta») (m .«copy_node») (slotOf (M .node) x) ≡ cutPlain m (portLink (m .graph) (slotOf (M .node) x))
+  unfolding plainIn
+  plain-there x e = go (M .join x) refl
+    where
+      go : (y : Far) → M .join x ≡ y →
+          cond (eqb (at (m .graph .«port_link») (slotOf (M .node) x)) 0) cutting.Nothing
+          (cutting.Found (subport# (farIn (m .graph .«port_link») (slotOf (M .node) x)) 0) (farPlaceIn (m .graph .«port_link») (m .graph .«port_meta») (m .«copy_node») (farIn (m .graph .«port_link») (slotOf (M .node) x))))
+          ≡ cutPlain m (portLink (m .graph) (slotOf (M .node) x))
+      go nowhere j =
+          rw (eq-eqb (at (m .graph .«port_link») (slotOf (M .node) x)) 0 (link-none (f .good) (f .holds) x (e .valid) j))
+          (sym (ap (cutPlain m) (port-link-none (f .good) (f .holds) x (e .valid) j)))
+      go (to y) j =
+          let l = link-to (f .good) (f .holds) x y (e .valid) j in
+          rw (ne-eqb (at (m .graph .«port_link») (slotOf (M .node) x)) 0 (λ z. omega arith), far-is x y j)
+          (ap (cutting.Found (subport# (slotOf (M .node) y) 0)) (far-place-there y (ends-join-ends f x y e j))
+          ∙ sym (ap (cutPlain m) (port-link-to (f .good) (f .holds) x y (e .valid) j)))
 
   -- By numbers, as the code has them.
   module _ (p n : ℕ) (d : Direction) (s : seen m p ≡ visible n d) where
@@ -319,6 +394,15 @@ module _ {m : MultiPortGraph} {M : Model} (f : Fine m M) where
     first-read t =
         (λ i. firstIn (m .graph .«port_link») (m .graph .«port_meta») (sym (block .slot) i) (sym (block .side) i))
         ∙ (first-there (block .place) (split-there t) ∙ (λ i. subportAt m (block .slot i) (block .side i) 0))
+
+    -- where the port stands, and what cutting it answers where it is not split
+    pub place-read : placeIn (m .graph .«port_meta») p ≡ standing m (subport# p 0)
+    place-read = subst (λ (q : ℕ). placeIn (m .graph .«port_meta») q ≡ standing m (subport# q 0)) (block .slot) (place-there (block .place) 0 (block .isSeen))
+
+    pub plain-read : isSplit m p ≡ false → plainIn (m .graph .«port_link») (m .graph .«port_meta») (m .«copy_node») p ≡ cutPlain m (portLink (m .graph) p)
+    plain-read t =
+        subst (λ (q : ℕ). plainIn (m .graph .«port_link») (m .graph .«port_meta») (m .«copy_node») q ≡ cutPlain m (portLink (m .graph) q)) (block .slot)
+        (plain-there (block .place) (unsplit-is-end f (block .place) (block .isSeen) (ap (isSplit m) (block .slot) ∙ t)))
 
     -- the hidden node of a split port: its number, its copy port, and its other side
     pub owner-read : isSplit m p ≡ true → ownerIn (m .graph .«port_meta») (farIn (m .graph .«port_link») p) ≡ copyNode m p

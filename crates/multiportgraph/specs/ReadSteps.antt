@@ -2,8 +2,9 @@
 use mathlib.Core.Path.{_≡_, sym, _∙_, ap}
 use mathlib.Core.Bool.{Bool, true, false, cond}
 use mathlib.Core.List.{List}
-use Prim.Native.Nat.{ℕ, zero, suc, _+_, _-_, _≤_, _<_, min}
+use Prim.Native.Nat.{ℕ, zero, suc, _+_, _-_, _*_, _/_, _≤_, _<_, min}
 use native.Mathlib.Omega.{arith}
+use lib.Dec.{eqb}
 use borrow.Author.Tests.{eq-eqb, ne-eqb, lt-ltb, le-ltb}
 use Rattle.portgraph.specs.Limits.{nodeSlots, portSlots}
 use Rattle.portgraph.specs.Entries.{portEntry}
@@ -14,12 +15,14 @@ use Rattle.portgraph.specs.declared.port_entry.PortMeta.{PortMeta}
 use Rattle.portgraph.specs.declared.port_entry.PortEntry.the-variants as port-variants
 use Rattle.multiportgraph.specs.Reading.{hidden, visible, subport#}
 use Rattle.multiportgraph.specs.Forms.{flagAt, seenAs, endAs}
-use Rattle.multiportgraph.specs.Reads.{farIn, seenOwner, seenIn, run, ownsUp, ownsDown, runUp, runDown, countBeside, firstBeside, endBeside, subportsIn, firstIn, endIn, copyBeside, subportOwned, subportIn, wireIn}
+use Rattle.multiportgraph.specs.Reads.{farIn, seenOwner, seenIn, run, ownsUp, ownsDown, runUp, runDown, countBeside, firstBeside, endBeside, subportsIn, firstIn, endIn, copyBeside, subportOwned, subportIn, leapsDown, leapDown, rowBelow, noPlace, placeOwned, placeIn, wireIn, wireEndIn, plainIn}
 use Rattle.multiportgraph.specs.declared.ends.SeenPort.the-variants as seen-port
 use Rattle.multiportgraph.specs.declared.ends.EndFound.{EndFound}
 use Rattle.multiportgraph.specs.declared.ends.EndFound.the-variants as end-found
 use Rattle.multiportgraph.specs.declared.multiportgraph.SubportIndex.{SubportIndex}
+use Rattle.multiportgraph.specs.declared.multiportgraph.PortPlace.{PortPlace}
 use Rattle.multiportgraph.specs.declared.multiportgraph.CutAnswer.the-variants as cutting
+use Rattle.multiportgraph.specs.declared.multiportgraph.EndAnswer.the-variants as end
 
 -- The loop of a run.
 
@@ -81,6 +84,34 @@ module _ (t : List ℕ) (x i : ℕ) where
   pub down-bound : runDown t x i ≤ min i portSlots
   unfolding runDown
   down-bound = run-bound (ownsDown t x i) 0 (min i portSlots)
+
+  -- leaps
+  pub leap-start : (n : ℕ) → n ≡ min i portSlots / 32 → leapDown t x i ≡ 0 + run (leapsDown t x i) 0 (n - 0)
+  unfolding leapDown
+  leap-start n e = let z : n - 0 ≡ min i portSlots / 32 = omega arith in rw z (omega arith)
+
+  pub leap-yes : (k a : ℕ) → a ≡ at t (i - 32 * (k + 1)) → a ≡ x → leapsDown t x i k ≡ true
+  unfolding leapsDown
+  leap-yes k a e f = let s : k + 1 ≡ suc k = omega arith in eq-eqb (at t (i - 32 * suc k)) x (ap (λ n. at t (i - 32 * n)) (sym s) ∙ sym e ∙ f)
+
+  pub leap-no : (k a : ℕ) → a ≡ at t (i - 32 * (k + 1)) → (a ≡ x → ⊥) → leapsDown t x i k ≡ false
+  unfolding leapsDown
+  leap-no k a e f = let s : k + 1 ≡ suc k = omega arith in ne-eqb (at t (i - 32 * suc k)) x (λ z. f (e ∙ ap (λ n. at t (i - 32 * n)) s ∙ z))
+
+  pub leap-bound : leapDown t x i ≤ min i portSlots / 32
+  unfolding leapDown
+  leap-bound = run-bound (leapsDown t x i) 0 (min i portSlots / 32)
+
+  pub row-told : (k l n : ℕ) → k ≡ leapDown t x i → l ≡ 32 * k → n ≡ runDown t x (i - l) → l + n ≡ rowBelow t x i
+  unfolding rowBelow
+  row-told k l n e f g = rw (g, f, e)
+
+pub row-bound : (t : List ℕ) (x i : ℕ) → rowBelow t x i ≤ 2 * portSlots
+unfolding rowBelow
+row-bound t x i =
+    let l = leap-bound t x i in
+    let d = down-bound t x (i - 32 * leapDown t x i) in
+    omega arith
 
 -- One table.
 
@@ -221,14 +252,54 @@ module _ (owners : List ℕ) (flags : List Bool) (p w a : ℕ) (e : w ≡ p) (f 
         ap (λ (q : Bool). cond q (subport# (farIn links (copyBeside owners p (k .direction))) (runDown owners (at owners p) p)) (subport# p 0)) (sym (flag-told false n))
         ∙ ap (subportOwned links owners flags p) (sym g ∙ owner-is)
 
+-- Where a port stands.
+module _ (owners : List ℕ) (p w a : ℕ) (e : w ≡ p) (f : a ≡ at owners w) where
+  owned : portEntry a ≡ portEntry (at owners p)
+  owned = ap portEntry (f ∙ ap (at owners) e)
+
+  pub place-nowhere : (x : PortPlace) → portEntry a ≡ port-variants.Free → x ≡ noPlace → x ≡ placeIn owners p
+  unfolding placeIn
+  place-nowhere x g h = h ∙ ap (placeOwned owners p) (sym g ∙ owned)
+
+  pub place-told : (k : PortMeta) (n u : ℕ) → portEntry a ≡ port-variants.Port k → u ≡ p → n ≡ rowBelow owners a u →
+      _≡_ {A = PortPlace} (record { node = k .node; side = k .direction; position = n }) (placeIn owners p)
+  unfolding placeIn
+  place-told k n u g h l =
+      let y : n ≡ rowBelow owners (at owners p) p = rw (l, h, f, e) in
+      ap (λ (i : ℕ). record { node = k .node; side = k .direction; position = i }) y ∙ ap (placeOwned owners p) (sym g ∙ owned)
+
 module _ (links owners : List ℕ) (flags : List Bool) (p w a : ℕ) (e : w ≡ p) (f : a ≡ at links w) where
+  none-there : a ≡ 0 → eqb (at links p) 0 ≡ true
+  none-there z = eq-eqb (at links p) 0 (ap (at links) (sym e) ∙ sym f ∙ z)
+
+  one-there : (a ≡ 0 → ⊥) → eqb (at links p) 0 ≡ false
+  one-there z = ne-eqb (at links p) 0 (λ y. z (f ∙ ap (at links) e ∙ y))
+
   pub no-wire : a ≡ 0 → cutting.Nothing ≡ wireIn links owners flags p
   unfolding wireIn
-  no-wire z = rw (eq-eqb (at links p) 0 (ap (at links) (sym e) ∙ sym f ∙ z))
+  no-wire z = rw (none-there z)
 
-  pub one-wire : (v q : ℕ) (s : SubportIndex) → (a ≡ 0 → ⊥) → v ≡ p → q ≡ farIn links v → s ≡ subportIn links owners flags q → cutting.Found s ≡ wireIn links owners flags p
+  pub one-wire : (v q : ℕ) (s : SubportIndex) (x : PortPlace) → (a ≡ 0 → ⊥) → v ≡ p → q ≡ farIn links v → s ≡ subportIn links owners flags q → x ≡ placeIn owners (s .port .0)
+      → cutting.Found s x ≡ wireIn links owners flags p
   unfolding wireIn
-  one-wire v q s z h g k = rw (ne-eqb (at links p) 0 (λ y. z (f ∙ ap (at links) e ∙ y)), k, g, h)
+  one-wire v q s x z h g k l = rw (one-there z, l, k, g, h)
+
+  pub no-wire-end : a ≡ 0 → end.Nothing ≡ wireEndIn links owners flags p
+  unfolding wireEndIn
+  no-wire-end z = rw (none-there z)
+
+  pub one-wire-end : (v q : ℕ) (s : SubportIndex) → (a ≡ 0 → ⊥) → v ≡ p → q ≡ farIn links v → s ≡ subportIn links owners flags q → end.Found s ≡ wireEndIn links owners flags p
+  unfolding wireEndIn
+  one-wire-end v q s z h g k = rw (one-there z, k, g, h)
+
+  pub no-plain : a ≡ 0 → cutting.Nothing ≡ plainIn links owners flags p
+  unfolding plainIn
+  no-plain z = rw (none-there z)
+
+  pub one-plain : (v q : ℕ) (s : SubportIndex) (x : PortPlace) → (a ≡ 0 → ⊥) → v ≡ p → q ≡ farIn links v → s ≡ subportIn links owners flags q → x ≡ placeIn owners (s .port .0)
+      → cutting.Found (subport# q 0) x ≡ plainIn links owners flags p
+  unfolding plainIn
+  one-plain v q s x z h g k l = rw (one-there z, l, k, g, h)
 
 pub subports-bound : (links owners : List ℕ) (p : ℕ) (d : Direction) → subportsIn links owners p d ≤ portSlots
 unfolding subportsIn countBeside

@@ -22,6 +22,8 @@ use Rattle.portgraph.specs.declared.portgraph.PortLink.{PortLink}
 use Rattle.portgraph.specs.declared.portgraph.PortLink.the-variants as link-variants
 use Rattle.multiportgraph.specs.declared.multiportgraph.MultiPortGraph.{MultiPortGraph}
 use Rattle.multiportgraph.specs.declared.multiportgraph.SubportIndex.{SubportIndex}
+use Rattle.multiportgraph.specs.declared.multiportgraph.PortPlace.{PortPlace}
+use Rattle.multiportgraph.specs.Places.{Place, portPlace}
 
 -- Numbers out of the lower graph's lookups; 0 where there is nothing, which no graph of the calls shows.
 
@@ -140,3 +142,20 @@ subportOf m q =
     cond (isHidden m (ownerOf (m .graph) q))
     (subport# (mainPort m (ownerOf (m .graph) q)) (positionOf (m .graph) q))
     (subport# q 0)
+
+-- the place of an end
+unfoldable pub placeOf : MultiPortGraph → SubportIndex → Place
+placeOf m s =
+    record {
+      node = ownerOf (m .graph) (s .port .0);
+      side = sideOf (seen m (s .port .0));
+      pos = positionOf (m .graph) (s .port .0);
+      offset = s .«subport_offset»;
+    }
+
+-- where an end stands, and where the visible end that an inner port is
+abbrev pub standing : MultiPortGraph → SubportIndex → PortPlace
+standing m s = portPlace (placeOf m s)
+
+abbrev pub standingOf : MultiPortGraph → ℕ → PortPlace
+standingOf m q = standing m (subportOf m q)

@@ -2,12 +2,12 @@
 -- The ports of a hidden node lie in a row: the subports are the slots of one owner beside the copy port.
 use mathlib.Core.Bool.{Bool, cond}
 use mathlib.Core.List.{List}
-use Prim.Native.Nat.{ℕ, zero, suc, _+_, _-_, min}
+use Prim.Native.Nat.{ℕ, zero, suc, _+_, _-_, _*_, _/_, min}
 use lib.Dec.{eqb, ltb}
 use Rattle.portgraph.specs.Limits.{nodeSlots, portSlots}
 use Rattle.portgraph.specs.Entries.{portEntry}
 use Rattle.portgraph.specs.Tables.{at, linkBoth, cut}
-use Rattle.portgraph.specs.Lookups.{nodeOf}
+use Rattle.portgraph.specs.Lookups.{node#, nodeOf}
 use Rattle.portgraph.specs.declared.direction.Direction.{Direction}
 use Rattle.portgraph.specs.declared.direction.Direction.the-variants.{Incoming, Outgoing}
 use Rattle.portgraph.specs.declared.port_entry.PortEntry.{PortEntry}
@@ -15,8 +15,11 @@ use Rattle.portgraph.specs.declared.port_entry.PortEntry.the-variants as port-v
 use Rattle.multiportgraph.specs.Reading.{nodeNumber, Port, dead, hidden, visible, End, inner, lacking, subport#}
 use Rattle.multiportgraph.specs.Forms.{flagAt}
 use Rattle.multiportgraph.specs.declared.multiportgraph.SubportIndex.{SubportIndex}
+use Rattle.multiportgraph.specs.declared.multiportgraph.PortPlace.{PortPlace}
 use Rattle.multiportgraph.specs.declared.multiportgraph.CutAnswer.{CutAnswer}
 use Rattle.multiportgraph.specs.declared.multiportgraph.CutAnswer.the-variants as cutting
+use Rattle.multiportgraph.specs.declared.multiportgraph.EndAnswer.{EndAnswer}
+use Rattle.multiportgraph.specs.declared.multiportgraph.EndAnswer.the-variants as end
 
 -- the slot that a slot is linked with; 0 for none
 unfoldable pub farIn : List ℕ → ℕ → ℕ
@@ -52,6 +55,17 @@ runUp owners x i = run (ownsUp owners x i) 0 portSlots
 
 unfoldable pub runDown : List ℕ → ℕ → ℕ → ℕ
 runDown owners x i = run (ownsDown owners x i) 0 (min i portSlots)
+
+-- The slots of an owner that lie in a row below i, by leaps of 32 slots and a run of what is left.
+
+unfoldable pub leapsDown : List ℕ → ℕ → ℕ → ℕ → Bool
+leapsDown owners x i k = eqb (at owners (i - 32 * suc k)) x
+
+unfoldable pub leapDown : List ℕ → ℕ → ℕ → ℕ
+leapDown owners x i = run (leapsDown owners x i) 0 (min i portSlots / 32)
+
+unfoldable pub rowBelow : List ℕ → ℕ → ℕ → ℕ
+rowBelow owners x i = 32 * leapDown owners x i + runDown owners x (i - 32 * leapDown owners x i)
 
 -- The subports beside a copy port q, on side d of its node: how many, and the slot of the first.
 
@@ -97,9 +111,36 @@ subportOwned links owners flags q (port-variants.Port k) =
 unfoldable pub subportIn : List ℕ → List ℕ → List Bool → ℕ → SubportIndex
 subportIn links owners flags q = subportOwned links owners flags q (portEntry (at owners q))
 
--- what an end is linked with
+-- Where a port of a block stands: its owner tells node and side, and as many slots of that owner lie below it as its position says.
+
+abbrev pub noPlace : PortPlace
+noPlace = record { node = node# 0; side = Incoming; position = 0 }
+
+abbrev pub placeOwned : List ℕ → ℕ → PortEntry → PortPlace
+placeOwned owners p port-variants.Free = noPlace
+placeOwned owners p (port-variants.Port k) = record { node = k .node; side = k .direction; position = rowBelow owners (at owners p) p }
+
+unfoldable pub placeIn : List ℕ → ℕ → PortPlace
+placeIn owners p = placeOwned owners p (portEntry (at owners p))
+
+-- where the visible end of an inner port stands
+abbrev pub farPlaceIn : List ℕ → List ℕ → List Bool → ℕ → PortPlace
+farPlaceIn links owners flags q = placeIn owners (subportIn links owners flags q .port .0)
+
+-- what an end is linked with; the same without the place
 unfoldable pub wireIn : List ℕ → List ℕ → List Bool → ℕ → CutAnswer
-wireIn links owners flags q = cond (eqb (at links q) 0) cutting.Nothing (cutting.Found (subportIn links owners flags (farIn links q)))
+wireIn links owners flags q =
+    cond (eqb (at links q) 0) cutting.Nothing
+    (cutting.Found (subportIn links owners flags (farIn links q)) (farPlaceIn links owners flags (farIn links q)))
+
+unfoldable pub wireEndIn : List ℕ → List ℕ → List Bool → ℕ → EndAnswer
+wireEndIn links owners flags q = cond (eqb (at links q) 0) end.Nothing (end.Found (subportIn links owners flags (farIn links q)))
+
+-- what cutting an unsplit port answers
+unfoldable pub plainIn : List ℕ → List ℕ → List Bool → ℕ → CutAnswer
+plainIn links owners flags p =
+    cond (eqb (at links p) 0) cutting.Nothing
+    (cutting.Found (subport# (farIn links p) 0) (farPlaceIn links owners flags (farIn links p)))
 
 -- What a split does to the links: the port hangs on the copy port, and its old link is at the first subport.
 unfoldable pub hangOn : List ℕ → ℕ → ℕ → ℕ → List ℕ

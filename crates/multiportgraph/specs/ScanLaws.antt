@@ -284,8 +284,8 @@ unfolding wireOf
 wire-stands m d s w = go (linkOfEnd m (s .port .0) (endAt m (s .port .0) d (s .«subport_offset»)))
   where
     go : (a : CutAnswer) → Member w (wireTo s a) → w .from ≡ s
-    go (cutting.Found t) (inl e) = ap (λ (v : SubportLink). v .from) e
-    go (cutting.Found t) (inr i) = absurd i
+    go (cutting.Found t x) (inl e) = ap (λ (v : SubportLink). v .from) e
+    go (cutting.Found t x) (inr i) = absurd i
     go cutting.Nothing i = absurd i
     go (cutting.Refused r) i = absurd i
 

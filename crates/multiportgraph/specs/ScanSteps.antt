@@ -1,6 +1,6 @@
 -- Steps of the scans over lent tables, over plain values.
 use mathlib.Core.Path.{_≡_, refl, sym, _∙_, ap}
-use mathlib.Core.Bool.{Bool, true, false}
+use mathlib.Core.Bool.{Bool, true, false, cond}
 use mathlib.Core.List.{List, [], _∷_, _++_, flatMap}
 use Prim.Native.Nat.{ℕ, suc, _+_, _-_, _≤_, _<_, min}
 use native.Mathlib.Omega.{arith}
@@ -28,16 +28,19 @@ use Rattle.portgraph.specs.Meaning.{sameSide}
 use Rattle.portgraph.specs.declared.index.NodeIndex.{NodeIndex}
 use Rattle.multiportgraph.specs.Reading.{nodeNumber, Port, visible, subport#}
 use Rattle.multiportgraph.specs.Forms.{flagAt, seenAs}
-use Rattle.multiportgraph.specs.Reads.{ownerIn, farIn, seenIn, ownsUp, ownsDown, runUp, runDown, countBeside, subportsIn, firstIn, wireIn}
+use Rattle.multiportgraph.specs.Reads.{ownerIn, farIn, seenIn, ownsUp, ownsDown, runUp, runDown, countBeside, subportsIn, firstIn, subportIn, placeIn, farPlaceIn, wireIn, wireEndIn}
 use Rattle.multiportgraph.specs.ReadSteps.{run-bound}
 use Rattle.multiportgraph.specs.Wires.{wireTo}
 use Rattle.multiportgraph.specs.Listing.{filter-append}
 use Rattle.multiportgraph.specs.Scans.{firstFound, linkPort, spanFirst, spanCount, notOwnOutput, passesIn, linksIn, portLinksBy, portLinksIn, linksRest, beyondIn, blockLinksIn, wiresIn}
 use Rattle.multiportgraph.specs.declared.multiportgraph.SubportIndex.{SubportIndex}
+use Rattle.multiportgraph.specs.declared.multiportgraph.PortPlace.{PortPlace}
 use Rattle.multiportgraph.specs.declared.multiportgraph.SubportLink.{SubportLink}
 use Rattle.multiportgraph.specs.declared.multiportgraph.Refusal.{Refusal}
 use Rattle.multiportgraph.specs.declared.multiportgraph.CutAnswer.{CutAnswer}
 use Rattle.multiportgraph.specs.declared.multiportgraph.CutAnswer.the-variants as cutting
+use Rattle.multiportgraph.specs.declared.multiportgraph.EndAnswer.{EndAnswer}
+use Rattle.multiportgraph.specs.declared.multiportgraph.EndAnswer.the-variants as end
 use Rattle.multiportgraph.specs.declared.ends.SeenPort.{SeenPort}
 use Rattle.multiportgraph.specs.declared.ends.SeenPort.the-variants as seen-port
 use Rattle.multiportgraph.specs.declared.scans.LinkFilter.{LinkFilter}
@@ -138,32 +141,49 @@ module _ (owners : List ℕ) (flags : List Bool) (f : LinkFilter) (p : ℕ) wher
 -- One end.
 
 module _ (links owners : List ℕ) (flags : List Bool) (t : SubportLink → Bool) (q : SubportIndex) (s : ℕ) where
-  pub end-by : (x : CutAnswer) → x ≡ wireIn links owners flags s → firstFound (filter t (wireTo q x)) ≡ firstFound (filter t (wireTo q (wireIn links owners flags s)))
-  end-by x e = ap (λ y. firstFound (filter t (wireTo q y))) e
+  -- an end that was read without its place, with it
+  abbrev placed : EndAnswer → CutAnswer
+  placed (end.Found to) = cutting.Found to (placeIn owners (to .port .0))
+  placed end.Nothing = cutting.Nothing
+  placed (end.Refused r) = cutting.Refused r
+
+  wire-placed : placed (wireEndIn links owners flags s) ≡ wireIn links owners flags s
+  unfolding wireEndIn wireIn
+  wire-placed = go (eqb (at links s) 0)
+    where
+      go : (b : Bool) → placed (cond b end.Nothing (end.Found (subportIn links owners flags (farIn links s))))
+          ≡ cond b cutting.Nothing (cutting.Found (subportIn links owners flags (farIn links s)) (farPlaceIn links owners flags (farIn links s)))
+      go true = refl
+      go false = refl
+
+  end-by : (x y : EndAnswer) → x ≡ wireEndIn links owners flags s → x ≡ y → firstFound (filter t (wireTo q (placed y))) ≡ firstFound (filter t (wireTo q (wireIn links owners flags s)))
+  end-by x y e h = ap (λ z. firstFound (filter t (wireTo q (placed z)))) (sym h ∙ e) ∙ ap (λ z. firstFound (filter t (wireTo q z))) wire-placed
 
   pub end-outside : portSlots ≤ s → found.None ≡ firstFound (filter t (wireTo q (wireIn links owners flags s)))
   unfolding wireIn firstFound filter
   end-outside h = rw (eq-eqb (at links s) 0 (sym (at-outside links s h)))
 
-  pub end-nothing : (x : CutAnswer) → x ≡ wireIn links owners flags s → x ≡ cutting.Nothing → found.None ≡ firstFound (filter t (wireTo q (wireIn links owners flags s)))
+  pub end-nothing : (x : EndAnswer) → x ≡ wireEndIn links owners flags s → x ≡ end.Nothing → found.None ≡ firstFound (filter t (wireTo q (wireIn links owners flags s)))
   unfolding firstFound filter
-  end-nothing x e h = ap (λ y. firstFound (filter t (wireTo q y))) (sym h) ∙ end-by x e
+  end-nothing x e h = end-by x end.Nothing e h
 
-  module _ (x : CutAnswer) (to : SubportIndex) (e : x ≡ wireIn links owners flags s) (h : x ≡ cutting.Found to) where
-    end-found : firstFound (filter t (record { from = q; to = to } ∷ [])) ≡ firstFound (filter t (wireTo q (wireIn links owners flags s)))
-    end-found = ap (λ y. firstFound (filter t (wireTo q y))) (sym h) ∙ end-by x e
+  module _ (x : EndAnswer) (to : SubportIndex) (e : x ≡ wireEndIn links owners flags s) (h : x ≡ end.Found to) where
+    abbrev given : PortPlace → SubportLink
+    given place = record { from = q; to = to; place = place }
 
-    pub end-given : t (record { from = q; to = to }) ≡ true → found.Link (record { from = q; to = to }) ≡ firstFound (filter t (wireTo q (wireIn links owners flags s)))
+    pub end-given : (place : PortPlace) → place ≡ placeIn owners (to .port .0) → t (given place) ≡ true → found.Link (given place) ≡ firstFound (filter t (wireTo q (wireIn links owners flags s)))
     unfolding firstFound filter
-    end-given g = rw (sym end-found, g)
+    end-given place k g =
+        let z : t (given (placeIn owners (to .port .0))) ≡ true = ap (λ (x : PortPlace). t (given x)) (sym k) ∙ g in
+        rw (sym (end-by x (end.Found to) e h), z, k)
 
-    pub end-passed : t (record { from = q; to = to }) ≡ false → found.None ≡ firstFound (filter t (wireTo q (wireIn links owners flags s)))
+    pub end-passed : t (given (placeIn owners (to .port .0))) ≡ false → found.None ≡ firstFound (filter t (wireTo q (wireIn links owners flags s)))
     unfolding firstFound filter
-    end-passed g = rw (sym end-found, g)
+    end-passed g = rw (sym (end-by x (end.Found to) e h), g)
 
-  pub end-refused : (x : CutAnswer) (r : Refusal) → x ≡ wireIn links owners flags s → x ≡ cutting.Refused r → found.None ≡ firstFound (filter t (wireTo q (wireIn links owners flags s)))
+  pub end-refused : (x : EndAnswer) (r : Refusal) → x ≡ wireEndIn links owners flags s → x ≡ end.Refused r → found.None ≡ firstFound (filter t (wireTo q (wireIn links owners flags s)))
   unfolding firstFound filter
-  end-refused x r e h = ap (λ y. firstFound (filter t (wireTo q y))) (sym h) ∙ end-by x e
+  end-refused x r e h = end-by x (end.Refused r) e h
 
 -- One port: a turn over its offsets.
 

@@ -51,7 +51,7 @@ use Rattle.portgraph.specs.declared.slots.AddAnswer as lower-add-answer
 use Rattle.portgraph.specs.declared.slots.AddAnswer.the-variants as lower-add
 use Rattle.multiportgraph.specs.Calls.{dropBlock, removeBlock, addedAs, addBlock, setAs, setCounts, cutPlain, cutPort, cutSub, farSubport, linkSub, setCountsUnder, addBlockUnder, linkPair, linkPairUnder, linkClean}
 use Rattle.multiportgraph.specs.Inner.{inner#, copyPlace, Fine, Seen, BlockIs, SameBlocks}
-use Rattle.multiportgraph.specs.Reading.{ownerOf, copySide, hasLink, portOf, isHidden, isSplit, Port, dead, hidden, visible, seen, copyNode, subports, subport#, End, inner, lacking, endAt, asRead}
+use Rattle.multiportgraph.specs.Reading.{ownerOf, copySide, hasLink, portOf, isHidden, isSplit, Port, dead, hidden, visible, seen, copyNode, subports, subport#, End, inner, lacking, endAt, asRead, standing}
 use Rattle.multiportgraph.specs.Ends.{Hangs, split-has-copy, block-seen, seen-block, copy-valid, port-of, far-of, owner-of}
 use Rattle.multiportgraph.specs.CopyLaws.{copy-goes, unsplit-split, unsplit-whole}
 use Rattle.multiportgraph.specs.PrepareLaws.{prepare-law}
@@ -740,7 +740,7 @@ module _ {m : MultiPortGraph} {M : Model} (f : Fine m M) where
   pub cut-space : (p : ℕ) → Spaced m M (cutSeenWorks m p (seen m p)) (cutPort m p .answer ≡ cutting.Refused NoRoom) (cutPort m p .graph)
   cut-space p = subst (λ (v : PortUnlinked). Spaced m M (cutSeenWorks m p (seen m p)) (v .answer ≡ cutting.Refused NoRoom) (v .graph)) (sym (cut-cases m p)) (go (seen m p))
     where
-      plain : (v : PortLink) → cutPlain v ≡ cutting.Refused NoRoom → ⊥
+      plain : (v : PortLink) → cutPlain m v ≡ cutting.Refused NoRoom → ⊥
       plain (lower-cut.Linked q) e = zero-is-not-one (cc)
       plain lower-cut.Unlinked e = zero-is-not-one (cc)
       plain (lower-cut.UnknownPort q) e = zero-is-not-one (cc)
@@ -749,11 +749,11 @@ module _ {m : MultiPortGraph} {M : Model} (f : Fine m M) where
       Says v = Spaced m M (cutWorks m p) (v .answer ≡ cutting.Refused NoRoom) (v .graph)
 
       port : (b : Bool) → isSplit m p ≡ b
-          → Says (cond b (record { graph = unsplit m p; answer = cutting.Found (subport# p 0) })
-          (record { graph = withGraph m (unlinkPort (m .graph) p .graph); answer = cutPlain (unlinkPort (m .graph) p .answer) }))
+          → Says (cond b (record { graph = unsplit m p; answer = cutting.Found (subport# p 0) (standing m (subport# p 0)) })
+          (record { graph = withGraph m (unlinkPort (m .graph) p .graph); answer = cutPlain m (unlinkPort (m .graph) p .answer) }))
       port true e = spaced-done (λ q. zero-is-not-one (cc)) (cut-fits f p) (unsplit-room m (record { model = M; good = f .good; holds = f .holds; is = refl }) p)
       port false e =
-          subst (λ (l : List Work). Spaced m M l (cutPlain (unlinkPort (m .graph) p .answer) ≡ cutting.Refused NoRoom) (withGraph m (unlinkPort (m .graph) p .graph))) (sym (cuts-nothing m p e))
+          subst (λ (l : List Work). Spaced m M l (cutPlain m (unlinkPort (m .graph) p .answer) ≡ cutting.Refused NoRoom) (withGraph m (unlinkPort (m .graph) p .graph))) (sym (cuts-nothing m p e))
           (no-work f (plain (unlinkPort (m .graph) p .answer)) (unlink-keeps-room (own-room f) p))
 
       go : (s : Port) → Spaced m M (cutSeenWorks m p s) (cutSeen m p s .answer ≡ cutting.Refused NoRoom) (cutSeen m p s .graph)

@@ -32,10 +32,11 @@ use Rattle.multiportgraph.specs.declared.iter.NodeConnectionsStart.{Node
 use Rattle.multiportgraph.specs.declared.iter.NodeConnectionsStart.the-variants as connections-start
 use Rattle.multiportgraph.specs.declared.iter.WiresStep.{WiresStep}
 use Rattle.multiportgraph.specs.declared.iter.WiresStep.the-variants as wires-step
-use Rattle.multiportgraph.specs.Answers.{refusalNumbers}
+use Rattle.multiportgraph.specs.Answers.{refusalNumbers, placeNumbers}
 
+-- a wire: both ends, then where the second one stands
 abbrev pub linkValues : SubportLink → List ℕ
-linkValues w = w .from .port .0 ∷ w .from .«subport_offset» ∷ w .to .port .0 ∷ w .to .«subport_offset» ∷ []
+linkValues w = w .from .port .0 ∷ w .from .«subport_offset» ∷ w .to .port .0 ∷ w .to .«subport_offset» ∷ placeNumbers (w .place)
 
 abbrev pub nodesValues : NodesStep → List ℕ
 nodesValues (nodes-step.Item n c) = n .0 ∷ []

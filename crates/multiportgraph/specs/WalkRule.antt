@@ -18,7 +18,7 @@ use Rattle.portgraph.specs.GoodSlots.{zero-is-not-one, slot-in-block, slot-in-r
 use Rattle.portgraph.specs.PlaceLaws.{port-link-to, port-link-none, meta-of-node}
 use Rattle.portgraph.specs.declared.direction.Direction.{Direction}
 use Rattle.portgraph.specs.declared.direction.Direction.the-variants.{Outgoing}
-use Rattle.multiportgraph.specs.Reading.{ownerOf, portOf, isHidden, isSplit, visible, seen, subports, End, inner, lacking, endAt, subport#, subportOf}
+use Rattle.multiportgraph.specs.Reading.{ownerOf, portOf, isHidden, isSplit, visible, seen, subports, End, inner, lacking, endAt, subport#, subportOf, standingOf}
 use Rattle.multiportgraph.specs.Calls.{linkOfEnd}
 use Rattle.multiportgraph.specs.Wires.{isBlock, blocks, portsOfSide, subportsOfPort, subportsOfSide, wireTo, wireOf, sideLinks, allWires, isBeyond, firstItem, wiresBeyond, stepWires, startWires, Walked, walkedOn, walkBy, walkWires, placeOf, wirePlaces, longWalk, walked, wiresWalked}
 use Rattle.multiportgraph.specs.Inner.{inner#, copyPlace, Fine, Seen, lift, outer, IsEnd, WireIn}
@@ -101,8 +101,8 @@ unfolding wireOf
 wire-from m d s w = go (linkOfEnd m (s .port .0) (endAt m (s .port .0) d (s .«subport_offset»)))
   where
     go : (a : CutAnswer) → Member w (wireTo s a) → w .from ≡ s
-    go (cutting.Found t) (inl e) = ap (λ (v : SubportLink). v .from) e
-    go (cutting.Found t) (inr i) = absurd i
+    go (cutting.Found t x) (inl e) = ap (λ (v : SubportLink). v .from) e
+    go (cutting.Found t x) (inr i) = absurd i
     go cutting.Nothing i = absurd i
     go (cutting.Refused r) i = absurd i
 
@@ -111,7 +111,7 @@ unfolding wireOf
 wire-rises R m d s = go (linkOfEnd m (s .port .0) (endAt m (s .port .0) d (s .«subport_offset»)))
   where
     go : (a : CutAnswer) → Rising R (wireTo s a)
-    go (cutting.Found t) = ((λ y i. absurd i), tt)
+    go (cutting.Found t x) = ((λ y i. absurd i), tt)
     go cutting.Nothing = tt
     go (cutting.Refused r) = tt
 
@@ -369,7 +369,7 @@ module _ {m : MultiPortGraph} {M : Model} (f : Fine m M) where
   -- Wires.
 
   wire-there : (x z y : model.InnerPlace) (s : SubportIndex) → SubportIs m M x z s → M .join z ≡ to y →
-      wireOf m Outgoing s ≡ record { from = s; to = subportOf m (slotOf (M .node) y) } ∷ []
+      wireOf m Outgoing s ≡ record { from = s; to = subportOf m (slotOf (M .node) y); place = standingOf m (slotOf (M .node) y) } ∷ []
   unfolding wireOf
   wire-there x z y s e j = rw (e .read, port-link-to (f .good) (f .holds) z y (e .end .valid) j) refl
 
@@ -391,7 +391,7 @@ module _ {m : MultiPortGraph} {M : Model} (f : Fine m M) where
       go nowhere e = absurd (subst (λ (l : List SubportLink). Member w l) (no-wire-there (inner# n Outgoing (r .pos)) (r .z) (g .0) (r .is) e) (g .2))
       go (to y) e =
           let k = subst (λ (l : List SubportLink). Member w l) (wire-there (inner# n Outgoing (r .pos)) (r .z) y (g .0) (r .is) e) (g .2) in
-          let q : w ≡ record { from = g .0; to = subportOf m (slotOf (M .node) y) } = ⊎-elim (λ a. a) (λ a. absurd a) k in
+          let q : w ≡ record { from = g .0; to = subportOf m (slotOf (M .node) y); place = standingOf m (slotOf (M .node) y) } = ⊎-elim (λ a. a) (λ a. absurd a) k in
           record {
             pos = r .pos;
             z = r .z;
@@ -426,7 +426,7 @@ module _ {m : MultiPortGraph} {M : Model} (f : Fine m M) where
   unfolding allWires sideLinks
   join-listed z y d e j =
       let r = end-listed z d e in
-      let w : SubportLink = record { from = r .subport; to = subportOf m (slotOf (M .node) y) } in
+      let w : SubportLink = record { from = r .subport; to = subportOf m (slotOf (M .node) y); place = standingOf m (slotOf (M .node) y) } in
       let k : Member w (wireOf m Outgoing (r .subport)) = rw (wire-there (inner# (r .node) Outgoing (r .pos)) z y (r .subport) (r .is) j) (inl refl) in (
         w,
         flatMap-member (sideLinks m Outgoing) w (r .node) (blocks m) (r .block) (flatMap-member (wireOf m Outgoing) w (r .subport) (subportsOfSide m (r .node) Outgoing) (r .listed) k),

@@ -5,10 +5,11 @@ use Prim.Native.Nat.{ℕ, zero, suc, _+_, _-_}
 use lib.Dec.{eqb, ltb}
 use Rattle.portgraph.specs.Limits.{nodeSlots, portSlots}
 use Rattle.portgraph.specs.Lists.{filter, range}
-use Rattle.portgraph.specs.Lookups.{numPorts, portLink, containsNode, portDirection}
+use Rattle.portgraph.specs.Lookups.{numPorts, containsNode}
 use Rattle.portgraph.specs.declared.direction.Direction.{Direction}
 use Rattle.portgraph.specs.declared.direction.Direction.the-variants.{Incoming, Outgoing}
-use Rattle.multiportgraph.specs.Reading.{sideOf, ownerOf, portOf, positionOf, isHidden, isSplit, Port, dead, hidden, visible, seen, subports, endAt, subport#}
+use Rattle.multiportgraph.specs.Reading.{portOf, isHidden, isSplit, Port, dead, hidden, visible, seen, subports, endAt, subport#}
+unfoldable pub use Rattle.multiportgraph.specs.Reading.{placeOf}
 use Rattle.multiportgraph.specs.Calls.{linkOfEnd}
 use Rattle.multiportgraph.specs.declared.multiportgraph.MultiPortGraph.{MultiPortGraph}
 use Rattle.multiportgraph.specs.declared.multiportgraph.SubportIndex.{SubportIndex}
@@ -18,7 +19,7 @@ use Rattle.multiportgraph.specs.declared.multiportgraph.CutAnswer.the-va
 use Rattle.multiportgraph.specs.declared.iter.Wires.{Wires}
 use Rattle.multiportgraph.specs.declared.iter.WiresStep.{WiresStep}
 use Rattle.multiportgraph.specs.declared.iter.WiresStep.the-variants.{Item, End}
-use Rattle.multiportgraph.specs.Places.{Place, Wire}
+use Rattle.multiportgraph.specs.Places.{Wire}
 
 -- Listings.
 
@@ -42,7 +43,7 @@ unfoldable pub subportsOfSide : MultiPortGraph → ℕ → Direction → List Su
 subportsOfSide m n d = flatMap (subportsOfPort m d) (portsOfSide m d n)
 
 abbrev pub wireTo : SubportIndex → CutAnswer → List SubportLink
-wireTo s (cutting.Found t) = record { from = s; to = t } ∷ []
+wireTo s (cutting.Found t x) = record { from = s; to = t; place = x } ∷ []
 wireTo s cutting.Nothing = []
 wireTo s (cutting.Refused r) = []
 
@@ -102,15 +103,6 @@ walkWires m zero c = record { items = []; ended = false }
 walkWires m (suc fuel) c = walkBy (walkWires m fuel) (stepWires m c)
 
 -- Places.
-
-unfoldable pub placeOf : MultiPortGraph → SubportIndex → Place
-placeOf m s =
-    record {
-      node = ownerOf (m .graph) (s .port .0);
-      side = sideOf (seen m (s .port .0));
-      pos = positionOf (m .graph) (s .port .0);
-      offset = s .«subport_offset»;
-    }
 
 abbrev pub wirePlaces : MultiPortGraph → SubportLink → Wire
 wirePlaces m w = record { out = placeOf m (w .from); into = placeOf m (w .to) }

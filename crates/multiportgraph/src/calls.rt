@@ -3,6 +3,7 @@ use crate::ends::SeenPort;
 use crate::marks::marked;
 use crate::multiportgraph::AddAnswer;
 use crate::multiportgraph::CutAnswer;
+use crate::multiportgraph::EndAnswer;
 use crate::multiportgraph::LinkAnswer;
 use crate::multiportgraph::MultiPortGraph;
 use crate::multiportgraph::NodeAdded;
@@ -15,6 +16,8 @@ use crate::named::NamedLink;
 use crate::named::end_named;
 use crate::named::link_named;
 use crate::named::read_in;
+use crate::reads::place_in;
+use crate::reads::plain_in;
 use crate::reads::seen_in;
 use crate::reads::wire_in;
 use portgraph::direction::Direction;
@@ -35,7 +38,20 @@ ghost use Rattle.portgraph.specs.Tables.{linkCount};
 ghost use Rattle.multiportgraph.specs.Calls.{addBlock, linkSub, cutPort, cutSub, subportLink, visibleNodes, visiblePorts, visibleLinks};
 ghost use Rattle.multiportgraph.specs.Inner.{MultiWf};
 ghost use Rattle.multiportgraph.specs.Graph.{emptyGraph};
-ghost use Rattle.multiportgraph.specs.Answers.{addNumbers, linkNumbers, cutNumbers};
+ghost use Rattle.multiportgraph.specs.Answers.{addNumbers, linkNumbers, cutNumbers, unplaced, unplacedNumbers};
+
+impl CutAnswer {
+    // The same without the place.
+    pub fn unplaced(self) -> EndAnswer
+        ensures { λ r. ⌜ (r ≡ unplaced self) × (unplacedNumbers r ≡ unplacedNumbers (unplaced self)) ⌝ }
+    {
+        match self {
+            CutAnswer::Found(end, _) => EndAnswer::Found(end),
+            CutAnswer::Nothing => EndAnswer::Nothing,
+            CutAnswer::Refused(refusal) => EndAnswer::Refused(refusal),
+        }
+    }
+}
 
 impl MultiPortGraph {
     // The empty graph.
@@ -102,7 +118,7 @@ impl MultiPortGraph {
         less(self.graph.link_count, self.copy_node_count)
     }
 
-    // What a subport is linked with.
+    // What a subport is linked with, and where that stands.
     pub fn subport_link(self, subport: SubportIndex) -> CutAnswer
         requires { ⌜ MultiWf self ⌝ }
         ensures { λ r. ⌜ (r ≡ subportLink self (subport .port .0) (subport .«subport_offset»)) × (cutNumbers r ≡ cutNumbers (subportLink self (subport .port .0) (subport .«subport_offset»))) ⌝ }
@@ -126,7 +142,7 @@ impl MultiPortGraph {
         }
     }
 
-    // Cuts the wire at a subport, if there is one, and answers the far end.
+    // Cuts the wire at a subport, if there is one, and answers the far end, and where it stood.
     pub fn unlink_subport(mut self, subport: SubportIndex) -> PortUnlinked
         requires { ⌜ MultiWf self ⌝ }
         ensures { λ r. ⌜ (r ≡ cutSub self (subport .port .0) (subport .«subport_offset»)) × (cutNumbers (r .answer) ≡ cutNumbers (cutSub self (subport .port .0) (subport .«subport_offset») .answer)) ⌝ }
@@ -159,7 +175,8 @@ impl MultiPortGraph {
         }
     }
 
-    // Cuts every wire at a port. A split port loses its hidden node and answers itself.
+    // Cuts every wire at a port. A split port loses its hidden node and answers itself, with its own place; another one answers the
+    // inner far port, with the place of its visible end.
     pub fn unlink_port(mut self, port: PortIndex) -> PortUnlinked
         requires { ⌜ MultiWf self ⌝ }
         ensures { λ r. ⌜ (r ≡ cutPort self (port .0)) × (cutNumbers (r .answer) ≡ cutNumbers (cutPort self (port .0) .answer)) ⌝ }
@@ -175,29 +192,30 @@ impl MultiPortGraph {
             },
             SeenPort::Visible(_, direction) => {
                 if marked(&self.multiport, wide(port.0)) {
+                    let place = place_in(&self.graph.port_meta, port.0);
                     let after = self.drop_copy(port.0, direction);
                     return PortUnlinked {
                         graph: after,
-                        answer: CutAnswer::Found(SubportIndex {
-                            port: port,
-                            subport_offset: 0,
-                        }),
+                        answer: CutAnswer::Found(
+                            SubportIndex {
+                                port: port,
+                                subport_offset: 0,
+                            },
+                            place,
+                        ),
                     };
                 }
+                let answer = plain_in(
+                    &self.graph.port_link,
+                    &self.graph.port_meta,
+                    &self.copy_node,
+                    port.0,
+                );
                 let far = cut(&mut self.graph.port_link, wide(port.0));
                 self.graph.link_count = without_link(self.graph.link_count, far);
-                if far == 0 {
-                    return PortUnlinked {
-                        graph: self,
-                        answer: CutAnswer::Nothing,
-                    };
-                }
                 PortUnlinked {
                     graph: self,
-                    answer: CutAnswer::Found(SubportIndex {
-                        port: PortIndex(far - 1),
-                        subport_offset: 0,
-                    }),
+                    answer: answer,
                 }
             }
         }

@@ -1,6 +1,6 @@
 // The calls over lent tables, for a run that copies none of them: adding, linking and cutting, and what a subport is linked with.
 use crate::multiportgraph::AddAnswer;
-use crate::multiportgraph::CutAnswer;
+use crate::multiportgraph::EndAnswer;
 use crate::multiportgraph::LinkAnswer;
 use crate::multiportgraph::Refusal;
 use crate::multiportgraph::SubportIndex;
@@ -9,7 +9,7 @@ use crate::named::NamedLink;
 use crate::named::end_named;
 use crate::named::link_named;
 use crate::named::read_in;
-use crate::reads::wire_in;
+use crate::reads::wire_end_in;
 use portgraph::index::FREE_LISTS;
 use portgraph::index::NODE_SLOTS;
 use portgraph::index::PORT_SLOTS;
@@ -25,6 +25,7 @@ use portgraph::tables::without_link;
 ghost use mathlib.Core.Path.{_≡_};
 ghost use Prim.Native.Nat.{_-_};
 ghost use Rattle.multiportgraph.specs.Calls.{addedAs, addBlock, cutSub, linkSub, subportLink};
+ghost use Rattle.multiportgraph.specs.Answers.{unplaced};
 ghost use Rattle.multiportgraph.specs.Inner.{MultiWf};
 ghost use Rattle.multiportgraph.specs.MultiLent.{multiIn, noHeld, heldCounts, heldLinks};
 
@@ -48,7 +49,7 @@ pub struct LinkedIn {
 
 pub struct CutIn {
     pub held: Held,
-    pub answer: CutAnswer,
+    pub answer: EndAnswer,
 }
 
 // The numbers of the empty graph.
@@ -154,7 +155,7 @@ pub fn add_in(
     }
 }
 
-// MultiPortGraph::subport_link over lent tables.
+// MultiPortGraph::subport_link over lent tables, without the place.
 pub fn subport_link_in<'a>(
     nodes: &'a [u32; NODE_WORDS],
     links: &'a [u32; PORT_SLOTS],
@@ -164,17 +165,17 @@ pub fn subport_link_in<'a>(
     flags: &'a [bool; NODE_SLOTS],
     held: Held,
     subport: SubportIndex,
-) -> CutAnswer
+) -> EndAnswer
     requires { ⌜ MultiWf (multiIn (now nodes) (now links) (now owners) (now heads) (now marks) (now flags) held) ⌝ }
-    ensures { λ r. ⌜ r ≡ subportLink (multiIn (now (nodes .entry)) (now (links .entry)) (now (owners .entry)) (now (heads .entry)) (now (marks .entry)) (now (flags .entry)) held) (subport .port .0) (subport .«subport_offset») ⌝ }
+    ensures { λ r. ⌜ r ≡ unplaced (subportLink (multiIn (now (nodes .entry)) (now (links .entry)) (now (owners .entry)) (now (heads .entry)) (now (marks .entry)) (now (flags .entry)) held) (subport .port .0) (subport .«subport_offset»)) ⌝ }
 {
     match end_named(marks, links, owners, flags, subport) {
-        NamedEnd::At(inner) => wire_in(links, owners, flags, inner),
-        NamedEnd::Refused(refusal) => CutAnswer::Refused(refusal),
+        NamedEnd::At(inner) => wire_end_in(links, owners, flags, inner),
+        NamedEnd::Refused(refusal) => EndAnswer::Refused(refusal),
     }
 }
 
-// MultiPortGraph::unlink_subport over lent tables.
+// MultiPortGraph::unlink_subport over lent tables, without the place.
 pub fn cut_sub_in(
     nodes: &mut [u32; NODE_WORDS],
     links: &mut [u32; PORT_SLOTS],
@@ -187,11 +188,11 @@ pub fn cut_sub_in(
 ) -> CutIn
     requires { ⌜ MultiWf (multiIn (now nodes) (now links) (now owners) (now heads) (now marks) (now flags) held) ⌝ }
     ensures { λ r. ⌜ (multiIn (now (nodes .exit)) (now (links .exit)) (now (owners .exit)) (now (heads .exit)) (now (marks .exit)) (now (flags .exit)) (r .held) ≡ cutSub (multiIn (now (nodes .entry)) (now (links .entry)) (now (owners .entry)) (now (heads .entry)) (now (marks .entry)) (now (flags .entry)) held) (subport .port .0) (subport .«subport_offset») .graph)
-        × (r .answer ≡ cutSub (multiIn (now (nodes .entry)) (now (links .entry)) (now (owners .entry)) (now (heads .entry)) (now (marks .entry)) (now (flags .entry)) held) (subport .port .0) (subport .«subport_offset») .answer) ⌝ }
+        × (r .answer ≡ unplaced (cutSub (multiIn (now (nodes .entry)) (now (links .entry)) (now (owners .entry)) (now (heads .entry)) (now (marks .entry)) (now (flags .entry)) held) (subport .port .0) (subport .«subport_offset») .answer)) ⌝ }
 {
     match end_named(marks, links, owners, flags, subport) {
         NamedEnd::At(inner) => {
-            let answer = wire_in(links, owners, flags, inner);
+            let answer = wire_end_in(links, owners, flags, inner);
             let far = cut(links, wide(inner));
             CutIn {
                 held: with_links(held, without_link(held.counts.link_count, far)),
@@ -200,7 +201,7 @@ pub fn cut_sub_in(
         }
         NamedEnd::Refused(refusal) => CutIn {
             held: held,
-            answer: CutAnswer::Refused(refusal),
+            answer: EndAnswer::Refused(refusal),
         },
     }
 }

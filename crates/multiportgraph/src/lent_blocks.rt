@@ -11,7 +11,7 @@ use crate::lent_copies::unsplit_range_in;
 use crate::marks::flagged;
 use crate::marks::lay_marks;
 use crate::marks::marked;
-use crate::multiportgraph::CutAnswer;
+use crate::multiportgraph::EndAnswer;
 use crate::multiportgraph::Refusal;
 use crate::multiportgraph::RemoveAnswer;
 use crate::multiportgraph::SetAnswer;
@@ -45,6 +45,7 @@ ghost use lib.Seq.{sets};
 ghost use Rattle.portgraph.specs.Limits.{portSlots, nodePorts};
 ghost use Rattle.portgraph.specs.Resize.{BlockFits};
 ghost use Rattle.multiportgraph.specs.Calls.{cutPort, removeBlock, setAs, setCounts, movesTold};
+ghost use Rattle.multiportgraph.specs.Answers.{unplaced};
 ghost use Rattle.multiportgraph.specs.Inner.{MultiWf};
 ghost use Rattle.multiportgraph.specs.MultiLent.{multiIn, FitsIf, Sound, Resizes, settled};
 ghost use Rattle.multiportgraph.specs.HiddenNodes.{marksMoved, copiesIn, copiesDropped, enough};
@@ -59,7 +60,7 @@ pub struct SetIn {
     pub answer: SetAnswer,
 }
 
-// MultiPortGraph::unlink_port over lent tables.
+// MultiPortGraph::unlink_port over lent tables, without the place.
 pub fn cut_port_in(
     nodes: &mut [u32; NODE_WORDS],
     links: &mut [u32; PORT_SLOTS],
@@ -72,23 +73,23 @@ pub fn cut_port_in(
 ) -> CutIn
     requires { ⌜ MultiWf (multiIn (now nodes) (now links) (now owners) (now heads) (now marks) (now flags) held) ⌝ }
     ensures { λ r. ⌜ (multiIn (now (nodes .exit)) (now (links .exit)) (now (owners .exit)) (now (heads .exit)) (now (marks .exit)) (now (flags .exit)) (r .held) ≡ cutPort (multiIn (now (nodes .entry)) (now (links .entry)) (now (owners .entry)) (now (heads .entry)) (now (marks .entry)) (now (flags .entry)) held) (port .0) .graph)
-        × (r .answer ≡ cutPort (multiIn (now (nodes .entry)) (now (links .entry)) (now (owners .entry)) (now (heads .entry)) (now (marks .entry)) (now (flags .entry)) held) (port .0) .answer) ⌝ }
+        × (r .answer ≡ unplaced (cutPort (multiIn (now (nodes .entry)) (now (links .entry)) (now (owners .entry)) (now (heads .entry)) (now (marks .entry)) (now (flags .entry)) held) (port .0) .answer)) ⌝ }
 {
     match seen_in(owners, flags, port.0) {
         SeenPort::Dead => CutIn {
             held: held,
-            answer: CutAnswer::Refused(Refusal::UnknownPort(port)),
+            answer: EndAnswer::Refused(Refusal::UnknownPort(port)),
         },
         SeenPort::Hidden => CutIn {
             held: held,
-            answer: CutAnswer::Refused(Refusal::HiddenPort(port)),
+            answer: EndAnswer::Refused(Refusal::HiddenPort(port)),
         },
         SeenPort::Visible(_, _) => {
             if marked(marks, wide(port.0)) {
                 let after = unsplit_in(nodes, links, owners, heads, marks, flags, held, port.0);
                 return CutIn {
                     held: after,
-                    answer: CutAnswer::Found(SubportIndex {
+                    answer: EndAnswer::Found(SubportIndex {
                         port: port,
                         subport_offset: 0,
                     }),
@@ -99,12 +100,12 @@ pub fn cut_port_in(
             if far == 0 {
                 return CutIn {
                     held: left,
-                    answer: CutAnswer::Nothing,
+                    answer: EndAnswer::Nothing,
                 };
             }
             CutIn {
                 held: left,
-                answer: CutAnswer::Found(SubportIndex {
+                answer: EndAnswer::Found(SubportIndex {
                     port: PortIndex(far - 1),
                     subport_offset: 0,
                 }),

@@ -91,7 +91,22 @@ pub struct PortsLinked {
     pub answer: LinkAnswer,
 }
 
+// Where a port of a block stands: the block, the side, and the position on that side.
+pub struct PortPlace {
+    pub node: NodeIndex,
+    pub side: Direction,
+    pub position: u16,
+}
+
 pub enum CutAnswer {
+    // The end found, and where it stands; for an inner port, where its visible end does.
+    Found(SubportIndex, PortPlace),
+    Nothing,
+    Refused(Refusal),
+}
+
+// The same without the place, as the calls over lent tables answer.
+pub enum EndAnswer {
     Found(SubportIndex),
     Nothing,
     Refused(Refusal),
@@ -102,8 +117,9 @@ pub struct PortUnlinked {
     pub answer: CutAnswer,
 }
 
-// A wire as a walk gives it: the two subports that are linked.
+// A wire as a walk gives it: the two subports that are linked, and where the second one stands.
 pub struct SubportLink {
     pub from: SubportIndex,
     pub to: SubportIndex,
+    pub place: PortPlace,
 }

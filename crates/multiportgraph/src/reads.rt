@@ -1,13 +1,17 @@
-// Leaves that read lent tables: what a port number is, the subports of a split port, the ends, and what an end is linked with.
+// Leaves that read lent tables: what a port number is, the subports of a split port, the ends, what an end is linked with, and where
+// that stands.
 // No leaf takes the graph, and none asks anything of its port.
 use crate::ends::EndFound;
 use crate::ends::SeenPort;
 use crate::marks::flagged;
 use crate::marks::marked;
 use crate::multiportgraph::CutAnswer;
+use crate::multiportgraph::EndAnswer;
+use crate::multiportgraph::PortPlace;
 use crate::multiportgraph::SubportIndex;
 use portgraph::direction::Direction;
 use portgraph::index::NODE_SLOTS;
+use portgraph::index::NodeIndex;
 use portgraph::index::PORT_SLOTS;
 use portgraph::index::PortIndex;
 use portgraph::numbers::less;
@@ -19,7 +23,21 @@ ghost use mathlib.Core.Path.{_≡_};
 ghost use Prim.Native.Nat.{_+_, _≤_, min};
 ghost use Rattle.portgraph.specs.Limits.{portSlots};
 ghost use Rattle.multiportgraph.specs.Forms.{seenAs, endAs, lowestUnlinked};
-ghost use Rattle.multiportgraph.specs.Reads.{farIn, ownerIn, seenIn, runUp, runDown, countBeside, firstBeside, endBeside, subportsIn, firstIn, endIn, copyBeside, subportIn, wireIn};
+ghost use Rattle.multiportgraph.specs.Reads.{farIn, ownerIn, seenIn, runUp, runDown, countBeside, firstBeside, endBeside, subportsIn, firstIn, endIn, copyBeside, subportIn, noPlace, placeIn, wireIn, wireEndIn, plainIn, leapDown, rowBelow};
+
+// So many slots are leapt over at once.
+const LEAP: usize = 32;
+
+// The place that a port which is not live is given.
+fn nowhere() -> PortPlace
+    ensures { λ r. ⌜ r ≡ noPlace ⌝ }
+{
+    PortPlace {
+        node: NodeIndex(0),
+        side: Direction::Incoming,
+        position: 0,
+    }
+}
 
 // The slot that a slot is linked with; 0 for none.
 pub(crate) fn far_in(links: &[u32; PORT_SLOTS], slot: usize) -> u32
@@ -94,6 +112,29 @@ fn run_down(owners: &[u32; PORT_SLOTS], owner: u32, from: usize) -> usize
         k += 1;
     }
     k
+}
+
+// How many leaps below `from` in a row end at a slot of this owner.
+fn leap_down(owners: &[u32; PORT_SLOTS], owner: u32, from: usize) -> usize
+    ensures { λ r. ⌜ r ≡ leapDown (now (owners .entry)) owner from ⌝ }
+{
+    let most = within(from) / LEAP;
+    let mut k: usize = 0;
+    while k < most {
+        if at(owners, from - LEAP * (k + 1)) != owner {
+            return k;
+        }
+        k += 1;
+    }
+    k
+}
+
+// The same as `run_down` where the slots of an owner lie in a row: most of them are leapt over.
+fn row_below(owners: &[u32; PORT_SLOTS], owner: u32, from: usize) -> usize
+    ensures { λ r. ⌜ r ≡ rowBelow (now (owners .entry)) owner from ⌝ }
+{
+    let leapt = LEAP * leap_down(owners, owner, from);
+    leapt + run_down(owners, owner, from - leapt)
 }
 
 // How many subports lie beside a copy port.
@@ -228,7 +269,25 @@ pub(crate) fn subport_in<'a>(
     }
 }
 
-// What an end is linked with.
+// Where a port of a block stands.
+pub(crate) fn place_in(owners: &[u32; PORT_SLOTS], port: u32) -> PortPlace
+    ensures { λ r. ⌜ r ≡ placeIn (now (owners .entry)) port ⌝ }
+{
+    let owner = at(owners, wide(port));
+    let PortEntry::Port(meta) = PortEntry::read(owner) else {
+        return nowhere();
+    };
+    let node = meta.node;
+    let direction = meta.direction;
+    let position = row_below(owners, owner, wide(port));
+    PortPlace {
+        node: node,
+        side: direction,
+        position: position as u16,
+    }
+}
+
+// What an end is linked with, and where that stands.
 pub(crate) fn wire_in<'a>(
     links: &'a [u32; PORT_SLOTS],
     owners: &'a [u32; PORT_SLOTS],
@@ -240,7 +299,48 @@ pub(crate) fn wire_in<'a>(
     if at(links, wide(port)) == 0 {
         return CutAnswer::Nothing;
     }
-    CutAnswer::Found(subport_in(links, owners, flags, far_in(links, wide(port))))
+    let end = subport_in(links, owners, flags, far_in(links, wide(port)));
+    let far = end.port;
+    CutAnswer::Found(end, place_in(owners, far.0))
+}
+
+// What an end is linked with.
+pub(crate) fn wire_end_in<'a>(
+    links: &'a [u32; PORT_SLOTS],
+    owners: &'a [u32; PORT_SLOTS],
+    flags: &'a [bool; NODE_SLOTS],
+    port: u32,
+) -> EndAnswer
+    ensures { λ r. ⌜ r ≡ wireEndIn (now (links .entry)) (now (owners .entry)) (now (flags .entry)) port ⌝ }
+{
+    if at(links, wide(port)) == 0 {
+        return EndAnswer::Nothing;
+    }
+    EndAnswer::Found(subport_in(links, owners, flags, far_in(links, wide(port))))
+}
+
+// What cutting an unsplit port answers: its inner far port, and where the visible end of that stands.
+pub(crate) fn plain_in<'a>(
+    links: &'a [u32; PORT_SLOTS],
+    owners: &'a [u32; PORT_SLOTS],
+    flags: &'a [bool; NODE_SLOTS],
+    port: u32,
+) -> CutAnswer
+    ensures { λ r. ⌜ r ≡ plainIn (now (links .entry)) (now (owners .entry)) (now (flags .entry)) port ⌝ }
+{
+    if at(links, wide(port)) == 0 {
+        return CutAnswer::Nothing;
+    }
+    let inner = far_in(links, wide(port));
+    let end = subport_in(links, owners, flags, inner);
+    let far = end.port;
+    CutAnswer::Found(
+        SubportIndex {
+            port: PortIndex(inner),
+            subport_offset: 0,
+        },
+        place_in(owners, far.0),
+    )
 }
 
 // The lowest offset from 0 whose port, counted from `first`, has no link; `count` where all have.

@@ -1,14 +1,15 @@
 // The first link that a walk finds from a port and offset on, over lent tables: one offset, one port, a row of ports, a block.
 use crate::ends::SeenPort;
 use crate::marks::marked;
-use crate::multiportgraph::CutAnswer;
+use crate::multiportgraph::EndAnswer;
 use crate::multiportgraph::SubportIndex;
 use crate::multiportgraph::SubportLink;
 use crate::reads::first_in;
 use crate::reads::owner_in;
+use crate::reads::place_in;
 use crate::reads::seen_in;
 use crate::reads::subports_in;
-use crate::reads::wire_in;
+use crate::reads::wire_end_in;
 use portgraph::direction::Direction;
 use portgraph::index::NODE_SLOTS;
 use portgraph::index::NodeIndex;
@@ -139,19 +140,21 @@ pub(crate) fn link_at<'a>(
         × (linkPort port r ≡ port) ⌝ }
 {
     if slot < PORT_SLOTS {
-        let wire = wire_in(links, owners, flags, slot as u32);
+        let wire = wire_end_in(links, owners, flags, slot as u32);
         return match wire {
-            CutAnswer::Nothing => LinkFound::None,
-            CutAnswer::Refused(_) => LinkFound::None,
-            CutAnswer::Found(to) => {
+            EndAnswer::Nothing => LinkFound::None,
+            EndAnswer::Refused(_) => LinkFound::None,
+            EndAnswer::Found(to) => {
                 let far = to.port;
                 if passes(owners, flags, only, far.0) {
+                    let place = place_in(owners, far.0);
                     return LinkFound::Link(SubportLink {
                         from: SubportIndex {
                             port: PortIndex(port),
                             subport_offset: offset,
                         },
                         to: to,
+                        place: place,
                     });
                 }
                 LinkFound::None

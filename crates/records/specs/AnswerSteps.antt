@@ -1,5 +1,5 @@
 -- What the requests' tests say, and numbers that fit a word.
-use mathlib.Core.Path.{_≡_, refl, sym, subst}
+use mathlib.Core.Path.{_≡_, refl, sym, ap, subst, _∙_}
 use mathlib.Core.Bool.{Bool, true, false, cond}
 use mathlib.Core.List.{List, [], _∷_}
 use Prim.Native.Nat.{ℕ, _+_, _*_, _≤_, _<_}
@@ -32,13 +32,16 @@ use Rattle.multiportgraph.specs.PrepareSteps.{lower-wf}
 use Rattle.multiportgraph.specs.declared.multiportgraph.PortsSet.{PortsSet}
 use Rattle.multiportgraph.specs.declared.multiportgraph.MultiPortGraph.{MultiPortGraph}
 use Rattle.multiportgraph.specs.declared.multiportgraph.Refusal.{Refusal}
-use Rattle.multiportgraph.specs.declared.multiportgraph.Refusal.the-variants.{TooManyPorts, HiddenNode, IncompatibleDirections}
+use Rattle.multiportgraph.specs.declared.multiportgraph.Refusal.the-variants.{BadOffset, TooManyPorts, UnknownNode, HiddenNode, MovesTooShort, UnknownPort, HiddenPort, UnknownOffset, NoRoom, UnknownSecondPort, IncompatibleDirections, AlreadyLinked}
+use Rattle.multiportgraph.specs.declared.multiportgraph.CutAnswer.{CutAnswer}
+use Rattle.multiportgraph.specs.declared.multiportgraph.CutAnswer.the-variants as cutting
+use Rattle.multiportgraph.specs.declared.multiportgraph.EndAnswer.{EndAnswer}
 use Rattle.multiportgraph.specs.declared.multiportgraph.SetAnswer.{SetAnswer}
 use Rattle.multiportgraph.specs.declared.multiportgraph.SetAnswer.the-variants as resize
 use Rattle.records.specs.Words.{wordAt, requestAt}
-use Rattle.records.specs.Run.{Asked, call, linkOf, counts, refused, allZero, offsets, asked, askedBy, numbers, five}
+use Rattle.records.specs.Run.{Asked, call, linkOf, counts, refused, allZero, offsets, asked, askedBy, withoutPlace, numbers, five}
 use Rattle.records.specs.Forms.{EventsFit}
-use Rattle.multiportgraph.specs.Answers.{refusalNumbers}
+use Rattle.multiportgraph.specs.Answers.{refusalNumbers, cutNumbers, unplaced, unplacedNumbers}
 use Rattle.multiportgraph.specs.HiddenNodes.{enough}
 use Rattle.multiportgraph.specs.Cases.{setRefused, setMeta}
 use Rattle.multiportgraph.specs.CaseLaws.{set-cases}
@@ -202,6 +205,29 @@ told f x y r e h = rw h e
 pub told-side : (x : Refusal) (p q : PortIndex) (d : Direction) (s : ℕ) (r : List ℕ) → r ≡ 12 ∷ p .0 ∷ q .0 ∷ s ∷ 0 ∷ [] → s ≡ sideNumber d → x ≡ IncompatibleDirections p q d
     → r ≡ five (refusalNumbers x)
 told-side x p q d s r e f h = rw (h, ← f) e
+
+-- what a record keeps of an answer is the answer without its place
+refusal-kept : (r : Refusal) → refusalNumbers r ≡ withoutPlace (refusalNumbers r)
+refusal-kept BadOffset = refl
+refusal-kept TooManyPorts = refl
+refusal-kept UnknownNode = refl
+refusal-kept HiddenNode = refl
+refusal-kept MovesTooShort = refl
+refusal-kept (UnknownPort p) = refl
+refusal-kept (HiddenPort p) = refl
+refusal-kept (UnknownOffset p) = refl
+refusal-kept NoRoom = refl
+refusal-kept (UnknownSecondPort p) = refl
+refusal-kept (IncompatibleDirections p q d) = refl
+refusal-kept (AlreadyLinked p) = refl
+
+unplaced-kept : (a : CutAnswer) → unplacedNumbers (unplaced a) ≡ withoutPlace (cutNumbers a)
+unplaced-kept (cutting.Found s x) = refl
+unplaced-kept cutting.Nothing = refl
+unplaced-kept (cutting.Refused r) = refusal-kept r
+
+pub cut-told : {ws : List ℕ} {v : EndAnswer} (a : CutAnswer) → ws ≡ five (unplacedNumbers v) → v ≡ unplaced a → ws ≡ five (withoutPlace (cutNumbers a))
+cut-told a t e = t ∙ (ap (λ (x : EndAnswer). five (unplacedNumbers x)) e ∙ ap five (unplaced-kept a))
 
 pub counts-told : (m : MultiPortGraph) (n p l : ℕ) (r : List ℕ) → n ≡ visibleNodes m → p ≡ visiblePorts m → l ≡ visibleLinks m → r ≡ 0 ∷ n ∷ p ∷ l ∷ 0 ∷ []
     → r ≡ five (numbers m counts)

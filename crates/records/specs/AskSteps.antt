@@ -2,18 +2,20 @@
 use mathlib.Core.Path.{_≡_, refl, sym, ap, subst, _∙_}
 use mathlib.Core.List.{List, [], _∷_}
 use Prim.Native.Nat.{ℕ, _<_}
-use Rattle.multiportgraph.specs.Calls.{setCounts, visibleNodes, visiblePorts, visibleLinks}
-use Rattle.theorems.specs.Book.{setCall}
+use Rattle.multiportgraph.specs.Calls.{setCounts, subportLink, cutPort, cutSub, visibleNodes, visiblePorts, visibleLinks}
+use Rattle.theorems.specs.Book.{setCall, cutCall, cutSubCall}
 use Rattle.multiportgraph.specs.Inner.{MultiWf}
 use Rattle.theorems.specs.CallLaws.{empty-kept, step-kept}
 use Rattle.multiportgraph.specs.declared.multiportgraph.MultiPortGraph.{MultiPortGraph}
 use Rattle.multiportgraph.specs.declared.multiportgraph.PortsSet.{PortsSet}
+use Rattle.multiportgraph.specs.declared.multiportgraph.PortUnlinked.{PortUnlinked}
 use Rattle.multiportgraph.specs.declared.multiportgraph.SetAnswer.{SetAnswer}
+use Rattle.multiportgraph.specs.declared.multiportgraph.EndAnswer.{EndAnswer}
 use Rattle.records.specs.Run.{Asked, call, linkOf, counts, refused, after, numbers, five, Answered}
 use Rattle.records.specs.Forms.{EventsFit}
-use Rattle.records.specs.AnswerSteps.{events-fit, counts-told}
+use Rattle.records.specs.AnswerSteps.{events-fit, cut-told, counts-told}
 use Rattle.multiportgraph.specs.Graph.{emptyGraph}
-use Rattle.multiportgraph.specs.Answers.{setNumbers}
+use Rattle.multiportgraph.specs.Answers.{setNumbers, unplaced, unplacedNumbers}
 use Rattle.multiportgraph.specs.HiddenNodes.{enough}
 
 after-kept : {m : MultiPortGraph} → MultiWf m → (x : Asked) → MultiWf (after m x)
@@ -43,6 +45,24 @@ empty-wf m e = rw e empty-kept
 pub set-wf : (m : MultiPortGraph) (n i o room : ℕ) (r : PortsSet) → MultiWf m → r ≡ setCounts m n i o room → MultiWf (r .graph)
 set-wf m n i o room r w e = rw e (step-kept m (setCall n i o room) w)
 
+pub cut-wf : (m : MultiPortGraph) (p : ℕ) (r : PortUnlinked) → MultiWf m → r ≡ cutPort m p → MultiWf (r .graph)
+cut-wf m p r w e = rw e (step-kept m (cutCall p) w)
+
+pub cut-sub-wf : (m : MultiPortGraph) (p o : ℕ) (r : PortUnlinked) → MultiWf m → r ≡ cutSub m p o → MultiWf (r .graph)
+cut-sub-wf m p o r w e = rw e (step-kept m (cutSubCall p o) w)
+
 -- the event count of a resize fits a word
 pub set-fits : (m : MultiPortGraph) (n i o room : ℕ) {a : SetAnswer} → a ≡ setCounts m n i o room .answer → room < 4294967296 → EventsFit a
 set-fits m n i o room e small = rw e (events-fit m n i o room small)
+
+-- What is told of a cut, or of what a subport is linked with, is the answer without its place.
+module _ {m m′ : MultiPortGraph} {ws : List ℕ} {x : Asked} {v : EndAnswer} (w : MultiWf m) where
+  pub cut-answered : {p : ℕ} → x ≡ call (cutCall p) → ws ≡ five (unplacedNumbers v) → v ≡ unplaced (cutPort m p .answer) → m′ ≡ cutPort m p .graph → Answered m x ws m′
+  cut-answered {p} e t u g = answered w e (cut-told (cutPort m p .answer) t u) g
+
+  pub cut-sub-answered : {p o : ℕ} → x ≡ call (cutSubCall p o) → ws ≡ five (unplacedNumbers v) → v ≡ unplaced (cutSub m p o .answer) → m′ ≡ cutSub m p o .graph → Answered m x ws m′
+  cut-sub-answered {p} {o} e t u g = answered w e (cut-told (cutSub m p o .answer) t u) g
+
+module _ {m : MultiPortGraph} {ws : List ℕ} {x : Asked} {v : EndAnswer} (w : MultiWf m) where
+  pub link-of-answered : {p o : ℕ} → x ≡ linkOf p o → ws ≡ five (unplacedNumbers v) → v ≡ unplaced (subportLink m p o) → Answered m x ws m
+  link-of-answered {p} {o} e t u = answered w e (cut-told (subportLink m p o) t u) refl

@@ -1,5 +1,5 @@
 -- The move list of a run is long enough for every node, so refusal 6 is never given in a run.
-use mathlib.Core.Path.{_≡_, refl, ap}
+use mathlib.Core.Path.{_≡_, refl, sym, ap, _∙_}
 use mathlib.Core.Bool.{Bool, true, false, cond}
 use mathlib.Core.List.{List, [], _∷_}
 use Prim.Native.Nat.{ℕ}
@@ -25,7 +25,7 @@ use Rattle.multiportgraph.specs.declared.multiportgraph.LinkAnswer.the-variants
 use Rattle.multiportgraph.specs.declared.multiportgraph.CutAnswer.{CutAnswer}
 use Rattle.multiportgraph.specs.declared.multiportgraph.CutAnswer.the-variants as cutting
 use Rattle.records.specs.Words.{Request}
-use Rattle.records.specs.Run.{Asked, call, linkOf, counts, refused, allZero, goodOffsets, asked, askedBy, numbers, callsOf}
+use Rattle.records.specs.Run.{Asked, call, linkOf, counts, refused, allZero, goodOffsets, asked, askedBy, withoutPlace, recorded, numbers, callsOf}
 use Rattle.multiportgraph.specs.HiddenNodes.{enough}
 use Rattle.multiportgraph.specs.Answers.{refusalNumbers, cutNumbers}
 use Rattle.theorems.specs.Conditions.{AddRefused, RemoveRefused, SetRefused, CutRefused, SubRefused, LinkRefused, CleanRefused, LinkSubRefused, RefusedBy, Condition}
@@ -46,12 +46,16 @@ refusal-six (UnknownSecondPort p) h = absurd (omega arith)
 refusal-six (IncompatibleDirections p q d) h = absurd (omega arith)
 refusal-six (AlreadyLinked p) h = absurd (omega arith)
 
-cut-six : (a : CutAnswer) → getD (cutNumbers a) 0 0 ≡ 6 → a ≡ cutting.Refused MovesTooShort
-cut-six (cutting.Found s) h = absurd (omega arith)
-cut-six cutting.Nothing h = absurd (omega arith)
-cut-six (cutting.Refused r) h = ap cutting.Refused (refusal-six r h)
+first-kept : (l : List ℕ) → getD (withoutPlace l) 0 0 ≡ getD l 0 0
+first-kept [] = refl
+first-kept (x ∷ l) = refl
 
-answer-six : (c : Call) (v : AnswerOf c) → getD (numbersOf c v) 0 0 ≡ 6 → RefusedBy c v MovesTooShort
+cut-six : (a : CutAnswer) → getD (withoutPlace (cutNumbers a)) 0 0 ≡ 6 → a ≡ cutting.Refused MovesTooShort
+cut-six (cutting.Found s x) h = absurd (omega arith)
+cut-six cutting.Nothing h = absurd (omega arith)
+cut-six (cutting.Refused r) h = ap cutting.Refused (refusal-six r (sym (first-kept (refusalNumbers r)) ∙ h))
+
+answer-six : (c : Call) (v : AnswerOf c) → getD (recorded c (numbersOf c v)) 0 0 ≡ 6 → RefusedBy c v MovesTooShort
 answer-six (book.addCall i o) (add.Added n p) h = absurd (omega arith)
 answer-six (book.addCall i o) (add.Refused r) h = ap add.Refused (refusal-six r h)
 answer-six (book.removeCall n) remove.Removed h = absurd (omega arith)

@@ -4,9 +4,9 @@ use mathlib.Core.Bool.{Bool, true, false, cond}
 use mathlib.Core.List.{List, [], _∷_, _++_}
 use Prim.Native.Nat.{ℕ, _%_}
 use lib.Dec.{eqb}
-use lib.ListN.{getD, length}
+use lib.ListN.{getD, length, take}
 use Rattle.multiportgraph.specs.Calls.{subportLink, visibleNodes, visiblePorts, visibleLinks}
-use Rattle.theorems.specs.Book.{Call, addCall, removeCall, setCall, linkCall, linkSubCall, cutCall, cutSubCall}
+use Rattle.theorems.specs.Book.{Call, addCall, removeCall, setCall, linkCall, linkCleanCall, linkSubCall, cutCall, cutSubCall}
 use Rattle.theorems.specs.History.{step, numbersOf}
 use Rattle.multiportgraph.specs.Inner.{MultiWf}
 use Rattle.multiportgraph.specs.declared.multiportgraph.MultiPortGraph.{MultiPortGraph}
@@ -65,10 +65,24 @@ after m (linkOf p o) = m
 after m counts = m
 after m refused = m
 
+-- a record has no room for the place of an end that is found: the layout keeps the four numbers before it
+abbrev pub withoutPlace : List ℕ → List ℕ
+withoutPlace l = take 4 l
+
+abbrev pub recorded : Call → List ℕ → List ℕ
+recorded (addCall i o) l = l
+recorded (removeCall n) l = l
+recorded (setCall n i o room) l = l
+recorded (linkCall a b) l = l
+recorded (linkCleanCall a b) l = l
+recorded (linkSubCall p o q r) l = l
+recorded (cutCall p) l = withoutPlace l
+recorded (cutSubCall p o) l = withoutPlace l
+
 -- 0 or the refusal, then values
 abbrev pub numbers : MultiPortGraph → Asked → List ℕ
-numbers m (call x) = numbersOf x (step m x .answer)
-numbers m (linkOf p o) = cutNumbers (subportLink m p o)
+numbers m (call x) = recorded x (numbersOf x (step m x .answer))
+numbers m (linkOf p o) = withoutPlace (cutNumbers (subportLink m p o))
 numbers m counts = 0 ∷ visibleNodes m ∷ visiblePorts m ∷ visibleLinks m ∷ []
 numbers m refused = 2 ∷ []
 

@@ -1,7 +1,7 @@
 // The five words of each answer, and their bytes.
 use crate::words::put_word;
 use multiportgraph::multiportgraph::AddAnswer;
-use multiportgraph::multiportgraph::CutAnswer;
+use multiportgraph::multiportgraph::EndAnswer;
 use multiportgraph::multiportgraph::LinkAnswer;
 use multiportgraph::multiportgraph::MultiPortGraph;
 use multiportgraph::multiportgraph::Refusal;
@@ -18,7 +18,7 @@ ghost use Rattle.multiportgraph.specs.Inner.{MultiWf};
 ghost use Rattle.records.specs.Words.{bytesOf};
 ghost use Rattle.records.specs.Run.{counts, numbers, five};
 ghost use Rattle.records.specs.Forms.{words5, EventsFit};
-ghost use Rattle.multiportgraph.specs.Answers.{refusalNumbers, addNumbers, removeNumbers, setNumbers, linkNumbers, cutNumbers};
+ghost use Rattle.multiportgraph.specs.Answers.{refusalNumbers, addNumbers, removeNumbers, setNumbers, linkNumbers, unplacedNumbers};
 
 // 0 or the refusal, then values, the rest 0.
 pub struct Answer5 {
@@ -113,13 +113,14 @@ pub fn link_words(answer: LinkAnswer) -> Answer5
     }
 }
 
-pub(crate) fn cut_words(answer: CutAnswer) -> Answer5
-    ensures { λ r. ⌜ words5 r ≡ five (cutNumbers answer) ⌝ }
+// A record has no room for a place.
+pub(crate) fn cut_words(answer: EndAnswer) -> Answer5
+    ensures { λ r. ⌜ words5 r ≡ five (unplacedNumbers answer) ⌝ }
 {
     match answer {
-        CutAnswer::Found(x) => five_words(0, 1, x.port.0, x.subport_offset as u32, 0),
-        CutAnswer::Nothing => five_words(0, 0, 0, 0, 0),
-        CutAnswer::Refused(refusal) => refusal_words(refusal),
+        EndAnswer::Found(x) => five_words(0, 1, x.port.0, x.subport_offset as u32, 0),
+        EndAnswer::Nothing => five_words(0, 0, 0, 0, 0),
+        EndAnswer::Refused(refusal) => refusal_words(refusal),
     }
 }
 

@@ -12,12 +12,14 @@ use crate::requests::Ask;
 use crate::requests::MOVES;
 use crate::requests::ask_of;
 use multiportgraph::multiportgraph::MultiPortGraph;
+use multiportgraph::multiportgraph::PortUnlinked;
 use multiportgraph::multiportgraph::PortsSet;
+use multiportgraph::multiportgraph::SubportIndex;
 use portgraph::index::NodeIndex;
 use portgraph::index::PortIndex;
 ghost use mathlib.Core.Path.{_≡_};
 ghost use lib.ListN.{length};
-ghost use Rattle.multiportgraph.specs.Calls.{setCounts, movesTold};
+ghost use Rattle.multiportgraph.specs.Calls.{setCounts, movesTold, cutPort, cutSub};
 ghost use Rattle.theorems.specs.Book.{linkCleanCall, setCall};
 ghost use Rattle.multiportgraph.specs.Inner.{MultiWf};
 ghost use Rattle.records.specs.Run.{call, askedBy, Answered};
@@ -52,6 +54,25 @@ pub fn resize(
         × MultiWf (r .graph) ⌝ }
 {
     graph.set_num_ports(NodeIndex(node), incoming as usize, outgoing as usize, moves)
+}
+
+// Cuts every wire at a port, and answers the place too, which no record has room for.
+pub fn cut_port(graph: MultiPortGraph, port: u32) -> PortUnlinked
+    requires { ⌜ MultiWf graph ⌝ }
+    ensures { λ r. ⌜ (r ≡ cutPort graph port) × MultiWf (r .graph) ⌝ }
+{
+    graph.unlink_port(PortIndex(port))
+}
+
+// Cuts the wire at a subport, and answers the place too.
+pub fn cut_subport(graph: MultiPortGraph, port: u32, offset: u16) -> PortUnlinked
+    requires { ⌜ MultiWf graph ⌝ }
+    ensures { λ r. ⌜ (r ≡ cutSub graph port offset) × MultiWf (r .graph) ⌝ }
+{
+    graph.unlink_subport(SubportIndex {
+        port: PortIndex(port),
+        subport_offset: offset,
+    })
 }
 
 // Links two ports and leaves no stub; no request asks for this.
@@ -123,7 +144,7 @@ pub(crate) fn answer(graph: MultiPortGraph, asked: Ask) -> Asked
             let after = cut.graph;
             Asked {
                 graph: after,
-                answer: cut_words(answer),
+                answer: cut_words(answer.unplaced()),
             }
         }
         Ask::LinkSubports(from, to) => {
@@ -141,12 +162,12 @@ pub(crate) fn answer(graph: MultiPortGraph, asked: Ask) -> Asked
             let after = cut.graph;
             Asked {
                 graph: after,
-                answer: cut_words(answer),
+                answer: cut_words(answer.unplaced()),
             }
         }
         Ask::SubportLink(subport) => Asked {
             graph: graph,
-            answer: cut_words(graph.subport_link(subport)),
+            answer: cut_words(graph.subport_link(subport).unplaced()),
         },
         Ask::Counts => Asked {
             graph: graph,

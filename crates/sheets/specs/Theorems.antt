@@ -21,6 +21,7 @@ use Rattle.theorems.specs.History.{State, step, next, runFrom, run}
 use Rattle.theorems.specs.Works.{worksOf}
 use Rattle.theorems.specs.Claims.{WireRule, Link, linking, LinkedBy, acceptedLink, Restored, between, portsInBook}
 use Rattle.theorems.specs.AnswerClaims.{AnswersItsWire, AnswersAreWires}
+use Rattle.theorems.specs.PlaceClaims.{PlacesAreWires}
 use Rattle.theorems.specs.Conditions.{RefusedBy, Accepted, Condition, leavesPrepared}
 use Rattle.theorems.specs.Theorems as calls
 use Rattle.sheets.specs.declared.sheet.SheetEntry.{SheetEntry}
@@ -118,6 +119,10 @@ sheet-link-answers-the-wire = with-sheets (λ s. (l : Link) (x y : SubportIndex)
 -- what a subport is linked with, and what a cut answers, is what the book has;
 pub sheet-answers-are-wires : (items : List Item) → AnswersAreWires (runItems items)
 sheet-answers-are-wires = with-sheets AnswersAreWires calls.answers-are-wires
+
+-- and the place given with an end found, by an answer or by a step of a walk, is that of the book's wire;
+pub sheet-places-are-wires : (items : List Item) → PlacesAreWires (runItems items)
+sheet-places-are-wires = with-sheets PlacesAreWires calls.places-are-wires
 
 -- the visible nodes, ports and links that a kit counts are the blocks of the book, their ports, and its wires;
 pub sheet-visible-nodes : (items : List Item) → visibleNodes (runItems items .graph) ≡ length (runItems items .book .blocks)

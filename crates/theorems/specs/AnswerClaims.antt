@@ -14,8 +14,9 @@ use Rattle.multiportgraph.specs.Wires.{placeOf}
 use Rattle.multiportgraph.specs.SplitLaws.{HasEnd}
 use Rattle.multiportgraph.specs.declared.multiportgraph.MultiPortGraph.{MultiPortGraph}
 use Rattle.multiportgraph.specs.declared.multiportgraph.SubportIndex.{SubportIndex}
-use Rattle.multiportgraph.specs.declared.multiportgraph.CutAnswer.{CutAnswer}
-use Rattle.multiportgraph.specs.declared.multiportgraph.CutAnswer.the-variants as cutting
+use Rattle.multiportgraph.specs.declared.multiportgraph.EndAnswer.{EndAnswer}
+use Rattle.multiportgraph.specs.declared.multiportgraph.EndAnswer.the-variants as end
+use Rattle.multiportgraph.specs.Answers.{unplaced}
 use Rattle.theorems.specs.History.{State, next}
 use Rattle.theorems.specs.Claims.{Link, byPorts, byPortsClean, bySubports, linking}
 
@@ -61,51 +62,58 @@ pub record EndThere (m : MultiPortGraph) (p o : ℕ) : Type 0 where
 abbrev pub SubportThere : MultiPortGraph → SubportIndex → Type 0
 SubportThere m t = EndThere m (t .port .0) (t .«subport_offset») × (asRead m (t .port .0) (t .«subport_offset») ≡ t)
 
+-- What asking and cutting answer, without the place; PlaceClaims says what the place is.
+abbrev pub asked : MultiPortGraph → ℕ → ℕ → EndAnswer
+asked m p o = unplaced (subportLink m p o)
+
+abbrev pub cutAnswer : MultiPortGraph → ℕ → EndAnswer
+cutAnswer m p = unplaced (cutPort m p .answer)
+
 -- two subports that are there, each found where the other is asked
 pub record EndsFound (m : MultiPortGraph) (x y : SubportIndex) : Type 0 where
   pub firstThere : SubportThere m x
   pub secondThere : SubportThere m y
-  pub ofFirst : subportLink m (x .port .0) (x .«subport_offset») ≡ cutting.Found y
-  pub ofSecond : subportLink m (y .port .0) (y .«subport_offset») ≡ cutting.Found x
+  pub ofFirst : asked m (x .port .0) (x .«subport_offset») ≡ end.Found y
+  pub ofSecond : asked m (y .port .0) (y .«subport_offset») ≡ end.Found x
 
 -- Asking what the end of a port at an offset, as read, is linked with: found exactly if the book has a wire from there, and then the
 -- subport at its other end; nothing exactly if no wire of the book ends there.
 pub record AsksTheBook (s : State) (p o : ℕ) : Type 0 where
   pub found : (t : SubportIndex) →
-      (subportLink (s .graph) p o ≡ cutting.Found t)
+      (asked (s .graph) p o ≡ end.Found t)
       ↔ (PortOfBlock (s .graph) (t .port .0) × Member (wireBetween (s .graph) (asRead (s .graph) p o) t) (s .book .wires))
   pub nothing :
-      (subportLink (s .graph) p o ≡ cutting.Nothing)
+      (asked (s .graph) p o ≡ end.Nothing)
       ↔ ((w : Wire) → Member w (s .book .wires) → HasEnd w (placeOf (s .graph) (asRead (s .graph) p o)) → ⊥)
   -- a subport found is there, and asking there finds the end named
-  pub foundThere : (t : SubportIndex) → subportLink (s .graph) p o ≡ cutting.Found t → SubportThere (s .graph) t
-  pub foundBack : (t : SubportIndex) → subportLink (s .graph) p o ≡ cutting.Found t →
-      subportLink (s .graph) (t .port .0) (t .«subport_offset») ≡ cutting.Found (asRead (s .graph) p o)
+  pub foundThere : (t : SubportIndex) → asked (s .graph) p o ≡ end.Found t → SubportThere (s .graph) t
+  pub foundBack : (t : SubportIndex) → asked (s .graph) p o ≡ end.Found t →
+      asked (s .graph) (t .port .0) (t .«subport_offset») ≡ end.Found (asRead (s .graph) p o)
 
 -- the answer to a cut of an unsplit port, by the subport at the far end: its inner port, with offset 0
-abbrev pub cutFar : MultiPortGraph → CutAnswer → CutAnswer
-cutFar m (cutting.Found t) = cutting.Found (subport# (endOf m (t .port .0) (t .«subport_offset»)) 0)
-cutFar m cutting.Nothing = cutting.Nothing
-cutFar m (cutting.Refused r) = cutting.Refused r
+abbrev pub cutFar : MultiPortGraph → EndAnswer → EndAnswer
+cutFar m (end.Found t) = end.Found (subport# (endOf m (t .port .0) (t .«subport_offset»)) 0)
+cutFar m end.Nothing = end.Nothing
+cutFar m (end.Refused r) = end.Refused r
 
 -- Cutting a port of a block. Unsplit, it answers the inner port of the far end of its wire, with offset 0, and nothing exactly if
 -- the book has no wire at the port, whatever the offset. Split, it answers the port itself with offset 0, with wires or without.
 pub record CutsTheBook (s : State) (p : ℕ) : Type 0 where
-  pub plain : isSplit (s .graph) p ≡ false → cutPort (s .graph) p .answer ≡ cutFar (s .graph) (subportLink (s .graph) p 0)
+  pub plain : isSplit (s .graph) p ≡ false → cutAnswer (s .graph) p ≡ cutFar (s .graph) (asked (s .graph) p 0)
   pub plainFound : isSplit (s .graph) p ≡ false → (u : SubportIndex) →
-      (cutPort (s .graph) p .answer ≡ cutting.Found u)
+      (cutAnswer (s .graph) p ≡ end.Found u)
       ↔ ((t : SubportIndex) × PortOfBlock (s .graph) (t .port .0) × Member (wireBetween (s .graph) (subport# p 0) t) (s .book .wires)
       × (u ≡ subport# (endOf (s .graph) (t .port .0) (t .«subport_offset»)) 0))
-  pub plainRead : isSplit (s .graph) p ≡ false → (q : ℕ) → cutPort (s .graph) p .answer ≡ cutting.Found (subport# q 0) →
-      subportLink (s .graph) p 0 ≡ cutting.Found (subportOf (s .graph) q)
+  pub plainRead : isSplit (s .graph) p ≡ false → (q : ℕ) → cutAnswer (s .graph) p ≡ end.Found (subport# q 0) →
+      asked (s .graph) p 0 ≡ end.Found (subportOf (s .graph) q)
   pub plainNothing : isSplit (s .graph) p ≡ false →
-      (cutPort (s .graph) p .answer ≡ cutting.Nothing)
+      (cutAnswer (s .graph) p ≡ end.Nothing)
       ↔ ((w : Wire) → Member w (s .book .wires) → (o : ℕ) → HasEnd w (placeOf (s .graph) (subport# p o)) → ⊥)
-  pub split : isSplit (s .graph) p ≡ true → cutPort (s .graph) p .answer ≡ cutting.Found (subport# p 0)
+  pub split : isSplit (s .graph) p ≡ true → cutAnswer (s .graph) p ≡ end.Found (subport# p 0)
 
 -- What is answered of a wire is what the book has.
 pub record AnswersAreWires (s : State) : Type 0 where
   pub asks : (p o : ℕ) → EndThere (s .graph) p o → AsksTheBook s p o
-  -- a cut at a subport answers what asking does, whatever port and offset, refused or not
+  -- a cut at a subport answers what asking does, the place too, whatever port and offset, refused or not
   pub cutsSub : (p o : ℕ) → cutSub (s .graph) p o .answer ≡ subportLink (s .graph) p o
   pub cuts : (p : ℕ) → PortOfBlock (s .graph) p → CutsTheBook s p

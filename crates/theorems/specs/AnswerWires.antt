@@ -19,7 +19,8 @@ use Rattle.portgraph.specs.declared.portgraph.PortLink.{PortLink}
 use Rattle.portgraph.specs.declared.portgraph.PortLink.the-variants as lower-cut
 use Rattle.portgraph.specs.declared.direction.Direction.{Direction}
 use Rattle.portgraph.specs.declared.direction.Direction.the-variants.{Incoming, Outgoing}
-use Rattle.multiportgraph.specs.Reading.{isSplit, Port, dead, hidden, visible, seen, sideOf, End, inner, lacking, endAt, subport#, asRead, subportOf}
+use Rattle.multiportgraph.specs.Reading.{isSplit, Port, dead, hidden, visible, seen, sideOf, End, inner, lacking, endAt, subport#, asRead, subportOf, standing, standingOf}
+use Rattle.multiportgraph.specs.Answers.{unplaced}
 use Rattle.multiportgraph.specs.Refusals.{endOf, innerPort, goodOffset}
 use Rattle.multiportgraph.specs.Calls.{linkPair, linkSub, linkOfEnd, farSubport, subportLink, cutPlain, cutPort, cutSub}
 use Rattle.multiportgraph.specs.Cases.{cutRefused, cutEnd, cutSubSeen, linkOfSeen}
@@ -33,8 +34,9 @@ use Rattle.multiportgraph.specs.SplitLaws.{HasEnd, end-of-wire}
 use Rattle.multiportgraph.specs.declared.multiportgraph.MultiPortGraph.{MultiPortGraph}
 use Rattle.multiportgraph.specs.declared.multiportgraph.SubportIndex.{SubportIndex}
 use Rattle.multiportgraph.specs.declared.multiportgraph.LinkAnswer.the-variants as link
-use Rattle.multiportgraph.specs.declared.multiportgraph.CutAnswer.{CutAnswer}
 use Rattle.multiportgraph.specs.declared.multiportgraph.CutAnswer.the-variants as cutting
+use Rattle.multiportgraph.specs.declared.multiportgraph.EndAnswer.{EndAnswer}
+use Rattle.multiportgraph.specs.declared.multiportgraph.EndAnswer.the-variants as end
 use Rattle.multiportgraph.specs.declared.multiportgraph.PortsLinked.{PortsLinked}
 use Rattle.multiportgraph.specs.declared.multiportgraph.PortUnlinked.{PortUnlinked}
 use Rattle.multiportgraph.specs.declared.multiportgraph.Refusal.the-variants.{BadOffset}
@@ -46,7 +48,7 @@ use Rattle.theorems.specs.LinkCleanCall.{clean-is-link, clean-next, clea
 use Rattle.theorems.specs.WireRule.{Rel, OneMore, ports-link, subports-link, seen-live, spot-of, offset-of}
 use Rattle.theorems.specs.CallLaws.{rel-step, rel-run}
 use Rattle.theorems.specs.TheoremProofs.{end-named}
-use Rattle.theorems.specs.AnswerClaims.{wireBetween, firstNamed, secondNamed, AnswersItsWire, PortOfBlock, EndThere, SubportThere, EndsFound, AsksTheBook, cutFar, CutsTheBook, AnswersAreWires}
+use Rattle.theorems.specs.AnswerClaims.{wireBetween, firstNamed, secondNamed, AnswersItsWire, PortOfBlock, EndThere, SubportThere, asked, cutAnswer, EndsFound, AsksTheBook, cutFar, CutsTheBook, AnswersAreWires}
 
 -- Places after a link.
 
@@ -64,7 +66,7 @@ module _ {m : MultiPortGraph} {M : Model} {m′ : MultiPortGraph} {M′ : Model}
       let k = seen-live f x s in
       (subst (λ (t : Slots). x .pos < countOf t (x .side)) (sym node-after) (s .0), same .0 (x .node) (k .0) (k .1) .0)
 
-place-at : {m : MultiPortGraph} {M : Model} → Fine m M → (x : model.InnerPlace) → Seen m M x → (p o : ℕ) → slotOf (M .node) x ≡ p → placeOf m (subport# p o) ≡ lift x o
+pub place-at : {m : MultiPortGraph} {M : Model} → Fine m M → (x : model.InnerPlace) → Seen m M x → (p o : ℕ) → slotOf (M .node) x ≡ p → placeOf m (subport# p o) ≡ lift x o
 place-at {m} f x s p o at = ap (λ (q : ℕ). placeOf m (subport# q o)) (sym at) ∙ place-of-sub f x o s
 
 module _ {m : MultiPortGraph} {M : Model} {B : Book} (r : Rel m M B) {m′ : MultiPortGraph} {a o b e : ℕ} {s t : SubportIndex} (l : OneMore m M m′ a o b e s t) where
@@ -156,10 +158,10 @@ link-answers-the-wire calls = let r = rel-run calls in answers-its-wire (run cal
 
 -- the end that a port at an offset means
 module _ {m : MultiPortGraph} {M : Model} (f : Fine m M) {p o : ℕ} (h : EndThere m p o) where
-  port-named : BlockPort m M p (h .node) (h .side)
+  pub port-named : BlockPort m M p (h .node) (h .side)
   port-named = block-seen f p (h .node) (h .side) (h .shown)
 
-  end-meant : EndOf m M (port-named .place) o (h .inPort)
+  pub end-meant : EndOf m M (port-named .place) o (h .inPort)
   end-meant =
       let b = port-named in
       end-read f (b .place) o (h .inPort) (b .isSeen)
@@ -192,27 +194,33 @@ module _ {m : MultiPortGraph} {M : Model} (f : Fine m M) {p o : ℕ} (h : EndThe
   asked-is : (v : PortLink) → portLink (m .graph) (h .inPort) ≡ v → subportLink m p o ≡ farSubport m v
   asked-is v k = subport-link-cases m p o ∙ rw (lt-ltb o 65535 (omega arith), h .shown, h .there) (ap (farSubport m) k)
 
-  asked-linked : (y : model.InnerPlace) → M .join (end-meant .end) ≡ to y → subportLink m p o ≡ cutting.Found (subportOf m (slotOf (M .node) y))
+  pub asked-linked : (y : model.InnerPlace) → M .join (end-meant .end) ≡ to y → subportLink m p o ≡ cutting.Found (subportOf m (slotOf (M .node) y)) (standingOf m (slotOf (M .node) y))
   asked-linked y j = asked-is _ (link-meant y j)
+
+  pub asked-far : (y : model.InnerPlace) → M .join (end-meant .end) ≡ to y → asked m p o ≡ end.Found (subportOf m (slotOf (M .node) y))
+  asked-far y j = ap unplaced (asked-linked y j)
 
   asked-free : M .join (end-meant .end) ≡ nowhere → subportLink m p o ≡ cutting.Nothing
   asked-free j = asked-is _ (free-meant j)
 
+  asked-none : M .join (end-meant .end) ≡ nowhere → asked m p o ≡ end.Nothing
+  asked-none j = ap unplaced (asked-free j)
+
   -- the link behind an answer
-  found-link : (t : SubportIndex) → subportLink m p o ≡ cutting.Found t →
+  pub found-link : (t : SubportIndex) → asked m p o ≡ end.Found t →
       (y : model.InnerPlace) × (M .join (end-meant .end) ≡ to y) × (t ≡ subportOf m (slotOf (M .node) y))
   found-link t a = go (M .join (end-meant .end)) refl
     where
       go : (v : Far) → M .join (end-meant .end) ≡ v → (y : model.InnerPlace) × (M .join (end-meant .end) ≡ to y) × (t ≡ subportOf m (slotOf (M .node) y))
-      go nowhere j = let k = asked-free j in absurd (zero-is-not-one (cc))
-      go (to y) j = let k = asked-linked y j in (y, j, cc)
+      go nowhere j = let k = asked-none j in absurd (zero-is-not-one (cc))
+      go (to y) j = let k = asked-far y j in (y, j, cc)
 
-  nothing-link : subportLink m p o ≡ cutting.Nothing → M .join (end-meant .end) ≡ nowhere
+  nothing-link : asked m p o ≡ end.Nothing → M .join (end-meant .end) ≡ nowhere
   nothing-link a = go (M .join (end-meant .end)) refl
     where
       go : (v : Far) → M .join (end-meant .end) ≡ v → M .join (end-meant .end) ≡ nowhere
       go nowhere j = j
-      go (to y) j = let k = asked-linked y j in absurd (zero-is-not-one (cc))
+      go (to y) j = let k = asked-far y j in absurd (zero-is-not-one (cc))
 
   far-end : (y : model.InnerPlace) → M .join (end-meant .end) ≡ to y → IsEnd m M y
   far-end y j = ends-join-ends f (end-meant .end) y (end-meant .isEnd) j
@@ -299,21 +307,21 @@ module _ {m : MultiPortGraph} {M : Model} {B : Book} (r : Rel m M B) {p o : ℕ}
       let c : outer m M y ≡ placeOf m t = sym (ap (placeOf m) is ∙ subport-of (r .fine) y (far-end (r .fine) h y j)) in
       λ i. wireOfSides (a i) (b i) (c i)
 
-  found-booked : (t : SubportIndex) → subportLink m p o ≡ cutting.Found t → Member (wireBetween m (asRead m p o) t) (B .wires)
+  pub found-booked : (t : SubportIndex) → asked m p o ≡ end.Found t → Member (wireBetween m (asRead m p o) t) (B .wires)
   found-booked t a =
       let k = found-link (r .fine) h t a in
       r .wires .walks (wireBetween m (asRead m p o) t)
       (subst (WireIn m M) (wire-asked (k .0) (k .1) t (k .2)) (wire-of-link (r .fine) meant meant-is (k .0) (k .1)))
 
-  found-there : (t : SubportIndex) → subportLink m p o ≡ cutting.Found t → SubportThere m t
+  found-there : (t : SubportIndex) → asked m p o ≡ end.Found t → SubportThere m t
   found-there t a =
       let k = found-link (r .fine) h t a in
       subst (SubportThere m) (sym (k .2)) (subport-there (r .fine) (k .0) (far-end (r .fine) h (k .0) (k .1)))
 
-  found-shown : (t : SubportIndex) → subportLink m p o ≡ cutting.Found t → PortOfBlock m (t .port .0)
+  found-shown : (t : SubportIndex) → asked m p o ≡ end.Found t → PortOfBlock m (t .port .0)
   found-shown t a = let g = found-there t a .0 in (g .node, g .side, g .shown)
 
-  booked-found : (t : SubportIndex) → PortOfBlock m (t .port .0) → Member (wireBetween m (asRead m p o) t) (B .wires) → subportLink m p o ≡ cutting.Found t
+  booked-found : (t : SubportIndex) → PortOfBlock m (t .port .0) → Member (wireBetween m (asRead m p o) t) (B .wires) → asked m p o ≡ end.Found t
   booked-found t b i =
       let x = block-seen (r .fine) (t .port .0) (b .0) (b .1) (b .2) in
       let d = placeOf m (asRead m p o) .side in
@@ -321,36 +329,36 @@ module _ {m : MultiPortGraph} {M : Model} {B : Book} (r : Rel m M B) {p o : ℕ}
       subst (λ (v : Place). WireIn m M (wireOfSides d v (placeOf m t))) (place-meant (r .fine) h) (r .wires .booked (wireBetween m (asRead m p o) t) i) in
       let k = link-of-wire (r .fine) meant meant-is d (placeOf m t) w in
       let at = place-at (r .fine) (x .place) (x .isSeen) (t .port .0) (t .«subport_offset») (x .slot) in
-      asked-linked (r .fine) h (k .0) (k .1)
-      ∙ ap cutting.Found
+      asked-far (r .fine) h (k .0) (k .1)
+      ∙ ap end.Found
       (subport-is (r .fine) (k .0) (x .place) (t .«subport_offset») (far-end (r .fine) h (k .0) (k .1)) (sym (k .2) ∙ at)
       ∙ ap (λ (c : ℕ). subport# c (t .«subport_offset»)) (x .slot))
 
-  nothing-booked : subportLink m p o ≡ cutting.Nothing → (w : Wire) → Member w (B .wires) → HasEnd w (placeOf m (asRead m p o)) → ⊥
+  nothing-booked : asked m p o ≡ end.Nothing → (w : Wire) → Member w (B .wires) → HasEnd w (placeOf m (asRead m p o)) → ⊥
   nothing-booked a w i b =
       let j = nothing-link (r .fine) h a in
       let k = link-of-end (r .fine) meant meant-is w (r .wires .booked w i) (subst (HasEnd w) (place-meant (r .fine) h) b) in
       let g = k .1 in
       zero-is-not-one (cc)
 
-  booked-nothing : ((w : Wire) → Member w (B .wires) → HasEnd w (placeOf m (asRead m p o)) → ⊥) → subportLink m p o ≡ cutting.Nothing
+  booked-nothing : ((w : Wire) → Member w (B .wires) → HasEnd w (placeOf m (asRead m p o)) → ⊥) → asked m p o ≡ end.Nothing
   booked-nothing none = go (M .join meant) refl
     where
-      go : (v : Far) → M .join meant ≡ v → subportLink m p o ≡ cutting.Nothing
-      go nowhere j = asked-free (r .fine) h j
+      go : (v : Far) → M .join meant ≡ v → asked m p o ≡ end.Nothing
+      go nowhere j = asked-none (r .fine) h j
       go (to y) j =
           let w = wireOfSides (meant .side) (outer m M meant) (outer m M y) in
           absurd
           (none w (r .wires .walks w (wire-of-link (r .fine) meant meant-is y j))
           (subst (HasEnd w) (sym (place-meant (r .fine) h)) (first-of-wire (meant .side) (outer m M meant) (outer m M y))))
 
-  found-back : (t : SubportIndex) → subportLink m p o ≡ cutting.Found t → subportLink m (t .port .0) (t .«subport_offset») ≡ cutting.Found (asRead m p o)
+  found-back : (t : SubportIndex) → asked m p o ≡ end.Found t → asked m (t .port .0) (t .«subport_offset») ≡ end.Found (asRead m p o)
   found-back t a =
       let k = found-link (r .fine) h t a in
       let g = found-there t a in
       let z = there-meant (r .fine) (k .0) (far-end (r .fine) h (k .0) (k .1)) t (k .2) g in
-      asked-linked (r .fine) (g .0) meant (ap (M .join) z ∙ r .fine .good .joinBack meant (k .0) (k .1))
-      ∙ ap cutting.Found (sym (read-meant (r .fine) h))
+      asked-far (r .fine) (g .0) meant (ap (M .join) z ∙ r .fine .good .joinBack meant (k .0) (k .1))
+      ∙ ap end.Found (sym (read-meant (r .fine) h))
 
 asks-the-book : (s : State) (M : Model) → Rel (s .graph) M (s .book) → (p o : ℕ) → EndThere (s .graph) p o → AsksTheBook s p o
 asks-the-book s M r p o h =
@@ -384,12 +392,12 @@ cut-sub-answers m p o =
 
 -- a split port answers itself, an unsplit one its inner link
 module _ (m : MultiPortGraph) (p : ℕ) (b : PortOfBlock m p) where
-  cut-split : isSplit m p ≡ true → cutPort m p .answer ≡ cutting.Found (subport# p 0)
+  pub cut-split : isSplit m p ≡ true → cutPort m p .answer ≡ cutting.Found (subport# p 0) (standing m (subport# p 0))
   cut-split t = ap (λ (v : PortUnlinked). v .answer) (cut-cases m p) ∙ rw (b .2, t) refl
 
-  cut-plain : isSplit m p ≡ false → (v : PortLink) → portLink (m .graph) p ≡ v → cutPort m p .answer ≡ cutPlain v
+  cut-plain : isSplit m p ≡ false → (v : PortLink) → portLink (m .graph) p ≡ v → cutPort m p .answer ≡ cutPlain m v
   unfolding unlinkPort
-  cut-plain t v h = ap (λ (v : PortUnlinked). v .answer) (cut-cases m p) ∙ rw (b .2, t) (ap cutPlain h)
+  cut-plain t v h = ap (λ (v : PortUnlinked). v .answer) (cut-cases m p) ∙ rw (b .2, t) (ap (cutPlain m) h)
 
 -- the inner port of an end as answered
 inner-of : {m : MultiPortGraph} {M : Model} → Fine m M → (y : model.InnerPlace) → IsEnd m M y → (t : SubportIndex) → t ≡ subportOf m (slotOf (M .node) y) →
@@ -401,61 +409,68 @@ inner-of {m} {M} f y e t is =
 
 -- an unsplit port of a block
 module _ {m : MultiPortGraph} {M : Model} {B : Book} (r : Rel m M B) (p : ℕ) (b : PortOfBlock m p) (t : isSplit m p ≡ false) where
-  abbrev here : EndThere m p 0
+  abbrev pub here : EndThere m p 0
   here = record { node = b .0; side = b .1; inPort = p; shown = b .2; small = omega arith; there = end-of-unsplit (r .fine) p (b .1) 0 t }
 
-  abbrev itself : model.InnerPlace
+  abbrev pub itself : model.InnerPlace
   itself = end-meant (r .fine) here .end
 
-  read-plain : asRead m p 0 ≡ subport# p 0
+  pub read-plain : asRead m p 0 ≡ subport# p 0
   unfolding asRead
   read-plain = rw t refl
 
-  cut-linked : (y : model.InnerPlace) → M .join itself ≡ to y → cutPort m p .answer ≡ cutting.Found (subport# (slotOf (M .node) y) 0)
+  pub cut-linked : (y : model.InnerPlace) → M .join itself ≡ to y →
+      cutPort m p .answer ≡ cutting.Found (subport# (slotOf (M .node) y) 0) (standingOf m (slotOf (M .node) y))
   cut-linked y j = cut-plain m p b t _ (link-meant (r .fine) here y j)
 
-  cut-free : M .join itself ≡ nowhere → cutPort m p .answer ≡ cutting.Nothing
+  pub cut-free : M .join itself ≡ nowhere → cutPort m p .answer ≡ cutting.Nothing
   cut-free j = cut-plain m p b t _ (free-meant (r .fine) here j)
 
-  plain-answer : cutPort m p .answer ≡ cutFar m (subportLink m p 0)
+  cut-far : (y : model.InnerPlace) → M .join itself ≡ to y → cutAnswer m p ≡ end.Found (subport# (slotOf (M .node) y) 0)
+  cut-far y j = ap unplaced (cut-linked y j)
+
+  cut-none : M .join itself ≡ nowhere → cutAnswer m p ≡ end.Nothing
+  cut-none j = ap unplaced (cut-free j)
+
+  plain-answer : cutAnswer m p ≡ cutFar m (asked m p 0)
   plain-answer = go (M .join itself) refl
     where
-      go : (v : Far) → M .join itself ≡ v → cutPort m p .answer ≡ cutFar m (subportLink m p 0)
-      go nowhere j = cut-free j ∙ sym (ap (cutFar m) (asked-free (r .fine) here j))
+      go : (v : Far) → M .join itself ≡ v → cutAnswer m p ≡ cutFar m (asked m p 0)
+      go nowhere j = cut-none j ∙ sym (ap (cutFar m) (asked-none (r .fine) here j))
       go (to y) j =
-          cut-linked y j
+          cut-far y j
           ∙ sym
-          (ap (cutFar m) (asked-linked (r .fine) here y j)
-          ∙ ap (λ (q : ℕ). cutting.Found (subport# q 0)) (inner-of (r .fine) y (far-end (r .fine) here y j) _ refl))
+          (ap (cutFar m) (asked-far (r .fine) here y j)
+          ∙ ap (λ (q : ℕ). end.Found (subport# q 0)) (inner-of (r .fine) y (far-end (r .fine) here y j) _ refl))
 
-  plain-read : (q : ℕ) → cutPort m p .answer ≡ cutting.Found (subport# q 0) → subportLink m p 0 ≡ cutting.Found (subportOf m q)
+  plain-read : (q : ℕ) → cutAnswer m p ≡ end.Found (subport# q 0) → asked m p 0 ≡ end.Found (subportOf m q)
   plain-read q h = go (M .join itself) refl
     where
-      go : (v : Far) → M .join itself ≡ v → subportLink m p 0 ≡ cutting.Found (subportOf m q)
-      go nowhere j = let k = cut-free j in absurd (zero-is-not-one (cc))
+      go : (v : Far) → M .join itself ≡ v → asked m p 0 ≡ end.Found (subportOf m q)
+      go nowhere j = let k = cut-none j in absurd (zero-is-not-one (cc))
       go (to y) j =
-          let k = cut-linked y j in
+          let k = cut-far y j in
           let a : subport# (slotOf (M .node) y) 0 ≡ subport# q 0 = cc in
-          asked-linked (r .fine) here y j ∙ ap (λ (u : SubportIndex). cutting.Found (subportOf m (u .port .0))) a
+          asked-far (r .fine) here y j ∙ ap (λ (u : SubportIndex). end.Found (subportOf m (u .port .0))) a
 
-  plain-booked : (u : SubportIndex) → cutPort m p .answer ≡ cutting.Found u →
+  plain-booked : (u : SubportIndex) → cutAnswer m p ≡ end.Found u →
       (s : SubportIndex) × PortOfBlock m (s .port .0) × Member (wireBetween m (subport# p 0) s) (B .wires)
       × (u ≡ subport# (endOf m (s .port .0) (s .«subport_offset»)) 0)
-  plain-booked u h = go (subportLink m p 0) refl (sym plain-answer ∙ h)
+  plain-booked u h = go (asked m p 0) refl (sym plain-answer ∙ h)
     where
-      go : (v : CutAnswer) → subportLink m p 0 ≡ v → cutFar m v ≡ cutting.Found u →
+      go : (v : EndAnswer) → asked m p 0 ≡ v → cutFar m v ≡ end.Found u →
           (s : SubportIndex) × PortOfBlock m (s .port .0) × Member (wireBetween m (subport# p 0) s) (B .wires)
           × (u ≡ subport# (endOf m (s .port .0) (s .«subport_offset»)) 0)
-      go (cutting.Found s) k c =
+      go (end.Found s) k c =
           (s, found-shown r here s k, subst (λ (a : SubportIndex). Member (wireBetween m a s) (B .wires)) read-plain (found-booked r here s k), cc)
-      go cutting.Nothing k c = absurd (zero-is-not-one (cc))
-      go (cutting.Refused x) k c = absurd (zero-is-not-one (cc))
+      go end.Nothing k c = absurd (zero-is-not-one (cc))
+      go (end.Refused x) k c = absurd (zero-is-not-one (cc))
 
   booked-plain : (u s : SubportIndex) → PortOfBlock m (s .port .0) → Member (wireBetween m (subport# p 0) s) (B .wires) →
-      u ≡ subport# (endOf m (s .port .0) (s .«subport_offset»)) 0 → cutPort m p .answer ≡ cutting.Found u
+      u ≡ subport# (endOf m (s .port .0) (s .«subport_offset»)) 0 → cutAnswer m p ≡ end.Found u
   booked-plain u s a i is =
       let k = booked-found r here s a (subst (λ (c : SubportIndex). Member (wireBetween m c s) (B .wires)) (sym read-plain) i) in
-      plain-answer ∙ (ap (cutFar m) k ∙ ap cutting.Found (sym is))
+      plain-answer ∙ (ap (cutFar m) k ∙ ap end.Found (sym is))
 
   -- wires at an unsplit port have offset 0 there
   plain-offset : (w : Wire) → Member w (B .wires) → (o : ℕ) → HasEnd w (placeOf m (subport# p o)) → 0 ≡ o
@@ -466,18 +481,18 @@ module _ {m : MultiPortGraph} {M : Model} {B : Book} (r : Rel m M B) (p : ℕ) (
       let c = end-named (r .fine) (x .place) (k .near) o (k .end) (k .is) .2 in
       ap (λ (v : Bool). cond v o 0) (sym (ap (isSplit m) (x .slot) ∙ t)) ∙ c
 
-  plain-nothing : cutPort m p .answer ≡ cutting.Nothing → (w : Wire) → Member w (B .wires) → (o : ℕ) → HasEnd w (placeOf m (subport# p o)) → ⊥
-  plain-nothing h w i o a = go (subportLink m p 0) refl (sym plain-answer ∙ h)
+  plain-nothing : cutAnswer m p ≡ end.Nothing → (w : Wire) → Member w (B .wires) → (o : ℕ) → HasEnd w (placeOf m (subport# p o)) → ⊥
+  plain-nothing h w i o a = go (asked m p 0) refl (sym plain-answer ∙ h)
     where
-      go : (v : CutAnswer) → subportLink m p 0 ≡ v → cutFar m v ≡ cutting.Nothing → ⊥
-      go (cutting.Found s) k c = zero-is-not-one (cc)
-      go cutting.Nothing k c =
+      go : (v : EndAnswer) → asked m p 0 ≡ v → cutFar m v ≡ end.Nothing → ⊥
+      go (end.Found s) k c = zero-is-not-one (cc)
+      go end.Nothing k c =
           nothing-booked r here k w i
           (subst (λ (u : SubportIndex). HasEnd w (placeOf m u)) (sym read-plain)
           (subst (λ (v : ℕ). HasEnd w (placeOf m (subport# p v))) (sym (plain-offset w i o a)) a))
-      go (cutting.Refused x) k c = zero-is-not-one (cc)
+      go (end.Refused x) k c = zero-is-not-one (cc)
 
-  nothing-plain : ((w : Wire) → Member w (B .wires) → (o : ℕ) → HasEnd w (placeOf m (subport# p o)) → ⊥) → cutPort m p .answer ≡ cutting.Nothing
+  nothing-plain : ((w : Wire) → Member w (B .wires) → (o : ℕ) → HasEnd w (placeOf m (subport# p o)) → ⊥) → cutAnswer m p ≡ end.Nothing
   nothing-plain none =
       plain-answer
       ∙ ap (cutFar m) (booked-nothing r here (λ w i a. none w i 0 (subst (λ (u : SubportIndex). HasEnd w (placeOf m u)) read-plain a)))
@@ -489,7 +504,7 @@ cuts-the-book s M r p b =
       plainFound = λ t u. (plain-booked r p b t u, (λ k. booked-plain r p b t u (k .0) (k .1) (k .2) (k .3)));
       plainRead = plain-read r p b;
       plainNothing = λ t. (plain-nothing r p b t, nothing-plain r p b t);
-      split = cut-split (s .graph) p b;
+      split = λ t. ap unplaced (cut-split (s .graph) p b t);
     }
 
 -- What a question and a cut answer of a wire is what the book has.
@@ -542,7 +557,7 @@ linked-found s M r l x y h =
       firstThere = u .0;
       secondThere = u .1;
       ofFirst = g;
-      ofSecond = found-back (k .1) (u .0 .0) y g ∙ ap cutting.Found (u .0 .1);
+      ofSecond = found-back (k .1) (u .0 .0) y g ∙ ap end.Found (u .0 .1);
     }
 
 -- After an accepted link both subports answered are there, and asking at either one finds the other.

@@ -283,7 +283,7 @@ subports-row-seen m a c s i =
     let g = member-flatMap (subportsAt m) s (range a c) i in
     ap (λ (p : ℕ). isSeen (seen m p)) (subport-at-port m (g .0) s (g .2)) ∙ subport-seen m (g .0) s (g .2)
 
-by-sides-member : {A : Type 0} (g : Direction → List A) (sides : Sides) (x : A) → Member x (bySides g sides) → (d : Direction) × Member x (g d)
+pub by-sides-member : {A : Type 0} (g : Direction → List A) (sides : Sides) (x : A) → Member x (bySides g sides) → (d : Direction) × Member x (g d)
 by-sides-member g (One d) x i = (d, i)
 by-sides-member g Both x i = ⊎-elim (λ h. (Incoming, h)) (λ h. (Outgoing, h)) (member-append x (g Incoming) (g Outgoing) i)
 

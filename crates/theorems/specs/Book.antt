@@ -147,7 +147,7 @@ bookLinkSub B p o q r (link.Linked s t) marks =
 bookLinkSub B p o q r (link.Refused x) marks = B
 
 abbrev pub bookCut : Book → (Place → Bool) → CutAnswer → Book
-bookCut B f (cutting.Found s) = withWires B (without f (B .wires))
+bookCut B f (cutting.Found s x) = withWires B (without f (B .wires))
 bookCut B f cutting.Nothing = withWires B (without f (B .wires))
 bookCut B f (cutting.Refused r) = B
 

@@ -10,6 +10,7 @@ use Rattle.theorems.specs.Book.{Call, AnswerOf, Book, emptyBook}
 use Rattle.multiportgraph.specs.Inner.{Fine, MultiWf}
 use Rattle.multiportgraph.specs.declared.multiportgraph.MultiPortGraph.{MultiPortGraph}
 use Rattle.multiportgraph.specs.declared.multiportgraph.SubportIndex.{SubportIndex}
+use Rattle.multiportgraph.specs.declared.multiportgraph.PortPlace.{PortPlace}
 use Rattle.multiportgraph.specs.declared.multiportgraph.AddAnswer.the-variants as add
 use Rattle.multiportgraph.specs.declared.multiportgraph.RemoveAnswer.the-variants as remove
 use Rattle.multiportgraph.specs.declared.multiportgraph.SetAnswer.the-variants as resize
@@ -37,8 +38,8 @@ use Rattle.theorems.specs.LinkCleanCall.{link-clean-call}
 use Rattle.theorems.specs.LinkSubCall.{link-sub-call}
 
 -- an answer is one or the other
-cut-or-refused : (v : CutAnswer) → (((s : SubportIndex) × (v ≡ cutting.Found s)) ⊎ (v ≡ cutting.Nothing)) ⊎ ((r : Refusal) × (v ≡ cutting.Refused r))
-cut-or-refused (cutting.Found s) = inl (inl (s, refl))
+cut-or-refused : (v : CutAnswer) → (((s : SubportIndex) × (x : PortPlace) × (v ≡ cutting.Found s x)) ⊎ (v ≡ cutting.Nothing)) ⊎ ((r : Refusal) × (v ≡ cutting.Refused r))
+cut-or-refused (cutting.Found s x) = inl (inl (s, x, refl))
 cut-or-refused cutting.Nothing = inl (inr refl)
 cut-or-refused (cutting.Refused r) = inr (r, refl)
 

@@ -21,6 +21,7 @@ use Rattle.multiportgraph.specs.Inner.{copyPlace, BlockIs, Seen}
 use Rattle.multiportgraph.specs.Ends.{EndOf}
 use Rattle.multiportgraph.specs.declared.multiportgraph.MultiPortGraph.{MultiPortGraph}
 use Rattle.multiportgraph.specs.declared.multiportgraph.SubportIndex.{SubportIndex}
+use Rattle.multiportgraph.specs.declared.multiportgraph.PortPlace.{PortPlace}
 use Rattle.multiportgraph.specs.declared.multiportgraph.Refusal.{Refusal}
 use Rattle.multiportgraph.specs.declared.multiportgraph.Refusal.the-variants.{BadOffset, TooManyPorts, UnknownNode, HiddenNode, MovesTooShort, UnknownPort, HiddenPort, UnknownOffset, NoRoom, UnknownSecondPort, IncompatibleDirections, AlreadyLinked}
 use Rattle.multiportgraph.specs.declared.multiportgraph.AddAnswer.the-variants as add
@@ -148,7 +149,7 @@ LinkSays T (link.Refused r) = T r
 
 -- an answer of a cut or of a lookup that refuses has the condition listed
 abbrev pub CutSays : (Refusal → Type 0) → CutAnswer → Type 0
-CutSays T (cutting.Found s) = Unit {0}
+CutSays T (cutting.Found s x) = Unit {0}
 CutSays T cutting.Nothing = Unit {0}
 CutSays T (cutting.Refused r) = T r
 
@@ -173,8 +174,8 @@ Accepted (book.setCall n i o room) v = (e : ℕ) × (v ≡ resize.Set e)
 Accepted (book.linkCall a b) v = (s : SubportIndex) × (t : SubportIndex) × (v ≡ link.Linked s t)
 Accepted (book.linkCleanCall a b) v = (s : SubportIndex) × (t : SubportIndex) × (v ≡ link.Linked s t)
 Accepted (book.linkSubCall p o q r) v = (s : SubportIndex) × (t : SubportIndex) × (v ≡ link.Linked s t)
-Accepted (book.cutCall p) v = ((s : SubportIndex) × (v ≡ cutting.Found s)) ⊎ (v ≡ cutting.Nothing)
-Accepted (book.cutSubCall p o) v = ((s : SubportIndex) × (v ≡ cutting.Found s)) ⊎ (v ≡ cutting.Nothing)
+Accepted (book.cutCall p) v = ((s : SubportIndex) × (x : PortPlace) × (v ≡ cutting.Found s x)) ⊎ (v ≡ cutting.Nothing)
+Accepted (book.cutSubCall p o) v = ((s : SubportIndex) × (x : PortPlace) × (v ≡ cutting.Found s x)) ⊎ (v ≡ cutting.Nothing)
 
 -- the condition of a refusal of a call
 abbrev pub Condition : MultiPortGraph → Model → Call → Refusal → Type 0

@@ -39,7 +39,7 @@ module _ {m : MultiPortGraph} {M : Model} (f : Fine m M) (p : ℕ) where
   cut-says : CutSays (CutRefused m M p) (cutPort m p .answer)
   cut-says = go (port-is f p)
     where
-      plain : (a : PortLink) → CutSays (CutRefused m M p) (cutPlain a)
+      plain : (a : PortLink) → CutSays (CutRefused m M p) (cutPlain m a)
       plain (lower-cut.Linked q) = tt
       plain lower-cut.Unlinked = tt
       plain (lower-cut.UnknownPort q) = tt

@@ -22,7 +22,7 @@ use Rattle.portgraph.specs.declared.direction.Direction.the-variants.{Incoming,
 use Rattle.portgraph.specs.declared.iter.Sides.{Sides}
 use Rattle.portgraph.specs.declared.iter.Sides.the-variants.{One, Both}
 use Rattle.portgraph.specs.declared.node_entry.NodeMeta.{NodeMeta}
-use Rattle.multiportgraph.specs.Reading.{ownerOf, isHidden, isSplit, Port, dead, hidden, visible, seen, subports, subportAt, End, inner, lacking, endAt, subport#, subportOf}
+use Rattle.multiportgraph.specs.Reading.{ownerOf, isHidden, isSplit, Port, dead, hidden, visible, seen, subports, subportAt, End, inner, lacking, endAt, subport#, subportOf, standing}
 use Rattle.multiportgraph.specs.Calls.{linkOfEnd, farSubport}
 use Rattle.multiportgraph.specs.Places as places
 use Rattle.multiportgraph.specs.Places.{Place, Wire, Spot, spot, atSpot, touches, wireOfSides}
@@ -51,7 +51,7 @@ use Rattle.theorems.specs.ListingClaims.{wireFrom, endOn, farFrom, Exact
 -- Listed links, as links between ends.
 
 -- a link listed at a port x of a block: its end z there, and the end y that z is linked with
-record LinkIs (m : MultiPortGraph) (M : Model) (x : model.InnerPlace) (w : SubportLink) : Type 0 where
+pub record LinkIs (m : MultiPortGraph) (M : Model) (x : model.InnerPlace) (w : SubportLink) : Type 0 where
   pub z : model.InnerPlace
   pub y : model.InnerPlace
   pub isSeen : Seen m M x
@@ -61,6 +61,7 @@ record LinkIs (m : MultiPortGraph) (M : Model) (x : model.InnerPlace) (w : Subpo
   pub slot : slotOf (M .node) x ≡ w .from .port .0
   pub joined : M .join z ≡ to y
   pub far : w .to ≡ subportOf m (slotOf (M .node) y)
+  pub stood : w .place ≡ standing m (w .to)
 
 -- a wire, by its end z on a side
 record EndIs (m : MultiPortGraph) (M : Model) (d : Direction) (w : Wire) : Type 0 where
@@ -71,6 +72,10 @@ record EndIs (m : MultiPortGraph) (M : Model) (d : Direction) (w : Wire) : Type 
   pub joined : M .join z ≡ to y
   pub is : w ≡ wireOfSides d (outer m M z) (outer m M y)
 
+-- a link as listed
+abbrev placedLink : MultiPortGraph → SubportIndex → SubportIndex → SubportLink
+placedLink m a b = record { from = a; to = b; place = standing m b }
+
 -- a wire, by the port x of its end on a side and the link listed there
 record Found (m : MultiPortGraph) (M : Model) (d : Direction) (w : Wire) : Type 0 where
   pub x : model.InnerPlace
@@ -80,14 +85,14 @@ record Found (m : MultiPortGraph) (M : Model) (d : Direction) (w : Wire) : Type 
   pub side : x .side ≡ d
   pub at : endOn d w ≡ lift x (from .«subport_offset»)
   pub listed : Member from (subportsOfPort m d (slotOf (M .node) x))
-  pub wired : Member (record { from = from; to = to }) (wireOf m d from)
-  pub is : w ≡ wireFrom m d (record { from = from; to = to })
+  pub wired : Member (placedLink m from to) (wireOf m d from)
+  pub is : w ≡ wireFrom m d (placedLink m from to)
 
 own-end : (d : Direction) (x y : Place) → endOn d (wireOfSides d x y) ≡ x
 own-end Incoming x y = refl
 own-end Outgoing x y = refl
 
-far-end : (d : Direction) (x y : Place) → farFrom d (wireOfSides d x y) ≡ y
+pub far-end : (d : Direction) (x y : Place) → farFrom d (wireOfSides d x y) ≡ y
 far-end Incoming x y = refl
 far-end Outgoing x y = refl
 
@@ -154,7 +159,7 @@ module _ {m : MultiPortGraph} {M : Model} (f : Fine m M) where
           absurd (subst (λ (v : PortLink). Member w (wireTo (subport# (slotOf (M .node) x) o) (farSubport m v))) (ap (portLink (m .graph)) (sym (r .slot)) ∙ port-link-none (f .good) (f .holds) (r .end) (r .isEnd .valid) j) i)
       by-join q r (to y) j i =
           let h = subst (λ (v : PortLink). Member w (wireTo (subport# (slotOf (M .node) x) o) (farSubport m v))) (ap (portLink (m .graph)) (sym (r .slot)) ∙ port-link-to (f .good) (f .holds) (r .end) y (r .isEnd .valid) j) i in
-          let e : w ≡ record { from = subport# (slotOf (M .node) x) o; to = subportOf m (slotOf (M .node) y) } = ⊎-elim (λ a. a) (λ a. absurd a) h in
+          let e : w ≡ placedLink m (subport# (slotOf (M .node) x) o) (subportOf m (slotOf (M .node) y)) = ⊎-elim (λ a. a) (λ a. absurd a) h in
           record {
             z = r .end;
             y = y;
@@ -165,6 +170,7 @@ module _ {m : MultiPortGraph} {M : Model} (f : Fine m M) where
             slot = sym (ap (λ (v : SubportLink). v .from .port .0) e);
             joined = j;
             far = ap (λ (v : SubportLink). v .to) e;
+            stood = ap (λ (v : SubportLink). v .place) e ∙ sym (ap (λ (v : SubportLink). standing m (v .to)) e);
           }
 
       by-end : (v : End) → endAt m (slotOf (M .node) x) (x .side) o ≡ v → Member w (wireTo (subport# (slotOf (M .node) x) o) (linkOfEnd m (slotOf (M .node) x) v)) → LinkIs m M x w
@@ -185,7 +191,7 @@ module _ {m : MultiPortGraph} {M : Model} (f : Fine m M) where
   -- every link of an end is listed at the port that the end belongs to
   link-there : (z y : model.InnerPlace) → IsEnd m M z → M .join z ≡ to y → (x : model.InnerPlace) (o : ℕ) → Seen m M x → outer m M z ≡ lift x o →
       Member (subport# (slotOf (M .node) x) o) (subportsOfPort m (x .side) (slotOf (M .node) x))
-      × Member (record { from = subport# (slotOf (M .node) x) o; to = subportOf m (slotOf (M .node) y) }) (wireOf m (x .side) (subport# (slotOf (M .node) x) o))
+      × Member (placedLink m (subport# (slotOf (M .node) x) o) (subportOf m (slotOf (M .node) y))) (wireOf m (x .side) (subport# (slotOf (M .node) x) o))
   unfolding wireOf
   link-there z y e j x o s is =
       let n = end-named f x z o e is in
@@ -197,7 +203,7 @@ module _ {m : MultiPortGraph} {M : Model} (f : Fine m M) where
 
   -- As places.
 
-  from-place : (x : model.InnerPlace) (w : SubportLink) → LinkIs m M x w → placeOf m (w .from) ≡ lift x (w .from .«subport_offset»)
+  pub from-place : (x : model.InnerPlace) (w : SubportLink) → LinkIs m M x w → placeOf m (w .from) ≡ lift x (w .from .«subport_offset»)
   from-place x w l =
       ap (λ (p : ℕ). placeOf m (subport# p (w .from .«subport_offset»))) (sym (l .slot)) ∙ place-of-sub f x (w .from .«subport_offset») (l .isSeen)
 
@@ -205,7 +211,7 @@ module _ {m : MultiPortGraph} {M : Model} (f : Fine m M) where
   to-place x w l = ap (placeOf m) (l .far) ∙ subport-of f (l .y) (ends-join-ends f (l .z) (l .y) (l .end) (l .joined))
 
   -- a listed link is a wire
-  link-wire : (x : model.InnerPlace) (w : SubportLink) → LinkIs m M x w → WireIn m M (wireFrom m (x .side) w)
+  pub link-wire : (x : model.InnerPlace) (w : SubportLink) → LinkIs m M x w → WireIn m M (wireFrom m (x .side) w)
   link-wire x w l = go (x .side) refl
     where
       out : placeOf m (w .from) ≡ outer m M (l .z)
@@ -263,7 +269,7 @@ module _ {m : MultiPortGraph} {M : Model} (f : Fine m M) where
       let own : placeOf m (subport# (slotOf (M .node) (r .main)) (r .offset)) ≡ outer m M (i .z) = place-of-sub f (r .main) (r .offset) (r .isSeen) ∙ sym (r .is) in
       let far = subport-of f (i .y) (ends-join-ends f (i .z) (i .y) (i .end) (i .joined)) in
       let p : r .main .side ≡ d = sym (r .side) ∙ i .side in
-      let a : SubportLink = record { from = subport# (slotOf (M .node) (r .main)) (r .offset); to = subportOf m (slotOf (M .node) (i .y)) } in
+      let a : SubportLink = placedLink m (subport# (slotOf (M .node) (r .main)) (r .offset)) (subportOf m (slotOf (M .node) (i .y))) in
       record {
         x = r .main;
         from = subport# (slotOf (M .node) (r .main)) (r .offset);
@@ -285,7 +291,7 @@ module _ {m : MultiPortGraph} {M : Model} (f : Fine m M) where
 
   -- The links of a side of a block.
 
-  side-link : (n : ℕ) → isHidden m n ≡ false → (d : Direction) (w : SubportLink) → Member w (sideLinks m d n) → (i : ℕ) × LinkIs m M (inner# n d i) w
+  pub side-link : (n : ℕ) → isHidden m n ≡ false → (d : Direction) (w : SubportLink) → Member w (sideLinks m d n) → (i : ℕ) × LinkIs m M (inner# n d i) w
   unfolding sideLinks subportsOfSide
   side-link n h d w i =
       let g = member-flatMap (wireOf m d) w (subportsOfSide m n d) i in
@@ -298,7 +304,7 @@ module _ {m : MultiPortGraph} {M : Model} (f : Fine m M) where
             (subst (λ (p : ℕ). Member w (wireOf m d (subport# p (g .0 .«subport_offset»)))) (t .0 ∙ sym (r .2)) (g .2)),
       )
 
-  side-has-link : (d : Direction) (w : Wire) (e : Found m M d w) → Member (record { from = e .from; to = e .to }) (sideLinks m d (e .x .node))
+  side-has-link : (d : Direction) (w : Wire) (e : Found m M d w) → Member (placedLink m (e .from) (e .to)) (sideLinks m d (e .x .node))
   unfolding sideLinks subportsOfSide
   side-has-link d w e =
       flatMap-member (wireOf m d) _ (e .from) (subportsOfSide m (e .x .node) d)
@@ -334,7 +340,7 @@ module _ {m : MultiPortGraph} {M : Model} {B : Book} (r : Rel m M B) where
         all = λ w i e.
             let g = wire-found (r .fine) d w (r .wires .booked w i) in
             let p : g .x .node ≡ n = sym (ap (λ (x : Place). x .node) (g .at)) ∙ e in
-            let a : SubportLink = record { from = g .from; to = g .to } in
+            let a : SubportLink = placedLink m (g .from) (g .to) in
             (a, subst (λ (c : ℕ). Member a (sideLinks m d c)) p (side-has-link (r .fine) d w g), g .is);
       }
 
@@ -481,7 +487,7 @@ module _ {m : MultiPortGraph} {M : Model} {B : Book} (r : Rel m M B) where
   unfolding portLinks
   port-links-are x s = rw (seen-block (r .fine) x s) refl
 
-  port-link : (x : model.InnerPlace) → Seen m M x → (w : SubportLink) → Member w (portLinks m (slotOf (M .node) x)) → LinkIs m M x w
+  pub port-link : (x : model.InnerPlace) → Seen m M x → (w : SubportLink) → Member w (portLinks m (slotOf (M .node) x)) → LinkIs m M x w
   port-link x s w i =
       let g = member-flatMap (wireOf m (x .side)) w (subportsOfPort m (x .side) (slotOf (M .node) x)) (subst (Member w) (port-links-are x s) i) in
       let t = sub-read m (x .side) (slotOf (M .node) x) (g .0) (g .1) in
@@ -509,7 +515,7 @@ module _ {m : MultiPortGraph} {M : Model} {B : Book} (r : Rel m M B) where
             let k = at-spot-is (x .node) (x .side) (x .pos) (endOn (x .side) w) e in
             let at = g .at in
             let z : g .x ≡ x = same-place (g .x) x (ap (λ (v : Place). v .node) (sym (g .at)) ∙ k .0) (g .side) (ap (λ (v : Place). v .pos) (sym (g .at)) ∙ k .2) in
-            let a : SubportLink = record { from = g .from; to = g .to } in (
+            let a : SubportLink = placedLink m (g .from) (g .to) in (
               a,
               subst (Member a) (sym (port-links-are x s))
                   (flatMap-member (wireOf m (x .side)) a (g .from) (subportsOfPort m (x .side) (slotOf (M .node) x))

@@ -149,7 +149,7 @@ cut-happens {m} {M} f x s o q small there = go (cutSub m (slotOf (M .node) x) o 
     go : (a : CutAnswer) → cutSub m (slotOf (M .node) x) o .answer ≡ a →
         CutSays m M (slotOf (M .node) x) (endNamed (cond (isSplit m (slotOf (M .node) x)) o 0)) (cutSub m (slotOf (M .node) x) o .graph) a →
         CutDone m M (cutSub m (slotOf (M .node) x) o .graph) (slotOf (M .node) x) (endNamed (cond (isSplit m (slotOf (M .node) x)) o 0))
-    go (cutting.Found t) e d = d
+    go (cutting.Found t x) e d = d
     go cutting.Nothing e d = d
     go (cutting.Refused r) e d = absurd (never-refused m (unlinkPort (m .graph) q .answer) r (sym answered ∙ e))
 

@@ -28,6 +28,7 @@ use Rattle.theorems.specs.History.{State, step, next, runFrom, run}
 use Rattle.theorems.specs.Works.{worksOf}
 use Rattle.theorems.specs.Claims.{WireRule, Link, byPorts, byPortsClean, linking, LinkedBy, acceptedLink, Restored, between, FanOutIsWires, portsInBook}
 use Rattle.theorems.specs.AnswerClaims.{AnswersItsWire, AnswersAreWires}
+use Rattle.theorems.specs.PlaceClaims.{PlacesAreWires}
 use Rattle.theorems.specs.ListingClaims.{wireFrom, endOn, farFrom, Exactly, InBook, OverSides, OutOfRange, FarNodes, NotOwnOutput}
 use Rattle.theorems.specs.Conditions.{RefusedBy, Accepted, Condition, leavesPrepared}
 use Rattle.theorems.specs.Bench as bench
@@ -40,6 +41,7 @@ use Rattle.theorems.specs.LinkCleanCall as clean
 use Rattle.theorems.specs.TheoremProofs as proofs
 use Rattle.theorems.specs.AnswerWires as answered
 use Rattle.theorems.specs.ListingWires as listed
+use Rattle.theorems.specs.PlaceWires as placed
 use Rattle.theorems.specs.KeptPorts as kept
 use Rattle.theorems.specs.MovePlaces as moved
 use Rattle.theorems.specs.MoveClaims.{toldEvents, toldPlaces, hiddenTold, givenBack, SplitAsBefore}
@@ -95,6 +97,12 @@ link-answers-the-wire = answered.link-answers-the-wire
 -- other end; nothing exactly if there is none.
 pub answers-are-wires : (calls : List Call) → AnswersAreWires (run calls)
 answers-are-wires = answered.answers-are-wires
+
+-- The place that is given with an end found, by an answer or by any step of a walk over links, is where the far end of the book's wire
+-- between the two subports stands: node, side and position. A cut answers that of the wire that goes, for an inner port that of its visible
+-- end; a split port that is cut answers itself, with the place that the book has for it.
+pub places-are-wires : (calls : List Call) → PlacesAreWires (run calls)
+places-are-wires = placed.places-are-wires
 
 -- What each walk lists is exactly the book's wires that it is about, each once for its end there: the links of a side of a block,
 pub listings-are-wires-of-side : (calls : List Call) (d : Direction) (n : ℕ) → InBook (run calls .book) n →

@@ -300,7 +300,7 @@ unfolding wireOf
 wire-rises R m d s = go (linkOfEnd m (s .port .0) (endAt m (s .port .0) d (s .«subport_offset»)))
   where
     go : (a : CutAnswer) → Rising R (wireTo s a)
-    go (cutting.Found t) = ((λ y i. absurd i), tt)
+    go (cutting.Found t x) = ((λ y i. absurd i), tt)
     go cutting.Nothing = tt
     go (cutting.Refused r) = tt
 

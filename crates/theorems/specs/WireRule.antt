@@ -449,7 +449,7 @@ module _ {m : MultiPortGraph} {M : Model} (f : Fine m M) (m′ : MultiPortGraph)
           }
 
       go : (a : CutAnswer) → CutSays m M p dropped m′ a → Leads m M m′ (λ B. bookCut B (test (spotOf (B .blocks) p)) a)
-      go (cutting.Found s) k = done k
+      go (cutting.Found s x) k = done k
       go cutting.Nothing k = done k
       go (cutting.Refused e) k = stays f m′ k
 

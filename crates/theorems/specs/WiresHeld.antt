@@ -60,8 +60,8 @@ module _ (m : MultiPortGraph) (n p o : ℕ) (w : SubportLink) where
 -- Items of the listing start at ports of their block.
 
 from-here : (s : SubportIndex) (v : CutAnswer) (w : SubportLink) → Member w (wireTo s v) → w .from ≡ s
-from-here s (cutting.Found t) w (inl e) = ap (λ (x : SubportLink). x .from) e
-from-here s (cutting.Found t) w (inr i) = absurd i
+from-here s (cutting.Found t x) w (inl e) = ap (λ (v : SubportLink). v .from) e
+from-here s (cutting.Found t x) w (inr i) = absurd i
 from-here s cutting.Nothing w i = absurd i
 from-here s (cutting.Refused r) w i = absurd i
 
@@ -313,7 +313,7 @@ module _ {m : MultiPortGraph} {M : Model} (f : Fine m M) where
       inl (omega arith))
 
   one-rises : (s : SubportIndex) (v : CutAnswer) → Rising (Ahead m) (wireTo s v)
-  one-rises s (cutting.Found t) = ((λ y i. absurd i), tt)
+  one-rises s (cutting.Found t x) = ((λ y i. absurd i), tt)
   one-rises s cutting.Nothing = tt
   one-rises s (cutting.Refused r) = tt
 

@@ -1,4 +1,6 @@
 // One command on the graph, and the lines that answer it.
+use crate::cuts::cut;
+use crate::cuts::show_link;
 use crate::fetch::load_from;
 use crate::help::show_help;
 use crate::listing::list;
@@ -71,7 +73,8 @@ pub(crate) fn run(graph: MultiPortGraph, order: Order, text: &[u8]) -> MultiPort
         LOAD => load_from(graph, order, text),
         REMOVE => request(graph, order, 0),
         ADD => request(graph, order, 2),
-        UNLINK | UNLINKSUB | SUBLINK | COUNTS => request(graph, order, 3),
+        UNLINK | UNLINKSUB => cut(graph, order),
+        COUNTS => request(graph, order, 3),
         LINK | LINKSUB => request(graph, order, 4),
         LINKCLEAN => link_cleanly(graph, order),
         _ => {
@@ -87,6 +90,7 @@ fn look(graph: MultiPortGraph, order: Order, text: &[u8])
 {
     let command = order.command;
     match command {
+        SUBLINK => show_link(graph, order),
         FANOUT => show_count(graph.port_fan_out(PortIndex(order.a))),
         BLOCKFANOUT => show_count(graph.node_fan_out(NodeIndex(order.a))),
         SAVE => save_as(graph, order, text),

@@ -24,22 +24,22 @@ Change the wiring:
   linkclean A B           the same; a refused one leaves nothing behind: ok PORT OFFSET PORT OFFSET
   linksub P O Q R         a wire between two subports: ok PORT OFFSET PORT OFFSET
   sheet A B A B ..        up to 64 links at once, in order: the answer of each, ok ENTRIES
-  unlink P                cuts all wires at a port: ok 1 PORT OFFSET, or ok 0 0 0
-  unlinksub P O           cuts the wire at a subport: ok 1 PORT OFFSET, or ok 0 0 0
+  unlink P                cuts all wires at a port: ok 1 PORT OFFSET NODE SIDE POSITION, or ok 0 0 0
+  unlinksub P O           cuts the wire at a subport: ok 1 PORT OFFSET NODE SIDE POSITION, or ok 0 0 0
 Ask for numbers:
-  sublink P O             the far end of the wire at a subport: ok 1 PORT OFFSET, or ok 0 0 0
+  sublink P O             the far end of the wire at a subport: ok 1 PORT OFFSET NODE SIDE POSITION, or ok 0 0 0
   counts                  how much there is: ok NODES PORTS LINKS
   fanout P                how many wires a port has: ok NUMBER
   blockfanout N           how many wires leave a block: ok NUMBER
-List (each ends in ok NUMBER; SIDE is 0 incoming, 1 outgoing, 2 both):
+List (each ends in ok NUMBER; SIDE is 0 incoming, 1 outgoing, 2 both; a link has both ends, and the place of the second):
   blocks                  all blocks: N each
   subports N SIDE         the subports of a block: PORT OFFSET each
-  links P                 the links of a port: PORT OFFSET PORT OFFSET each
+  links P                 the links of a port: PORT OFFSET PORT OFFSET NODE SIDE POSITION each
   back P                  the same from the back
   nodelinks N SIDE LO HI  the links of a block, without those to ports from LO on, HI excluded
   neighbours N SIDE FLAG  the block at each link, with FLAG 1 not its own outputs: N each
   connections N M         the links from block N to block M
-  wires                   all wires: PORT OFFSET PORT OFFSET each
+  wires                   all wires: PORT OFFSET PORT OFFSET NODE SIDE POSITION each
   places                  all wires: NODE POSITION OFFSET NODE POSITION OFFSET each
 Keep:
   save NAME               writes the wiring to a file, at once or not at all: ok LENGTH

@@ -1,6 +1,7 @@
 // Walks: subports, links, neighbours and connections. A cursor of the multiport graph is made of the numbers that the command gives and
 // of what the walk gave last; so one item, which holds what any of the walks gave last, stands for every cursor, and one loop serves
 // every walk.
+use crate::cuts::side_number;
 use crate::orders::BACK;
 use crate::orders::LINKS;
 use crate::orders::NEIGHBOURS;
@@ -31,14 +32,18 @@ use portgraph::index::PortIndex;
 use portgraph::iter::Sides;
 ghost use Rattle.multiportgraph.specs.Inner.{MultiWf};
 
-// The numbers of an item, so many of them as `count` says, none before the first and after the last; then what the cursors hold: a
-// node, a port or an offset, one higher than its number, an offset, and what was given last from the back.
+// The numbers of an item, so many of them as `count` says, none before the first and after the last: of a link both ends, and node, side
+// and position of the second. Then what the cursors hold: a node, a port or an offset, one higher than its number, an offset, and what
+// was given last from the back.
 pub struct Item {
     pub count: u32,
     pub a: u32,
     pub b: u32,
     pub c: u32,
     pub d: u32,
+    pub node: u32,
+    pub side: u32,
+    pub position: u32,
     pub held: u32,
     pub offset: u16,
     pub back: u32,
@@ -51,6 +56,9 @@ fn no_item() -> Item {
         b: 0,
         c: 0,
         d: 0,
+        node: 0,
+        side: 0,
+        position: 0,
         held: 0,
         offset: 0,
         back: 0,
@@ -64,6 +72,9 @@ fn node_item(node: NodeIndex, held: u32, offset: u16) -> Item {
         b: 0,
         c: 0,
         d: 0,
+        node: 0,
+        side: 0,
+        position: 0,
         held: held,
         offset: offset,
         back: 0,
@@ -73,12 +84,17 @@ fn node_item(node: NodeIndex, held: u32, offset: u16) -> Item {
 fn link_item(link: SubportLink, held: u32, offset: u16, back: u32) -> Item {
     let from = link.from;
     let to = link.to;
+    let place = link.place;
+    let side = place.side;
     Item {
-        count: 4,
+        count: 7,
         a: from.port.0,
         b: from.subport_offset as u32,
         c: to.port.0,
         d: to.subport_offset as u32,
+        node: place.node.0,
+        side: side_number(side),
+        position: place.position as u32,
         held: held,
         offset: offset,
         back: back,
@@ -112,6 +128,9 @@ fn next_subport(graph: MultiPortGraph, order: Order, last: Item) -> Item
         b: subport.subport_offset as u32,
         c: 0,
         d: 0,
+        node: 0,
+        side: 0,
+        position: 0,
         held: next.held,
         offset: next.offset,
         back: 0,
@@ -227,7 +246,11 @@ fn show_item(item: Item) {
         line = line.number(item.b);
     }
     if 2 < item.count {
-        line = line.number(item.c).number(item.d);
+        line = line.number(item.c)
+            .number(item.d)
+            .number(item.node)
+            .number(item.side)
+            .number(item.position);
     }
     line.write();
 }

@@ -3,6 +3,7 @@
 mod arguments;
 mod commands;
 mod console;
+mod cuts;
 mod fetch;
 mod help;
 mod listing;

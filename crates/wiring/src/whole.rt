@@ -23,15 +23,20 @@ fn show_block(numbers: &[u32; ROOM], block: usize) {
     }
 }
 
-// A wire by its ports, each with its offset.
+// A wire by its ports, each with its offset, and node, side and position of the second, which is an input.
 fn show_wire(numbers: &[u32; ROOM], wire: usize) {
     if wire < ROOM {
         let at = 8 * wire;
+        let node = number_at(numbers, at + 6);
+        let position = number_at(numbers, at + 7);
         Line::of(b" ")
             .number(number_at(numbers, at))
             .number(number_at(numbers, at + 1))
             .number(number_at(numbers, at + 4))
             .number(number_at(numbers, at + 5))
+            .number(node)
+            .number(0)
+            .number(position)
             .write();
     }
 }

@@ -144,8 +144,15 @@ fn one(number: &u32) -> String {
     item(&[*number])
 }
 
-fn ends(((port, offset), (far, far_offset)): &Wire) -> String {
-    item(&[*port, *offset, *far, *far_offset])
+/// Node, side and position of a live end, by the original's own lookups.
+fn place(oracle: &Oracle, end: Subport) -> [u32; 3] {
+    let place = oracle.place(end).expect("an end of a wire is live");
+    [place.node, side_number(Sides::One(place.side)), place.position]
+}
+
+/// Both ends of a wire, and the place of the second.
+fn ends(oracle: &Oracle, ((port, offset), far): &Wire) -> String {
+    item(&[vec![*port, *offset, far.0, far.1], place(oracle, *far).to_vec()].concat())
 }
 
 impl Command {
@@ -232,16 +239,18 @@ impl Command {
             Command::Subports(node, sides) => {
                 listing(oracle.subports(node, sides), |(port, offset)| item(&[*port, *offset]))
             }
-            Command::Links(port) => listing(oracle.port_links(port), ends),
+            Command::Links(port) => listing(oracle.port_links(port), |wire| ends(oracle, wire)),
             Command::Back(port) => {
                 let steps = oracle.port_links(port).map_or(0, |links| links.len());
                 let links = oracle.port_links_by_steps(port, &vec![true; steps]);
-                listing(links.map(|links| links.into_iter().flatten().collect()), ends)
+                listing(links.map(|links| links.into_iter().flatten().collect()), |wire| ends(oracle, wire))
             }
-            Command::NodeLinks(node, sides, low, high) => listing(oracle.node_links(node, sides, low..high), ends),
+            Command::NodeLinks(node, sides, low, high) => {
+                listing(oracle.node_links(node, sides, low..high), |wire| ends(oracle, wire))
+            }
             Command::Neighbours(node, sides, flag) => listing(oracle.neighbours(node, sides, flag), one),
-            Command::Connections(from, to) => listing(oracle.connections(from, to), ends),
-            Command::Wires => listing(Ok(oracle.all_wires()), ends),
+            Command::Connections(from, to) => listing(oracle.connections(from, to), |wire| ends(oracle, wire)),
+            Command::Wires => listing(Ok(oracle.all_wires()), |wire| ends(oracle, wire)),
             Command::Places => listing(Ok(oracle.all_wires()), |(from, to)| {
                 let place = |end: Subport| {
                     let place = oracle.place(end).expect("an end of a wire is live");
@@ -347,7 +356,22 @@ fn number(number: Result<u32, Answer>) -> Block {
     number.map_or_else(refused, |number| vec![format!("ok {number}")])
 }
 
+/// The end of which an answer gives the place: that answered, or for an unsplit port that is cut, which may answer a hidden node's port, the far
+/// end of its one link as it was. A split port answers itself.
+fn placed(call: Call, answer: Answer, links: &[Wire]) -> Option<Subport> {
+    let [0, 1, port, offset, _] = answer else { return None };
+    match call {
+        Call::Unlink { port: named } if named != port => Some(links[0].1),
+        Call::Unlink { .. } | Call::UnlinkSubport { .. } | Call::SubportLink { .. } => Some((port, offset)),
+        _ => None,
+    }
+}
+
 fn call_block(call: Call, history: &mut History) -> Block {
+    let links = match call {
+        Call::Unlink { port } => history.oracle.port_links(port).unwrap_or_default(),
+        _ => Vec::new(),
+    };
     history.give(call.to_record());
     let answer = history.steps.last().expect("the call was given").expected;
     if answer[0] != 0 {
@@ -364,7 +388,8 @@ fn call_block(call: Call, history: &mut History) -> Block {
         Call::Resize { .. } => history.oracle.moves(),
         _ => &[],
     };
-    let last = format!("ok{}", words(&answer[1..1 + values]));
+    let place = placed(call, answer, &links).map_or(Vec::new(), |end| place(&history.oracle, end).to_vec());
+    let last = format!("ok{}{}", words(&answer[1..1 + values]), words(&place));
     events.iter().map(|event| item(event)).chain([last]).collect()
 }
 

@@ -68,10 +68,10 @@ fn each_line_is_answered_before_the_next_is_typed() {
     assert_eq!(typed.asks(b"add 2 0\n", 1), ["ok 1 1"]);
     assert_eq!(typed.asks(b"link 0 1\n", 1), ["ok 0 0 1 0"]);
     assert_eq!(typed.asks(b"link 0 2\n", 1), ["ok 0 1 2 0"]);
-    assert_eq!(typed.asks(b"wires\n", 3), ["  0 0 1 0", "  0 1 2 0", "ok 2"]);
-    assert_eq!(typed.asks(b"unlinksub 0 1\n", 1), ["ok 1 2 0"]);
+    assert_eq!(typed.asks(b"wires\n", 3), ["  0 0 1 0 1 0 0", "  0 1 2 0 1 0 1", "ok 2"]);
+    assert_eq!(typed.asks(b"unlinksub 0 1\n", 1), ["ok 1 2 0 1 0 1"]);
     assert_eq!(typed.asks(b"link 1 2\n", 1)[0].split(' ').next(), Some("refused"));
-    assert_eq!(typed.asks(b"wires\n", 2), ["  0 0 1 0", "ok 1"]);
+    assert_eq!(typed.asks(b"wires\n", 2), ["  0 0 1 0 1 0 0", "ok 1"]);
     assert_eq!(typed.rest(), "");
 }
 

@@ -30,7 +30,7 @@ fn after_a_wire(folder: &Folder, line: &str) -> Vec<String> {
     lines[3..].to_vec()
 }
 
-const STAYS: [&str; 3] = ["  0 0 1 0", "ok 1", "ok 2 2 1"];
+const STAYS: [&str; 3] = ["  0 0 1 0 1 0 0", "ok 1", "ok 2 2 1"];
 
 #[test]
 fn by_hand() {
@@ -40,7 +40,7 @@ fn by_hand() {
     assert_eq!(before[6..], ["  1 0 0 2 1 0", "  1 0 1 2 0 0", "ok 2", "ok 1024"]);
     let after = typed(&folder, "load kit\nplaces\nblocks\nwires\ncounts\nsave again\n");
     assert_eq!(after[..7], ["ok", "  0 0 0 1 0 0", "  0 0 1 1 1 0", "ok 2", "  0", "  1", "ok 2"]);
-    assert_eq!(after[7..], ["  0 0 1 0", "  0 1 2 0", "ok 2", "ok 2 3 2", "ok 1024"]);
+    assert_eq!(after[7..], ["  0 0 1 0 1 0 0", "  0 1 2 0 1 0 1", "ok 2", "ok 2 3 2", "ok 1024"]);
     let read = |name| fs::read(folder.path().join(name)).unwrap();
     assert_eq!(read("kit"), read("again"));
     // More calls may follow, and another load. Node 2 and ports 3 to 5 are hidden.

@@ -10,8 +10,8 @@ end-named-requires c κs = search needs
 enum-known-inner : tie.Need-enum-known-inner
 enum-known-inner c = search needs
 
-wire-in-requires : tie.Need-wire-in-requires
-wire-in-requires c κs = search needs
+wire-end-in-requires : tie.Need-wire-end-in-requires
+wire-end-in-requires c κs = search needs
 
 wide-requires : tie.Need-wide-requires
 wide-requires c κs = search needs
@@ -29,7 +29,7 @@ enum-known-refusal : tie.Need-enum-known-refusal
 enum-known-refusal c = search needs
 
 returns : tie.Need-returns
-returns c = cut-made-in (c .before .before .before .before .before .before .before .before .before .before .before .before .before .before .before .before .before .args .nodes .now) (c .before .before .before .before .before .before .before .before .before .before .before .before .before .before .before .before .before .args .links .now) (c .before .before .before .before .before .before .before .before .before .before .before .before .before .before .before .before .before .args .owners .now) (c .before .before .before .before .before .before .before .before .before .before .before .before .before .before .before .before .before .args .heads .now) (c .before .before .before .before .before .before .before .before .before .before .before .before .before .before .before .before .before .args .marks .now) (c .before .before .before .before .before .before .before .before .before .before .before .before .before .before .before .before .before .args .flags .now) (c .before .before .before .before .before .before .before .before .before .before .before .before .before .before .before .before .before .args .held) (c .before .before .before .before .before .before .before .before .before .before .before .before .before .before .before .before .before .pre) _ _ (c .before .before .before .before .before .before .before .before .before .before .before .before .end-named .ensures) (c .before .before .before .before .before .before .before .before .before .before .inner .given .1) (c .before .before .before .before .before .wire-in .ensures) (c .before .before .before .wide .ensures) (c .before .before .cut .ensures .0) (c .before .before .cut .ensures .1) (c .before .without-link .ensures) (c .with-links .ensures)
+returns c = cut-made-in (c .before .before .before .before .before .before .before .before .before .before .before .before .before .before .before .before .before .args .nodes .now) (c .before .before .before .before .before .before .before .before .before .before .before .before .before .before .before .before .before .args .links .now) (c .before .before .before .before .before .before .before .before .before .before .before .before .before .before .before .before .before .args .owners .now) (c .before .before .before .before .before .before .before .before .before .before .before .before .before .before .before .before .before .args .heads .now) (c .before .before .before .before .before .before .before .before .before .before .before .before .before .before .before .before .before .args .marks .now) (c .before .before .before .before .before .before .before .before .before .before .before .before .before .before .before .before .before .args .flags .now) (c .before .before .before .before .before .before .before .before .before .before .before .before .before .before .before .before .before .args .held) (c .before .before .before .before .before .before .before .before .before .before .before .before .before .before .before .before .before .pre) _ _ (c .before .before .before .before .before .before .before .before .before .before .before .before .end-named .ensures) (c .before .before .before .before .before .before .before .before .before .before .inner .given .1) (c .before .before .before .before .before .wire-end-in .ensures) (c .before .before .before .wide .ensures) (c .before .before .cut .ensures .0) (c .before .before .cut .ensures .1) (c .before .without-link .ensures) (c .with-links .ensures)
 
 returns-2 : tie.Need-returns-2
 returns-2 c = cut-refused-in (c .before .before .before .before .before .before .before .before .args .nodes .now) (c .before .before .before .before .before .before .before .before .args .links .now) (c .before .before .before .before .before .before .before .before .args .owners .now) (c .before .before .before .before .before .before .before .before .args .heads .now) (c .before .before .before .before .before .before .before .before .args .marks .now) (c .before .before .before .before .before .before .before .before .args .flags .now) (c .before .before .before .before .before .before .before .before .args .held) (c .before .before .before .before .before .before .before .before .pre) _ _ (c .before .before .before .end-named .ensures) (c .before .refusal .given .1)
@@ -40,7 +40,7 @@ cut-sub-in-spec =
     (tie.spec
     end-named-requires
     enum-known-inner
-    wire-in-requires
+    wire-end-in-requires
     wide-requires
     cut-requires
     without-link-requires

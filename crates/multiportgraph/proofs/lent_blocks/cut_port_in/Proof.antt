@@ -1,6 +1,6 @@
 -- `multiportgraph::lent_blocks::cut_port_in` meets its contract: a split port, one that is not, and each refusal.
 use mathlib.Core.Bool.{true, false}
-use mathlib.Core.Path.{sym, _∙_}
+use mathlib.Core.Path.{refl, sym, _∙_}
 use borrow.Author.Needs.{needs}
 use Rattle.multiportgraph.specs.CallSteps.{was-dead, was-hidden, was-visible, cut-port-seen, cut-port-split}
 use Rattle.multiportgraph.specs.Reading.{dead, hidden}
@@ -8,7 +8,7 @@ use Rattle.multiportgraph.specs.MultiLent.{multiIn}
 use Rattle.multiportgraph.specs.LentLaws.{sound-of}
 use Rattle.multiportgraph.specs.NamedLaws.{seen-as}
 use Rattle.multiportgraph.specs.LinkSteps.{on-block}
-use Rattle.multiportgraph.specs.LentSteps.{cut-parts, mark-in, port-cut-none-in, port-cut-far-in}
+use Rattle.multiportgraph.specs.LentSteps.{unplaced-parts, mark-in, port-cut-none-in, port-cut-far-in}
 use Rattle.multiportgraph.proofs.lent_blocks.cut_port_in.Statement.{statement}
 use Rattle.multiportgraph.proofs.lent_blocks.cut_port_in.Tie as tie
 
@@ -34,7 +34,7 @@ unsplit-in-requires : tie.Need-unsplit-in-requires
 unsplit-in-requires c κs = sound-of _ (c .before .before .before .before .before .before .before .before .before .before .before .before .before .before .before .pre)
 
 returns : tie.Need-returns
-returns c = cut-parts (cut-port-split (multiIn (c .before .before .before .before .before .before .before .before .before .before .before .before .before .before .before .before .args .nodes .now) (c .before .before .before .before .before .before .before .before .before .before .before .before .before .before .before .before .args .links .now) (c .before .before .before .before .before .before .before .before .before .before .before .before .before .before .before .before .args .owners .now) (c .before .before .before .before .before .before .before .before .before .before .before .before .before .before .before .before .args .heads .now) (c .before .before .before .before .before .before .before .before .before .before .before .before .before .before .before .before .args .marks .now) (c .before .before .before .before .before .before .before .before .before .before .before .before .before .before .before .before .args .flags .now) (c .before .before .before .before .before .before .before .before .before .before .before .before .before .before .before .before .args .held)) _ _ _ _ (was-visible _ _ _ (sym (seen-as (c .before .before .before .before .before .before .before .before .before .before .before .before .before .before .before .before .pre) _ (c .before .before .before .before .before .before .before .before .before .before .before .before .before .seen-in .ensures)) ∙ c .before .before .before .before .before .before .before .before .before .before .before .enum-told3 .given .1)) (mark-in (c .before .before .before .before .before .before .before .before .before .before .before .before .before .before .before .before .args .nodes .now) (c .before .before .before .before .before .before .before .before .before .before .before .before .before .before .before .before .args .links .now) (c .before .before .before .before .before .before .before .before .before .before .before .before .before .before .before .before .args .owners .now) (c .before .before .before .before .before .before .before .before .before .before .before .before .before .before .before .before .args .heads .now) (c .before .before .before .before .before .before .before .before .before .before .before .before .before .before .before .before .args .marks .now) (c .before .before .before .before .before .before .before .before .before .before .before .before .before .before .before .before .args .flags .now) (c .before .before .before .before .before .before .before .before .before .before .before .before .before .before .before .before .args .held) (sound-of _ (c .before .before .before .before .before .before .before .before .before .before .before .before .before .before .before .before .pre)) _ _ (c .before .before .before .before .before .before .before .before .before .wide .ensures) (c .before .before .before .before .before .before .before .before .marked .ensures) true (c .before .before .before .before .before .before .before .if1 .taken)) (c .unsplit-in .ensures))
+returns c = unplaced-parts (cut-port-split (multiIn (c .before .before .before .before .before .before .before .before .before .before .before .before .before .before .before .before .args .nodes .now) (c .before .before .before .before .before .before .before .before .before .before .before .before .before .before .before .before .args .links .now) (c .before .before .before .before .before .before .before .before .before .before .before .before .before .before .before .before .args .owners .now) (c .before .before .before .before .before .before .before .before .before .before .before .before .before .before .before .before .args .heads .now) (c .before .before .before .before .before .before .before .before .before .before .before .before .before .before .before .before .args .marks .now) (c .before .before .before .before .before .before .before .before .before .before .before .before .before .before .before .before .args .flags .now) (c .before .before .before .before .before .before .before .before .before .before .before .before .before .before .before .before .args .held)) _ _ _ _ (was-visible _ _ _ (sym (seen-as (c .before .before .before .before .before .before .before .before .before .before .before .before .before .before .before .before .pre) _ (c .before .before .before .before .before .before .before .before .before .before .before .before .before .seen-in .ensures)) ∙ c .before .before .before .before .before .before .before .before .before .before .before .enum-told3 .given .1)) (mark-in (c .before .before .before .before .before .before .before .before .before .before .before .before .before .before .before .before .args .nodes .now) (c .before .before .before .before .before .before .before .before .before .before .before .before .before .before .before .before .args .links .now) (c .before .before .before .before .before .before .before .before .before .before .before .before .before .before .before .before .args .owners .now) (c .before .before .before .before .before .before .before .before .before .before .before .before .before .before .before .before .args .heads .now) (c .before .before .before .before .before .before .before .before .before .before .before .before .before .before .before .before .args .marks .now) (c .before .before .before .before .before .before .before .before .before .before .before .before .before .before .before .before .args .flags .now) (c .before .before .before .before .before .before .before .before .before .before .before .before .before .before .before .before .args .held) (sound-of _ (c .before .before .before .before .before .before .before .before .before .before .before .before .before .before .before .before .pre)) _ _ (c .before .before .before .before .before .before .before .before .before .wide .ensures) (c .before .before .before .before .before .before .before .before .marked .ensures) true (c .before .before .before .before .before .before .before .if1 .taken)) (c .unsplit-in .ensures) refl)
 
 wide-requires-2 : tie.Need-wide-requires-2
 wide-requires-2 c κs = search needs
@@ -55,10 +55,10 @@ sub-t34 : tie.Need-sub-t34
 sub-t34 c = search needs
 
 returns-3 : tie.Need-returns-3
-returns-3 c = cut-parts (cut-port-seen (multiIn (c .before .before .before .before .before .args .nodes .now) (c .before .before .before .before .before .args .links .now) (c .before .before .before .before .before .args .owners .now) (c .before .before .before .before .before .args .heads .now) (c .before .before .before .before .before .args .marks .now) (c .before .before .before .before .before .args .flags .now) (c .before .before .before .before .before .args .held)) _ dead (was-dead _ (sym (seen-as (c .before .before .before .before .before .pre) _ (c .before .before .seen-in .ensures)) ∙ c .enum-told .given .1)))
+returns-3 c = unplaced-parts (cut-port-seen (multiIn (c .before .before .before .before .before .args .nodes .now) (c .before .before .before .before .before .args .links .now) (c .before .before .before .before .before .args .owners .now) (c .before .before .before .before .before .args .heads .now) (c .before .before .before .before .before .args .marks .now) (c .before .before .before .before .before .args .flags .now) (c .before .before .before .before .before .args .held)) _ dead (was-dead _ (sym (seen-as (c .before .before .before .before .before .pre) _ (c .before .before .seen-in .ensures)) ∙ c .enum-told .given .1)))
 
 returns-4 : tie.Need-returns-4
-returns-4 c = cut-parts (cut-port-seen (multiIn (c .before .before .before .before .before .args .nodes .now) (c .before .before .before .before .before .args .links .now) (c .before .before .before .before .before .args .owners .now) (c .before .before .before .before .before .args .heads .now) (c .before .before .before .before .before .args .marks .now) (c .before .before .before .before .before .args .flags .now) (c .before .before .before .before .before .args .held)) _ hidden (was-hidden _ (sym (seen-as (c .before .before .before .before .before .pre) _ (c .before .before .seen-in .ensures)) ∙ c .enum-told2 .given .1)))
+returns-4 c = unplaced-parts (cut-port-seen (multiIn (c .before .before .before .before .before .args .nodes .now) (c .before .before .before .before .before .args .links .now) (c .before .before .before .before .before .args .owners .now) (c .before .before .before .before .before .args .heads .now) (c .before .before .before .before .before .args .marks .now) (c .before .before .before .before .before .args .flags .now) (c .before .before .before .before .before .args .held)) _ hidden (was-hidden _ (sym (seen-as (c .before .before .before .before .before .pre) _ (c .before .before .seen-in .ensures)) ∙ c .enum-told2 .given .1)))
 
 returns-5 : tie.Need-returns-5
 returns-5 c = port-cut-far-in (c .before .before .before .before .before .before .before .before .before .before .before .before .before .before .before .args .nodes .now) (c .before .before .before .before .before .before .before .before .before .before .before .before .before .before .before .args .links .now) (c .before .before .before .before .before .before .before .before .before .before .before .before .before .before .before .args .owners .now) (c .before .before .before .before .before .before .before .before .before .before .before .before .before .before .before .args .heads .now) (c .before .before .before .before .before .before .before .before .before .before .before .before .before .before .before .args .marks .now) (c .before .before .before .before .before .before .before .before .before .before .before .before .before .before .before .args .flags .now) (c .before .before .before .before .before .before .before .before .before .before .before .before .before .before .before .args .held) (on-block (c .before .before .before .before .before .before .before .before .before .before .before .before .before .before .before .pre) _ _ (seen-as (c .before .before .before .before .before .before .before .before .before .before .before .before .before .before .before .pre) _ (c .before .before .before .before .before .before .before .before .before .before .before .before .seen-in .ensures)) (c .before .before .before .before .before .before .before .before .before .before .enum-told3 .given .1)) (mark-in (c .before .before .before .before .before .before .before .before .before .before .before .before .before .before .before .args .nodes .now) (c .before .before .before .before .before .before .before .before .before .before .before .before .before .before .before .args .links .now) (c .before .before .before .before .before .before .before .before .before .before .before .before .before .before .before .args .owners .now) (c .before .before .before .before .before .before .before .before .before .before .before .before .before .before .before .args .heads .now) (c .before .before .before .before .before .before .before .before .before .before .before .before .before .before .before .args .marks .now) (c .before .before .before .before .before .before .before .before .before .before .before .before .before .before .before .args .flags .now) (c .before .before .before .before .before .before .before .before .before .before .before .before .before .before .before .args .held) (sound-of _ (c .before .before .before .before .before .before .before .before .before .before .before .before .before .before .before .pre)) _ _ (c .before .before .before .before .before .before .before .before .wide .ensures) (c .before .before .before .before .before .before .before .marked .ensures) false (c .before .before .before .before .before .before .if1 .left)) (c .before .before .before .before .wide2 .ensures) (c .before .before .before .cut .ensures .0) (c .before .before .before .cut .ensures .1) (c .before .before .without-link .ensures) (c .before .with-links .ensures) (c .if2 .left)

@@ -1,4 +1,4 @@
--- `multiportgraph::reads::wire_in` meets its contract: no link, and the subport at the far end.
+-- `multiportgraph::reads::wire_in` meets its contract: no link, and the far end with its place.
 use borrow.Author.Needs.{needs}
 use Rattle.multiportgraph.specs.ReadSteps.{no-wire, one-wire}
 use Rattle.multiportgraph.proofs.reads.wire_in.Statement.{statement}
@@ -22,8 +22,11 @@ far-in-requires c κs = search needs
 subport-in-requires : tie.Need-subport-in-requires
 subport-in-requires c κs = search needs
 
+place-in-requires : tie.Need-place-in-requires
+place-in-requires c κs = search needs
+
 returns-2 : tie.Need-returns-2
-returns-2 c = one-wire _ _ _ _ _ _ (c .before .before .before .before .before .wide .ensures) (c .before .before .before .before .at .ensures) _ _ _ (c .before .before .before .if1 .left) (c .before .before .wide2 .ensures) (c .before .far-in .ensures) (c .subport-in .ensures)
+returns-2 c = one-wire _ _ _ _ _ _ (c .before .before .before .before .before .before .before .wide .ensures) (c .before .before .before .before .before .before .at .ensures) _ _ _ _ (c .before .before .before .before .before .if1 .left) (c .before .before .before .before .wide2 .ensures) (c .before .before .before .far-in .ensures) (c .before .before .subport-in .ensures) (c .place-in .ensures)
 
 pub wire-in-spec : {M : Type 1} → statement M
 wire-in-spec =
@@ -35,4 +38,5 @@ wire-in-spec =
     wide-requires-2
     far-in-requires
     subport-in-requires
+    place-in-requires
     returns-2)

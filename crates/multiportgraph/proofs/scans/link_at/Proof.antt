@@ -7,11 +7,11 @@ use Rattle.multiportgraph.specs.ScanSteps.{end-outside, end-nothing, end
 use Rattle.multiportgraph.proofs.scans.link_at.Statement.{statement}
 use Rattle.multiportgraph.proofs.scans.link_at.Tie as tie
 
-cast-wire-in : tie.Need-cast-wire-in
-cast-wire-in c = search needs
+cast-wire-end-in : tie.Need-cast-wire-end-in
+cast-wire-end-in c = search needs
 
-wire-in-requires : tie.Need-wire-in-requires
-wire-in-requires c κs = search needs
+wire-end-in-requires : tie.Need-wire-end-in-requires
+wire-end-in-requires c κs = search needs
 
 enum-told : tie.Need-enum-told
 enum-told c = search needs
@@ -25,17 +25,20 @@ enum-known-wire c = search needs
 passes-requires : tie.Need-passes-requires
 passes-requires c κs = search needs
 
+place-in-requires : tie.Need-place-in-requires
+place-in-requires c κs = search needs
+
 returns : tie.Need-returns
-returns c = (end-given (c .before .before .before .before .before .before .before .before .args .links .now) (c .before .before .before .before .before .before .before .before .args .owners .now) (c .before .before .before .before .before .before .before .before .args .flags .now) (λ w. passesIn (c .before .before .before .before .before .before .before .before .args .owners .now) (c .before .before .before .before .before .before .before .before .args .flags .now) (c .before .before .before .before .before .before .before .before .args .only) (w .to .port .0)) (subport# (c .before .before .before .before .before .before .before .before .args .port) (c .before .before .before .before .before .before .before .before .args .offset)) (c .before .before .before .before .before .before .before .before .args .slot) _ _ (c .before .before .before .before .before .before .wire-in .ensures) (c .before .before .before .before .wire .given .1) (sym (c .before .passes .ensures) ∙ c .if2 .taken), refl)
+returns c = (end-given (c .before .before .before .before .before .before .before .before .before .args .links .now) (c .before .before .before .before .before .before .before .before .before .args .owners .now) (c .before .before .before .before .before .before .before .before .before .args .flags .now) (λ w. passesIn (c .before .before .before .before .before .before .before .before .before .args .owners .now) (c .before .before .before .before .before .before .before .before .before .args .flags .now) (c .before .before .before .before .before .before .before .before .before .args .only) (w .to .port .0)) (subport# (c .before .before .before .before .before .before .before .before .before .args .port) (c .before .before .before .before .before .before .before .before .before .args .offset)) (c .before .before .before .before .before .before .before .before .before .args .slot) _ _ (c .before .before .before .before .before .before .before .wire-end-in .ensures) (c .before .before .before .before .before .wire .given .1) _ (c .place-in .ensures) (sym (c .before .before .passes .ensures) ∙ c .before .if2 .taken), refl)
 
 returns-2 : tie.Need-returns-2
-returns-2 c = (end-nothing (c .before .before .before .before .args .links .now) (c .before .before .before .before .args .owners .now) (c .before .before .before .before .args .flags .now) (λ w. passesIn (c .before .before .before .before .args .owners .now) (c .before .before .before .before .args .flags .now) (c .before .before .before .before .args .only) (w .to .port .0)) (subport# (c .before .before .before .before .args .port) (c .before .before .before .before .args .offset)) (c .before .before .before .before .args .slot) _ (c .before .before .wire-in .ensures) (c .enum-told .given .1), refl)
+returns-2 c = (end-nothing (c .before .before .before .before .args .links .now) (c .before .before .before .before .args .owners .now) (c .before .before .before .before .args .flags .now) (λ w. passesIn (c .before .before .before .before .args .owners .now) (c .before .before .before .before .args .flags .now) (c .before .before .before .before .args .only) (w .to .port .0)) (subport# (c .before .before .before .before .args .port) (c .before .before .before .before .args .offset)) (c .before .before .before .before .args .slot) _ (c .before .before .wire-end-in .ensures) (c .enum-told .given .1), refl)
 
 returns-3 : tie.Need-returns-3
-returns-3 c = (end-refused (c .before .before .before .before .args .links .now) (c .before .before .before .before .args .owners .now) (c .before .before .before .before .args .flags .now) (λ w. passesIn (c .before .before .before .before .args .owners .now) (c .before .before .before .before .args .flags .now) (c .before .before .before .before .args .only) (w .to .port .0)) (subport# (c .before .before .before .before .args .port) (c .before .before .before .before .args .offset)) (c .before .before .before .before .args .slot) _ _ (c .before .before .wire-in .ensures) (c .enum-told2 .given .1), refl)
+returns-3 c = (end-refused (c .before .before .before .before .args .links .now) (c .before .before .before .before .args .owners .now) (c .before .before .before .before .args .flags .now) (λ w. passesIn (c .before .before .before .before .args .owners .now) (c .before .before .before .before .args .flags .now) (c .before .before .before .before .args .only) (w .to .port .0)) (subport# (c .before .before .before .before .args .port) (c .before .before .before .before .args .offset)) (c .before .before .before .before .args .slot) _ _ (c .before .before .wire-end-in .ensures) (c .enum-told2 .given .1), refl)
 
 returns-4 : tie.Need-returns-4
-returns-4 c = (end-passed (c .before .before .before .before .before .before .before .before .args .links .now) (c .before .before .before .before .before .before .before .before .args .owners .now) (c .before .before .before .before .before .before .before .before .args .flags .now) (λ w. passesIn (c .before .before .before .before .before .before .before .before .args .owners .now) (c .before .before .before .before .before .before .before .before .args .flags .now) (c .before .before .before .before .before .before .before .before .args .only) (w .to .port .0)) (subport# (c .before .before .before .before .before .before .before .before .args .port) (c .before .before .before .before .before .before .before .before .args .offset)) (c .before .before .before .before .before .before .before .before .args .slot) _ _ (c .before .before .before .before .before .before .wire-in .ensures) (c .before .before .before .before .wire .given .1) (sym (c .before .passes .ensures) ∙ c .if2 .left), refl)
+returns-4 c = (end-passed (c .before .before .before .before .before .before .before .before .args .links .now) (c .before .before .before .before .before .before .before .before .args .owners .now) (c .before .before .before .before .before .before .before .before .args .flags .now) (λ w. passesIn (c .before .before .before .before .before .before .before .before .args .owners .now) (c .before .before .before .before .before .before .before .before .args .flags .now) (c .before .before .before .before .before .before .before .before .args .only) (w .to .port .0)) (subport# (c .before .before .before .before .before .before .before .before .args .port) (c .before .before .before .before .before .before .before .before .args .offset)) (c .before .before .before .before .before .before .before .before .args .slot) _ _ (c .before .before .before .before .before .before .wire-end-in .ensures) (c .before .before .before .before .wire .given .1) (sym (c .before .passes .ensures) ∙ c .if2 .left), refl)
 
 returns-5 : tie.Need-returns-5
 returns-5 c = (end-outside (c .before .args .links .now) (c .before .args .owners .now) (c .before .args .flags .now) (λ w. passesIn (c .before .args .owners .now) (c .before .args .flags .now) (c .before .args .only) (w .to .port .0)) (subport# (c .before .args .port) (c .before .args .offset)) (c .before .args .slot) (c .if1 .left), refl)
@@ -44,12 +47,13 @@ pub link-at-spec : {M : Type 1} → statement M
 link-at-spec =
     tie.close
     (tie.spec
-    cast-wire-in
-    wire-in-requires
+    cast-wire-end-in
+    wire-end-in-requires
     enum-told
     enum-told-2
     enum-known-wire
     passes-requires
+    place-in-requires
     returns
     returns-2
     returns-3

@@ -7,7 +7,8 @@ use Rattle.multiportgraph.specs.declared.multiportgraph.PortsLinked.{PortsLinke
 use Rattle.multiportgraph.specs.declared.multiportgraph.PortUnlinked.{PortUnlinked}
 use Rattle.records.specs.Run.{five}
 use Rattle.records.specs.Forms.{meant}
-use Rattle.records.specs.AskSteps.{answered}
+use Rattle.records.specs.AskSteps.{answered, cut-answered, cut-sub-answered, link-of-answered}
+use Rattle.multiportgraph.specs.Answers.{unplaced}
 use Rattle.records.proofs.ask.answer.Statement.{statement}
 use Rattle.records.proofs.ask.answer.Tie as tie
 
@@ -56,6 +57,9 @@ enum-known-asked-5 c = search needs
 unlink-port-requires : tie.Need-unlink-port-requires
 unlink-port-requires c κs = search needs
 
+unplaced-requires : tie.Need-unplaced-requires
+unplaced-requires c κs = search needs
+
 cut-words-requires : tie.Need-cut-words-requires
 cut-words-requires c κs = search needs
 
@@ -74,6 +78,9 @@ enum-known-asked-7 c = search needs
 unlink-subport-requires : tie.Need-unlink-subport-requires
 unlink-subport-requires c κs = search needs
 
+unplaced-requires-2 : tie.Need-unplaced-requires-2
+unplaced-requires-2 c κs = search needs
+
 cut-words-requires-2 : tie.Need-cut-words-requires-2
 cut-words-requires-2 c κs = search needs
 
@@ -82,6 +89,9 @@ enum-known-asked-8 c = search needs
 
 subport-link-requires : tie.Need-subport-link-requires
 subport-link-requires c κs = search needs
+
+unplaced-requires-3 : tie.Need-unplaced-requires-3
+unplaced-requires-3 c κs = search needs
 
 cut-words-requires-3 : tie.Need-cut-words-requires-3
 cut-words-requires-3 c κs = search needs
@@ -118,8 +128,9 @@ returns-4 c =
 
 returns-5 : tie.Need-returns-5
 returns-5 c =
-    answered (c .before .before .before .before .before .before .pre) (ap meant (c .before .before .before .before .asked5 .given .1)) (c .cut-words .ensures ∙ ap five (c .before .before .unlink-port .ensures .1))
-    (ap (λ (r : PortUnlinked). r .graph) (c .before .before .unlink-port .ensures .0))
+    cut-answered (c .before .before .before .before .before .before .before .pre) (ap meant (c .before .before .before .before .before .asked5 .given .1)) (c .cut-words .ensures)
+    (c .before .unplaced .ensures .0 ∙ ap (λ (r : PortUnlinked). unplaced (r .answer)) (c .before .before .before .unlink-port .ensures .0))
+    (ap (λ (r : PortUnlinked). r .graph) (c .before .before .before .unlink-port .ensures .0))
 
 returns-6 : tie.Need-returns-6
 returns-6 c =
@@ -128,11 +139,14 @@ returns-6 c =
 
 returns-7 : tie.Need-returns-7
 returns-7 c =
-    answered (c .before .before .before .before .before .before .pre) (ap meant (c .before .before .before .before .asked7 .given .1)) (c .cut-words2 .ensures ∙ ap five (c .before .before .unlink-subport .ensures .1))
-    (ap (λ (r : PortUnlinked). r .graph) (c .before .before .unlink-subport .ensures .0))
+    cut-sub-answered (c .before .before .before .before .before .before .before .pre) (ap meant (c .before .before .before .before .before .asked7 .given .1)) (c .cut-words2 .ensures)
+    (c .before .unplaced2 .ensures .0 ∙ ap (λ (r : PortUnlinked). unplaced (r .answer)) (c .before .before .before .unlink-subport .ensures .0))
+    (ap (λ (r : PortUnlinked). r .graph) (c .before .before .before .unlink-subport .ensures .0))
 
 returns-8 : tie.Need-returns-8
-returns-8 c = answered (c .before .before .before .before .before .pre) (ap meant (c .before .before .before .asked8 .given .1)) (c .cut-words3 .ensures ∙ ap five (c .before .subport-link .ensures .1)) refl
+returns-8 c =
+    link-of-answered (c .before .before .before .before .before .before .pre) (ap meant (c .before .before .before .before .asked8 .given .1)) (c .cut-words3 .ensures)
+    (c .before .unplaced3 .ensures .0 ∙ ap unplaced (c .before .before .subport-link .ensures .0))
 
 returns-9 : tie.Need-returns-9
 returns-9 c = answered (c .before .before .before .pre) (ap meant (c .before .enum-told .given .1)) (c .count-words .ensures) refl
@@ -159,15 +173,18 @@ answer-spec =
     link-words-requires
     enum-known-asked-5
     unlink-port-requires
+    unplaced-requires
     cut-words-requires
     enum-known-asked-6
     link-subports-requires
     link-words-requires-2
     enum-known-asked-7
     unlink-subport-requires
+    unplaced-requires-2
     cut-words-requires-2
     enum-known-asked-8
     subport-link-requires
+    unplaced-requires-3
     cut-words-requires-3
     enum-told
     count-words-requires

@@ -6,10 +6,10 @@ use Rattle.multiportgraph.specs.Calls.{visibleNodes, visiblePorts, visibleLinks
 use Rattle.records.specs.Run.{five}
 use Rattle.records.specs.Forms.{meant}
 use Rattle.records.specs.AnswerSteps.{nodes-fit, ports-fit, links-fit}
-use Rattle.records.specs.AskSteps.{answered, counts-answered, set-answered, set-fits}
+use Rattle.records.specs.AskSteps.{answered, counts-answered, set-answered, set-fits, cut-answered, cut-sub-answered, link-of-answered}
 use Rattle.records.proofs.lent.one_request.Statement.{statement}
 use Rattle.records.proofs.lent.one_request.Tie as tie
-use Rattle.multiportgraph.specs.Answers.{addNumbers, removeNumbers, linkNumbers, cutNumbers}
+use Rattle.multiportgraph.specs.Answers.{addNumbers, removeNumbers, linkNumbers}
 
 enum-known-ask : tie.Need-enum-known-ask
 enum-known-ask c = search needs
@@ -154,8 +154,7 @@ returns-4 c =
 returns-5 : tie.Need-returns-5
 returns-5 c =
     let k = c .before .before .before .before .before .before .before .before .before .before in
-    answered (k .before .before .pre) (ap meant (k .ask5 .given .1)) (c .cut-words .ensures ∙ ap (λ x. five (cutNumbers x)) (c .before .before .cut-port-in .ensures .1))
-    (c .before .before .cut-port-in .ensures .0)
+    cut-answered (k .before .before .pre) (ap meant (k .ask5 .given .1)) (c .cut-words .ensures) (c .before .before .cut-port-in .ensures .1) (c .before .before .cut-port-in .ensures .0)
 
 returns-6 : tie.Need-returns-6
 returns-6 c =
@@ -166,13 +165,12 @@ returns-6 c =
 returns-7 : tie.Need-returns-7
 returns-7 c =
     let k = c .before .before .before .before .before .before .before .before .before .before in
-    answered (k .before .before .pre) (ap meant (k .ask7 .given .1)) (c .cut-words2 .ensures ∙ ap (λ x. five (cutNumbers x)) (c .before .before .cut-sub-in .ensures .1))
-    (c .before .before .cut-sub-in .ensures .0)
+    cut-sub-answered (k .before .before .pre) (ap meant (k .ask7 .given .1)) (c .cut-words2 .ensures) (c .before .before .cut-sub-in .ensures .1) (c .before .before .cut-sub-in .ensures .0)
 
 returns-8 : tie.Need-returns-8
 returns-8 c =
     let k = c .before .before .before .before .before .before .before .before .before in
-    answered (k .before .before .pre) (ap meant (k .ask8 .given .1)) (c .cut-words3 .ensures ∙ ap (λ x. five (cutNumbers x)) (c .before .subport-link-in .ensures)) refl
+    link-of-answered (k .before .before .pre) (ap meant (k .ask8 .given .1)) (c .cut-words3 .ensures) (c .before .subport-link-in .ensures)
 
 returns-9 : tie.Need-returns-9
 unfolding visibleNodes visiblePorts visibleLinks

@@ -2,8 +2,9 @@
 use mathlib.Core.Path.{_≡_, refl, sym, _∙_}
 use borrow.Author.Needs.{needs}
 use Rattle.portgraph.specs.LookupSteps.{with-numbers}
-use Rattle.multiportgraph.specs.NamedLaws.{seen-as, port-cut-none, port-cut-far}
-use Rattle.multiportgraph.specs.Reading.{dead, hidden, isSplit}
+use Rattle.multiportgraph.specs.NamedLaws.{seen-as, port-cut}
+use Rattle.multiportgraph.specs.Reading.{dead, hidden, visible, seen, isSplit}
+use Rattle.multiportgraph.specs.ReadLaws.{place-read}
 use Rattle.multiportgraph.specs.LinkSteps.{on-block}
 use Rattle.multiportgraph.specs.declared.multiportgraph.PortUnlinked.{PortUnlinked}
 use Rattle.multiportgraph.specs.FormSteps.{split-told}
@@ -16,6 +17,10 @@ use Rattle.multiportgraph.specs.Presumed.{OnBlock}
 -- the port is a block's
 on-block-here : (c : tie.After-direction) → OnBlock (c .before .before .before .before .before .before .args .t1) (c .before .before .before .before .before .before .args .port .0) (c .direction .given .0 .1 .0)
 on-block-here c = on-block (c .before .before .before .before .before .before .pre) (c .before .before .seen-in .result) _ (seen-as (c .before .before .before .before .before .before .pre) _ (c .before .before .seen-in .ensures)) (c .direction .given .1)
+
+-- its node and side
+seen-here : (c : tie.After-direction) → seen (c .before .before .before .before .before .before .args .t1) (c .before .before .before .before .before .before .args .port .0) ≡ visible (c .direction .given .0 .0 .0) (c .direction .given .0 .1 .0)
+seen-here c = was-visible _ _ _ (sym (seen-as (c .before .before .before .before .before .before .pre) _ (c .before .before .seen-in .ensures)) ∙ c .direction .given .1)
 
 -- the mark is the port's
 split-is : (c : tie.After-marked) → isSplit (c .before .before .before .before .before .before .before .before .before .before .before .args .t1) (c .before .before .before .before .before .before .before .before .before .before .before .args .port .0) ≡ c .marked .result
@@ -39,11 +44,17 @@ wide-requires c κs = search needs
 marked-requires : tie.Need-marked-requires
 marked-requires c κs = search needs
 
+place-in-requires : tie.Need-place-in-requires
+place-in-requires c κs = search needs
+
 drop-copy-requires : tie.Need-drop-copy-requires
-drop-copy-requires c κs = record { block = on-block-here (c .before .before .before .before .before .before); split = split-is (c .before) ∙ c .if1 .taken }
+drop-copy-requires c κs = record { block = on-block-here (c .before .before .before .before .before .before .before .before .before); split = split-is (c .before .before .before .before) ∙ c .before .before .before .if1 .taken }
 
 returns : tie.Need-returns
-returns c = with-numbers (λ (r : PortUnlinked). cutNumbers (r .answer)) (cut-port-split (c .before .before .before .before .before .before .before .before .before .before .before .before .before .args .t1) _ _ _ _ (was-visible _ _ _ (sym (seen-as (c .before .before .before .before .before .before .before .before .before .before .before .before .before .pre) _ (c .before .before .before .before .before .before .before .before .before .seen-in .ensures)) ∙ c .before .before .before .before .before .before .before .direction .given .1)) (split-is (c .before .before) ∙ c .before .if1 .taken) (c .drop-copy .ensures))
+returns c = with-numbers (λ (r : PortUnlinked). cutNumbers (r .answer)) (cut-port-split (c .before .before .before .before .before .before .before .before .before .before .before .before .before .before .before .before .args .t1) _ _ _ _ (seen-here (c .before .before .before .before .before .before .before .before .before .before)) (split-is (c .before .before .before .before .before) ∙ c .before .before .before .before .if1 .taken) (c .drop-copy .ensures) (c .before .place-in .ensures ∙ place-read (c .before .before .before .before .before .before .before .before .before .before .before .before .before .before .before .before .pre .fine) _ _ _ (seen-here (c .before .before .before .before .before .before .before .before .before .before))))
+
+plain-in-requires : tie.Need-plain-in-requires
+plain-in-requires c κs = search needs
 
 wide-requires-2 : tie.Need-wide-requires-2
 wide-requires-2 c κs = search needs
@@ -55,19 +66,13 @@ without-link-requires : tie.Need-without-link-requires
 without-link-requires c κs = search needs
 
 returns-2 : tie.Need-returns-2
-returns-2 c = with-numbers (λ (r : PortUnlinked). cutNumbers (r .answer)) (port-cut-none (on-block-here (c .before .before .before .before .before .before .before .before .before .before .before .before)) (split-is (c .before .before .before .before .before .before .before) ∙ c .before .before .before .before .before .before .if1 .left) (c .before .before .before .before .wide2 .ensures) (c .before .before .before .cut .ensures .0) (c .before .before .before .cut .ensures .1) (c .before .before .without-link .ensures) (c .if2 .taken))
-
-sub-t29 : tie.Need-sub-t29
-sub-t29 c = search needs
+returns-2 c = with-numbers (λ (r : PortUnlinked). cutNumbers (r .answer)) (cut-port-seen (c .before .before .before .before .before .before .args .t1) _ dead (was-dead _ (sym (seen-as (c .before .before .before .before .before .before .pre) _ (c .before .before .seen-in .ensures)) ∙ c .enum-told .given .1)))
 
 returns-3 : tie.Need-returns-3
-returns-3 c = with-numbers (λ (r : PortUnlinked). cutNumbers (r .answer)) (cut-port-seen (c .before .before .before .before .before .before .args .t1) _ dead (was-dead _ (sym (seen-as (c .before .before .before .before .before .before .pre) _ (c .before .before .seen-in .ensures)) ∙ c .enum-told .given .1)))
+returns-3 c = with-numbers (λ (r : PortUnlinked). cutNumbers (r .answer)) (cut-port-seen (c .before .before .before .before .before .before .args .t1) _ hidden (was-hidden _ (sym (seen-as (c .before .before .before .before .before .before .pre) _ (c .before .before .seen-in .ensures)) ∙ c .enum-told2 .given .1)))
 
 returns-4 : tie.Need-returns-4
-returns-4 c = with-numbers (λ (r : PortUnlinked). cutNumbers (r .answer)) (cut-port-seen (c .before .before .before .before .before .before .args .t1) _ hidden (was-hidden _ (sym (seen-as (c .before .before .before .before .before .before .pre) _ (c .before .before .seen-in .ensures)) ∙ c .enum-told2 .given .1)))
-
-returns-5 : tie.Need-returns-5
-returns-5 c = with-numbers (λ (r : PortUnlinked). cutNumbers (r .answer)) (port-cut-far (on-block-here (c .before .before .before .before .before .before .before .before .before .before .before .before)) (split-is (c .before .before .before .before .before .before .before) ∙ c .before .before .before .before .before .before .if1 .left) (c .before .before .before .before .wide2 .ensures) (c .before .before .before .cut .ensures .0) (c .before .before .before .cut .ensures .1) (c .before .before .without-link .ensures) (c .if2 .left))
+returns-4 c = with-numbers (λ (r : PortUnlinked). cutNumbers (r .answer)) (port-cut (on-block-here (c .before .before .before .before .before .before .before .before .before .before .before .before .before .before .before .before)) (split-is (c .before .before .before .before .before .before .before .before .before .before .before) ∙ c .before .before .before .before .before .before .before .before .before .before .if1 .left) (c .before .before .before .wide2 .ensures) (c .before .before .cut .ensures .0) (c .before .before .cut .ensures .1) (c .before .without-link .ensures) (c .before .before .before .before .before .plain-in .ensures))
 
 pub unlink-port-spec : {M : Type 1} → statement M
 unlink-port-spec =
@@ -79,13 +84,13 @@ unlink-port-spec =
     enum-known-direction
     wide-requires
     marked-requires
+    place-in-requires
     drop-copy-requires
     returns
+    plain-in-requires
     wide-requires-2
     cut-requires
     without-link-requires
     returns-2
-    sub-t29
     returns-3
-    returns-4
-    returns-5)
+    returns-4)

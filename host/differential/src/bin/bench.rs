@@ -13,8 +13,8 @@ use differential::lists::{benchmark, to_save, List, LISTS, SAVED};
 use differential::loads::records_of_file;
 use differential::saves::save_records;
 use differential::{plain, plain_files};
-use driver::Graph;
-use portgraph::{LinkView, PortView};
+use driver::{Call, Graph};
+use portgraph::{Direction, LinkView, PortView};
 
 const CALLS: usize = 2_000;
 const ROUNDS: usize = 40;
@@ -67,7 +67,7 @@ fn instructions(words: [&str; 3]) -> Option<u64> {
 fn instructions_a_run(side: &str, list: usize) -> Option<f64> {
     let number = list.to_string();
     let [once, thrice] = ["1", "3"].map(|times| instructions([side, &number, times]));
-    Some((thrice? - once?) as f64 / 2.0)
+    Some((thrice? as f64 - once? as f64) / 2.0)
 }
 
 /// Instructions a call.
@@ -90,54 +90,93 @@ fn the_entry() {
     }
 }
 
-/// The sides of saving a list, by what they do: the list run, the same and saved; the plain writer on the graph that the list
-/// leaves, the original and then this writer.
-const SAVING: [&str; 4] = ["run", "save", "write", "rust-save"];
+/// The requests that build a graph anew: its blocks, then its wires as they are listed. They leave the same file.
+fn rebuilt(graph: &Graph) -> Vec<u8> {
+    let mut calls = Vec::new();
+    let (mut first, mut ports) = (Vec::new(), 0);
+    for node in graph.nodes_iter() {
+        let (incoming, outgoing) = (graph.num_inputs(node) as u32, graph.num_outputs(node) as u32);
+        calls.push(Call::Add { incoming, outgoing });
+        first.resize(node.index() + 1, 0);
+        first[node.index()] = ports;
+        ports += incoming + outgoing;
+    }
+    let anew = |port| {
+        let node = graph.port_node(port).expect("a wire's end is live");
+        let place = graph.port_offset(port).expect("a wire's end is live");
+        let before = if place.direction() == Direction::Incoming { 0 } else { graph.num_inputs(node) };
+        first[node.index()] + (before + place.index()) as u32
+    };
+    for port in graph.nodes_iter().flat_map(|node| graph.outputs(node)) {
+        calls.extend(graph.port_links(port).map(|(_, far)| Call::Link { a: anew(port), b: anew(far.port()) }));
+    }
+    driver::to_bytes(&calls.into_iter().map(Call::to_record).collect::<Vec<_>>())
+}
 
-/// Runs a list by a side of saving, so often; gives the file's length.
-fn saving(side: &str, list: &List, graph: &Graph, buffer: &mut [u8], times: usize) -> usize {
-    let requests = &list.requests;
+/// A list that is saved, the graph that it leaves, and the requests that build this anew.
+struct ToSave {
+    list: List,
+    graph: Graph,
+    built: Vec<u8>,
+}
+
+fn saved(number: usize) -> ToSave {
+    let list = to_save(number);
+    let graph = plain::graph(&list.requests);
+    let built = rebuilt(&graph);
+    ToSave { list, graph, built }
+}
+
+/// The sides of saving, by what they do: the graph built with no room for its file, which is refused before anything is
+/// written; built and saved; saved by the plain writer; then the list run and saved, by the port and by the original with this
+/// writer.
+const SAVING: [&str; 5] = ["build", "save", "write", "list", "rust-list"];
+
+/// Runs a side of saving, so often; gives the file's length.
+fn saving(side: &str, ToSave { list, graph, built }: &ToSave, buffer: &mut [u8], times: usize) -> usize {
     let mut run: Box<dyn FnMut() -> usize> = match side {
-        "run" => Box::new(|| {
-            port(requests, &mut buffer[..requests.len()]);
+        "build" => Box::new(|| {
+            assert_eq!(save_records(black_box(built), &mut []), Err(15));
             0
         }),
-        "save" => Box::new(|| save_records(black_box(requests), buffer).expect("there is room")),
+        "save" => Box::new(|| save_records(black_box(built), buffer).expect("there is room")),
         "write" => Box::new(|| plain_files::save(black_box(graph), buffer).expect("there is room")),
-        _ => Box::new(|| plain_files::save(&plain::graph(black_box(requests)), buffer).expect("there is room")),
+        "list" => Box::new(|| save_records(black_box(&list.requests), buffer).expect("there is room")),
+        _ => Box::new(|| plain_files::save(&plain::graph(black_box(&list.requests)), buffer).expect("there is room")),
     };
     (0..times).map(|_| run()).last().unwrap_or(0)
 }
 
-/// Saving: the file alone, ours as the list saved less the list run; then the list with its file.
+/// Saving: the file alone, ours as a graph built and saved less the same without its file; then a list with its file. Each side
+/// is run before it is timed, so that none finds the processor better prepared, and shortly, so that it is seldom interrupted.
 fn files() {
-    const TIMES: usize = 20;
-    let cells = |ours: f64, theirs: f64| format!(" {ours:.1} | {theirs:.1} | {:.2} |", ours / theirs);
+    const TIMES: usize = 4;
+    let cells = |ours: f64, theirs: f64| format!(" {ours:.2} | {theirs:.2} | {:.2} |", ours / theirs);
     let mut rows = [Vec::new(), Vec::new()];
     for number in 0..SAVED {
-        let list = to_save(number);
-        let graph = plain::graph(&list.requests);
-        let mut buffers = SAVING.map(|_| vec![0; kanhtrev::LONGEST_FILE.max(list.requests.len())]);
-        let mut lengths = [0; 4];
-        let times = {
-            let mut sides = SAVING.iter().zip(&mut buffers).zip(&mut lengths).map(|((side, buffer), length)| {
-                let (list, graph) = (&list, &graph);
-                move || *length = saving(side, list, graph, buffer, TIMES)
-            });
-            let [mut a, mut b, mut c, mut d] = std::array::from_fn(|_| sides.next().expect("four sides"));
-            least([&mut a, &mut b, &mut c, &mut d])
-        };
+        let given = saved(number);
+        let mut buffers = SAVING.map(|_| vec![0; kanhtrev::LONGEST_FILE]);
+        let (mut lengths, mut times) = ([0; 5], [f64::MAX; 5]);
+        for side in (0..10 * ROUNDS).flat_map(|_| 0..5) {
+            saving(SAVING[side], &given, &mut buffers[side], TIMES);
+            let start = Instant::now();
+            lengths[side] = saving(SAVING[side], &given, &mut buffers[side], TIMES);
+            times[side] = times[side].min(start.elapsed().as_nanos() as f64);
+        }
+        let ToSave { list, graph, .. } = &given;
         let file = |side: usize| &buffers[side][..lengths[side]];
-        assert!(file(1) == file(2) && file(1) == file(3), "{}: another file than the plain writer's", list.name);
-        let [run, save, write, rust_save] = times.map(|time| time / (1_000 * TIMES) as f64);
+        assert!((2..5).all(|side| file(side) == file(1)), "{}: another file than the plain writer's", list.name);
+        let [build, save, write, whole, rust_whole] = times.map(|time| time / (1_000 * TIMES) as f64);
         let name = format!("| {} | {}, {} |", list.name, graph.node_count(), graph.link_count());
         let counted = SAVING.map(|side| instructions_a_run(side, number).map(|count| count / 1_000.0));
-        let [alone, whole] = match counted {
-            [Some(run), Some(save), Some(write), Some(rust_save)] => [cells(save - run, write), cells(save, rust_save)],
+        let [alone, both] = match counted {
+            [Some(build), Some(save), Some(write), Some(whole), Some(rust_whole)] => {
+                [cells(save - build, write), cells(whole, rust_whole)]
+            }
             _ => [(); 2].map(|()| " no valgrind | | |".into()),
         };
-        rows[0].push(format!("{name}{}{alone}", cells(save - run, write)));
-        rows[1].push(format!("{name}{}{whole}", cells(save, rust_save)));
+        rows[0].push(format!("{name}{}{alone}", cells(save - build, write)));
+        rows[1].push(format!("{name}{}{both}", cells(whole, rust_whole)));
     }
     for (what, rows) in ["The file alone", "The list and its file"].iter().zip(rows) {
         println!("\n| {what} | blocks, wires | us | Rust, us | ratio | thousand instructions | Rust | ratio |");
@@ -158,7 +197,7 @@ fn loading(side: &str, file: &[u8], requests: &mut [u8], times: usize) -> usize 
 }
 
 /// The file of a list that is saved in the benchmark.
-fn saved(list: &List) -> Vec<u8> {
+fn file_of(list: &List) -> Vec<u8> {
     let mut file = vec![0; kanhtrev::LONGEST_FILE];
     let length = plain_files::save(&plain::graph(&list.requests), &mut file).expect("there is room");
     file.truncate(length);
@@ -173,7 +212,7 @@ fn loads() {
     println!("|---|---|---|---|---|---|---|---|");
     for number in 0..SAVED {
         let list = to_save(number);
-        let file = saved(&list);
+        let file = file_of(&list);
         let mut requests = vec![0; kanhtrev::LONGEST_LOAD];
         let (mut calls, mut wires) = (0, 0);
         let [ours, theirs] = least([&mut || calls = loading("load", &file, &mut requests, TIMES), &mut || {
@@ -255,19 +294,20 @@ fn by_value() {
 }
 
 /// Runs a list by a side, so often, for valgrind to count.
-fn counted(side: &str, list: usize, times: usize) {
-    let list = if matches!(side, "port" | "rust") { benchmark(list, CALLS) } else { to_save(list) };
-    let mut buffer = vec![0; kanhtrev::LONGEST_LOAD.max(list.requests.len())];
-    let answers = &mut buffer[..list.requests.len()];
+fn counted(side: &str, number: usize, times: usize) {
+    if SAVING.contains(&side) {
+        saving(side, &saved(number), &mut vec![0; kanhtrev::LONGEST_FILE], times);
+        return;
+    }
+    if LOADING.contains(&side) {
+        loading(side, &file_of(&to_save(number)), &mut vec![0; kanhtrev::LONGEST_LOAD], times);
+        return;
+    }
+    let list = benchmark(number, CALLS);
+    let mut answers = vec![0; list.requests.len()];
     match side {
-        "port" => (0..times).for_each(|_| port(&list.requests, answers)),
-        "rust" => (0..times).for_each(|_| rust(&list.requests, answers)),
-        side if SAVING.contains(&side) => {
-            saving(side, &list, &plain::graph(&list.requests), &mut buffer, times);
-        }
-        side if LOADING.contains(&side) => {
-            loading(side, &saved(&list), &mut buffer, times);
-        }
+        "port" => (0..times).for_each(|_| port(&list.requests, &mut answers)),
+        "rust" => (0..times).for_each(|_| rust(&list.requests, &mut answers)),
         _ => panic!("no side {side}"),
     }
 }

@@ -1,7 +1,7 @@
-/* How much stack the entry takes: runs 20,000 random calls on a thread whose stack is painted beforehand, and prints how much
-   of it was written, the thread's own part included.
+/* How much stack the entries take: each runs on a thread whose stack is painted beforehand, and how much of it was written is
+   printed, the thread's own part included. The run has 20,000 random calls, the file as many blocks and wires as there is room for.
 
-   cc -O1 host/differential/stack.c target/staticlib/librecords.a -lpthread -o target/stack && target/stack */
+   cc -O1 host/differential/stack.c target/staticlib/librecords.a target/staticlib/libexports.a -lpthread -o target/stack && target/stack */
 #include <pthread.h>
 #include <stdint.h>
 #include <stdio.h>
@@ -10,10 +10,14 @@
 #include <sys/mman.h>
 
 uint32_t run_records(const uint8_t *, size_t, uint8_t *, size_t);
+uint64_t save_records(const uint8_t *, size_t, uint8_t *, size_t);
+uint64_t records_of_file(const uint8_t *, size_t, uint8_t *, size_t);
 
-enum { CALLS = 20000, WORDS = 5, STACK = 1 << 20, PAINT = 0xA5 };
+enum { CALLS = 20000, WORDS = 5, STACK = 1 << 20, PAINT = 0xA5, BLOCKS = 500, LINKS = BLOCKS - 1, FILE_BYTES = 65536 };
 
-static uint32_t requests[CALLS * WORDS], answers[CALLS * WORDS];
+static uint32_t requests[CALLS * WORDS], answers[CALLS * WORDS], ring[(BLOCKS + LINKS) * WORDS], loaded[CALLS * WORDS];
+static uint8_t file[FILE_BYTES];
+static uint64_t file_bytes, loaded_bytes;
 
 static void draw(uint32_t *request) {
     static const uint32_t below[10][5] = {
@@ -31,24 +35,48 @@ static void *run(void *unused) {
     return unused;
 }
 
-int main(void) {
-    srand(5);
-    for (int call = 0; call < CALLS; call++)
-        draw(requests + WORDS * call);
+static void *save(void *unused) {
+    file_bytes = save_records((uint8_t *)ring, sizeof ring, file, sizeof file);
+    return unused;
+}
+
+static void *load(void *unused) {
+    loaded_bytes = records_of_file(file, file_bytes, (uint8_t *)loaded, sizeof loaded);
+    return unused;
+}
+
+static size_t taken(void *(*entry)(void *)) {
     uint8_t *stack = mmap(0, STACK, PROT_READ | PROT_WRITE, MAP_PRIVATE | MAP_ANONYMOUS, -1, 0);
     if (stack == MAP_FAILED)
-        return 1;
+        exit(1);
     memset(stack, PAINT, STACK);
     pthread_attr_t attributes;
     pthread_t thread;
     pthread_attr_init(&attributes);
-    if (pthread_attr_setstack(&attributes, stack, STACK) || pthread_create(&thread, &attributes, run, 0) || pthread_join(thread, 0))
-        return 1;
+    if (pthread_attr_setstack(&attributes, stack, STACK) || pthread_create(&thread, &attributes, entry, 0) || pthread_join(thread, 0))
+        exit(1);
     size_t free_bytes = 0;
     while (free_bytes < STACK && stack[free_bytes] == PAINT)
         free_bytes++;
+    munmap(stack, STACK);
+    return STACK - free_bytes;
+}
+
+int main(void) {
+    srand(5);
+    for (int call = 0; call < CALLS; call++)
+        draw(requests + WORDS * call);
+    for (uint32_t block = 0; block < BLOCKS; block++)
+        memcpy(ring + WORDS * block, (uint32_t[WORDS]){1, 1, 1}, WORDS * sizeof *ring);
+    for (uint32_t link = 0; link < LINKS; link++)
+        memcpy(ring + WORDS * (BLOCKS + link), (uint32_t[WORDS]){4, 2 * link + 1, 2 * link + 2}, WORDS * sizeof *ring);
+    size_t bytes = taken(run);
     int accepted = 0;
     for (int call = 0; call < CALLS; call++)
         accepted += answers[WORDS * call] == 0;
-    printf("%d of %d calls accepted, %zu bytes of stack\n", accepted, CALLS, STACK - free_bytes);
+    printf("run_records: %d of %d calls accepted, %zu bytes of stack\n", accepted, CALLS, bytes);
+    bytes = taken(save);
+    printf("save_records: a file of %llu bytes, %zu bytes of stack\n", (unsigned long long)file_bytes, bytes);
+    bytes = taken(load);
+    printf("records_of_file: %llu requests, %zu bytes of stack\n", (unsigned long long)(loaded_bytes / 20), bytes);
 }

@@ -74,7 +74,7 @@ fn wired() -> History {
 }
 
 /// How many lists are saved in the benchmark.
-pub const SAVED: usize = 6;
+pub const SAVED: usize = 7;
 
 /// A list that is saved in the benchmark: two of the lists above, and wirings of kinds of their own.
 pub fn to_save(list: usize) -> List {
@@ -95,6 +95,7 @@ pub fn to_save(list: usize) -> List {
         }
         3 => given("500 wires at one output", fan(&mut (0..500))),
         4 => given("the same, linked in random order", fan(&mut shuffled(500).into_iter())),
+        5 => given("the same, linked in reverse", fan(&mut (0..500).rev())),
         _ => {
             let links = shuffled(1_024).into_iter().zip(0..).map(|(output, input): (u32, u32)| {
                 link(4 * (output / 2) + 2 + output % 2, 4 * (input / 2) + input % 2)

@@ -15,6 +15,7 @@ use Rattle.multiportgraph.specs.Wires.{subportsOfSide, walked, wiresWalked, isF
 use Rattle.theorems.specs.Book as book
 use Rattle.theorems.specs.Book.{Call, AnswerOf, Book, emptyBook, bookAnswer}
 use Rattle.multiportgraph.specs.declared.multiportgraph.MultiPortGraph.{MultiPortGraph}
+use Rattle.multiportgraph.specs.declared.multiportgraph.Release.{Release}
 use Rattle.multiportgraph.specs.declared.multiportgraph.SubportIndex.{SubportIndex}
 use Rattle.multiportgraph.specs.Places.{Wire}
 use Rattle.multiportgraph.specs.Graph.{emptyGraph}
@@ -75,9 +76,9 @@ unfoldable pub runFrom : State → List Call → State
 runFrom s [] = s
 runFrom s (c ∷ l) = runFrom (next s c) l
 
--- a history from the empty graph, with the empty book
-unfoldable pub run : List Call → State
-run calls = runFrom (record { graph = emptyGraph; book = emptyBook }) calls
+-- a history from the empty graph of a release, with the empty book
+unfoldable pub run : Release → List Call → State
+run release calls = runFrom (record { graph = emptyGraph release; book = emptyBook }) calls
 
 -- 01's numbers of a call's answer
 abbrev pub numbersOf : (c : Call) → AnswerOf c → List ℕ

@@ -22,8 +22,8 @@ use Rattle.portgraph.specs.declared.direction.Direction.the-variants.{Incoming,
 use Rattle.portgraph.specs.declared.iter.Sides.{Sides}
 use Rattle.portgraph.specs.declared.iter.Sides.the-variants.{One, Both}
 use Rattle.portgraph.specs.declared.node_entry.NodeMeta.{NodeMeta}
-use Rattle.multiportgraph.specs.Reading.{ownerOf, isHidden, isSplit, Port, dead, hidden, visible, seen, subports, subportAt, End, inner, lacking, endAt, subport#, subportOf, standing}
-use Rattle.multiportgraph.specs.Calls.{linkOfEnd, farSubport}
+use Rattle.multiportgraph.specs.declared.multiportgraph.Release.{Release}
+use Rattle.multiportgraph.specs.Reading.{ownerOf, isHidden, isSplit, Port, dead, hidden, visible, seen, subports, subportAt, End, inner, lacking, endAt, subport#, subportOf, standing, linkOfEnd, farSubport}
 use Rattle.multiportgraph.specs.Places as places
 use Rattle.multiportgraph.specs.Places.{Place, Wire, Spot, spot, atSpot, touches, wireOfSides}
 use Rattle.multiportgraph.specs.Wires.{isBlock, blocks, portsOfSide, subportsOfPort, subportsOfSide, wireTo, wireOf, sideLinks, placeOf}
@@ -546,42 +546,42 @@ module _ {m : MultiPortGraph} {M : Model} {B : Book} (r : Rel m M B) where
       r .blocks .all n (k .0) (block-not-hidden m n b, node-of-meta (r .fine .good) (r .fine .holds) n (k .0) (k .1))
 
 -- 1. The links of a side of a block, either side, are exactly the book's wires with an end on that side of that block, each once.
-pub listings-are-wires-of-side : (calls : List Call) (d : Direction) (n : ℕ) → InBook (run calls .book) n →
-    Exactly (run calls .book .wires) (λ w. endOn d w .node ≡ n) (map (wireFrom (run calls .graph) d) (sideLinks (run calls .graph) d n))
-listings-are-wires-of-side calls d n b =
-    let r = rel-run calls .1 in
+pub listings-are-wires-of-side : (release : Release) (calls : List Call) (d : Direction) (n : ℕ) → InBook (run release calls .book) n →
+    Exactly (run release calls .book .wires) (λ w. endOn d w .node ≡ n) (map (wireFrom (run release calls .graph) d) (sideLinks (run release calls .graph) d n))
+listings-are-wires-of-side release calls d n b =
+    let r = rel-run release calls .1 in
     let k = block-booked r n b in
     lists-exactly (side-lists r n (k .0) (k .1) d)
 
 -- 2. The links of a port of the book, at the spot n, d, i, are exactly the book's wires with an end at that port, each once;
-pub listings-are-wires-of-port : (calls : List Call) (p n : ℕ) (d : Direction) (i : ℕ) → spotOf (run calls .book .blocks) p ≡ spot n d i →
-    Exactly (run calls .book .wires) (λ w. touches (atSpot (spot n d i)) w ≡ true) (map (wireFrom (run calls .graph) d) (portLinks (run calls .graph) p))
-listings-are-wires-of-port calls p n d i e =
-    let r = rel-run calls .1 in
+pub listings-are-wires-of-port : (release : Release) (calls : List Call) (p n : ℕ) (d : Direction) (i : ℕ) → spotOf (run release calls .book .blocks) p ≡ spot n d i →
+    Exactly (run release calls .book .wires) (λ w. touches (atSpot (spot n d i)) w ≡ true) (map (wireFrom (run release calls .graph) d) (portLinks (run release calls .graph) p))
+listings-are-wires-of-port release calls p n d i e =
+    let r = rel-run release calls .1 in
     let s = spot-back r p n d i e in
-    subst (λ (q : ℕ). Exactly (run calls .book .wires) (λ w. touches (atSpot (spot n d i)) w ≡ true) (map (wireFrom (run calls .graph) d) (portLinks (run calls .graph) q)))
+    subst (λ (q : ℕ). Exactly (run release calls .book .wires) (λ w. touches (atSpot (spot n d i)) w ≡ true) (map (wireFrom (run release calls .graph) d) (portLinks (run release calls .graph) q)))
     (s .1) (lists-exactly (port-lists r (inner# n d i) (s .0)))
 
 -- and a number that is no port of the book lists nothing.
-pub listings-are-wires-of-no-port : (calls : List Call) (p : ℕ) → spotOf (run calls .book .blocks) p ≡ places.nowhere → portLinks (run calls .graph) p ≡ []
-listings-are-wires-of-no-port calls p = no-port-links (rel-run calls .1) p
+pub listings-are-wires-of-no-port : (release : Release) (calls : List Call) (p : ℕ) → spotOf (run release calls .book .blocks) p ≡ places.nowhere → portLinks (run release calls .graph) p ≡ []
+listings-are-wires-of-no-port release calls p = no-port-links (rel-run release calls .1) p
 
 -- 3. The links of a block over one side or both, with a range of ports skipped: on each side walked, exactly the book's wires with an
 -- end there whose far port is not in the range, its end excluded, each once. A wire from a block to itself so comes twice where both
 -- sides are walked.
-pub listings-are-wires-of-node : (calls : List Call) (n : ℕ) → InBook (run calls .book) n → (sides : Sides) (lo hi : ℕ) →
+pub listings-are-wires-of-node : (release : Release) (calls : List Call) (n : ℕ) → InBook (run release calls .book) n → (sides : Sides) (lo hi : ℕ) →
     OverSides
-    (λ d l. Exactly (run calls .book .wires) (λ w. (endOn d w .node ≡ n) × OutOfRange (run calls .book) lo hi (farFrom d w)) (map (wireFrom (run calls .graph) d) l))
-    sides (nodeLinks (run calls .graph) n sides lo hi)
+    (λ d l. Exactly (run release calls .book .wires) (λ w. (endOn d w .node ≡ n) × OutOfRange (run release calls .book) lo hi (farFrom d w)) (map (wireFrom (run release calls .graph) d) l))
+    sides (nodeLinks (run release calls .graph) n sides lo hi)
 unfolding nodeLinks
-listings-are-wires-of-node calls n b (One d) lo hi =
-    let r = rel-run calls .1 in
+listings-are-wires-of-node release calls n b (One d) lo hi =
+    let r = rel-run release calls .1 in
     let k = block-booked r n b in
     lists-exactly (node-links-list r n (k .0) (k .1) lo hi d)
-listings-are-wires-of-node calls n b Both lo hi =
-    let r = rel-run calls .1 in
+listings-are-wires-of-node release calls n b Both lo hi =
+    let r = rel-run release calls .1 in
     let k = block-booked r n b in
-    let m = run calls .graph in (
+    let m = run release calls .graph in (
       filter (notSkipped lo hi) (sideLinks m Incoming n),
       filter (notSkipped lo hi) (sideLinks m Outgoing n),
       filter-append (notSkipped lo hi) (sideLinks m Incoming n) (sideLinks m Outgoing n),
@@ -591,17 +591,17 @@ listings-are-wires-of-node calls n b Both lo hi =
 
 -- 4. The neighbours of a block over one side or both: on each side walked, one node for each of the book's wires with an end there,
 -- that of the far end; with the flag, wires whose far end is on the block's own outgoing side are left out, and no others.
-pub listings-are-wires-of-neighbours : (calls : List Call) (n : ℕ) → InBook (run calls .book) n → (sides : Sides) (flag : Bool) →
-    OverSides (λ d. FarNodes (run calls .book .wires) (λ w. (endOn d w .node ≡ n) × NotOwnOutput n flag (farFrom d w)) d) sides (neighbours (run calls .graph) n sides flag)
+pub listings-are-wires-of-neighbours : (release : Release) (calls : List Call) (n : ℕ) → InBook (run release calls .book) n → (sides : Sides) (flag : Bool) →
+    OverSides (λ d. FarNodes (run release calls .book .wires) (λ w. (endOn d w .node ≡ n) × NotOwnOutput n flag (farFrom d w)) d) sides (neighbours (run release calls .graph) n sides flag)
 unfolding neighbours neighbourLinks
-listings-are-wires-of-neighbours calls n b (One d) flag =
-    let r = rel-run calls .1 in
+listings-are-wires-of-neighbours release calls n b (One d) flag =
+    let r = rel-run release calls .1 in
     let k = block-booked r n b in
-    (_, lists-exactly (neighbour-links-list r n (k .0) (k .1) flag d), far-nodes (run calls .graph) d (filter (notIgnored (run calls .graph) n flag) (sideLinks (run calls .graph) d n)))
-listings-are-wires-of-neighbours calls n b Both flag =
-    let r = rel-run calls .1 in
+    (_, lists-exactly (neighbour-links-list r n (k .0) (k .1) flag d), far-nodes (run release calls .graph) d (filter (notIgnored (run release calls .graph) n flag) (sideLinks (run release calls .graph) d n)))
+listings-are-wires-of-neighbours release calls n b Both flag =
+    let r = rel-run release calls .1 in
     let k = block-booked r n b in
-    let m = run calls .graph in
+    let m = run release calls .graph in
     let a = filter (notIgnored m n flag) (sideLinks m Incoming n) in
     let c = filter (notIgnored m n flag) (sideLinks m Outgoing n) in (
       map (λ (w : SubportLink). ownerOf (m .graph) (w .to .port .0)) a,
@@ -613,15 +613,15 @@ listings-are-wires-of-neighbours calls n b Both flag =
     )
 
 -- 5. The connections from one block's outgoing side to another are exactly the book's wires from the one to the other, each once.
-pub listings-are-wires-between : (calls : List Call) (n k : ℕ) → InBook (run calls .book) n →
-    Exactly (run calls .book .wires) (λ w. (w .out .node ≡ n) × (w .into .node ≡ k)) (map (wireFrom (run calls .graph) Outgoing) (connections (run calls .graph) n k))
-listings-are-wires-between calls n k b =
-    let r = rel-run calls .1 in
+pub listings-are-wires-between : (release : Release) (calls : List Call) (n k : ℕ) → InBook (run release calls .book) n →
+    Exactly (run release calls .book .wires) (λ w. (w .out .node ≡ n) × (w .into .node ≡ k)) (map (wireFrom (run release calls .graph) Outgoing) (connections (run release calls .graph) n k))
+listings-are-wires-between release calls n k b =
+    let r = rel-run release calls .1 in
     let a = block-booked r n b in
     lists-exactly (connections-list r n (a .0) (a .1) k)
 
 -- The blocks at which walks start are the blocks of the book.
-pub blocks-are-booked : (calls : List Call) (n : ℕ) → (isBlock (run calls .graph) n ≡ true) ↔ InBook (run calls .book) n
-blocks-are-booked calls n =
-    let r = rel-run calls .1 in
+pub blocks-are-booked : (release : Release) (calls : List Call) (n : ℕ) → (isBlock (run release calls .graph) n ≡ true) ↔ InBook (run release calls .book) n
+blocks-are-booked release calls n =
+    let r = rel-run release calls .1 in
     (booked-block r n, (λ b. let k = block-booked r n b in is-block (r .fine) n (k .0) (k .1)))

@@ -16,8 +16,9 @@ use Rattle.portgraph.specs.declared.direction.Direction.the-variants.{Incoming,
 use Rattle.portgraph.specs.declared.portgraph.PortLink.{PortLink}
 use Rattle.portgraph.specs.declared.portgraph.PortLink.the-variants as lower-cut
 use Rattle.portgraph.specs.Calls.{unlinkPort}
-use Rattle.multiportgraph.specs.Reading.{isHidden, isSplit, copySide, inner, endAt, subport#}
-use Rattle.multiportgraph.specs.Calls.{linkSub, cutSub, farSubport, linkPair, linkClean}
+use Rattle.multiportgraph.specs.declared.multiportgraph.Release.{Release}
+use Rattle.multiportgraph.specs.Reading.{isHidden, isSplit, copySide, inner, endAt, subport#, farSubport}
+use Rattle.multiportgraph.specs.Calls.{linkSub, cutSub, linkPair, linkClean}
 use Rattle.multiportgraph.specs.Wires.{wiresWalked}
 use Rattle.theorems.specs.Book as book
 use Rattle.theorems.specs.Book.{Call, Block, Book, spotOf, addWire}
@@ -224,8 +225,8 @@ ends-restore {m} {M} {m′} {a} {o} {b} {r} f l = (
 
 -- The theorems.
 
-pub wire-rule : (calls : List Call) → WireRule (run calls)
-wire-rule calls = let r = rel-run calls in rule-of (run calls) (r .0) (r .1)
+pub wire-rule : (release : Release) (calls : List Call) → WireRule (run release calls)
+wire-rule release calls = let r = rel-run release calls in rule-of (run release calls) (r .0) (r .1)
 
 link-restores : {m : MultiPortGraph} {M : Model} → Fine m M → (a b : ℕ) (m′ : MultiPortGraph) (v : LinkAnswer) (x y : SubportIndex) → LinkSays m M a b m′ v →
     v ≡ link.Linked x y → Restored m m′ x × Restored m m′ y
@@ -252,20 +253,20 @@ restores {m} f B (byPortsClean a b) x y h = link-restores f a b _ (linkClean m a
 restores {m} f B (bySubports p o q r) x y h = link-sub-restores f p o q r _ (linkSub m p o q r .answer) x y (link-sub-law f p o q r) h
 
 -- a link is accepted and answers two ends: cutting either one brings back the earlier list of walked wires
-pub cut-restores : (calls : List Call) (c : Link) (x y : SubportIndex) → LinkedBy (run calls) c x y →
-    Restored (run calls .graph) (next (run calls) (linking c) .graph) x × Restored (run calls .graph) (next (run calls) (linking c) .graph) y
-cut-restores calls c x y h = restores (rel-run calls .1 .fine) (run calls .book) c x y h
+pub cut-restores : (release : Release) (calls : List Call) (c : Link) (x y : SubportIndex) → LinkedBy (run release calls) c x y →
+    Restored (run release calls .graph) (next (run release calls) (linking c) .graph) x × Restored (run release calls .graph) (next (run release calls) (linking c) .graph) y
+cut-restores release calls c x y h = restores (rel-run release calls .1 .fine) (run release calls .book) c x y h
 
 -- two links, accepted in both orders, leave as many walked wires between any two ports in either order
-pub links-in-either-order : (calls : List Call) (c d : Link) → acceptedLink (run calls) c → acceptedLink (next (run calls) (linking c)) d → acceptedLink (run calls) d →
-    acceptedLink (next (run calls) (linking d)) c → (s t : Spot) →
-    between s t (wiresWalked (next (next (run calls) (linking c)) (linking d) .graph)) ≡ between s t (wiresWalked (next (next (run calls) (linking d)) (linking c) .graph))
-links-in-either-order calls c d a b e h s t =
-    let r = rel-run calls in
+pub links-in-either-order : (release : Release) (calls : List Call) (c d : Link) → acceptedLink (run release calls) c → acceptedLink (next (run release calls) (linking c)) d → acceptedLink (run release calls) d →
+    acceptedLink (next (run release calls) (linking d)) c → (s t : Spot) →
+    between s t (wiresWalked (next (next (run release calls) (linking c)) (linking d) .graph)) ≡ between s t (wiresWalked (next (next (run release calls) (linking d)) (linking c) .graph))
+links-in-either-order release calls c d a b e h s t =
+    let r = rel-run release calls in
     let rc = rel-step (r .1) (linking c) in
     let rcd = rel-step (rc .1) (linking d) in
     let rd = rel-step (r .1) (linking d) in
     let rdc = rel-step (rd .1) (linking c) in
-    let one = walked-as-booked s t (next (next (run calls) (linking c)) (linking d)) (rule-of _ (rcd .0) (rcd .1)) ∙ book-both s t (run calls) c d a b in
-    let two = walked-as-booked s t (next (next (run calls) (linking d)) (linking c)) (rule-of _ (rdc .0) (rdc .1)) ∙ book-both s t (run calls) d c e h in
+    let one = walked-as-booked s t (next (next (run release calls) (linking c)) (linking d)) (rule-of _ (rcd .0) (rcd .1)) ∙ book-both s t (run release calls) c d a b in
+    let two = walked-as-booked s t (next (next (run release calls) (linking d)) (linking c)) (rule-of _ (rdc .0) (rdc .1)) ∙ book-both s t (run release calls) d c e h in
     one ∙ (omega arith) ∙ sym two

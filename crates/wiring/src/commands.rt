@@ -21,20 +21,25 @@ use crate::orders::RESIZE;
 use crate::orders::SAVE;
 use crate::orders::SHEET;
 use crate::orders::SUBLINK;
+use crate::orders::TIDY;
 use crate::orders::UNLINK;
 use crate::orders::UNLINKSUB;
 use crate::orders::WIRES;
 use crate::replies::show_answer;
 use crate::replies::show_count;
+use crate::replies::show_refusal;
 use crate::resize::resize_block;
 use crate::sheet::link_pairs;
+use crate::show::Line;
 use crate::store::save_as;
 use crate::whole::list_whole;
 use multiportgraph::multiportgraph::MultiPortGraph;
+use multiportgraph::multiportgraph::TidyAnswer;
 use portgraph::index::NodeIndex;
 use portgraph::index::PortIndex;
 use records::ask::ask;
 use records::ask::link_clean;
+use records::ask::tidy_port;
 ghost use Rattle.multiportgraph.specs.Inner.{MultiWf};
 
 // A request, and so many values of its answer.
@@ -58,6 +63,19 @@ fn link_cleanly(graph: MultiPortGraph, order: Order) -> MultiPortGraph
     told.graph
 }
 
+fn tidy(graph: MultiPortGraph, order: Order) -> MultiPortGraph
+    requires { ⌜ MultiWf graph ⌝ }
+    ensures { λ r. ⌜ MultiWf r ⌝ }
+{
+    let done = tidy_port(graph, order.a);
+    let answer = done.answer;
+    match answer {
+        TidyAnswer::Tidied => Line::of(b"ok").write(),
+        TidyAnswer::Refused(refusal) => show_refusal(refusal),
+    }
+    done.graph
+}
+
 // A command that changes the graph, or asks for what a request asks; the text is that of its line.
 pub(crate) fn run(graph: MultiPortGraph, order: Order, text: &[u8]) -> MultiPortGraph
     requires { ⌜ MultiWf graph ⌝ }
@@ -74,6 +92,7 @@ pub(crate) fn run(graph: MultiPortGraph, order: Order, text: &[u8]) -> MultiPort
         COUNTS => request(graph, order, 3),
         LINK | LINKSUB => request(graph, order, 4),
         LINKCLEAN => link_cleanly(graph, order),
+        TIDY => tidy(graph, order),
         _ => {
             look(graph, order, text);
             graph

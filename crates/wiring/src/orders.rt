@@ -57,11 +57,13 @@ pub(crate) const SHEET: u32 = 21;
 
 pub(crate) const LINKCLEAN: u32 = 22;
 
-pub(crate) const SAVE: u32 = 23;
+pub(crate) const TIDY: u32 = 23;
 
-pub(crate) const HELP: u32 = 24;
+pub(crate) const SAVE: u32 = 24;
 
-pub(crate) const QUIT: u32 = 25;
+pub(crate) const HELP: u32 = 25;
+
+pub(crate) const QUIT: u32 = 26;
 
 // There are fewer rows than this.
 const ROWS: u32 = 64;
@@ -277,6 +279,7 @@ wires
 places
 sheet A B A B ..
 linkclean A B
+tidy P
 save NAME
 help
 quit

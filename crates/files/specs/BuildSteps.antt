@@ -270,7 +270,7 @@ module _ {table bytes : List ℕ} {blocks at : ℕ} (l : Linkable table bytes bl
       let a = l .firsts .each target (omega arith) ∙ ap (firstPort (unbytes bytes .blocks)) e in
       λ j. a j + f j
 
-  pub first-small : (r : ℕ) → r < blocks → getD table r 0 ≤ 67107840
+  pub first-small : (r : ℕ) → r < blocks → getD table r 0 ≤ 131070 * nodeSlots
   first-small r h = let a = l .firsts .small r h in let b = l .few in omega arith
 
 -- A laid file.

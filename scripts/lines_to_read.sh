@@ -22,3 +22,5 @@ echo 'for sheets and files besides:'
 lines sheets Theorems Sheets SheetHistory Held
 lines files View Layout Saving Loading BuildList Claims LoadClaims FileTheorems LoadTheorems
 lines exports Exports
+echo 'for kits with other limits besides:'
+lines kits Kits KitTheorems

@@ -13,7 +13,7 @@ uint32_t run_records(const uint8_t *, size_t, uint8_t *, size_t);
 uint64_t save_records(const uint8_t *, size_t, uint8_t *, size_t);
 uint64_t records_of_file(const uint8_t *, size_t, uint8_t *, size_t);
 
-enum { CALLS = 20000, WORDS = 5, STACK = 1 << 20, PAINT = 0xA5, BLOCKS = 500, LINKS = BLOCKS - 1, FILE_BYTES = 65536 };
+enum { CALLS = 20000, WORDS = 5, STACK = 1 << 20, PAINT = 0xA5, BLOCKS = 1000, LINKS = BLOCKS - 1, FILE_BYTES = 65536 };
 
 static uint32_t requests[CALLS * WORDS], answers[CALLS * WORDS], ring[(BLOCKS + LINKS) * WORDS], loaded[CALLS * WORDS];
 static uint8_t file[FILE_BYTES];

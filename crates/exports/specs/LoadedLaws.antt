@@ -16,7 +16,7 @@ use Rattle.records.specs.Run.{asked, askedBy, after, graphFrom, callThen, calls
 use Rattle.records.specs.RunLaws.{run-is-history}
 use Rattle.files.specs.View.{BlockPorts, RankWire, View}
 use Rattle.files.specs.Layout.{unbytes}
-use Rattle.files.specs.Loading.{outPort, inPort, addOf, linkOf, buildOf, loadAnswer, graphIf, loadGraph}
+use Rattle.files.specs.Loading.{outPort, inPort, addOf, linkOf, buildOf, loadAnswer, graphIf, loadGraph, loadGraphUnder}
 use Rattle.files.specs.LoadForms.{isLoaded}
 use Rattle.files.specs.BuildList.{addPair, linkPair}
 use Rattle.files.specs.ListingSteps.{loaded-few}
@@ -137,7 +137,7 @@ graph-append m [] k = refl
 graph-append m (q ∷ l) k = graph-append (after m (asked q)) l k
 
 loaded-graph : (file : List ℕ) → loadAnswer file ≡ Loaded → loadGraph file ≡ run (buildOf (unbytes file)) .graph
-unfolding loadGraph
+unfolding loadGraphUnder
 loaded-graph file e = ap (λ (a : LoadAnswer). graphIf a (run (buildOf (unbytes file)) .graph)) e
 
 module _ (file : List ℕ) (accepted : loadAnswer file ≡ Loaded) where
@@ -155,8 +155,8 @@ module _ (file : List ℕ) (accepted : loadAnswer file ≡ Loaded) where
   unfolding requestsOf requestsFrom graphFrom
   requests-leave-the-load = ap graphLeft (sym (append-nil (fileRequests file))) ∙ list-goes-on-from-the-load []
 
-  -- They have at most 30,720 bytes, so a buffer of so many is never too short, and no length could be taken for a refusal.
-  pub requests-are-short : length (fileRequests file) ≤ 30720
+  -- They have at most 51,200 bytes, so a buffer of so many is never too short, and no length could be taken for a refusal.
+  pub requests-are-short : length (fileRequests file) ≤ 51200
   requests-are-short =
       let v = unbytes file in
       let f = loaded-few file (ap isLoaded accepted) in

@@ -164,7 +164,7 @@ module _ (code : ℕ) (rest : List ℕ) {l₀ l : List ℕ} {at p : ℕ} {whole 
 
 -- the numbers of a build fit so many
 abbrev pub buildMost : ℕ
-buildMost = 3072
+buildMost = 2 * nodeSlots + portSlots
 
 abbrev pub noNumbers : List ℕ
 noNumbers = replicate buildMost 0
@@ -201,7 +201,7 @@ module _ (file requests : List ℕ) (listed : BuildListed) (isListed : listed �
     unfolding listBuild
     wires-many = ap (λ (r : BuildListed). r .wires) isListed ∙ ap (λ (a : LoadAnswer). ifLoaded a (length (unbytes file .wires)) 0) loaded
 
-    pub records-few : (listed .blocks ≤ 512) × (2 * listed .wires ≤ 2048)
+    pub records-few : (listed .blocks ≤ nodeSlots) × (2 * listed .wires ≤ portSlots)
     records-few =
         let h = loaded-few file (ap isLoaded loaded) in
         let a = blocks-many in

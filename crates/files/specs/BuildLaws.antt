@@ -23,14 +23,14 @@ use Rattle.multiportgraph.specs.declared.multiportgraph.LinkAnswer.the-variants
 use Rattle.multiportgraph.specs.declared.multiportgraph.Refusal.{Refusal}
 use Rattle.theorems.specs.Book as book
 use Rattle.theorems.specs.Book.{Call, AnswerOf, Block, Book, emptyBook, spotOf, addWire, nextOffset, bookLink}
-use Rattle.theorems.specs.History.{State, next, runFrom, run, step}
+use Rattle.theorems.specs.History.{State, next, runFrom, runFromUnder, run, runUnder, step}
 use Rattle.theorems.specs.Runs.{run-append}
 use Rattle.theorems.specs.Claims.{count}
 use Rattle.theorems.specs.Conditions.{OfBlock, RefusedBy}
 use Rattle.theorems.specs.WireRule.{Rel, spot-of}
 use Rattle.theorems.specs.CallLaws.{rel-step, rel-run}
 use Rattle.files.specs.View.{BlockPorts, RankWire, View, rankWire, viewOf}
-use Rattle.files.specs.Loading.{blockAt, firstPort, outPort, inPort, addOf, linkOf, buildOf, afterCall, firstRefusal}
+use Rattle.files.specs.Loading.{blockAt, firstPort, outPort, inPort, addOf, linkOf, buildOf, afterCall, firstRefusal, firstRefusalUnder}
 use Rattle.files.specs.Claims.{rankIn, sameWire, howMany, wiresBetween, HasBlock, At, Sound}
 use Rattle.files.specs.OrderLaws.{wires-by-counts}
 use Rattle.files.specs.RankLaws.{same-positions}
@@ -61,7 +61,7 @@ refused-not-loaded r e = zero-is-not-one (cc)
 
 -- all of two lists are accepted: all of the first, and then all of the second
 pub accepted-apart : (s : State) (a b : List Call) → firstRefusal (s .graph) (a ++ b) ≡ Loaded → (firstRefusal (s .graph) a ≡ Loaded) × (firstRefusal (runFrom s a .graph) b ≡ Loaded)
-unfolding firstRefusal runFrom
+unfolding firstRefusalUnder runFromUnder
 accepted-apart s [] b e = (refl, e)
 accepted-apart s (c ∷ a) b e =
     ⊎-elim
@@ -172,7 +172,7 @@ pub record LinksEntered (s : State) (bs : List BlockPorts) (ws : List RankWire) 
 
 pub links-entered : (bs : List BlockPorts) (rank : ℕ → ℕ) → ((n : ℕ) → n < length bs → rank n ≡ n) → (ws : List RankWire) → ((w : RankWire) → Member w ws → Runs bs w) →
     (s : State) (M : Model) → Rel (s .graph) M (s .book) → HasAll bs (s .book) → firstRefusal (s .graph) (map (linkOf bs) ws) ≡ Loaded → LinksEntered s bs ws rank
-unfolding firstRefusal runFrom
+unfolding firstRefusalUnder runFromUnder
 links-entered bs rank same [] runs s M r has e = record { blocks = refl; wires = λ z. omega arith }
 links-entered bs rank same (w ∷ ws) runs s M r has e =
     go (links-entered bs rank same ws (λ v i. runs v (inr i)) (next s (linkOf bs w))) (step (s .graph) (linkOf bs w) .answer) refl e
@@ -210,7 +210,7 @@ module _ (v : View) (sound : Sound v) (e : firstRefusal emptyGraph (buildOf v) �
   adds-accepted = accepted-apart (record { graph = emptyGraph; book = emptyBook }) (map addOf (v .blocks)) (map (linkOf (v .blocks)) (v .wires)) e .0
 
   links-accepted : firstRefusal (run (map addOf (v .blocks)) .graph) (map (linkOf (v .blocks)) (v .wires)) ≡ Loaded
-  unfolding buildOf run
+  unfolding buildOf runUnder
   links-accepted = accepted-apart (record { graph = emptyGraph; book = emptyBook }) (map addOf (v .blocks)) (map (linkOf (v .blocks)) (v .wires)) e .1
 
   added : NextSlots (v .blocks) (run (map addOf (v .blocks)) .book)

@@ -30,7 +30,7 @@ use Rattle.multiportgraph.specs.declared.multiportgraph.LinkAnswer.the-variants
 use Rattle.multiportgraph.specs.declared.multiportgraph.Refusal.{Refusal}
 use Rattle.multiportgraph.specs.declared.multiportgraph.Refusal.the-variants.{TooManyPorts, NoRoom}
 use Rattle.theorems.specs.Book.{Call, AnswerOf, emptyBook}
-use Rattle.theorems.specs.History.{State, next, runFrom, run, step}
+use Rattle.theorems.specs.History.{State, next, runFrom, runFromUnder, run, runUnder, step}
 use Rattle.theorems.specs.Runs.{run-append}
 use Rattle.theorems.specs.Conditions.{RefusedBy, OfBlock, NoSlot, NoBlock, AddRefused, add-many, add-full, LinkRefused, link-first-dead, link-first-hidden, link-second-hidden, link-first-full, link-second-full, link-second-dead, link-one-side}
 use Rattle.theorems.specs.AddCall.{add-refuses, add-refused}
@@ -38,7 +38,7 @@ use Rattle.theorems.specs.LinkCall.{block-not-hidden, link-refused}
 use Rattle.theorems.specs.WireRule.{Rel}
 use Rattle.theorems.specs.CallLaws.{rel-run}
 use Rattle.files.specs.View.{BlockPorts, RankWire, View}
-use Rattle.files.specs.Loading.{firstPort, outPort, inPort, addOf, linkOf, buildOf, afterCall, firstRefusal}
+use Rattle.files.specs.Loading.{firstPort, outPort, inPort, addOf, linkOf, buildOf, afterCall, firstRefusal, firstRefusalUnder}
 use Rattle.files.specs.Claims.{At, Sound}
 use Rattle.files.specs.LoadClaims.{withFirst, BuildRefused, build-many, build-no-block, build-no-wire}
 use Rattle.files.specs.NextSlots.{NoFree, blockFrom, none-free-at-first, AddsLaid, adds-laid, next-slots}
@@ -56,7 +56,7 @@ loaded-not-refused r e = zero-is-not-one (cc)
 
 -- a list of calls is accepted or refused
 pub loaded-or-refused : (calls : List Call) (m : MultiPortGraph) → (firstRefusal m calls ≡ Loaded) ⊎ ((r : Refusal) × (firstRefusal m calls ≡ Refused r))
-unfolding firstRefusal
+unfolding firstRefusalUnder
 loaded-or-refused [] m = inl refl
 loaded-or-refused (c ∷ l) m =
     ⊎-elim
@@ -66,7 +66,7 @@ loaded-or-refused (c ∷ l) m =
 
 -- of two lists one after the other
 pub refusal-after : (s : State) (a b : List Call) → firstRefusal (s .graph) a ≡ Loaded → firstRefusal (s .graph) (a ++ b) ≡ firstRefusal (runFrom s a .graph) b
-unfolding firstRefusal runFrom
+unfolding firstRefusalUnder runFromUnder
 refusal-after s [] b e = refl
 refusal-after s (c ∷ a) b e =
     ⊎-elim
@@ -75,7 +75,7 @@ refusal-after s (c ∷ a) b e =
     (goes-or-stops c (step (s .graph) c .answer))
 
 pub refusal-before : (s : State) (a b : List Call) (r : Refusal) → firstRefusal (s .graph) a ≡ Refused r → firstRefusal (s .graph) (a ++ b) ≡ Refused r
-unfolding firstRefusal
+unfolding firstRefusalUnder
 refusal-before s [] b r e = absurd (loaded-not-refused r e)
 refusal-before s (c ∷ a) b r e =
     ⊎-elim
@@ -102,7 +102,7 @@ record Stop {A : Type 0} (f : A → Call) (s : State) (xs : List A) (r : Refusal
 
 module _ {A : Type 0} (f : A → Call) where
   first-stop : (xs : List A) (s : State) (r : Refusal) → firstRefusal (s .graph) (map f xs) ≡ Refused r → Stop f s xs r
-  unfolding firstRefusal runFrom
+  unfolding firstRefusalUnder runFromUnder
   first-stop [] s r e = absurd (loaded-not-refused r e)
   first-stop (x ∷ xs) s r e =
       ⊎-elim
@@ -133,7 +133,7 @@ module _ {A : Type 0} (f : A → Call) where
 
   stop-refuses : ((x : A) (v : AnswerOf (f x)) (r : Refusal) → RefusedBy (f x) v r → (rest : LoadAnswer) → afterCall (f x) v rest ≡ Refused r) →
       (xs : List A) (s : State) (r : Refusal) → Stop f s xs r → firstRefusal (s .graph) (map f xs) ≡ Refused r
-  unfolding firstRefusal
+  unfolding firstRefusalUnder
   stop-refuses stops xs s r t =
       ap (λ (l : List A). firstRefusal (s .graph) (map f l)) (t .is)
       ∙ (ap (firstRefusal (s .graph)) (map-append (t .first) (t .item ∷ t .later))
@@ -234,12 +234,12 @@ module _ (v : View) (first : List RankWire) where
 
   part-apart : firstRefusal emptyGraph (buildOf (withFirst v first)) ≡ Loaded →
       (firstRefusal emptyGraph (map addOf (v .blocks)) ≡ Loaded) × (firstRefusal (run (map addOf (v .blocks)) .graph) (map (linkOf (v .blocks)) first) ≡ Loaded)
-  unfolding buildOf run
+  unfolding buildOf runUnder
   part-apart e = accepted-apart start (map addOf (v .blocks)) (map (linkOf (v .blocks)) first) e
 
   part-accepted : firstRefusal emptyGraph (map addOf (v .blocks)) ≡ Loaded →
       firstRefusal (run (map addOf (v .blocks)) .graph) (map (linkOf (v .blocks)) first) ≡ Loaded → firstRefusal emptyGraph (buildOf (withFirst v first)) ≡ Loaded
-  unfolding buildOf run
+  unfolding buildOf runUnder
   part-accepted a b = refusal-after start (map addOf (v .blocks)) (map (linkOf (v .blocks)) first) a ∙ b
 
   -- all blocks are in its book
@@ -259,7 +259,7 @@ module _ (v : View) where
   build-stops : (r : Refusal) → firstRefusal emptyGraph (buildOf v) ≡ Refused r →
       Stop addOf start (v .blocks) r
       ⊎ ((firstRefusal emptyGraph (map addOf (v .blocks)) ≡ Loaded) × Stop (linkOf (v .blocks)) (run (map addOf (v .blocks))) (v .wires) r)
-  unfolding buildOf run
+  unfolding buildOf runUnder
   build-stops r e =
       ⊎-elim (λ k. inl (first-stop addOf (v .blocks) start r k)) (λ k. inr (k .0, first-stop (linkOf (v .blocks)) (v .wires) (run (map addOf (v .blocks))) r (k .1)))
       (refused-apart start (map addOf (v .blocks)) (map (linkOf (v .blocks)) (v .wires)) r e)
@@ -268,7 +268,7 @@ module _ (v : View) where
       Stop addOf start (v .blocks) r
       ⊎ ((firstRefusal emptyGraph (map addOf (v .blocks)) ≡ Loaded) × Stop (linkOf (v .blocks)) (run (map addOf (v .blocks))) (v .wires) r) →
       firstRefusal emptyGraph (buildOf v) ≡ Refused r
-  unfolding buildOf run
+  unfolding buildOf runUnder
   stops-build r (inl t) = refusal-before start (map addOf (v .blocks)) (map (linkOf (v .blocks)) (v .wires)) r (stop-refuses addOf add-stops (v .blocks) start r t)
   stops-build r (inr t) =
       refusal-after start (map addOf (v .blocks)) (map (linkOf (v .blocks)) (v .wires)) (t .0)

@@ -29,12 +29,12 @@ use Rattle.multiportgraph.specs.declared.multiportgraph.LinkAnswer.{LinkAnswer}
 use Rattle.multiportgraph.specs.declared.multiportgraph.LinkAnswer.the-variants as link
 use Rattle.theorems.specs.Book as book
 use Rattle.theorems.specs.Book.{Call, AnswerOf, Book, emptyBook, bookAdd}
-use Rattle.theorems.specs.History.{step, State, next, runFrom, run}
+use Rattle.theorems.specs.History.{step, State, next, runFrom, runFromUnder, run, runUnder}
 use Rattle.theorems.specs.HistoryCounts.{visible-nodes-of-history}
 use Rattle.theorems.specs.CallLaws.{empty-kept, step-kept, rel-run}
 use Rattle.files.specs.View.{BlockPorts, RankWire, View}
 use Rattle.files.specs.Layout.{fieldAt, blockOf, wireOf, unitsFor, unbytes}
-use Rattle.files.specs.Loading.{every, unitList, isLaid, unitsRight, ranksRight, blockAt, positionsRight, orderRight, viewRight, firstPort, outPort, inPort, addOf, linkOf, buildOf, afterCall, firstRefusal, graphIf, isWhole, loadAnswer, loadGraph}
+use Rattle.files.specs.Loading.{every, unitList, isLaid, unitsRight, ranksRight, blockAt, positionsRight, orderRight, viewRight, firstPort, outPort, inPort, addOf, linkOf, buildOf, afterCall, firstRefusal, firstRefusalUnder, graphIf, isWhole, loadAnswer, loadAnswerUnder, loadGraph, loadGraphUnder}
 use Rattle.files.specs.LaidLaws.{both-true}
 use Rattle.files.specs.NextSlots.{first-port-first, first-port-next}
 use Rattle.files.specs.ViewLaws.{blocks-few}
@@ -112,12 +112,12 @@ build-begins w = record { kept = w; told = refl; graph = refl }
 
 module _ {m₀ m : MultiPortGraph} {calls left : List Call} (b : Building m₀ calls m left) where
   pub build-ends : left ≡ [] → Built m₀ calls m Loaded
-  unfolding firstRefusal graphAfter
+  unfolding firstRefusalUnder graphAfter
   build-ends e = record { told = sym (ap (firstRefusal m) e) ∙ b .told; graph = λ h. sym (ap (graphAfter m) e) ∙ b .graph; kept = b .kept }
 
   module _ {c : Call} {l : List Call} {m′ : MultiPortGraph} {a : LoadAnswer} (e : left ≡ c ∷ l) (s : StepIs m c m′ a) where
     told-on : firstRefusal m left ≡ afterCall c (step m c .answer) (firstRefusal (step m c .graph) l)
-    unfolding firstRefusal
+    unfolding firstRefusalUnder
     told-on = ap (firstRefusal m) e
 
     graph-on : graphAfter m left ≡ graphAfter (step m c .graph) l
@@ -270,7 +270,7 @@ module _ {table bytes : List ℕ} {blocks at : ℕ} (l : Linkable table bytes bl
       let a = l .firsts .each target (omega arith) ∙ ap (firstPort (unbytes bytes .blocks)) e in
       λ j. a j + f j
 
-  pub first-small : (r : ℕ) → r < blocks → getD table r 0 ≤ 67107840
+  pub first-small : (r : ℕ) → r < blocks → getD table r 0 ≤ 131070 * nodeSlots
   first-small r h = let a = l .firsts .small r h in let b = l .few in omega arith
 
 -- A laid file.
@@ -311,7 +311,7 @@ tables-empty held e =
     ∙ empty-in
 
 first-append : (m : MultiPortGraph) (a b : List Call) → isLoaded (firstRefusal m a) ≡ true → firstRefusal m (a ++ b) ≡ firstRefusal (graphAfter m a) b
-unfolding firstRefusal graphAfter
+unfolding firstRefusalUnder graphAfter
 first-append m [] b h = refl
 first-append m (c ∷ a) b h = go (isLoaded (afterCall c (step m c .answer) Loaded)) refl (first-append (step m c .graph) a b)
   where
@@ -325,7 +325,7 @@ first-append m (c ∷ a) b h = go (isLoaded (afterCall c (step m c .answer) Load
     go false e more = absurd (true-not-false (ap isLoaded (sym (after-refused c (step m c .answer) rest e)) ∙ h) e)
 
 pub first-refused : (m : MultiPortGraph) (a b : List Call) → isLoaded (firstRefusal m a) ≡ false → firstRefusal m (a ++ b) ≡ firstRefusal m a
-unfolding firstRefusal
+unfolding firstRefusalUnder
 first-refused m [] b h = absurd (true-not-false refl h)
 first-refused m (c ∷ a) b h = go (isLoaded (afterCall c (step m c .answer) Loaded)) refl (first-refused (step m c .graph) a b)
   where
@@ -345,12 +345,12 @@ after-append m [] b = refl
 after-append m (c ∷ a) b = after-append (step m c .graph) a b
 
 run-from-graph : (s : State) (calls : List Call) → runFrom s calls .graph ≡ graphAfter (s .graph) calls
-unfolding runFrom graphAfter
+unfolding runFromUnder graphAfter
 run-from-graph s [] = refl
 run-from-graph s (c ∷ l) = run-from-graph (next s c) l
 
 pub run-graph : (calls : List Call) → run calls .graph ≡ graphAfter emptyGraph calls
-unfolding run
+unfolding runUnder
 run-graph calls = run-from-graph (record { graph = emptyGraph; book = emptyBook }) calls
 
 graph-refused : (a : LoadAnswer) (m : MultiPortGraph) → isLoaded a ≡ false → emptyGraph ≡ graphIf a m
@@ -367,7 +367,7 @@ is-loaded (Refused r) h = absurd (true-not-false h refl)
 
 -- so many adds that are all accepted leave as many blocks in the book
 adds-booked : (s : State) (l : List BlockPorts) → isLoaded (firstRefusal (s .graph) (map addOf l)) ≡ true → length (runFrom s (map addOf l) .book .blocks) ≡ length l + length (s .book .blocks)
-unfolding runFrom firstRefusal
+unfolding runFromUnder firstRefusalUnder
 adds-booked s [] h = omega arith
 adds-booked s (b ∷ l) h = go (step (s .graph) (addOf b) .answer) refl (adds-booked (next s (addOf b)) l)
   where
@@ -385,7 +385,7 @@ adds-booked s (b ∷ l) h = go (step (s .graph) (addOf b) .answer) refl (adds-bo
     go (add.Refused r) e more = absurd (true-not-false (ap (λ (v : AddAnswer). isLoaded (afterCall (addOf b) v rest)) (sym e) ∙ h) refl)
 
 pub adds-few : (l : List BlockPorts) → isLoaded (firstRefusal emptyGraph (map addOf l)) ≡ true → length l ≤ nodeSlots
-unfolding run
+unfolding runUnder
 adds-few l h =
     let calls = map addOf l in
     let a = adds-booked (record { graph = emptyGraph; book = emptyBook }) l h in
@@ -450,16 +450,16 @@ module _ (v : View) where
 
 module _ (bytes : List ℕ) where
   pub load-bad-sums : false ≡ isWhole bytes → (r : FileLoaded) → r ≡ record { graph = emptyGraph; answer = BadSums } → (r ≡ record { graph = loadGraph bytes; answer = loadAnswer bytes }) × MultiWf (r .graph)
-  unfolding loadGraph loadAnswer
+  unfolding loadGraphUnder loadAnswerUnder
   load-bad-sums h r e = (rw (← h) e, subst MultiWf (sym (ap (λ (x : FileLoaded). x .graph) e)) empty-kept)
 
   module _ (w : true ≡ isWhole bytes) where
     pub load-bad-layout : false ≡ isLaid bytes → (r : FileLoaded) → r ≡ record { graph = emptyGraph; answer = BadLayout } → (r ≡ record { graph = loadGraph bytes; answer = loadAnswer bytes }) × MultiWf (r .graph)
-    unfolding loadGraph loadAnswer
+    unfolding loadGraphUnder loadAnswerUnder
     load-bad-layout h r e = (rw (← w, ← h) e, subst MultiWf (sym (ap (λ (x : FileLoaded). x .graph) e)) empty-kept)
 
     pub load-built : true ≡ isLaid bytes → (r : FileLoaded) → BuildIs (unbytes bytes) r → (r ≡ record { graph = loadGraph bytes; answer = loadAnswer bytes }) × MultiWf (r .graph)
-    unfolding loadGraph loadAnswer
+    unfolding loadGraphUnder loadAnswerUnder
     load-built h r b =
         let g = b .graph in
         let a = b .answer in

@@ -77,7 +77,7 @@ never-too-short calls buffer h =
     let k = file-is-short calls in
     rw (le-leb (length (fileOf (run calls .graph))) (length buffer) (omega arith))
 
--- and it has 26 units.
-pub longest-file : longestFile ≡ 13312
+-- and it has 42 units.
+pub longest-file : longestFile ≡ 21504
 unfolding longestFile fileLength unitsFor
 longest-file = refl

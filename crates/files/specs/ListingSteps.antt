@@ -21,7 +21,7 @@ use Rattle.theorems.specs.CallLaws.{rel-run}
 use Rattle.theorems.specs.History.{run}
 use Rattle.files.specs.View.{BlockPorts, RankWire, View, rankAmong, sorted, rankWire, viewOf}
 use Rattle.files.specs.Layout.{fieldAt, blockOf, wireOf, unitsFor, unbytes}
-use Rattle.files.specs.Loading.{isWhole, isLaid, blockAt, viewRight, addOf, linkOf, outPort, inPort, buildOf, firstRefusal, loadAnswer}
+use Rattle.files.specs.Loading.{isWhole, isLaid, blockAt, viewRight, addOf, linkOf, outPort, inPort, buildOf, firstRefusal, loadAnswer, loadAnswerUnder}
 use Rattle.files.specs.BuildList.{addPair, linkPair, buildNumbers, ifLoaded, listBuild, buildAfter}
 use Rattle.files.specs.OrderLaws.{sorted-length}
 use Rattle.files.specs.ViewLaws.{wires-few}
@@ -159,15 +159,15 @@ module _ (bytes numbers : List ℕ) where
 
 module _ (bytes : List ℕ) where
   pub answer-bad-sums : false ≡ isWhole bytes → BadSums ≡ loadAnswer bytes
-  unfolding loadAnswer
+  unfolding loadAnswerUnder
   answer-bad-sums h = rw (← h)
 
   pub answer-bad-layout : true ≡ isWhole bytes → false ≡ isLaid bytes → BadLayout ≡ loadAnswer bytes
-  unfolding loadAnswer
+  unfolding loadAnswerUnder
   answer-bad-layout w h = rw (← w, ← h)
 
   pub answer-built : true ≡ isWhole bytes → true ≡ isLaid bytes → {r : FileLoaded} → BuildIs (unbytes bytes) r → r .answer ≡ loadAnswer bytes
-  unfolding loadAnswer
+  unfolding loadAnswerUnder
   answer-built w h b = rw (← w, ← h) (b .answer)
 
 -- Accepted files are small.
@@ -186,7 +186,7 @@ view-wires m = sorted-length (map (rankWire (rankAmong (blocks m))) (wiresWalked
 
 -- so are the wires: each takes two port slots
 pub loaded-few : (bytes : List ℕ) → isLoaded (loadAnswer bytes) ≡ true → (length (unbytes bytes .blocks) ≤ nodeSlots) × (2 * length (unbytes bytes .wires) ≤ portSlots)
-unfolding loadAnswer
+unfolding loadAnswerUnder
 loaded-few bytes h = go (isWhole bytes) (isLaid bytes) refl h
   where
     v : View

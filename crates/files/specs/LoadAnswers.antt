@@ -27,7 +27,7 @@ use Rattle.files.specs.ViewLaws.{view-fits}
 use Rattle.files.specs.ViewSound.{view-sound}
 use Rattle.files.specs.LaidAgain.{written-laid}
 use Rattle.files.specs.Saving.{fileOf}
-use Rattle.files.specs.Loading.{isWhole, isLaid, buildOf, firstRefusal, loadAnswer, graphIf}
+use Rattle.files.specs.Loading.{isWhole, isLaid, buildOf, firstRefusal, loadAnswer, loadAnswerUnder, graphIf}
 use Rattle.files.specs.SoundLaws.{laid-sound}
 use Rattle.files.specs.LoadClaims.{BuildRefused, build-many, build-no-block, build-no-wire}
 use Rattle.files.specs.BuildRefusals.{loaded-or-refused, build-refusals}
@@ -84,23 +84,23 @@ module _ (bytes : List ℕ) where
   built = firstRefusal emptyGraph (buildOf (unbytes bytes))
 
   pub loaded-parts : loadAnswer bytes ≡ Loaded → (isWhole bytes ≡ true) × (isLaid bytes ≡ true) × (firstRefusal emptyGraph (buildOf (unbytes bytes)) ≡ Loaded)
-  unfolding loadAnswer
+  unfolding loadAnswerUnder
   loaded-parts e = chosen-loaded (isWhole bytes) (isLaid bytes) _ e
 
   pub parts-loaded : isWhole bytes ≡ true → isLaid bytes ≡ true → firstRefusal emptyGraph (buildOf (unbytes bytes)) ≡ Loaded → loadAnswer bytes ≡ Loaded
-  unfolding loadAnswer
+  unfolding loadAnswerUnder
   parts-loaded w l e = rw (w, l) e
 
   pub sixteen : (loadAnswer bytes ≡ BadSums) ↔ (isWhole bytes ≡ false)
-  unfolding loadAnswer
+  unfolding loadAnswerUnder
   sixteen = (chosen-sums (isWhole bytes) (isLaid bytes) _ (loaded-or-refused (buildOf (unbytes bytes)) emptyGraph), λ e. rw e refl)
 
   pub seventeen : (loadAnswer bytes ≡ BadLayout) ↔ ((isWhole bytes ≡ true) × (isLaid bytes ≡ false))
-  unfolding loadAnswer
+  unfolding loadAnswerUnder
   seventeen = (chosen-layout (isWhole bytes) (isLaid bytes) _ (loaded-or-refused (buildOf (unbytes bytes)) emptyGraph), λ (w, l). rw (w, l) refl)
 
   pub three-and-ten : (r : Refusal) → (loadAnswer bytes ≡ Refused r) ↔ ((isWhole bytes ≡ true) × (isLaid bytes ≡ true) × BuildRefused (unbytes bytes) r)
-  unfolding loadAnswer
+  unfolding loadAnswerUnder
   three-and-ten r = (
     (λ e.
         let p = chosen-refused (isWhole bytes) (isLaid bytes) _ r e in

@@ -16,7 +16,7 @@ use Rattle.theorems.specs.Runs.{run-append}
 use Rattle.files.specs.View.{View, viewOf}
 use Rattle.files.specs.Layout.{bytesOf, unbytes}
 use Rattle.files.specs.Saving.{fileOf}
-use Rattle.files.specs.Loading.{isWhole, isLaid, buildOf, firstRefusal, loadAnswer, loadGraph, graphIf}
+use Rattle.files.specs.Loading.{isWhole, isLaid, buildOf, firstRefusal, loadAnswer, loadGraph, loadGraphUnder, graphIf}
 use Rattle.files.specs.Claims.{SameWiring, Sound, Bytes}
 use Rattle.files.specs.LayoutLaws.{ViewFits, view-read-back}
 use Rattle.files.specs.ViewLaws.{view-fits}
@@ -37,7 +37,7 @@ use Rattle.files.specs.declared.load.LoadAnswer.the-variants.{Loaded, Ba
 -- An accepted load is the history of its adds and links in file order, all accepted, so that every theorem over histories speaks of it;
 pub load-is-history : (bytes : List ℕ) → loadAnswer bytes ≡ Loaded →
     (loadGraph bytes ≡ run (buildOf (unbytes bytes)) .graph) × (firstRefusal emptyGraph (buildOf (unbytes bytes)) ≡ Loaded)
-unfolding loadGraph
+unfolding loadGraphUnder
 load-is-history bytes e = (rw e refl, answers.loaded-parts bytes e .2)
 
 -- a history may begin with a load: what follows goes on from its adds and links.
@@ -49,7 +49,7 @@ load-then-calls bytes calls e =
 
 -- A refused load gives the empty graph.
 pub refused-load-is-empty : (bytes : List ℕ) → (loadAnswer bytes ≡ Loaded → ⊥) → loadGraph bytes ≡ emptyGraph
-unfolding loadGraph
+unfolding loadGraphUnder
 refused-load-is-empty bytes not = answers.empty-unless (loadAnswer bytes) (run (buildOf (unbytes bytes)) .graph) not
 
 -- A file is accepted exactly if it is what the writer gives for the graph that its adds and links build;

@@ -4,6 +4,7 @@ use mathlib.Core.List.{List, [], _∷_, _++_, map}
 use Prim.Native.Nat.{ℕ, zero, suc, _+_, _-_, _*_, _/_, _%_}
 use lib.Dec.{eqb, leb, ltb}
 use lib.ListN.{length, getD, take, drop}
+use Rattle.portgraph.specs.Limits.{Limits, present}
 use Rattle.multiportgraph.specs.declared.multiportgraph.MultiPortGraph.{MultiPortGraph}
 use Rattle.multiportgraph.specs.declared.multiportgraph.AddAnswer.the-variants as add
 use Rattle.multiportgraph.specs.declared.multiportgraph.LinkAnswer.the-variants as link
@@ -11,7 +12,7 @@ use Rattle.multiportgraph.specs.Answers.{refusalNumbers}
 use Rattle.multiportgraph.specs.Graph.{emptyGraph}
 use Rattle.theorems.specs.Book as book
 use Rattle.theorems.specs.Book.{Call, AnswerOf}
-use Rattle.theorems.specs.History.{step, run}
+use Rattle.theorems.specs.History.{stepUnder, runUnder}
 use Rattle.files.specs.View.{BlockPorts, RankWire, View, isBefore}
 use Rattle.files.specs.Layout.{Record, unitRecords, fieldAt, wordAt, sumOf, recordsOf, unbytes}
 use Rattle.files.specs.declared.load.LoadAnswer.{LoadAnswer}
@@ -138,15 +139,21 @@ afterCall (book.linkSubCall p o q r) v rest = rest
 afterCall (book.cutCall p) v rest = rest
 afterCall (book.cutSubCall p o) v rest = rest
 
-unfoldable pub firstRefusal : MultiPortGraph → List Call → LoadAnswer
-firstRefusal m [] = Loaded
-firstRefusal m (c ∷ l) = afterCall c (step m c .answer) (firstRefusal (step m c .graph) l)
+unfoldable pub firstRefusalUnder : Limits → MultiPortGraph → List Call → LoadAnswer
+firstRefusalUnder L m [] = Loaded
+firstRefusalUnder L m (c ∷ l) = afterCall c (stepUnder L m c .answer) (firstRefusalUnder L (stepUnder L m c .graph) l)
+
+abbrev pub firstRefusal : MultiPortGraph → List Call → LoadAnswer
+firstRefusal = firstRefusalUnder present
 
 -- The load.
 
 -- 16 over all units before anything else, 17 over the whole file next, then the first add or link that is refused
-unfoldable pub loadAnswer : List ℕ → LoadAnswer
-loadAnswer bytes = cond (isWhole bytes) (cond (isLaid bytes) (firstRefusal emptyGraph (buildOf (unbytes bytes))) BadLayout) BadSums
+unfoldable pub loadAnswerUnder : Limits → List ℕ → LoadAnswer
+loadAnswerUnder L bytes = cond (isWhole bytes) (cond (isLaid bytes) (firstRefusalUnder L emptyGraph (buildOf (unbytes bytes))) BadLayout) BadSums
+
+abbrev pub loadAnswer : List ℕ → LoadAnswer
+loadAnswer = loadAnswerUnder present
 
 -- the graph of an answer: a refused load gives the empty one
 abbrev pub graphIf : LoadAnswer → MultiPortGraph → MultiPortGraph
@@ -155,8 +162,11 @@ graphIf BadSums m = emptyGraph
 graphIf BadLayout m = emptyGraph
 graphIf (Refused r) m = emptyGraph
 
-unfoldable pub loadGraph : List ℕ → MultiPortGraph
-loadGraph bytes = graphIf (loadAnswer bytes) (run (buildOf (unbytes bytes)) .graph)
+unfoldable pub loadGraphUnder : Limits → List ℕ → MultiPortGraph
+loadGraphUnder L bytes = graphIf (loadAnswerUnder L bytes) (runUnder L (buildOf (unbytes bytes)) .graph)
+
+abbrev pub loadGraph : List ℕ → MultiPortGraph
+loadGraph = loadGraphUnder present
 
 -- 01's numbers of the answer
 abbrev pub loadNumbers : LoadAnswer → List ℕ

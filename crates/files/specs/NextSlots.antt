@@ -33,10 +33,10 @@ use Rattle.multiportgraph.specs.declared.multiportgraph.AddAnswer.the-variants 
 use Rattle.multiportgraph.specs.declared.multiportgraph.NodeAdded.{NodeAdded}
 use Rattle.multiportgraph.specs.declared.multiportgraph.Refusal.the-variants.{NoRoom}
 use Rattle.theorems.specs.Book.{Block, Book, emptyBook, bookAdd}
-use Rattle.theorems.specs.History.{State, next, runFrom, run, step}
+use Rattle.theorems.specs.History.{State, next, runFrom, runFromUnder, run, runUnder, step}
 use Rattle.theorems.specs.CallLaws.{call-law}
 use Rattle.files.specs.View.{BlockPorts, RankWire}
-use Rattle.files.specs.Loading.{blockAt, firstPort, outPort, inPort, addOf, afterCall, firstRefusal}
+use Rattle.files.specs.Loading.{blockAt, firstPort, outPort, inPort, addOf, afterCall, firstRefusal, firstRefusalUnder}
 use Rattle.files.specs.Claims.{rankIn, At}
 use Rattle.files.specs.declared.load.LoadAnswer.the-variants.{Loaded, Refused}
 
@@ -164,7 +164,7 @@ pub record AddsLaid (s : State) (n p : ℕ) (bs : List BlockPorts) : Type 0 wher
   pub book : runFrom s (map addOf bs) .book ≡ withLaid n p bs (s .book)
 
 pub adds-laid : (bs : List BlockPorts) (s : State) (M : Model) (n p : ℕ) → Fine (s .graph) M → NoFree M n p → firstRefusal (s .graph) (map addOf bs) ≡ Loaded → AddsLaid s n p bs
-unfolding runFrom laid firstPort firstRefusal
+unfolding runFromUnder laid firstPort firstRefusalUnder
 adds-laid [] s M n p f h e =
     record {
       model = M;
@@ -293,7 +293,7 @@ pub record NextSlots (bs : List BlockPorts) (B : Book) : Type 0 where
   pub portsFit : firstPort bs (length bs) ≤ portSlots
 
 pub next-slots : (bs : List BlockPorts) → firstRefusal emptyGraph (map addOf bs) ≡ Loaded → NextSlots bs (run (map addOf bs) .book)
-unfolding run rankIn
+unfolding runUnder rankIn
 next-slots bs e =
     let start : (r : ℕ) (b : BlockPorts) → blockFrom (0 + r) (0 + firstPort bs r) b ≡ blockFrom r (firstPort bs r) b =
     λ r b. let x : 0 + r ≡ r = omega arith in let y : 0 + firstPort bs r ≡ firstPort bs r = omega arith in λ j. blockFrom (x j) (y j) b in

@@ -21,12 +21,12 @@ use Rattle.multiportgraph.specs.declared.multiportgraph.CutAnswer.the-variants 
 use Rattle.multiportgraph.specs.declared.multiportgraph.Refusal.{Refusal}
 use Rattle.theorems.specs.Book as book
 use Rattle.theorems.specs.Book.{Call, AnswerOf, Book, emptyBook, spotOf, without, nextOffset, addWire, readBy, firstMark, secondMark, notBlock, bookAnswer, bookAdd, bookRemove, bookSet, bookLink, bookLinkSub, bookCut}
-use Rattle.theorems.specs.History.{State, next, runFrom, run, step}
+use Rattle.theorems.specs.History.{State, next, runFrom, runFromUnder, run, runUnder, step}
 use Rattle.theorems.specs.HistoryCounts.{visible-links-of-history, visible-nodes-of-history}
 use Rattle.theorems.specs.Conditions.{RefusedBy}
 use Rattle.theorems.specs.CallLaws.{rel-run}
 use Rattle.files.specs.View.{View, viewOf}
-use Rattle.files.specs.Loading.{addOf, linkOf, buildOf, firstRefusal}
+use Rattle.files.specs.Loading.{addOf, linkOf, buildOf, firstRefusal, firstRefusalUnder}
 use Rattle.files.specs.ViewLaws.{view-blocks, view-wires}
 use Rattle.files.specs.BuildLaws.{goes-or-stops}
 use Rattle.files.specs.declared.load.LoadAnswer.the-variants.{Refused}
@@ -96,12 +96,12 @@ next-enters-one s c = enters-one (s .book) c (step (s .graph) c .answer) _ _
 
 -- so many calls enter so many at most, and fewer where one is refused
 pub calls-enter : (calls : List Call) (s : State) → entries (runFrom s calls .book) ≤ length calls + entries (s .book)
-unfolding runFrom
+unfolding runFromUnder
 calls-enter [] s = omega arith
 calls-enter (c ∷ l) s = let a = calls-enter l (next s c) in let b = next-enters-one s c in omega arith
 
 pub refused-enter-less : (calls : List Call) (s : State) (r : Refusal) → firstRefusal (s .graph) calls ≡ Refused r → entries (runFrom s calls .book) < length calls + entries (s .book)
-unfolding runFrom firstRefusal
+unfolding runFromUnder firstRefusalUnder
 refused-enter-less [] s r e = absurd (zero-is-not-one (cc))
 refused-enter-less (c ∷ l) s r e =
     ⊎-elim
@@ -114,7 +114,7 @@ refused-enter-less (c ∷ l) s r e =
 
 -- so the view of what a refused build leaves is not the one to be built
 pub partly-built : (v : View) (r : Refusal) → firstRefusal emptyGraph (buildOf v) ≡ Refused r → viewOf (run (buildOf v) .graph) ≡ v → ⊥
-unfolding buildOf run
+unfolding buildOf runUnder
 partly-built v r e same =
     let f = rel-run (buildOf v) .1 .fine in
     let less = refused-enter-less (buildOf v) (record { graph = emptyGraph; book = emptyBook }) r e in

@@ -7,7 +7,7 @@ use Prim.Native.Nat.{ℕ, zero, suc, _+_, _-_, _≤_, _<_}
 use native.Mathlib.Omega.{arith}
 use lib.Dec.{eqb, leb, ltb}
 use borrow.Author.Tests.{eqb-true, eqb-false, eq-eqb, ne-eqb, le-leb, le-ltb, leb-true, leb-false, lt-ltb, ltb-true}
-use Rattle.portgraph.specs.Limits.{nodeSlots, portSlots}
+use Rattle.portgraph.specs.Limits.{nodeSlots, portSlots, nodePorts}
 use Rattle.portgraph.specs.Entries.{portsOn, nextOf}
 use Rattle.portgraph.specs.Tables.{at, headAt}
 use Rattle.portgraph.specs.Meaning as meaning
@@ -203,9 +203,9 @@ module _ {m : MultiPortGraph} {p : ℕ} {d : Direction} (b : OnBlock m p d) {u :
 pub takes-small : (u : Need) → GrowsFew u → {t : Takes} → t ≡ takesOf u → t .take ≤ portSlots
 takes-small u f e = let s = go u f in let q = ap (λ (v : Takes). v .take) e in omega arith
   where
-    by : (k : NodeMeta) (h : Bool) → k .incoming + k .outgoing < portSlots → cond h takesNothing (record { node = false; take = roundUp (k .incoming + k .outgoing + 1); give = k .capacity }) .take ≤ portSlots
+    by : (k : NodeMeta) (h : Bool) → k .incoming + k .outgoing ≤ nodePorts → cond h takesNothing (record { node = false; take = roundUp (k .incoming + k .outgoing + 1); give = k .capacity }) .take ≤ portSlots
     by k true l = omega arith
-    by k false l = round-up-is-least (k .incoming + k .outgoing + 1) 11 (omega arith)
+    by k false l = let r = round-up-is-least (k .incoming + k .outgoing + 1) 11 (omega arith) in omega arith
 
     go : (u : Need) → GrowsFew u → takesOf u .take ≤ portSlots
     go (need.Ready x o) f = omega arith

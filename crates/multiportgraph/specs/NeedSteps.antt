@@ -6,7 +6,7 @@ use Prim.Native.Nat.{ℕ, _+_, _-_, _≤_, _<_}
 use native.Mathlib.Omega.{arith}
 use lib.Dec.{eqb, leb}
 use borrow.Author.Tests.{eq-eqb, ne-eqb, lt-ltb, le-ltb, le-leb, lt-leb}
-use Rattle.portgraph.specs.Limits.{nodeSlots, portSlots}
+use Rattle.portgraph.specs.Limits.{nodeSlots, portSlots, nodePorts}
 use Rattle.portgraph.specs.Entries.{portsOn, nextOf}
 use Rattle.portgraph.specs.Tables.{at, headAt}
 use Rattle.portgraph.specs.Lookups.{node#}
@@ -36,7 +36,7 @@ next-left nodes free e h = rw (ne-eqb free 0 e) h
 
 -- What is taken.
 
-pub grows-here : (u : Need) {c : NodeIndex} {k : NodeMeta} → u ≡ need.Grow c k → GrowsFew u → k .incoming + k .outgoing < portSlots
+pub grows-here : (u : Need) {c : NodeIndex} {k : NodeMeta} → u ≡ need.Grow c k → GrowsFew u → k .incoming + k .outgoing ≤ nodePorts
 grows-here u {c} {k} e f = rw e at f
 
 pub takes-inside : (u : Need) {c : NodeIndex} {k : NodeMeta} → u ≡ need.Grow c k → k .incoming + k .outgoing + 1 < k .capacity → takesNothing ≡ takesOf u

@@ -2,9 +2,9 @@
 -- there is room for both ends of a link, by the heads of the free lists and the used lengths alone.
 use mathlib.Core.Bool.{Bool, true, false, cond}
 use mathlib.Core.List.{List}
-use Prim.Native.Nat.{ℕ, _+_, _-_, _<_}
+use Prim.Native.Nat.{ℕ, _+_, _-_, _≤_}
 use lib.Dec.{eqb, leb, ltb}
-use Rattle.portgraph.specs.Limits.{nodeSlots, portSlots}
+use Rattle.portgraph.specs.Limits.{nodeSlots, portSlots, nodePorts}
 use Rattle.portgraph.specs.Entries.{portsOn, nextOf}
 use Rattle.portgraph.specs.Tables.{at, headAt}
 use Rattle.portgraph.specs.Lookups.{node#, metaAt, startOf}
@@ -68,10 +68,10 @@ needIn nodes links owners marks p d =
 
 -- Room.
 
--- a hidden node that is to grow has few enough ports
+-- a hidden node that is to grow has no more ports than a node may have
 abbrev pub GrowsFew : Need → Type 0
 GrowsFew (need.Ready x o) = Unit {0}
-GrowsFew (need.Grow c k) = k .incoming + k .outgoing < portSlots
+GrowsFew (need.Grow c k) = k .incoming + k .outgoing ≤ nodePorts
 GrowsFew need.Split = Unit {0}
 
 abbrev pub takesNothing : Takes

@@ -5,11 +5,11 @@ use native.Mathlib.Omega.{arith}
 
 -- slots of the node table
 abbrev pub nodeSlots : ℕ
-nodeSlots = 512
+nodeSlots = 1024
 
 -- slots of each port table
 abbrev pub portSlots : ℕ
-portSlots = 2048
+portSlots = 3072
 
 -- the most ports of a node, and the largest block
 abbrev pub nodePorts : ℕ

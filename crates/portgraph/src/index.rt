@@ -4,9 +4,9 @@ ghost use mathlib.Core.Path.{_≡_};
 ghost use Rattle.portgraph.specs.Entries.{reversed};
 
 // Slots of the node table.
-pub const NODE_SLOTS: usize = 512;
+pub const NODE_SLOTS: usize = 1024;
 // Slots of each port table.
-pub const PORT_SLOTS: usize = 2048;
+pub const PORT_SLOTS: usize = 3072;
 // The most ports that a node may have, and the largest block.
 pub const NODE_PORTS: usize = 1024;
 // Free lists of blocks, one for each size from 0; that of size 0 stays empty.

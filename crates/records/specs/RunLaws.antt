@@ -3,7 +3,7 @@
 use mathlib.Core.Path.{_≡_, refl, sym, ap, _∙_, subst}
 use mathlib.Core.List.{List, [], _∷_, _++_}
 use Rattle.theorems.specs.Book.{emptyBook}
-use Rattle.theorems.specs.History.{State, next, run, runFrom}
+use Rattle.theorems.specs.History.{State, next, run, runUnder, runFrom, runFromUnder}
 use Rattle.theorems.specs.Theorems.{wire-rule}
 use Rattle.multiportgraph.specs.declared.multiportgraph.MultiPortGraph.{MultiPortGraph}
 use Rattle.records.specs.Words.{Request}
@@ -13,7 +13,7 @@ use Rattle.theorems.specs.Claims.{WireRule}
 
 -- from any state of a history
 run-from : (l : List Request) (s : State) → graphFrom (s .graph) l ≡ runFrom s (callsOf l) .graph
-unfolding graphFrom callsOf runFrom
+unfolding graphFrom callsOf runFromUnder
 run-from [] s = refl
 run-from (q ∷ l) s = go (asked q) (run-from l)
   where
@@ -26,7 +26,7 @@ run-from (q ∷ l) s = go (asked q) (run-from l)
 
 -- the graph that a list of requests leaves is the graph of the history of its calls
 pub run-is-history : (l : List Request) → graphFrom emptyGraph l ≡ run (callsOf l) .graph
-unfolding run
+unfolding runUnder
 run-is-history l = run-from l (record { graph = emptyGraph; book = emptyBook })
 
 -- the wire rule holds of it

@@ -15,7 +15,7 @@ use Rattle.portgraph.specs.declared.index.PortIndex.{PortIndex}
 use Rattle.multiportgraph.specs.Inner.{MultiWf}
 use Rattle.multiportgraph.specs.declared.multiportgraph.MultiPortGraph.{MultiPortGraph}
 use Rattle.theorems.specs.Book.{Call, linkCall}
-use Rattle.theorems.specs.History.{State, step, next, runFrom, run}
+use Rattle.theorems.specs.History.{State, step, next, runFrom, runFromUnder, run, runUnder}
 use Rattle.theorems.specs.CallLaws.{step-kept}
 use Rattle.theorems.specs.Runs.{run-from-append}
 use Rattle.sheets.specs.declared.sheet.SheetEntry.{SheetEntry}
@@ -96,7 +96,7 @@ held-kept m places count wf = sheet-kept m (take (min count sheetPlaces) places)
 
 links-from : (s : State) (es : List SheetEntry) →
     record { graph = graphAfter (s .graph) es; book = bookEntries (s .book) (answered (s .graph) es) } ≡ runFrom s (linksOf es)
-unfolding runFrom graphAfter answered bookEntries
+unfolding runFromUnder graphAfter answered bookEntries
 links-from s [] = refl
 links-from s (e ∷ es) = links-from (next s (linkCall (e .«port_a» .0) (e .«port_b» .0))) es
 
@@ -122,7 +122,7 @@ empty-sheet-changes-nothing s = refl
 answer-from : (s : State) (es : List SheetEntry) (i : ℕ) → i < length es →
     entryAt (answered (s .graph) es) i .answer
     ≡ step (runFrom s (linksOf (take i es)) .graph) (linkCall (entryAt es i .«port_a» .0) (entryAt es i .«port_b» .0)) .answer
-unfolding runFrom answered
+unfolding runFromUnder answered
 answer-from s [] i h = absurd (not-suc-le-zero h)
 answer-from s (e ∷ es) zero h = refl
 answer-from s (e ∷ es) (suc i) h = answer-from (next s (linkCall (e .«port_a» .0) (e .«port_b» .0))) es i (le-of-suc-le-suc h)
@@ -148,17 +148,17 @@ entries-keep-their-ports m es = kept-by m es (tooMany es)
 -- Histories.
 
 calls-by : (s : State) (es : List SheetEntry) (b : Bool) → stateBy s es b ≡ runFrom s (cond b [] (linksOf es))
-unfolding runFrom
+unfolding runFromUnder
 calls-by s es true = refl
 calls-by s es false = links-from s es
 
 item-is-its-calls : (s : State) (i : Item) → nextItem s i ≡ runFrom s (callsOf i)
-unfolding runFrom
+unfolding runFromUnder
 item-is-its-calls s (oneCall c) = refl
 item-is-its-calls s (wholeSheet es) = calls-by s es (tooMany es)
 
 history-from : (s : State) (items : List Item) → runItemsFrom s items ≡ runFrom s (flatMap callsOf items)
-unfolding runItemsFrom runFrom flatMap
+unfolding runItemsFrom runFromUnder flatMap
 history-from s [] = refl
 history-from s (i ∷ items) =
     history-from (nextItem s i) items
@@ -166,7 +166,7 @@ history-from s (i ∷ items) =
     ∙ sym (run-from-append s (callsOf i) (flatMap callsOf items))
 
 pub history-of-calls : (items : List Item) → runItems items ≡ run (flatMap callsOf items)
-unfolding runItems run
+unfolding runItems runUnder
 history-of-calls items = history-from _ items
 
 pub with-sheets : (P : State → Type 0) → ((calls : List Call) → P (run calls)) → (items : List Item) → P (runItems items)

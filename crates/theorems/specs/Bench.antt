@@ -118,9 +118,9 @@ benchLines =
     ∷ ask (stateB ++ (call (removeCall 7) ∷ [])) (numbersB ++ ((4 ∷ []) ∷ []))
     -- I
     ∷ ask (start ++ (call (setCall 0 0 0 3) ∷ call (addCall 0 1) ∷ [])) (startNumbers ++ ((0 ∷ 1 ∷ []) ∷ (0 ∷ 2 ∷ 0 ∷ []) ∷ []))
-    -- J
-    ∷ ask (call (addCall 512 512) ∷ call (addCall 512 512) ∷ call (addCall 0 1) ∷ call (addCall 0 0) ∷ call (addCall 512 513) ∷ [])
-    ((0 ∷ 0 ∷ 0 ∷ []) ∷ (0 ∷ 1 ∷ 1024 ∷ []) ∷ (10 ∷ []) ∷ (0 ∷ 2 ∷ 0 ∷ []) ∷ (3 ∷ []) ∷ [])
+    -- J, as Req 08 has it: the third add has room, and 10 is given after it
+    ∷ ask (call (addCall 512 512) ∷ call (addCall 512 512) ∷ call (addCall 0 1) ∷ call (addCall 512 512) ∷ call (addCall 0 0) ∷ call (addCall 512 513) ∷ [])
+    ((0 ∷ 0 ∷ 0 ∷ []) ∷ (0 ∷ 1 ∷ 1024 ∷ []) ∷ (0 ∷ 2 ∷ 2048 ∷ []) ∷ (10 ∷ []) ∷ (0 ∷ 3 ∷ 0 ∷ []) ∷ (3 ∷ []) ∷ [])
     -- K
     ∷ ask (call (addCall 1 1) ∷ call (addCall 0 2) ∷ call (linkCall 2 0) ∷ call (linkCall 3 0) ∷ moves 0 0 1 6 ∷ call (setCall 0 0 1 6) ∷ wires ∷ mark 0 ∷ [])
     ((0 ∷ 0 ∷ 0 ∷ []) ∷ (0 ∷ 1 ∷ 2 ∷ []) ∷ (0 ∷ 2 ∷ 0 ∷ 0 ∷ 0 ∷ []) ∷ (0 ∷ 3 ∷ 0 ∷ 0 ∷ 1 ∷ [])

@@ -20,7 +20,7 @@ use Rattle.multiportgraph.specs.declared.multiportgraph.CutAnswer.the-variants 
 use Rattle.multiportgraph.specs.declared.multiportgraph.Refusal.{Refusal}
 use Rattle.multiportgraph.specs.declared.multiportgraph.Refusal.the-variants.{NoRoom}
 use Rattle.multiportgraph.specs.Graph.{emptyGraph}
-use Rattle.theorems.specs.History.{step, entered, State, next, runFrom, run}
+use Rattle.theorems.specs.History.{step, entered, State, next, runFrom, runFromUnder, run, runUnder}
 use Rattle.multiportgraph.specs.PlainLaws.{fine-empty}
 use Rattle.theorems.specs.WireRule.{Rel, rel-start}
 use Rattle.multiportgraph.specs.Space.{roomOf, afterWorks, overflows}
@@ -100,12 +100,12 @@ pub rel-step : {m : MultiPortGraph} {M : Model} {B : Book} → Rel m M B → (c 
 rel-step {m} {M} {B} r c = let l = call-law (r .fine) c .leads in (l .model, l .booked B r)
 
 rel-from : {s : State} {M : Model} → Rel (s .graph) M (s .book) → (calls : List Call) → (M′ : Model) × Rel (runFrom s calls .graph) M′ (runFrom s calls .book)
-unfolding runFrom
+unfolding runFromUnder
 rel-from {s} {M} r [] = (M, r)
 rel-from {s} {M} r (c ∷ l) = let t = rel-step r c in rel-from {s = next s c} (t .1) l
 
 pub rel-run : (calls : List Call) → (M : Model) × Rel (run calls .graph) M (run calls .book)
-unfolding run
+unfolding runUnder
 rel-run calls = rel-from {s = record { graph = emptyGraph; book = emptyBook }} rel-start calls
 
 -- `MultiWf`, which the contracts presume, holds of every graph that came from these calls.

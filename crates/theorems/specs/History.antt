@@ -63,21 +63,33 @@ pub record State : Type 0 where
   pub graph : MultiPortGraph
   pub book : Book
 
--- what a call on a graph does to the book
+-- what a call on a graph does to the book, under limits
+abbrev pub enteredUnder : Limits → MultiPortGraph → Call → Book → Book
+enteredUnder L m c B = bookAnswer B c (stepUnder L m c .answer) (marksNamed m c) (portsShown (stepUnder L m c .graph) c)
+
 abbrev pub entered : MultiPortGraph → Call → Book → Book
-entered m c B = bookAnswer B c (step m c .answer) (marksNamed m c) (portsShown (step m c .graph) c)
+entered = enteredUnder present
 
 -- graph and book after one call
-abbrev pub next : State → Call → State
-next s c = record { graph = step (s .graph) c .graph; book = entered (s .graph) c (s .book) }
+abbrev pub nextUnder : Limits → State → Call → State
+nextUnder L s c = record { graph = stepUnder L (s .graph) c .graph; book = enteredUnder L (s .graph) c (s .book) }
 
-unfoldable pub runFrom : State → List Call → State
-runFrom s [] = s
-runFrom s (c ∷ l) = runFrom (next s c) l
+abbrev pub next : State → Call → State
+next = nextUnder present
+
+unfoldable pub runFromUnder : Limits → State → List Call → State
+runFromUnder L s [] = s
+runFromUnder L s (c ∷ l) = runFromUnder L (nextUnder L s c) l
+
+abbrev pub runFrom : State → List Call → State
+runFrom = runFromUnder present
 
 -- a history from the empty graph, with the empty book
-unfoldable pub run : List Call → State
-run calls = runFrom (record { graph = emptyGraph; book = emptyBook }) calls
+unfoldable pub runUnder : Limits → List Call → State
+runUnder L calls = runFromUnder L (record { graph = emptyGraph; book = emptyBook }) calls
+
+abbrev pub run : List Call → State
+run = runUnder present
 
 -- 01's numbers of a call's answer
 abbrev pub numbersOf : (c : Call) → AnswerOf c → List ℕ

@@ -88,7 +88,7 @@ fn fan(size: u32, sides: [Call; 2]) -> (Vec<Call>, Vec<(&'static str, Vec<Call>)
 pub fn tables() -> Vec<Table> {
     const FANS: &[u32] = &[2, 20, 200, 500];
     vec![
-        table("blocks", &[10, 100, 500], blocks),
+        table("blocks", &[10, 100, 500, 1_000], blocks),
         table("wires at one output", FANS, |size| fan(size, [add(0, 1), add(size, 0)])),
         table("wires at one input", FANS, |size| fan(size, [add(1, 0), add(0, size)])),
     ]

@@ -1,6 +1,6 @@
 //! A list of calls with what each must answer, asked of the original call by call.
 
-use driver::{Answer, Asked, Call, End, Oracle, Random, Reason, Shape, Side, Sides};
+use driver::{Answer, Asked, Call, End, Oracle, Random, Reason, Shape, Side, Sides, PORT_SLOTS};
 
 /// A request record.
 pub type Record = [u32; 5];
@@ -159,7 +159,7 @@ impl History {
                     _ => "resize within the block, mixed",
                 })
             }
-            Call::Link { b, .. } if b < 2_048 => Some("R1, second port given as a surely dead number"),
+            Call::Link { b, .. } if b < PORT_SLOTS as u32 => Some("R1, second port given as a surely dead number"),
             _ => None,
         }
     }

@@ -97,10 +97,11 @@ pub fn to_save(list: usize) -> List {
         4 => given("the same, linked in random order", fan(&mut shuffled(500).into_iter())),
         5 => given("the same, linked in reverse", fan(&mut (0..500).rev())),
         _ => {
-            let links = shuffled(1_024).into_iter().zip(0..).map(|(output, input): (u32, u32)| {
-                link(4 * (output / 2) + 2 + output % 2, 4 * (input / 2) + input % 2)
+            // Of a pair's six ports, 0, 3 and 4 are inputs and 1, 2 and 5 outputs.
+            let links = shuffled(1_536).into_iter().zip(0..).map(|(output, input): (u32, u32)| {
+                link(6 * (output / 3) + [1, 2, 5][output as usize % 3], 6 * (input / 3) + [0, 3, 4][input as usize % 3])
             });
-            given("every slot taken", (0..512).map(|_| add(2, 2)).chain(links).collect())
+            given("every slot taken", (0..512).flat_map(|_| [add(1, 2), add(2, 1)]).chain(links).collect())
         }
     }
 }

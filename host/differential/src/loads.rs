@@ -220,7 +220,7 @@ pub fn given(number: u32) -> Vec<u8> {
     match (number, number % 8) {
         (2, _) => view.wires.reverse(),
         (_, 3) => view.blocks.push([1_025, 0]),
-        (_, 4) => view.blocks.extend([[1_024, 0], [0, 1_024], [1, 1]]),
+        (_, 4) => view.blocks.extend([[1_024, 0], [0, 1_024], [512, 512], [1, 1]]),
         _ => {}
     }
     let mut file = view.file();
@@ -255,7 +255,7 @@ pub fn long(entries: Entries, tally: &mut Tally) -> Result<String, String> {
             views.push(View { blocks: vec![counts; blocks], wires });
         }
     }
-    for wires in [1_024, 1_025, 2_000, 65_535, 65_536, 70_000] {
+    for wires in [1_024, 1_025, 1_536, 1_537, 2_000, 65_535, 65_536, 70_000] {
         views.push(View { blocks: vec![[1, 1]], wires: vec![[0; 4]; wires] });
         let spread = |wire: usize| [0, (wire / 500 % 500) as u16, 1, (wire % 500) as u16];
         views.push(View { blocks: vec![[0, 500], [500, 0]], wires: (0..wires).map(spread).collect() }.sorted());

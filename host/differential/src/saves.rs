@@ -243,15 +243,16 @@ pub fn sizes(save: &Writes, seeds: std::ops::Range<u64>, tally: &mut Tally) -> R
 pub(crate) fn full(random: &mut Random) -> History {
     let mut history = History::default();
     match random.below(3) {
-        // Two blocks that are each other's mirror, 4 ports each.
+        // Two blocks that are each other's mirror, as many ports each as all slots allow.
         0 => {
+            let ports = (PORT_SLOTS / NODE_SLOTS) as u32;
             for _ in 0..NODE_SLOTS / 2 {
-                let incoming = random.below(5);
-                add(&mut history, incoming, 4 - incoming);
-                add(&mut history, 4 - incoming, incoming);
+                let incoming = random.below(ports + 1);
+                add(&mut history, incoming, ports - incoming);
+                add(&mut history, ports - incoming, incoming);
             }
         }
-        1 => (0..2).for_each(|_| add(&mut history, 512, 512)),
+        1 => (0..PORT_SLOTS / 1_024).for_each(|_| add(&mut history, 512, 512)),
         _ => {
             let mut left = PORT_SLOTS as u32 / 2;
             while left > 0 {

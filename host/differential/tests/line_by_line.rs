@@ -186,19 +186,19 @@ fn a_refused_clean_link_leaves_nothing() {
 
 #[test]
 fn a_clean_link_tells_no_room_last() {
-    let full = ["add 0 1", "add 2 0", "link 0 1", "add 512 512", "add 512 509"];
+    let full = ["add 0 1", "add 2 0", "link 0 1", "add 512 512", "add 512 512", "add 512 509"];
     let told = ["link 1 2", "linkclean 1 2", "link 0 9999", "linkclean 0 9999", "link 0 2", "linkclean 0 2", "counts"];
     let lines = [&full[..], &told].concat();
     assert_eq!(
-        answers(&lines)[5..],
-        ["refused 10", "refused 12 1 2 0", "refused 10", "refused 11 9999", "refused 10", "refused 10", "ok 4 2048 1"]
+        answers(&lines)[6..],
+        ["refused 10", "refused 12 1 2 0", "refused 10", "refused 11 9999", "refused 10", "refused 10", "ok 5 3072 1"]
     );
     // Port 0 has two wires, ports 3 and 4 one each, and four slots are left: the block of 3 that the first end frees serves
     // the second.
-    let start =
-        ["add 0 1", "add 2 0", "add 0 1", "add 1 0", "link 0 1", "link 0 2", "link 3 4", "add 512 512", "add 512 500"];
+    let small = ["add 0 1", "add 2 0", "add 0 1", "add 1 0", "link 0 1", "link 0 2", "link 3 4"];
+    let start = [&small[..], &["add 512 512", "add 512 512", "add 512 500"]].concat();
     let one = [&start[..], &["counts", "linkclean 0 4"]].concat();
     let other = [&start[..], &["counts", "linkclean 4 0"]].concat();
-    assert_eq!(answers(&one)[9..], ["ok 6 2041 3", "ok 0 2 4 1"]);
-    assert_eq!(answers(&other)[9..], ["ok 6 2041 3", "refused 10"]);
+    assert_eq!(answers(&one)[10..], ["ok 7 3065 3", "ok 0 2 4 1"]);
+    assert_eq!(answers(&other)[10..], ["ok 7 3065 3", "refused 10"]);
 }

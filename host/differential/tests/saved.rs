@@ -50,7 +50,7 @@ fn by_hand() {
 #[test]
 fn at_the_limits() {
     assert_eq!(compared(&[Command::Save(0)]), 0);
-    for (blocks, units) in [(1, 1), (63, 1), (64, 2), (126, 2), (127, 3), (512, 9)] {
+    for (blocks, units) in [(1, 1), (63, 1), (64, 2), (126, 2), (127, 3), (512, 9), (1_024, 17)] {
         let mut script = vec![add(0, 0); blocks];
         script.push(Command::Save(0));
         assert_eq!(compared(&script), units);
@@ -66,14 +66,15 @@ fn at_the_limits() {
         script.push(Command::Save(0));
         assert_eq!(compared(&script), 1 + units);
     }
-    // The longest file: every node slot a block, every port slot wired.
-    let mut script = vec![add(2, 2); 512];
-    for block in 0..512 {
-        let next = 4 * ((block * 5 + 1) % 512);
-        script.extend([link(4 * block + 2, next + 1), link(4 * block + 3, next)]);
+    // The longest file: every node slot a block, every port slot wired. Pairs of blocks have 6 ports: an input and two outputs,
+    // two inputs and an output.
+    let mut script = [add(1, 2), add(2, 1)].repeat(512);
+    for pair in 0..512 {
+        let next = 6 * ((pair * 5 + 1) % 512);
+        script.extend([link(6 * pair + 1, next + 4), link(6 * pair + 2, next + 3), link(6 * pair + 5, next)]);
     }
     script.push(Command::Save(0));
-    assert_eq!(compared(&script), 26);
+    assert_eq!(compared(&script), 42);
 }
 
 #[test]

@@ -119,7 +119,7 @@ impl Shape {
         let add = |incoming, outgoing| Call::Add { incoming, outgoing };
         match self.start {
             Start::Empty => Vec::new(),
-            Start::PortsNearlyFull => vec![add(512, 512), add(400, 500 + random.below(125))],
+            Start::PortsNearlyFull => vec![add(512, 512), add(512, 512), add(400, 500 + random.below(125))],
             Start::NodesNearlyFull => {
                 let blocks = NODE_SLOTS as u32 - random.below(20);
                 (0..blocks).map(|_| add(random.below(3), random.below(2))).collect()

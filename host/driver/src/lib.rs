@@ -22,10 +22,10 @@ pub use list::{run_list, to_bytes};
 pub use oracle::{Asked, Event, Graph, Oracle, Reason};
 pub use walk::{Listing, Place, Side, Sides, Subport, Wire};
 
-/// Node slots of the port's table.
-pub const NODE_SLOTS: usize = 512;
+/// Node slots of the port's table. With the feature `former` they are those of the kits before document 02's request 08.
+pub const NODE_SLOTS: usize = if cfg!(feature = "former") { 512 } else { 1_024 };
 /// Port slots of the port's table.
-pub const PORT_SLOTS: usize = 2_048;
+pub const PORT_SLOTS: usize = if cfg!(feature = "former") { 2_048 } else { 3_072 };
 /// The most ports that an add or a resize may name.
 pub const MOST_PORTS: u64 = 1_024;
 /// The last offset that a record may hold.

@@ -116,9 +116,10 @@ fn j() {
     let mut oracle = Oracle::new();
     assert_eq!(answer(&mut oracle, [1, 512, 512, 0, 0]), [0, 0, 0, 0, 0]);
     assert_eq!(answer(&mut oracle, [1, 512, 512, 0, 0]), [0, 1, 1024, 0, 0]);
-    assert_eq!(oracle.tables(), (2, 2048));
-    assert_eq!(added(&mut oracle, [1, 0, 1, 0, 0]), [10, 0, 0, 0, 0]);
-    assert_eq!(answer(&mut oracle, [1, 0, 0, 0, 0]), [0, 2, 0, 0, 0]);
+    assert_eq!(answer(&mut oracle, [1, 0, 1, 0, 0]), [0, 2, 2048, 0, 0]);
+    assert_eq!(oracle.tables(), (3, 2049));
+    assert_eq!(added(&mut oracle, [1, 512, 512, 0, 0]), [10, 0, 0, 0, 0]);
+    assert_eq!(answer(&mut oracle, [1, 0, 0, 0, 0]), [0, 3, 0, 0, 0]);
     assert_eq!(added(&mut oracle, [1, 512, 513, 0, 0]), [3, 0, 0, 0, 0]);
 }
 

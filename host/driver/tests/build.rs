@@ -1,6 +1,6 @@
 //! Wirings built as a file has them: the same calls, graphs and refusals as call by call.
 
-use driver::{Call, Oracle, Random};
+use driver::{Call, Oracle, Random, NODE_SLOTS};
 
 /// The calls made one by one, up to the first refusal.
 fn one_by_one(blocks: &[[u16; 2]], wires: &[[u16; 4]]) -> Result<(Vec<Call>, Oracle), u32> {
@@ -46,21 +46,21 @@ fn built(blocks: &[[u16; 2]], wires: &[[u16; 4]]) -> Result<usize, u32> {
 fn at_the_limits() {
     assert_eq!(built(&[], &[]), Ok(0));
     assert_eq!(built(&[[2_000, 0]], &[]), Err(3));
-    assert_eq!(built(&[[1_024, 0], [0, 1_024], [0, 0]], &[]), Ok(3));
-    assert_eq!(built(&[[1_024, 0], [0, 1_024], [0, 1]], &[]), Err(10));
+    assert_eq!(built(&[[1_024, 0], [0, 1_024], [1, 1_023], [0, 0]], &[]), Ok(4));
+    assert_eq!(built(&[[1_024, 0], [0, 1_024], [1, 1_023], [0, 1]], &[]), Err(10));
     // Too wide and past the table.
-    assert_eq!(built(&[[1_024, 0], [0, 1_024], [0, 1_025]], &[]), Err(3));
-    assert_eq!(built(&[[1_024, 0], [0, 1_024], [0, 1], [0, 1_025]], &[]), Err(10));
-    assert_eq!(built(&[[0, 0]; 512], &[]), Ok(512));
-    assert_eq!(built(&[[0, 0]; 513], &[]), Err(10));
-    assert_eq!(built(&[[1, 1]; 512], &[[0, 0, 1, 0]]), Ok(513));
+    assert_eq!(built(&[[1_024, 0], [0, 1_024], [1, 1_023], [0, 1_025]], &[]), Err(3));
+    assert_eq!(built(&[[1_024, 0], [0, 1_024], [1, 1_023], [0, 1], [0, 1_025]], &[]), Err(10));
+    assert_eq!(built(&[[0, 0]; NODE_SLOTS], &[]), Ok(1_024));
+    assert_eq!(built(&[[0, 0]; NODE_SLOTS + 1], &[]), Err(10));
+    assert_eq!(built(&[[1, 1]; NODE_SLOTS], &[[0, 0, 1, 0]]), Ok(1_025));
     // A second wire at a port takes a node, and none is left.
-    assert_eq!(built(&[[1, 1]; 512], &[[0, 0, 1, 0], [0, 0, 2, 0]]), Err(10));
+    assert_eq!(built(&[[1, 1]; NODE_SLOTS], &[[0, 0, 1, 0], [0, 0, 2, 0]]), Err(10));
 }
 
 #[test]
 fn wires_at_one_output() {
-    for count in (1..700).step_by(7) {
+    for count in (1..700).step_by(7).chain([510, 511, 512]) {
         let wires: Vec<[u16; 4]> = (0..count).map(|input| [0, 0, 1, input]).collect();
         assert_eq!(built(&[[0, 1], [count, 0]], &wires).is_ok(), count < 512, "{count} wires");
     }

@@ -3,7 +3,7 @@
 
 use std::panic::{catch_unwind, AssertUnwindSafe};
 
-use driver::{Answer, Asked, Graph, Oracle, Reason, Sides, NONE};
+use driver::{Answer, Asked, Graph, Oracle, Reason, Sides, NODE_SLOTS, NONE};
 use portgraph::multiportgraph::SubportIndex;
 use portgraph::{LinkError, LinkMut, LinkView, MultiMut, MultiView, NodeIndex, PortIndex, PortMut, PortView};
 
@@ -172,15 +172,18 @@ const CROWD: [Record; 7] = [
     [4, 3, 4, 0, 0],
 ];
 
+/// A block with the most ports.
+const WIDE: Record = [1, 512, 512, 0, 0];
+
 #[test]
 fn r6_space() {
     let full = |more: &[Record]| after(&[&CROWD, more].concat());
-    let mut oracle = full(&[[1, 512, 512, 0, 0], [1, 500, 500, 0, 0], [1, 12, 0, 0, 0]]);
-    assert_eq!(oracle.tables().1, 2_044);
+    let mut oracle = full(&[WIDE, WIDE, [1, 500, 500, 0, 0], [1, 12, 0, 0, 0]]);
+    assert_eq!(oracle.tables().1, 3_068);
     assert_eq!(given(&mut oracle.clone(), [4, 0, 4, 0, 0]), [0, 0, 2, 4, 1]);
     assert_eq!(added(&mut oracle, [4, 4, 0, 0, 0]), [10, 0, 0, 0, 0]);
 
-    let mut oracle = full(&[[1, 1, 1, 0, 0], [1, 512, 512, 0, 0], [1, 500, 500, 0, 0], [1, 10, 0, 0, 0]]);
+    let mut oracle = full(&[[1, 1, 1, 0, 0], WIDE, WIDE, [1, 500, 500, 0, 0], [1, 10, 0, 0, 0]]);
     let mut other = oracle.clone();
     assert_eq!(given(&mut oracle, [4, 0, 8, 0, 0]), [0, 0, 2, 8, 0]);
     assert_eq!(given(&mut oracle, [4, 9, 4, 0, 0]), [0, 9, 0, 4, 1]);
@@ -188,15 +191,15 @@ fn r6_space() {
     assert_eq!(added(&mut other, [4, 0, 8, 0, 0]), [10, 0, 0, 0, 0]);
 
     // 11 needs the room of the first preparation, 12 that of both.
-    let mut oracle = full(&[[1, 512, 512, 0, 0], [1, 500, 500, 0, 0], [1, 13, 0, 0, 0]]);
-    assert_eq!(oracle.tables().1, 2_045);
-    assert_eq!(given(&mut oracle.clone(), [4, 3, 3_000, 0, 0]), [11, 3_000, 0, 0, 0]);
+    let mut oracle = full(&[WIDE, WIDE, [1, 500, 500, 0, 0], [1, 13, 0, 0, 0]]);
+    assert_eq!(oracle.tables().1, 3_069);
+    assert_eq!(given(&mut oracle.clone(), [4, 3, 4_000, 0, 0]), [11, 4_000, 0, 0, 0]);
     assert_eq!(added(&mut oracle, [4, 1, 4, 0, 0]), [10, 0, 0, 0, 0]);
-    assert_eq!(given(&mut oracle, [4, 1, 3_000, 0, 0]), [11, 3_000, 0, 0, 0]);
-    assert_eq!(added(&mut oracle, [4, 3, 3_000, 0, 0]), [10, 0, 0, 0, 0]);
+    assert_eq!(given(&mut oracle, [4, 1, 4_000, 0, 0]), [11, 4_000, 0, 0, 0]);
+    assert_eq!(added(&mut oracle, [4, 3, 4_000, 0, 0]), [10, 0, 0, 0, 0]);
 
     // Shrinking.
-    let mut oracle = after(&[[1, 0, 1, 0, 0], [1, 511, 512, 0, 0], [1, 512, 512, 0, 0]]);
+    let mut oracle = after(&[[1, 0, 1, 0, 0], [1, 511, 512, 0, 0], WIDE, WIDE]);
     assert_eq!(added(&mut oracle, [3, 0, 0, 0, 0]), [10, 0, 0, 0, 0]);
     let mut oracle = after(&[
         [1, 0, 1, 0, 0],
@@ -205,14 +208,15 @@ fn r6_space() {
         [4, 0, 2, 0, 0],
         [4, 0, 3, 0, 0],
         [1, 0, 3, 0, 0],
-        [1, 512, 512, 0, 0],
+        WIDE,
+        WIDE,
         [1, 512, 500, 0, 0],
         [1, 1, 0, 0, 0],
     ]);
-    assert_eq!(oracle.tables().1, 2_048);
+    assert_eq!(oracle.tables().1, 3_072);
     assert_eq!(added(&mut oracle, [3, 0, 3, 0, 0]), [10, 0, 0, 0, 0]);
     // The node table.
-    let mut oracle = after(&[[1, 0, 0, 0, 0]; 512]);
+    let mut oracle = after(&[[1, 0, 0, 0, 0]; NODE_SLOTS]);
     assert_eq!(added(&mut oracle, [1, 0, 0, 0, 0]), [10, 0, 0, 0, 0]);
     assert_eq!(given(&mut oracle, [2, 7, 0, 0, 0]), [0, 0, 0, 0, 0]);
     assert_eq!(given(&mut oracle, [1, 0, 0, 0, 0]), [0, 7, 0, 0, 0]);

@@ -73,11 +73,11 @@ use std::fmt;
 /// Bytes of a request, and of an answer: five little-endian `u32`.
 pub const RECORD: usize = 20;
 
-/// Bytes of the longest file: 9 units of blocks, for 512 of them, and 17 of wires, for 1,024.
-pub const LONGEST_FILE: usize = 512 * (9 + 17);
+/// Bytes of the longest file: 17 units of blocks, for 1,024 of them, and 25 of wires, for 1,536.
+pub const LONGEST_FILE: usize = 512 * (17 + 25);
 
-/// Bytes of the longest list that a file is loaded as: 512 adds and 1,024 links.
-pub const LONGEST_LOAD: usize = RECORD * (512 + 1_024);
+/// Bytes of the longest list that a file is loaded as: 1,024 adds and 1,536 links.
+pub const LONGEST_LOAD: usize = RECORD * (1_024 + 1_536);
 
 /// A node's number.
 #[derive(Clone, Copy, Debug, PartialEq, Eq, PartialOrd, Ord, Hash)]

@@ -84,8 +84,13 @@ fn nodes_and_space() {
     let mut list = List::new();
     list.add(512, 512);
     list.add(512, 512);
-    assert_eq!(then(list.clone(), |list| list.add(0, 1)), Err(Refusal::NoSpace));
-    assert_eq!(then(list.clone(), |list| list.add(0, 0)), Ok(Answer::Added { node: Node(2), first_port: None }));
+    assert_eq!(
+        then(list.clone(), |list| list.add(0, 1)),
+        Ok(Answer::Added { node: Node(2), first_port: Some(Port(2_048)) })
+    );
+    list.add(0, 1);
+    assert_eq!(then(list.clone(), |list| list.add(512, 512)), Err(Refusal::NoSpace));
+    assert_eq!(then(list.clone(), |list| list.add(0, 0)), Ok(Answer::Added { node: Node(3), first_port: None }));
     assert_eq!(then(list, |list| list.add(512, 513)), Err(Refusal::TooManyPorts));
 }
 
@@ -193,10 +198,11 @@ fn blocks(counts: &[[u16; 2]]) -> Vec<u8> {
 fn refused_files() {
     let refused = |file: &[u8]| List::load(file).unwrap_err();
     assert_eq!(refused(&blocks(&[[2_000, 0]])), Refusal::TooManyPorts);
-    assert_eq!(refused(&blocks(&[[1_024, 0], [0, 1_024], [1, 0]])), Refusal::NoSpace);
-    assert_eq!(refused(&blocks(&[[1_024, 0], [0, 1_024], [1, 0], [2_000, 0]])), Refusal::NoSpace);
-    assert_eq!(refused(&blocks(&[[1_024, 0], [0, 1_024], [2_000, 0], [1, 0]])), Refusal::TooManyPorts);
-    assert_eq!(List::load(&blocks(&[[1_024, 0], [0, 1_024], [0, 0]])).unwrap().len(), 3);
+    let full = [[1_024, 0], [0, 1_024], [1, 1_023]];
+    assert_eq!(refused(&blocks(&[&full[..], &[[1, 0]]].concat())), Refusal::NoSpace);
+    assert_eq!(refused(&blocks(&[&full[..], &[[1, 0], [2_000, 0]]].concat())), Refusal::NoSpace);
+    assert_eq!(refused(&blocks(&[&full[..], &[[2_000, 0], [1, 0]]].concat())), Refusal::TooManyPorts);
+    assert_eq!(List::load(&blocks(&[&full[..], &[[0, 0]]].concat())).unwrap().len(), 4);
     let mut damaged = file();
     damaged[512 + 4..512 + 20].rotate_left(8);
     assert_eq!(refused(&damaged), Refusal::WrongLayout);
@@ -239,6 +245,7 @@ fn a_kit_may_refuse_its_own_save() {
             list.link(Port(0), Port(input));
         }
         list.add(0, 3);
+        list.add(1_024, 0);
         list.add(1_024, 0);
         list.add(rest, 0);
         list

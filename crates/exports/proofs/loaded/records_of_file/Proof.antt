@@ -4,6 +4,7 @@ use mathlib.Core.Path.{_≡_, sym, ap, _∙_}
 use mathlib.Core.List.{flatMap}
 use Prim.Native.Nat.{_+_, _-_, _*_, _≤_}
 use lib.ListN.{length, take, drop}
+use Rattle.portgraph.specs.Limits.{nodeSlots, portSlots}
 use Rattle.files.specs.Layout.{unbytes}
 use Rattle.files.specs.BuildList.{addPair, linkPair}
 use Rattle.exports.specs.LoadedSteps.{number-small, records-refused, records-few, records-short, adds-long, numbers-room, adds-are, links-are, first-room, second-room, records-done}
@@ -26,7 +27,7 @@ add-result c = let h = number-small (c .before .before .before .list-build .resu
 returns : tie.Need-returns
 returns c = records-refused (c .before .before .before .before .before .before .before .args .file .now) (c .before .before .before .before .before .before .before .args .requests .now) _ (c .before .before .before .list-build .ensures .0) _ (c .before .load-number .ensures) (c .if1 .taken)
 
-few : (c : tie.Else1) → (c .before .before .before .list-build .result .blocks ≤ 512) × (2 * c .before .before .before .list-build .result .wires ≤ 2048)
+few : (c : tie.Else1) → (c .before .before .before .list-build .result .blocks ≤ nodeSlots) × (2 * c .before .before .before .list-build .result .wires ≤ portSlots)
 few c = records-few (c .before .before .before .before .before .before .before .args .file .now) (c .before .before .before .before .before .before .before .args .requests .now) _ (c .before .before .before .list-build .ensures .0) (c .before .load-number .ensures) (c .if1 .left)
 
 room : (c : tie.Else2) → 2 * (c .before .before .before .before .list-build .result .blocks + c .before .before .before .before .list-build .result .wires) ≤ length (c .before .before .before .before .list-build .last .1 .0)

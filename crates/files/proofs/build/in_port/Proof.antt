@@ -1,7 +1,8 @@
 -- `files::build::in_port` meets its contract: a first port and a position.
 use native.Mathlib.Omega.{arith}
-use Prim.Native.Nat.{_≤_}
+use Prim.Native.Nat.{_*_, _≤_}
 use lib.ListN.{getD}
+use Rattle.portgraph.specs.Limits.{nodeSlots}
 use Rattle.files.specs.BuildSteps.{in-port-is, first-small}
 use borrow.Author.Needs.{needs}
 use Rattle.files.proofs.build.in_port.Statement.{statement}
@@ -26,7 +27,7 @@ element-copy-out-t11 : tie.Need-element-copy-out-t11
 element-copy-out-t11 c = search needs
 
 -- the first port of the target
-small : (c : tie.After-t11) → getD (c .before .before .before .before .args .firsts .now) (c .before .before .field-at .result) 0 ≤ 67107840
+small : (c : tie.After-t11) → getD (c .before .before .before .before .args .firsts .now) (c .before .before .field-at .result) 0 ≤ 131070 * nodeSlots
 small c = first-small (c .before .before .before .before .pre) (c .before .before .field-at .result) (let h = c .before .before .before .before .pre .target in omega (arith, c .before .before .field-at .ensures .0))
 
 cast-t7 : tie.Need-cast-t7

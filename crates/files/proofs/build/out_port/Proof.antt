@@ -1,8 +1,9 @@
 -- `files::build::out_port` meets its contract: a first port, the inputs before it and a position.
 use native.Mathlib.Omega.{arith}
 use mathlib.Core.Path.{ap, _∙_}
-use Prim.Native.Nat.{_≤_}
+use Prim.Native.Nat.{_*_, _≤_}
 use lib.ListN.{getD}
+use Rattle.portgraph.specs.Limits.{nodeSlots}
 use Rattle.files.specs.Layout.{fieldAt}
 use Rattle.files.specs.BuildSteps.{out-port-is, first-small}
 use borrow.Author.Needs.{needs}
@@ -31,7 +32,7 @@ element-copy-out-t12 : tie.Need-element-copy-out-t12
 element-copy-out-t12 c = search needs
 
 -- the first port of the source
-small : (c : tie.After-t12) → getD (c .before .before .before .before .before .before .args .firsts .now) (c .before .before .before .before .field-at .result) 0 ≤ 67107840
+small : (c : tie.After-t12) → getD (c .before .before .before .before .before .before .args .firsts .now) (c .before .before .before .before .field-at .result) 0 ≤ 131070 * nodeSlots
 small c = first-small (c .before .before .before .before .before .before .pre) (c .before .before .before .before .field-at .result) (let h = c .before .before .before .before .before .before .pre .source in omega (arith, c .before .before .before .before .field-at .ensures .0))
 
 cast-t8 : tie.Need-cast-t8

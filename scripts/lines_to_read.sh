@@ -13,7 +13,7 @@ lines() {
 echo 'for the calls and the theorems:'
 lines portgraph Limits Lists Entries Tables Lookups Calls Resize Lent
 lines multiportgraph Reading Graph Answers HiddenNodes Refusals Calls Places Wires MultiLent
-lines theorems Theorems Book History Claims AnswerClaims PlaceClaims ListingClaims MoveClaims CursorClaims Conditions Works
+lines theorems Theorems Book History Claims AnswerClaims PlaceClaims ListingClaims MoveClaims CursorClaims Conditions Works ReleaseTheorems ReleaseClaims
 lines records Words Run Forms
 echo 'for walks, lookups and whole listings besides:'
 lines portgraph Walks LinkWalks

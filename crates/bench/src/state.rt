@@ -3,6 +3,7 @@ use crate::looks::has_wires;
 use crate::looks::lists;
 use crate::looks::lists_one;
 use multiportgraph::multiportgraph::MultiPortGraph;
+use multiportgraph::multiportgraph::Release;
 use multiportgraph::multiportgraph::SetAnswer;
 use records::answers::Answer5;
 use records::ask::ask;
@@ -54,12 +55,12 @@ fn was_set(answer: SetAnswer, count: usize) -> bool {
 }
 
 impl State {
-    // The empty graph.
+    // The empty graph of release 1, as record runs have it.
     pub(crate) fn new() -> Self
         ensures { λ r. ⌜ MultiWf (r .graph) ⌝ }
     {
         State {
-            graph: empty(),
+            graph: empty(Release::One),
             good: true,
         }
     }

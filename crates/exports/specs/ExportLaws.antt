@@ -7,6 +7,7 @@ use borrow.Author.Tests.{eq-eqb, le-leb, lt-leb}
 use lib.ListN.{length, drop}
 use Rattle.multiportgraph.specs.Listed.{listAfter}
 use Rattle.multiportgraph.specs.declared.multiportgraph.MultiPortGraph.{MultiPortGraph}
+use Rattle.multiportgraph.specs.declared.multiportgraph.Release.the-variants.{One}
 use Rattle.theorems.specs.History.{run}
 use Rattle.records.specs.Words.{requestsOf}
 use Rattle.records.specs.Run.{callsOf}
@@ -16,12 +17,12 @@ use Rattle.files.specs.FileTheorems.{file-is-short, longest-file}
 use Rattle.exports.specs.Exports.{graphLeft, listWhole, refusedWith, saveTold, saveReturn, saveWritten}
 
 -- the graph that a list of requests leaves is that of the history of its calls
-pub graph-of-history : (requests : List ℕ) → graphLeft requests ≡ run (callsOf (requestsOf requests)) .graph
+pub graph-of-history : (requests : List ℕ) → graphLeft requests ≡ run One (callsOf (requestsOf requests)) .graph
 graph-of-history requests = run-is-history (requestsOf requests)
 
 -- the file of that history
 abbrev pub fileLeft : List ℕ → List ℕ
-fileLeft requests = fileOf (run (callsOf (requestsOf requests)) .graph)
+fileLeft requests = fileOf (run One (callsOf (requestsOf requests)) .graph)
 
 same-file : (requests : List ℕ) → fileOf (graphLeft requests) ≡ fileLeft requests
 same-file requests = ap fileOf (graph-of-history requests)
@@ -43,6 +44,6 @@ save-too-short requests file h l =
 -- no file is so long that its length could be taken for a refusal
 pub a-length-is-no-refusal : (requests : List ℕ) → length (fileLeft requests) < 4294967296
 a-length-is-no-refusal requests =
-    let h = file-is-short (callsOf (requestsOf requests)) in
+    let h = file-is-short One (callsOf (requestsOf requests)) in
     let l = longest-file in
     omega arith

@@ -1,14 +1,14 @@
--- What the entries over files return and leave in the lent buffer.
+-- What the entries over files return and leave in the lent buffer. They are of release 1, as record runs are.
 use mathlib.Core.Bool.{Bool, cond}
 use mathlib.Core.List.{List, [], _∷_, _++_, flatMap}
 use Prim.Native.Nat.{ℕ, _+_, _%_}
 use lib.Dec.{eqb, leb}
 use lib.ListN.{length, getD}
 use Rattle.multiportgraph.specs.declared.multiportgraph.MultiPortGraph.{MultiPortGraph}
-use Rattle.multiportgraph.specs.Graph.{emptyGraph}
+use Rattle.multiportgraph.specs.declared.multiportgraph.Release.the-variants.{One}
 use Rattle.multiportgraph.specs.Listed.{listAfter}
 use Rattle.records.specs.Words.{bytesOf, requestsOf}
-use Rattle.records.specs.Run.{graphFrom}
+use Rattle.records.specs.Run.{graphFrom, firstGraph}
 use Rattle.files.specs.View.{BlockPorts, RankWire, View}
 use Rattle.files.specs.Layout.{unbytes}
 use Rattle.files.specs.Loading.{outPort, inPort, loadAnswer, loadNumbers}
@@ -23,7 +23,7 @@ refusedWith n = 4294967296 + n
 
 -- the graph that a list of requests leaves
 abbrev pub graphLeft : List ℕ → MultiPortGraph
-graphLeft requests = graphFrom emptyGraph (requestsOf requests)
+graphLeft requests = graphFrom firstGraph (requestsOf requests)
 
 -- refusal 1: the length of the list is not a multiple of 20
 unfoldable pub listWhole : List ℕ → Bool
@@ -56,10 +56,10 @@ fileRequests file = buildRequests (unbytes file)
 -- the length of the requests, 15 last, or what a refused load gives
 unfoldable pub recordsReturn : List ℕ → List ℕ → ℕ
 recordsReturn file requests =
-    ifLoaded (loadAnswer file)
+    ifLoaded (loadAnswer One file)
     (cond (leb (length (fileRequests file)) (length requests)) (length (fileRequests file)) (refusedWith 15))
-    (refusedWith (getD (loadNumbers (loadAnswer file)) 0 0))
+    (refusedWith (getD (loadNumbers (loadAnswer One file)) 0 0))
 
 -- the requests, and past them what the buffer held; as it was if it is too short or the load is refused
 unfoldable pub recordsWritten : List ℕ → List ℕ → List ℕ
-recordsWritten file requests = ifLoaded (loadAnswer file) (listAfter (fileRequests file) requests) requests
+recordsWritten file requests = ifLoaded (loadAnswer One file) (listAfter (fileRequests file) requests) requests

@@ -6,13 +6,13 @@ use Prim.Native.Nat.{ℕ, zero, suc, _+_, _-_, _*_, _/_, _%_, _≤_, _<_}
 use native.Mathlib.Omega.{arith}
 use lib.ListN.{length, getD, length-append}
 use lib.Seq.{getD-append-add}
-use Rattle.multiportgraph.specs.Graph.{emptyGraph}
 use Rattle.multiportgraph.specs.declared.multiportgraph.MultiPortGraph.{MultiPortGraph}
+use Rattle.multiportgraph.specs.declared.multiportgraph.Release.the-variants.{One}
 use Rattle.theorems.specs.Book.{Call}
 use Rattle.theorems.specs.History.{run}
 use Rattle.records.specs.Words.{wordAt, bytesOf, Request, requestAt, requestsFrom, requestsOf}
 use Rattle.records.specs.WordLaws.{bytes-append, bytes-long}
-use Rattle.records.specs.Run.{asked, askedBy, after, graphFrom, callThen, callsOf}
+use Rattle.records.specs.Run.{asked, askedBy, after, graphFrom, callThen, callsOf, firstGraph}
 use Rattle.records.specs.RunLaws.{run-is-history}
 use Rattle.files.specs.View.{BlockPorts, RankWire, View}
 use Rattle.files.specs.Layout.{unbytes}
@@ -136,22 +136,22 @@ unfolding graphFrom
 graph-append m [] k = refl
 graph-append m (q ∷ l) k = graph-append (after m (asked q)) l k
 
-loaded-graph : (file : List ℕ) → loadAnswer file ≡ Loaded → loadGraph file ≡ run (buildOf (unbytes file)) .graph
+loaded-graph : (file : List ℕ) → loadAnswer One file ≡ Loaded → loadGraph One file ≡ run One (buildOf (unbytes file)) .graph
 unfolding loadGraphUnder
-loaded-graph file e = ap (λ (a : LoadAnswer). graphIf a (run (buildOf (unbytes file)) .graph)) e
+loaded-graph file e = ap (λ (a : LoadAnswer). graphIf One a (run One (buildOf (unbytes file)) .graph)) e
 
-module _ (file : List ℕ) (accepted : loadAnswer file ≡ Loaded) where
+module _ (file : List ℕ) (accepted : loadAnswer One file ≡ Loaded) where
   -- A list that begins with the requests of an accepted file goes on from the graph that its load gives,
-  pub list-goes-on-from-the-load : (more : List ℕ) → graphLeft (fileRequests file ++ more) ≡ graphFrom (loadGraph file) (requestsOf more)
+  pub list-goes-on-from-the-load : (more : List ℕ) → graphLeft (fileRequests file ++ more) ≡ graphFrom (loadGraph One file) (requestsOf more)
   list-goes-on-from-the-load more =
       let v = unbytes file in
-      ap (graphFrom emptyGraph) (requests-are v more)
-      ∙ (graph-append emptyGraph (requestsIn v) (requestsOf more)
+      ap (graphFrom firstGraph) (requests-are v more)
+      ∙ (graph-append firstGraph (requestsIn v) (requestsOf more)
       ∙ ap (λ (m : MultiPortGraph). graphFrom m (requestsOf more))
-      (run-is-history (requestsIn v) ∙ (ap (λ (c : List Call). run c .graph) (calls-are v) ∙ sym (loaded-graph file accepted))))
+      (run-is-history (requestsIn v) ∙ (ap (λ (c : List Call). run One c .graph) (calls-are v) ∙ sym (loaded-graph file accepted))))
 
   -- and the requests alone leave that graph.
-  pub requests-leave-the-load : graphLeft (fileRequests file) ≡ loadGraph file
+  pub requests-leave-the-load : graphLeft (fileRequests file) ≡ loadGraph One file
   unfolding requestsOf requestsFrom graphFrom
   requests-leave-the-load = ap graphLeft (sym (append-nil (fileRequests file))) ∙ list-goes-on-from-the-load []
 
@@ -159,7 +159,7 @@ module _ (file : List ℕ) (accepted : loadAnswer file ≡ Loaded) where
   pub requests-are-short : length (fileRequests file) ≤ 51200
   requests-are-short =
       let v = unbytes file in
-      let f = loaded-few file (ap isLoaded accepted) in
+      let f = loaded-few One file (ap isLoaded accepted) in
       let a = ap length (build-split v) ∙ length-append (pairRequests 1 (flatMap addPair (v .blocks))) (pairRequests 4 (flatMap (linkPair (v .blocks)) (v .wires))) in
       let b = requests-many 1 addPair (λ x. refl) (v .blocks) in
       let c = requests-many 4 (linkPair (v .blocks)) (λ x. refl) (v .wires) in

@@ -15,7 +15,8 @@ use Rattle.multiportgraph.specs.Frame.{true-not-false}
 use Rattle.multiportgraph.specs.Listed.{listAfter}
 use Rattle.multiportgraph.specs.ListScans.{Writing}
 use Rattle.multiportgraph.specs.declared.multiportgraph.Refusal.{Refusal}
-use Rattle.multiportgraph.specs.declared.multiportgraph.Refusal.the-variants.{BadOffset, TooManyPorts, UnknownNode, HiddenNode, MovesTooShort, UnknownPort, HiddenPort, UnknownOffset, NoRoom, UnknownSecondPort, IncompatibleDirections, AlreadyLinked}
+use Rattle.multiportgraph.specs.declared.multiportgraph.Refusal.the-variants.{BadOffset, TooManyPorts, UnknownNode, HiddenNode, MovesTooShort, UnknownPort, HiddenPort, UnknownOffset, NoRoom, UnknownSecondPort, IncompatibleDirections, AlreadyLinked, InputWired}
+use Rattle.multiportgraph.specs.declared.multiportgraph.Release.the-variants.{One}
 use Rattle.records.specs.Words.{bytesOf}
 use Rattle.records.specs.WordLaws.{bytes-append, bytes-long}
 use Rattle.records.specs.Run.{five}
@@ -53,8 +54,9 @@ no-number (Refused NoRoom) h = absurd (omega arith)
 no-number (Refused (UnknownSecondPort p)) h = absurd (omega arith)
 no-number (Refused (IncompatibleDirections p q d)) h = absurd (omega arith)
 no-number (Refused (AlreadyLinked p)) h = absurd (omega arith)
+no-number (Refused InputWired) h = absurd (omega arith)
 
-pub number-small : (a : LoadAnswer) → getD (loadNumbers a) 0 0 ≤ 17
+pub number-small : (a : LoadAnswer) → getD (loadNumbers a) 0 0 ≤ 18
 number-small Loaded = omega arith
 number-small BadSums = omega arith
 number-small BadLayout = omega arith
@@ -70,6 +72,7 @@ number-small (Refused NoRoom) = omega arith
 number-small (Refused (UnknownSecondPort p)) = omega arith
 number-small (Refused (IncompatibleDirections p q d)) = omega arith
 number-small (Refused (AlreadyLinked p)) = omega arith
+number-small (Refused InputWired) = omega arith
 
 -- Requests of pairs.
 
@@ -169,8 +172,8 @@ buildMost = 2 * nodeSlots + portSlots
 abbrev pub noNumbers : List ℕ
 noNumbers = replicate buildMost 0
 
-module _ (file requests : List ℕ) (listed : BuildListed) (isListed : listed ≡ listBuild file) where
-  answer-is : listed .answer ≡ loadAnswer file
+module _ (file requests : List ℕ) (listed : BuildListed) (isListed : listed ≡ listBuild One file) where
+  answer-is : listed .answer ≡ loadAnswer One file
   unfolding listBuild
   answer-is = ap (λ (r : BuildListed). r .answer) isListed
 
@@ -178,8 +181,8 @@ module _ (file requests : List ℕ) (listed : BuildListed) (isListed : listed �
       (4294967296 + number ≡ recordsReturn file requests) × (requests ≡ recordsWritten file requests)
   unfolding recordsReturn recordsWritten
   records-refused number e h =
-      let f : number ≡ getD (loadNumbers (loadAnswer file)) 0 0 = e ∙ ap (λ (a : LoadAnswer). getD (loadNumbers a) 0 0) answer-is in
-      go (loadAnswer file) f
+      let f : number ≡ getD (loadNumbers (loadAnswer One file)) 0 0 = e ∙ ap (λ (a : LoadAnswer). getD (loadNumbers a) 0 0) answer-is in
+      go (loadAnswer One file) f
     where
       go : (a : LoadAnswer) → number ≡ getD (loadNumbers a) 0 0 →
           (4294967296 + number ≡ ifLoaded a (cond (leb (length (fileRequests file)) (length requests)) (length (fileRequests file)) (refusedWith 15)) (refusedWith (getD (loadNumbers a) 0 0)))
@@ -190,7 +193,7 @@ module _ (file requests : List ℕ) (listed : BuildListed) (isListed : listed �
       go (Refused r) f = (ap refusedWith f, refl)
 
   module _ {number : ℕ} (isNumber : number ≡ getD (loadNumbers (listed .answer)) 0 0) (none : number ≡ 0) where
-    loaded : loadAnswer file ≡ Loaded
+    loaded : loadAnswer One file ≡ Loaded
     loaded = sym answer-is ∙ no-number (listed .answer) (sym isNumber ∙ none)
 
     blocks-many : listed .blocks ≡ length (unbytes file .blocks)
@@ -203,7 +206,7 @@ module _ (file requests : List ℕ) (listed : BuildListed) (isListed : listed �
 
     pub records-few : (listed .blocks ≤ nodeSlots) × (2 * listed .wires ≤ portSlots)
     records-few =
-        let h = loaded-few file (ap isLoaded loaded) in
+        let h = loaded-few One file (ap isLoaded loaded) in
         let a = blocks-many in
         let b = wires-many in
         let x = h .0 in
@@ -239,7 +242,7 @@ module _ (file requests : List ℕ) (listed : BuildListed) (isListed : listed �
     unfolding recordsReturn recordsWritten listAfter
     records-short h = let n = whole-long in let t = lt-leb (length (fileRequests file)) (length requests) (omega arith) in (rw (loaded, t) refl, rw (loaded, t) refl)
 
-    module _ (numbers : List ℕ) (areNumbers : numbers ≡ buildAfter file noNumbers) where
+    module _ (numbers : List ℕ) (areNumbers : numbers ≡ buildAfter One file noNumbers) where
       numbers-are : numbers ≡ adds ++ (links ++ drop (length (adds ++ links)) noNumbers)
       unfolding buildAfter listAfter buildNumbers
       numbers-are =

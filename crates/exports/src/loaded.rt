@@ -2,6 +2,7 @@
 use files::listing::BUILD_NUMBERS;
 use files::listing::list_build;
 use files::load::LoadAnswer;
+use multiportgraph::multiportgraph::Release;
 use records::answers::refusal_words;
 ghost use mathlib.Core.Path.{_≡_};
 ghost use mathlib.Core.List.{[], _∷_};
@@ -67,7 +68,7 @@ fn load_number(answer: LoadAnswer) -> u64
     }
 }
 
-// Lays the adds and links that build the wiring of a file, as requests, so that a list which begins with them goes on from the loaded graph. Their length,
+// Lays the adds and links that build the wiring of a file for release 1, as requests, so that a list which begins with them goes on from the loaded graph. Their length,
 // or 4,294,967,296 and the refusal: 16 and 17 as loading gives them, 3 or 10 as the first add or link that is refused, 15 if the buffer is too short. A buffer
 // of a refused file stays as it was.
 #[no_mangle]
@@ -76,7 +77,7 @@ pub extern "C" fn records_of_file(file: &[u8], requests: &mut [u8]) -> u64
         × (now (requests .exit) ≡ recordsWritten (now (file .entry)) (now (requests .entry))) ⌝ }
 {
     let mut numbers = [0u32; BUILD_NUMBERS];
-    let listed = list_build(file, &mut numbers);
+    let listed = list_build(Release::One, file, &mut numbers);
     let answer = listed.answer;
     let number = load_number(answer);
     if number != 0 {

@@ -2,6 +2,7 @@
 use files::save::SaveAnswer;
 use files::save::save_in;
 use multiportgraph::lent::no_held;
+use multiportgraph::multiportgraph::Release;
 use portgraph::index::FREE_LISTS;
 use portgraph::index::NODE_SLOTS;
 use portgraph::index::PORT_SLOTS;
@@ -20,7 +21,7 @@ fn save_told(answer: SaveAnswer) -> u64
     }
 }
 
-// Runs a list of requests from an empty graph, past refused calls, and writes the file of the graph that it leaves. The file's length, or
+// Runs a list of requests from an empty graph of release 1, past refused calls, and writes the file of the graph that it leaves. The file's length, or
 // 4,294,967,296 and the refusal: 1 if the length of the list is not a multiple of 20, 15 if the buffer is too short, which then stays as it was.
 #[no_mangle]
 pub extern "C" fn save_records(requests: &[u8], file: &mut [u8]) -> u64
@@ -43,7 +44,7 @@ pub extern "C" fn save_records(requests: &[u8], file: &mut [u8]) -> u64
         &mut heads,
         &mut marks,
         &mut flags,
-        no_held(),
+        no_held(Release::One),
         requests,
     );
     save_told(save_in(&nodes, &links, &owners, &heads, &marks, &flags, held, file))

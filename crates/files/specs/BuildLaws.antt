@@ -16,6 +16,7 @@ use Rattle.multiportgraph.specs.Graph.{emptyGraph}
 use Rattle.multiportgraph.specs.Inner.{inner#}
 use Rattle.multiportgraph.specs.Places.{Wire, spot, flag}
 use Rattle.multiportgraph.specs.declared.multiportgraph.MultiPortGraph.{MultiPortGraph}
+use Rattle.multiportgraph.specs.declared.multiportgraph.Release.{Release}
 use Rattle.multiportgraph.specs.declared.multiportgraph.SubportIndex.{SubportIndex}
 use Rattle.multiportgraph.specs.declared.multiportgraph.AddAnswer.the-variants as add
 use Rattle.multiportgraph.specs.declared.multiportgraph.LinkAnswer.{LinkAnswer}
@@ -204,32 +205,32 @@ rank-by-blocks B C n e = ap (λ (l : List Block). length (filter (λ (b : Block)
 pub sound-runs : (v : View) → Sound v → (w : RankWire) → Member w (v .wires) → Runs (v .blocks) w
 sound-runs v s w i = (s .source w i, s .output w i, s .target w i, s .input w i)
 
-module _ (v : View) (sound : Sound v) (e : firstRefusal emptyGraph (buildOf v) ≡ Loaded) where
-  adds-accepted : firstRefusal emptyGraph (map addOf (v .blocks)) ≡ Loaded
+module _ (release : Release) (v : View) (sound : Sound v) (e : firstRefusal (emptyGraph release) (buildOf v) ≡ Loaded) where
+  adds-accepted : firstRefusal (emptyGraph release) (map addOf (v .blocks)) ≡ Loaded
   unfolding buildOf
-  adds-accepted = accepted-apart (record { graph = emptyGraph; book = emptyBook }) (map addOf (v .blocks)) (map (linkOf (v .blocks)) (v .wires)) e .0
+  adds-accepted = accepted-apart (record { graph = emptyGraph release; book = emptyBook }) (map addOf (v .blocks)) (map (linkOf (v .blocks)) (v .wires)) e .0
 
-  links-accepted : firstRefusal (run (map addOf (v .blocks)) .graph) (map (linkOf (v .blocks)) (v .wires)) ≡ Loaded
+  links-accepted : firstRefusal (run release (map addOf (v .blocks)) .graph) (map (linkOf (v .blocks)) (v .wires)) ≡ Loaded
   unfolding buildOf runUnder
-  links-accepted = accepted-apart (record { graph = emptyGraph; book = emptyBook }) (map addOf (v .blocks)) (map (linkOf (v .blocks)) (v .wires)) e .1
+  links-accepted = accepted-apart (record { graph = emptyGraph release; book = emptyBook }) (map addOf (v .blocks)) (map (linkOf (v .blocks)) (v .wires)) e .1
 
-  added : NextSlots (v .blocks) (run (map addOf (v .blocks)) .book)
-  added = next-slots (v .blocks) adds-accepted
+  added : NextSlots (v .blocks) (run release (map addOf (v .blocks)) .book)
+  added = next-slots release (v .blocks) adds-accepted
 
   -- the state after the adds, and after all
   abbrev laidState : State
-  laidState = run (map addOf (v .blocks))
+  laidState = run release (map addOf (v .blocks))
 
   abbrev built : State
   built = runFrom laidState (map (linkOf (v .blocks)) (v .wires))
 
-  built-is : run (buildOf v) ≡ built
+  built-is : run release (buildOf v) ≡ built
   unfolding buildOf
-  built-is = run-append (map addOf (v .blocks)) (map (linkOf (v .blocks)) (v .wires))
+  built-is = run-append release (map addOf (v .blocks)) (map (linkOf (v .blocks)) (v .wires))
 
   linked : (rank : ℕ → ℕ) → ((n : ℕ) → n < length (v .blocks) → rank n ≡ n) → LinksEntered laidState (v .blocks) (v .wires) rank
   linked rank same =
-      let r = rel-run (map addOf (v .blocks)) in
+      let r = rel-run release (map addOf (v .blocks)) in
       links-entered (v .blocks) rank same (v .wires) (sound-runs v sound) laidState (r .0) (r .1) (added .has) links-accepted
 
   built-blocks : built .book .blocks ≡ laidState .book .blocks
@@ -245,7 +246,7 @@ module _ (v : View) (sound : Sound v) (e : firstRefusal emptyGraph (buildOf v) �
       omega arith
 
   built-rel : (M : Model) × Rel (built .graph) M (built .book)
-  built-rel = subst (λ (s : State). (M : Model) × Rel (s .graph) M (s .book)) built-is (rel-run (buildOf v))
+  built-rel = subst (λ (s : State). (M : Model) × Rel (s .graph) M (s .book)) built-is (rel-run release (buildOf v))
 
   has-block : (n : ℕ) (b : BlockPorts) → At (v .blocks) n b → HasBlock (built .book) n (b .incoming) (b .outgoing)
   has-block n b h = (
@@ -267,7 +268,7 @@ module _ (v : View) (sound : Sound v) (e : firstRefusal emptyGraph (buildOf v) �
       let o : c .outgoing ≡ b .outgoing = sym (length-range (firstPort (v .blocks) (g .0) + c .incoming) (c .outgoing)) ∙ (ap (λ (t : Block). length (t .outs)) (sym (g .3)) ∙ h .4) in
       subst (λ (j : ℕ). At (v .blocks) j b) d (subst (At (v .blocks) (g .0)) {x = c} {y = b} (λ j. record { incoming = i j; outgoing = o j }) (g .2))
 
-  pub built-view : viewOf (run (buildOf v) .graph) ≡ v
+  pub built-view : viewOf (run release (buildOf v) .graph) ≡ v
   built-view =
       let r = built-rel .1 in
       let a : viewOf (built .graph) .blocks ≡ v .blocks =

@@ -3,6 +3,7 @@ use mathlib.Core.List.{List, [], _∷_, _++_, flatMap}
 use Prim.Native.Nat.{ℕ}
 use lib.ListN.{length}
 use Rattle.multiportgraph.specs.Listed.{listAfter}
+use Rattle.multiportgraph.specs.declared.multiportgraph.Release.{Release}
 use Rattle.files.specs.View.{BlockPorts, RankWire, View}
 use Rattle.files.specs.Layout.{unbytes}
 use Rattle.files.specs.Loading.{outPort, inPort, loadAnswer}
@@ -28,15 +29,15 @@ ifLoaded BadSums x y = y
 ifLoaded BadLayout x y = y
 ifLoaded (Refused r) x y = y
 
--- the answer of the load, and how many blocks and wires were built
-unfoldable pub listBuild : List ℕ → BuildListed
-listBuild bytes =
+-- the answer of the load for a release, and how many blocks and wires were built
+unfoldable pub listBuild : Release → List ℕ → BuildListed
+listBuild release bytes =
     record {
-      answer = loadAnswer bytes;
-      blocks = ifLoaded (loadAnswer bytes) (length (unbytes bytes .blocks)) 0;
-      wires = ifLoaded (loadAnswer bytes) (length (unbytes bytes .wires)) 0;
+      answer = loadAnswer release bytes;
+      blocks = ifLoaded (loadAnswer release bytes) (length (unbytes bytes .blocks)) 0;
+      wires = ifLoaded (loadAnswer release bytes) (length (unbytes bytes .wires)) 0;
     }
 
 -- the lent list afterwards: the numbers, and past them what it held; as it was if the load is refused or it is too short
-unfoldable pub buildAfter : List ℕ → List ℕ → List ℕ
-buildAfter bytes numbers = ifLoaded (loadAnswer bytes) (listAfter (buildNumbers (unbytes bytes)) numbers) numbers
+unfoldable pub buildAfter : Release → List ℕ → List ℕ → List ℕ
+buildAfter release bytes numbers = ifLoaded (loadAnswer release bytes) (listAfter (buildNumbers (unbytes bytes)) numbers) numbers

@@ -8,41 +8,45 @@ use native.Mathlib.Omega.{arith}
 use lib.ListN.{length, length-append}
 use Rattle.portgraph.specs.Limits.{nodeSlots, portSlots, nodePorts}
 use Rattle.portgraph.specs.Lists.{Member}
-use Rattle.portgraph.specs.Model as model
 use Rattle.portgraph.specs.Model.{Model}
 use Rattle.portgraph.specs.Meaning.{growth}
-use Rattle.portgraph.specs.GoodSlots.{zero-is-not-one, slots-apart}
+use Rattle.portgraph.specs.GoodSlots.{zero-is-not-one}
 use Rattle.portgraph.specs.GoodLaws.{emptyModel}
 use Rattle.portgraph.specs.declared.direction.Direction.the-variants.{Incoming, Outgoing}
 use Rattle.multiportgraph.specs.Calls.{addBlock, linkPair}
 use Rattle.multiportgraph.specs.Graph.{emptyGraph}
-use Rattle.multiportgraph.specs.Inner.{Fine, inner#}
+use Rattle.multiportgraph.specs.Inner.{inner#}
 use Rattle.multiportgraph.specs.Listing.{member-left, member-right}
+use Rattle.multiportgraph.specs.Places.{Wire}
 use Rattle.multiportgraph.specs.PlainLaws.{fine-empty}
 use Rattle.multiportgraph.specs.Space.{roomOf, overflows, linkWorks}
 use Rattle.multiportgraph.specs.SpaceLaws.{link-space}
 use Rattle.multiportgraph.specs.declared.multiportgraph.MultiPortGraph.{MultiPortGraph}
+use Rattle.multiportgraph.specs.declared.multiportgraph.Release.{Release}
+use Rattle.multiportgraph.specs.declared.multiportgraph.Release.the-variants.{Two}
 use Rattle.multiportgraph.specs.declared.multiportgraph.AddAnswer.{AddAnswer}
 use Rattle.multiportgraph.specs.declared.multiportgraph.AddAnswer.the-variants as add
 use Rattle.multiportgraph.specs.declared.multiportgraph.NodeAdded.{NodeAdded}
 use Rattle.multiportgraph.specs.declared.multiportgraph.LinkAnswer.{LinkAnswer}
 use Rattle.multiportgraph.specs.declared.multiportgraph.LinkAnswer.the-variants as link
 use Rattle.multiportgraph.specs.declared.multiportgraph.Refusal.{Refusal}
-use Rattle.multiportgraph.specs.declared.multiportgraph.Refusal.the-variants.{TooManyPorts, NoRoom}
+use Rattle.multiportgraph.specs.declared.multiportgraph.Refusal.the-variants.{TooManyPorts, NoRoom, InputWired}
 use Rattle.theorems.specs.Book.{Call, AnswerOf, emptyBook}
 use Rattle.theorems.specs.History.{State, next, runFrom, runFromUnder, run, runUnder, step}
 use Rattle.theorems.specs.Runs.{run-append}
-use Rattle.theorems.specs.Conditions.{RefusedBy, OfBlock, NoSlot, NoBlock, AddRefused, add-many, add-full, LinkRefused, link-first-dead, link-first-hidden, link-second-hidden, link-first-full, link-second-full, link-second-dead, link-one-side}
+use Rattle.theorems.specs.Conditions.{RefusedBy, OfBlock, NoSlot, NoBlock, Taken, AddRefused, add-many, add-full}
 use Rattle.theorems.specs.AddCall.{add-refuses, add-refused}
-use Rattle.theorems.specs.LinkCall.{block-not-hidden, link-refused}
+use Rattle.theorems.specs.Claims.{count}
 use Rattle.theorems.specs.WireRule.{Rel}
 use Rattle.theorems.specs.CallLaws.{rel-run}
+use Rattle.theorems.specs.ReleaseRuns.{release-kept}
 use Rattle.files.specs.View.{BlockPorts, RankWire, View}
 use Rattle.files.specs.Loading.{firstPort, outPort, inPort, addOf, linkOf, buildOf, afterCall, firstRefusal, firstRefusalUnder}
-use Rattle.files.specs.Claims.{At, Sound}
-use Rattle.files.specs.LoadClaims.{withFirst, BuildRefused, build-many, build-no-block, build-no-wire}
+use Rattle.files.specs.Claims.{At, sameWire, howMany, Sound}
+use Rattle.files.specs.LoadClaims.{withFirst, SameInput, SharesInput, BuildRefused, build-many, build-no-block, build-wired, build-no-wire}
 use Rattle.files.specs.NextSlots.{NoFree, blockFrom, none-free-at-first, AddsLaid, adds-laid, next-slots}
 use Rattle.files.specs.BuildLaws.{range-known, goes-or-stops, refused-not-loaded, accepted-apart, Runs, HasAll, source-port, target-port, links-entered, sound-runs}
+use Rattle.files.specs.InputLaws.{plain, link-refusals, taken-refused, taken-by, by-taken}
 use Rattle.files.specs.declared.load.LoadAnswer.{LoadAnswer}
 use Rattle.files.specs.declared.load.LoadAnswer.the-variants.{Loaded, Refused}
 
@@ -145,8 +149,8 @@ add-stops b v r e rest = ap (λ (a : AddAnswer). afterCall (addOf b) a rest) e
 link-stops : (bs : List BlockPorts) (w : RankWire) (v : LinkAnswer) (r : Refusal) → v ≡ link.Refused r → (rest : LoadAnswer) → afterCall (linkOf bs w) v rest ≡ Refused r
 link-stops bs w v r e rest = ap (λ (a : LinkAnswer). afterCall (linkOf bs w) a rest) e
 
-abbrev start : State
-start = record { graph = emptyGraph; book = emptyBook }
+abbrev start : Release → State
+start release = record { graph = emptyGraph release; book = emptyBook }
 
 -- Blocks.
 
@@ -164,9 +168,9 @@ module _ {M : Model} {n p : ℕ} (h : NoFree M n p) (size : ℕ) where
   ends-block : portSlots < p + size → NoBlock M size
   ends-block k = let a = ap (growth size) (h .blocks size) in let b = h .portLen in omega arith
 
-module _ (first : List BlockPorts) (b : BlockPorts) (e : firstRefusal emptyGraph (map addOf first) ≡ Loaded) where
-  before : AddsLaid start 0 0 first
-  before = adds-laid first start emptyModel 0 0 fine-empty none-free-at-first e
+module _ (release : Release) (first : List BlockPorts) (b : BlockPorts) (e : firstRefusal (emptyGraph release) (map addOf first) ≡ Loaded) where
+  before : AddsLaid (start release) 0 0 first
+  before = adds-laid first (start release) emptyModel 0 0 (fine-empty release) none-free-at-first e
 
   after : NoFree (before .model) (length first) (firstPort first (length first))
   after =
@@ -182,7 +186,7 @@ module _ (first : List BlockPorts) (b : BlockPorts) (e : firstRefusal emptyGraph
   abbrev AddEnds : Type 0
   AddEnds = (nodeSlots < suc (length first)) ⊎ (portSlots < firstPort first (length first) + (b .incoming + b .outgoing))
 
-  pub add-ends : (r : Refusal) → addBlock (runFrom start (map addOf first) .graph) (b .incoming) (b .outgoing) .answer ≡ add.Refused r →
+  pub add-ends : (r : Refusal) → addBlock (runFrom (start release) (map addOf first) .graph) (b .incoming) (b .outgoing) .answer ≡ add.Refused r →
       ((r ≡ TooManyPorts) × (nodePorts < b .incoming + b .outgoing)) ⊎ ((r ≡ NoRoom) × (b .incoming + b .outgoing ≤ nodePorts) × AddEnds)
   add-ends r k = go r (add-refused (before .fine) (b .incoming) (b .outgoing) r k)
     where
@@ -192,10 +196,10 @@ module _ (first : List BlockPorts) (b : BlockPorts) (e : firstRefusal emptyGraph
       go r (add-full h (inl k)) = inr (refl, h, inl (slot-ends after 0 k))
       go r (add-full h (inr k)) = inr (refl, h, inr (block-ends after (b .incoming + b .outgoing) k))
 
-  many-refused : nodePorts < b .incoming + b .outgoing → addBlock (runFrom start (map addOf first) .graph) (b .incoming) (b .outgoing) .answer ≡ add.Refused TooManyPorts
+  many-refused : nodePorts < b .incoming + b .outgoing → addBlock (runFrom (start release) (map addOf first) .graph) (b .incoming) (b .outgoing) .answer ≡ add.Refused TooManyPorts
   many-refused h = ap (λ (v : NodeAdded). v .answer) (add-refuses (before .fine) (b .incoming) (b .outgoing) TooManyPorts (add-many h))
 
-  ends-refused : b .incoming + b .outgoing ≤ nodePorts → AddEnds → addBlock (runFrom start (map addOf first) .graph) (b .incoming) (b .outgoing) .answer ≡ add.Refused NoRoom
+  ends-refused : b .incoming + b .outgoing ≤ nodePorts → AddEnds → addBlock (runFrom (start release) (map addOf first) .graph) (b .incoming) (b .outgoing) .answer ≡ add.Refused NoRoom
   ends-refused h k =
       ap (λ (v : NodeAdded). v .answer)
       (add-refuses (before .fine) (b .incoming) (b .outgoing) NoRoom
@@ -203,127 +207,144 @@ module _ (first : List BlockPorts) (b : BlockPorts) (e : firstRefusal emptyGraph
 
 -- Wires.
 
-outgoing-not-incoming : Outgoing ≡ Incoming → ⊥
-outgoing-not-incoming e = zero-is-not-one (cc)
-
--- between ports of blocks, an output and an input, only space is wanting
-module _ {m : MultiPortGraph} {M : Model} (f : Fine m M) (a b : ℕ) (n i k j : ℕ) (s : OfBlock m M a (inner# n Outgoing i)) (t : OfBlock m M b (inner# k Incoming j)) where
-  same-port : (p : ℕ) (x y : model.InnerPlace) → OfBlock m M p x → OfBlock m M p y → x ≡ y
-  same-port p x y u v = slots-apart (f .good) x y (u .0 .0) (v .0 .0) (u .1 ∙ sym (v .1))
-
-  only-space : (h : MultiPortGraph) (r : Refusal) → LinkRefused m M a b h r → r ≡ NoRoom
-  only-space h r (link-first-dead d) = absurd (d _ (s .0 .0) (s .1))
-  only-space h r (link-first-hidden z) = absurd (block-not-hidden f a _ s z)
-  only-space h r (link-second-hidden x u z) = absurd (block-not-hidden f b _ t z)
-  only-space h r (link-first-full x u z e) = refl
-  only-space h r (link-second-full x y m₁ c o u z e g) = refl
-  only-space h r (link-second-dead x m₁ c o u d e) = absurd (d _ (t .0 .0) (t .1))
-  only-space h r (link-one-side x y m₁ m₂ c o v q u z e g l) =
-      absurd
-      (outgoing-not-incoming
-      (ap (λ (p : model.InnerPlace). p .side) (same-port a (inner# n Outgoing i) x s u) ∙ (l ∙ ap (λ (p : model.InnerPlace). p .side) (same-port b y (inner# k Incoming j) z t))))
-
-  pub link-wants-space : (r : Refusal) → linkPair m a b .answer ≡ link.Refused r → r ≡ NoRoom
-  link-wants-space r e = only-space (linkPair m a b .graph) r (link-refused f a b r e)
-
 -- the build with the first wires only
-module _ (v : View) (first : List RankWire) where
-  part-is : run (buildOf (withFirst v first)) ≡ runFrom (run (map addOf (v .blocks))) (map (linkOf (v .blocks)) first)
+module _ (release : Release) (v : View) (first : List RankWire) where
+  part-is : run release (buildOf (withFirst v first)) ≡ runFrom (run release (map addOf (v .blocks))) (map (linkOf (v .blocks)) first)
   unfolding buildOf
-  part-is = run-append (map addOf (v .blocks)) (map (linkOf (v .blocks)) first)
+  part-is = run-append release (map addOf (v .blocks)) (map (linkOf (v .blocks)) first)
 
-  part-apart : firstRefusal emptyGraph (buildOf (withFirst v first)) ≡ Loaded →
-      (firstRefusal emptyGraph (map addOf (v .blocks)) ≡ Loaded) × (firstRefusal (run (map addOf (v .blocks)) .graph) (map (linkOf (v .blocks)) first) ≡ Loaded)
+  part-apart : firstRefusal (emptyGraph release) (buildOf (withFirst v first)) ≡ Loaded →
+      (firstRefusal (emptyGraph release) (map addOf (v .blocks)) ≡ Loaded) × (firstRefusal (run release (map addOf (v .blocks)) .graph) (map (linkOf (v .blocks)) first) ≡ Loaded)
   unfolding buildOf runUnder
-  part-apart e = accepted-apart start (map addOf (v .blocks)) (map (linkOf (v .blocks)) first) e
+  part-apart e = accepted-apart (start release) (map addOf (v .blocks)) (map (linkOf (v .blocks)) first) e
 
-  part-accepted : firstRefusal emptyGraph (map addOf (v .blocks)) ≡ Loaded →
-      firstRefusal (run (map addOf (v .blocks)) .graph) (map (linkOf (v .blocks)) first) ≡ Loaded → firstRefusal emptyGraph (buildOf (withFirst v first)) ≡ Loaded
+  part-accepted : firstRefusal (emptyGraph release) (map addOf (v .blocks)) ≡ Loaded →
+      firstRefusal (run release (map addOf (v .blocks)) .graph) (map (linkOf (v .blocks)) first) ≡ Loaded → firstRefusal (emptyGraph release) (buildOf (withFirst v first)) ≡ Loaded
   unfolding buildOf runUnder
-  part-accepted a b = refusal-after start (map addOf (v .blocks)) (map (linkOf (v .blocks)) first) a ∙ b
+  part-accepted a b = refusal-after (start release) (map addOf (v .blocks)) (map (linkOf (v .blocks)) first) a ∙ b
 
-  -- all blocks are in its book
-  blocks-there : ((w : RankWire) → Member w first → Runs (v .blocks) w) → firstRefusal emptyGraph (buildOf (withFirst v first)) ≡ Loaded →
-      HasAll (v .blocks) (run (buildOf (withFirst v first)) .book)
-  blocks-there runs e n b h =
-      let a = part-apart e in
-      let s = next-slots (v .blocks) (a .0) in
-      let r = rel-run (map addOf (v .blocks)) in
-      let l = links-entered (v .blocks) (λ k. k) (λ k i. refl) first runs (run (map addOf (v .blocks))) (r .0) (r .1) (s .has) (a .1) in
-      subst (Member _) (sym (ap (λ (s : State). s .book .blocks) part-is ∙ l .blocks)) (s .has n b h)
+-- its book has all blocks, and these wires
+record PartBuilt (release : Release) (v : View) (first : List RankWire) : Type 0 where
+  pub has : HasAll (v .blocks) (run release (buildOf (withFirst v first)) .book)
+  pub entered : (z : RankWire) → count (λ (x : Wire). sameWire (plain x) z) (run release (buildOf (withFirst v first)) .book .wires) ≡ howMany sameWire z first
+
+part-built : (release : Release) (v : View) (first : List RankWire) → ((w : RankWire) → Member w first → Runs (v .blocks) w) →
+    firstRefusal (emptyGraph release) (buildOf (withFirst v first)) ≡ Loaded → PartBuilt release v first
+part-built release v first runs e =
+    let a = part-apart release v first e in
+    let s = next-slots release (v .blocks) (a .0) in
+    let r = rel-run release (map addOf (v .blocks)) in
+    let l = links-entered (v .blocks) (λ k. k) (λ k i. refl) first runs (run release (map addOf (v .blocks))) (r .0) (r .1) (s .has) (a .1) in
+    record {
+      has = λ n b h. subst (Member _) (sym (ap (λ (s : State). s .book .blocks) (part-is release v first) ∙ l .blocks)) (s .has n b h);
+      entered = λ z.
+          let c = ap (λ (s : State). count (λ (x : Wire). sameWire (plain x) z) (s .book .wires)) (part-is release v first) in
+          let d = l .wires z in
+          let n = ap (count (λ (x : Wire). sameWire (plain x) z)) (s .unwired) in
+          omega arith;
+    }
+
+-- a wire after the first ones, which are all accepted
+module _ (release : Release) (v : View) (sound : Sound v) (first : List RankWire) (w : RankWire) (later : List RankWire) (is : v .wires ≡ first ++ (w ∷ later))
+    (e : firstRefusal (emptyGraph release) (buildOf (withFirst v first)) ≡ Loaded) where
+  abbrev state : State
+  state = run release (buildOf (withFirst v first))
+
+  runs : (x : RankWire) → Member x (first ++ (w ∷ later)) → Runs (v .blocks) x
+  runs x i = sound-runs v sound x (subst (Member x) (sym is) i)
+
+  here : Runs (v .blocks) w
+  here = runs w (member-right w first (w ∷ later) (inl refl))
+
+  rel : Rel (state .graph) (rel-run release (buildOf (withFirst v first)) .0) (state .book)
+  rel = rel-run release (buildOf (withFirst v first)) .1
+
+  part : PartBuilt release v first
+  part = part-built release v first (λ x i. runs x (member-left x first (w ∷ later) i)) e
+
+  from : OfBlock (state .graph) (rel-run release (buildOf (withFirst v first)) .0) (outPort (v .blocks) w) (inner# (w .source) Outgoing (w .output))
+  from = source-port rel (v .blocks) (part .has) w here
+
+  into : OfBlock (state .graph) (rel-run release (buildOf (withFirst v first)) .0) (inPort (v .blocks) w) (inner# (w .target) Incoming (w .input))
+  into = target-port rel (v .blocks) (part .has) w here
+
+  abbrev TakenHere : Type 0
+  TakenHere = Taken (state .graph) (rel-run release (buildOf (withFirst v first)) .0) (outPort (v .blocks) w) (inPort (v .blocks) w)
+
+  -- it is refused with 18 or for space,
+  wire-refusals : (r : Refusal) → linkPair (state .graph) (outPort (v .blocks) w) (inPort (v .blocks) w) .answer ≡ link.Refused r → (TakenHere × (r ≡ InputWired)) ⊎ (r ≡ NoRoom)
+  wire-refusals = link-refusals rel (outPort (v .blocks) w) (inPort (v .blocks) w) (w .source) (w .output) (w .target) (w .input) from into
+
+  -- with 18 exactly where one of the first ends at its input, for release 2
+  taken-wire : TakenHere → (release ≡ Two) × (u : RankWire) × Member u first × SameInput u w
+  taken-wire h =
+      let k = taken-by rel (outPort (v .blocks) w) (inPort (v .blocks) w) (w .source) (w .output) (w .target) (w .input) from into first (part .entered) h in
+      (sym (release-kept release (buildOf (withFirst v first))) ∙ k .0, k .1 .0, k .1 .1, (k .1 .2, k .1 .3))
+
+  shared-refused : release ≡ Two → (u : RankWire) → Member u first → SameInput u w →
+      linkPair (state .graph) (outPort (v .blocks) w) (inPort (v .blocks) w) .answer ≡ link.Refused InputWired
+  shared-refused two u i (p, q) =
+      taken-refused rel (outPort (v .blocks) w) (inPort (v .blocks) w) (w .source) (w .output) (w .target) (w .input) from into
+      (by-taken rel (outPort (v .blocks) w) (inPort (v .blocks) w) (w .source) (w .output) (w .target) (w .input) from into first (part .entered)
+      (release-kept release (buildOf (withFirst v first)) ∙ two) u i p q)
 
 -- The build.
 
-module _ (v : View) where
+module _ (release : Release) (v : View) where
   -- what is refused is a block or a wire
-  build-stops : (r : Refusal) → firstRefusal emptyGraph (buildOf v) ≡ Refused r →
-      Stop addOf start (v .blocks) r
-      ⊎ ((firstRefusal emptyGraph (map addOf (v .blocks)) ≡ Loaded) × Stop (linkOf (v .blocks)) (run (map addOf (v .blocks))) (v .wires) r)
+  build-stops : (r : Refusal) → firstRefusal (emptyGraph release) (buildOf v) ≡ Refused r →
+      Stop addOf (start release) (v .blocks) r
+      ⊎ ((firstRefusal (emptyGraph release) (map addOf (v .blocks)) ≡ Loaded) × Stop (linkOf (v .blocks)) (run release (map addOf (v .blocks))) (v .wires) r)
   unfolding buildOf runUnder
   build-stops r e =
-      ⊎-elim (λ k. inl (first-stop addOf (v .blocks) start r k)) (λ k. inr (k .0, first-stop (linkOf (v .blocks)) (v .wires) (run (map addOf (v .blocks))) r (k .1)))
-      (refused-apart start (map addOf (v .blocks)) (map (linkOf (v .blocks)) (v .wires)) r e)
+      ⊎-elim (λ k. inl (first-stop addOf (v .blocks) (start release) r k)) (λ k. inr (k .0, first-stop (linkOf (v .blocks)) (v .wires) (run release (map addOf (v .blocks))) r (k .1)))
+      (refused-apart (start release) (map addOf (v .blocks)) (map (linkOf (v .blocks)) (v .wires)) r e)
 
   stops-build : (r : Refusal) →
-      Stop addOf start (v .blocks) r
-      ⊎ ((firstRefusal emptyGraph (map addOf (v .blocks)) ≡ Loaded) × Stop (linkOf (v .blocks)) (run (map addOf (v .blocks))) (v .wires) r) →
-      firstRefusal emptyGraph (buildOf v) ≡ Refused r
+      Stop addOf (start release) (v .blocks) r
+      ⊎ ((firstRefusal (emptyGraph release) (map addOf (v .blocks)) ≡ Loaded) × Stop (linkOf (v .blocks)) (run release (map addOf (v .blocks))) (v .wires) r) →
+      firstRefusal (emptyGraph release) (buildOf v) ≡ Refused r
   unfolding buildOf runUnder
-  stops-build r (inl t) = refusal-before start (map addOf (v .blocks)) (map (linkOf (v .blocks)) (v .wires)) r (stop-refuses addOf add-stops (v .blocks) start r t)
+  stops-build r (inl t) = refusal-before (start release) (map addOf (v .blocks)) (map (linkOf (v .blocks)) (v .wires)) r (stop-refuses addOf add-stops (v .blocks) (start release) r t)
   stops-build r (inr t) =
-      refusal-after start (map addOf (v .blocks)) (map (linkOf (v .blocks)) (v .wires)) (t .0)
-      ∙ stop-refuses (linkOf (v .blocks)) (link-stops (v .blocks)) (v .wires) (run (map addOf (v .blocks))) r (t .1)
+      refusal-after (start release) (map addOf (v .blocks)) (map (linkOf (v .blocks)) (v .wires)) (t .0)
+      ∙ stop-refuses (linkOf (v .blocks)) (link-stops (v .blocks)) (v .wires) (run release (map addOf (v .blocks))) r (t .1)
 
-  wire-refused : Sound v → (r : Refusal) → firstRefusal emptyGraph (map addOf (v .blocks)) ≡ Loaded → Stop (linkOf (v .blocks)) (run (map addOf (v .blocks))) (v .wires) r → BuildRefused v r
-  wire-refused sound r a t = subst (BuildRefused v) (sym none) (build-no-wire (t .first) (t .item) (t .later) (t .is) e over)
+  wire-refused : Sound v → (r : Refusal) → firstRefusal (emptyGraph release) (map addOf (v .blocks)) ≡ Loaded →
+      Stop (linkOf (v .blocks)) (run release (map addOf (v .blocks))) (v .wires) r → BuildRefused release v r
+  wire-refused sound r a t =
+      ⊎-elim
+      (λ k.
+      let u = taken-wire release v sound (t .first) (t .item) (t .later) (t .is) e (k .0) in
+      subst (BuildRefused release v) (sym (k .1)) (build-wired (t .first) (t .item) (t .later) (t .is) e (u .0) (u .1) (u .2) (u .3)))
+      (λ k.
+      let over = link-space (rel-run release (buildOf (withFirst v (t .first))) .1 .fine) (outPort (v .blocks) (t .item)) (inPort (v .blocks) (t .item)) .no-room-iff .0 (said ∙ ap link.Refused k) in
+      subst (BuildRefused release v) (sym k) (build-no-wire (t .first) (t .item) (t .later) (t .is) e over))
+      (wire-refusals release v sound (t .first) (t .item) (t .later) (t .is) e r said)
     where
-      e : firstRefusal emptyGraph (buildOf (withFirst v (t .first))) ≡ Loaded
-      e = part-accepted v (t .first) a (t .accepted)
+      e : firstRefusal (emptyGraph release) (buildOf (withFirst v (t .first))) ≡ Loaded
+      e = part-accepted release v (t .first) a (t .accepted)
 
-      runs : (w : RankWire) → Member w (t .first ++ (t .item ∷ t .later)) → Runs (v .blocks) w
-      runs w i = sound-runs v sound w (subst (Member w) (sym (t .is)) i)
-
-      rel : Rel (run (buildOf (withFirst v (t .first))) .graph) (rel-run (buildOf (withFirst v (t .first))) .0) (run (buildOf (withFirst v (t .first))) .book)
-      rel = rel-run (buildOf (withFirst v (t .first))) .1
-
-      has : HasAll (v .blocks) (run (buildOf (withFirst v (t .first))) .book)
-      has = blocks-there v (t .first) (λ w i. runs w (member-left w (t .first) (t .item ∷ t .later) i)) e
-
-      here : Runs (v .blocks) (t .item)
-      here = runs (t .item) (member-right (t .item) (t .first) (t .item ∷ t .later) (inl refl))
-
-      said : linkPair (run (buildOf (withFirst v (t .first))) .graph) (outPort (v .blocks) (t .item)) (inPort (v .blocks) (t .item)) .answer ≡ link.Refused r
+      said : linkPair (run release (buildOf (withFirst v (t .first))) .graph) (outPort (v .blocks) (t .item)) (inPort (v .blocks) (t .item)) .answer ≡ link.Refused r
       said =
           subst (λ (s : State). linkPair (s .graph) (outPort (v .blocks) (t .item)) (inPort (v .blocks) (t .item)) .answer ≡ link.Refused r)
-          (sym (part-is v (t .first))) (t .refused)
+          (sym (part-is release v (t .first))) (t .refused)
 
-      none : r ≡ NoRoom
-      none =
-          link-wants-space (rel .fine) (outPort (v .blocks) (t .item)) (inPort (v .blocks) (t .item)) (t .item .source) (t .item .output) (t .item .target) (t .item .input)
-          (source-port rel (v .blocks) has (t .item) here) (target-port rel (v .blocks) has (t .item) here) r said
-
-      over : overflows (roomOf (rel-run (buildOf (withFirst v (t .first))) .0))
-          (linkWorks (run (buildOf (withFirst v (t .first))) .graph) (outPort (v .blocks) (t .item)) (inPort (v .blocks) (t .item))) ≡ true
-      over = link-space (rel .fine) (outPort (v .blocks) (t .item)) (inPort (v .blocks) (t .item)) .no-room-iff .0 (said ∙ ap link.Refused none)
-
-  block-refused : (r : Refusal) → Stop addOf start (v .blocks) r → BuildRefused v r
+  block-refused : (r : Refusal) → Stop addOf (start release) (v .blocks) r → BuildRefused release v r
   block-refused r t =
       ⊎-elim
-      (λ k. subst (BuildRefused v) (sym (k .0)) (build-many (t .first) (t .item) (t .later) (t .is) (t .accepted) (k .1)))
-      (λ k. subst (BuildRefused v) (sym (k .0)) (build-no-block (t .first) (t .item) (t .later) (t .is) (t .accepted) (k .1) (k .2)))
-      (add-ends (t .first) (t .item) (t .accepted) r (t .refused))
+      (λ k. subst (BuildRefused release v) (sym (k .0)) (build-many (t .first) (t .item) (t .later) (t .is) (t .accepted) (k .1)))
+      (λ k. subst (BuildRefused release v) (sym (k .0)) (build-no-block (t .first) (t .item) (t .later) (t .is) (t .accepted) (k .1) (k .2)))
+      (add-ends release (t .first) (t .item) (t .accepted) r (t .refused))
 
-  -- a build is refused under these conditions,
-  refused-if : (r : Refusal) → BuildRefused v r → firstRefusal emptyGraph (buildOf v) ≡ Refused r
-  refused-if r (build-many first b later is e h) =
-      stops-build TooManyPorts (inl (record { first = first; item = b; later = later; is = is; accepted = e; refused = many-refused first b e h }))
-  refused-if r (build-no-block first b later is e h k) =
-      stops-build NoRoom (inl (record { first = first; item = b; later = later; is = is; accepted = e; refused = ends-refused first b e h k }))
-  refused-if r (build-no-wire first w later is e over) =
-      let a = part-apart v first e in
-      let f = rel-run (buildOf (withFirst v first)) .1 .fine in
-      let said = link-space f (outPort (v .blocks) w) (inPort (v .blocks) w) .no-room-iff .1 over in
-      stops-build NoRoom
+  -- a wire that is refused after the first ones stops the build
+  wire-stops : (first : List RankWire) (w : RankWire) (later : List RankWire) → v .wires ≡ first ++ (w ∷ later) →
+      firstRefusal (emptyGraph release) (buildOf (withFirst v first)) ≡ Loaded → (r : Refusal) →
+      linkPair (run release (buildOf (withFirst v first)) .graph) (outPort (v .blocks) w) (inPort (v .blocks) w) .answer ≡ link.Refused r →
+      firstRefusal (emptyGraph release) (buildOf v) ≡ Refused r
+  wire-stops first w later is e r said =
+      let a = part-apart release v first e in
+      stops-build r
       (inr (
         a .0,
         record {
@@ -332,24 +353,48 @@ module _ (v : View) where
           later = later;
           is = is;
           accepted = a .1;
-          refused =
-              subst (λ (s : State). linkPair (s .graph) (outPort (v .blocks) w) (inPort (v .blocks) w) .answer ≡ link.Refused NoRoom)
-              (part-is v first) said;
+          refused = subst (λ (s : State). linkPair (s .graph) (outPort (v .blocks) w) (inPort (v .blocks) w) .answer ≡ link.Refused r) (part-is release v first) said;
         },
       ))
 
+  -- a build is refused under these conditions,
+  refused-if : Sound v → (r : Refusal) → BuildRefused release v r → firstRefusal (emptyGraph release) (buildOf v) ≡ Refused r
+  refused-if sound r (build-many first b later is e h) =
+      stops-build TooManyPorts (inl (record { first = first; item = b; later = later; is = is; accepted = e; refused = many-refused release first b e h }))
+  refused-if sound r (build-no-block first b later is e h k) =
+      stops-build NoRoom (inl (record { first = first; item = b; later = later; is = is; accepted = e; refused = ends-refused release first b e h k }))
+  refused-if sound r (build-wired first w later is e two u i same) = wire-stops first w later is e InputWired (shared-refused release v sound first w later is e two u i same)
+  refused-if sound r (build-no-wire first w later is e over) =
+      wire-stops first w later is e NoRoom (link-space (rel-run release (buildOf (withFirst v first)) .1 .fine) (outPort (v .blocks) w) (inPort (v .blocks) w) .no-room-iff .1 over)
+
   -- and under no others: the first block or wire that is not to be had tells the refusal
-  pub build-refusals : Sound v → (r : Refusal) → (firstRefusal emptyGraph (buildOf v) ≡ Refused r) ↔ BuildRefused v r
+  pub build-refusals : Sound v → (r : Refusal) → (firstRefusal (emptyGraph release) (buildOf v) ≡ Refused r) ↔ BuildRefused release v r
   build-refusals sound r = (
     (λ e. ⊎-elim (block-refused r) (λ k. wire-refused sound r (k .0) (k .1)) (build-stops r e)),
-    refused-if r,
+    refused-if sound r,
   )
 
--- refused with 3 or with 10
-pub three-or-ten : (v : View) (r : Refusal) → BuildRefused v r → (r ≡ TooManyPorts) ⊎ (r ≡ NoRoom)
-three-or-ten v r (build-many first b later is e h) = inl refl
-three-or-ten v r (build-no-block first b later is e h k) = inr refl
-three-or-ten v r (build-no-wire first w later is e over) = inr refl
+-- where a wire shares its input with one before it the build for release 2 is not accepted
+pub shared-stops : (v : View) → Sound v → SharesInput (v .wires) → firstRefusal (emptyGraph Two) (buildOf v) ≡ Loaded → ⊥
+unfolding buildOf runUnder
+shared-stops v sound s e =
+    let ws = s .first ++ (s .wire ∷ s .later) in
+    let a = accepted-apart (start Two) (map addOf (v .blocks)) (map (linkOf (v .blocks)) (v .wires)) e in
+    let l = subst (λ (k : List RankWire). firstRefusal (run Two (map addOf (v .blocks)) .graph) (map (linkOf (v .blocks)) k) ≡ Loaded) (s .is) (a .1) in
+    let b =
+    accepted-apart (run Two (map addOf (v .blocks))) (map (linkOf (v .blocks)) (s .first)) (map (linkOf (v .blocks)) (s .wire ∷ s .later))
+    (ap (firstRefusal (run Two (map addOf (v .blocks)) .graph)) (sym (map-append (linkOf (v .blocks)) (s .first) (s .wire ∷ s .later))) ∙ l) in
+    let p = part-accepted Two v (s .first) (a .0) (b .0) in
+    let r = build-refusals Two v sound InputWired .1 (build-wired (s .first) (s .wire) (s .later) (s .is) p refl (s .earlier) (s .before) (s .same)) in
+    refused-not-loaded InputWired (sym r ∙ e)
+
+-- refused with 3, with 10 or, for release 2, with 18
+pub which-refusal : {release : Release} {v : View} {r : Refusal} → BuildRefused release v r → ((r ≡ TooManyPorts) ⊎ (r ≡ NoRoom)) ⊎ ((r ≡ InputWired) × (release ≡ Two) × SharesInput (v .wires))
+which-refusal (build-many first b later is e h) = inl (inl refl)
+which-refusal (build-no-block first b later is e h k) = inl (inr refl)
+which-refusal (build-wired first w later is e two u i same) =
+    inr (refl, two, record { first = first; wire = w; later = later; is = is; earlier = u; before = i; same = same })
+which-refusal (build-no-wire first w later is e over) = inl (inr refl)
 
 -- Blocks that fit are all added.
 
@@ -364,10 +409,10 @@ pub record BlocksFit (bs : List BlockPorts) : Type 0 where
   pub nodes : length bs ≤ nodeSlots
   pub ports : firstPort bs (length bs) ≤ portSlots
 
-pub fitting-added : (bs : List BlockPorts) → BlocksFit bs → firstRefusal emptyGraph (map addOf bs) ≡ Loaded
-fitting-added bs h = ⊎-elim (λ e. e) (λ k. absurd (never (k .0) (first-stop addOf bs start (k .0) (k .1)))) (loaded-or-refused (map addOf bs) emptyGraph)
+pub fitting-added : (release : Release) (bs : List BlockPorts) → BlocksFit bs → firstRefusal (emptyGraph release) (map addOf bs) ≡ Loaded
+fitting-added release bs h = ⊎-elim (λ e. e) (λ k. absurd (never (k .0) (first-stop addOf bs (start release) (k .0) (k .1)))) (loaded-or-refused (map addOf bs) (emptyGraph release))
   where
-    never : (r : Refusal) → Stop addOf start bs r → ⊥
+    never : (r : Refusal) → Stop addOf (start release) bs r → ⊥
     never r t =
         ⊎-elim
         (λ k. let m = h .few (t .item) (subst (Member (t .item)) (sym (t .is)) (member-right (t .item) (t .first) (t .item ∷ t .later) (inl refl))) in let l = k .1 in omega arith)
@@ -379,16 +424,16 @@ fitting-added bs h = ⊎-elim (λ e. e) (λ k. absurd (never (k .0) (first-stop 
         let c = ports-with (t .first) (t .item) (t .later) in
         let d = ap (λ (l : List BlockPorts). firstPort l (length l)) (t .is) in
         ⊎-elim (λ z. omega arith) (λ z. omega arith) (k .2))
-        (add-ends (t .first) (t .item) (t .accepted) r (t .refused))
+        (add-ends release (t .first) (t .item) (t .accepted) r (t .refused))
 
 member-at : {A : Type 0} (x : A) (l : List A) → Member x l → (r : ℕ) × At l r x
 member-at x (y ∷ l) (inl e) = (0, e)
 member-at x (y ∷ l) (inr i) = let h = member-at x l i in (suc (h .0), h .1)
 
-pub added-fit : (bs : List BlockPorts) → firstRefusal emptyGraph (map addOf bs) ≡ Loaded → BlocksFit bs
-added-fit bs e =
-    let s = next-slots bs e in
-    let r = rel-run (map addOf bs) .1 in
+pub added-fit : (release : Release) (bs : List BlockPorts) → firstRefusal (emptyGraph release) (map addOf bs) ≡ Loaded → BlocksFit bs
+added-fit release bs e =
+    let s = next-slots release bs e in
+    let r = rel-run release (map addOf bs) .1 in
     record {
       few = λ b i.
           let h = member-at b bs i in
@@ -404,5 +449,5 @@ added-fit bs e =
     }
 
 -- The adds of a build are all accepted exactly if its blocks fit.
-pub blocks-added : (bs : List BlockPorts) → (firstRefusal emptyGraph (map addOf bs) ≡ Loaded) ↔ BlocksFit bs
-blocks-added bs = (added-fit bs, fitting-added bs)
+pub blocks-added : (release : Release) (bs : List BlockPorts) → (firstRefusal (emptyGraph release) (map addOf bs) ≡ Loaded) ↔ BlocksFit bs
+blocks-added release bs = (added-fit release bs, fitting-added release bs)

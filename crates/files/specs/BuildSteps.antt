@@ -23,6 +23,7 @@ use Rattle.multiportgraph.specs.Listing.{length-map}
 use Rattle.multiportgraph.specs.MultiLent.{multiIn, noHeld}
 use Rattle.multiportgraph.specs.declared.lent.Held.{Held}
 use Rattle.multiportgraph.specs.declared.multiportgraph.MultiPortGraph.{MultiPortGraph}
+use Rattle.multiportgraph.specs.declared.multiportgraph.Release.{Release}
 use Rattle.multiportgraph.specs.declared.multiportgraph.AddAnswer.{AddAnswer}
 use Rattle.multiportgraph.specs.declared.multiportgraph.AddAnswer.the-variants as add
 use Rattle.multiportgraph.specs.declared.multiportgraph.LinkAnswer.{LinkAnswer}
@@ -304,11 +305,11 @@ blocks-short (suc n) r = let h = r .there n (omega arith) in omega arith
 -- The whole build.
 
 -- tables without anything are the empty graph
-pub tables-empty : (held : Held) → held ≡ noHeld →
-    multiIn (replicate nodeWords 0) (replicate portSlots 0) (replicate portSlots 0) (replicate freeLists 0) (replicate portSlots false) (replicate nodeSlots false) held ≡ emptyGraph
-tables-empty held e =
+pub tables-empty : (release : Release) (held : Held) → held ≡ noHeld release →
+    multiIn (replicate nodeWords 0) (replicate portSlots 0) (replicate portSlots 0) (replicate freeLists 0) (replicate portSlots false) (replicate nodeSlots false) held ≡ emptyGraph release
+tables-empty release held e =
     ap (multiIn (replicate nodeWords 0) (replicate portSlots 0) (replicate portSlots 0) (replicate freeLists 0) (replicate portSlots false) (replicate nodeSlots false)) e
-    ∙ empty-in
+    ∙ empty-in release
 
 first-append : (m : MultiPortGraph) (a b : List Call) → isLoaded (firstRefusal m a) ≡ true → firstRefusal m (a ++ b) ≡ firstRefusal (graphAfter m a) b
 unfolding firstRefusalUnder graphAfter
@@ -349,15 +350,15 @@ unfolding runFromUnder graphAfter
 run-from-graph s [] = refl
 run-from-graph s (c ∷ l) = run-from-graph (next s c) l
 
-pub run-graph : (calls : List Call) → run calls .graph ≡ graphAfter emptyGraph calls
+pub run-graph : (release : Release) (calls : List Call) → run release calls .graph ≡ graphAfter (emptyGraph release) calls
 unfolding runUnder
-run-graph calls = run-from-graph (record { graph = emptyGraph; book = emptyBook }) calls
+run-graph release calls = run-from-graph (record { graph = emptyGraph release; book = emptyBook }) calls
 
-graph-refused : (a : LoadAnswer) (m : MultiPortGraph) → isLoaded a ≡ false → emptyGraph ≡ graphIf a m
-graph-refused Loaded m h = absurd (true-not-false refl h)
-graph-refused BadSums m h = refl
-graph-refused BadLayout m h = refl
-graph-refused (Refused r) m h = refl
+graph-refused : (release : Release) (a : LoadAnswer) (m : MultiPortGraph) → isLoaded a ≡ false → emptyGraph release ≡ graphIf release a m
+graph-refused release Loaded m h = absurd (true-not-false refl h)
+graph-refused release BadSums m h = refl
+graph-refused release BadLayout m h = refl
+graph-refused release (Refused r) m h = refl
 
 pub is-loaded : (a : LoadAnswer) → isLoaded a ≡ true → a ≡ Loaded
 is-loaded Loaded h = refl
@@ -384,88 +385,88 @@ adds-booked s (b ∷ l) h = go (step (s .graph) (addOf b) .answer) refl (adds-bo
         omega arith
     go (add.Refused r) e more = absurd (true-not-false (ap (λ (v : AddAnswer). isLoaded (afterCall (addOf b) v rest)) (sym e) ∙ h) refl)
 
-pub adds-few : (l : List BlockPorts) → isLoaded (firstRefusal emptyGraph (map addOf l)) ≡ true → length l ≤ nodeSlots
+pub adds-few : (release : Release) (l : List BlockPorts) → isLoaded (firstRefusal (emptyGraph release) (map addOf l)) ≡ true → length l ≤ nodeSlots
 unfolding runUnder
-adds-few l h =
+adds-few release l h =
     let calls = map addOf l in
-    let a = adds-booked (record { graph = emptyGraph; book = emptyBook }) l h in
-    let b = visible-nodes-of-history calls in
-    let f = rel-run calls .1 .fine in
+    let a = adds-booked (record { graph = emptyGraph release; book = emptyBook }) l h in
+    let b = visible-nodes-of-history release calls in
+    let f = rel-run release calls .1 .fine in
     let c = visible-nodes f in
     let d = blocks-few f in
     omega arith
 
-module _ (v : View) where
+module _ (release : Release) (v : View) where
   abbrev adds : List Call
   adds = map addOf (v .blocks)
 
   abbrev links : List Call
   links = map (linkOf (v .blocks)) (v .wires)
 
-  module _ {m₀ m₁ : MultiPortGraph} {a₁ : LoadAnswer} (start : m₀ ≡ emptyGraph) (added : Built m₀ adds m₁ a₁) where
-    first : Built emptyGraph adds m₁ a₁
+  module _ {m₀ m₁ : MultiPortGraph} {a₁ : LoadAnswer} (start : m₀ ≡ emptyGraph release) (added : Built m₀ adds m₁ a₁) where
+    first : Built (emptyGraph release) adds m₁ a₁
     first = subst (λ (m : MultiPortGraph). Built m adds m₁ a₁) start added
 
     pub blocks-fit-table : isLoaded a₁ ≡ true → length (v .blocks) ≤ nodeSlots
-    blocks-fit-table h = adds-few (v .blocks) (ap isLoaded (sym (first .told)) ∙ h)
+    blocks-fit-table h = adds-few release (v .blocks) (ap isLoaded (sym (first .told)) ∙ h)
 
-    pub build-refused-first : isLoaded a₁ ≡ false → (r : FileLoaded) → r ≡ record { graph = emptyGraph; answer = a₁ } → BuildIs v r
+    pub build-refused-first : isLoaded a₁ ≡ false → (r : FileLoaded) → r ≡ record { graph = emptyGraph release; answer = a₁ } → BuildIs release v r
     unfolding buildOf
     build-refused-first h r e =
-        let f : firstRefusal emptyGraph (adds ++ links) ≡ a₁ = first-refused emptyGraph adds links (ap isLoaded (sym (first .told)) ∙ h) ∙ sym (first .told) in
+        let f : firstRefusal (emptyGraph release) (adds ++ links) ≡ a₁ = first-refused (emptyGraph release) adds links (ap isLoaded (sym (first .told)) ∙ h) ∙ sym (first .told) in
         record {
           answer = ap (λ (x : FileLoaded). x .answer) e ∙ sym f;
-          graph = ap (λ (x : FileLoaded). x .graph) e ∙ graph-refused (firstRefusal emptyGraph (adds ++ links)) _ (ap isLoaded f ∙ h);
-          kept = subst MultiWf (sym (ap (λ (x : FileLoaded). x .graph) e)) empty-kept;
+          graph = ap (λ (x : FileLoaded). x .graph) e ∙ graph-refused release (firstRefusal (emptyGraph release) (adds ++ links)) _ (ap isLoaded f ∙ h);
+          kept = subst MultiWf (sym (ap (λ (x : FileLoaded). x .graph) e)) (empty-kept release);
         }
 
     module _ (h : isLoaded a₁ ≡ true) {m₂ : MultiPortGraph} {a₂ : LoadAnswer} (second : Built m₁ links m₂ a₂) where
-      told-both : firstRefusal emptyGraph (adds ++ links) ≡ a₂
+      told-both : firstRefusal (emptyGraph release) (adds ++ links) ≡ a₂
       told-both =
-          first-append emptyGraph adds links (ap isLoaded (sym (first .told)) ∙ h)
+          first-append (emptyGraph release) adds links (ap isLoaded (sym (first .told)) ∙ h)
           ∙ (ap (λ (m : MultiPortGraph). firstRefusal m links) (sym (first .graph h)) ∙ sym (second .told))
 
-      pub build-refused-second : isLoaded a₂ ≡ false → (r : FileLoaded) → r ≡ record { graph = emptyGraph; answer = a₂ } → BuildIs v r
+      pub build-refused-second : isLoaded a₂ ≡ false → (r : FileLoaded) → r ≡ record { graph = emptyGraph release; answer = a₂ } → BuildIs release v r
       unfolding buildOf
       build-refused-second k r e =
           record {
             answer = ap (λ (x : FileLoaded). x .answer) e ∙ sym told-both;
-            graph = ap (λ (x : FileLoaded). x .graph) e ∙ graph-refused (firstRefusal emptyGraph (adds ++ links)) _ (ap isLoaded told-both ∙ k);
-            kept = subst MultiWf (sym (ap (λ (x : FileLoaded). x .graph) e)) empty-kept;
+            graph = ap (λ (x : FileLoaded). x .graph) e ∙ graph-refused release (firstRefusal (emptyGraph release) (adds ++ links)) _ (ap isLoaded told-both ∙ k);
+            kept = subst MultiWf (sym (ap (λ (x : FileLoaded). x .graph) e)) (empty-kept release);
           }
 
-      pub build-done : isLoaded a₂ ≡ true → (m : MultiPortGraph) → m ≡ m₂ → BuildIs v (record { graph = m; answer = Loaded })
+      pub build-done : isLoaded a₂ ≡ true → (m : MultiPortGraph) → m ≡ m₂ → BuildIs release v (record { graph = m; answer = Loaded })
       unfolding buildOf
       build-done k m e =
-          let t : firstRefusal emptyGraph (adds ++ links) ≡ Loaded = told-both ∙ is-loaded a₂ k in
-          let g : run (adds ++ links) .graph ≡ m₂ =
-          run-graph (adds ++ links) ∙ (after-append emptyGraph adds links ∙ (ap (λ (x : MultiPortGraph). graphAfter x links) (sym (first .graph h)) ∙ sym (second .graph k))) in
+          let t : firstRefusal (emptyGraph release) (adds ++ links) ≡ Loaded = told-both ∙ is-loaded a₂ k in
+          let g : run release (adds ++ links) .graph ≡ m₂ =
+          run-graph release (adds ++ links) ∙ (after-append (emptyGraph release) adds links ∙ (ap (λ (x : MultiPortGraph). graphAfter x links) (sym (first .graph h)) ∙ sym (second .graph k))) in
           record {
             answer = sym t;
-            graph = e ∙ (sym g ∙ ap (λ (x : LoadAnswer). graphIf x (run (adds ++ links) .graph)) (sym t));
+            graph = e ∙ (sym g ∙ ap (λ (x : LoadAnswer). graphIf release x (run release (adds ++ links) .graph)) (sym t));
             kept = subst MultiWf (sym e) (second .kept);
           }
 
 -- The load.
 
-module _ (bytes : List ℕ) where
-  pub load-bad-sums : false ≡ isWhole bytes → (r : FileLoaded) → r ≡ record { graph = emptyGraph; answer = BadSums } → (r ≡ record { graph = loadGraph bytes; answer = loadAnswer bytes }) × MultiWf (r .graph)
+module _ (release : Release) (bytes : List ℕ) where
+  pub load-bad-sums : false ≡ isWhole bytes → (r : FileLoaded) → r ≡ record { graph = emptyGraph release; answer = BadSums } → (r ≡ record { graph = loadGraph release bytes; answer = loadAnswer release bytes }) × MultiWf (r .graph)
   unfolding loadGraphUnder loadAnswerUnder
-  load-bad-sums h r e = (rw (← h) e, subst MultiWf (sym (ap (λ (x : FileLoaded). x .graph) e)) empty-kept)
+  load-bad-sums h r e = (rw (← h) e, subst MultiWf (sym (ap (λ (x : FileLoaded). x .graph) e)) (empty-kept release))
 
   module _ (w : true ≡ isWhole bytes) where
-    pub load-bad-layout : false ≡ isLaid bytes → (r : FileLoaded) → r ≡ record { graph = emptyGraph; answer = BadLayout } → (r ≡ record { graph = loadGraph bytes; answer = loadAnswer bytes }) × MultiWf (r .graph)
+    pub load-bad-layout : false ≡ isLaid bytes → (r : FileLoaded) → r ≡ record { graph = emptyGraph release; answer = BadLayout } → (r ≡ record { graph = loadGraph release bytes; answer = loadAnswer release bytes }) × MultiWf (r .graph)
     unfolding loadGraphUnder loadAnswerUnder
-    load-bad-layout h r e = (rw (← w, ← h) e, subst MultiWf (sym (ap (λ (x : FileLoaded). x .graph) e)) empty-kept)
+    load-bad-layout h r e = (rw (← w, ← h) e, subst MultiWf (sym (ap (λ (x : FileLoaded). x .graph) e)) (empty-kept release))
 
-    pub load-built : true ≡ isLaid bytes → (r : FileLoaded) → BuildIs (unbytes bytes) r → (r ≡ record { graph = loadGraph bytes; answer = loadAnswer bytes }) × MultiWf (r .graph)
+    pub load-built : true ≡ isLaid bytes → (r : FileLoaded) → BuildIs release (unbytes bytes) r → (r ≡ record { graph = loadGraph release bytes; answer = loadAnswer release bytes }) × MultiWf (r .graph)
     unfolding loadGraphUnder loadAnswerUnder
     load-built h r b =
         let g = b .graph in
         let a = b .answer in
         (rw (← w, ← h) (λ j. record { graph = g j; answer = a j }), b .kept)
 
-  -- a file of right sums has whole units
-  pub whole-length : true ≡ isWhole bytes → length bytes % 512 ≡ 0
-  unfolding isWhole
-  whole-length h = eqb-true (length bytes % 512) 0 (both-true (eqb (length bytes % 512) 0) _ (sym h) .0)
+-- a file of right sums has whole units
+pub whole-length : (bytes : List ℕ) → true ≡ isWhole bytes → length bytes % 512 ≡ 0
+unfolding isWhole
+whole-length bytes h = eqb-true (length bytes % 512) 0 (both-true (eqb (length bytes % 512) 0) _ (sym h) .0)

@@ -1,10 +1,10 @@
--- A wiring as a file on the stick: saved and loaded (document 02, Req 05 and 06).
+-- A wiring as a file on the stick: saved and loaded (document 02, Req 05 and 06), loaded for either release (Req 09).
 --
 -- What must be believed, in this order: that these definitions, over those of the multiport graph, say what 02 says.
 --   View          the view of a graph: blocks by rank, wires between ports by rank, sorted
 --   Layout        the bytes of a view, and the view that any bytes say
 --   Saving        the file of a graph; what saving answers and leaves in the lent buffer; refusal 15
---   Loading       what a file is held to (16, 17), the calls that build its wiring, what a load answers and gives
+--   Loading       what a file is held to (16, 17), the calls that build its wiring, what a load for a release answers and gives
 --   BuildList     the build of a file as numbers, for those who ask it elsewhere
 --   Claims        the words of the theorems: the same wiring, over the wire book; sizes; sound views
 --   LoadClaims    when a build is refused
@@ -27,8 +27,11 @@
 --   NextSlots     with no free slots an add gives the next node and the next ports
 --   BuildLaws     a sound view whose adds and links are all accepted is the view of the graph built
 --   PartlyBuilt   what a refused build leaves is not the view to be built
---   BuildRefusals when a build is refused, with 3 or with 10
+--   InputLaws     which links of a build give 18
+--   BuildRefusals when a build is refused, with 3, 10 or 18
 --   LoadAnswers   the answers of a load, case by case
+--   ReleaseFiles  a file loaded for either release
+--   OneWire       a history of release 2 saves no two wires into one input
 pub mod View
 pub mod Layout
 pub mod Saving
@@ -53,8 +56,11 @@ pub mod ViewSound
 pub mod NextSlots
 pub mod BuildLaws
 pub mod PartlyBuilt
+pub mod InputLaws
 pub mod BuildRefusals
 pub mod LoadAnswers
+pub mod ReleaseFiles
+pub mod OneWire
 -- the code's own forms
 pub mod Forms
 pub mod LoadForms

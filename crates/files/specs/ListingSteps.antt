@@ -17,6 +17,7 @@ use Rattle.multiportgraph.specs.Listed.{listAfter}
 use Rattle.multiportgraph.specs.Listing.{length-map}
 use Rattle.multiportgraph.specs.Wires.{blocks, wiresWalked}
 use Rattle.multiportgraph.specs.declared.multiportgraph.MultiPortGraph.{MultiPortGraph}
+use Rattle.multiportgraph.specs.declared.multiportgraph.Release.{Release}
 use Rattle.theorems.specs.CallLaws.{rel-run}
 use Rattle.theorems.specs.History.{run}
 use Rattle.files.specs.View.{BlockPorts, RankWire, View, rankAmong, sorted, rankWire, viewOf}
@@ -132,73 +133,73 @@ module _ {bytes : List ℕ} {n w : ℕ} (l : Laid bytes true n w) where
 
 -- Answers.
 
-module _ (bytes numbers : List ℕ) where
-  pub list-refused : (a : LoadAnswer) → a ≡ loadAnswer bytes → isLoaded a ≡ false → (r : BuildListed) → r ≡ record { answer = a; blocks = 0; wires = 0 } → (r ≡ listBuild bytes) × (numbers ≡ buildAfter bytes numbers)
+module _ (release : Release) (bytes numbers : List ℕ) where
+  pub list-refused : (a : LoadAnswer) → a ≡ loadAnswer release bytes → isLoaded a ≡ false → (r : BuildListed) → r ≡ record { answer = a; blocks = 0; wires = 0 } → (r ≡ listBuild release bytes) × (numbers ≡ buildAfter release bytes numbers)
   unfolding listBuild buildAfter
   list-refused a e h r f = (f ∙ go a h e, go₂ a h e)
     where
-      go : (a : LoadAnswer) → isLoaded a ≡ false → a ≡ loadAnswer bytes → _≡_ {A = BuildListed} (record { answer = a; blocks = 0; wires = 0 })
-          (record { answer = loadAnswer bytes; blocks = ifLoaded (loadAnswer bytes) (length (unbytes bytes .blocks)) 0; wires = ifLoaded (loadAnswer bytes) (length (unbytes bytes .wires)) 0 })
+      go : (a : LoadAnswer) → isLoaded a ≡ false → a ≡ loadAnswer release bytes → _≡_ {A = BuildListed} (record { answer = a; blocks = 0; wires = 0 })
+          (record { answer = loadAnswer release bytes; blocks = ifLoaded (loadAnswer release bytes) (length (unbytes bytes .blocks)) 0; wires = ifLoaded (loadAnswer release bytes) (length (unbytes bytes .wires)) 0 })
       go Loaded h e = absurd (true-not-false refl h)
       go BadSums h e = rw (← e)
       go BadLayout h e = rw (← e)
       go (Refused r) h e = rw (← e)
 
-      go₂ : (a : LoadAnswer) → isLoaded a ≡ false → a ≡ loadAnswer bytes → numbers ≡ ifLoaded (loadAnswer bytes) (listAfter (buildNumbers (unbytes bytes)) numbers) numbers
+      go₂ : (a : LoadAnswer) → isLoaded a ≡ false → a ≡ loadAnswer release bytes → numbers ≡ ifLoaded (loadAnswer release bytes) (listAfter (buildNumbers (unbytes bytes)) numbers) numbers
       go₂ Loaded h e = absurd (true-not-false refl h)
       go₂ BadSums h e = rw (← e)
       go₂ BadLayout h e = rw (← e)
       go₂ (Refused r) h e = rw (← e)
 
-  pub list-done : (a : LoadAnswer) (n w : ℕ) (numbers′ : List ℕ) → a ≡ loadAnswer bytes → isLoaded a ≡ true → n ≡ length (unbytes bytes .blocks) → w ≡ length (unbytes bytes .wires) →
-      numbers′ ≡ listAfter (buildNumbers (unbytes bytes)) numbers → (record { answer = a; blocks = n; wires = w } ≡ listBuild bytes) × (numbers′ ≡ buildAfter bytes numbers)
+  pub list-done : (a : LoadAnswer) (n w : ℕ) (numbers′ : List ℕ) → a ≡ loadAnswer release bytes → isLoaded a ≡ true → n ≡ length (unbytes bytes .blocks) → w ≡ length (unbytes bytes .wires) →
+      numbers′ ≡ listAfter (buildNumbers (unbytes bytes)) numbers → (record { answer = a; blocks = n; wires = w } ≡ listBuild release bytes) × (numbers′ ≡ buildAfter release bytes numbers)
   unfolding listBuild buildAfter
   list-done a n w numbers′ e h p q g =
-      let f : loadAnswer bytes ≡ Loaded = sym e ∙ is-loaded a h in
+      let f : loadAnswer release bytes ≡ Loaded = sym e ∙ is-loaded a h in
       (rw f (λ j. record { answer = (e ∙ f) j; blocks = p j; wires = q j }), rw f g)
 
-module _ (bytes : List ℕ) where
-  pub answer-bad-sums : false ≡ isWhole bytes → BadSums ≡ loadAnswer bytes
+module _ (release : Release) (bytes : List ℕ) where
+  pub answer-bad-sums : false ≡ isWhole bytes → BadSums ≡ loadAnswer release bytes
   unfolding loadAnswerUnder
   answer-bad-sums h = rw (← h)
 
-  pub answer-bad-layout : true ≡ isWhole bytes → false ≡ isLaid bytes → BadLayout ≡ loadAnswer bytes
+  pub answer-bad-layout : true ≡ isWhole bytes → false ≡ isLaid bytes → BadLayout ≡ loadAnswer release bytes
   unfolding loadAnswerUnder
   answer-bad-layout w h = rw (← w, ← h)
 
-  pub answer-built : true ≡ isWhole bytes → true ≡ isLaid bytes → {r : FileLoaded} → BuildIs (unbytes bytes) r → r .answer ≡ loadAnswer bytes
+  pub answer-built : true ≡ isWhole bytes → true ≡ isLaid bytes → {r : FileLoaded} → BuildIs release (unbytes bytes) r → r .answer ≡ loadAnswer release bytes
   unfolding loadAnswerUnder
   answer-built w h b = rw (← w, ← h) (b .answer)
 
 -- Accepted files are small.
 
-pub built-few : (v : View) → isLoaded (firstRefusal emptyGraph (buildOf v)) ≡ true → length (v .blocks) ≤ nodeSlots
+pub built-few : (release : Release) (v : View) → isLoaded (firstRefusal (emptyGraph release) (buildOf v)) ≡ true → length (v .blocks) ≤ nodeSlots
 unfolding buildOf
-built-few v h = adds-few (v .blocks) (go (isLoaded (firstRefusal emptyGraph (map addOf (v .blocks)))) refl)
+built-few release v h = adds-few release (v .blocks) (go (isLoaded (firstRefusal (emptyGraph release) (map addOf (v .blocks)))) refl)
   where
-    go : (t : Bool) → isLoaded (firstRefusal emptyGraph (map addOf (v .blocks))) ≡ t → t ≡ true
+    go : (t : Bool) → isLoaded (firstRefusal (emptyGraph release) (map addOf (v .blocks))) ≡ t → t ≡ true
     go true e = refl
-    go false e = absurd (true-not-false h (ap isLoaded (first-refused emptyGraph (map addOf (v .blocks)) (map (linkOf (v .blocks)) (v .wires)) e) ∙ e))
+    go false e = absurd (true-not-false h (ap isLoaded (first-refused (emptyGraph release) (map addOf (v .blocks)) (map (linkOf (v .blocks)) (v .wires)) e) ∙ e))
 
 view-wires : (m : MultiPortGraph) → length (viewOf m .wires) ≡ length (wiresWalked m)
 unfolding viewOf
 view-wires m = sorted-length (map (rankWire (rankAmong (blocks m))) (wiresWalked m)) ∙ length-map (rankWire (rankAmong (blocks m))) (wiresWalked m)
 
 -- so are the wires: each takes two port slots
-pub loaded-few : (bytes : List ℕ) → isLoaded (loadAnswer bytes) ≡ true → (length (unbytes bytes .blocks) ≤ nodeSlots) × (2 * length (unbytes bytes .wires) ≤ portSlots)
+pub loaded-few : (release : Release) (bytes : List ℕ) → isLoaded (loadAnswer release bytes) ≡ true → (length (unbytes bytes .blocks) ≤ nodeSlots) × (2 * length (unbytes bytes .wires) ≤ portSlots)
 unfolding loadAnswerUnder
-loaded-few bytes h = go (isWhole bytes) (isLaid bytes) refl h
+loaded-few release bytes h = go (isWhole bytes) (isLaid bytes) refl h
   where
     v : View
     v = unbytes bytes
 
-    go : (s t : Bool) → isLaid bytes ≡ t → isLoaded (cond s (cond t (firstRefusal emptyGraph (buildOf v)) BadLayout) BadSums) ≡ true → (length (v .blocks) ≤ nodeSlots) × (2 * length (v .wires) ≤ portSlots)
+    go : (s t : Bool) → isLaid bytes ≡ t → isLoaded (cond s (cond t (firstRefusal (emptyGraph release) (buildOf v)) BadLayout) BadSums) ≡ true → (length (v .blocks) ≤ nodeSlots) × (2 * length (v .wires) ≤ portSlots)
     go true true e k =
-        let m = run (buildOf v) .graph in
-        let a = built-view v (laid-sound bytes e) (is-loaded (firstRefusal emptyGraph (buildOf v)) k) in
-        let b = wires-few (rel-run (buildOf v) .1 .fine) in
+        let m = run release (buildOf v) .graph in
+        let a = built-view release v (laid-sound bytes e) (is-loaded (firstRefusal (emptyGraph release) (buildOf v)) k) in
+        let b = wires-few (rel-run release (buildOf v) .1 .fine) in
         let c = view-wires m in
         let d = ap (λ (x : View). length (x .wires)) a in
-        (built-few v k, omega arith)
+        (built-few release v k, omega arith)
     go true false e k = absurd (true-not-false k refl)
     go false t e k = absurd (true-not-false k refl)

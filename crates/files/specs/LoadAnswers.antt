@@ -14,8 +14,10 @@ use Rattle.multiportgraph.specs.Ends.{count-of}
 use Rattle.multiportgraph.specs.Listing.{member-map, member-right}
 use Rattle.multiportgraph.specs.Wires.{blocks}
 use Rattle.multiportgraph.specs.declared.multiportgraph.MultiPortGraph.{MultiPortGraph}
+use Rattle.multiportgraph.specs.declared.multiportgraph.Release.{Release}
+use Rattle.multiportgraph.specs.declared.multiportgraph.Release.the-variants.{Two}
 use Rattle.multiportgraph.specs.declared.multiportgraph.Refusal.{Refusal}
-use Rattle.multiportgraph.specs.declared.multiportgraph.Refusal.the-variants.{TooManyPorts, NoRoom}
+use Rattle.multiportgraph.specs.declared.multiportgraph.Refusal.the-variants.{NoRoom, InputWired}
 use Rattle.multiportgraph.specs.Graph.{emptyGraph}
 use Rattle.theorems.specs.Book.{Call}
 use Rattle.theorems.specs.History.{run}
@@ -29,7 +31,7 @@ use Rattle.files.specs.LaidAgain.{written-laid}
 use Rattle.files.specs.Saving.{fileOf}
 use Rattle.files.specs.Loading.{isWhole, isLaid, buildOf, firstRefusal, loadAnswer, loadAnswerUnder, graphIf}
 use Rattle.files.specs.SoundLaws.{laid-sound}
-use Rattle.files.specs.LoadClaims.{BuildRefused, build-many, build-no-block, build-no-wire}
+use Rattle.files.specs.LoadClaims.{SharesInput, BuildRefused, build-many, build-no-block, build-wired, build-no-wire}
 use Rattle.files.specs.BuildRefusals.{loaded-or-refused, build-refusals}
 use Rattle.files.specs.declared.load.LoadAnswer.{LoadAnswer}
 use Rattle.files.specs.declared.load.LoadAnswer.the-variants.{Loaded, BadSums, BadLayout, Refused}
@@ -73,48 +75,51 @@ chosen-layout true false x t e = (refl, refl)
 chosen-layout false l x t e = let h = ap tag e in absurd (omega arith)
 
 -- a refused load gives the empty graph
-pub empty-unless : (x : LoadAnswer) (m : MultiPortGraph) → (x ≡ Loaded → ⊥) → graphIf x m ≡ emptyGraph
-empty-unless Loaded m not = absurd (not refl)
-empty-unless BadSums m not = refl
-empty-unless BadLayout m not = refl
-empty-unless (Refused r) m not = refl
+pub empty-unless : (release : Release) (x : LoadAnswer) (m : MultiPortGraph) → (x ≡ Loaded → ⊥) → graphIf release x m ≡ emptyGraph release
+empty-unless release Loaded m not = absurd (not refl)
+empty-unless release BadSums m not = refl
+empty-unless release BadLayout m not = refl
+empty-unless release (Refused r) m not = refl
 
-module _ (bytes : List ℕ) where
+module _ (release : Release) (bytes : List ℕ) where
   built : LoadAnswer
-  built = firstRefusal emptyGraph (buildOf (unbytes bytes))
+  built = firstRefusal (emptyGraph release) (buildOf (unbytes bytes))
 
-  pub loaded-parts : loadAnswer bytes ≡ Loaded → (isWhole bytes ≡ true) × (isLaid bytes ≡ true) × (firstRefusal emptyGraph (buildOf (unbytes bytes)) ≡ Loaded)
+  pub loaded-parts : loadAnswer release bytes ≡ Loaded → (isWhole bytes ≡ true) × (isLaid bytes ≡ true) × (firstRefusal (emptyGraph release) (buildOf (unbytes bytes)) ≡ Loaded)
   unfolding loadAnswerUnder
   loaded-parts e = chosen-loaded (isWhole bytes) (isLaid bytes) _ e
 
-  pub parts-loaded : isWhole bytes ≡ true → isLaid bytes ≡ true → firstRefusal emptyGraph (buildOf (unbytes bytes)) ≡ Loaded → loadAnswer bytes ≡ Loaded
+  pub parts-loaded : isWhole bytes ≡ true → isLaid bytes ≡ true → firstRefusal (emptyGraph release) (buildOf (unbytes bytes)) ≡ Loaded → loadAnswer release bytes ≡ Loaded
   unfolding loadAnswerUnder
   parts-loaded w l e = rw (w, l) e
 
-  pub sixteen : (loadAnswer bytes ≡ BadSums) ↔ (isWhole bytes ≡ false)
+  pub sixteen : (loadAnswer release bytes ≡ BadSums) ↔ (isWhole bytes ≡ false)
   unfolding loadAnswerUnder
-  sixteen = (chosen-sums (isWhole bytes) (isLaid bytes) _ (loaded-or-refused (buildOf (unbytes bytes)) emptyGraph), λ e. rw e refl)
+  sixteen = (chosen-sums (isWhole bytes) (isLaid bytes) _ (loaded-or-refused (buildOf (unbytes bytes)) (emptyGraph release)), λ e. rw e refl)
 
-  pub seventeen : (loadAnswer bytes ≡ BadLayout) ↔ ((isWhole bytes ≡ true) × (isLaid bytes ≡ false))
+  pub seventeen : (loadAnswer release bytes ≡ BadLayout) ↔ ((isWhole bytes ≡ true) × (isLaid bytes ≡ false))
   unfolding loadAnswerUnder
-  seventeen = (chosen-layout (isWhole bytes) (isLaid bytes) _ (loaded-or-refused (buildOf (unbytes bytes)) emptyGraph), λ (w, l). rw (w, l) refl)
+  seventeen = (chosen-layout (isWhole bytes) (isLaid bytes) _ (loaded-or-refused (buildOf (unbytes bytes)) (emptyGraph release)), λ (w, l). rw (w, l) refl)
 
-  pub three-and-ten : (r : Refusal) → (loadAnswer bytes ≡ Refused r) ↔ ((isWhole bytes ≡ true) × (isLaid bytes ≡ true) × BuildRefused (unbytes bytes) r)
+  pub build-answers : (r : Refusal) → (loadAnswer release bytes ≡ Refused r) ↔ ((isWhole bytes ≡ true) × (isLaid bytes ≡ true) × BuildRefused release (unbytes bytes) r)
   unfolding loadAnswerUnder
-  three-and-ten r = (
+  build-answers r = (
     (λ e.
         let p = chosen-refused (isWhole bytes) (isLaid bytes) _ r e in
-        (p .0, p .1, build-refusals (unbytes bytes) (laid-sound bytes (p .1)) r .0 (p .2))),
-    (λ (w, l, b). rw (w, l) (build-refusals (unbytes bytes) (laid-sound bytes l) r .1 b)),
+        (p .0, p .1, build-refusals release (unbytes bytes) (laid-sound bytes (p .1)) r .0 (p .2))),
+    (λ (w, l, b). rw (w, l) (build-refusals release (unbytes bytes) (laid-sound bytes l) r .1 b)),
   )
 
 -- A saved file.
 
--- a build is refused for space, or one of its blocks has too many ports
-many-or-no-room : (v : View) (r : Refusal) → BuildRefused v r → (r ≡ NoRoom) ⊎ ((b : BlockPorts) × Member b (v .blocks) × (nodePorts < b .incoming + b .outgoing))
-many-or-no-room v r (build-many first b later is e h) = inr (b, subst (Member b) (sym is) (member-right b first (b ∷ later) (inl refl)), h)
-many-or-no-room v r (build-no-block first b later is e h k) = inl refl
-many-or-no-room v r (build-no-wire first w later is e over) = inl refl
+-- a build is refused for space or with 18, or one of its blocks has too many ports
+refused-how : {release : Release} {v : View} {r : Refusal} → BuildRefused release v r →
+    ((r ≡ NoRoom) ⊎ ((r ≡ InputWired) × (release ≡ Two) × SharesInput (v .wires))) ⊎ ((b : BlockPorts) × Member b (v .blocks) × (nodePorts < b .incoming + b .outgoing))
+refused-how (build-many first b later is e h) = inr (b, subst (Member b) (sym is) (member-right b first (b ∷ later) (inl refl)), h)
+refused-how (build-no-block first b later is e h k) = inl (inl refl)
+refused-how (build-wired first w later is e two u i same) =
+    inl (inr (refl, two, record { first = first; wire = w; later = later; is = is; earlier = u; before = i; same = same }))
+refused-how (build-no-wire first w later is e over) = inl (inl refl)
 
 -- no block of a graph has
 module _ {m : MultiPortGraph} {M : Model} (f : Fine m M) where
@@ -133,23 +138,29 @@ module _ {m : MultiPortGraph} {M : Model} (f : Fine m M) where
       let q = ap (λ (x : BlockPorts). x .outgoing) (k .2) in
       omega arith
 
-pub saved-or-no-room : (calls : List Call) → (loadAnswer (fileOf (run calls .graph)) ≡ Loaded) ⊎ (loadAnswer (fileOf (run calls .graph)) ≡ Refused NoRoom)
+-- saved by a history of one release, loaded for another or the same
+pub saved-answers : (release other : Release) (calls : List Call) →
+    ((loadAnswer other (fileOf (run release calls .graph)) ≡ Loaded) ⊎ (loadAnswer other (fileOf (run release calls .graph)) ≡ Refused NoRoom))
+    ⊎ ((loadAnswer other (fileOf (run release calls .graph)) ≡ Refused InputWired) × (other ≡ Two) × SharesInput (viewOf (run release calls .graph) .wires))
 unfolding fileOf
-saved-or-no-room calls =
-    let m = run calls .graph in
-    let f = rel-run calls .1 .fine in
+saved-answers release other calls =
+    let m = run release calls .graph in
+    let f = rel-run release calls .1 .fine in
     let b = bytesOf (viewOf m) in
-    let w = written-laid (viewOf m) (view-fits f) (view-sound calls) in
+    let w = written-laid (viewOf m) (view-fits f) (view-sound release calls) in
     let said : unbytes b ≡ viewOf m = view-read-back (viewOf m) (view-fits f) in
     ⊎-elim
-    (λ e. inl (parts-loaded b (w .0) (w .1) e))
-    (λ (k : (r : Refusal) × (firstRefusal emptyGraph (buildOf (unbytes b)) ≡ Refused r)).
-    let refused = build-refusals (unbytes b) (laid-sound b (w .1)) (k .0) .0 (k .1) in
+    (λ e. inl (inl (parts-loaded other b (w .0) (w .1) e)))
+    (λ (k : (r : Refusal) × (firstRefusal (emptyGraph other) (buildOf (unbytes b)) ≡ Refused r)).
+    let refused = build-refusals other (unbytes b) (laid-sound b (w .1)) (k .0) .0 (k .1) in
+    let told : (r : Refusal) → k .0 ≡ r → loadAnswer other b ≡ Refused r = λ r e. build-answers other b r .1 (w .0, w .1, subst (BuildRefused other (unbytes b)) e refused) in
     ⊎-elim
-    (λ (e : k .0 ≡ NoRoom). inr (three-and-ten b NoRoom .1 (w .0, w .1, subst (BuildRefused (unbytes b)) e refused)))
+    (λ (s : (k .0 ≡ NoRoom) ⊎ ((k .0 ≡ InputWired) × (other ≡ Two) × SharesInput (unbytes b .wires))).
+    ⊎-elim (λ (e : k .0 ≡ NoRoom). inl (inr (told NoRoom e)))
+    (λ (t : (k .0 ≡ InputWired) × (other ≡ Two) × SharesInput (unbytes b .wires)). inr (told InputWired (t .0), t .1, subst (λ (v : View). SharesInput (v .wires)) said (t .2))) s)
     (λ (many : (x : BlockPorts) × Member x (unbytes b .blocks) × (nodePorts < x .incoming + x .outgoing)).
     let few = view-small f (many .0) (subst (λ (v : View). Member (many .0) (v .blocks)) said (many .1)) in
     let over = many .2 in
     absurd (omega arith))
-    (many-or-no-room (unbytes b) (k .0) refused))
-    (loaded-or-refused (buildOf (unbytes b)) emptyGraph)
+    (refused-how refused))
+    (loaded-or-refused (buildOf (unbytes b)) (emptyGraph other))

@@ -14,6 +14,7 @@ use Rattle.multiportgraph.specs.declared.multiportgraph.AddAnswer.the-variants 
 use Rattle.multiportgraph.specs.declared.multiportgraph.LinkAnswer.{LinkAnswer}
 use Rattle.multiportgraph.specs.declared.multiportgraph.LinkAnswer.the-variants as link
 use Rattle.multiportgraph.specs.declared.multiportgraph.MultiPortGraph.{MultiPortGraph}
+use Rattle.multiportgraph.specs.declared.multiportgraph.Release.{Release}
 use Rattle.theorems.specs.Book.{Call}
 use Rattle.theorems.specs.History.{step, run}
 use Rattle.files.specs.View.{BlockPorts, RankWire, View}
@@ -152,8 +153,8 @@ pub record Linkable (table bytes : List ℕ) (blocks at : ℕ) : Type 0 where
   pub source : fieldAt bytes at < blocks
   pub target : fieldAt bytes (at + 4) < blocks
 
--- what the build of a view gives
-pub record BuildIs (v : View) (r : FileLoaded) : Type 0 where
-  pub answer : r .answer ≡ firstRefusal emptyGraph (buildOf v)
-  pub graph : r .graph ≡ graphIf (firstRefusal emptyGraph (buildOf v)) (run (buildOf v) .graph)
+-- what the build of a view gives for a release
+pub record BuildIs (release : Release) (v : View) (r : FileLoaded) : Type 0 where
+  pub answer : r .answer ≡ firstRefusal (emptyGraph release) (buildOf v)
+  pub graph : r .graph ≡ graphIf release (firstRefusal (emptyGraph release) (buildOf v)) (run release (buildOf v) .graph)
   pub kept : MultiWf (r .graph)

@@ -1,4 +1,5 @@
 -- Req 06: what a file is held to before anything is built from it, the calls that build its wiring, and what a load answers and gives.
+-- A load names the release that it builds for (Req 09); the file holds none.
 use mathlib.Core.Bool.{Bool, true, false, cond, not, _&&_}
 use mathlib.Core.List.{List, [], _∷_, _++_, map}
 use Prim.Native.Nat.{ℕ, zero, suc, _+_, _-_, _*_, _/_, _%_}
@@ -6,6 +7,7 @@ use lib.Dec.{eqb, leb, ltb}
 use lib.ListN.{length, getD, take, drop}
 use Rattle.portgraph.specs.Limits.{Limits, present}
 use Rattle.multiportgraph.specs.declared.multiportgraph.MultiPortGraph.{MultiPortGraph}
+use Rattle.multiportgraph.specs.declared.multiportgraph.Release.{Release}
 use Rattle.multiportgraph.specs.declared.multiportgraph.AddAnswer.the-variants as add
 use Rattle.multiportgraph.specs.declared.multiportgraph.LinkAnswer.the-variants as link
 use Rattle.multiportgraph.specs.Answers.{refusalNumbers}
@@ -148,24 +150,25 @@ firstRefusal = firstRefusalUnder present
 
 -- The load.
 
--- 16 over all units before anything else, 17 over the whole file next, then the first add or link that is refused
-unfoldable pub loadAnswerUnder : Limits → List ℕ → LoadAnswer
-loadAnswerUnder L bytes = cond (isWhole bytes) (cond (isLaid bytes) (firstRefusalUnder L emptyGraph (buildOf (unbytes bytes))) BadLayout) BadSums
+-- 16 over all units before anything else, 17 over the whole file next, then the first add or link that is refused in a graph of the release
+unfoldable pub loadAnswerUnder : Limits → Release → List ℕ → LoadAnswer
+loadAnswerUnder L release bytes =
+    cond (isWhole bytes) (cond (isLaid bytes) (firstRefusalUnder L (emptyGraph release) (buildOf (unbytes bytes))) BadLayout) BadSums
 
-abbrev pub loadAnswer : List ℕ → LoadAnswer
+abbrev pub loadAnswer : Release → List ℕ → LoadAnswer
 loadAnswer = loadAnswerUnder present
 
--- the graph of an answer: a refused load gives the empty one
-abbrev pub graphIf : LoadAnswer → MultiPortGraph → MultiPortGraph
-graphIf Loaded m = m
-graphIf BadSums m = emptyGraph
-graphIf BadLayout m = emptyGraph
-graphIf (Refused r) m = emptyGraph
+-- the graph of an answer: a refused load gives the empty one of the release
+abbrev pub graphIf : Release → LoadAnswer → MultiPortGraph → MultiPortGraph
+graphIf release Loaded m = m
+graphIf release BadSums m = emptyGraph release
+graphIf release BadLayout m = emptyGraph release
+graphIf release (Refused r) m = emptyGraph release
 
-unfoldable pub loadGraphUnder : Limits → List ℕ → MultiPortGraph
-loadGraphUnder L bytes = graphIf (loadAnswerUnder L bytes) (runUnder L (buildOf (unbytes bytes)) .graph)
+unfoldable pub loadGraphUnder : Limits → Release → List ℕ → MultiPortGraph
+loadGraphUnder L release bytes = graphIf release (loadAnswerUnder L release bytes) (runUnder L release (buildOf (unbytes bytes)) .graph)
 
-abbrev pub loadGraph : List ℕ → MultiPortGraph
+abbrev pub loadGraph : Release → List ℕ → MultiPortGraph
 loadGraph = loadGraphUnder present
 
 -- 01's numbers of the answer

@@ -28,6 +28,7 @@ use Rattle.multiportgraph.specs.PlainLaws.{fine-empty}
 use Rattle.multiportgraph.specs.Space.{Room, roomOf, overflows, addWorks}
 use Rattle.multiportgraph.specs.SpaceLaws.{Spaced, room-is, room-added, add-space}
 use Rattle.multiportgraph.specs.declared.multiportgraph.MultiPortGraph.{MultiPortGraph}
+use Rattle.multiportgraph.specs.declared.multiportgraph.Release.{Release}
 use Rattle.multiportgraph.specs.declared.multiportgraph.AddAnswer.{AddAnswer}
 use Rattle.multiportgraph.specs.declared.multiportgraph.AddAnswer.the-variants as add
 use Rattle.multiportgraph.specs.declared.multiportgraph.NodeAdded.{NodeAdded}
@@ -292,12 +293,12 @@ pub record NextSlots (bs : List BlockPorts) (B : Book) : Type 0 where
   pub nodesFit : length bs ≤ nodeSlots
   pub portsFit : firstPort bs (length bs) ≤ portSlots
 
-pub next-slots : (bs : List BlockPorts) → firstRefusal emptyGraph (map addOf bs) ≡ Loaded → NextSlots bs (run (map addOf bs) .book)
+pub next-slots : (release : Release) (bs : List BlockPorts) → firstRefusal (emptyGraph release) (map addOf bs) ≡ Loaded → NextSlots bs (run release (map addOf bs) .book)
 unfolding runUnder rankIn
-next-slots bs e =
+next-slots release bs e =
     let start : (r : ℕ) (b : BlockPorts) → blockFrom (0 + r) (0 + firstPort bs r) b ≡ blockFrom r (firstPort bs r) b =
     λ r b. let x : 0 + r ≡ r = omega arith in let y : 0 + firstPort bs r ≡ firstPort bs r = omega arith in λ j. blockFrom (x j) (y j) b in
-    let a = adds-laid bs (record { graph = emptyGraph; book = emptyBook }) emptyModel 0 0 fine-empty none-free-at-first e in
+    let a = adds-laid bs (record { graph = emptyGraph release; book = emptyBook }) emptyModel 0 0 (fine-empty release) none-free-at-first e in
     subst (NextSlots bs) (sym (a .book))
     (record {
       has = λ r b h. subst (λ (x : Block). Member x (laid 0 0 bs [])) (start r b) (laid-has 0 0 bs [] r b h);
@@ -335,9 +336,9 @@ pub block-within : (bs : List BlockPorts) (r : ℕ) → r < length bs → firstP
 block-within bs r h = let a = first-port-next bs r h in let b = first-port-most bs (suc r) in omega arith
 
 -- where all adds are accepted, the ports that links name are slots of the tables
-module _ (bs : List BlockPorts) (e : firstRefusal emptyGraph (map addOf bs) ≡ Loaded) (w : RankWire) where
+module _ (release : Release) (bs : List BlockPorts) (e : firstRefusal (emptyGraph release) (map addOf bs) ≡ Loaded) (w : RankWire) where
   pub out-port-in-table : w .source < length bs → w .output < blockAt bs (w .source) .outgoing → outPort bs w < portSlots
-  out-port-in-table h k = let a = block-within bs (w .source) h in let b = next-slots bs e .portsFit in omega arith
+  out-port-in-table h k = let a = block-within bs (w .source) h in let b = next-slots release bs e .portsFit in omega arith
 
   pub in-port-in-table : w .target < length bs → w .input < blockAt bs (w .target) .incoming → inPort bs w < portSlots
-  in-port-in-table h k = let a = block-within bs (w .target) h in let b = next-slots bs e .portsFit in omega arith
+  in-port-in-table h k = let a = block-within bs (w .target) h in let b = next-slots release bs e .portsFit in omega arith

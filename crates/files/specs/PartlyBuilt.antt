@@ -9,6 +9,7 @@ use lib.ListN.{length, length-append}
 use Rattle.portgraph.specs.Lists.{filter}
 use Rattle.portgraph.specs.GoodSlots.{zero-is-not-one}
 use Rattle.multiportgraph.specs.Graph.{emptyGraph}
+use Rattle.multiportgraph.specs.declared.multiportgraph.Release.{Release}
 use Rattle.multiportgraph.specs.Listing.{length-map}
 use Rattle.multiportgraph.specs.Places.{Place, Wire, Spot, nowhere, spot, touches, atSpot, atEnd, ofNode, ofDropped}
 use Rattle.multiportgraph.specs.declared.multiportgraph.AddAnswer.the-variants as add
@@ -113,14 +114,14 @@ refused-enter-less (c ∷ l) s r e =
     (goes-or-stops c (step (s .graph) c .answer))
 
 -- so the view of what a refused build leaves is not the one to be built
-pub partly-built : (v : View) (r : Refusal) → firstRefusal emptyGraph (buildOf v) ≡ Refused r → viewOf (run (buildOf v) .graph) ≡ v → ⊥
+pub partly-built : (release : Release) (v : View) (r : Refusal) → firstRefusal (emptyGraph release) (buildOf v) ≡ Refused r → viewOf (run release (buildOf v) .graph) ≡ v → ⊥
 unfolding buildOf runUnder
-partly-built v r e same =
-    let f = rel-run (buildOf v) .1 .fine in
-    let less = refused-enter-less (buildOf v) (record { graph = emptyGraph; book = emptyBook }) r e in
+partly-built release v r e same =
+    let f = rel-run release (buildOf v) .1 .fine in
+    let less = refused-enter-less (buildOf v) (record { graph = emptyGraph release; book = emptyBook }) r e in
     let a = length-append (map addOf (v .blocks)) (map (linkOf (v .blocks)) (v .wires)) in
     let b = length-map addOf (v .blocks) in
     let c = length-map (linkOf (v .blocks)) (v .wires) in
-    let x = ap (λ (u : View). length (u .blocks)) (sym same) ∙ (view-blocks f ∙ visible-nodes-of-history (buildOf v)) in
-    let y = ap (λ (u : View). length (u .wires)) (sym same) ∙ (view-wires f ∙ visible-links-of-history (buildOf v)) in
+    let x = ap (λ (u : View). length (u .blocks)) (sym same) ∙ (view-blocks f ∙ visible-nodes-of-history release (buildOf v)) in
+    let y = ap (λ (u : View). length (u .wires)) (sym same) ∙ (view-wires f ∙ visible-links-of-history release (buildOf v)) in
     omega arith

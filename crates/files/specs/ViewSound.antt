@@ -17,6 +17,7 @@ use Rattle.multiportgraph.specs.Ends.{count-of, outer-seen, ends-join-ends}
 use Rattle.multiportgraph.specs.Listing.{member-map, length-map}
 use Rattle.multiportgraph.specs.WalkRule.{walked-is-wires}
 use Rattle.multiportgraph.specs.declared.multiportgraph.MultiPortGraph.{MultiPortGraph}
+use Rattle.multiportgraph.specs.declared.multiportgraph.Release.{Release}
 use Rattle.theorems.specs.Book.{Call}
 use Rattle.theorems.specs.History.{run}
 use Rattle.theorems.specs.CallLaws.{rel-run}
@@ -97,5 +98,5 @@ module _ {m : MultiPortGraph} {M : Model} (f : Fine m M) where
           subst Kept (sym (g .2)) (wire-kept (g .0) (g .1))
 
 -- over every list of calls
-pub view-sound : (calls : List Call) → Sound (viewOf (run calls .graph))
-view-sound calls = graph-sound (rel-run calls .1 .fine)
+pub view-sound : (release : Release) (calls : List Call) → Sound (viewOf (run release calls .graph))
+view-sound release calls = graph-sound (rel-run release calls .1 .fine)

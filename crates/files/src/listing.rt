@@ -9,6 +9,7 @@ use crate::load::LoadAnswer;
 use crate::load::build;
 use crate::load::laid;
 use crate::wires::place;
+use multiportgraph::multiportgraph::Release;
 use portgraph::index::NODE_SLOTS;
 use portgraph::index::PORT_SLOTS;
 ghost use mathlib.Core.Path.{_≡_};
@@ -113,10 +114,10 @@ fn unlisted(answer: LoadAnswer) -> BuildListed
     }
 }
 
-// Lists the adds and links that build the wiring of a file: two numbers for each block, incoming and outgoing, then two for each wire, the output
+// Lists the adds and links that build the wiring of a file for a release: two numbers for each block, incoming and outgoing, then two for each wire, the output
 // and the input. A list that is too short stays as it was, and so it does where the load is refused.
-pub fn list_build(file: &[u8], numbers: &mut [u32]) -> BuildListed
-    ensures { λ r. ⌜ (r ≡ listBuild (now (file .entry))) × (now (numbers .exit) ≡ buildAfter (now (file .entry)) (now (numbers .entry))) ⌝ }
+pub fn list_build(release: Release, file: &[u8], numbers: &mut [u32]) -> BuildListed
+    ensures { λ r. ⌜ (r ≡ listBuild release (now (file .entry))) × (now (numbers .exit) ≡ buildAfter release (now (file .entry)) (now (numbers .entry))) ⌝ }
 {
     if !is_whole(file) {
         return unlisted(LoadAnswer::BadSums);
@@ -127,7 +128,7 @@ pub fn list_build(file: &[u8], numbers: &mut [u32]) -> BuildListed
     }
     let blocks = shape.blocks;
     let wires = shape.wires;
-    let built = build(file, blocks, wires);
+    let built = build(release, file, blocks, wires);
     let answer = built.answer;
     if !accepted(answer) {
         return unlisted(answer);

@@ -11,6 +11,7 @@ use multiportgraph::lent::no_held;
 use multiportgraph::lent_graph::graph_of_tables;
 use multiportgraph::multiportgraph::MultiPortGraph;
 use multiportgraph::multiportgraph::Refusal;
+use multiportgraph::multiportgraph::Release;
 use portgraph::index::FREE_LISTS;
 use portgraph::index::NODE_SLOTS;
 use portgraph::index::PORT_SLOTS;
@@ -32,21 +33,21 @@ pub enum LoadAnswer {
     BadSums,
     // Refusal 17: kinds, counts, zeros, order, ranks or positions break the layout.
     BadLayout,
-    // 3 or 10: what the first add or link that is refused gives.
+    // 3, 10 or 18: what the first add or link that is refused gives.
     Refused(Refusal),
 }
 
-// The graph of its own that a load gives, the empty one where it is refused, and the answer.
+// The graph of its own that a load gives, the empty one of the release where it is refused, and the answer.
 pub struct FileLoaded {
     pub graph: MultiPortGraph,
     pub answer: LoadAnswer,
 }
 
 // A refused load: the empty graph.
-fn refused(answer: LoadAnswer) -> FileLoaded
-    ensures { λ r. ⌜ r ≡ record { graph = emptyGraph; answer = answer } ⌝ }
+fn refused(release: Release, answer: LoadAnswer) -> FileLoaded
+    ensures { λ r. ⌜ r ≡ record { graph = emptyGraph release; answer = answer } ⌝ }
 {
-    let graph = MultiPortGraph::new();
+    let graph = MultiPortGraph::new(release);
     FileLoaded {
         graph: graph,
         answer: answer,
@@ -71,10 +72,10 @@ pub(crate) fn laid(file: &[u8]) -> Shape
     }
 }
 
-// Builds the wiring of a laid file.
-pub(crate) fn build(file: &[u8], blocks: usize, wires: usize) -> FileLoaded
+// Builds the wiring of a laid file for a release.
+pub(crate) fn build(release: Release, file: &[u8], blocks: usize, wires: usize) -> FileLoaded
     requires { ⌜ Laid (now file) true blocks wires ⌝ }
-    ensures { λ r. ⌜ BuildIs (unbytes (now (file .entry))) r ⌝ }
+    ensures { λ r. ⌜ BuildIs release (unbytes (now (file .entry))) r ⌝ }
 {
     let mut nodes = [0u32; NODE_WORDS];
     let mut links = [0u32; PORT_SLOTS];
@@ -82,7 +83,7 @@ pub(crate) fn build(file: &[u8], blocks: usize, wires: usize) -> FileLoaded
     let mut heads = [0u32; FREE_LISTS];
     let mut marks = [false; PORT_SLOTS];
     let mut flags = [false; NODE_SLOTS];
-    let held = no_held();
+    let held = no_held(release);
     let added = add_blocks(
         &mut nodes,
         &mut links,
@@ -96,7 +97,7 @@ pub(crate) fn build(file: &[u8], blocks: usize, wires: usize) -> FileLoaded
     );
     let first = added.answer;
     if !accepted(first) {
-        return refused(first);
+        return refused(release, first);
     }
     let middle = added.held;
     let mut firsts = [0u32; NODE_SLOTS];
@@ -117,7 +118,7 @@ pub(crate) fn build(file: &[u8], blocks: usize, wires: usize) -> FileLoaded
     );
     let second = linked.answer;
     if !accepted(second) {
-        return refused(second);
+        return refused(release, second);
     }
     let after = linked.held;
     let graph = graph_of_tables(&nodes, &links, &owners, &heads, &marks, &flags, after);
@@ -127,17 +128,17 @@ pub(crate) fn build(file: &[u8], blocks: usize, wires: usize) -> FileLoaded
     }
 }
 
-// Loads a file: a graph of its own and the answer. Sums are held first, over all units; then the layout, over the whole file; then the blocks
-// are added and the wires linked, as far as the first that is refused.
-pub fn load(file: &[u8]) -> FileLoaded
-    ensures { λ r. ⌜ (r ≡ record { graph = loadGraph (now (file .entry)); answer = loadAnswer (now (file .entry)) }) × MultiWf (r .graph) ⌝ }
+// Loads a file for a release: a graph of its own and the answer. Sums are held first, over all units; then the layout, over the whole file; then
+// the blocks are added and the wires linked, as far as the first that is refused.
+pub fn load(release: Release, file: &[u8]) -> FileLoaded
+    ensures { λ r. ⌜ (r ≡ record { graph = loadGraph release (now (file .entry)); answer = loadAnswer release (now (file .entry)) }) × MultiWf (r .graph) ⌝ }
 {
     if !is_whole(file) {
-        return refused(LoadAnswer::BadSums);
+        return refused(release, LoadAnswer::BadSums);
     }
     let shape = laid(file);
     if !shape.right {
-        return refused(LoadAnswer::BadLayout);
+        return refused(release, LoadAnswer::BadLayout);
     }
-    build(file, shape.blocks, shape.wires)
+    build(release, file, shape.blocks, shape.wires)
 }

@@ -9,6 +9,7 @@ use Rattle.portgraph.specs.Lists.{Member}
 use Rattle.portgraph.specs.GoodLaws.{emptyModel}
 use Rattle.multiportgraph.specs.Graph.{emptyGraph}
 use Rattle.multiportgraph.specs.PlainLaws.{fine-empty}
+use Rattle.multiportgraph.specs.declared.multiportgraph.Release.{Release}
 use Rattle.multiportgraph.specs.declared.multiportgraph.Refusal.the-variants.{NoRoom}
 use Rattle.theorems.specs.Book.{emptyBook}
 use Rattle.theorems.specs.History.{State, runUnder}
@@ -37,8 +38,8 @@ blocksJ = wide ∷ wide ∷ narrow ∷ []
 abbrev pub caseJ : View
 caseJ = record { blocks = blocksJ; wires = [] }
 
-abbrev start : State
-start = record { graph = emptyGraph; book = emptyBook }
+abbrev start : Release → State
+start release = record { graph = emptyGraph release; book = emptyBook }
 
 fields-fit : ViewFits caseJ
 fields-fit = (fits, λ r i. absurd i)
@@ -63,27 +64,27 @@ blocks-fit = record { few = few; nodes = omega arith; ports = omega arith }
     few b (inr (inl e)) = let x = ap (λ (c : BlockPorts). c .incoming + c .outgoing) e in omega arith
     few b (inr (inr (inl e))) = let x = ap (λ (c : BlockPorts). c .incoming + c .outgoing) e in omega arith
 
-added : firstRefusal emptyGraph (map addOf blocksJ) ≡ Loaded
-added = fitting-added blocksJ blocks-fit
+added : (release : Release) → firstRefusal (emptyGraph release) (map addOf blocksJ) ≡ Loaded
+added release = fitting-added release blocksJ blocks-fit
 
-loads : loadAnswer (bytesOf caseJ) ≡ Loaded
+loads : (release : Release) → loadAnswer release (bytesOf caseJ) ≡ Loaded
 unfolding loadAnswerUnder buildOf
-loads =
+loads release =
     let w = written-laid caseJ fields-fit sound in
-    rw (w .0, w .1, view-read-back caseJ fields-fit) added
+    rw (w .0, w .1, view-read-back caseJ fields-fit) (added release)
 
-past : Past former (loadGraph (bytesOf caseJ) .graph)
+past : (release : Release) → Past former (loadGraph release (bytesOf caseJ) .graph)
 unfolding loadGraphUnder buildOf runUnder firstPort
-past =
-    let a = adds-laid blocksJ start emptyModel 0 0 fine-empty none-free-at-first added in
+past release =
+    let a = adds-laid blocksJ (start release) emptyModel 0 0 (fine-empty release) none-free-at-first (added release) in
     let l = a .fine .holds .portLen in
     let n = a .none .portLen in
-    rw (loads, view-read-back caseJ fields-fit) (past-ports (omega arith))
+    rw (loads release, view-read-back caseJ fields-fit) (past-ports (omega arith))
 
 -- It loads here; a former kit says 10, and has nothing.
-pub case-j-file : (low : Lower former present) →
-    (loadAnswer (bytesOf caseJ) ≡ Loaded) × (loadAnswerUnder former (bytesOf caseJ) ≡ Refused NoRoom) × (loadGraphUnder former (bytesOf caseJ) ≡ emptyGraph)
+pub case-j-file : (low : Lower former present) (release : Release) →
+    (loadAnswer release (bytesOf caseJ) ≡ Loaded) × (loadAnswerUnder former release (bytesOf caseJ) ≡ Refused NoRoom) × (loadGraphUnder former release (bytesOf caseJ) ≡ emptyGraph release)
 unfolding loadGraphUnder
-case-j-file low =
-    let r = refuses-larger low (bytesOf caseJ) loads .1 past in
-    (loads, r, ap (λ (v : LoadAnswer). graphIf v (runUnder former (buildOf (unbytes (bytesOf caseJ))) .graph)) r)
+case-j-file low release =
+    let r = refuses-larger low release (bytesOf caseJ) (loads release) .1 (past release) in
+    (loads release, r, ap (λ (v : LoadAnswer). graphIf release v (runUnder former release (buildOf (unbytes (bytesOf caseJ))) .graph)) r)

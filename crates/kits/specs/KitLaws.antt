@@ -20,8 +20,9 @@ use Rattle.multiportgraph.specs.Graph.{emptyGraph}
 use Rattle.multiportgraph.specs.Reading.{isHidden, isSplit}
 use Rattle.multiportgraph.specs.Inner.{Fine, MultiWf, Marked, copy-port, main-port, copyPlace}
 use Rattle.multiportgraph.specs.declared.multiportgraph.MultiPortGraph.{MultiPortGraph}
+use Rattle.multiportgraph.specs.declared.multiportgraph.Release.{Release}
 use Rattle.multiportgraph.specs.declared.multiportgraph.Refusal.{Refusal}
-use Rattle.multiportgraph.specs.declared.multiportgraph.Refusal.the-variants.{BadOffset, TooManyPorts, UnknownNode, HiddenNode, MovesTooShort, UnknownPort, HiddenPort, UnknownOffset, NoRoom, UnknownSecondPort, IncompatibleDirections, AlreadyLinked}
+use Rattle.multiportgraph.specs.declared.multiportgraph.Refusal.the-variants.{BadOffset, TooManyPorts, UnknownNode, HiddenNode, MovesTooShort, UnknownPort, HiddenPort, UnknownOffset, NoRoom, UnknownSecondPort, IncompatibleDirections, AlreadyLinked, InputWired}
 use Rattle.multiportgraph.specs.declared.multiportgraph.AddAnswer.the-variants as add
 use Rattle.multiportgraph.specs.declared.multiportgraph.RemoveAnswer.the-variants as remove
 use Rattle.multiportgraph.specs.declared.multiportgraph.SetAnswer.the-variants as resize
@@ -71,6 +72,7 @@ refusal-known NoRoom e = refl
 refusal-known (UnknownSecondPort p) e = let h = head-same e in absurd (omega arith)
 refusal-known (IncompatibleDirections p q d) e = let h = head-same e in absurd (omega arith)
 refusal-known (AlreadyLinked p) e = let h = head-same e in absurd (omega arith)
+refusal-known InputWired e = let h = head-same e in absurd (omega arith)
 
 -- an answer with the number 10 is that refusal
 ten-known : (c : Call) (v : AnswerOf c) → numbersOf c v ≡ 10 ∷ [] → v ≡ tenOf c
@@ -125,9 +127,9 @@ module _ {L K : Limits} (low : Lower L K) where
       go rest v w (inr q) x =
           absurd (q .1 (ten-known c (w .answer) (sym (head-same x) ∙ ap (λ (u : Stepped c). numbersOf c (u .answer)) (q .0) ∙ ten-numbers c)))
 
-  pub same-answers-same-state : (calls : List Call) → answersUnder L calls ≡ answersUnder K calls → runUnder L calls ≡ runUnder K calls
+  pub same-answers-same-state : (release : Release) (calls : List Call) → answersUnder L release calls ≡ answersUnder K release calls → runUnder L release calls ≡ runUnder K release calls
   unfolding answersUnder runUnder
-  same-answers-same-state calls = same-answers calls (record { graph = emptyGraph; book = emptyBook })
+  same-answers-same-state release calls = same-answers calls (record { graph = emptyGraph release; book = emptyBook })
 
   -- where the lower limits never answer 10, the answers are equal
   ten-decides : (calls : List Call) (m : MultiPortGraph) → (Member (10 ∷ []) (answersFrom L m calls) → ⊥) → answersFrom L m calls ≡ answersFrom K m calls
@@ -143,24 +145,24 @@ module _ {L K : Limits} (low : Lower L K) where
           ∙ ap (λ (u : Stepped c). numbersOf c (u .answer) ∷ answersFrom K (u .graph) l) q
       go rest v w (inr q) x = absurd (x (inl (sym (ap (λ (u : Stepped c). numbersOf c (u .answer)) (q .0) ∙ ten-numbers c))))
 
-  pub same-without-ten : (calls : List Call) → (Member (10 ∷ []) (answersUnder L calls) → ⊥) → answersUnder L calls ≡ answersUnder K calls
+  pub same-without-ten : (release : Release) (calls : List Call) → (Member (10 ∷ []) (answersUnder L release calls) → ⊥) → answersUnder L release calls ≡ answersUnder K release calls
   unfolding answersUnder
-  same-without-ten calls = ten-decides calls emptyGraph
+  same-without-ten release calls = ten-decides calls (emptyGraph release)
 
 -- No history passes its limits, and none shortens a table.
 
-empty-fits : (K : Limits) → Within K (emptyGraph .graph)
+empty-fits : (K : Limits) (release : Release) → Within K (emptyGraph release .graph)
 unfolding emptyGraph newGraph
-empty-fits K = record { nodes = omega arith; ports = omega arith }
+empty-fits K release = record { nodes = omega arith; ports = omega arith }
 
 run-from-fits : (K : Limits) (calls : List Call) (s : State) → Within K (s .graph .graph) → Within K (runFromUnder K s calls .graph .graph)
 unfolding runFromUnder
 run-from-fits K [] s w = w
 run-from-fits K (c ∷ l) s w = run-from-fits K l (nextUnder K s c) (step-fits K (s .graph) w c)
 
-run-fits : (K : Limits) (calls : List Call) → Within K (runUnder K calls .graph .graph)
+run-fits : (K : Limits) (release : Release) (calls : List Call) → Within K (runUnder K release calls .graph .graph)
 unfolding runUnder
-run-fits K calls = run-from-fits K calls (record { graph = emptyGraph; book = emptyBook }) (empty-fits K)
+run-fits K release calls = run-from-fits K calls (record { graph = emptyGraph release; book = emptyBook }) (empty-fits K release)
 
 run-longer : (K : Limits) (calls : List Call) (s : State) → Longer (s .graph .graph) (runFromUnder K s calls .graph .graph)
 unfolding runFromUnder
@@ -179,9 +181,9 @@ kept-from {L} low (c ∷ l) s w =
     go v u (inl q) k = subst (λ (x : Stepped c). MultiWf (x .graph)) (sym q) k
     go v u (inr q) k = subst (λ (x : Stepped c). MultiWf (x .graph)) (sym (q .0)) w
 
-kept-under : {L : Limits} → Lower L present → (calls : List Call) → MultiWf (runUnder L calls .graph)
+kept-under : {L : Limits} → Lower L present → (release : Release) (calls : List Call) → MultiWf (runUnder L release calls .graph)
 unfolding runUnder
-kept-under low calls = kept-from low calls (record { graph = emptyGraph; book = emptyBook }) empty-kept
+kept-under low release calls = kept-from low calls (record { graph = emptyGraph release; book = emptyBook }) (empty-kept release)
 
 -- The slots beyond limits that hold the used lengths are free.
 
@@ -290,25 +292,25 @@ module _ {L K : Limits} (low : Lower L K) where
           inr (ap (λ (u : Stepped c). afterCall c (u .answer) (firstRefusalUnder L (u .graph) l)) (q .0) ∙ b .0 _, past-longer (run-longer K l (after s c w)) (q .2))
 
   -- a load: the same, or 10 and the empty graph; under the higher limits it then loads past the lower ones, where it loads
-  abbrev LoadExact : List ℕ → Type 0
-  LoadExact bytes =
-      ((loadAnswerUnder L bytes ≡ loadAnswerUnder K bytes) × (loadGraphUnder L bytes ≡ loadGraphUnder K bytes))
-      ⊎ ((loadAnswerUnder L bytes ≡ Refused NoRoom) × (loadGraphUnder L bytes ≡ emptyGraph) × (loadAnswerUnder K bytes ≡ Loaded → Past L (loadGraphUnder K bytes .graph)))
+  abbrev LoadExact : Release → List ℕ → Type 0
+  LoadExact release bytes =
+      ((loadAnswerUnder L release bytes ≡ loadAnswerUnder K release bytes) × (loadGraphUnder L release bytes ≡ loadGraphUnder K release bytes))
+      ⊎ ((loadAnswerUnder L release bytes ≡ Refused NoRoom) × (loadGraphUnder L release bytes ≡ emptyGraph release) × (loadAnswerUnder K release bytes ≡ Loaded → Past L (loadGraphUnder K release bytes .graph)))
 
-  load-exact : (bytes : List ℕ) → LoadExact bytes
+  load-exact : (release : Release) (bytes : List ℕ) → LoadExact release bytes
   unfolding loadAnswerUnder loadGraphUnder runUnder
-  load-exact bytes = go (isWhole bytes) (isLaid bytes) (build-exact (buildOf (unbytes bytes)) (build-builds (unbytes bytes)) start)
+  load-exact release bytes = go (isWhole bytes) (isLaid bytes) (build-exact (buildOf (unbytes bytes)) (build-builds (unbytes bytes)) start)
     where
       start : State
-      start = record { graph = emptyGraph; book = emptyBook }
+      start = record { graph = emptyGraph release; book = emptyBook }
 
       answer : Limits → Bool → Bool → LoadAnswer
-      answer J x y = cond x (cond y (firstRefusalUnder J emptyGraph (buildOf (unbytes bytes))) BadLayout) BadSums
+      answer J x y = cond x (cond y (firstRefusalUnder J (emptyGraph release) (buildOf (unbytes bytes))) BadLayout) BadSums
 
       graph : Limits → Bool → Bool → MultiPortGraph
-      graph J x y = graphIf (answer J x y) (runFromUnder J start (buildOf (unbytes bytes)) .graph)
+      graph J x y = graphIf release (answer J x y) (runFromUnder J start (buildOf (unbytes bytes)) .graph)
 
-      same-graph : (v : LoadAnswer) (m n : MultiPortGraph) → (v ≡ Loaded → m ≡ n) → graphIf v m ≡ graphIf v n
+      same-graph : (v : LoadAnswer) (m n : MultiPortGraph) → (v ≡ Loaded → m ≡ n) → graphIf release v m ≡ graphIf release v n
       same-graph Loaded m n e = e refl
       same-graph BadSums m n e = refl
       same-graph BadLayout m n e = refl
@@ -316,86 +318,87 @@ module _ {L K : Limits} (low : Lower L K) where
 
       go : (x y : Bool) → BuildExact start (buildOf (unbytes bytes)) →
           ((answer L x y ≡ answer K x y) × (graph L x y ≡ graph K x y))
-          ⊎ ((answer L x y ≡ Refused NoRoom) × (graph L x y ≡ emptyGraph) × (answer K x y ≡ Loaded → Past L (graph K x y .graph)))
+          ⊎ ((answer L x y ≡ Refused NoRoom) × (graph L x y ≡ emptyGraph release) × (answer K x y ≡ Loaded → Past L (graph K x y .graph)))
       go false y e = inl (refl, refl)
       go true false e = inl (refl, refl)
       go true true (inl e) =
           inl (
             e .0,
             same-graph (answer L true true) _ _ (λ q. ap (λ (t : State). t .graph) (e .1 q))
-                ∙ ap (λ (v : LoadAnswer). graphIf v (runFromUnder K start (buildOf (unbytes bytes)) .graph)) (e .0),
+                ∙ ap (λ (v : LoadAnswer). graphIf release v (runFromUnder K start (buildOf (unbytes bytes)) .graph)) (e .0),
           )
       go true true (inr e) =
           inr (
             e .0,
-            ap (λ (v : LoadAnswer). graphIf v (runFromUnder L start (buildOf (unbytes bytes)) .graph)) (e .0),
-            λ q. subst (λ (v : LoadAnswer). Past L (graphIf v (runFromUnder K start (buildOf (unbytes bytes)) .graph) .graph)) (sym q) (e .1),
+            ap (λ (v : LoadAnswer). graphIf release v (runFromUnder L start (buildOf (unbytes bytes)) .graph)) (e .0),
+            λ q. subst (λ (v : LoadAnswer). Past L (graphIf release v (runFromUnder K start (buildOf (unbytes bytes)) .graph) .graph)) (sym q) (e .1),
           )
 
 -- What a load leaves under limits is within them, and is a graph of these calls.
 
-load-fits : (K : Limits) (bytes : List ℕ) → Within K (loadGraphUnder K bytes .graph)
+load-fits : (K : Limits) (release : Release) (bytes : List ℕ) → Within K (loadGraphUnder K release bytes .graph)
 unfolding loadGraphUnder
-load-fits K bytes = go (loadAnswerUnder K bytes)
+load-fits K release bytes = go (loadAnswerUnder K release bytes)
   where
-    go : (v : LoadAnswer) → Within K (graphIf v (runUnder K (buildOf (unbytes bytes)) .graph) .graph)
-    go Loaded = run-fits K (buildOf (unbytes bytes))
-    go BadSums = empty-fits K
-    go BadLayout = empty-fits K
-    go (Refused r) = empty-fits K
+    go : (v : LoadAnswer) → Within K (graphIf release v (runUnder K release (buildOf (unbytes bytes)) .graph) .graph)
+    go Loaded = run-fits K release (buildOf (unbytes bytes))
+    go BadSums = empty-fits K release
+    go BadLayout = empty-fits K release
+    go (Refused r) = empty-fits K release
 
-load-kept : {L : Limits} → Lower L present → (bytes : List ℕ) → MultiWf (loadGraphUnder L bytes)
+load-kept : {L : Limits} → Lower L present → (release : Release) (bytes : List ℕ) → MultiWf (loadGraphUnder L release bytes)
 unfolding loadGraphUnder
-load-kept {L} low bytes = go (loadAnswerUnder L bytes)
+load-kept {L} low release bytes = go (loadAnswerUnder L release bytes)
   where
-    go : (v : LoadAnswer) → MultiWf (graphIf v (runUnder L (buildOf (unbytes bytes)) .graph))
-    go Loaded = kept-under low (buildOf (unbytes bytes))
-    go BadSums = empty-kept
-    go BadLayout = empty-kept
-    go (Refused r) = empty-kept
+    go : (v : LoadAnswer) → MultiWf (graphIf release v (runUnder L release (buildOf (unbytes bytes)) .graph))
+    go Loaded = kept-under low release (buildOf (unbytes bytes))
+    go BadSums = empty-kept release
+    go BadLayout = empty-kept release
+    go (Refused r) = empty-kept release
 
-module _ {L K : Limits} (low : Lower L K) (bytes : List ℕ) where
+module _ {L K : Limits} (low : Lower L K) (release : Release) (bytes : List ℕ) where
   -- what loads under the lower limits loads to the same graph under the higher ones
-  pub loads-also : loadAnswerUnder L bytes ≡ Loaded → (loadAnswerUnder K bytes ≡ Loaded) × (loadGraphUnder K bytes ≡ loadGraphUnder L bytes)
-  loads-also e = go (load-exact low bytes)
+  pub loads-also : loadAnswerUnder L release bytes ≡ Loaded → (loadAnswerUnder K release bytes ≡ Loaded) × (loadGraphUnder K release bytes ≡ loadGraphUnder L release bytes)
+  loads-also e = go (load-exact low release bytes)
     where
-      go : LoadExact low bytes → (loadAnswerUnder K bytes ≡ Loaded) × (loadGraphUnder K bytes ≡ loadGraphUnder L bytes)
+      go : LoadExact low release bytes → (loadAnswerUnder K release bytes ≡ Loaded) × (loadGraphUnder K release bytes ≡ loadGraphUnder L release bytes)
       go (inl q) = (sym (q .0) ∙ e, sym (q .1))
       go (inr q) = absurd (refused-not-loaded NoRoom (sym (q .0) ∙ e))
 
   -- what loads under the higher limits loads to the same graph under the lower ones, or is refused whole with 10
-  pub refuses-whole : loadAnswerUnder K bytes ≡ Loaded →
-      ((loadAnswerUnder L bytes ≡ Loaded) × (loadGraphUnder L bytes ≡ loadGraphUnder K bytes))
-      ⊎ ((loadAnswerUnder L bytes ≡ Refused NoRoom) × (loadGraphUnder L bytes ≡ emptyGraph))
-  refuses-whole e = go (load-exact low bytes)
+  pub refuses-whole : loadAnswerUnder K release bytes ≡ Loaded →
+      ((loadAnswerUnder L release bytes ≡ Loaded) × (loadGraphUnder L release bytes ≡ loadGraphUnder K release bytes))
+      ⊎ ((loadAnswerUnder L release bytes ≡ Refused NoRoom) × (loadGraphUnder L release bytes ≡ emptyGraph release))
+  refuses-whole e = go (load-exact low release bytes)
     where
-      go : LoadExact low bytes →
-          ((loadAnswerUnder L bytes ≡ Loaded) × (loadGraphUnder L bytes ≡ loadGraphUnder K bytes)) ⊎ ((loadAnswerUnder L bytes ≡ Refused NoRoom) × (loadGraphUnder L bytes ≡ emptyGraph))
+      go : LoadExact low release bytes →
+          ((loadAnswerUnder L release bytes ≡ Loaded) × (loadGraphUnder L release bytes ≡ loadGraphUnder K release bytes)) ⊎ ((loadAnswerUnder L release bytes ≡ Refused NoRoom) × (loadGraphUnder L release bytes ≡ emptyGraph release))
       go (inl q) = inl (q .0 ∙ e, q .1)
       go (inr q) = inr (q .0, q .1)
 
   -- and it is refused exactly if it is past the lower limits
-  pub refuses-larger : loadAnswerUnder K bytes ≡ Loaded → (loadAnswerUnder L bytes ≡ Refused NoRoom) ↔ Past L (loadGraphUnder K bytes .graph)
-  refuses-larger e = go (load-exact low bytes)
+  pub refuses-larger : loadAnswerUnder K release bytes ≡ Loaded → (loadAnswerUnder L release bytes ≡ Refused NoRoom) ↔ Past L (loadGraphUnder K release bytes .graph)
+  refuses-larger e = go (load-exact low release bytes)
     where
-      go : LoadExact low bytes → (loadAnswerUnder L bytes ≡ Refused NoRoom) ↔ Past L (loadGraphUnder K bytes .graph)
+      go : LoadExact low release bytes → (loadAnswerUnder L release bytes ≡ Refused NoRoom) ↔ Past L (loadGraphUnder K release bytes .graph)
       go (inl q) = (
         (λ r. absurd (refused-not-loaded NoRoom (sym r ∙ (q .0 ∙ e)))),
-        (λ p. absurd (within-not-past (subst (λ (m : MultiPortGraph). Within L (m .graph)) (q .1) (load-fits L bytes)) p)),
+        (λ p. absurd (within-not-past (subst (λ (m : MultiPortGraph). Within L (m .graph)) (q .1) (load-fits L release bytes)) p)),
       )
       go (inr q) = ((λ r. q .2 e), (λ p. q .0))
 
   -- the answer is the same, or 10
-  pub answers-or-ten : (loadAnswerUnder L bytes ≡ loadAnswerUnder K bytes) ⊎ (loadAnswerUnder L bytes ≡ Refused NoRoom)
-  answers-or-ten = go (load-exact low bytes)
+  pub answers-or-ten : (loadAnswerUnder L release bytes ≡ loadAnswerUnder K release bytes) ⊎ (loadAnswerUnder L release bytes ≡ Refused NoRoom)
+  answers-or-ten = go (load-exact low release bytes)
     where
-      go : LoadExact low bytes → (loadAnswerUnder L bytes ≡ loadAnswerUnder K bytes) ⊎ (loadAnswerUnder L bytes ≡ Refused NoRoom)
+      go : LoadExact low release bytes → (loadAnswerUnder L release bytes ≡ loadAnswerUnder K release bytes) ⊎ (loadAnswerUnder L release bytes ≡ Refused NoRoom)
       go (inl q) = inl (q .0)
       go (inr q) = inr (q .0)
 
 -- limits below these: what a load leaves is within them, and every slot beyond them is free
-pub load-within : {L : Limits} → Lower L present → (bytes : List ℕ) → Within L (loadGraphUnder L bytes .graph) × FreeBeyond L (loadGraphUnder L bytes)
-load-within {L} low bytes = (load-fits L bytes, free-beyond (load-kept low bytes .fine) (load-fits L bytes))
+pub load-within : {L : Limits} → Lower L present → (release : Release) (bytes : List ℕ) → Within L (loadGraphUnder L release bytes .graph) × FreeBeyond L (loadGraphUnder L release bytes)
+load-within {L} low release bytes = (load-fits L release bytes, free-beyond (load-kept low release bytes .fine) (load-fits L release bytes))
 
-pub run-within : {L : Limits} → Lower L present → (calls : List Call) → Within L (runUnder L calls .graph .graph) × FreeBeyond L (runUnder L calls .graph)
-run-within {L} low calls = (run-fits L calls, free-beyond (kept-under low calls .fine) (run-fits L calls))
+pub run-within : {L : Limits} → Lower L present → (release : Release) (calls : List Call) →
+    Within L (runUnder L release calls .graph .graph) × FreeBeyond L (runUnder L release calls .graph)
+run-within {L} low release calls = (run-fits L release calls, free-beyond (kept-under low release calls .fine) (run-fits L release calls))

@@ -11,6 +11,7 @@ use Rattle.portgraph.specs.declared.portgraph.PortGraph.{PortGraph}
 use Rattle.multiportgraph.specs.Reading.{isHidden, isSplit}
 use Rattle.multiportgraph.specs.Graph.{emptyGraph}
 use Rattle.multiportgraph.specs.declared.multiportgraph.MultiPortGraph.{MultiPortGraph}
+use Rattle.multiportgraph.specs.declared.multiportgraph.Release.{Release}
 use Rattle.theorems.specs.Book.{Call}
 use Rattle.theorems.specs.History.{stepUnder, numbersOf}
 
@@ -45,5 +46,5 @@ unfoldable pub answersFrom : Limits → MultiPortGraph → List Call → List (L
 answersFrom L m [] = []
 answersFrom L m (c ∷ l) = numbersOf c (stepUnder L m c .answer) ∷ answersFrom L (stepUnder L m c .graph) l
 
-unfoldable pub answersUnder : Limits → List Call → List (List ℕ)
-answersUnder L calls = answersFrom L emptyGraph calls
+unfoldable pub answersUnder : Limits → Release → List Call → List (List ℕ)
+answersUnder L release calls = answersFrom L (emptyGraph release) calls

@@ -1,6 +1,6 @@
 -- The calls under two limits: under the lower ones a call does the same, or it is refused with 10 and changes nothing; under the higher ones it
 -- is then not refused with 10, and a used length is past the lower limits. No call passes its own limits.
-use mathlib.Core.Path.{_≡_, refl, sym, ap, subst}
+use mathlib.Core.Path.{_≡_, refl, sym, ap, _∙_, subst}
 use mathlib.Core.Bool.{Bool, true, false, cond}
 use mathlib.Core.List.{List, [], _∷_}
 use mathlib.Core.Logic.{_⊎_, inl, inr}
@@ -29,10 +29,10 @@ use Rattle.portgraph.specs.declared.resize.PortsSet as lower-set-done
 use Rattle.multiportgraph.specs.Reading.{hasLink, isHidden, isSplit, Port, dead, hidden, visible, seen, sideOf, copyNode, subports, portOf, farPort, subport#, asRead, standing}
 use Rattle.multiportgraph.specs.Graph.{withGraph}
 use Rattle.multiportgraph.specs.HiddenNodes.{removeCopy, unsplit, unsplitRange, recounted, copiesDropped, removeLone, removeAll, Prepared, ready, full, copyIn, copyOut, splitGraph, splitPort, splitBy, splitUnder, moreIn, moreOut, enough, grownBy, growUnder, lowestFree, reuseUnder, prepareUnder}
-use Rattle.multiportgraph.specs.Refusals.{Line, checked, joining, endOf, preparedGraph, preparedPort, firstEnd, secondEnd, addRefusals, removeRefusals, setRefusals, linkRefusals, linkCleanRefusals, linkSubRefusals, cutRefusals, subportRefusals}
-use Rattle.multiportgraph.specs.Calls.{addedAs, addBlockUnder, setAs, setCountsUnder, dropBlock, dropMeta, removeBlock, resizedMeta, bothLinked, linkPairUnder, linkCleanUnder, joined, linkSub, cutPlain, cutPort, cutSub}
+use Rattle.multiportgraph.specs.Refusals.{Line, checked, inputTaken, joining, endOf, preparedGraph, preparedPort, firstEnd, secondEnd, addRefusals, removeRefusals, setRefusals, linkRefusals, linkCleanRefusals, linkSubRefusals, cutRefusals, subportRefusals}
+use Rattle.multiportgraph.specs.Calls.{addedAs, addBlockUnder, setAs, setCountsUnder, dropBlock, dropMeta, removeBlock, resizedMeta, bothLinked, linkPairIf, linkPairUnder, linkCleanIf, joined, linkSubIf, cutPlain, cutPort, cutSub}
 use Rattle.multiportgraph.specs.Cases.{setRefused, resized, setMetaUnder, linkRefused, linkPrepared, linkSecond, linkLiveUnder, linkFirst, linkSeenUnder, pairSeen, linkCleanBy}
-use Rattle.multiportgraph.specs.CaseLaws.{add-cases, set-cases, link-cases, link-clean-cases}
+use Rattle.multiportgraph.specs.CaseLaws.{add-cases, set-cases, link-cases, link-taken, link-clean-cases, link-clean-taken}
 use Rattle.multiportgraph.specs.declared.named.NamedPair.{NamedPair}
 use Rattle.multiportgraph.specs.declared.named.NamedPair.the-variants as pair
 use Rattle.multiportgraph.specs.declared.multiportgraph.MultiPortGraph.{MultiPortGraph}
@@ -211,18 +211,18 @@ module _ (K : Limits) (P : PortGraph → Type 0) (by : ByLengths P) (more : (g :
     cut-keeps p false = by (m .graph) (unlinkPort (m .graph) p .graph) (unlink-same (m .graph) p) here
 
     pub step-keeps : (c : Call) → P (stepUnder K m c .graph .graph)
-    unfolding addBlockUnder removeBlock setCountsUnder linkPairUnder linkCleanUnder linkSub cutPort cutSub
+    unfolding addBlockUnder removeBlock setCountsUnder linkPairIf linkCleanIf linkSubIf cutPort cutSub
     step-keeps (book.addCall i o) = checked-in P (λ (v : NodeAdded). v .graph) (λ l. record { graph = l .leaves; answer = add.Refused (l .refusal) }) (λ l. refl) (addRefusals K m i o) _ (here, (here, tt)) (more (m .graph) i o here)
     step-keeps (book.removeCall n) = checked-in P (λ (v : NodeRemoved). v .graph) (λ l. record { graph = l .leaves; answer = remove.Refused (l .refusal) }) (λ l. refl) (removeRefusals m n) _ (here, (here, tt)) (drop-keeps n (metaAt (m .graph) n))
     step-keeps (book.setCall n i o room) =
         checked-in P (λ (v : PortsSet). v .graph) (λ l. record { graph = l .leaves; answer = resize.Refused (l .refusal) }) (λ l. refl) (setRefusals K m n i o room) _ (here, (here, (here, (here, (here, tt)))))
         (resized-keeps n i o (setNumPortsUnder K (m .graph) n i o room .graph) (metaAt (m .graph) n) (other (m .graph) n i o room here))
     step-keeps (book.linkCall a b) =
-        checked-in P (λ (v : PortsLinked). v .graph) (λ l. record { graph = l .leaves; answer = link.Refused (l .refusal) }) (λ l. refl) (linkRefusals K m a b) _ (here, (here, (here, (here, (first-keeps a, (second-keeps a b, tt)))))) (both-keeps a b)
+        checked-in P (λ (v : PortsLinked). v .graph) (λ l. record { graph = l .leaves; answer = link.Refused (l .refusal) }) (λ l. refl) (linkRefusals (inputTaken m a b) K m a b) _ (here, (here, (here, (here, (here, (first-keeps a, (second-keeps a b, tt))))))) (both-keeps a b)
     step-keeps (book.linkCleanCall a b) =
-        checked-in P (λ (v : PortsLinked). v .graph) (λ l. record { graph = l .leaves; answer = link.Refused (l .refusal) }) (λ l. refl) (linkCleanRefusals K m a b) _ (here, (here, (here, (here, (here, (here, tt)))))) (both-keeps a b)
+        checked-in P (λ (v : PortsLinked). v .graph) (λ l. record { graph = l .leaves; answer = link.Refused (l .refusal) }) (λ l. refl) (linkCleanRefusals (inputTaken m a b) K m a b) _ (here, (here, (here, (here, (here, (here, (here, tt))))))) (both-keeps a b)
     step-keeps (book.linkSubCall p o q r) =
-        checked-in P (λ (v : PortsLinked). v .graph) (λ l. record { graph = l .leaves; answer = link.Refused (l .refusal) }) (λ l. refl) (linkSubRefusals m p o q r) _ (here, (here, (here, (here, (here, (here, (here, (here, (here, (here, tt))))))))))
+        checked-in P (λ (v : PortsLinked). v .graph) (λ l. record { graph = l .leaves; answer = link.Refused (l .refusal) }) (λ l. refl) (linkSubRefusals (inputTaken m p q) m p o q r) _ (here, (here, (here, (here, (here, (here, (here, (here, (here, (here, (here, tt)))))))))))
         (joined-keeps (joining m p o q r) (linkPorts (m .graph) (endOf m p o) (endOf m q r) .graph) (asRead m p o) (asRead m q r)
         (by (m .graph) _ (link-same (m .graph) (endOf m p o) (endOf m q r)) here))
     step-keeps (book.cutCall p) = checked-in P (λ (v : PortUnlinked). v .graph) (λ l. record { graph = l .leaves; answer = cutting.Refused (l .refusal) }) (λ l. refl) (cutRefusals m p) _ (here, (here, tt)) (cut-keeps p (isSplit m p))
@@ -362,9 +362,11 @@ module _ {L K : Limits} (low : Lower L K) where
     abbrev LinkExact : PortsLinked → PortsLinked → Type 0
     LinkExact v w = (v ≡ w) ⊎ ((v ≡ linkRefused m NoRoom) × (w .answer ≡ link.Refused NoRoom → ⊥) × Past L (w .graph .graph))
 
-    pair-exact : (a b : ℕ) → LinkExact (linkPairUnder L m a b) (linkPairUnder K m a b)
-    pair-exact a b =
-        subst (λ u. LinkExact (linkPairUnder L m a b) u) (sym (link-cases K m a b))
+    -- 18 asks for no room
+    pair-exact : (taken : Bool) (a b : ℕ) → LinkExact (linkPairIf taken L m a b) (linkPairIf taken K m a b)
+    pair-exact true a b = inl (link-taken L m a b ∙ sym (link-taken K m a b))
+    pair-exact false a b =
+        subst (λ u. LinkExact (linkPairIf false L m a b) u) (sym (link-cases K m a b))
         (subst (λ u. LinkExact u (linkSeenUnder K m a b (seen m a) (seen m b))) (sym (link-cases L m a b)) (go (seen m a) (seen m b)))
       where
         not-ten : (n : MultiPortGraph) (d : Direction) (x o : ℕ) (e : Direction) (y r : ℕ) → linkPrepared n a d x o b e y r .answer ≡ link.Refused NoRoom → ⊥
@@ -414,7 +416,7 @@ module _ {L K : Limits} (low : Lower L K) where
         go (visible n d) (visible k e) = first d e (prepareUnder L m a d) (prepareUnder K m a d) (prepare-exact m a d)
 
     link-alike : (a b : ℕ) → StepExact m (stepUnder L m (book.linkCall a b)) (stepUnder K m (book.linkCall a b))
-    link-alike a b = go (linkPairUnder L m a b) (linkPairUnder K m a b) (pair-exact a b)
+    link-alike a b = go (linkPairUnder L m a b) (linkPairUnder K m a b) (pair-exact (inputTaken m a b) a b)
       where
         of : PortsLinked → Stepped (book.linkCall a b)
         of v = record { graph = v .graph; answer = v .answer }
@@ -424,7 +426,7 @@ module _ {L K : Limits} (low : Lower L K) where
         go v w (inr e) = inr (ap of (e .0), e .1, e .2)
 
     link-clean-alike : (a b : ℕ) → StepExact m (stepUnder L m (book.linkCleanCall a b)) (stepUnder K m (book.linkCleanCall a b))
-    link-clean-alike a b = by-cases m of (link-clean-cases L m a b) (link-clean-cases K m a b) (by (pairSeen a b (seen m a) (seen m b)))
+    link-clean-alike a b = alike (inputTaken m a b)
       where
         of : PortsLinked → Stepped (book.linkCleanCall a b)
         of v = record { graph = v .graph; answer = v .answer }
@@ -435,7 +437,11 @@ module _ {L K : Limits} (low : Lower L K) where
 
         by : (q : NamedPair) → StepExact m (of (linkCleanBy L m a b q)) (of (linkCleanBy K m a b q))
         by (pair.Refused r) = inl refl
-        by pair.Opposite = go (linkPairUnder L m a b) (linkPairUnder K m a b) (pair-exact a b)
+        by pair.Opposite = go (linkPairIf false L m a b) (linkPairIf false K m a b) (pair-exact false a b)
+
+        alike : (taken : Bool) → StepExact m (of (linkCleanIf taken L m a b)) (of (linkCleanIf taken K m a b))
+        alike true = inl (ap of (link-clean-taken L m a b ∙ sym (link-clean-taken K m a b)))
+        alike false = by-cases m of (link-clean-cases L m a b) (link-clean-cases K m a b) (by (pairSeen a b (seen m a) (seen m b)))
 
   -- every call
   pub step-alike : (m : MultiPortGraph) (c : Call) → StepExact m (stepUnder L m c) (stepUnder K m c)

@@ -3,7 +3,7 @@ use mathlib.Core.List.{List, [], _∷_}
 use Prim.Native.Nat.{ℕ}
 use Rattle.portgraph.specs.Entries.{sideNumber}
 use Rattle.multiportgraph.specs.declared.multiportgraph.Refusal.{Refusal}
-use Rattle.multiportgraph.specs.declared.multiportgraph.Refusal.the-variants.{BadOffset, TooManyPorts, UnknownNode, HiddenNode, MovesTooShort, UnknownPort, HiddenPort, UnknownOffset, NoRoom, UnknownSecondPort, IncompatibleDirections, AlreadyLinked}
+use Rattle.multiportgraph.specs.declared.multiportgraph.Refusal.the-variants.{BadOffset, TooManyPorts, UnknownNode, HiddenNode, MovesTooShort, UnknownPort, HiddenPort, UnknownOffset, NoRoom, UnknownSecondPort, IncompatibleDirections, AlreadyLinked, InputWired}
 use Rattle.multiportgraph.specs.declared.multiportgraph.AddAnswer.{AddAnswer}
 use Rattle.multiportgraph.specs.declared.multiportgraph.AddAnswer.the-variants as add
 use Rattle.multiportgraph.specs.declared.multiportgraph.RemoveAnswer.{RemoveAnswer}
@@ -31,6 +31,7 @@ refusalNumbers NoRoom = 10 ∷ []
 refusalNumbers (UnknownSecondPort p) = 11 ∷ p .0 ∷ []
 refusalNumbers (IncompatibleDirections p q d) = 12 ∷ p .0 ∷ q .0 ∷ sideNumber d ∷ []
 refusalNumbers (AlreadyLinked p) = 13 ∷ p .0 ∷ []
+refusalNumbers InputWired = 18 ∷ []
 
 abbrev pub addNumbers : AddAnswer → List ℕ
 addNumbers (add.Added n p) = 0 ∷ n .0 ∷ p .0 ∷ []

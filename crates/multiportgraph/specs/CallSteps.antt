@@ -20,6 +20,7 @@ use Rattle.multiportgraph.specs.Calls.{addedAs, addBlock, cutPlain, cutP
 use Rattle.multiportgraph.specs.Forms.{seenAs, endAs}
 use Rattle.multiportgraph.specs.Inner.{MultiWf}
 use Rattle.multiportgraph.specs.declared.multiportgraph.MultiPortGraph.{MultiPortGraph}
+use Rattle.multiportgraph.specs.declared.multiportgraph.Release.{Release}
 use Rattle.multiportgraph.specs.declared.multiportgraph.NodeAdded.{NodeAdded}
 use Rattle.multiportgraph.specs.declared.multiportgraph.PortPlace.{PortPlace}
 use Rattle.multiportgraph.specs.declared.multiportgraph.CutAnswer.the-variants as cutting
@@ -37,13 +38,13 @@ use Rattle.multiportgraph.specs.CaseLaws.{add-cases, cut-cases}
 pub lower-wf : (m : MultiPortGraph) → MultiWf m → Wf (m .graph)
 lower-wf m w = record { model = w .model; good = w .fine .good; holds = w .fine .holds }
 
-pub empty-made : (g : PortGraph) → g ≡ newGraph
+pub empty-made : (release : Release) (g : PortGraph) → g ≡ newGraph
     → _≡_ {A = MultiPortGraph}
-    (multi g (replicate portSlots false) (replicate nodeSlots false) 0 0)
-    emptyGraph
+    (multi g (replicate portSlots false) (replicate nodeSlots false) 0 0 release)
+    (emptyGraph release)
 unfolding emptyGraph
-empty-made g e =
-    ap (λ (x : PortGraph). multi x (replicate portSlots false) (replicate nodeSlots false) 0 0) e
+empty-made release g e =
+    ap (λ (x : PortGraph). multi x (replicate portSlots false) (replicate nodeSlots false) 0 0 release) e
 
 -- What a read port or end was.
 

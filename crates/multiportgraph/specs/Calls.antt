@@ -18,10 +18,10 @@ use Rattle.portgraph.specs.declared.slots.AddAnswer as lower-add-answer
 use Rattle.portgraph.specs.declared.slots.AddAnswer.the-variants as lower-add
 use Rattle.portgraph.specs.declared.resize.SetAnswer as lower-set-answer
 use Rattle.portgraph.specs.declared.resize.SetAnswer.the-variants as lower-set
-use Rattle.multiportgraph.specs.Reading.{End, inner, lacking, isHidden, isSplit, subport#, asRead, subportOf, standing, standingOf}
+use Rattle.multiportgraph.specs.Reading.{isHidden, isSplit, subport#, asRead, standing, standingOf, farSubport}
 use Rattle.multiportgraph.specs.declared.multiportgraph.MultiPortGraph.{MultiPortGraph}
 use Rattle.multiportgraph.specs.declared.multiportgraph.SubportIndex.{SubportIndex}
-use Rattle.multiportgraph.specs.declared.multiportgraph.Refusal.the-variants.{TooManyPorts, UnknownNode, MovesTooShort, UnknownPort, UnknownOffset, NoRoom, UnknownSecondPort, IncompatibleDirections, AlreadyLinked}
+use Rattle.multiportgraph.specs.declared.multiportgraph.Refusal.the-variants.{TooManyPorts, UnknownNode, MovesTooShort, UnknownPort, NoRoom, UnknownSecondPort, IncompatibleDirections, AlreadyLinked}
 use Rattle.multiportgraph.specs.declared.multiportgraph.AddAnswer.{AddAnswer}
 use Rattle.multiportgraph.specs.declared.multiportgraph.AddAnswer.the-variants as add
 use Rattle.multiportgraph.specs.declared.multiportgraph.NodeAdded.{NodeAdded}
@@ -37,7 +37,7 @@ use Rattle.multiportgraph.specs.declared.multiportgraph.CutAnswer.the-va
 use Rattle.multiportgraph.specs.declared.multiportgraph.PortUnlinked.{PortUnlinked}
 use Rattle.multiportgraph.specs.Graph.{withGraph}
 use Rattle.multiportgraph.specs.HiddenNodes.{copiesDropped, recounted, removeAll, unsplit, unsplitRange}
-use Rattle.multiportgraph.specs.Refusals.{addRefusals, checked, cutRefusals, endOf, firstEnd, joining, linkCleanRefusals, linkRefusals, linkSubRefusals, preparedGraph, preparedOffset, preparedPort, removeRefusals, secondEnd, setRefusals, subportRefusals}
+use Rattle.multiportgraph.specs.Refusals.{addRefusals, checked, cutRefusals, endOf, firstEnd, inputTaken, joining, linkCleanRefusals, linkRefusals, linkSubRefusals, preparedGraph, preparedOffset, preparedPort, removeRefusals, secondEnd, setRefusals, subportRefusals}
 
 -- Adding a block.
 
@@ -127,16 +127,24 @@ bothLinked L m a b =
       answer = link.Linked (subport# a (preparedOffset (firstEnd L m a))) (subport# b (preparedOffset (secondEnd L m a b)));
     }
 
-unfoldable pub linkPairUnder : Limits → MultiPortGraph → ℕ → ℕ → PortsLinked
-linkPairUnder L m a b = checked (linkRefusals L m a b) (λ l. record { graph = l .leaves; answer = link.Refused (l .refusal) }) (bothLinked L m a b)
+-- where this is whether 18 is given; with false it is the link without that check
+unfoldable pub linkPairIf : Bool → Limits → MultiPortGraph → ℕ → ℕ → PortsLinked
+linkPairIf taken L m a b =
+    checked (linkRefusals taken L m a b) (λ l. record { graph = l .leaves; answer = link.Refused (l .refusal) }) (bothLinked L m a b)
+
+abbrev pub linkPairUnder : Limits → MultiPortGraph → ℕ → ℕ → PortsLinked
+linkPairUnder L m a b = linkPairIf (inputTaken m a b) L m a b
 
 abbrev pub linkPair : MultiPortGraph → ℕ → ℕ → PortsLinked
 linkPair = linkPairUnder present
 
 -- and leaving no stub: the same is done after other refusals
-unfoldable pub linkCleanUnder : Limits → MultiPortGraph → ℕ → ℕ → PortsLinked
-linkCleanUnder L m a b =
-    checked (linkCleanRefusals L m a b) (λ l. record { graph = l .leaves; answer = link.Refused (l .refusal) }) (bothLinked L m a b)
+unfoldable pub linkCleanIf : Bool → Limits → MultiPortGraph → ℕ → ℕ → PortsLinked
+linkCleanIf taken L m a b =
+    checked (linkCleanRefusals taken L m a b) (λ l. record { graph = l .leaves; answer = link.Refused (l .refusal) }) (bothLinked L m a b)
+
+abbrev pub linkCleanUnder : Limits → MultiPortGraph → ℕ → ℕ → PortsLinked
+linkCleanUnder L m a b = linkCleanIf (inputTaken m a b) L m a b
 
 abbrev pub linkClean : MultiPortGraph → ℕ → ℕ → PortsLinked
 linkClean = linkCleanUnder present
@@ -150,10 +158,13 @@ joined m (lower-link.UnknownSecondPort y) g s t = record { graph = m; answer = l
 joined m (lower-link.IncompatibleDirections x y d) g s t = record { graph = m; answer = link.Refused (IncompatibleDirections x y d) }
 joined m (lower-link.AlreadyLinked x) g s t = record { graph = m; answer = link.Refused (AlreadyLinked x) }
 
-unfoldable pub linkSub : MultiPortGraph → ℕ → ℕ → ℕ → ℕ → PortsLinked
-linkSub m p o q r =
-    checked (linkSubRefusals m p o q r) (λ l. record { graph = l .leaves; answer = link.Refused (l .refusal) })
+unfoldable pub linkSubIf : Bool → MultiPortGraph → ℕ → ℕ → ℕ → ℕ → PortsLinked
+linkSubIf taken m p o q r =
+    checked (linkSubRefusals taken m p o q r) (λ l. record { graph = l .leaves; answer = link.Refused (l .refusal) })
     (joined m (joining m p o q r) (linkPorts (m .graph) (endOf m p o) (endOf m q r) .graph) (asRead m p o) (asRead m q r))
+
+abbrev pub linkSub : MultiPortGraph → ℕ → ℕ → ℕ → ℕ → PortsLinked
+linkSub m p o q r = linkSubIf (inputTaken m p q) m p o q r
 
 -- Cutting.
 
@@ -171,12 +182,6 @@ cutPort m p =
     (record { graph = unsplit m p; answer = cutting.Found (subport# p 0) (standing m (subport# p 0)) })
     (record { graph = withGraph m (unlinkPort (m .graph) p .graph); answer = cutPlain m (unlinkPort (m .graph) p .answer) }))
 
--- the subport at the far end, and where it stands
-abbrev pub farSubport : MultiPortGraph → PortLink → CutAnswer
-farSubport m (lower-cut.Linked q) = cutting.Found (subportOf m (q .0)) (standingOf m (q .0))
-farSubport m lower-cut.Unlinked = cutting.Nothing
-farSubport m (lower-cut.UnknownPort p) = cutting.Nothing
-
 unfoldable pub cutSub : MultiPortGraph → ℕ → ℕ → PortUnlinked
 cutSub m p o =
     checked (subportRefusals m p o) (λ l. record { graph = l .leaves; answer = cutting.Refused (l .refusal) })
@@ -186,11 +191,6 @@ cutSub m p o =
     })
 
 -- Reading.
-
--- what an end is linked with; 9 where a split port has no such offset
-abbrev pub linkOfEnd : MultiPortGraph → ℕ → End → CutAnswer
-linkOfEnd m p lacking = cutting.Refused (UnknownOffset (port# p))
-linkOfEnd m p (inner x) = farSubport m (portLink (m .graph) x)
 
 -- what a subport is linked with
 unfoldable pub subportLink : MultiPortGraph → ℕ → ℕ → CutAnswer

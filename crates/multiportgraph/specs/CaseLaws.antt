@@ -22,8 +22,8 @@ use Rattle.multiportgraph.specs.Reading.{sideOf, isHidden, isSplit, Port
 use Rattle.multiportgraph.specs.Graph.{withGraph}
 use Rattle.multiportgraph.specs.HiddenNodes.{Prepared, ready, full, prepareUnder}
 use Rattle.multiportgraph.specs.Refusals.{goodOffset, innerPort, endOf, joining, onOneSide, oneLinked, refusedBelow}
-use Rattle.multiportgraph.specs.Calls.{joined, addedAs, addBlockUnder, removeBlock, setCountsUnder, linkSub, cutPort, cutSub, subportLink, linkPairUnder, linkCleanUnder}
-use Rattle.multiportgraph.specs.Cases.{removeMeta, setRefused, setMetaUnder, linkRefused, linkPrepared, linkSecond, linkFirst, linkSeenUnder, linkInner, linkSecondEnd, linkFirstEnd, linkSubSeen, cutRefused, cutSeen, cutSubSeen, linkOfSeen, linkLiveUnder, pairSeen, linkCleanBy}
+use Rattle.multiportgraph.specs.Calls.{joined, addedAs, addBlockUnder, removeBlock, setCountsUnder, cutPort, cutSub, subportLink, linkPairIf, linkCleanIf, linkSubIf}
+use Rattle.multiportgraph.specs.Cases.{removeMeta, setRefused, setMetaUnder, linkRefused, linkPrepared, linkSecond, linkFirst, linkSeenUnder, linkInner, linkSecondEnd, linkFirstEnd, linkSubSeen, cutRefused, cutSeen, cutSubSeen, linkOfSeen, linkLiveUnder, pairSeen, linkCleanBy, takenSeen, takenSecond, takenFirst, takenSubSeen}
 use Rattle.multiportgraph.specs.declared.multiportgraph.MultiPortGraph.{MultiPortGraph}
 use Rattle.multiportgraph.specs.declared.multiportgraph.SubportIndex.{SubportIndex}
 use Rattle.multiportgraph.specs.declared.multiportgraph.NodeAdded.{NodeAdded}
@@ -33,7 +33,7 @@ use Rattle.multiportgraph.specs.declared.multiportgraph.PortsLinked.{Por
 use Rattle.multiportgraph.specs.declared.multiportgraph.PortUnlinked.{PortUnlinked}
 use Rattle.multiportgraph.specs.declared.multiportgraph.CutAnswer.{CutAnswer}
 use Rattle.multiportgraph.specs.declared.multiportgraph.CutAnswer.the-variants as cutting
-use Rattle.multiportgraph.specs.declared.multiportgraph.Refusal.the-variants.{BadOffset, TooManyPorts}
+use Rattle.multiportgraph.specs.declared.multiportgraph.Refusal.the-variants.{BadOffset, TooManyPorts, InputWired}
 
 module _ (m : MultiPortGraph) (p : ℕ) where
   pub cut-cases : cutPort m p ≡ cutSeen m p (seen m p)
@@ -139,47 +139,70 @@ module _ (L : Limits) (m : MultiPortGraph) where
                               block found.NoRoom w = rw (h, e, f, l, s, u, w) refl
                               block (found.At first) w = rw (h, e, f, l, s, u, w) refl
 
-  pub link-cases : (a b : ℕ) → linkPairUnder L m a b ≡ linkSeenUnder L m a b (seen m a) (seen m b)
-  unfolding linkPairUnder
+  pub link-cases : (a b : ℕ) → linkPairIf false L m a b ≡ linkSeenUnder L m a b (seen m a) (seen m b)
+  unfolding linkPairIf
   link-cases a b = go (seen m a) refl (seen m b) refl
     where
-      go : (u : Port) → seen m a ≡ u → (v : Port) → seen m b ≡ v → linkPairUnder L m a b ≡ linkSeenUnder L m a b u v
+      go : (u : Port) → seen m a ≡ u → (v : Port) → seen m b ≡ v → linkPairIf false L m a b ≡ linkSeenUnder L m a b u v
       go dead e v f = rw e refl
       go hidden e v f = rw e refl
       go (visible n d) e hidden f = rw (e, f) refl
       go (visible n d) e dead f = first (prepareUnder L m a d) refl
         where
-          first : (P : Prepared) → prepareUnder L m a d ≡ P → linkPairUnder L m a b ≡ linkFirst m b P
+          first : (P : Prepared) → prepareUnder L m a d ≡ P → linkPairIf false L m a b ≡ linkFirst m b P
           first full h = rw (e, f, h) refl
           first (ready m₁ x o) h = rw (e, f, h) refl
       go (visible n d) e (visible k s) f = first (prepareUnder L m a d) refl
         where
-          first : (P : Prepared) → prepareUnder L m a d ≡ P → linkPairUnder L m a b ≡ linkLiveUnder L m a d b s P
+          first : (P : Prepared) → prepareUnder L m a d ≡ P → linkPairIf false L m a b ≡ linkLiveUnder L m a d b s P
           first full h = rw (e, f, h) refl
           first (ready m₁ x o) h = second (prepareUnder L m₁ b s) refl
             where
-              second : (Q : Prepared) → prepareUnder L m₁ b s ≡ Q → linkPairUnder L m a b ≡ linkSecond m a d x o b s Q
+              second : (Q : Prepared) → prepareUnder L m₁ b s ≡ Q → linkPairIf false L m a b ≡ linkSecond m a d x o b s Q
               second full i = rw (e, f, h, i) refl
               second (ready m₂ y r) i = sides (sameSide d s) refl
                 where
-                  sides : (c : Bool) → sameSide d s ≡ c → linkPairUnder L m a b ≡ linkPrepared m₂ a d x o b s y r
+                  sides : (c : Bool) → sameSide d s ≡ c → linkPairIf false L m a b ≡ linkPrepared m₂ a d x o b s y r
                   sides true j = rw (e, f, h, i, j) refl
                   sides false j = rw (e, f, h, i, j) refl
 
+  -- where an input named has a wire, under release 2
+  pub link-taken : (a b : ℕ) → linkPairIf true L m a b ≡ linkRefused m (takenSeen a b (seen m a) (seen m b))
+  unfolding linkPairIf
+  link-taken a b = go (seen m a) refl (seen m b) refl
+    where
+      go : (u : Port) → seen m a ≡ u → (v : Port) → seen m b ≡ v → linkPairIf true L m a b ≡ linkRefused m (takenSeen a b u v)
+      go dead e v f = rw e refl
+      go hidden e v f = rw e refl
+      go (visible n d) e hidden f = rw (e, f) refl
+      go (visible n d) e dead f = rw (e, f) refl
+      go (visible n d) e (visible k s) f = rw (e, f) refl
+
   -- leaving no stub
   module _ (a b : ℕ) where
-    pub link-clean-cases : linkCleanUnder L m a b ≡ linkCleanBy L m a b (pairSeen a b (seen m a) (seen m b))
-    unfolding linkCleanUnder linkPairUnder
+    pub link-clean-taken : linkCleanIf true L m a b ≡ linkRefused m (takenSeen a b (seen m a) (seen m b))
+    unfolding linkCleanIf
+    link-clean-taken = go (seen m a) refl (seen m b) refl
+      where
+        go : (u : Port) → seen m a ≡ u → (v : Port) → seen m b ≡ v → linkCleanIf true L m a b ≡ linkRefused m (takenSeen a b u v)
+        go dead e v f = rw e refl
+        go hidden e v f = rw e refl
+        go (visible n d) e hidden f = rw (e, f) refl
+        go (visible n d) e dead f = rw (e, f) refl
+        go (visible n d) e (visible k s) f = rw (e, f) refl
+
+    pub link-clean-cases : linkCleanIf false L m a b ≡ linkCleanBy L m a b (pairSeen a b (seen m a) (seen m b))
+    unfolding linkCleanIf linkPairIf
     link-clean-cases = go (seen m a) refl (seen m b) refl
       where
-        go : (u : Port) → seen m a ≡ u → (v : Port) → seen m b ≡ v → linkCleanUnder L m a b ≡ linkCleanBy L m a b (pairSeen a b u v)
+        go : (u : Port) → seen m a ≡ u → (v : Port) → seen m b ≡ v → linkCleanIf false L m a b ≡ linkCleanBy L m a b (pairSeen a b u v)
         go dead e v f = rw e refl
         go hidden e v f = rw e refl
         go (visible n d) e hidden f = rw (e, f) refl
         go (visible n d) e dead f = rw (e, f) refl
         go (visible n d) e (visible k s) f = sides (sameSide d s) refl
           where
-            sides : (c : Bool) → sameSide d s ≡ c → linkCleanUnder L m a b ≡ linkCleanBy L m a b (pairSeen a b (visible n d) (visible k s))
+            sides : (c : Bool) → sameSide d s ≡ c → linkCleanIf false L m a b ≡ linkCleanBy L m a b (pairSeen a b (visible n d) (visible k s))
             sides true j = rw (e, f, j) refl
             sides false j = rw (e, f, j, e, f, j) refl
 
@@ -201,35 +224,35 @@ join-cases m (lower-link.IncompatibleDirections x y d) g s t = refl
 join-cases m (lower-link.AlreadyLinked x) g s t = refl
 
 pub link-sub-cases : (m : MultiPortGraph) (p o q r : ℕ) →
-    linkSub m p o q r ≡ cond (goodOffset o) (cond (goodOffset r) (linkSubSeen m p o q r (seen m p) (seen m q)) (linkRefused m BadOffset)) (linkRefused m BadOffset)
-unfolding linkSub
+    linkSubIf false m p o q r ≡ cond (goodOffset o) (cond (goodOffset r) (linkSubSeen m p o q r (seen m p) (seen m q)) (linkRefused m BadOffset)) (linkRefused m BadOffset)
+unfolding linkSubIf
 link-sub-cases m p o q r = first (goodOffset o) refl
   where
     first : (g : Bool) → goodOffset o ≡ g →
-        linkSub m p o q r ≡ cond g (cond (goodOffset r) (linkSubSeen m p o q r (seen m p) (seen m q)) (linkRefused m BadOffset)) (linkRefused m BadOffset)
+        linkSubIf false m p o q r ≡ cond g (cond (goodOffset r) (linkSubSeen m p o q r (seen m p) (seen m q)) (linkRefused m BadOffset)) (linkRefused m BadOffset)
     first false h = rw h refl
     first true h = second (goodOffset r) refl
       where
-        second : (g : Bool) → goodOffset r ≡ g → linkSub m p o q r ≡ cond g (linkSubSeen m p o q r (seen m p) (seen m q)) (linkRefused m BadOffset)
+        second : (g : Bool) → goodOffset r ≡ g → linkSubIf false m p o q r ≡ cond g (linkSubSeen m p o q r (seen m p) (seen m q)) (linkRefused m BadOffset)
         second false k = rw (h, k) refl
         second true k = go (seen m p) refl (seen m q) refl
           where
-            go : (u : Port) → seen m p ≡ u → (v : Port) → seen m q ≡ v → linkSub m p o q r ≡ linkSubSeen m p o q r u v
+            go : (u : Port) → seen m p ≡ u → (v : Port) → seen m q ≡ v → linkSubIf false m p o q r ≡ linkSubSeen m p o q r u v
             go dead e v f = rw (h, k, e) refl
             go hidden e v f = rw (h, k, e) refl
             go (visible n d) e hidden f = rw (h, k, e, f) refl
             go (visible n d) e dead f = there (endAt m p d o) refl
               where
-                there : (x : End) → endAt m p d o ≡ x → linkSub m p o q r ≡ linkFirstEnd m p o q r dead x
+                there : (x : End) → endAt m p d o ≡ x → linkSubIf false m p o q r ≡ linkFirstEnd m p o q r dead x
                 there lacking i = rw (h, k, e, f, i) refl
                 there (inner x) i = rw (h, k, e, f, i) refl
             go (visible n d) e (visible s c) f = there (endAt m p d o) refl
               where
-                there : (x : End) → endAt m p d o ≡ x → linkSub m p o q r ≡ linkFirstEnd m p o q r (visible s c) x
+                there : (x : End) → endAt m p d o ≡ x → linkSubIf false m p o q r ≡ linkFirstEnd m p o q r (visible s c) x
                 there lacking i = rw (h, k, e, f, i) refl
                 there (inner x) i = also (endAt m q c r) refl
                   where
-                    also : (y : End) → endAt m q c r ≡ y → linkSub m p o q r ≡ linkSecondEnd m p o q r x y
+                    also : (y : End) → endAt m q c r ≡ y → linkSubIf false m p o q r ≡ linkSecondEnd m p o q r x y
                     also lacking j = rw (h, k, e, f, i, j) refl
                     also (inner y) j =
                         let xs : endOf m p o ≡ x = ap (λ (u : Port). innerPort (endAt m p (sideOf u) o)) e ∙ ap innerPort i in
@@ -237,3 +260,37 @@ link-sub-cases m p o q r = first (goodOffset o) refl
                         rw (h, k, e, f, i, j)
                         (join-cases m (joining m p o q r) (linkPorts (m .graph) x y .graph) (asRead m p o) (asRead m q r)
                         ∙ (λ z. linkInner m (asRead m p o) (asRead m q r) (linkPorts (m .graph) (xs z) (ys z) .answer) (linkPorts (m .graph) x y .graph)))
+
+pub link-sub-taken : (m : MultiPortGraph) (p o q r : ℕ) →
+    linkSubIf true m p o q r
+    ≡ linkRefused m (cond (goodOffset o) (cond (goodOffset r) (takenSubSeen m p o q r (seen m p) (seen m q)) BadOffset) BadOffset)
+unfolding linkSubIf
+link-sub-taken m p o q r = first (goodOffset o) refl
+  where
+    first : (g : Bool) → goodOffset o ≡ g →
+        linkSubIf true m p o q r ≡ linkRefused m (cond g (cond (goodOffset r) (takenSubSeen m p o q r (seen m p) (seen m q)) BadOffset) BadOffset)
+    first false h = rw h refl
+    first true h = second (goodOffset r) refl
+      where
+        second : (g : Bool) → goodOffset r ≡ g → linkSubIf true m p o q r ≡ linkRefused m (cond g (takenSubSeen m p o q r (seen m p) (seen m q)) BadOffset)
+        second false k = rw (h, k) refl
+        second true k = go (seen m p) refl (seen m q) refl
+          where
+            go : (u : Port) → seen m p ≡ u → (v : Port) → seen m q ≡ v → linkSubIf true m p o q r ≡ linkRefused m (takenSubSeen m p o q r u v)
+            go dead e v f = rw (h, k, e) refl
+            go hidden e v f = rw (h, k, e) refl
+            go (visible n d) e hidden f = rw (h, k, e, f) refl
+            go (visible n d) e dead f = there (endAt m p d o) refl
+              where
+                there : (x : End) → endAt m p d o ≡ x → linkSubIf true m p o q r ≡ linkRefused m (takenFirst p InputWired x)
+                there lacking i = rw (h, k, e, f, i) refl
+                there (inner x) i = rw (h, k, e, f, i) refl
+            go (visible n d) e (visible s c) f = there (endAt m p d o) refl
+              where
+                there : (x : End) → endAt m p d o ≡ x → linkSubIf true m p o q r ≡ linkRefused m (takenFirst p (takenSecond q (endAt m q c r)) x)
+                there lacking i = rw (h, k, e, f, i) refl
+                there (inner x) i = also (endAt m q c r) refl
+                  where
+                    also : (y : End) → endAt m q c r ≡ y → linkSubIf true m p o q r ≡ linkRefused m (takenSecond q y)
+                    also lacking j = rw (h, k, e, f, i, j) refl
+                    also (inner y) j = rw (h, k, e, f, i, j) refl

@@ -44,7 +44,7 @@ pub copy-removed :
     t₃ ≡ putFlag (m .«copy_node») nodeSlots w₃ false →
     copies ≡ m .«copy_node_count» - 1 →
     subs ≡ m .«subport_count» - count →
-    _≡_ {A = MultiPortGraph} (multi (r .graph) t₂ t₃ copies subs) (removeCopy m p n)
+    _≡_ {A = MultiPortGraph} (multi (r .graph) t₂ t₃ copies subs (m .release)) (removeCopy m p n)
 unfolding removeCopy
 copy-removed m p n {side} {back} {copy} {count} {w₁} {w₂} {w₃} {copies} {subs} {r} {t₁} {t₂} {t₃} long flags e₁ e₂ e₃ e₄ e₅ e₆ e₇ e₈ e₉ f₁ f₂ f₃ f₄ =
     let marks-is : t₂ ≡ set (set (m .multiport) (portOf (m .graph) n (copySide m n) 0) false) p false = rw (e₉, e₇, e₈, e₆, e₂, e₁) (two-puts (m .multiport) portSlots _ p false false long) in
@@ -65,7 +65,7 @@ unsplit-plain m p s = ap (λ (b : Bool). cond b (removeCopy m p (copyNode m p)) 
 -- the graph with another lower graph and other marks
 abbrev pub remarked : MultiPortGraph → PortGraph → List Bool → MultiPortGraph
 remarked m g t =
-    multi g t (m .«copy_node») (m .«copy_node_count») (m .«subport_count»)
+    multi g t (m .«copy_node») (m .«copy_node_count») (m .«subport_count») (m .release)
 
 pub recount-none : (m : MultiPortGraph) (n : ℕ) (g : PortGraph) → maybe-meta.None ≡ metaAt (m .graph) n → remarked m g (m .multiport) ≡ recounted m n g
 unfolding recounted

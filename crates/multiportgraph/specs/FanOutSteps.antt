@@ -191,7 +191,7 @@ module _ (m : MultiPortGraph) (w : MultiWf m) (p n : ℕ) (d : Direction) (s : s
       let a : p + 0 ≡ p = omega arith in
       rw (mark-told m w p, t, c, f, a) (omega arith)
 
-  wires-told : told ≡ fanOut m p
+  pub wires-told : told ≡ fanOut m p
   unfolding fanOut
   wires-told = go (isSplit m p) refl
     where

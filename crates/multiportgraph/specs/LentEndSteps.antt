@@ -54,7 +54,7 @@ use Rattle.multiportgraph.specs.HiddenNodes.{grow, prepare}
 use Rattle.multiportgraph.specs.Cases.{linkRefused, linkSecond, linkFirst, linkLive, linkSeen}
 use Rattle.multiportgraph.specs.CaseLaws.{link-cases}
 use Rattle.multiportgraph.specs.Presumed.{OnBlock, BothOnBlock, GrowPort, FirstReady}
-use Rattle.multiportgraph.specs.Calls.{linkPair, linkPairUnder}
+use Rattle.multiportgraph.specs.Calls.{linkPairIf}
 
 -- One more subport.
 
@@ -113,7 +113,7 @@ module _ (nodes links owners heads : List ℕ) (marks flags : List Bool) (held :
         w₃ ≡ far →
         t₂ ≡ putFlag t₁ portSlots w₃ true →
         new ≡ lastBeside d far count →
-        _≡_ {A = Prepared} (record { graph = multiIn nodes₁ links₁ owners₁ heads₁ t₂ flags (record { counts = counts₁; copies = held .copies; subs = held .subs + 1 }); port = new; offset = count; ready = true })
+        _≡_ {A = Prepared} (record { graph = multiIn nodes₁ links₁ owners₁ heads₁ t₂ flags (record { counts = counts₁; copies = held .copies; subs = held .subs + 1; release = held .release }); port = new; offset = count; ready = true })
         (preparedAs whole (grow whole c d))
     grow-done-in k₁ k₂ k₃ k₄ k₅ k₆ k₇ =
         grow-done growing {r = record { graph = graphIn nodes₁ links₁ owners₁ heads₁ counts₁; answer = a }} f₁ f₂ refl (λ v. record { graph = f₄ v; answer = f₅ v }) t k₁ k₂ k₃ k₄ k₅ k₆
@@ -242,24 +242,24 @@ module _ (nodes links owners heads : List ℕ) (marks flags : List Bool) (held :
 -- How the ports are seen.
 
 module _ (m : MultiPortGraph) (a b : ℕ) {s : SeenPort} (ea : s ≡ seenAs (seen m a)) where
-  pub call-unknown : s ≡ seen-port.Dead → (m ≡ linkPair m a b .graph) × (link.Refused (UnknownPort (port# a)) ≡ linkPair m a b .answer)
-  unfolding linkPairUnder
+  pub call-unknown : s ≡ seen-port.Dead → (m ≡ linkPairIf false present m a b .graph) × (link.Refused (UnknownPort (port# a)) ≡ linkPairIf false present m a b .answer)
+  unfolding linkPairIf
   call-unknown t = let q = seen-told (seen m a) ea t in link-parts (rw q)
 
-  pub call-hidden : s ≡ seen-port.Hidden → (m ≡ linkPair m a b .graph) × (link.Refused (HiddenPort (port# a)) ≡ linkPair m a b .answer)
-  unfolding linkPairUnder
+  pub call-hidden : s ≡ seen-port.Hidden → (m ≡ linkPairIf false present m a b .graph) × (link.Refused (HiddenPort (port# a)) ≡ linkPairIf false present m a b .answer)
+  unfolding linkPairIf
   call-hidden t = let q = seen-told (seen m a) ea t in link-parts (rw q)
 
 module _ {m : MultiPortGraph} {a : ℕ} (b : ℕ) {d : Direction} (w : OnBlock m a d) {s : SeenPort} (eb : s ≡ seenAs (seen m b)) where
-  pub call-first : s ≡ seen-port.Dead → {g : MultiPortGraph} {y : LinkAnswer} → (g ≡ linkFirst m b (prepare m a d) .graph) × (y ≡ linkFirst m b (prepare m a d) .answer) → (g ≡ linkPair m a b .graph) × (y ≡ linkPair m a b .answer)
+  pub call-first : s ≡ seen-port.Dead → {g : MultiPortGraph} {y : LinkAnswer} → (g ≡ linkFirst m b (prepare m a d) .graph) × (y ≡ linkFirst m b (prepare m a d) .answer) → (g ≡ linkPairIf false present m a b .graph) × (y ≡ linkPairIf false present m a b .answer)
   call-first t h =
       let p = w .is in
       let q = seen-told (seen m b) eb t in
-      let z : linkFirst m b (prepare m a d) ≡ linkPair m a b = (λ i. linkSeen m a b (sym p i) (sym q i)) ∙ sym (link-cases present m a b) in
+      let z : linkFirst m b (prepare m a d) ≡ linkPairIf false present m a b = (λ i. linkSeen m a b (sym p i) (sym q i)) ∙ sym (link-cases present m a b) in
       (h .0 ∙ ap (λ (l : PortsLinked). l .graph) z, h .1 ∙ ap (λ (l : PortsLinked). l .answer) z)
 
-  pub call-second-hidden : s ≡ seen-port.Hidden → (m ≡ linkPair m a b .graph) × (link.Refused (HiddenPort (port# b)) ≡ linkPair m a b .answer)
-  unfolding linkPairUnder
+  pub call-second-hidden : s ≡ seen-port.Hidden → (m ≡ linkPairIf false present m a b .graph) × (link.Refused (HiddenPort (port# b)) ≡ linkPairIf false present m a b .answer)
+  unfolding linkPairIf
   call-second-hidden t = let p = w .is in let q = seen-told (seen m b) eb t in link-parts (rw (p, q))
 
   module _ {n : NodeIndex} {e : Direction} (t : s ≡ seen-port.Visible n e) where
@@ -269,15 +269,15 @@ module _ {m : MultiPortGraph} {a : ℕ} (b : ℕ) {d : Direction} (w : OnBlock m
     pub both-on : BothOnBlock m a d b e
     both-on = record { first = w; second = second-on }
 
-    pub call-both : {g : MultiPortGraph} {y : LinkAnswer} → (g ≡ linkLive m a d b e (prepare m a d) .graph) × (y ≡ linkLive m a d b e (prepare m a d) .answer) → (g ≡ linkPair m a b .graph) × (y ≡ linkPair m a b .answer)
+    pub call-both : {g : MultiPortGraph} {y : LinkAnswer} → (g ≡ linkLive m a d b e (prepare m a d) .graph) × (y ≡ linkLive m a d b e (prepare m a d) .answer) → (g ≡ linkPairIf false present m a b .graph) × (y ≡ linkPairIf false present m a b .answer)
     call-both h =
         let p = w .is in
         let q = seen-told (seen m b) eb t in
-        let z : linkLive m a d b e (prepare m a d) ≡ linkPair m a b = (λ i. linkSeen m a b (sym p i) (sym q i)) ∙ sym (link-cases present m a b) in
+        let z : linkLive m a d b e (prepare m a d) ≡ linkPairIf false present m a b = (λ i. linkSeen m a b (sym p i) (sym q i)) ∙ sym (link-cases present m a b) in
         (h .0 ∙ ap (λ (l : PortsLinked). l .graph) z, h .1 ∙ ap (λ (l : PortsLinked). l .answer) z)
 
     -- a port with itself has one side
-    pub call-self : a ≡ b → {g : MultiPortGraph} {y : LinkAnswer} → (g ≡ linkLive m a d a d (prepare m a d) .graph) × (y ≡ linkLive m a d a d (prepare m a d) .answer) → (g ≡ linkPair m a b .graph) × (y ≡ linkPair m a b .answer)
+    pub call-self : a ≡ b → {g : MultiPortGraph} {y : LinkAnswer} → (g ≡ linkLive m a d a d (prepare m a d) .graph) × (y ≡ linkLive m a d a d (prepare m a d) .answer) → (g ≡ linkPairIf false present m a b .graph) × (y ≡ linkPairIf false present m a b .answer)
     call-self r h =
         let p = w .is in
         let q = seen-told (seen m b) eb t in

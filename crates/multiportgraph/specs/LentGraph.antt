@@ -13,12 +13,12 @@ use Rattle.multiportgraph.specs.declared.multiportgraph.MultiPortGraph.{
 use Rattle.multiportgraph.specs.declared.lent.Held.{Held}
 
 pub multi-made : (nodes links owners heads : List ℕ) (marks flags : List Bool) (held : Held) (g : PortGraph) → g ≡ graphIn nodes links owners heads (held .counts)
-    → _≡_ {A = MultiPortGraph} (multi g marks flags (held .copies) (held .subs)) (multiIn nodes links owners heads marks flags held)
+    → _≡_ {A = MultiPortGraph} (multi g marks flags (held .copies) (held .subs) (held .release)) (multiIn nodes links owners heads marks flags held)
 multi-made nodes links owners heads marks flags held g e =
-    ap (λ (x : PortGraph). multi x marks flags (held .copies) (held .subs)) e
+    ap (λ (x : PortGraph). multi x marks flags (held .copies) (held .subs) (held .release)) e
 
 pub multi-stored : (m : MultiPortGraph) (nodes links owners heads : List ℕ) (counts : Counts) → graphIn nodes links owners heads counts ≡ m .graph
-    → multiIn nodes links owners heads (m .multiport) (m .«copy_node») (record { counts = counts; copies = m .«copy_node_count»; subs = m .«subport_count» }) ≡ m
+    → multiIn nodes links owners heads (m .multiport) (m .«copy_node») (record { counts = counts; copies = m .«copy_node_count»; subs = m .«subport_count»; release = m .release }) ≡ m
 multi-stored m nodes links owners heads counts e =
     ap (λ (x : PortGraph). withGraph m x) e
 
@@ -37,6 +37,7 @@ heldOf m =
           };
       copies = m .«copy_node_count»;
       subs = m .«subport_count»;
+      release = m .release;
     }
 
 -- a node table stored as numbers, with the graph's other tables, is the graph

@@ -29,13 +29,14 @@ use Rattle.multiportgraph.specs.BlockSteps.{wf-remove-copy}
 use Rattle.multiportgraph.specs.Reads.{farIn, ownerIn}
 use Rattle.multiportgraph.specs.MultiLent.{multiIn, noHeld, portOfIn, copySideIn, farEntry, farPortIn, copyNodeIn, Sound}
 use Rattle.multiportgraph.specs.declared.multiportgraph.MultiPortGraph.{MultiPortGraph}
+use Rattle.multiportgraph.specs.declared.multiportgraph.Release.{Release}
 use Rattle.multiportgraph.specs.declared.lent.Held.{Held}
 use Rattle.multiportgraph.specs.Graph.{emptyGraph}
 use Rattle.multiportgraph.specs.HiddenNodes.{removeCopy, removeLone, unsplit}
 
 -- tables without anything are the empty graph
-pub empty-in : multiIn (replicate nodeWords 0) (replicate portSlots 0) (replicate portSlots 0) (replicate freeLists 0) (replicate portSlots false) (replicate nodeSlots false) noHeld ≡ emptyGraph
-empty-in = empty-made _ zeros-are-new
+pub empty-in : (release : Release) → multiIn (replicate nodeWords 0) (replicate portSlots 0) (replicate portSlots 0) (replicate freeLists 0) (replicate portSlots false) (replicate nodeSlots false) (noHeld release) ≡ emptyGraph release
+empty-in release = empty-made release _ zeros-are-new
 
 -- What is read.
 module _ (nodes links owners heads : List ℕ) (marks flags : List Bool) (held : Held) where

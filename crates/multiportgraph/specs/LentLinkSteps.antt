@@ -119,7 +119,7 @@ module _ (nodes links owners heads : List ℕ) (marks flags : List Bool) (held :
             t₂ ≡ putFlag t₁ portSlots w₂ true →
             w₃ ≡ n .0 →
             t₃ ≡ putFlag flags nodeSlots w₃ true →
-            held′ ≡ heldLinks (record { counts = counts₁; copies = held .copies + 1; subs = held .subs + 2 }) (left + 2) →
+            held′ ≡ heldLinks (record { counts = counts₁; copies = held .copies + 1; subs = held .subs + 2; release = held .release }) (left + 2) →
             _≡_ {A = Prepared} (record { graph = multiIn nodes₁ links₂ owners₁ heads₁ t₂ t₃ held′; port = old + 1; offset = 1; ready = true })
             (preparedAs (multiIn nodes links owners heads marks flags held) (split (multiIn nodes links owners heads marks flags held) p d))
         split-done-in {old = old} {links₂ = links₂} {t₂ = t₂} {t₃ = t₃} c₁ c₂ c₃ c₄ c₅ c₆ c₇ k₁ k₂ k₃ k₄ k₅ k₆ h =

@@ -38,7 +38,7 @@ use Rattle.portgraph.specs.declared.resize.SetAnswer as lower-set
 use Rattle.portgraph.specs.declared.resize.SetAnswer.the-variants as lower-set-variants
 use Rattle.multiportgraph.specs.Reading.{portNumber, isHidden, isSplit, copyNode, subport#}
 use Rattle.multiportgraph.specs.Reads.{farIn, ownerIn, wireIn, wireEndIn}
-use Rattle.multiportgraph.specs.Calls.{addedAs, addBlock, removeBlock, cutPort, cutSub, linkSub, subportLink}
+use Rattle.multiportgraph.specs.Calls.{addedAs, addBlock, removeBlock, cutPort, cutSub, linkSubIf, subportLink}
 use Rattle.multiportgraph.specs.Forms.{flagAt, putFlag}
 use Rattle.multiportgraph.specs.FormSteps.{flag-is}
 use Rattle.multiportgraph.specs.CallSteps.{block-added}
@@ -131,14 +131,14 @@ module _ (nodes links owners heads : List ℕ) (marks flags : List Bool) (held :
     -- two ends are linked, or refused
     module _ (p o q r : ℕ) {e : NamedLink} (is : e ≡ linkNamed marks links owners flags p o q r) where
       pub link-refused-in : {x : Refusal} → e ≡ ends.Refused x →
-          (multiIn nodes links owners heads marks flags held ≡ linkSub (multiIn nodes links owners heads marks flags held) p o q r .graph)
-          × (link.Refused x ≡ linkSub (multiIn nodes links owners heads marks flags held) p o q r .answer)
+          (multiIn nodes links owners heads marks flags held ≡ linkSubIf false (multiIn nodes links owners heads marks flags held) p o q r .graph)
+          × (link.Refused x ≡ linkSubIf false (multiIn nodes links owners heads marks flags held) p o q r .answer)
       link-refused-in t = link-parts (link-done w p o q r is t refl refl refl)
 
       pub link-made-in : {x y n : ℕ} {s t : SubportIndex} {links′ : List ℕ} {held′ : Held} → e ≡ ends.Ends x y → s ≡ readIn marks p o → t ≡ readIn marks q r →
           links′ ≡ linkBoth links x y → n ≡ held .counts .«link_count» + 1 → held′ ≡ heldLinks held n →
-          (multiIn nodes links′ owners heads marks flags held′ ≡ linkSub (multiIn nodes links owners heads marks flags held) p o q r .graph)
-          × (link.Linked s t ≡ linkSub (multiIn nodes links owners heads marks flags held) p o q r .answer)
+          (multiIn nodes links′ owners heads marks flags held′ ≡ linkSubIf false (multiIn nodes links owners heads marks flags held) p o q r .graph)
+          × (link.Linked s t ≡ linkSubIf false (multiIn nodes links owners heads marks flags held) p o q r .answer)
       link-made-in {x} {y} {n} {s} {t} {links′} {held′} k a b c d h =
           let m = multiIn nodes links owners heads marks flags held in
           let z = join-made m x y {t = links′} c in
@@ -211,7 +211,7 @@ module _ (nodes links owners heads : List ℕ) (marks flags : List Bool) (held :
       t₃ ≡ putFlag flags nodeSlots w₃ false →
       copies ≡ held .copies - 1 →
       subs ≡ held .subs - count →
-      multiIn nodes′ links′ owners′ heads′ t₂ t₃ (record { counts = counts; copies = copies; subs = subs }) ≡ removeCopy (multiIn nodes links owners heads marks flags held) p n
+      multiIn nodes′ links′ owners′ heads′ t₂ t₃ (record { counts = counts; copies = copies; subs = subs; release = held .release }) ≡ removeCopy (multiIn nodes links owners heads marks flags held) p n
   copy-removed-in p n nodes′ {links′} {owners′} {heads′} {counts} {a} {side} {back} {copy} {count} e₁ e₂ e₃ e₄ e₅ e₆ f₁ f₂ f₃ f₄ f₅ f₆ g₁ g₂ =
       let r : lower-removed.NodeRemoved = record { graph = graphIn nodes′ links′ owners′ heads′ counts; answer = a } in
       let whole : r ≡ removeNode (graphIn nodes links owners heads (held .counts)) n = λ j. record { graph = e₅ j; answer = e₆ j } in

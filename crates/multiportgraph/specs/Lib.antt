@@ -45,6 +45,7 @@ pub mod Scans
 pub mod WalkScans
 pub mod ListScans
 pub mod FanOutScans
+pub mod Inputs
 -- what MultiWf says, and the room behind 10
 pub mod Inner
 pub mod Space
@@ -91,6 +92,7 @@ pub mod WalkSteps
 pub mod LinkWalkSteps
 pub mod SubportSteps
 pub mod FanOutSteps
+pub mod InputSteps
 pub mod LentSteps
 pub mod LentEndSteps
 pub mod LentSetSteps

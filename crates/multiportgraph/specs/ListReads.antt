@@ -29,8 +29,8 @@ use Rattle.portgraph.specs.declared.iter.Sides.the-variants.{One}
 use Rattle.portgraph.specs.declared.node_entry.NodeMeta.{NodeMeta}
 use Rattle.portgraph.specs.declared.node_entry.MaybeNodeMeta.{MaybeNodeMeta}
 use Rattle.portgraph.specs.declared.node_entry.MaybeNodeMeta.the-variants as maybe-meta
-use Rattle.multiportgraph.specs.Reading.{ownerOf, positionOf, isHidden, isSplit, visible, seen, copyNode, copySide, subports, subportAt, inner, End, endAt, subport#, subportOf, standingOf}
-use Rattle.multiportgraph.specs.Calls.{farSubport, linkOfEnd, visibleNodes, visibleLinks}
+use Rattle.multiportgraph.specs.Reading.{ownerOf, positionOf, isHidden, isSplit, visible, seen, copyNode, copySide, subports, subportAt, inner, End, endAt, subport#, subportOf, standingOf, farSubport, linkOfEnd}
+use Rattle.multiportgraph.specs.Calls.{visibleNodes, visibleLinks}
 use Rattle.multiportgraph.specs.Wires.{isBlock, blocks, wireTo, wireOf, sideLinks, allWires, placeOf}
 use Rattle.multiportgraph.specs.Walks.{portLinks}
 use Rattle.multiportgraph.specs.Forms.{flagAt}

@@ -29,6 +29,7 @@ use Rattle.multiportgraph.specs.Inner.{MultiWf}
 use Rattle.multiportgraph.specs.Forms.{flagAt}
 use Rattle.multiportgraph.specs.Reads.{farIn, ownerIn}
 use Rattle.multiportgraph.specs.declared.multiportgraph.MultiPortGraph.{MultiPortGraph}
+use Rattle.multiportgraph.specs.declared.multiportgraph.Release.{Release}
 use Rattle.multiportgraph.specs.declared.prepare.Prepared.{Prepared}
 use Rattle.multiportgraph.specs.declared.lent.Held.{Held}
 use Rattle.multiportgraph.specs.declared.lent_prepare.PreparedIn.{PreparedIn}
@@ -37,15 +38,15 @@ use Rattle.multiportgraph.specs.HiddenNodes.{marksMoved, removeAll}
 -- the graph that lent tables and numbers are
 abbrev pub multiIn : List ℕ → List ℕ → List ℕ → List ℕ → List Bool → List Bool → Held → MultiPortGraph
 multiIn nodes links owners heads marks flags held =
-    multi (graphIn nodes links owners heads (held .counts)) marks flags (held .copies) (held .subs)
+    multi (graphIn nodes links owners heads (held .counts)) marks flags (held .copies) (held .subs) (held .release)
 
--- the numbers of the empty graph
-abbrev pub noHeld : Held
-noHeld = record { counts = noCounts; copies = 0; subs = 0 }
+-- the numbers of the empty graph that is made for a release
+abbrev pub noHeld : Release → Held
+noHeld release = record { counts = noCounts; copies = 0; subs = 0; release = release }
 
 -- the numbers with other counts of the single-link graph
 abbrev pub heldCounts : Held → Counts → Held
-heldCounts held counts = record { counts = counts; copies = held .copies; subs = held .subs }
+heldCounts held counts = record { counts = counts; copies = held .copies; subs = held .subs; release = held .release }
 
 -- the numbers with another number of links
 abbrev pub heldLinks : Held → ℕ → Held

@@ -29,10 +29,10 @@ use Rattle.portgraph.specs.declared.portgraph.PortsLinked as lower-linked
 use Rattle.portgraph.specs.declared.portgraph.PortUnlinked as lower-unlinked
 use Rattle.portgraph.specs.declared.portgraph.LinkAnswer.the-variants as lower-link
 use Rattle.portgraph.specs.declared.slots.NodeRemoved.{NodeRemoved}
-use Rattle.multiportgraph.specs.Reading.{isLinked, hasLink, isSplit, Port, dead, hidden, visible, seen, copyNode, subports, subportAt, End, inner, lacking, endAt, portOf, subport#, asRead, copySide, standingOf}
+use Rattle.multiportgraph.specs.Reading.{isLinked, hasLink, isSplit, Port, dead, hidden, visible, seen, copyNode, subports, subportAt, End, inner, lacking, endAt, portOf, subport#, asRead, copySide, standingOf, linkOfEnd, farSubport}
 use Rattle.multiportgraph.specs.HiddenNodes as hiding
 use Rattle.multiportgraph.specs.Cases as cases
-use Rattle.multiportgraph.specs.Calls.{subportLink, linkOfEnd, farSubport, cutSub, cutPlain, cutPort, linkSub, linkPair, linkPairUnder, linkClean}
+use Rattle.multiportgraph.specs.Calls.{subportLink, cutSub, cutPlain, cutPort, linkSubIf, linkPairIf, linkCleanIf}
 use Rattle.multiportgraph.specs.Forms.{preparedAs, seenAs, flagAt, putFlag, lowestUnlinked}
 use Rattle.multiportgraph.specs.Inner.{Fine, MultiWf}
 use Rattle.multiportgraph.specs.Ends.{BlockPort, block-seen, port-of, count-of}
@@ -196,7 +196,7 @@ module _ {m : MultiPortGraph} {M : Model} (f : Fine m M) where
         first-by n d e (visible k c) u (λ z. zero-is-not-one (cc)) (endAt m p d o) refl
         ∙ ap (λ (v : End). both (firstOr (m .multiport) (m .graph .«port_link») (m .graph .«port_meta») (m .«copy_node») p q r d v)) (sym (end-read-off f p n d e o))
 
-    pub sub-of-named : linkSub m p o q r
+    pub sub-of-named : linkSubIf false m p o q r
         ≡ linkBy m (readIn (m .multiport) p o) (readIn (m .multiport) q r) (linkNamed (m .multiport) (m .graph .«port_link») (m .graph .«port_meta») (m .«copy_node») p o q r)
     unfolding linkNamed
     sub-of-named =
@@ -333,7 +333,7 @@ module _ {m : MultiPortGraph} (w : MultiWf m) where
     call-by (visible n d) dead e h = first-law n d e (needIn (m .multiport) (m .graph .«port_link») (m .graph .«port_meta») a d) (need-law a n d e)
     call-by (visible n d) (visible k c) e h = both-law n d e k c h (needIn (m .multiport) (m .graph .«port_link») (m .graph .«port_meta») a d) (needIn (m .multiport) (m .graph .«port_link») (m .graph .«port_meta») b c) (need-law a n d e) (need-law b k c h)
 
-    pub call-of-need : linkPair m a b ≡ linkedBy m a b (linkNeed (m .multiport) (m .graph .«port_link») (m .graph .«port_meta») (m .«copy_node») a b)
+    pub call-of-need : linkPairIf false present m a b ≡ linkedBy m a b (linkNeed (m .multiport) (m .graph .«port_link») (m .graph .«port_meta») (m .«copy_node») a b)
     unfolding linkNeed
     call-of-need =
         link-cases present m a b
@@ -427,7 +427,7 @@ pub copy-dropped :
     t₃ ≡ putFlag (m .«copy_node») nodeSlots w₃ false →
     copies ≡ m .«copy_node_count» - 1 →
     subs ≡ m .«subport_count» - count →
-    _≡_ {A = MultiPortGraph} (multi (r .graph) t₂ t₃ copies subs) (unsplit m p)
+    _≡_ {A = MultiPortGraph} (multi (r .graph) t₂ t₃ copies subs (m .release)) (unsplit m p)
 unfolding subports
 copy-dropped {m} {p} {d} b {copy} {node} {count} s e₀ e₁ e₂ e₃ e₄ f₁ f₂ f₃ f₄ f₅ f₆ g₁ g₂ =
     let f = b .wf .fine in
@@ -448,25 +448,25 @@ module _ {m : MultiPortGraph} (w : MultiWf m) where
     cut-done h = h ∙ (ap (cutNamed m) (sym told ∙ is) ∙ sym (cut-of-named (w .fine) p o))
 
   pub link-done : (p o q r : ℕ) {e v : NamedLink} {s t : SubportIndex} {l : PortsLinked} → e ≡ linkNamed (m .multiport) (m .graph .«port_link») (m .graph .«port_meta») (m .«copy_node») p o q r → e ≡ v →
-      s ≡ readIn (m .multiport) p o → t ≡ readIn (m .multiport) q r → l ≡ linkBy m s t v → l ≡ linkSub m p o q r
+      s ≡ readIn (m .multiport) p o → t ≡ readIn (m .multiport) q r → l ≡ linkBy m s t v → l ≡ linkSubIf false m p o q r
   link-done p o q r is told a b h = h ∙ ((λ i. linkBy m (a i) (b i) ((sym told ∙ is) i)) ∙ sym (sub-of-named (w .fine) p o q r))
 
   pub link-refused : (p o q r : ℕ) {e : NamedLink} (x : Refusal) → e ≡ linkNamed (m .multiport) (m .graph .«port_link») (m .graph .«port_meta») (m .«copy_node») p o q r → e ≡ ends.Refused x →
-      linkRefused m x ≡ linkSub m p o q r
+      linkRefused m x ≡ linkSubIf false m p o q r
   link-refused p o q r x is told = link-done p o q r is told refl refl refl
 
   pub call-done : (a b : ℕ) {e v : LinkNeed} {l : PortsLinked} → e ≡ linkNeed (m .multiport) (m .graph .«port_link») (m .graph .«port_meta») (m .«copy_node») a b → e ≡ v →
-      l ≡ linkedBy m a b v → l ≡ linkPair m a b
+      l ≡ linkedBy m a b v → l ≡ linkPairIf false present m a b
   call-done a b is told h = h ∙ (ap (linkedBy m a b) (sym told ∙ is) ∙ sym (call-of-need w a b))
 
   -- and leaving no stub
-  clean-of-pair : (a b : ℕ) → linkClean m a b ≡ linkCleanBy present m a b (pairNamed (m .graph .«port_meta») (m .«copy_node») a b)
+  clean-of-pair : (a b : ℕ) → linkCleanIf false present m a b ≡ linkCleanBy present m a b (pairNamed (m .graph .«port_meta») (m .«copy_node») a b)
   unfolding pairNamed
   clean-of-pair a b =
       link-clean-cases present m a b ∙ (λ i. linkCleanBy present m a b (pairSeen a b (sym (seen-read (w .fine) a) i) (sym (seen-read (w .fine) b) i)))
 
   pub clean-done : (a b : ℕ) {e v : NamedPair} {l : PortsLinked} → e ≡ pairNamed (m .graph .«port_meta») (m .«copy_node») a b → e ≡ v →
-      l ≡ linkCleanBy present m a b v → l ≡ linkClean m a b
+      l ≡ linkCleanBy present m a b v → l ≡ linkCleanIf false present m a b
   clean-done a b is told h = h ∙ (ap (linkCleanBy present m a b) (sym told ∙ is) ∙ sym (clean-of-pair a b))
 
 -- the link of an inner port is cut in the tables

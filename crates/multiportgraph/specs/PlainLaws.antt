@@ -33,12 +33,13 @@ use Rattle.portgraph.specs.declared.portgraph.PortLink.{PortLink}
 use Rattle.portgraph.specs.declared.portgraph.PortLink.the-variants as lower-cut
 use Rattle.portgraph.specs.declared.portgraph.LinkAnswer as lower-link-answer
 use Rattle.portgraph.specs.declared.portgraph.LinkAnswer.the-variants as lower-link
-use Rattle.multiportgraph.specs.Reading.{isHidden, isSplit, copySide, Port, dead, hidden, visible, seen, End, inner, lacking, endAt, asRead}
-use Rattle.multiportgraph.specs.Calls.{addBlock, addedAs, linkSub, cutSub, farSubport, addBlockUnder}
+use Rattle.multiportgraph.specs.Reading.{isHidden, isSplit, copySide, Port, dead, hidden, visible, seen, End, inner, lacking, endAt, asRead, farSubport}
+use Rattle.multiportgraph.specs.Calls.{addBlock, addedAs, linkSub, linkSubIf, cutSub, addBlockUnder}
 use Rattle.multiportgraph.specs.Inner.{copyPlace, Fine, BlockIs, Seen, outer, lift, IsEnd, WireIn, SameBlocks, Wiring, SameWires, none}
 use Rattle.multiportgraph.specs.Ends.{BlockPort, EndOf, block-seen, end-read, ends-join-ends, outer-apart}
 use Rattle.multiportgraph.specs.Frame.{same-wire, Alike, end-kept, kept-end, wire-kept, kept-wire, true-or-false, true-not-false, Frame, plain-frame, frame-fine, outer-kept, hidden-below, split-below}
 use Rattle.multiportgraph.specs.declared.multiportgraph.MultiPortGraph.{MultiPortGraph}
+use Rattle.multiportgraph.specs.declared.multiportgraph.Release.{Release}
 use Rattle.multiportgraph.specs.declared.multiportgraph.AddAnswer.{AddAnswer}
 use Rattle.multiportgraph.specs.declared.multiportgraph.AddAnswer.the-variants as add
 use Rattle.multiportgraph.specs.declared.multiportgraph.SubportIndex.{SubportIndex}
@@ -52,8 +53,8 @@ use Rattle.multiportgraph.specs.declared.multiportgraph.PortUnlinked.{Po
 use Rattle.multiportgraph.specs.Places.{Place, Wire, touches, wireOfSides, atSpot, atEnd, spot, flag}
 use Rattle.multiportgraph.specs.Graph.{withGraph, emptyGraph}
 use Rattle.multiportgraph.specs.Cases.{linkSubSeen, linkFirstEnd, linkSecondEnd, linkInner, linkRefused, cutSubSeen, cutEnd, cutRefused}
-use Rattle.multiportgraph.specs.Refusals.{goodOffset}
-use Rattle.multiportgraph.specs.CaseLaws.{add-cases, link-sub-cases, cut-sub-cases}
+use Rattle.multiportgraph.specs.Refusals.{goodOffset, inputTaken}
+use Rattle.multiportgraph.specs.CaseLaws.{add-cases, link-sub-cases, link-sub-taken, cut-sub-cases}
 use Rattle.multiportgraph.specs.declared.multiportgraph.NodeAdded as upper-added
 
 -- Other links between the same nodes.
@@ -331,13 +332,13 @@ all-false n i = go (ltb i n) refl
     go true e = getD-replicate n i false false (ltb-true i n e)
     go false e = List·getD-eq-default (replicate n false) false (let l : length (replicate n false) ≡ n = length-replicate n false in let h = ltb-false i n e in omega arith)
 
-pub none-hidden : (c : ℕ) → isHidden emptyGraph c ≡ false
+pub none-hidden : (release : Release) (c : ℕ) → isHidden (emptyGraph release) c ≡ false
 unfolding isHidden emptyGraph
-none-hidden c = all-false nodeSlots c
+none-hidden release c = all-false nodeSlots c
 
-pub none-split : (s : ℕ) → isSplit emptyGraph s ≡ false
+pub none-split : (release : Release) (s : ℕ) → isSplit (emptyGraph release) s ≡ false
 unfolding isSplit emptyGraph
-none-split s = all-false portSlots s
+none-split release s = all-false portSlots s
 
 total-none : (n : ℕ) (f : ℕ → ℕ) → ((i : ℕ) → f i ≡ 0) → 0 ≡ total n f
 total-none n f none =
@@ -345,27 +346,27 @@ total-none n f none =
     let z : n * 0 ≡ 0 = omega arith in
     omega arith
 
-pub fine-empty : Fine emptyGraph emptyModel
+pub fine-empty : (release : Release) → Fine (emptyGraph release) emptyModel
 unfolding emptyGraph
-fine-empty =
+fine-empty release =
     record {
       good = good-empty;
       holds = new-holds;
       marksLong = length-replicate portSlots false;
       flagsLong = length-replicate nodeSlots false;
-      copy = λ c h. absurd (true-not-false h (none-hidden c));
-      copyMarked = λ c h. absurd (true-not-false h (none-hidden c));
-      mainMarked = λ c x h e. absurd (true-not-false h (none-hidden c));
-      onlyMarked = λ s h. absurd (true-not-false h (none-split s));
-      copies = total-none nodeSlots _ (λ n. ap flag (none-hidden n));
-      subs = total-none nodeSlots _ (λ n. ap (λ (b : Bool). cond b (portsOf (emptyModel .node n) - 1) 0) (none-hidden n));
+      copy = λ c h. absurd (true-not-false h (none-hidden release c));
+      copyMarked = λ c h. absurd (true-not-false h (none-hidden release c));
+      mainMarked = λ c x h e. absurd (true-not-false h (none-hidden release c));
+      onlyMarked = λ s h. absurd (true-not-false h (none-split release s));
+      copies = total-none nodeSlots _ (λ n. ap flag (none-hidden release n));
+      subs = total-none nodeSlots _ (λ n. ap (λ (b : Bool). cond b (portsOf (emptyModel .node n) - 1) 0) (none-hidden release n));
     }
 
-pub empty-has-no-wire : (w : Wire) → WireIn emptyGraph emptyModel w → ⊥
-empty-has-no-wire w e = nowhere-not-to refl (e .joined)
+pub empty-has-no-wire : (release : Release) (w : Wire) → WireIn (emptyGraph release) emptyModel w → ⊥
+empty-has-no-wire release w e = nowhere-not-to refl (e .joined)
 
-pub empty-has-no-block : (n : ℕ) (k : NodeMeta) → BlockIs emptyGraph emptyModel n k → ⊥
-empty-has-no-block n k b = gone-not-live refl (b .1)
+pub empty-has-no-block : (release : Release) (n : ℕ) (k : NodeMeta) → BlockIs (emptyGraph release) emptyModel n k → ⊥
+empty-has-no-block release n k b = gone-not-live refl (b .1)
 
 -- Adding a block.
 
@@ -520,8 +521,9 @@ module _ {m : MultiPortGraph} {M : Model} (f : Fine m M) where
       }
 
   -- accepted: one wire more, between the ends as read, which had none; refused: the graph stays
-  pub link-sub-law : (p o q r : ℕ) → LinkSubSays m M p o q r (linkSub m p o q r .graph) (linkSub m p o q r .answer)
-  link-sub-law p o q r = subst (LinkSubSaid m M p o q r) (sym (link-sub-cases m p o q r)) (offsets (goodOffset o) (goodOffset r))
+  pub link-sub-law-if : (taken : Bool) (p o q r : ℕ) → LinkSubSays m M p o q r (linkSubIf taken m p o q r .graph) (linkSubIf taken m p o q r .answer)
+  link-sub-law-if true p o q r = subst (LinkSubSaid m M p o q r) (sym (link-sub-taken m p o q r)) refl
+  link-sub-law-if false p o q r = subst (LinkSubSaid m M p o q r) (sym (link-sub-cases m p o q r)) (offsets (goodOffset o) (goodOffset r))
     where
       lower : (a b : ℕ) (p q : ℕ) (x y : model.InnerPlace) → slotOf (M .node) x ≡ p → slotOf (M .node) y ≡ q → Seen m M x → Seen m M y → EndOf m M x o a → EndOf m M y r b
           → (v : lower-link-answer.LinkAnswer) → linkPorts (m .graph) a b .answer ≡ v
@@ -565,6 +567,9 @@ module _ {m : MultiPortGraph} {M : Model} (f : Fine m M) where
       offsets true true = ports (seen m p) (seen m q) refl refl
       offsets true false = refl
       offsets false c = refl
+
+  pub link-sub-law : (p o q r : ℕ) → LinkSubSays m M p o q r (linkSub m p o q r .graph) (linkSub m p o q r .answer)
+  link-sub-law p o q r = link-sub-law-if (inputTaken m p q) p o q r
 
 -- Cutting subports.
 

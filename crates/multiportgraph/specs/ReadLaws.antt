@@ -19,9 +19,9 @@ use Rattle.portgraph.specs.declared.direction.Direction.the-variants.{Incoming,
 use Rattle.portgraph.specs.declared.port_entry.PortMeta.{PortMeta}
 use Rattle.portgraph.specs.declared.port_entry.PortEntry.{PortEntry}
 use Rattle.portgraph.specs.declared.port_entry.PortEntry.the-variants as port-variants
-use Rattle.multiportgraph.specs.Reading.{isHidden, isSplit, hidden, visible, seenEntry, seen, ownerOf, copyNode, copySide, subports, subportAt, inner, lacking, End, endAt, portOf, subport#, subportOf, standing, standingOf}
+use Rattle.multiportgraph.specs.Reading.{isHidden, isSplit, hidden, visible, seenEntry, seen, ownerOf, copyNode, copySide, subports, subportAt, inner, lacking, End, endAt, portOf, subport#, subportOf, standing, standingOf, farSubport}
 use Rattle.multiportgraph.specs.Places.{portPlace}
-use Rattle.multiportgraph.specs.Calls.{farSubport, cutPlain}
+use Rattle.multiportgraph.specs.Calls.{cutPlain}
 use Rattle.multiportgraph.specs.Forms.{flagAt}
 use Rattle.multiportgraph.specs.FormSteps.{flag-is}
 use Rattle.multiportgraph.specs.Inner.{inner#, copyPlace, Fine, IsEnd, Seen}

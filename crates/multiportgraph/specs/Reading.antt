@@ -23,6 +23,9 @@ use Rattle.portgraph.specs.declared.portgraph.PortLink.the-variants as link-var
 use Rattle.multiportgraph.specs.declared.multiportgraph.MultiPortGraph.{MultiPortGraph}
 use Rattle.multiportgraph.specs.declared.multiportgraph.SubportIndex.{SubportIndex}
 use Rattle.multiportgraph.specs.declared.multiportgraph.PortPlace.{PortPlace}
+use Rattle.multiportgraph.specs.declared.multiportgraph.CutAnswer.{CutAnswer}
+use Rattle.multiportgraph.specs.declared.multiportgraph.CutAnswer.the-variants as cutting
+use Rattle.multiportgraph.specs.declared.multiportgraph.Refusal.the-variants.{UnknownOffset}
 use Rattle.multiportgraph.specs.Places.{Place, portPlace}
 
 -- Numbers out of the lower graph's lookups; 0 where there is nothing, which no graph of the calls shows.
@@ -159,3 +162,14 @@ standing m s = portPlace (placeOf m s)
 
 abbrev pub standingOf : MultiPortGraph → ℕ → PortPlace
 standingOf m q = standing m (subportOf m q)
+
+-- the subport at the far end, and where it stands
+abbrev pub farSubport : MultiPortGraph → PortLink → CutAnswer
+farSubport m (link-variants.Linked q) = cutting.Found (subportOf m (q .0)) (standingOf m (q .0))
+farSubport m link-variants.Unlinked = cutting.Nothing
+farSubport m (link-variants.UnknownPort p) = cutting.Nothing
+
+-- what an end is linked with; 9 where a split port has no such offset
+abbrev pub linkOfEnd : MultiPortGraph → ℕ → End → CutAnswer
+linkOfEnd m p lacking = cutting.Refused (UnknownOffset (port# p))
+linkOfEnd m p (inner x) = farSubport m (portLink (m .graph) x)

@@ -4,12 +4,14 @@
 use mathlib.Core.Bool.{Bool, true, false, cond, not}
 use mathlib.Core.List.{List, [], _∷_}
 use Prim.Native.Nat.{ℕ, _+_, _*_}
-use lib.Dec.{leb, ltb}
+use lib.Dec.{eqb, leb, ltb}
 use Rattle.portgraph.specs.Limits.{nodePorts, Limits}
 use Rattle.portgraph.specs.Meaning.{sameSide}
 use Rattle.portgraph.specs.Lookups.{port#, metaAt, containsNode}
 use Rattle.portgraph.specs.Calls.{addNodeUnder, linkPorts}
 use Rattle.portgraph.specs.Resize.{setNumPortsUnder}
+use Rattle.portgraph.specs.declared.direction.Direction.{Direction}
+use Rattle.portgraph.specs.declared.direction.Direction.the-variants.{Incoming, Outgoing}
 use Rattle.portgraph.specs.declared.node_entry.MaybeNodeMeta.{MaybeNodeMeta}
 use Rattle.portgraph.specs.declared.node_entry.MaybeNodeMeta.the-variants as maybe-meta
 use Rattle.portgraph.specs.declared.portgraph.LinkAnswer as lower-link-answer
@@ -20,8 +22,11 @@ use Rattle.portgraph.specs.declared.resize.SetAnswer as lower-set-answer
 use Rattle.portgraph.specs.declared.resize.SetAnswer.the-variants as lower-set
 use Rattle.multiportgraph.specs.Reading.{isHidden, Port, dead, hidden, visible, seen, End, inner, lacking, endAt, sideOf}
 use Rattle.multiportgraph.specs.declared.multiportgraph.MultiPortGraph.{MultiPortGraph}
+use Rattle.multiportgraph.specs.Walks.{fanOut}
+use Rattle.multiportgraph.specs.declared.multiportgraph.Release.{Release}
+use Rattle.multiportgraph.specs.declared.multiportgraph.Release.the-variants as release
 use Rattle.multiportgraph.specs.declared.multiportgraph.Refusal.{Refusal}
-use Rattle.multiportgraph.specs.declared.multiportgraph.Refusal.the-variants.{BadOffset, TooManyPorts, UnknownNode, HiddenNode, MovesTooShort, UnknownPort, HiddenPort, UnknownOffset, NoRoom, UnknownSecondPort, IncompatibleDirections, AlreadyLinked}
+use Rattle.multiportgraph.specs.declared.multiportgraph.Refusal.the-variants.{BadOffset, TooManyPorts, UnknownNode, HiddenNode, MovesTooShort, UnknownPort, HiddenPort, UnknownOffset, NoRoom, UnknownSecondPort, IncompatibleDirections, AlreadyLinked, InputWired}
 use Rattle.multiportgraph.specs.HiddenNodes.{prepareUnder, Prepared, ready, full}
 
 -- A line of the table.
@@ -68,6 +73,27 @@ lacksSeen m p o (visible n d) = isLacking (endAt m p d o)
 
 abbrev pub lacksOffset : MultiPortGraph → ℕ → ℕ → Bool
 lacksOffset m p o = lacksSeen m p o (seen m p)
+
+-- a live input of a block already has a wire
+abbrev pub wiredSide : MultiPortGraph → ℕ → Direction → Bool
+wiredSide m p Incoming = not (eqb (fanOut m p) 0)
+wiredSide m p Outgoing = false
+
+abbrev pub wiredSeen : MultiPortGraph → ℕ → Port → Bool
+wiredSeen m p dead = false
+wiredSeen m p hidden = false
+wiredSeen m p (visible n d) = wiredSide m p d
+
+unfoldable pub wiredInput : MultiPortGraph → ℕ → Bool
+wiredInput m p = wiredSeen m p (seen m p)
+
+-- the graph is made for release 2, and a port named by either end of a link is such an input
+abbrev pub takenUnder : Release → Bool → Bool → Bool
+takenUnder release.One first second = false
+takenUnder release.Two first second = cond first true second
+
+unfoldable pub inputTaken : MultiPortGraph → ℕ → ℕ → Bool
+inputTaken m a b = takenUnder (m .release) (wiredInput m a) (wiredInput m b)
 
 -- the single-link graph has no room for a node, or for other counts of one
 abbrev pub addLacksRoom : lower-add-answer.AddAnswer → Bool
@@ -148,7 +174,7 @@ endOf m p o = innerPort (endAt m p (sideOf (seen m p)) o)
 abbrev pub joining : MultiPortGraph → ℕ → ℕ → ℕ → ℕ → lower-link-answer.LinkAnswer
 joining m p o q r = linkPorts (m .graph) (endOf m p o) (endOf m q r) .answer
 
--- The table.
+-- The table. The links take whether 18 is given: `inputTaken` in their calls (Calls).
 
 -- 3, 10
 abbrev pub addRefusals : Limits → MultiPortGraph → ℕ → ℕ → List Line
@@ -174,33 +200,35 @@ setRefusals L m n incoming outgoing room =
     ∷ refuse m (setLacksRoom (setNumPortsUnder L (m .graph) n incoming outgoing room .answer)) NoRoom
     ∷ []
 
--- 7, 8, 10, 11, 12. Whether the second port is live is judged on the graph handed in; 11 and 12 keep what was prepared
-abbrev pub linkRefusals : Limits → MultiPortGraph → ℕ → ℕ → List Line
-linkRefusals L m a b =
+-- 7, 8, 18, 10, 11, 12. Whether the second port is live is judged on the graph handed in; 11 and 12 keep what was prepared
+abbrev pub linkRefusals : Bool → Limits → MultiPortGraph → ℕ → ℕ → List Line
+linkRefusals taken L m a b =
     refuse m (isDead (seen m a)) (UnknownPort (port# a))
     ∷ refuse m (isOfHidden (seen m a)) (HiddenPort (port# a))
     ∷ refuse m (isOfHidden (seen m b)) (HiddenPort (port# b))
+    ∷ refuse m taken InputWired
     ∷ refuse m (linkLacksRoom L m a b) NoRoom
     ∷ refuse (preparedGraph m (firstEnd L m a)) (isDead (seen m b)) (UnknownSecondPort (port# b))
     ∷ refuse (preparedGraph m (secondEnd L m a b)) (sameSide (sideOf (seen m a)) (sideOf (seen m b)))
     (IncompatibleDirections (port# (preparedPort (firstEnd L m a))) (port# (preparedPort (secondEnd L m a b))) (sideOf (seen m a)))
     ∷ []
 
--- 7, 8, 11, 12, 10, of the link that leaves no stub: 11 and 12 are settled on the graph handed in, so nothing is left, and 12 carries the
+-- 7, 8, 18, 11, 12, 10, of the link that leaves no stub: 11 and 12 are settled on the graph handed in, so nothing is left, and 12 carries the
 -- ports as named
-abbrev pub linkCleanRefusals : Limits → MultiPortGraph → ℕ → ℕ → List Line
-linkCleanRefusals L m a b =
+abbrev pub linkCleanRefusals : Bool → Limits → MultiPortGraph → ℕ → ℕ → List Line
+linkCleanRefusals taken L m a b =
     refuse m (isDead (seen m a)) (UnknownPort (port# a))
     ∷ refuse m (isOfHidden (seen m a)) (HiddenPort (port# a))
     ∷ refuse m (isOfHidden (seen m b)) (HiddenPort (port# b))
+    ∷ refuse m taken InputWired
     ∷ refuse m (isDead (seen m b)) (UnknownSecondPort (port# b))
     ∷ refuse m (sameSide (sideOf (seen m a)) (sideOf (seen m b))) (IncompatibleDirections (port# a) (port# b) (sideOf (seen m a)))
     ∷ refuse m (linkLacksRoom L m a b) NoRoom
     ∷ []
 
--- 2, 7, 8, 9, 11, 12, 13
-abbrev pub linkSubRefusals : MultiPortGraph → ℕ → ℕ → ℕ → ℕ → List Line
-linkSubRefusals m p o q r =
+-- 2, 7, 8, 9, 18, 11, 12, 13
+abbrev pub linkSubRefusals : Bool → MultiPortGraph → ℕ → ℕ → ℕ → ℕ → List Line
+linkSubRefusals taken m p o q r =
     refuse m (not (goodOffset o)) BadOffset
     ∷ refuse m (not (goodOffset r)) BadOffset
     ∷ refuse m (isDead (seen m p)) (UnknownPort (port# p))
@@ -208,6 +236,7 @@ linkSubRefusals m p o q r =
     ∷ refuse m (isOfHidden (seen m q)) (HiddenPort (port# q))
     ∷ refuse m (lacksOffset m p o) (UnknownOffset (port# p))
     ∷ refuse m (lacksOffset m q r) (UnknownOffset (port# q))
+    ∷ refuse m taken InputWired
     ∷ refuse m (isDead (seen m q)) (UnknownSecondPort (port# q))
     ∷ refuse m (onOneSide (joining m p o q r)) (refusedBelow (joining m p o q r))
     ∷ refuse m (oneLinked (joining m p o q r)) (refusedBelow (joining m p o q r))

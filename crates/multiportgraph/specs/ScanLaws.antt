@@ -24,8 +24,7 @@ use Rattle.portgraph.specs.declared.iter.Sides.the-variants.{One, Both}
 use Rattle.portgraph.specs.declared.node_entry.NodeMeta.{NodeMeta}
 use Rattle.portgraph.specs.declared.node_entry.MaybeNodeMeta.{MaybeNodeMeta}
 use Rattle.portgraph.specs.declared.node_entry.MaybeNodeMeta.the-variants as maybe-meta
-use Rattle.multiportgraph.specs.Reading.{portNumber, portOf, isHidden, isSplit, Port, dead, hidden, visible, seen, subports, endAt, subport#}
-use Rattle.multiportgraph.specs.Calls.{linkOfEnd}
+use Rattle.multiportgraph.specs.Reading.{portNumber, portOf, isHidden, isSplit, Port, dead, hidden, visible, seen, subports, endAt, subport#, linkOfEnd}
 use Rattle.multiportgraph.specs.Wires.{isBlock, portsOfSide, subportsOfPort, subportsOfSide, wireTo, wireOf, sideLinks, isBeyond}
 use Rattle.multiportgraph.specs.Walks.{between, bySides, portsOfNode, subportsOf, subportBeyond, portLinksSeen, portLinks, linkBeyond}
 use Rattle.multiportgraph.specs.Inner.{inner#, MultiWf}

@@ -27,10 +27,9 @@ use Rattle.portgraph.specs.declared.node_entry.NodeEntry.the-variants as node-v
 use Rattle.portgraph.specs.declared.node_entry.MaybeNodeMeta.the-variants as maybe-meta
 use Rattle.portgraph.specs.declared.port_entry.PortMeta.{PortMeta}
 use Rattle.portgraph.specs.declared.port_entry.PortEntry.the-variants as port-variants
-use Rattle.multiportgraph.specs.Reading.{isHidden, isSplit, Port, dead, hidden, visible, seen, subports, subportAt, End, inner, lacking, endAt, subport#}
+use Rattle.multiportgraph.specs.Reading.{isHidden, isSplit, Port, dead, hidden, visible, seen, subports, subportAt, End, inner, lacking, endAt, subport#, linkOfEnd}
 use Rattle.multiportgraph.specs.Forms.{flagAt}
 use Rattle.multiportgraph.specs.FormSteps.{flag-is}
-use Rattle.multiportgraph.specs.Calls.{linkOfEnd}
 use Rattle.multiportgraph.specs.Inner.{MultiWf}
 use Rattle.multiportgraph.specs.Ends.{block-seen}
 use Rattle.multiportgraph.specs.Reads.{farIn, countBeside, firstBeside, endBeside, firstIn, endIn, wireIn}

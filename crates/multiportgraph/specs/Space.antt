@@ -15,6 +15,7 @@ use Rattle.portgraph.specs.declared.node_entry.NodeMeta.{NodeMeta}
 use Rattle.portgraph.specs.declared.node_entry.MaybeNodeMeta.{MaybeNodeMeta}
 use Rattle.portgraph.specs.declared.node_entry.MaybeNodeMeta.the-variants as maybe-meta
 use Rattle.multiportgraph.specs.Reading.{hasLink, isHidden, isSplit, Port, dead, hidden, visible, seen, copyNode, subports}
+use Rattle.multiportgraph.specs.Refusals.{inputTaken}
 use Rattle.multiportgraph.specs.declared.multiportgraph.MultiPortGraph.{MultiPortGraph}
 use Rattle.multiportgraph.specs.HiddenNodes.{copiesIn, copiesDropped, Prepared, ready, full, lowestFree, prepare}
 
@@ -154,9 +155,9 @@ linkSeenWorks m a b (visible n d) hidden = []
 linkSeenWorks m a b (visible n d) dead = prepareWorks m a d
 linkSeenWorks m a b (visible n d) (visible k e) = prepareWorks m a d ++ secondWorks b e (prepare m a d)
 
--- linking ports: the first end, then the second if its port is live
+-- linking ports: the first end, then the second if its port is live; nothing where 18 is given
 unfoldable pub linkWorks : MultiPortGraph → ℕ → ℕ → List Work
-linkWorks m a b = linkSeenWorks m a b (seen m a) (seen m b)
+linkWorks m a b = cond (inputTaken m a b) [] (linkSeenWorks m a b (seen m a) (seen m b))
 
 -- and leaving no stub: the same, once 11 and 12 are settled
 abbrev pub linkCleanSeenWorks : MultiPortGraph → ℕ → ℕ → Port → Port → List Work
@@ -164,10 +165,10 @@ linkCleanSeenWorks m a b dead second = []
 linkCleanSeenWorks m a b hidden second = []
 linkCleanSeenWorks m a b (visible n d) hidden = []
 linkCleanSeenWorks m a b (visible n d) dead = []
-linkCleanSeenWorks m a b (visible n d) (visible k e) = cond (meaning.sameSide d e) [] (linkWorks m a b)
+linkCleanSeenWorks m a b (visible n d) (visible k e) = cond (meaning.sameSide d e) [] (linkSeenWorks m a b (seen m a) (seen m b))
 
 unfoldable pub linkCleanWorks : MultiPortGraph → ℕ → ℕ → List Work
-linkCleanWorks m a b = linkCleanSeenWorks m a b (seen m a) (seen m b)
+linkCleanWorks m a b = cond (inputTaken m a b) [] (linkCleanSeenWorks m a b (seen m a) (seen m b))
 
 -- removing a block: its hidden nodes by ascending port, then the node itself
 abbrev pub removeMetaWorks : MultiPortGraph → ℕ → MaybeNodeMeta → List Work

@@ -49,9 +49,9 @@ use Rattle.portgraph.specs.declared.resize.SetAnswer as lower-set-answer
 use Rattle.portgraph.specs.declared.resize.SetAnswer.the-variants as lower-set
 use Rattle.portgraph.specs.declared.slots.AddAnswer as lower-add-answer
 use Rattle.portgraph.specs.declared.slots.AddAnswer.the-variants as lower-add
-use Rattle.multiportgraph.specs.Calls.{dropBlock, removeBlock, addedAs, addBlock, setAs, setCounts, cutPlain, cutPort, cutSub, farSubport, linkSub, setCountsUnder, addBlockUnder, linkPair, linkPairUnder, linkClean}
+use Rattle.multiportgraph.specs.Calls.{dropBlock, removeBlock, addedAs, addBlock, setAs, setCounts, cutPlain, cutPort, cutSub, linkSub, linkSubIf, setCountsUnder, addBlockUnder, linkPair, linkPairIf, linkClean, linkCleanIf}
 use Rattle.multiportgraph.specs.Inner.{inner#, copyPlace, Fine, Seen, BlockIs, SameBlocks}
-use Rattle.multiportgraph.specs.Reading.{ownerOf, copySide, hasLink, portOf, isHidden, isSplit, Port, dead, hidden, visible, seen, copyNode, subports, subport#, End, inner, lacking, endAt, asRead, standing}
+use Rattle.multiportgraph.specs.Reading.{ownerOf, copySide, hasLink, portOf, isHidden, isSplit, Port, dead, hidden, visible, seen, copyNode, subports, subport#, End, inner, lacking, endAt, asRead, standing, farSubport}
 use Rattle.multiportgraph.specs.Ends.{Hangs, split-has-copy, block-seen, seen-block, copy-valid, port-of, far-of, owner-of}
 use Rattle.multiportgraph.specs.CopyLaws.{copy-goes, unsplit-split, unsplit-whole}
 use Rattle.multiportgraph.specs.PrepareLaws.{prepare-law}
@@ -60,7 +60,7 @@ use Rattle.multiportgraph.specs.SetLaws.{resize-loosens}
 use Rattle.multiportgraph.specs.Space.{Room, roomOf, Work, takeNode, takeBlock, giveNode, giveBlock, blockTaken, afterWork, afterWorks, onTheWay, nodesPast, portsPast, nodesShort, portsShort, overflows, addWorks, goneWorks, splitWorks, moveWorks, recountWorks, growWorks, reuseWorks, prepareWorks, secondWorks, linkSeenWorks, linkWorks, linkCleanSeenWorks, linkCleanWorks, copiesGone, setMetaWorks, setWorks, cutWorks, cutSeenWorks, removeWorks, removeMetaWorks, toldWorks}
 use Rattle.multiportgraph.specs.declared.multiportgraph.MultiPortGraph.{MultiPortGraph}
 use Rattle.multiportgraph.specs.declared.multiportgraph.Refusal.{Refusal}
-use Rattle.multiportgraph.specs.declared.multiportgraph.Refusal.the-variants.{BadOffset, TooManyPorts, UnknownNode, HiddenNode, MovesTooShort, NoRoom, IncompatibleDirections}
+use Rattle.multiportgraph.specs.declared.multiportgraph.Refusal.the-variants.{BadOffset, TooManyPorts, UnknownNode, HiddenNode, MovesTooShort, NoRoom, IncompatibleDirections, InputWired}
 use Rattle.multiportgraph.specs.declared.multiportgraph.SubportIndex.{SubportIndex}
 use Rattle.multiportgraph.specs.declared.multiportgraph.NodeAdded.{NodeAdded}
 use Rattle.multiportgraph.specs.declared.multiportgraph.NodeRemoved.{NodeRemoved}
@@ -75,10 +75,10 @@ use Rattle.multiportgraph.specs.declared.named.NamedPair.{NamedPair}
 use Rattle.multiportgraph.specs.declared.named.NamedPair.the-variants as pair
 use Rattle.multiportgraph.specs.declared.multiportgraph.AddAnswer.the-variants as add
 use Rattle.multiportgraph.specs.HiddenNodes.{unsplitRange, copiesIn, recounted, Prepared, ready, full, copyIn, copyOut, split, splitBy, splitPort, splitGraph, lowestFree, moreIn, moreOut, enough, grow, grownBy, reuse, prepare, removeCopy, removeLone, removeAll, copiesDropped, unsplit, splitUnder, growUnder, prepareUnder, reuseUnder}
-use Rattle.multiportgraph.specs.Cases.{removeRefused, removeMeta, linkFirst, linkSecond, linkSeen, linkRefused, setRefused, resized, setMeta, cutSeen, cutRefused, cutEnd, cutSubSeen, linkInner, linkSecondEnd, linkFirstEnd, linkSubSeen, linkLive, pairSeen, linkCleanBy}
+use Rattle.multiportgraph.specs.Cases.{removeRefused, removeMeta, linkFirst, linkSecond, linkSeen, linkRefused, setRefused, resized, setMeta, cutSeen, cutRefused, cutEnd, cutSubSeen, linkInner, linkSecondEnd, linkFirstEnd, linkSubSeen, linkLive, pairSeen, linkCleanBy, takenSeen, takenSecond, takenFirst, takenSubSeen}
 use Rattle.multiportgraph.specs.Graph.{withGraph}
-use Rattle.multiportgraph.specs.Refusals.{goodOffset}
-use Rattle.multiportgraph.specs.CaseLaws.{add-cases, set-cases, link-cases, link-clean-cases, link-sub-cases, cut-cases, cut-sub-cases, remove-cases}
+use Rattle.multiportgraph.specs.Refusals.{goodOffset, inputTaken}
+use Rattle.multiportgraph.specs.CaseLaws.{add-cases, set-cases, link-cases, link-taken, link-clean-cases, link-clean-taken, link-sub-cases, link-sub-taken, cut-cases, cut-sub-cases, remove-cases}
 
 -- Lengths never shrink, so what is passed on the way is passed at the end.
 
@@ -531,9 +531,20 @@ seen-still {m} {M} {m′} {M′} f f′ same p n d e =
     let slot : slotOf (M′ .node) (b .place) ≡ p = ap (λ (t : Slots). firstOf t + (sideStart t (b .place .side) + b .place .pos)) q ∙ b .slot in
     ap (seen m′) (sym slot) ∙ (seen-block f′ (b .place) (v, r .0) ∙ (λ i. visible (b .node i) (b .side i)))
 
-pub link-space : {m : MultiPortGraph} {M : Model} → Fine m M → (a b : ℕ) → Spaced m M (linkWorks m a b) (linkPair m a b .answer ≡ link.Refused NoRoom) (linkPair m a b .graph)
-unfolding linkWorks
-link-space {m} {M} f a b =
+-- 7, 8 and 18 are not 10
+not-room : (a b : ℕ) (u v : Port) → link.Refused (takenSeen a b u v) ≡ link.Refused NoRoom → ⊥
+not-room a b dead v e = zero-is-not-one (cc)
+not-room a b hidden v e = zero-is-not-one (cc)
+not-room a b (visible n d) hidden e = zero-is-not-one (cc)
+not-room a b (visible n d) dead e = zero-is-not-one (cc)
+not-room a b (visible n d) (visible k c) e = zero-is-not-one (cc)
+
+link-space-if : {m : MultiPortGraph} {M : Model} → Fine m M → (taken : Bool) (a b : ℕ) →
+    Spaced m M (cond taken [] (linkSeenWorks m a b (seen m a) (seen m b))) (linkPairIf taken present m a b .answer ≡ link.Refused NoRoom) (linkPairIf taken present m a b .graph)
+link-space-if {m} {M} f true a b =
+    subst (λ (v : PortsLinked). Spaced m M [] (v .answer ≡ link.Refused NoRoom) (v .graph)) (sym (link-taken present m a b))
+    (let s = nothing-taken f 0 0 in spaced-done (not-room a b (seen m a) (seen m b)) (s .0) (s .1))
+link-space-if {m} {M} f false a b =
     subst (λ (v : PortsLinked). Spaced m M (linkSeenWorks m a b (seen m a) (seen m b)) (v .answer ≡ link.Refused NoRoom) (v .graph)) (sym (link-cases present m a b)) (go (seen m a) refl (seen m b) refl)
   where
     -- nothing is done
@@ -576,6 +587,10 @@ link-space {m} {M} f a b =
     go (visible n d) p hidden q = idle (linkSeen m a b (visible n d) hidden) refl (λ e. zero-is-not-one (cc))
     go (visible n d) p dead q = first d (prepare m a d) (prepare-seen-space f a n d p)
     go (visible n d) p (visible k e) q = both n d p k e q (prepare m a d) refl (prepare-seen-space f a n d p)
+
+pub link-space : {m : MultiPortGraph} {M : Model} → Fine m M → (a b : ℕ) → Spaced m M (linkWorks m a b) (linkPair m a b .answer ≡ link.Refused NoRoom) (linkPair m a b .graph)
+unfolding linkWorks
+link-space {m} f a b = link-space-if f (inputTaken m a b) a b
 
 -- Nodes that go.
 
@@ -782,10 +797,13 @@ module _ {m : MultiPortGraph} {M : Model} (f : Fine m M) where
       offset true = port (seen m p)
       offset false = no-work f (λ e. zero-is-not-one (cc)) (own-room f)
 
-  -- leaving no stub: nothing is taken where 7, 8, 11 or 12 is given
-  pub link-clean-space : (a b : ℕ) → Spaced m M (linkCleanWorks m a b) (linkClean m a b .answer ≡ link.Refused NoRoom) (linkClean m a b .graph)
-  unfolding linkCleanWorks
-  link-clean-space a b =
+  -- leaving no stub: nothing is taken where 7, 8, 18, 11 or 12 is given
+  link-clean-space-if : (taken : Bool) (a b : ℕ) → Spaced m M (cond taken [] (linkCleanSeenWorks m a b (seen m a) (seen m b)))
+      (linkCleanIf taken present m a b .answer ≡ link.Refused NoRoom) (linkCleanIf taken present m a b .graph)
+  link-clean-space-if true a b =
+      subst (λ (v : PortsLinked). Spaced m M [] (v .answer ≡ link.Refused NoRoom) (v .graph)) (sym (link-clean-taken present m a b))
+      (no-work f (not-room a b (seen m a) (seen m b)) (own-room f))
+  link-clean-space-if false a b =
       subst (λ (v : PortsLinked). Spaced m M (linkCleanSeenWorks m a b (seen m a) (seen m b)) (v .answer ≡ link.Refused NoRoom) (v .graph))
       (sym (link-clean-cases present m a b)) (go (seen m a) (seen m b))
     where
@@ -799,12 +817,45 @@ module _ {m : MultiPortGraph} {M : Model} (f : Fine m M) where
       go (visible n d) dead = no-work f (λ e. zero-is-not-one (cc)) (own-room f)
       go (visible n d) (visible k e) = sides (sameSide d e)
         where
-          sides : (c : Bool) → Says (cond c [] (linkWorks m a b)) (cond c (pair.Refused (IncompatibleDirections (port# a) (port# b) d)) pair.Opposite)
+          sides : (c : Bool) → Says (cond c [] (linkSeenWorks m a b (seen m a) (seen m b))) (cond c (pair.Refused (IncompatibleDirections (port# a) (port# b) d)) pair.Opposite)
           sides true = no-work f (λ e. zero-is-not-one (cc)) (own-room f)
-          sides false = link-space f a b
+          sides false = link-space-if f false a b
+
+  pub link-clean-space : (a b : ℕ) → Spaced m M (linkCleanWorks m a b) (linkClean m a b .answer ≡ link.Refused NoRoom) (linkClean m a b .graph)
+  unfolding linkCleanWorks
+  link-clean-space a b = link-clean-space-if (inputTaken m a b) a b
+
+  sub-not-room : (p o q r : ℕ) → link.Refused (cond (goodOffset o) (cond (goodOffset r) (takenSubSeen m p o q r (seen m p) (seen m q)) BadOffset) BadOffset) ≡ link.Refused NoRoom → ⊥
+  sub-not-room p o q r = offset (goodOffset o)
+    where
+      Never : Refusal → Type 0
+      Never v = link.Refused v ≡ link.Refused NoRoom → ⊥
+
+      second : (v : End) → Never (takenSecond q v)
+      second lacking e = zero-is-not-one (cc)
+      second (inner y) e = zero-is-not-one (cc)
+
+      first : (z : Refusal) → Never z → (v : End) → Never (takenFirst p z v)
+      first z n lacking e = zero-is-not-one (cc)
+      first z n (inner x) e = n e
+
+      ports : (u v : Port) → Never (takenSubSeen m p o q r u v)
+      ports dead v = λ e. zero-is-not-one (cc)
+      ports hidden v = λ e. zero-is-not-one (cc)
+      ports (visible n d) hidden = λ e. zero-is-not-one (cc)
+      ports (visible n d) dead = first InputWired (λ e. zero-is-not-one (cc)) (endAt m p d o)
+      ports (visible n d) (visible k s) = first (takenSecond q (endAt m q s r)) (second (endAt m q s r)) (endAt m p d o)
+
+      offsets : (c : Bool) → Never (cond c (takenSubSeen m p o q r (seen m p) (seen m q)) BadOffset)
+      offsets true = ports (seen m p) (seen m q)
+      offsets false = λ e. zero-is-not-one (cc)
+
+      offset : (c : Bool) → Never (cond c (cond (goodOffset r) (takenSubSeen m p o q r (seen m p) (seen m q)) BadOffset) BadOffset)
+      offset true = offsets (goodOffset r)
+      offset false = λ e. zero-is-not-one (cc)
 
   pub link-sub-space : (p o q r : ℕ) → Spaced m M [] (linkSub m p o q r .answer ≡ link.Refused NoRoom) (linkSub m p o q r .graph)
-  link-sub-space p o q r = subst (λ (v : PortsLinked). Spaced m M [] (v .answer ≡ link.Refused NoRoom) (v .graph)) (sym (link-sub-cases m p o q r)) (offset (goodOffset o))
+  link-sub-space p o q r = checked (inputTaken m p q)
     where
       Says : PortsLinked → Type 0
       Says v = Spaced m M [] (v .answer ≡ link.Refused NoRoom) (v .graph)
@@ -840,6 +891,12 @@ module _ {m : MultiPortGraph} {M : Model} (f : Fine m M) where
       offset : (c : Bool) → Says (cond c (cond (goodOffset r) (linkSubSeen m p o q r (seen m p) (seen m q)) (linkRefused m BadOffset)) (linkRefused m BadOffset))
       offset true = offsets (goodOffset r)
       offset false = no-work f (λ e. zero-is-not-one (cc)) (own-room f)
+
+      checked : (taken : Bool) → Spaced m M [] (linkSubIf taken m p o q r .answer ≡ link.Refused NoRoom) (linkSubIf taken m p o q r .graph)
+      checked true =
+          subst (λ (v : PortsLinked). Spaced m M [] (v .answer ≡ link.Refused NoRoom) (v .graph)) (sym (link-sub-taken m p o q r))
+          (no-work f (sub-not-room p o q r) (own-room f))
+      checked false = subst (λ (v : PortsLinked). Spaced m M [] (v .answer ≡ link.Refused NoRoom) (v .graph)) (sym (link-sub-cases m p o q r)) (offset (goodOffset o))
 
 -- Removing a block.
 

@@ -83,7 +83,7 @@ module _ {m : MultiPortGraph} {p : ℕ} {d : Direction} (b : LinkedPort m p d) {
       w₃ ≡ n .0 →
       t₃ ≡ putFlag (m .«copy_node») nodeSlots w₃ true →
       _≡_ {A = Prepared} (record {
-        graph = multi (withLinks (r .graph) t (left + 2)) t₂ t₃ (m .«copy_node_count» + 1) (m .«subport_count» + 2);
+        graph = multi (withLinks (r .graph) t (left + 2)) t₂ t₃ (m .«copy_node_count» + 1) (m .«subport_count» + 2) (m .release);
         port = old + 1;
         offset = 1;
         ready = true;
@@ -98,7 +98,7 @@ module _ {m : MultiPortGraph} {p : ℕ} {d : Direction} (b : LinkedPort m p d) {
       let marks-is : t₂ ≡ set (set (m .multiport) (portOf (r .graph) (n .0) (reversed d) 0) true) p true = rw (k₄, k₂, k₃, k₁, copy-is) (two-puts (m .multiport) portSlots _ p true true (w .marksLong)) in
       let flags-is : t₃ ≡ set (m .«copy_node») (n .0) true = rw (k₆, k₅) (put-flag-is (m .«copy_node») nodeSlots (n .0) true (w .flagsLong)) in
       (λ j. record {
-        graph = multi (graph-is j) (marks-is j) (flags-is j) (m .«copy_node_count» + 1) (m .«subport_count» + 2);
+        graph = multi (graph-is j) (marks-is j) (flags-is j) (m .«copy_node_count» + 1) (m .«subport_count» + 2) (m .release);
         port = new-is j;
         offset = 1;
         ready = true;
@@ -166,7 +166,7 @@ module _ {m : MultiPortGraph} {p : ℕ} {d : Direction} {copy node count : ℕ} 
           t₂ ≡ putFlag t₁ portSlots w₃ true →
           q ≡ portOf (r .graph) (copyNode m p) d count →
           _≡_ {A = Prepared} (record {
-            graph = multi (r .graph) t₂ (m .«copy_node») (m .«copy_node_count») (m .«subport_count» + 1);
+            graph = multi (r .graph) t₂ (m .«copy_node») (m .«copy_node_count») (m .«subport_count» + 1) (m .release);
             port = q;
             offset = count;
             ready = true;
@@ -177,7 +177,7 @@ module _ {m : MultiPortGraph} {p : ℕ} {d : Direction} {copy node count : ℕ} 
           let far-is : far ≡ farIn (r .graph .«port_link») p = k₂ ∙ ap (farIn (r .graph .«port_link»)) k₁ in
           let marks-is : t₂ ≡ recounted m (copyNode m p) (r .graph) .multiport = rw (k₆, k₄, k₅, k₃, far-is, s .copyIs) (two-puts (m .multiport) portSlots _ _ false true (s .port .block .wf .fine .marksLong) ∙ sym (g .marks)) in
           (λ j. record {
-            graph = multi (r .graph) (marks-is j) (m .«copy_node») (m .«copy_node_count») (m .«subport_count» + 1);
+            graph = multi (r .graph) (marks-is j) (m .«copy_node») (m .«copy_node_count») (m .«subport_count» + 1) (m .release);
             port = k₇ j;
             offset = count;
             ready = true;

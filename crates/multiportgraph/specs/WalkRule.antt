@@ -18,8 +18,7 @@ use Rattle.portgraph.specs.GoodSlots.{zero-is-not-one, slot-in-block, slot-in-r
 use Rattle.portgraph.specs.PlaceLaws.{port-link-to, port-link-none, meta-of-node}
 use Rattle.portgraph.specs.declared.direction.Direction.{Direction}
 use Rattle.portgraph.specs.declared.direction.Direction.the-variants.{Outgoing}
-use Rattle.multiportgraph.specs.Reading.{ownerOf, portOf, isHidden, isSplit, visible, seen, subports, End, inner, lacking, endAt, subport#, subportOf, standingOf}
-use Rattle.multiportgraph.specs.Calls.{linkOfEnd}
+use Rattle.multiportgraph.specs.Reading.{ownerOf, portOf, isHidden, isSplit, visible, seen, subports, End, inner, lacking, endAt, subport#, subportOf, standingOf, linkOfEnd}
 use Rattle.multiportgraph.specs.Wires.{isBlock, blocks, portsOfSide, subportsOfPort, subportsOfSide, wireTo, wireOf, sideLinks, allWires, isBeyond, firstItem, wiresBeyond, stepWires, startWires, Walked, walkedOn, walkBy, walkWires, placeOf, wirePlaces, longWalk, walked, wiresWalked}
 use Rattle.multiportgraph.specs.Inner.{inner#, copyPlace, Fine, Seen, lift, outer, IsEnd, WireIn}
 use Rattle.multiportgraph.specs.Listing.{Apart, member-right, member-flatMap, flatMap-member, member-map, map-member, length-map, member-filter, filter-member, member-range, range-member, in-wires, wire-member, filter-flatMap, flatMap-beyond, filter-rest, rising-by-items, rising-filter, rising-flatMap, rising-map, range-rises, apart-below, rising-once}

@@ -8,9 +8,8 @@ use Rattle.portgraph.specs.Lists.{filter, range}
 use Rattle.portgraph.specs.Lookups.{numPorts, containsNode}
 use Rattle.portgraph.specs.declared.direction.Direction.{Direction}
 use Rattle.portgraph.specs.declared.direction.Direction.the-variants.{Incoming, Outgoing}
-use Rattle.multiportgraph.specs.Reading.{portOf, isHidden, isSplit, Port, dead, hidden, visible, seen, subports, endAt, subport#}
+use Rattle.multiportgraph.specs.Reading.{portOf, isHidden, isSplit, Port, dead, hidden, visible, seen, subports, endAt, subport#, linkOfEnd}
 unfoldable pub use Rattle.multiportgraph.specs.Reading.{placeOf}
-use Rattle.multiportgraph.specs.Calls.{linkOfEnd}
 use Rattle.multiportgraph.specs.declared.multiportgraph.MultiPortGraph.{MultiPortGraph}
 use Rattle.multiportgraph.specs.declared.multiportgraph.SubportIndex.{SubportIndex}
 use Rattle.multiportgraph.specs.declared.multiportgraph.SubportLink.{SubportLink}

@@ -1,5 +1,7 @@
 // Adding blocks, linking and cutting, and what a subport is linked with.
 use crate::ends::SeenPort;
+use crate::inputs::input_taken;
+use crate::inputs::taken_subports;
 use crate::marks::marked;
 use crate::multiportgraph::AddAnswer;
 use crate::multiportgraph::CutAnswer;
@@ -10,6 +12,7 @@ use crate::multiportgraph::NodeAdded;
 use crate::multiportgraph::PortUnlinked;
 use crate::multiportgraph::PortsLinked;
 use crate::multiportgraph::Refusal;
+use crate::multiportgraph::Release;
 use crate::multiportgraph::SubportIndex;
 use crate::named::NamedEnd;
 use crate::named::NamedLink;
@@ -54,9 +57,9 @@ impl CutAnswer {
 }
 
 impl MultiPortGraph {
-    // The empty graph.
-    pub fn new() -> Self
-        ensures { λ r. ⌜ r ≡ emptyGraph ⌝ }
+    // The empty graph, made for this release.
+    pub fn new(release: Release) -> Self
+        ensures { λ r. ⌜ r ≡ emptyGraph release ⌝ }
     {
         let graph = PortGraph::new();
         MultiPortGraph {
@@ -65,7 +68,15 @@ impl MultiPortGraph {
             copy_node: [false; NODE_SLOTS],
             copy_node_count: 0,
             subport_count: 0,
+            release: release,
         }
+    }
+
+    // The release that the graph is made for.
+    pub fn release(self) -> Release
+        ensures { λ r. ⌜ r ≡ self .release ⌝ }
+    {
+        self.release
     }
 
     // Adds a block with a block of exactly incoming + outgoing slots.
@@ -227,6 +238,31 @@ impl MultiPortGraph {
         ensures { λ r. ⌜ (r ≡ linkSub self (from .port .0) (from .«subport_offset») (to .port .0) (to .«subport_offset»))
             × (linkNumbers (r .answer) ≡ linkNumbers (linkSub self (from .port .0) (from .«subport_offset») (to .port .0) (to .«subport_offset») .answer)) ⌝ }
     {
+        let release = self.release;
+        let p = from.port;
+        let q = to.port;
+        if input_taken(
+            &self.multiport,
+            &self.graph.port_link,
+            &self.graph.port_meta,
+            &self.copy_node,
+            release,
+            p.0,
+            q.0,
+        ) {
+            let refusal = taken_subports(
+                &self.multiport,
+                &self.graph.port_link,
+                &self.graph.port_meta,
+                &self.copy_node,
+                from,
+                to,
+            );
+            return PortsLinked {
+                graph: self,
+                answer: LinkAnswer::Refused(refusal),
+            };
+        }
         match link_named(
             &self.multiport,
             &self.graph.port_link,

@@ -98,7 +98,7 @@ fn linked_beside<'a>(
 }
 
 // How many wires a port has.
-fn wires_at<'a>(
+pub(crate) fn wires_at<'a>(
     marks: &'a [bool; PORT_SLOTS],
     links: &'a [u32; PORT_SLOTS],
     owners: &'a [u32; PORT_SLOTS],

@@ -1,8 +1,11 @@
 // The calls over lent tables, for a run that copies none of them: adding, linking and cutting, and what a subport is linked with.
+use crate::inputs::input_taken;
+use crate::inputs::taken_subports;
 use crate::multiportgraph::AddAnswer;
 use crate::multiportgraph::EndAnswer;
 use crate::multiportgraph::LinkAnswer;
 use crate::multiportgraph::Refusal;
+use crate::multiportgraph::Release;
 use crate::multiportgraph::SubportIndex;
 use crate::named::NamedEnd;
 use crate::named::NamedLink;
@@ -35,6 +38,8 @@ pub struct Held {
     // The number of hidden nodes, and of subports in them.
     pub(crate) copies: usize,
     pub(crate) subs: usize,
+    // The release that the graph is made for.
+    pub(crate) release: Release,
 }
 
 pub struct AddedIn {
@@ -52,9 +57,9 @@ pub struct CutIn {
     pub answer: EndAnswer,
 }
 
-// The numbers of the empty graph.
-pub fn no_held() -> Held
-    ensures { λ r. ⌜ r ≡ noHeld ⌝ }
+// The numbers of the empty graph that is made for this release.
+pub fn no_held(release: Release) -> Held
+    ensures { λ r. ⌜ r ≡ noHeld release ⌝ }
 {
     Held {
         counts: Counts {
@@ -67,6 +72,7 @@ pub fn no_held() -> Held
         },
         copies: 0,
         subs: 0,
+        release: release,
     }
 }
 
@@ -94,10 +100,12 @@ pub fn link_count_in(held: Held) -> usize
 pub(crate) fn with_counts(held: Held, counts: Counts) -> Held
     ensures { λ r. ⌜ r ≡ heldCounts held counts ⌝ }
 {
+    let release = held.release;
     Held {
         counts: counts,
         copies: held.copies,
         subs: held.subs,
+        release: release,
     }
 }
 
@@ -105,6 +113,7 @@ pub(crate) fn with_links(held: Held, links: usize) -> Held
     ensures { λ r. ⌜ r ≡ heldLinks held links ⌝ }
 {
     let counts = held.counts;
+    let release = held.release;
     Held {
         counts: Counts {
             node_free: counts.node_free,
@@ -116,6 +125,7 @@ pub(crate) fn with_links(held: Held, links: usize) -> Held
         },
         copies: held.copies,
         subs: held.subs,
+        release: release,
     }
 }
 
@@ -222,6 +232,15 @@ pub fn link_sub_in(
     ensures { λ r. ⌜ (multiIn (now (nodes .exit)) (now (links .exit)) (now (owners .exit)) (now (heads .exit)) (now (marks .exit)) (now (flags .exit)) (r .held) ≡ linkSub (multiIn (now (nodes .entry)) (now (links .entry)) (now (owners .entry)) (now (heads .entry)) (now (marks .entry)) (now (flags .entry)) held) (from .port .0) (from .«subport_offset») (to .port .0) (to .«subport_offset») .graph)
         × (r .answer ≡ linkSub (multiIn (now (nodes .entry)) (now (links .entry)) (now (owners .entry)) (now (heads .entry)) (now (marks .entry)) (now (flags .entry)) held) (from .port .0) (from .«subport_offset») (to .port .0) (to .«subport_offset») .answer) ⌝ }
 {
+    let release = held.release;
+    let p = from.port;
+    let q = to.port;
+    if input_taken(marks, links, owners, flags, release, p.0, q.0) {
+        return LinkedIn {
+            held: held,
+            answer: LinkAnswer::Refused(taken_subports(marks, links, owners, flags, from, to)),
+        };
+    }
     match link_named(marks, links, owners, flags, from, to) {
         NamedLink::Ends(x, y) => {
             let first = read_in(marks, from);

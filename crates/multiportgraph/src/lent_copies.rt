@@ -112,10 +112,12 @@ fn remove_copy_in(
     put_mark(marks, wide(copy), false);
     put_mark(marks, wide(port), false);
     put_flag(flags, wide(node), false);
+    let release = held.release;
     Held {
         counts: after,
         copies: less(held.copies, 1),
         subs: less(held.subs, count),
+        release: release,
     }
 }
 

@@ -28,12 +28,14 @@ pub fn graph_of_tables<'a>(
     let graph = graph_in(nodes, links, owners, heads, counts);
     let multiport = *marks;
     let copy_node = *flags;
+    let release = held.release;
     MultiPortGraph {
         graph: graph,
         multiport: multiport,
         copy_node: copy_node,
         copy_node_count: held.copies,
         subport_count: held.subs,
+        release: release,
     }
 }
 
@@ -55,9 +57,11 @@ pub fn tables_of_graph(
     *marks = multiport;
     let copy_node = graph.copy_node;
     *flags = copy_node;
+    let release = graph.release;
     Held {
         counts: counts,
         copies: graph.copy_node_count,
         subs: graph.subport_count,
+        release: release,
     }
 }

@@ -1,6 +1,8 @@
 // Linking ports over lent tables: each end is prepared, and the two inner ports are linked. Whether there is room for both ends is
 // settled before the first change.
 use crate::ends::SeenPort;
+use crate::inputs::input_taken;
+use crate::inputs::taken_ports;
 use crate::lent::Held;
 use crate::lent::LinkedIn;
 use crate::lent::with_links;
@@ -22,13 +24,15 @@ use portgraph::lent::NODE_WORDS;
 use portgraph::numbers::same_side;
 use portgraph::tables::link_both;
 ghost use mathlib.Core.Path.{_≡_};
+ghost use mathlib.Core.Bool.{false};
+ghost use Rattle.portgraph.specs.Limits.{present};
 ghost use Rattle.multiportgraph.specs.Inner.{MultiWf};
 ghost use Rattle.multiportgraph.specs.MultiLent.{multiIn};
 ghost use Rattle.multiportgraph.specs.Needs.{needOf};
 ghost use Rattle.multiportgraph.specs.HiddenNodes.{prepare};
 ghost use Rattle.multiportgraph.specs.Cases.{linkFirst, linkLive};
 ghost use Rattle.multiportgraph.specs.Presumed.{OnBlock, BothOnBlock, FirstReady};
-ghost use Rattle.multiportgraph.specs.Calls.{linkPair};
+ghost use Rattle.multiportgraph.specs.Calls.{linkPairIf, linkPair};
 
 // The second port is not live: the preparation of the first stays.
 fn link_first_in(
@@ -219,7 +223,7 @@ fn link_both_in(
     }
 }
 
-// The first port is live: how the second is seen.
+// The first port is live, and no input that has a wire is refused: how the second is seen.
 fn link_seen_in(
     nodes: &mut [u32; NODE_WORDS],
     links: &mut [u32; PORT_SLOTS],
@@ -233,8 +237,8 @@ fn link_seen_in(
     b: PortIndex,
 ) -> LinkedIn
     requires { ⌜ OnBlock (multiIn (now nodes) (now links) (now owners) (now heads) (now marks) (now flags) held) a d ⌝ }
-    ensures { λ r. ⌜ (multiIn (now (nodes .exit)) (now (links .exit)) (now (owners .exit)) (now (heads .exit)) (now (marks .exit)) (now (flags .exit)) (r .held) ≡ linkPair (multiIn (now (nodes .entry)) (now (links .entry)) (now (owners .entry)) (now (heads .entry)) (now (marks .entry)) (now (flags .entry)) held) a (b .0) .graph)
-        × (r .answer ≡ linkPair (multiIn (now (nodes .entry)) (now (links .entry)) (now (owners .entry)) (now (heads .entry)) (now (marks .entry)) (now (flags .entry)) held) a (b .0) .answer) ⌝ }
+    ensures { λ r. ⌜ (multiIn (now (nodes .exit)) (now (links .exit)) (now (owners .exit)) (now (heads .exit)) (now (marks .exit)) (now (flags .exit)) (r .held) ≡ linkPairIf false present (multiIn (now (nodes .entry)) (now (links .entry)) (now (owners .entry)) (now (heads .entry)) (now (marks .entry)) (now (flags .entry)) held) a (b .0) .graph)
+        × (r .answer ≡ linkPairIf false present (multiIn (now (nodes .entry)) (now (links .entry)) (now (owners .entry)) (now (heads .entry)) (now (marks .entry)) (now (flags .entry)) held) a (b .0) .answer) ⌝ }
 {
     match seen_in(owners, flags, b.0) {
         SeenPort::Dead => link_first_in(nodes, links, owners, heads, marks, flags, held, a, d, b),
@@ -279,6 +283,13 @@ pub fn link_in(
     ensures { λ r. ⌜ (multiIn (now (nodes .exit)) (now (links .exit)) (now (owners .exit)) (now (heads .exit)) (now (marks .exit)) (now (flags .exit)) (r .held) ≡ linkPair (multiIn (now (nodes .entry)) (now (links .entry)) (now (owners .entry)) (now (heads .entry)) (now (marks .entry)) (now (flags .entry)) held) («port_a» .0) («port_b» .0) .graph)
         × (r .answer ≡ linkPair (multiIn (now (nodes .entry)) (now (links .entry)) (now (owners .entry)) (now (heads .entry)) (now (marks .entry)) (now (flags .entry)) held) («port_a» .0) («port_b» .0) .answer) ⌝ }
 {
+    let release = held.release;
+    if input_taken(marks, links, owners, flags, release, port_a.0, port_b.0) {
+        return LinkedIn {
+            held: held,
+            answer: LinkAnswer::Refused(taken_ports(owners, flags, port_a, port_b)),
+        };
+    }
     match seen_in(owners, flags, port_a.0) {
         SeenPort::Dead => LinkedIn {
             held: held,

@@ -85,10 +85,12 @@ fn split_in(
     put_mark(marks, wide(copy), true);
     put_mark(marks, wide(port), true);
     put_flag(flags, wide(node.0), true);
+    let release = held.release;
     let more = Held {
         counts: after,
         copies: held.copies + 1,
         subs: held.subs + 2,
+        release: release,
     };
     PreparedIn {
         held: with_links(more, without_link(after.link_count, was) + 2),
@@ -157,11 +159,13 @@ fn grow_in(
     let moved = far_in(links, wide(port));
     put_mark(marks, wide(copy), false);
     put_mark(marks, wide(moved), true);
+    let release = held.release;
     PreparedIn {
         held: Held {
             counts: after,
             copies: held.copies,
             subs: held.subs + 1,
+            release: release,
         },
         port: last_beside(direction, moved, count),
         offset: count as u16,

@@ -4,6 +4,7 @@ pub mod calls;
 pub mod copies;
 pub mod ends;
 pub mod fan_out;
+pub mod inputs;
 pub mod iter;
 pub mod lent;
 pub mod lent_blocks;

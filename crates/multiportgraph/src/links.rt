@@ -1,4 +1,6 @@
 // Linking ports: each end is prepared, and the two inner ports are linked.
+use crate::inputs::input_taken;
+use crate::inputs::taken_ports;
 use crate::multiportgraph::LinkAnswer;
 use crate::multiportgraph::MultiPortGraph;
 use crate::multiportgraph::PortsLinked;
@@ -127,6 +129,22 @@ impl MultiPortGraph {
         requires { ⌜ MultiWf self ⌝ }
         ensures { λ r. ⌜ (r ≡ linkPair self («port_a» .0) («port_b» .0)) × (linkNumbers (r .answer) ≡ linkNumbers (linkPair self («port_a» .0) («port_b» .0) .answer)) ⌝ }
     {
+        let release = self.release;
+        if input_taken(
+            &self.multiport,
+            &self.graph.port_link,
+            &self.graph.port_meta,
+            &self.copy_node,
+            release,
+            port_a.0,
+            port_b.0,
+        ) {
+            let refusal = taken_ports(&self.graph.port_meta, &self.copy_node, port_a, port_b);
+            return PortsLinked {
+                graph: self,
+                answer: LinkAnswer::Refused(refusal),
+            };
+        }
         match link_need(
             &self.multiport,
             &self.graph.port_link,
@@ -166,6 +184,22 @@ impl MultiPortGraph {
         requires { ⌜ MultiWf self ⌝ }
         ensures { λ r. ⌜ (r ≡ linkClean self («port_a» .0) («port_b» .0)) × (linkNumbers (r .answer) ≡ linkNumbers (linkClean self («port_a» .0) («port_b» .0) .answer)) ⌝ }
     {
+        let release = self.release;
+        if input_taken(
+            &self.multiport,
+            &self.graph.port_link,
+            &self.graph.port_meta,
+            &self.copy_node,
+            release,
+            port_a.0,
+            port_b.0,
+        ) {
+            let refusal = taken_ports(&self.graph.port_meta, &self.copy_node, port_a, port_b);
+            return PortsLinked {
+                graph: self,
+                answer: LinkAnswer::Refused(refusal),
+            };
+        }
         match pair_named(&self.graph.port_meta, &self.copy_node, port_a, port_b) {
             NamedPair::Opposite => self.link_ports(port_a, port_b),
             NamedPair::Refused(refusal) => PortsLinked {

@@ -24,6 +24,7 @@ impl MultiPortGraph {
         let lower = self.graph;
         let slots = lower.node_meta;
         put_slots(&mut nodes, slots);
+        let release = self.release;
         let held = Held {
             counts: Counts {
                 node_free: lower.node_free,
@@ -35,6 +36,7 @@ impl MultiPortGraph {
             },
             copies: self.copy_node_count,
             subs: self.subport_count,
+            release: release,
         };
         wires_in(
             &nodes,
@@ -58,6 +60,7 @@ impl MultiPortGraph {
         let lower = self.graph;
         let slots = lower.node_meta;
         put_slots(&mut nodes, slots);
+        let release = self.release;
         let held = Held {
             counts: Counts {
                 node_free: lower.node_free,
@@ -69,6 +72,7 @@ impl MultiPortGraph {
             },
             copies: self.copy_node_count,
             subs: self.subport_count,
+            release: release,
         };
         blocks_in(
             &nodes,

@@ -6,6 +6,14 @@ use portgraph::index::PORT_SLOTS;
 use portgraph::index::PortIndex;
 use portgraph::portgraph::PortGraph;
 
+// The release of the kit that a graph is made for.
+pub enum Release {
+    // Every port takes many wires.
+    One,
+    // An input takes one wire only.
+    Two,
+}
+
 // A port graph, by value, that allows several links at one port.
 pub struct MultiPortGraph {
     pub(crate) graph: PortGraph,
@@ -16,6 +24,8 @@ pub struct MultiPortGraph {
     // The number of hidden nodes, and of subports in them.
     pub(crate) copy_node_count: usize,
     pub(crate) subport_count: usize,
+    // The release that it is made for, which no call changes.
+    pub(crate) release: Release,
 }
 
 // A port with an offset among its subports; 0 for a port that is not split.
@@ -47,6 +57,8 @@ pub enum Refusal {
     IncompatibleDirections(PortIndex, PortIndex, Direction),
     // The inner port is linked.
     AlreadyLinked(PortIndex),
+    // Under release 2, an input named already has a wire.
+    InputWired,
 }
 
 pub enum AddAnswer {

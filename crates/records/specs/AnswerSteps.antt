@@ -32,7 +32,7 @@ use Rattle.multiportgraph.specs.PrepareSteps.{lower-wf}
 use Rattle.multiportgraph.specs.declared.multiportgraph.PortsSet.{PortsSet}
 use Rattle.multiportgraph.specs.declared.multiportgraph.MultiPortGraph.{MultiPortGraph}
 use Rattle.multiportgraph.specs.declared.multiportgraph.Refusal.{Refusal}
-use Rattle.multiportgraph.specs.declared.multiportgraph.Refusal.the-variants.{BadOffset, TooManyPorts, UnknownNode, HiddenNode, MovesTooShort, UnknownPort, HiddenPort, UnknownOffset, NoRoom, UnknownSecondPort, IncompatibleDirections, AlreadyLinked}
+use Rattle.multiportgraph.specs.declared.multiportgraph.Refusal.the-variants.{BadOffset, TooManyPorts, UnknownNode, HiddenNode, MovesTooShort, UnknownPort, HiddenPort, UnknownOffset, NoRoom, UnknownSecondPort, IncompatibleDirections, AlreadyLinked, InputWired}
 use Rattle.multiportgraph.specs.declared.multiportgraph.CutAnswer.{CutAnswer}
 use Rattle.multiportgraph.specs.declared.multiportgraph.CutAnswer.the-variants as cutting
 use Rattle.multiportgraph.specs.declared.multiportgraph.EndAnswer.{EndAnswer}
@@ -220,6 +220,7 @@ refusal-kept NoRoom = refl
 refusal-kept (UnknownSecondPort p) = refl
 refusal-kept (IncompatibleDirections p q d) = refl
 refusal-kept (AlreadyLinked p) = refl
+refusal-kept InputWired = refl
 
 unplaced-kept : (a : CutAnswer) → unplacedNumbers (unplaced a) ≡ withoutPlace (cutNumbers a)
 unplaced-kept (cutting.Found s x) = refl

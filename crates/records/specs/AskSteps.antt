@@ -14,6 +14,7 @@ use Rattle.multiportgraph.specs.declared.multiportgraph.EndAnswer.{EndAnswer}
 use Rattle.records.specs.Run.{Asked, call, linkOf, counts, refused, after, numbers, five, Answered}
 use Rattle.records.specs.Forms.{EventsFit}
 use Rattle.records.specs.AnswerSteps.{events-fit, cut-told, counts-told}
+use Rattle.multiportgraph.specs.declared.multiportgraph.Release.{Release}
 use Rattle.multiportgraph.specs.Graph.{emptyGraph}
 use Rattle.multiportgraph.specs.Answers.{setNumbers, unplaced, unplacedNumbers}
 use Rattle.multiportgraph.specs.HiddenNodes.{enough}
@@ -39,8 +40,8 @@ set-answered {m} {n = n} {i = i} {o = o} w e q f t g =
     let z = ap (setCounts m n i o) q in
     answered w e (t ∙ ap (λ (k : SetAnswer). five (setNumbers k)) f ∙ ap (λ (r : PortsSet). five (setNumbers (r .answer))) z) (g ∙ ap (λ (r : PortsSet). r .graph) z)
 
-pub empty-wf : (m : MultiPortGraph) → m ≡ emptyGraph → MultiWf m
-empty-wf m e = rw e empty-kept
+pub empty-wf : (release : Release) (m : MultiPortGraph) → m ≡ emptyGraph release → MultiWf m
+empty-wf release m e = rw e (empty-kept release)
 
 pub set-wf : (m : MultiPortGraph) (n i o room : ℕ) (r : PortsSet) → MultiWf m → r ≡ setCounts m n i o room → MultiWf (r .graph)
 set-wf m n i o room r w e = rw e (step-kept m (setCall n i o room) w)

@@ -7,11 +7,12 @@ use Rattle.portgraph.specs.Lent.{nodeWords}
 use Rattle.multiportgraph.specs.MultiLent.{multiIn, noHeld}
 use Rattle.multiportgraph.specs.LentLaws.{empty-in}
 use Rattle.multiportgraph.specs.declared.lent.Held.{Held}
+use Rattle.multiportgraph.specs.declared.multiportgraph.Release.{Release}
 use Rattle.multiportgraph.specs.Graph.{emptyGraph}
 
--- tables without anything are the empty graph
-pub start-in : (held : Held) → held ≡ noHeld →
-    multiIn (replicate nodeWords 0) (replicate portSlots 0) (replicate portSlots 0) (replicate freeLists 0) (replicate portSlots false) (replicate nodeSlots false) held ≡ emptyGraph
-start-in held e =
+-- tables without anything are the empty graph of a release
+pub start-in : (release : Release) (held : Held) → held ≡ noHeld release →
+    multiIn (replicate nodeWords 0) (replicate portSlots 0) (replicate portSlots 0) (replicate freeLists 0) (replicate portSlots false) (replicate nodeSlots false) held ≡ emptyGraph release
+start-in release held e =
     ap (multiIn (replicate nodeWords 0) (replicate portSlots 0) (replicate portSlots 0) (replicate freeLists 0) (replicate portSlots false) (replicate nodeSlots false)) e
-    ∙ empty-in
+    ∙ empty-in release

@@ -2,7 +2,7 @@
 --
 -- What must be believed: that these definitions, over those of the multiport graph, say what document 01 says.
 --   Words         bytes, words and requests
---   Run           what a request asks, its answer, the run from the empty graph, the calls of a list, and refusal 1
+--   Run           what a request asks, its answer, the run from the empty graph of release 1, the calls of a list, and refusal 1
 --   Forms         the enum and the struct in which the code holds what Run says
 --
 -- What is proved, and need not be believed: everything else. The laws hold of every list of requests, with no other premise:
@@ -10,6 +10,7 @@
 --   RunLaws       run-is-history, run-obeys-wire-rule, answer-of-history: the graphs of a run are those of the history of its
 --                 calls, with refused and reading requests left out, so that the wire rule speaks of them
 --   RoomLaws      six-never-given: the run's own move list is long enough
+--   RunRelease    eighteen-never-given: a run is of release 1
 -- Steps that the functions' proofs cite:
 --   WordSteps     the bytes that the leaves lay
 --   AnswerSteps   what the tests on a request say, and numbers that fit a word
@@ -23,6 +24,7 @@ pub mod Forms
 pub mod WordLaws
 pub mod RunLaws
 pub mod RoomLaws
+pub mod RunRelease
 -- steps
 pub mod WordSteps
 pub mod AnswerSteps

@@ -16,8 +16,9 @@ use Rattle.multiportgraph.specs.Inner.{Fine}
 use Rattle.theorems.specs.CallLaws.{rel-run, refused-under-no-other}
 use Rattle.theorems.specs.Conditions as laws
 use Rattle.multiportgraph.specs.declared.multiportgraph.MultiPortGraph.{MultiPortGraph}
+use Rattle.multiportgraph.specs.declared.multiportgraph.Release.the-variants.{One}
 use Rattle.multiportgraph.specs.declared.multiportgraph.Refusal.{Refusal}
-use Rattle.multiportgraph.specs.declared.multiportgraph.Refusal.the-variants.{BadOffset, TooManyPorts, UnknownNode, HiddenNode, MovesTooShort, UnknownPort, HiddenPort, UnknownOffset, NoRoom, UnknownSecondPort, IncompatibleDirections, AlreadyLinked}
+use Rattle.multiportgraph.specs.declared.multiportgraph.Refusal.the-variants.{BadOffset, TooManyPorts, UnknownNode, HiddenNode, MovesTooShort, UnknownPort, HiddenPort, UnknownOffset, NoRoom, UnknownSecondPort, IncompatibleDirections, AlreadyLinked, InputWired}
 use Rattle.multiportgraph.specs.declared.multiportgraph.AddAnswer.the-variants as add
 use Rattle.multiportgraph.specs.declared.multiportgraph.RemoveAnswer.the-variants as remove
 use Rattle.multiportgraph.specs.declared.multiportgraph.SetAnswer.the-variants as resize
@@ -45,6 +46,7 @@ refusal-six NoRoom h = absurd (omega arith)
 refusal-six (UnknownSecondPort p) h = absurd (omega arith)
 refusal-six (IncompatibleDirections p q d) h = absurd (omega arith)
 refusal-six (AlreadyLinked p) h = absurd (omega arith)
+refusal-six InputWired h = absurd (omega arith)
 
 first-kept : (l : List ℕ) → getD (withoutPlace l) 0 0 ≡ getD l 0 0
 first-kept [] = refl
@@ -115,17 +117,19 @@ module _ {m : MultiPortGraph} {M : Model} (f : Fine m M) where
   link-never a b h r (laws.link-first-dead d) e = zero-is-not-one (cc)
   link-never a b h r (laws.link-first-hidden k) e = zero-is-not-one (cc)
   link-never a b h r (laws.link-second-hidden x s k) e = zero-is-not-one (cc)
-  link-never a b h r (laws.link-first-full x s k g) e = zero-is-not-one (cc)
-  link-never a b h r (laws.link-second-full x y m₁ u o s t g k) e = zero-is-not-one (cc)
-  link-never a b h r (laws.link-second-dead x m₁ u o s d g) e = zero-is-not-one (cc)
-  link-never a b h r (laws.link-one-side x y m₁ m₂ u o v w s t g k q) e = zero-is-not-one (cc)
+  link-never a b h r (laws.link-wired x s k t) e = zero-is-not-one (cc)
+  link-never a b h r (laws.link-first-full x s k n g) e = zero-is-not-one (cc)
+  link-never a b h r (laws.link-second-full x y m₁ u o s t n g k) e = zero-is-not-one (cc)
+  link-never a b h r (laws.link-second-dead x m₁ u o s d n g) e = zero-is-not-one (cc)
+  link-never a b h r (laws.link-one-side x y m₁ m₂ u o v w s t n g k q) e = zero-is-not-one (cc)
 
   clean-never : (a b : ℕ) (r : Refusal) → CleanRefused m M a b r → r ≡ MovesTooShort → ⊥
   clean-never a b r (laws.clean-first-dead d) e = zero-is-not-one (cc)
   clean-never a b r (laws.clean-first-hidden k) e = zero-is-not-one (cc)
   clean-never a b r (laws.clean-second-hidden x s k) e = zero-is-not-one (cc)
-  clean-never a b r (laws.clean-second-dead x s d) e = zero-is-not-one (cc)
-  clean-never a b r (laws.clean-one-side x y s t q) e = zero-is-not-one (cc)
+  clean-never a b r (laws.clean-wired x s k t) e = zero-is-not-one (cc)
+  clean-never a b r (laws.clean-second-dead x s d n) e = zero-is-not-one (cc)
+  clean-never a b r (laws.clean-one-side x y s t n q) e = zero-is-not-one (cc)
   clean-never a b r (laws.clean-full x y s t n k) e = zero-is-not-one (cc)
 
   link-sub-never : (p o q r : ℕ) (z : Refusal) → LinkSubRefused m M p o q r z → z ≡ MovesTooShort → ⊥
@@ -135,10 +139,11 @@ module _ {m : MultiPortGraph} {M : Model} (f : Fine m M) where
   link-sub-never p o q r z (laws.sub-second-hidden h x b k) e = zero-is-not-one (cc)
   link-sub-never p o q r z (laws.sub-first-lacks h x b k l) e = zero-is-not-one (cc)
   link-sub-never p o q r z (laws.sub-second-lacks h x y b k l g) e = zero-is-not-one (cc)
-  link-sub-never p o q r z (laws.sub-second-dead h x b d l) e = zero-is-not-one (cc)
-  link-sub-never p o q r z (laws.sub-one-side h x y u v b k l g s) e = zero-is-not-one (cc)
-  link-sub-never p o q r z (laws.sub-first-linked h x y u v b k l g s j) e = zero-is-not-one (cc)
-  link-sub-never p o q r z (laws.sub-second-linked h x y u v b k l g s j i) e = zero-is-not-one (cc)
+  link-sub-never p o q r z (laws.sub-wired h x b k l g t) e = zero-is-not-one (cc)
+  link-sub-never p o q r z (laws.sub-second-dead h x b d l n) e = zero-is-not-one (cc)
+  link-sub-never p o q r z (laws.sub-one-side h x y u v b k l g n s) e = zero-is-not-one (cc)
+  link-sub-never p o q r z (laws.sub-first-linked h x y u v b k l g n s j) e = zero-is-not-one (cc)
+  link-sub-never p o q r z (laws.sub-second-linked h x y u v b k l g n s j i) e = zero-is-not-one (cc)
 
   never : (c : Call) → Roomy c → Condition m M c MovesTooShort → ⊥
   never (book.addCall i o) z h = add-never i o MovesTooShort h refl
@@ -191,5 +196,5 @@ numbers-not-six f counts z h = omega arith
 numbers-not-six f refused z h = omega arith
 
 -- no answer of a run is 6
-pub six-never-given : (l : List Request) (q : Request) → getD (numbers (run (callsOf l) .graph) (asked q)) 0 0 ≡ 6 → ⊥
-six-never-given l q h = numbers-not-six (rel-run (callsOf l) .1 .fine) (asked q) (asked-has-room (q .code) (q .a) (q .b) (q .c) (q .d) .roomy) h
+pub six-never-given : (l : List Request) (q : Request) → getD (numbers (run One (callsOf l) .graph) (asked q)) 0 0 ≡ 6 → ⊥
+six-never-given l q h = numbers-not-six (rel-run One (callsOf l) .1 .fine) (asked q) (asked-has-room (q .code) (q .a) (q .b) (q .c) (q .d) .roomy) h

@@ -1,4 +1,4 @@
--- The record run of 01: what a request asks, its answer, the run from the empty graph, and refusal 1.
+-- The record run of 01: what a request asks, its answer, the run from the empty graph of release 1, and refusal 1.
 use mathlib.Core.Path.{_≡_}
 use mathlib.Core.Bool.{Bool, true, false, cond}
 use mathlib.Core.List.{List, [], _∷_, _++_}
@@ -11,6 +11,7 @@ use Rattle.theorems.specs.History.{step, numbersOf}
 use Rattle.multiportgraph.specs.Inner.{MultiWf}
 use Rattle.multiportgraph.specs.declared.multiportgraph.MultiPortGraph.{MultiPortGraph}
 use Rattle.records.specs.Words.{bytesOf, Request, requestsOf}
+use Rattle.multiportgraph.specs.declared.multiportgraph.Release.the-variants.{One}
 use Rattle.multiportgraph.specs.Graph.{emptyGraph}
 use Rattle.multiportgraph.specs.Answers.{cutNumbers}
 use Rattle.multiportgraph.specs.Refusals.{goodOffset}
@@ -116,9 +117,13 @@ unfoldable pub callsOf : List Request → List Call
 callsOf [] = []
 callsOf (q ∷ l) = callThen (asked q) (callsOf l)
 
+-- a run begins with the empty graph of release 1
+abbrev pub firstGraph : MultiPortGraph
+firstGraph = emptyGraph One
+
 -- the bytes of every answer to a list of requests
 abbrev pub answerBytes : List ℕ → List ℕ
-answerBytes requests = bytesOf (answersFrom emptyGraph (requestsOf requests))
+answerBytes requests = bytesOf (answersFrom firstGraph (requestsOf requests))
 
 -- refusal 1: the length is not a multiple of 20 or differs from the answer buffer's
 unfoldable pub listTaken : List ℕ → List ℕ → Bool

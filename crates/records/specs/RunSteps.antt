@@ -11,10 +11,10 @@ use Rattle.multiportgraph.specs.Inner.{MultiWf}
 use Rattle.theorems.specs.CallLaws.{empty-kept}
 use Rattle.multiportgraph.specs.declared.multiportgraph.MultiPortGraph.{MultiPortGraph}
 use Rattle.records.specs.Words.{bytesOf, Request, requestAt, requestsFrom, requestsOf}
-use Rattle.records.specs.Run.{Asked, asked, after, numbers, five, Answered, answersFrom, graphFrom, answerBytes, returned, written, listTaken}
+use Rattle.records.specs.Run.{Asked, asked, after, numbers, five, Answered, answersFrom, graphFrom, answerBytes, returned, written, listTaken, firstGraph}
 use Rattle.records.specs.WordLaws.{bytes-append, bytes-long, requests-many}
 use Rattle.records.specs.WordSteps.{sets-parts}
-use Rattle.multiportgraph.specs.Graph.{emptyGraph}
+use Rattle.multiportgraph.specs.declared.multiportgraph.Release.the-variants.{One}
 
 -- The loop: what is laid with the rest of the run is the whole.
 
@@ -38,8 +38,8 @@ answers-long m (q ∷ l) = let h = answers-long (after m (asked q)) l in omega a
 whole-long : (requests : List ℕ) → length requests % 20 ≡ 0 → length (answerBytes requests) ≡ length requests
 unfolding requestsOf
 whole-long requests h =
-    let a = bytes-long (answersFrom emptyGraph (requestsOf requests)) in
-    let b = answers-long emptyGraph (requestsOf requests) in
+    let a = bytes-long (answersFrom firstGraph (requestsOf requests)) in
+    let b = answers-long firstGraph (requestsOf requests) in
     let c = requests-many requests 0 (length requests / 20) in
     omega arith
 
@@ -49,7 +49,7 @@ sets-all l v h =
     let e : 0 + length v ≡ length l = omega arith in
     sets-eq v l 0 (omega arith) ∙ rw (e, drop-length l) (append-nil v)
 
-pub run-starts : {requests answers : List ℕ} {m : MultiPortGraph} → m ≡ emptyGraph → length answers ≡ length requests → length requests % 20 ≡ 0 → Running requests answers m 0
+pub run-starts : {requests answers : List ℕ} {m : MultiPortGraph} → m ≡ firstGraph → length answers ≡ length requests → length requests % 20 ≡ 0 → Running requests answers m 0
 unfolding requestsOf
 run-starts {requests} {answers} e long whole =
     let n : length requests - 0 ≡ length requests = omega arith in
@@ -58,7 +58,7 @@ run-starts {requests} {answers} e long whole =
       whole = rw n whole;
       long = long;
       rest = rw (e, n) (sets-all answers (answerBytes requests) (whole-long requests whole ∙ sym long));
-      kept = rw e empty-kept;
+      kept = rw e (empty-kept One);
     }
 
 -- one turn: the request at this place is answered, its words are laid, and the next turn has the graph that it leaves

@@ -67,6 +67,7 @@ pub fn refusal_words(refusal: Refusal) -> Answer5
         Refusal::UnknownSecondPort(p) => five_words(11, p.0, 0, 0, 0),
         Refusal::IncompatibleDirections(p, q, d) => five_words(12, p.0, q.0, side_number(d), 0),
         Refusal::AlreadyLinked(p) => five_words(13, p.0, 0, 0, 0),
+        Refusal::InputWired => five_words(18, 0, 0, 0, 0),
     }
 }
 

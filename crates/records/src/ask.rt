@@ -14,6 +14,7 @@ use crate::requests::ask_of;
 use multiportgraph::multiportgraph::MultiPortGraph;
 use multiportgraph::multiportgraph::PortUnlinked;
 use multiportgraph::multiportgraph::PortsSet;
+use multiportgraph::multiportgraph::Release;
 use multiportgraph::multiportgraph::SubportIndex;
 use portgraph::index::NodeIndex;
 use portgraph::index::PortIndex;
@@ -33,11 +34,11 @@ pub struct Asked {
     pub answer: Answer5,
 }
 
-// The empty graph.
-pub fn empty() -> MultiPortGraph
-    ensures { λ r. ⌜ (r ≡ emptyGraph) × MultiWf r ⌝ }
+// The empty graph of a release.
+pub fn empty(release: Release) -> MultiPortGraph
+    ensures { λ r. ⌜ (r ≡ emptyGraph release) × MultiWf r ⌝ }
 {
-    MultiPortGraph::new()
+    MultiPortGraph::new(release)
 }
 
 // Changes the number of ports of a block, with the caller's move list.

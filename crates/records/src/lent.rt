@@ -22,6 +22,7 @@ use multiportgraph::lent_blocks::cut_port_in;
 use multiportgraph::lent_blocks::remove_in;
 use multiportgraph::lent_blocks::set_quiet_in;
 use multiportgraph::lent_links::link_in;
+use multiportgraph::multiportgraph::Release;
 use portgraph::index::FREE_LISTS;
 use portgraph::index::NODE_SLOTS;
 use portgraph::index::PORT_SLOTS;
@@ -163,7 +164,7 @@ fn one_request(
     }
 }
 
-// Runs a list from an empty graph, past refused calls, and lays every answer: as the run by value does.
+// Runs a list from an empty graph of release 1, past refused calls, and lays every answer: as the run by value does.
 pub(crate) fn run_list(requests: &[u8], answers: &mut [u8])
     requires { ⌜ (length (now answers) ≡ length (now requests)) × (length (now requests) % 20 ≡ 0) ⌝ }
     ensures { λ _. ⌜ now (answers .exit) ≡ answerBytes (now (requests .entry)) ⌝ }
@@ -174,7 +175,7 @@ pub(crate) fn run_list(requests: &[u8], answers: &mut [u8])
     let mut heads = [0u32; FREE_LISTS];
     let mut marks = [false; PORT_SLOTS];
     let mut flags = [false; NODE_SLOTS];
-    let mut held = no_held();
+    let mut held = no_held(Release::One);
     let mut at: usize = 0;
     while at < requests.len() {
         let ask = ask_at(requests, at);

@@ -4,17 +4,18 @@ use crate::ask::answer;
 use crate::ask::empty;
 use crate::lent::run_list;
 use crate::requests::ask_at;
+use multiportgraph::multiportgraph::Release;
 ghost use mathlib.Core.Path.{_≡_};
 ghost use Prim.Native.Nat.{_%_};
 ghost use lib.ListN.{length};
 ghost use Rattle.records.specs.Run.{answerBytes, returned, written};
 
-// Runs a list from an empty graph, past refused calls, and lays every answer, by the calls that take the graph by value.
+// Runs a list from an empty graph of release 1, past refused calls, and lays every answer, by the calls that take the graph by value.
 fn run_all(requests: &[u8], answers: &mut [u8])
     requires { ⌜ (length (now answers) ≡ length (now requests)) × (length (now requests) % 20 ≡ 0) ⌝ }
     ensures { λ _. ⌜ now (answers .exit) ≡ answerBytes (now (requests .entry)) ⌝ }
 {
-    let mut graph = empty();
+    let mut graph = empty(Release::One);
     let mut at: usize = 0;
     while at < requests.len() {
         let done = answer(graph, ask_at(requests, at));

@@ -1,8 +1,9 @@
--- Histories in which a whole sheet may stand where a call stands: lists of calls and sheets from the empty graph, each on the graph that
--- the last one left, with the wire book beside it. The book counts a sheet as its links.
+-- Histories in which a whole sheet may stand where a call stands: lists of calls and sheets from the empty graph of a release, each on the
+-- graph that the last one left, with the wire book beside it. The book counts a sheet as its links.
 use mathlib.Core.Bool.{cond}
 use mathlib.Core.List.{List, [], _∷_, map}
 use Rattle.multiportgraph.specs.Graph.{emptyGraph}
+use Rattle.multiportgraph.specs.declared.multiportgraph.Release.{Release}
 use Rattle.theorems.specs.Book.{Call, linkCall, Book, emptyBook, bookLink}
 use Rattle.theorems.specs.History.{State, next}
 use Rattle.sheets.specs.declared.sheet.SheetEntry.{SheetEntry}
@@ -39,8 +40,8 @@ unfoldable pub runItemsFrom : State → List Item → State
 runItemsFrom s [] = s
 runItemsFrom s (i ∷ items) = runItemsFrom (nextItem s i) items
 
-unfoldable pub runItems : List Item → State
-runItems items = runItemsFrom (record { graph = emptyGraph; book = emptyBook }) items
+unfoldable pub runItems : Release → List Item → State
+runItems release items = runItemsFrom (record { graph = emptyGraph release; book = emptyBook }) items
 
 -- The same history with every sheet taken apart.
 

@@ -13,6 +13,7 @@ use lib.ListN.{length, take}
 use borrow.Author.Tests.{lt-ltb, le-ltb, ltb-true, ltb-false}
 use Rattle.portgraph.specs.declared.index.PortIndex.{PortIndex}
 use Rattle.multiportgraph.specs.Inner.{MultiWf}
+use Rattle.multiportgraph.specs.declared.multiportgraph.Release.{Release}
 use Rattle.multiportgraph.specs.declared.multiportgraph.MultiPortGraph.{MultiPortGraph}
 use Rattle.theorems.specs.Book.{Call, linkCall}
 use Rattle.theorems.specs.History.{State, step, next, runFrom, runFromUnder, run, runUnder}
@@ -165,12 +166,12 @@ history-from s (i ∷ items) =
     ∙ ap {B = State} (λ (t : State). runFrom t (flatMap callsOf items)) (item-is-its-calls s i)
     ∙ sym (run-from-append s (callsOf i) (flatMap callsOf items))
 
-pub history-of-calls : (items : List Item) → runItems items ≡ run (flatMap callsOf items)
+pub history-of-calls : (release : Release) (items : List Item) → runItems release items ≡ run release (flatMap callsOf items)
 unfolding runItems runUnder
-history-of-calls items = history-from _ items
+history-of-calls release items = history-from _ items
 
-pub with-sheets : (P : State → Type 0) → ((calls : List Call) → P (run calls)) → (items : List Item) → P (runItems items)
-with-sheets P h items = subst P (sym (history-of-calls items)) (h (flatMap callsOf items))
+pub with-sheets : (release : Release) (P : State → Type 0) → ((calls : List Call) → P (run release calls)) → (items : List Item) → P (runItems release items)
+with-sheets release P h items = subst P (sym (history-of-calls release items)) (h (flatMap callsOf items))
 
 -- The entries held by value.
 

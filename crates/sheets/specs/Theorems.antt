@@ -6,13 +6,18 @@ use mathlib.Core.List.{List, [], _∷_, _++_, map, flatMap}
 use mathlib.Core.Logic.{_↔_}
 use Prim.Native.Nat.{ℕ, _+_, _<_, _≤_}
 use lib.ListN.{length, take}
+use Rattle.portgraph.specs.Lists.{Member}
 use Rattle.portgraph.specs.Model.{Model}
+use Rattle.portgraph.specs.declared.direction.Direction.the-variants.{Incoming}
 use Rattle.multiportgraph.specs.Calls.{visibleNodes, visiblePorts, visibleLinks}
-use Rattle.multiportgraph.specs.Places.{Spot}
+use Rattle.multiportgraph.specs.Places.{Spot, Wire}
+use Rattle.multiportgraph.specs.Reading.{isSplit, visible, seen}
 use Rattle.multiportgraph.specs.Wires.{wiresWalked}
 use Rattle.multiportgraph.specs.Inner.{Fine, MultiWf}
 use Rattle.multiportgraph.specs.SpaceLaws.{Spaced}
 use Rattle.multiportgraph.specs.declared.multiportgraph.MultiPortGraph.{MultiPortGraph}
+use Rattle.multiportgraph.specs.declared.multiportgraph.Release.{Release}
+use Rattle.multiportgraph.specs.declared.multiportgraph.Release.the-variants.{Two}
 use Rattle.multiportgraph.specs.declared.multiportgraph.SubportIndex.{SubportIndex}
 use Rattle.multiportgraph.specs.declared.multiportgraph.Refusal.{Refusal}
 use Rattle.multiportgraph.specs.declared.multiportgraph.Refusal.the-variants.{NoRoom}
@@ -24,6 +29,7 @@ use Rattle.theorems.specs.AnswerClaims.{AnswersItsWire, AnswersAreWires}
 use Rattle.theorems.specs.PlaceClaims.{PlacesAreWires}
 use Rattle.theorems.specs.Conditions.{RefusedBy, Accepted, Condition, leavesPrepared}
 use Rattle.theorems.specs.Theorems as calls
+use Rattle.theorems.specs.ReleaseTheorems as releases
 use Rattle.sheets.specs.declared.sheet.SheetEntry.{SheetEntry}
 use Rattle.sheets.specs.declared.sheet.SheetAnswer.the-variants.{TooManyEntries}
 use Rattle.sheets.specs.declared.held.HeldLinked.{HeldLinked}
@@ -78,97 +84,110 @@ pub uncounted-places-are-too-many : (m : MultiPortGraph) (places : List SheetEnt
     linkHeld m places count ≡ record { graph = m; answer = TooManyEntries; places = places }
 uncounted-places-are-too-many = proofs.uncounted-places-are-too-many
 
--- Histories with sheets in them: lists of calls and sheets from the empty graph, refused ones included.
+-- Histories with sheets in them: lists of calls and sheets from the empty graph of either release, refused ones included.
 
 -- Graph and book are those of the calls alone, where each sheet stands for its links,
-pub history-of-calls : (items : List Item) → runItems items ≡ run (flatMap callsOf items)
+pub history-of-calls : (release : Release) (items : List Item) → runItems release items ≡ run release (flatMap callsOf items)
 history-of-calls = proofs.history-of-calls
 
 -- so that whatever holds of graph and book after every list of calls holds with sheets in the list. These by name:
-pub with-sheets : (P : State → Type 0) → ((l : List Call) → P (run l)) → (items : List Item) → P (runItems items)
+pub with-sheets : (release : Release) (P : State → Type 0) → ((l : List Call) → P (run release l)) → (items : List Item) → P (runItems release items)
 with-sheets = proofs.with-sheets
 
 -- the list of all wires, walked from its start until it ends, holds exactly once each wire that an accepted call or entry made and none
 -- has undone since, by the wire book, and nothing else;
-pub sheet-wire-rule : (items : List Item) → WireRule (runItems items)
-sheet-wire-rule = with-sheets WireRule calls.wire-rule
+pub sheet-wire-rule : (release : Release) (items : List Item) → WireRule (runItems release items)
+sheet-wire-rule release = with-sheets release WireRule (calls.wire-rule release)
 
 -- a link of either kind follows and is accepted: cutting either subport that it answered brings back the earlier list of wires;
-pub sheet-cut-restores : (items : List Item) (l : Link) (x y : SubportIndex) → LinkedBy (runItems items) l x y →
-    Restored (runItems items .graph) (next (runItems items) (linking l) .graph) x × Restored (runItems items .graph) (next (runItems items) (linking l) .graph) y
-sheet-cut-restores =
-    with-sheets
+pub sheet-cut-restores : (release : Release) (items : List Item) (l : Link) (x y : SubportIndex) → LinkedBy (runItems release items) l x y →
+    Restored (runItems release items .graph) (next (runItems release items) (linking l) .graph) x × Restored (runItems release items .graph) (next (runItems release items) (linking l) .graph) y
+sheet-cut-restores release =
+    with-sheets release
     (λ s. (l : Link) (x y : SubportIndex) → LinkedBy s l x y → Restored (s .graph) (next s (linking l) .graph) x × Restored (s .graph) (next s (linking l) .graph) y)
-    calls.cut-restores
+    (calls.cut-restores release)
 
 -- two links of either kind, accepted whichever goes first, leave as many wires between any two ports in both orders;
-pub sheet-links-in-either-order : (items : List Item) (k l : Link) → acceptedLink (runItems items) k → acceptedLink (next (runItems items) (linking k)) l →
-    acceptedLink (runItems items) l → acceptedLink (next (runItems items) (linking l)) k → (a b : Spot) →
-    between a b (wiresWalked (next (next (runItems items) (linking k)) (linking l) .graph))
-    ≡ between a b (wiresWalked (next (next (runItems items) (linking l)) (linking k) .graph))
-sheet-links-in-either-order =
-    with-sheets
+pub sheet-links-in-either-order : (release : Release) (items : List Item) (k l : Link) → acceptedLink (runItems release items) k → acceptedLink (next (runItems release items) (linking k)) l →
+    acceptedLink (runItems release items) l → acceptedLink (next (runItems release items) (linking l)) k → (a b : Spot) →
+    between a b (wiresWalked (next (next (runItems release items) (linking k)) (linking l) .graph))
+    ≡ between a b (wiresWalked (next (next (runItems release items) (linking l)) (linking k) .graph))
+sheet-links-in-either-order release =
+    with-sheets release
     (λ s. (k l : Link) → acceptedLink s k → acceptedLink (next s (linking k)) l → acceptedLink s l → acceptedLink (next s (linking l)) k → (a b : Spot) →
     between a b (wiresWalked (next (next s (linking k)) (linking l) .graph)) ≡ between a b (wiresWalked (next (next s (linking l)) (linking k) .graph)))
-    calls.links-in-either-order
+    (calls.links-in-either-order release)
 
 -- the wire that an accepted link enters in the book has the two answered subports as its ends, the first named first;
-pub sheet-link-answers-the-wire : (items : List Item) (l : Link) (x y : SubportIndex) → LinkedBy (runItems items) l x y → AnswersItsWire (runItems items) l x y
-sheet-link-answers-the-wire = with-sheets (λ s. (l : Link) (x y : SubportIndex) → LinkedBy s l x y → AnswersItsWire s l x y) calls.link-answers-the-wire
+pub sheet-link-answers-the-wire : (release : Release) (items : List Item) (l : Link) (x y : SubportIndex) → LinkedBy (runItems release items) l x y → AnswersItsWire (runItems release items) l x y
+sheet-link-answers-the-wire release = with-sheets release (λ s. (l : Link) (x y : SubportIndex) → LinkedBy s l x y → AnswersItsWire s l x y) (calls.link-answers-the-wire release)
 
 -- what a subport is linked with, and what a cut answers, is what the book has;
-pub sheet-answers-are-wires : (items : List Item) → AnswersAreWires (runItems items)
-sheet-answers-are-wires = with-sheets AnswersAreWires calls.answers-are-wires
+pub sheet-answers-are-wires : (release : Release) (items : List Item) → AnswersAreWires (runItems release items)
+sheet-answers-are-wires release = with-sheets release AnswersAreWires (calls.answers-are-wires release)
 
 -- and the place given with an end found, by an answer or by a step of a walk, is that of the book's wire;
-pub sheet-places-are-wires : (items : List Item) → PlacesAreWires (runItems items)
-sheet-places-are-wires = with-sheets PlacesAreWires calls.places-are-wires
+pub sheet-places-are-wires : (release : Release) (items : List Item) → PlacesAreWires (runItems release items)
+sheet-places-are-wires release = with-sheets release PlacesAreWires (calls.places-are-wires release)
 
 -- the visible nodes, ports and links that a kit counts are the blocks of the book, their ports, and its wires;
-pub sheet-visible-nodes : (items : List Item) → visibleNodes (runItems items .graph) ≡ length (runItems items .book .blocks)
-sheet-visible-nodes = with-sheets (λ s. visibleNodes (s .graph) ≡ length (s .book .blocks)) calls.visible-nodes-of-history
+pub sheet-visible-nodes : (release : Release) (items : List Item) → visibleNodes (runItems release items .graph) ≡ length (runItems release items .book .blocks)
+sheet-visible-nodes release = with-sheets release (λ s. visibleNodes (s .graph) ≡ length (s .book .blocks)) (calls.visible-nodes-of-history release)
 
-pub sheet-visible-ports : (items : List Item) → visiblePorts (runItems items .graph) ≡ length (portsInBook (runItems items .book))
-sheet-visible-ports = with-sheets (λ s. visiblePorts (s .graph) ≡ length (portsInBook (s .book))) calls.visible-ports-of-history
+pub sheet-visible-ports : (release : Release) (items : List Item) → visiblePorts (runItems release items .graph) ≡ length (portsInBook (runItems release items .book))
+sheet-visible-ports release = with-sheets release (λ s. visiblePorts (s .graph) ≡ length (portsInBook (s .book))) (calls.visible-ports-of-history release)
 
-pub sheet-visible-links : (items : List Item) → visibleLinks (runItems items .graph) ≡ length (runItems items .book .wires)
-sheet-visible-links = with-sheets (λ s. visibleLinks (s .graph) ≡ length (s .book .wires)) calls.visible-links-of-history
+pub sheet-visible-links : (release : Release) (items : List Item) → visibleLinks (runItems release items .graph) ≡ length (runItems release items .book .wires)
+sheet-visible-links release = with-sheets release (λ s. visibleLinks (s .graph) ≡ length (s .book .wires)) (calls.visible-links-of-history release)
 
 -- each refusal of a call is given under its condition and no other, and where none holds the call is done;
-pub sheet-refused-under-condition : (items : List Item) (c : Call) → (M : Model) → Fine (runItems items .graph) M → (r : Refusal) →
-    Condition (runItems items .graph) M c r → RefusedBy c (step (runItems items .graph) c .answer) r
-sheet-refused-under-condition =
-    with-sheets (λ s. (c : Call) → (M : Model) → Fine (s .graph) M → (r : Refusal) → Condition (s .graph) M c r → RefusedBy c (step (s .graph) c .answer) r)
-    calls.refused-under-condition
+pub sheet-refused-under-condition : (release : Release) (items : List Item) (c : Call) → (M : Model) → Fine (runItems release items .graph) M → (r : Refusal) →
+    Condition (runItems release items .graph) M c r → RefusedBy c (step (runItems release items .graph) c .answer) r
+sheet-refused-under-condition release =
+    with-sheets release (λ s. (c : Call) → (M : Model) → Fine (s .graph) M → (r : Refusal) → Condition (s .graph) M c r → RefusedBy c (step (s .graph) c .answer) r)
+    (calls.refused-under-condition release)
 
-pub sheet-refused-under-no-other : (items : List Item) (c : Call) → (M : Model) → Fine (runItems items .graph) M → (r : Refusal) →
-    RefusedBy c (step (runItems items .graph) c .answer) r → Condition (runItems items .graph) M c r
-sheet-refused-under-no-other =
-    with-sheets (λ s. (c : Call) → (M : Model) → Fine (s .graph) M → (r : Refusal) → RefusedBy c (step (s .graph) c .answer) r → Condition (s .graph) M c r)
-    calls.refused-under-no-other
+pub sheet-refused-under-no-other : (release : Release) (items : List Item) (c : Call) → (M : Model) → Fine (runItems release items .graph) M → (r : Refusal) →
+    RefusedBy c (step (runItems release items .graph) c .answer) r → Condition (runItems release items .graph) M c r
+sheet-refused-under-no-other release =
+    with-sheets release (λ s. (c : Call) → (M : Model) → Fine (s .graph) M → (r : Refusal) → RefusedBy c (step (s .graph) c .answer) r → Condition (s .graph) M c r)
+    (calls.refused-under-no-other release)
 
-pub sheet-accepted-otherwise : (items : List Item) (c : Call) → (M : Model) → Fine (runItems items .graph) M →
-    ((r : Refusal) → Condition (runItems items .graph) M c r → ⊥) → Accepted c (step (runItems items .graph) c .answer)
-sheet-accepted-otherwise =
-    with-sheets (λ s. (c : Call) → (M : Model) → Fine (s .graph) M → ((r : Refusal) → Condition (s .graph) M c r → ⊥) → Accepted c (step (s .graph) c .answer))
-    calls.accepted-otherwise
+pub sheet-accepted-otherwise : (release : Release) (items : List Item) (c : Call) → (M : Model) → Fine (runItems release items .graph) M →
+    ((r : Refusal) → Condition (runItems release items .graph) M c r → ⊥) → Accepted c (step (runItems release items .graph) c .answer)
+sheet-accepted-otherwise release =
+    with-sheets release (λ s. (c : Call) → (M : Model) → Fine (s .graph) M → ((r : Refusal) → Condition (s .graph) M c r → ⊥) → Accepted c (step (s .graph) c .answer))
+    (calls.accepted-otherwise release)
 
 -- a refused call leaves the graph as it was, save what a link refused with 11 or 12 made ready;
-pub sheet-refused-changes-nothing : (items : List Item) (c : Call) (r : Refusal) → RefusedBy c (step (runItems items .graph) c .answer) r →
-    leavesPrepared c r ≡ false → step (runItems items .graph) c .graph ≡ runItems items .graph
-sheet-refused-changes-nothing =
-    with-sheets (λ s. (c : Call) (r : Refusal) → RefusedBy c (step (s .graph) c .answer) r → leavesPrepared c r ≡ false → step (s .graph) c .graph ≡ s .graph)
-    calls.refused-changes-nothing
+pub sheet-refused-changes-nothing : (release : Release) (items : List Item) (c : Call) (r : Refusal) → RefusedBy c (step (runItems release items .graph) c .answer) r →
+    leavesPrepared c r ≡ false → step (runItems release items .graph) c .graph ≡ runItems release items .graph
+sheet-refused-changes-nothing release =
+    with-sheets release (λ s. (c : Call) (r : Refusal) → RefusedBy c (step (s .graph) c .answer) r → leavesPrepared c r ≡ false → step (s .graph) c .graph ≡ s .graph)
+    (calls.refused-changes-nothing release)
 
 -- 10 is given exactly if the works of the call, one after the other, would lengthen a table past its limit;
-pub sheet-call-space : (items : List Item) (c : Call) → (M : Model) → Fine (runItems items .graph) M →
-    Spaced (runItems items .graph) M (worksOf (runItems items .graph) c) (RefusedBy c (step (runItems items .graph) c .answer) NoRoom)
-    (step (runItems items .graph) c .graph)
-sheet-call-space =
-    with-sheets
+pub sheet-call-space : (release : Release) (items : List Item) (c : Call) → (M : Model) → Fine (runItems release items .graph) M →
+    Spaced (runItems release items .graph) M (worksOf (runItems release items .graph) c) (RefusedBy c (step (runItems release items .graph) c .answer) NoRoom)
+    (step (runItems release items .graph) c .graph)
+sheet-call-space release =
+    with-sheets release
     (λ s. (c : Call) → (M : Model) → Fine (s .graph) M → Spaced (s .graph) M (worksOf (s .graph) c) (RefusedBy c (step (s .graph) c .answer) NoRoom) (step (s .graph) c .graph))
-    calls.call-space
+    (calls.call-space release)
 
 -- and what every contract presumes of its graph holds, a sheet's own among them.
-pub sheet-run-kept : (items : List Item) → MultiWf (runItems items .graph)
-sheet-run-kept = with-sheets (λ s. MultiWf (s .graph)) calls.run-kept
+pub sheet-run-kept : (release : Release) (items : List Item) → MultiWf (runItems release items .graph)
+sheet-run-kept release = with-sheets release (λ s. MultiWf (s .graph)) (calls.run-kept release)
+
+-- Under release 2 no input is split,
+pub sheet-release-two-never-splits-an-input : (items : List Item) (p n : ℕ) → seen (runItems Two items .graph) p ≡ visible n Incoming → isSplit (runItems Two items .graph) p ≡ false
+sheet-release-two-never-splits-an-input =
+    with-sheets Two (λ s. (p n : ℕ) → seen (s .graph) p ≡ visible n Incoming → isSplit (s .graph) p ≡ false) releases.release-two-never-splits-an-input
+
+-- and an input takes one wire only.
+pub sheet-release-two-wires-an-input-once : (items : List Item) (w v : Wire) → Member w (runItems Two items .book .wires) → Member v (runItems Two items .book .wires) →
+    w .into .node ≡ v .into .node → w .into .pos ≡ v .into .pos → w ≡ v
+sheet-release-two-wires-an-input-once =
+    with-sheets Two
+    (λ s. (w v : Wire) → Member w (s .book .wires) → Member v (s .book .wires) → w .into .node ≡ v .into .node → w .into .pos ≡ v .into .pos → w ≡ v)
+    releases.release-two-wires-an-input-once

@@ -19,10 +19,11 @@ use Rattle.portgraph.specs.declared.portgraph.PortLink.{PortLink}
 use Rattle.portgraph.specs.declared.portgraph.PortLink.the-variants as lower-cut
 use Rattle.portgraph.specs.declared.direction.Direction.{Direction}
 use Rattle.portgraph.specs.declared.direction.Direction.the-variants.{Incoming, Outgoing}
-use Rattle.multiportgraph.specs.Reading.{isSplit, Port, dead, hidden, visible, seen, sideOf, End, inner, lacking, endAt, subport#, asRead, subportOf, standing, standingOf}
+use Rattle.multiportgraph.specs.declared.multiportgraph.Release.{Release}
+use Rattle.multiportgraph.specs.Reading.{isSplit, Port, dead, hidden, visible, seen, sideOf, End, inner, lacking, endAt, subport#, asRead, subportOf, standing, standingOf, linkOfEnd, farSubport}
 use Rattle.multiportgraph.specs.Answers.{unplaced}
 use Rattle.multiportgraph.specs.Refusals.{endOf, innerPort, goodOffset}
-use Rattle.multiportgraph.specs.Calls.{linkPair, linkSub, linkOfEnd, farSubport, subportLink, cutPlain, cutPort, cutSub}
+use Rattle.multiportgraph.specs.Calls.{linkPair, linkSub, subportLink, cutPlain, cutPort, cutSub}
 use Rattle.multiportgraph.specs.Cases.{cutRefused, cutEnd, cutSubSeen, linkOfSeen}
 use Rattle.multiportgraph.specs.CaseLaws.{cut-cases, cut-sub-cases, subport-link-cases}
 use Rattle.multiportgraph.specs.Places.{Place, Wire, spot, wireOfSides}
@@ -47,7 +48,7 @@ use Rattle.theorems.specs.LinkLaw.{LinkDone, link-done-law}
 use Rattle.theorems.specs.LinkCleanCall.{clean-is-link, clean-next, clean-done-law}
 use Rattle.theorems.specs.WireRule.{Rel, OneMore, ports-link, subports-link, seen-live, spot-of, offset-of}
 use Rattle.theorems.specs.CallLaws.{rel-step, rel-run}
-use Rattle.theorems.specs.TheoremProofs.{end-named}
+use Rattle.theorems.specs.ListedLinks.{end-named}
 use Rattle.theorems.specs.AnswerClaims.{wireBetween, firstNamed, secondNamed, AnswersItsWire, PortOfBlock, EndThere, SubportThere, asked, cutAnswer, EndsFound, AsksTheBook, cutFar, CutsTheBook, AnswersAreWires}
 
 -- Places after a link.
@@ -151,8 +152,8 @@ answers-its-wire s M r (bySubports p o q t) x y h =
     }
 
 -- The wire that an accepted link enters in the book has the two subports answered as its ends, the first named first.
-pub link-answers-the-wire : (calls : List Call) (l : Link) (x y : SubportIndex) → LinkedBy (run calls) l x y → AnswersItsWire (run calls) l x y
-link-answers-the-wire calls = let r = rel-run calls in answers-its-wire (run calls) (r .0) (r .1)
+pub link-answers-the-wire : (release : Release) (calls : List Call) (l : Link) (x y : SubportIndex) → LinkedBy (run release calls) l x y → AnswersItsWire (run release calls) l x y
+link-answers-the-wire release calls = let r = rel-run release calls in answers-its-wire (run release calls) (r .0) (r .1)
 
 -- Questions.
 
@@ -508,13 +509,13 @@ cuts-the-book s M r p b =
     }
 
 -- What a question and a cut answer of a wire is what the book has.
-pub answers-are-wires : (calls : List Call) → AnswersAreWires (run calls)
-answers-are-wires calls =
-    let r = rel-run calls in
+pub answers-are-wires : (release : Release) (calls : List Call) → AnswersAreWires (run release calls)
+answers-are-wires release calls =
+    let r = rel-run release calls in
     record {
-      asks = asks-the-book (run calls) (r .0) (r .1);
-      cutsSub = cut-sub-answers (run calls .graph);
-      cuts = cuts-the-book (run calls) (r .0) (r .1);
+      asks = asks-the-book (run release calls) (r .0) (r .1);
+      cutsSub = cut-sub-answers (run release calls .graph);
+      cuts = cuts-the-book (run release calls) (r .0) (r .1);
     }
 
 -- After a link.
@@ -561,5 +562,5 @@ linked-found s M r l x y h =
     }
 
 -- After an accepted link both subports answered are there, and asking at either one finds the other.
-pub linked-ends-are-found : (calls : List Call) (l : Link) (x y : SubportIndex) → LinkedBy (run calls) l x y → EndsFound (next (run calls) (linking l) .graph) x y
-linked-ends-are-found calls = let r = rel-run calls in linked-found (run calls) (r .0) (r .1)
+pub linked-ends-are-found : (release : Release) (calls : List Call) (l : Link) (x y : SubportIndex) → LinkedBy (run release calls) l x y → EndsFound (next (run release calls) (linking l) .graph) x y
+linked-ends-are-found release calls = let r = rel-run release calls in linked-found (run release calls) (r .0) (r .1)

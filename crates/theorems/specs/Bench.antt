@@ -1,4 +1,4 @@
--- 01's bench wiring, cases A to K, as one table with one claim.
+-- 01's bench wiring, cases A to K, as one table with one claim; and smallest inputs of resizes, of fan-out and of wires into an input.
 use mathlib.Core.Path.{_≡_, refl}
 use mathlib.Core.List.{List, [], _∷_, _++_, flatMap}
 use Prim.Native.Nat.{ℕ, _+_}
@@ -10,9 +10,11 @@ use Rattle.multiportgraph.specs.Reading.{isSplit}
 use Rattle.multiportgraph.specs.Calls.{subportLink, visibleNodes, visiblePorts, visibleLinks, movesTold}
 use Rattle.multiportgraph.specs.Wires.{subportsOfSide, wiresWalked}
 use Rattle.multiportgraph.specs.Lookups.{portFanOut, nodeFanOut, countNumbers}
-use Rattle.theorems.specs.Book.{Call, addCall, removeCall, setCall, linkCall, linkSubCall, cutCall, cutSubCall, AnswerOf}
+use Rattle.theorems.specs.Book.{Call, addCall, removeCall, setCall, linkCall, linkCleanCall, linkSubCall, cutCall, cutSubCall, AnswerOf}
 use Rattle.theorems.specs.History.{step, numbersOf}
 use Rattle.multiportgraph.specs.declared.multiportgraph.MultiPortGraph.{MultiPortGraph}
+use Rattle.multiportgraph.specs.declared.multiportgraph.Release.{Release}
+use Rattle.multiportgraph.specs.declared.multiportgraph.Release.the-variants.{One, Two}
 use Rattle.multiportgraph.specs.declared.multiportgraph.SubportIndex.{SubportIndex}
 use Rattle.multiportgraph.specs.Graph.{emptyGraph}
 use Rattle.multiportgraph.specs.Answers.{addNumbers, removeNumbers, setNumbers, linkNumbers, cutNumbers}
@@ -64,6 +66,11 @@ after m (moves n i o k) = m
 unfoldable pub asked : MultiPortGraph → List Ask → List (List ℕ)
 asked m [] = []
 asked m (a ∷ l) = looked m a ∷ asked (after m a) l
+
+-- the numbers of a release
+abbrev pub by : Release → List ℕ → List ℕ → List ℕ
+by One first second = first
+by Two first second = second
 
 -- what is asked, and 01's numbers for it
 pub record Line : Type 0 where
@@ -127,9 +134,14 @@ benchLines =
     ∷ (0 ∷ 1 ∷ 6 ∷ 1 ∷ 0 ∷ 0 ∷ []) ∷ (0 ∷ 2 ∷ []) ∷ (0 ∷ []) ∷ (0 ∷ []) ∷ [])
     ∷ []
 
+-- the answers, each line from the empty graph of a release
+abbrev pub askedUnder : Release → List Line → List (List (List ℕ))
+askedUnder release [] = []
+askedUnder release (l ∷ ls) = asked (emptyGraph release) (l .asks) ∷ askedUnder release ls
+
+-- the bench is of release 1
 abbrev pub askedAll : List Line → List (List (List ℕ))
-askedAll [] = []
-askedAll (l ∷ ls) = asked emptyGraph (l .asks) ∷ askedAll ls
+askedAll = askedUnder One
 
 abbrev pub expectedAll : List Line → List (List (List ℕ))
 expectedAll [] = []
@@ -170,10 +182,38 @@ fanOutLines =
     ∷ (0 ∷ 1 ∷ 1 ∷ 0 ∷ 1 ∷ 0 ∷ 0 ∷ []) ∷ (0 ∷ 1 ∷ []) ∷ (0 ∷ 1 ∷ 2 ∷ 1 ∷ 1 ∷ 0 ∷ 1 ∷ []) ∷ (0 ∷ 0 ∷ []) ∷ (1 ∷ []) ∷ (8 ∷ 3 ∷ []) ∷ (5 ∷ []) ∷ []))
     ∷ []
 
+-- One wire into an input, smallest inputs: numbers under release 1 and under release 2.
+abbrev pub inputLines : Release → List Line
+inputLines release =
+    -- A again: either end, or both, or a second port that is not live; 7 before it, and 12 where no input has a wire
+    ask (stateA ++ (call (linkCall 0 1) ∷ [])) (numbersA ++ (by release (0 ∷ 0 ∷ 1 ∷ 1 ∷ 1 ∷ []) (18 ∷ []) ∷ []))
+    ∷ ask (stateA ++ (call (linkCall 1 2) ∷ mark 1 ∷ [])) (numbersA ++ (by release (12 ∷ 4 ∷ 2 ∷ 0 ∷ []) (18 ∷ []) ∷ by release (1 ∷ []) (0 ∷ []) ∷ []))
+    ∷ ask (stateA ++ (call (linkCall 2 1) ∷ [])) (numbersA ++ (by release (12 ∷ 2 ∷ 4 ∷ 0 ∷ []) (18 ∷ []) ∷ []))
+    ∷ ask (stateA ++ (call (linkCall 1 1) ∷ [])) (numbersA ++ (by release (12 ∷ 4 ∷ 4 ∷ 0 ∷ []) (18 ∷ []) ∷ []))
+    ∷ ask (stateA ++ (call (linkCall 1 9) ∷ [])) (numbersA ++ (by release (11 ∷ 9 ∷ []) (18 ∷ []) ∷ []))
+    ∷ ask (stateA ++ (call (linkCleanCall 1 9) ∷ call (linkCleanCall 1 2) ∷ []))
+    (numbersA ++ (by release (11 ∷ 9 ∷ []) (18 ∷ []) ∷ by release (12 ∷ 1 ∷ 2 ∷ 0 ∷ []) (18 ∷ []) ∷ []))
+    ∷ ask (stateA ++ (call (linkSubCall 1 7 9 0) ∷ [])) (numbersA ++ (by release (11 ∷ 9 ∷ []) (18 ∷ []) ∷ []))
+    ∷ ask (stateA ++ (call (linkCall 9 1) ∷ call (linkCall 2 2) ∷ [])) (numbersA ++ ((7 ∷ 9 ∷ []) ∷ (12 ∷ 2 ∷ 2 ∷ 0 ∷ []) ∷ []))
+    -- B: 8 and 9 before it, 13 after
+    ∷ ask (stateB ++ (call (linkCall 1 3) ∷ call (linkSubCall 1 0 0 2) ∷ call (linkSubCall 0 0 1 0) ∷ []))
+    (numbersB ++ ((8 ∷ 3 ∷ []) ∷ (9 ∷ 0 ∷ []) ∷ by release (13 ∷ 4 ∷ []) (18 ∷ []) ∷ []))
+    -- 10 after it: A, and then no port slot is left
+    ∷ ask (stateA ++ (call (addCall 1024 0) ∷ call (addCall 1024 0) ∷ call (addCall 1021 0) ∷ call (linkCall 0 1) ∷ []))
+    (numbersA ++ ((0 ∷ 2 ∷ 3 ∷ []) ∷ (0 ∷ 3 ∷ 1027 ∷ []) ∷ (0 ∷ 4 ∷ 2051 ∷ []) ∷ by release (10 ∷ []) (18 ∷ []) ∷ []))
+    -- a cut makes room for another wire
+    ∷ ask (stateA ++ (call (cutCall 1) ∷ call (linkCall 0 1) ∷ fanOut 1 ∷ [])) (numbersA ++ ((0 ∷ 1 ∷ 0 ∷ 0 ∷ 0 ∷ 1 ∷ 0 ∷ []) ∷ (0 ∷ 0 ∷ 0 ∷ 1 ∷ 0 ∷ []) ∷ (0 ∷ 1 ∷ []) ∷ []))
+    ∷ []
+
 -- every number of every line
 all-tables : (askedAll benchLines ≡ expectedAll benchLines) × (askedAll resizeLines ≡ expectedAll resizeLines) × (askedAll fanOutLines ≡ expectedAll fanOutLines)
-unfolding asked Rattle.portgraph.specs.Tables.at Rattle.portgraph.specs.Tables.put Rattle.portgraph.specs.Tables.fill Rattle.portgraph.specs.Tables.fillRange Rattle.portgraph.specs.Tables.headAt Rattle.portgraph.specs.Tables.putHead Rattle.portgraph.specs.Tables.ownBlock Rattle.portgraph.specs.Tables.linkBoth Rattle.portgraph.specs.Tables.cutFar Rattle.portgraph.specs.Tables.cut Rattle.portgraph.specs.Tables.cutRange Rattle.portgraph.specs.Tables.linkCount Rattle.portgraph.specs.Tables.cutCount Rattle.portgraph.specs.Tables.relink Rattle.portgraph.specs.Tables.movePort Rattle.portgraph.specs.Tables.moveUp Rattle.portgraph.specs.Tables.moveDown Rattle.portgraph.specs.Tables.shift Rattle.portgraph.specs.Tables.transfer Rattle.portgraph.specs.Tables.chainBlock Rattle.portgraph.specs.Tables.toldLink Rattle.portgraph.specs.Tables.dropEvents Rattle.portgraph.specs.Tables.moveUpEvents Rattle.portgraph.specs.Tables.moveDownEvents Rattle.portgraph.specs.Tables.shiftEvents Rattle.portgraph.specs.Entries.portEntry Rattle.portgraph.specs.Entries.setPrev Rattle.portgraph.specs.Calls.newGraph Rattle.portgraph.specs.Calls.findSlotUnder Rattle.portgraph.specs.Calls.findBlockUnder Rattle.portgraph.specs.Calls.restOf Rattle.portgraph.specs.Calls.grown Rattle.portgraph.specs.Calls.slotAfter Rattle.portgraph.specs.Calls.placeNode Rattle.portgraph.specs.Calls.addNodeUnder Rattle.portgraph.specs.Calls.freeNode Rattle.portgraph.specs.Calls.removeNode Rattle.portgraph.specs.Calls.linkPorts Rattle.portgraph.specs.Calls.unlinkPort Rattle.portgraph.specs.Resize.doubled Rattle.portgraph.specs.Resize.roundUp Rattle.portgraph.specs.Resize.sameCounts Rattle.portgraph.specs.Resize.fitsInside Rattle.portgraph.specs.Resize.planOfUnder Rattle.portgraph.specs.Resize.dropIncoming Rattle.portgraph.specs.Resize.dropLinks Rattle.portgraph.specs.Resize.dropCount Rattle.portgraph.specs.Resize.dropTold Rattle.portgraph.specs.Resize.insideLinks Rattle.portgraph.specs.Resize.resizeInside Rattle.portgraph.specs.Resize.insideTold Rattle.portgraph.specs.Resize.anewLinks Rattle.portgraph.specs.Resize.resizeAnew Rattle.portgraph.specs.Resize.anewTold Rattle.portgraph.specs.Resize.setNumPortsUnder Rattle.portgraph.specs.Resize.movesAfterUnder Rattle.portgraph.specs.Meaning.upd Rattle.portgraph.specs.Meaning.samePlace Rattle.portgraph.specs.Meaning.dropJoin Rattle.portgraph.specs.Meaning.linkJoin Rattle.portgraph.specs.Meaning.handOver Rattle.multiportgraph.specs.Reading.farPort Rattle.multiportgraph.specs.Reading.hasLink Rattle.multiportgraph.specs.Reading.ownerOf Rattle.multiportgraph.specs.Reading.portOf Rattle.multiportgraph.specs.Reading.positionOf Rattle.multiportgraph.specs.Reading.isHidden Rattle.multiportgraph.specs.Reading.isSplit Rattle.multiportgraph.specs.Reading.seen Rattle.multiportgraph.specs.Reading.copyNode Rattle.multiportgraph.specs.Reading.subports Rattle.multiportgraph.specs.Reading.subportAt Rattle.multiportgraph.specs.Reading.endAt Rattle.multiportgraph.specs.Reading.asRead Rattle.multiportgraph.specs.Reading.copySide Rattle.multiportgraph.specs.Reading.mainPort Rattle.multiportgraph.specs.Reading.subportOf Rattle.multiportgraph.specs.Graph.emptyGraph Rattle.multiportgraph.specs.Calls.addBlockUnder Rattle.multiportgraph.specs.HiddenNodes.removeCopy Rattle.multiportgraph.specs.HiddenNodes.unsplit Rattle.multiportgraph.specs.HiddenNodes.unsplitRange Rattle.multiportgraph.specs.Calls.dropBlock Rattle.multiportgraph.specs.Calls.removeBlock Rattle.multiportgraph.specs.HiddenNodes.layRange Rattle.multiportgraph.specs.HiddenNodes.layMarks Rattle.multiportgraph.specs.HiddenNodes.recounted Rattle.multiportgraph.specs.HiddenNodes.copiesIn Rattle.multiportgraph.specs.HiddenNodes.copiesDropped Rattle.multiportgraph.specs.HiddenNodes.removeLone Rattle.multiportgraph.specs.HiddenNodes.removeAll Rattle.multiportgraph.specs.Calls.setCountsUnder Rattle.multiportgraph.specs.Calls.movesToldUnder Rattle.multiportgraph.specs.HiddenNodes.splitGraph Rattle.multiportgraph.specs.HiddenNodes.splitPort Rattle.multiportgraph.specs.HiddenNodes.splitUnder Rattle.multiportgraph.specs.HiddenNodes.lowestFree Rattle.multiportgraph.specs.HiddenNodes.growUnder Rattle.multiportgraph.specs.HiddenNodes.reuseUnder Rattle.multiportgraph.specs.HiddenNodes.prepareUnder Rattle.multiportgraph.specs.Calls.linkPairUnder Rattle.multiportgraph.specs.Calls.linkSub Rattle.multiportgraph.specs.Calls.cutPort Rattle.multiportgraph.specs.Calls.cutSub Rattle.multiportgraph.specs.Calls.subportLink Rattle.multiportgraph.specs.Calls.visibleNodes Rattle.multiportgraph.specs.Calls.visiblePorts Rattle.multiportgraph.specs.Calls.visibleLinks Rattle.portgraph.specs.Lists.range mathlib.Core.List.flatMap Rattle.portgraph.specs.Lists.filter Rattle.multiportgraph.specs.Wires.isBlock Rattle.multiportgraph.specs.Wires.blocks Rattle.multiportgraph.specs.Wires.portsOfSide Rattle.multiportgraph.specs.Wires.subportsOfPort Rattle.multiportgraph.specs.Wires.subportsOfSide Rattle.multiportgraph.specs.Wires.wireOf Rattle.multiportgraph.specs.Wires.sideLinks Rattle.multiportgraph.specs.Wires.allWires Rattle.multiportgraph.specs.Wires.isBeyond Rattle.multiportgraph.specs.Wires.wiresBeyond Rattle.multiportgraph.specs.Wires.stepWires Rattle.multiportgraph.specs.Wires.walkWires Rattle.multiportgraph.specs.Reading.placeOf Rattle.multiportgraph.specs.Wires.walked Rattle.multiportgraph.specs.Wires.wiresWalked Rattle.multiportgraph.specs.Lookups.portFanOut Rattle.multiportgraph.specs.Lookups.nodeFanOut Rattle.multiportgraph.specs.Walks.portLinks Rattle.multiportgraph.specs.Walks.fanOut Rattle.multiportgraph.specs.Walks.sumOf Rattle.multiportgraph.specs.Walks.blockFanOut Rattle.multiportgraph.specs.Walks.startAtNode
-all-tables = (refl, refl, refl)
+    × ((release : Release) → askedUnder release (inputLines release) ≡ expectedAll (inputLines release))
+unfolding asked Rattle.portgraph.specs.Tables.at Rattle.portgraph.specs.Tables.put Rattle.portgraph.specs.Tables.fill Rattle.portgraph.specs.Tables.fillRange Rattle.portgraph.specs.Tables.headAt Rattle.portgraph.specs.Tables.putHead Rattle.portgraph.specs.Tables.ownBlock Rattle.portgraph.specs.Tables.linkBoth Rattle.portgraph.specs.Tables.cutFar Rattle.portgraph.specs.Tables.cut Rattle.portgraph.specs.Tables.cutRange Rattle.portgraph.specs.Tables.linkCount Rattle.portgraph.specs.Tables.cutCount Rattle.portgraph.specs.Tables.relink Rattle.portgraph.specs.Tables.movePort Rattle.portgraph.specs.Tables.moveUp Rattle.portgraph.specs.Tables.moveDown Rattle.portgraph.specs.Tables.shift Rattle.portgraph.specs.Tables.transfer Rattle.portgraph.specs.Tables.chainBlock Rattle.portgraph.specs.Tables.toldLink Rattle.portgraph.specs.Tables.dropEvents Rattle.portgraph.specs.Tables.moveUpEvents Rattle.portgraph.specs.Tables.moveDownEvents Rattle.portgraph.specs.Tables.shiftEvents Rattle.portgraph.specs.Entries.portEntry Rattle.portgraph.specs.Entries.setPrev Rattle.portgraph.specs.Calls.newGraph Rattle.portgraph.specs.Calls.findSlotUnder Rattle.portgraph.specs.Calls.findBlockUnder Rattle.portgraph.specs.Calls.restOf Rattle.portgraph.specs.Calls.grown Rattle.portgraph.specs.Calls.slotAfter Rattle.portgraph.specs.Calls.placeNode Rattle.portgraph.specs.Calls.addNodeUnder Rattle.portgraph.specs.Calls.freeNode Rattle.portgraph.specs.Calls.removeNode Rattle.portgraph.specs.Calls.linkPorts Rattle.portgraph.specs.Calls.unlinkPort Rattle.portgraph.specs.Resize.doubled Rattle.portgraph.specs.Resize.roundUp Rattle.portgraph.specs.Resize.sameCounts Rattle.portgraph.specs.Resize.fitsInside Rattle.portgraph.specs.Resize.planOfUnder Rattle.portgraph.specs.Resize.dropIncoming Rattle.portgraph.specs.Resize.dropLinks Rattle.portgraph.specs.Resize.dropCount Rattle.portgraph.specs.Resize.dropTold Rattle.portgraph.specs.Resize.insideLinks Rattle.portgraph.specs.Resize.resizeInside Rattle.portgraph.specs.Resize.insideTold Rattle.portgraph.specs.Resize.anewLinks Rattle.portgraph.specs.Resize.resizeAnew Rattle.portgraph.specs.Resize.anewTold Rattle.portgraph.specs.Resize.setNumPortsUnder Rattle.portgraph.specs.Resize.movesAfterUnder Rattle.portgraph.specs.Meaning.upd Rattle.portgraph.specs.Meaning.samePlace Rattle.portgraph.specs.Meaning.dropJoin Rattle.portgraph.specs.Meaning.linkJoin Rattle.portgraph.specs.Meaning.handOver Rattle.multiportgraph.specs.Reading.farPort Rattle.multiportgraph.specs.Reading.hasLink Rattle.multiportgraph.specs.Reading.ownerOf Rattle.multiportgraph.specs.Reading.portOf Rattle.multiportgraph.specs.Reading.positionOf Rattle.multiportgraph.specs.Reading.isHidden Rattle.multiportgraph.specs.Reading.isSplit Rattle.multiportgraph.specs.Reading.seen Rattle.multiportgraph.specs.Reading.copyNode Rattle.multiportgraph.specs.Reading.subports Rattle.multiportgraph.specs.Reading.subportAt Rattle.multiportgraph.specs.Reading.endAt Rattle.multiportgraph.specs.Reading.asRead Rattle.multiportgraph.specs.Reading.copySide Rattle.multiportgraph.specs.Reading.mainPort Rattle.multiportgraph.specs.Reading.subportOf Rattle.multiportgraph.specs.Graph.emptyGraph Rattle.multiportgraph.specs.Calls.addBlockUnder Rattle.multiportgraph.specs.HiddenNodes.removeCopy Rattle.multiportgraph.specs.HiddenNodes.unsplit Rattle.multiportgraph.specs.HiddenNodes.unsplitRange Rattle.multiportgraph.specs.Calls.dropBlock Rattle.multiportgraph.specs.Calls.removeBlock Rattle.multiportgraph.specs.HiddenNodes.layRange Rattle.multiportgraph.specs.HiddenNodes.layMarks Rattle.multiportgraph.specs.HiddenNodes.recounted Rattle.multiportgraph.specs.HiddenNodes.copiesIn Rattle.multiportgraph.specs.HiddenNodes.copiesDropped Rattle.multiportgraph.specs.HiddenNodes.removeLone Rattle.multiportgraph.specs.HiddenNodes.removeAll Rattle.multiportgraph.specs.Calls.setCountsUnder Rattle.multiportgraph.specs.Calls.movesToldUnder Rattle.multiportgraph.specs.HiddenNodes.splitGraph Rattle.multiportgraph.specs.HiddenNodes.splitPort Rattle.multiportgraph.specs.HiddenNodes.splitUnder Rattle.multiportgraph.specs.HiddenNodes.lowestFree Rattle.multiportgraph.specs.HiddenNodes.growUnder Rattle.multiportgraph.specs.HiddenNodes.reuseUnder Rattle.multiportgraph.specs.HiddenNodes.prepareUnder Rattle.multiportgraph.specs.Calls.linkPairIf Rattle.multiportgraph.specs.Calls.linkCleanIf Rattle.multiportgraph.specs.Calls.linkSubIf Rattle.multiportgraph.specs.Refusals.wiredInput Rattle.multiportgraph.specs.Refusals.inputTaken Rattle.multiportgraph.specs.Calls.cutPort Rattle.multiportgraph.specs.Calls.cutSub Rattle.multiportgraph.specs.Calls.subportLink Rattle.multiportgraph.specs.Calls.visibleNodes Rattle.multiportgraph.specs.Calls.visiblePorts Rattle.multiportgraph.specs.Calls.visibleLinks Rattle.portgraph.specs.Lists.range mathlib.Core.List.flatMap Rattle.portgraph.specs.Lists.filter Rattle.multiportgraph.specs.Wires.isBlock Rattle.multiportgraph.specs.Wires.blocks Rattle.multiportgraph.specs.Wires.portsOfSide Rattle.multiportgraph.specs.Wires.subportsOfPort Rattle.multiportgraph.specs.Wires.subportsOfSide Rattle.multiportgraph.specs.Wires.wireOf Rattle.multiportgraph.specs.Wires.sideLinks Rattle.multiportgraph.specs.Wires.allWires Rattle.multiportgraph.specs.Wires.isBeyond Rattle.multiportgraph.specs.Wires.wiresBeyond Rattle.multiportgraph.specs.Wires.stepWires Rattle.multiportgraph.specs.Wires.walkWires Rattle.multiportgraph.specs.Reading.placeOf Rattle.multiportgraph.specs.Wires.walked Rattle.multiportgraph.specs.Wires.wiresWalked Rattle.multiportgraph.specs.Lookups.portFanOut Rattle.multiportgraph.specs.Lookups.nodeFanOut Rattle.multiportgraph.specs.Walks.portLinks Rattle.multiportgraph.specs.Walks.fanOut Rattle.multiportgraph.specs.Walks.sumOf Rattle.multiportgraph.specs.Walks.blockFanOut Rattle.multiportgraph.specs.Walks.startAtNode
+all-tables = (refl, refl, refl, inputs)
+  where
+    inputs : (release : Release) → askedUnder release (inputLines release) ≡ expectedAll (inputLines release)
+    inputs One = refl
+    inputs Two = refl
 
 pub bench-table : askedAll benchLines ≡ expectedAll benchLines
 bench-table = all-tables .0
@@ -183,3 +223,6 @@ resize-table = all-tables .1
 
 pub fan-out-table : askedAll fanOutLines ≡ expectedAll fanOutLines
 fan-out-table = all-tables .2
+
+pub input-table : (release : Release) → askedUnder release (inputLines release) ≡ expectedAll (inputLines release)
+input-table = all-tables .3

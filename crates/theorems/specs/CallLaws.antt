@@ -7,6 +7,7 @@ use Rattle.portgraph.specs.Model.{Model}
 use Rattle.portgraph.specs.GoodLaws.{emptyModel}
 use Rattle.theorems.specs.Book as book
 use Rattle.theorems.specs.Book.{Call, AnswerOf, Book, emptyBook}
+use Rattle.multiportgraph.specs.declared.multiportgraph.Release.{Release}
 use Rattle.multiportgraph.specs.Inner.{Fine, MultiWf}
 use Rattle.multiportgraph.specs.declared.multiportgraph.MultiPortGraph.{MultiPortGraph}
 use Rattle.multiportgraph.specs.declared.multiportgraph.SubportIndex.{SubportIndex}
@@ -104,17 +105,17 @@ unfolding runFromUnder
 rel-from {s} {M} r [] = (M, r)
 rel-from {s} {M} r (c ∷ l) = let t = rel-step r c in rel-from {s = next s c} (t .1) l
 
-pub rel-run : (calls : List Call) → (M : Model) × Rel (run calls .graph) M (run calls .book)
+pub rel-run : (release : Release) (calls : List Call) → (M : Model) × Rel (run release calls .graph) M (run release calls .book)
 unfolding runUnder
-rel-run calls = rel-from {s = record { graph = emptyGraph; book = emptyBook }} rel-start calls
+rel-run release calls = rel-from {s = record { graph = emptyGraph release; book = emptyBook }} (rel-start release) calls
 
 -- `MultiWf`, which the contracts presume, holds of every graph that came from these calls.
 
-pub empty-kept : MultiWf emptyGraph
-empty-kept = record { model = emptyModel; fine = fine-empty }
+pub empty-kept : (release : Release) → MultiWf (emptyGraph release)
+empty-kept release = record { model = emptyModel; fine = fine-empty release }
 
 pub step-kept : (m : MultiPortGraph) (c : Call) → MultiWf m → MultiWf (step m c .graph)
 step-kept m c w = let l = call-law (w .fine) c .leads in record { model = l .model; fine = l .fine }
 
-pub run-kept : (calls : List Call) → MultiWf (run calls .graph)
-run-kept calls = record { model = rel-run calls .0; fine = rel-run calls .1 .fine }
+pub run-kept : (release : Release) (calls : List Call) → MultiWf (run release calls .graph)
+run-kept release calls = record { model = rel-run release calls .0; fine = rel-run release calls .1 .fine }

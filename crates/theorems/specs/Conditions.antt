@@ -11,19 +11,22 @@ use Rattle.portgraph.specs.Model.{Model, nowhere, to, gone, slotOf, countOf}
 use Rattle.portgraph.specs.Meaning.{growth}
 use Rattle.portgraph.specs.Resize.{roundUp}
 use Rattle.portgraph.specs.LinkHolds.{IsPort, Dead}
+use Rattle.portgraph.specs.declared.direction.Direction.the-variants.{Incoming}
 use Rattle.portgraph.specs.declared.index.NodeIndex.{NodeIndex}
 use Rattle.portgraph.specs.declared.index.PortIndex.{PortIndex}
 use Rattle.portgraph.specs.declared.node_entry.NodeMeta.{NodeMeta}
 use Rattle.multiportgraph.specs.Reading.{isHidden}
 use Rattle.theorems.specs.Book as book
 use Rattle.theorems.specs.Book.{Call, AnswerOf}
-use Rattle.multiportgraph.specs.Inner.{copyPlace, BlockIs, Seen}
+use Rattle.multiportgraph.specs.Inner.{copyPlace, BlockIs, Seen, lift, WireIn}
 use Rattle.multiportgraph.specs.Ends.{EndOf}
+use Rattle.multiportgraph.specs.Places.{Wire}
 use Rattle.multiportgraph.specs.declared.multiportgraph.MultiPortGraph.{MultiPortGraph}
 use Rattle.multiportgraph.specs.declared.multiportgraph.SubportIndex.{SubportIndex}
 use Rattle.multiportgraph.specs.declared.multiportgraph.PortPlace.{PortPlace}
+use Rattle.multiportgraph.specs.declared.multiportgraph.Release.the-variants.{Two}
 use Rattle.multiportgraph.specs.declared.multiportgraph.Refusal.{Refusal}
-use Rattle.multiportgraph.specs.declared.multiportgraph.Refusal.the-variants.{BadOffset, TooManyPorts, UnknownNode, HiddenNode, MovesTooShort, UnknownPort, HiddenPort, UnknownOffset, NoRoom, UnknownSecondPort, IncompatibleDirections, AlreadyLinked}
+use Rattle.multiportgraph.specs.declared.multiportgraph.Refusal.the-variants.{BadOffset, TooManyPorts, UnknownNode, HiddenNode, MovesTooShort, UnknownPort, HiddenPort, UnknownOffset, NoRoom, UnknownSecondPort, IncompatibleDirections, AlreadyLinked, InputWired}
 use Rattle.multiportgraph.specs.declared.multiportgraph.AddAnswer.the-variants as add
 use Rattle.multiportgraph.specs.declared.multiportgraph.RemoveAnswer.the-variants as remove
 use Rattle.multiportgraph.specs.declared.multiportgraph.SetAnswer.the-variants as resize
@@ -53,6 +56,14 @@ OfBlock m M p x = Seen m M x × (slotOf (M .node) x ≡ p)
 -- a port is split and has no such offset: the hidden node that hangs on it has at most so many subports
 abbrev pub Lacks : MultiPortGraph → Model → model.InnerPlace → ℕ → Type 0
 Lacks m M x o = (c : ℕ) × (isHidden m c ≡ true) × (M .join (copyPlace m c) ≡ to x) × (countOf (M .node c) (x .side) ≤ o)
+
+-- a live input of a block already has a wire
+abbrev pub WiredInput : MultiPortGraph → Model → ℕ → Type 0
+WiredInput m M p = (x : model.InnerPlace) × OfBlock m M p x × (x .side ≡ Incoming) × (w : Wire) × (o : ℕ) × WireIn m M w × (w .into ≡ lift x o)
+
+-- the graph is made for release 2, and a port named by either end of a link is such an input
+abbrev pub Taken : MultiPortGraph → Model → ℕ → ℕ → Type 0
+Taken m M a b = (m .release ≡ Two) × (WiredInput m M a ⊎ WiredInput m M b)
 
 -- a number is no port, a port of a hidden node, or a port of a block
 pub data PortIs (m : MultiPortGraph) (M : Model) (p : ℕ) : Type 0 where
@@ -96,28 +107,30 @@ pub data SubRefused (m : MultiPortGraph) (M : Model) (p o : ℕ) : Refusal → T
   sub-hidden : o ≤ 65534 → OfHidden m M p → SubRefused m M p o (HiddenPort (port# p))
   sub-lacks : o ≤ 65534 → (x : model.InnerPlace) → OfBlock m M p x → Lacks m M x o → SubRefused m M p o (UnknownOffset (port# p))
 
--- of linking two ports, with the graph that is left: 11 and 12 come after one or both ends are prepared
+-- of linking two ports, with the graph that is left: 18 comes before 10, and 11 and 12 come after one or both ends are prepared
 pub data LinkRefused (m : MultiPortGraph) (M : Model) (a b : ℕ) : MultiPortGraph → Refusal → Type 0 where
   link-first-dead : Dead M a → LinkRefused m M a b m (UnknownPort (port# a))
   link-first-hidden : OfHidden m M a → LinkRefused m M a b m (HiddenPort (port# a))
   link-second-hidden : (x : model.InnerPlace) → OfBlock m M a x → OfHidden m M b → LinkRefused m M a b m (HiddenPort (port# b))
-  link-first-full : (x : model.InnerPlace) → OfBlock m M a x → (OfHidden m M b → ⊥) → prepare m a (x .side) ≡ full → LinkRefused m M a b m NoRoom
-  link-second-full : (x y : model.InnerPlace) (m₁ : MultiPortGraph) (u o : ℕ) → OfBlock m M a x → OfBlock m M b y →
+  link-wired : (x : model.InnerPlace) → OfBlock m M a x → (OfHidden m M b → ⊥) → Taken m M a b → LinkRefused m M a b m InputWired
+  link-first-full : (x : model.InnerPlace) → OfBlock m M a x → (OfHidden m M b → ⊥) → (Taken m M a b → ⊥) → prepare m a (x .side) ≡ full → LinkRefused m M a b m NoRoom
+  link-second-full : (x y : model.InnerPlace) (m₁ : MultiPortGraph) (u o : ℕ) → OfBlock m M a x → OfBlock m M b y → (Taken m M a b → ⊥) →
       prepare m a (x .side) ≡ ready m₁ u o → prepare m₁ b (y .side) ≡ full → LinkRefused m M a b m NoRoom
-  link-second-dead : (x : model.InnerPlace) (m₁ : MultiPortGraph) (u o : ℕ) → OfBlock m M a x → Dead M b →
+  link-second-dead : (x : model.InnerPlace) (m₁ : MultiPortGraph) (u o : ℕ) → OfBlock m M a x → Dead M b → (Taken m M a b → ⊥) →
       prepare m a (x .side) ≡ ready m₁ u o → LinkRefused m M a b m₁ (UnknownSecondPort (port# b))
-  link-one-side : (x y : model.InnerPlace) (m₁ m₂ : MultiPortGraph) (u o v r : ℕ) → OfBlock m M a x → OfBlock m M b y →
+  link-one-side : (x y : model.InnerPlace) (m₁ m₂ : MultiPortGraph) (u o v r : ℕ) → OfBlock m M a x → OfBlock m M b y → (Taken m M a b → ⊥) →
       prepare m a (x .side) ≡ ready m₁ u o → prepare m₁ b (y .side) ≡ ready m₂ v r → x .side ≡ y .side →
       LinkRefused m M a b m₂ (IncompatibleDirections (port# u) (port# v) (x .side))
 
--- of linking two ports and leaving no stub: 11 and 12 are settled on the graph handed in, 12 carries the ports as named, and 10 is given where
--- the link of ports gives it
+-- of linking two ports and leaving no stub: after 18, 11 and 12 are settled on the graph handed in, 12 carries the ports as named, and 10 is
+-- given where the link of ports gives it
 pub data CleanRefused (m : MultiPortGraph) (M : Model) (a b : ℕ) : Refusal → Type 0 where
   clean-first-dead : Dead M a → CleanRefused m M a b (UnknownPort (port# a))
   clean-first-hidden : OfHidden m M a → CleanRefused m M a b (HiddenPort (port# a))
   clean-second-hidden : (x : model.InnerPlace) → OfBlock m M a x → OfHidden m M b → CleanRefused m M a b (HiddenPort (port# b))
-  clean-second-dead : (x : model.InnerPlace) → OfBlock m M a x → Dead M b → CleanRefused m M a b (UnknownSecondPort (port# b))
-  clean-one-side : (x y : model.InnerPlace) → OfBlock m M a x → OfBlock m M b y → x .side ≡ y .side →
+  clean-wired : (x : model.InnerPlace) → OfBlock m M a x → (OfHidden m M b → ⊥) → Taken m M a b → CleanRefused m M a b InputWired
+  clean-second-dead : (x : model.InnerPlace) → OfBlock m M a x → Dead M b → (Taken m M a b → ⊥) → CleanRefused m M a b (UnknownSecondPort (port# b))
+  clean-one-side : (x y : model.InnerPlace) → OfBlock m M a x → OfBlock m M b y → (Taken m M a b → ⊥) → x .side ≡ y .side →
       CleanRefused m M a b (IncompatibleDirections (port# a) (port# b) (x .side))
   clean-full : (x y : model.InnerPlace) → OfBlock m M a x → OfBlock m M b y → (x .side ≡ y .side → ⊥) → LinkRefused m M a b m NoRoom → CleanRefused m M a b NoRoom
 
@@ -125,7 +138,7 @@ pub data CleanRefused (m : MultiPortGraph) (M : Model) (a b : ℕ) : Refusal →
 abbrev pub Offsets : ℕ → ℕ → Type 0
 Offsets o r = (o ≤ 65534) × (r ≤ 65534)
 
--- of linking two subports; u and v are the inner ports of the two ends
+-- of linking two subports: 18 comes after 9; u and v are the inner ports of the two ends
 pub data LinkSubRefused (m : MultiPortGraph) (M : Model) (p o q r : ℕ) : Refusal → Type 0 where
   sub-offsets : (Offsets o r → ⊥) → LinkSubRefused m M p o q r BadOffset
   sub-first-dead : Offsets o r → Dead M p → LinkSubRefused m M p o q r (UnknownPort (port# p))
@@ -134,13 +147,15 @@ pub data LinkSubRefused (m : MultiPortGraph) (M : Model) (p o q r : ℕ) : Refus
   sub-first-lacks : Offsets o r → (x : model.InnerPlace) → OfBlock m M p x → (OfHidden m M q → ⊥) → Lacks m M x o → LinkSubRefused m M p o q r (UnknownOffset (port# p))
   sub-second-lacks : Offsets o r → (x y : model.InnerPlace) → OfBlock m M p x → OfBlock m M q y → (Lacks m M x o → ⊥) → Lacks m M y r →
       LinkSubRefused m M p o q r (UnknownOffset (port# q))
-  sub-second-dead : Offsets o r → (x : model.InnerPlace) → OfBlock m M p x → Dead M q → (Lacks m M x o → ⊥) → LinkSubRefused m M p o q r (UnknownSecondPort (port# q))
+  sub-wired : Offsets o r → (x : model.InnerPlace) → OfBlock m M p x → (OfHidden m M q → ⊥) → (Lacks m M x o → ⊥) →
+      ((y : model.InnerPlace) → OfBlock m M q y → Lacks m M y r → ⊥) → Taken m M p q → LinkSubRefused m M p o q r InputWired
+  sub-second-dead : Offsets o r → (x : model.InnerPlace) → OfBlock m M p x → Dead M q → (Lacks m M x o → ⊥) → (Taken m M p q → ⊥) → LinkSubRefused m M p o q r (UnknownSecondPort (port# q))
   sub-one-side : Offsets o r → (x y : model.InnerPlace) (u v : ℕ) → OfBlock m M p x → OfBlock m M q y → EndOf m M x o u → EndOf m M y r v →
-      x .side ≡ y .side → LinkSubRefused m M p o q r (IncompatibleDirections (port# u) (port# v) (x .side))
+      (Taken m M p q → ⊥) → x .side ≡ y .side → LinkSubRefused m M p o q r (IncompatibleDirections (port# u) (port# v) (x .side))
   sub-first-linked : Offsets o r → (x y : model.InnerPlace) (u v : ℕ) → OfBlock m M p x → OfBlock m M q y → (e : EndOf m M x o u) (g : EndOf m M y r v) →
-      (x .side ≡ y .side → ⊥) → (M .join (e .end) ≡ nowhere → ⊥) → LinkSubRefused m M p o q r (AlreadyLinked (port# u))
+      (Taken m M p q → ⊥) → (x .side ≡ y .side → ⊥) → (M .join (e .end) ≡ nowhere → ⊥) → LinkSubRefused m M p o q r (AlreadyLinked (port# u))
   sub-second-linked : Offsets o r → (x y : model.InnerPlace) (u v : ℕ) → OfBlock m M p x → OfBlock m M q y → (e : EndOf m M x o u) (g : EndOf m M y r v) →
-      (x .side ≡ y .side → ⊥) → M .join (e .end) ≡ nowhere → (M .join (g .end) ≡ nowhere → ⊥) → LinkSubRefused m M p o q r (AlreadyLinked (port# v))
+      (Taken m M p q → ⊥) → (x .side ≡ y .side → ⊥) → M .join (e .end) ≡ nowhere → (M .join (g .end) ≡ nowhere → ⊥) → LinkSubRefused m M p o q r (AlreadyLinked (port# v))
 
 -- an answer of a link that refuses has the condition listed
 abbrev pub LinkSays : (Refusal → Type 0) → LinkAnswer → Type 0
@@ -202,6 +217,7 @@ comesLate NoRoom = false
 comesLate (UnknownSecondPort p) = true
 comesLate (IncompatibleDirections p q d) = true
 comesLate (AlreadyLinked p) = false
+comesLate InputWired = false
 
 abbrev pub leavesPrepared : Call → Refusal → Bool
 leavesPrepared (book.addCall i o) r = false

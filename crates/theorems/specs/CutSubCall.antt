@@ -11,8 +11,8 @@ use Rattle.portgraph.specs.Model.{Model}
 use Rattle.portgraph.specs.Calls.{unlinkPort}
 use Rattle.portgraph.specs.declared.portgraph.PortLink.{PortLink}
 use Rattle.portgraph.specs.declared.portgraph.PortLink.the-variants as lower-cut
-use Rattle.multiportgraph.specs.Reading.{isSplit, Port, dead, hidden, visible, seen, End, inner, lacking, endAt}
-use Rattle.multiportgraph.specs.Calls.{farSubport, cutSub, linkOfEnd, subportLink}
+use Rattle.multiportgraph.specs.Reading.{isSplit, Port, dead, hidden, visible, seen, End, inner, lacking, endAt, farSubport, linkOfEnd}
+use Rattle.multiportgraph.specs.Calls.{cutSub, subportLink}
 use Rattle.theorems.specs.Book as book
 use Rattle.theorems.specs.Book.{readBy}
 use Rattle.multiportgraph.specs.Inner.{Fine}

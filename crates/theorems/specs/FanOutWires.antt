@@ -9,6 +9,7 @@ use lib.Dec.{eqb}
 use lib.ListN.{length}
 use borrow.Author.Tests.{eq-eqb, eqb-true}
 use Rattle.portgraph.specs.Lists.{Member, Once}
+use Rattle.multiportgraph.specs.declared.multiportgraph.Release.{Release}
 use Rattle.multiportgraph.specs.Inner.{inner#}
 use Rattle.portgraph.specs.declared.direction.Direction.{Direction}
 use Rattle.portgraph.specs.declared.direction.Direction.the-variants.{Outgoing}
@@ -42,34 +43,34 @@ exactly-as-many f booked l o e =
     sym (count-those f l (λ w i. e .only w i .1)) ∙ same-count-among f l booked (e .once) o (λ w i t. e .only w i .0) (λ w i t. e .all w i t)
 
 -- the wires of a port
-port-fan-out-is-wires : (calls : List Call) (p n : ℕ) (d : Direction) (i : ℕ) → spotOf (run calls .book .blocks) p ≡ spot n d i →
-    portFanOut (run calls .graph) p ≡ count-of.Count (count (touches (atSpot (spot n d i))) (run calls .book .wires))
-port-fan-out-is-wires calls p n d i e =
-    let r = rel-run calls .1 in
+port-fan-out-is-wires : (release : Release) (calls : List Call) (p n : ℕ) (d : Direction) (i : ℕ) → spotOf (run release calls .book .blocks) p ≡ spot n d i →
+    portFanOut (run release calls .graph) p ≡ count-of.Count (count (touches (atSpot (spot n d i))) (run release calls .book .wires))
+port-fan-out-is-wires release calls p n d i e =
+    let r = rel-run release calls .1 in
     let s = spot-back r p n d i e in
-    let x = exactly-as-many (touches (atSpot (spot n d i))) (run calls .book .wires) _ (r .wires .once) (listings-are-wires-of-port calls p n d i e) in
+    let x = exactly-as-many (touches (atSpot (spot n d i))) (run release calls .book .wires) _ (r .wires .once) (listings-are-wires-of-port release calls p n d i e) in
     port-fan-out-found (r .fine) p (inner# n d i) s
-    ∙ ap count-of.Count (sym (length-map (wireFrom (run calls .graph) d) (portLinks (run calls .graph) p)) ∙ x)
+    ∙ ap count-of.Count (sym (length-map (wireFrom (run release calls .graph) d) (portLinks (run release calls .graph) p)) ∙ x)
 
 -- the wires that leave a block
-node-fan-out-is-wires : (calls : List Call) (n : ℕ) → InBook (run calls .book) n →
-    nodeFanOut (run calls .graph) n ≡ count-of.Count (count (λ w. eqb (w .out .node) n) (run calls .book .wires))
-node-fan-out-is-wires calls n b =
-    let r = rel-run calls .1 in
+node-fan-out-is-wires : (release : Release) (calls : List Call) (n : ℕ) → InBook (run release calls .book) n →
+    nodeFanOut (run release calls .graph) n ≡ count-of.Count (count (λ w. eqb (w .out .node) n) (run release calls .book .wires))
+node-fan-out-is-wires release calls n b =
+    let r = rel-run release calls .1 in
     let k = block-booked r n b in
-    let l = listings-are-wires-of-side calls Outgoing n b in
-    let x = exactly-as-many (λ w. eqb (w .out .node) n) (run calls .book .wires) (map (wireFrom (run calls .graph) Outgoing) (sideLinks (run calls .graph) Outgoing n)) (r .wires .once)
+    let l = listings-are-wires-of-side release calls Outgoing n b in
+    let x = exactly-as-many (λ w. eqb (w .out .node) n) (run release calls .book .wires) (map (wireFrom (run release calls .graph) Outgoing) (sideLinks (run release calls .graph) Outgoing n)) (r .wires .once)
     (record {
       once = l .once;
       only = λ w i. let y = l .only w i in (y .0, eq-eqb (w .out .node) n (y .1));
       all = λ w i t. l .all w i (eqb-true (w .out .node) n t);
     }) in
     node-fan-out-found (r .fine) n (k .0) (k .1)
-    ∙ ap count-of.Count (sym (length-map (wireFrom (run calls .graph) Outgoing) (sideLinks (run calls .graph) Outgoing n)) ∙ x)
+    ∙ ap count-of.Count (sym (length-map (wireFrom (run release calls .graph) Outgoing) (sideLinks (run release calls .graph) Outgoing n)) ∙ x)
 
-pub fan-out-is-wires : (calls : List Call) → FanOutIsWires (run calls)
-fan-out-is-wires calls =
+pub fan-out-is-wires : (release : Release) (calls : List Call) → FanOutIsWires (run release calls)
+fan-out-is-wires release calls =
     record {
-      ofPort = port-fan-out-is-wires calls;
-      ofBlock = λ n b i e. node-fan-out-is-wires calls n (b, i, e);
+      ofPort = port-fan-out-is-wires release calls;
+      ofBlock = λ n b i e. node-fan-out-is-wires release calls n (b, i, e);
     }

@@ -15,6 +15,7 @@ use Rattle.multiportgraph.specs.Wires.{subportsOfSide, walked, wiresWalked, isF
 use Rattle.theorems.specs.Book as book
 use Rattle.theorems.specs.Book.{Call, AnswerOf, Book, emptyBook, bookAnswer}
 use Rattle.multiportgraph.specs.declared.multiportgraph.MultiPortGraph.{MultiPortGraph}
+use Rattle.multiportgraph.specs.declared.multiportgraph.Release.{Release}
 use Rattle.multiportgraph.specs.declared.multiportgraph.SubportIndex.{SubportIndex}
 use Rattle.multiportgraph.specs.Places.{Wire}
 use Rattle.multiportgraph.specs.Graph.{emptyGraph}
@@ -84,11 +85,11 @@ runFromUnder L s (c ∷ l) = runFromUnder L (nextUnder L s c) l
 abbrev pub runFrom : State → List Call → State
 runFrom = runFromUnder present
 
--- a history from the empty graph, with the empty book
-unfoldable pub runUnder : Limits → List Call → State
-runUnder L calls = runFromUnder L (record { graph = emptyGraph; book = emptyBook }) calls
+-- a history from the empty graph of a release, with the empty book
+unfoldable pub runUnder : Limits → Release → List Call → State
+runUnder L release calls = runFromUnder L (record { graph = emptyGraph release; book = emptyBook }) calls
 
-abbrev pub run : List Call → State
+abbrev pub run : Release → List Call → State
 run = runUnder present
 
 -- 01's numbers of a call's answer

@@ -11,6 +11,7 @@ use Rattle.portgraph.specs.Lists.{range, Member}
 use Rattle.portgraph.specs.Model.{Model}
 use Rattle.portgraph.specs.declared.direction.Direction.the-variants.{Incoming, Outgoing}
 use Rattle.portgraph.specs.declared.node_entry.NodeMeta.{NodeMeta}
+use Rattle.multiportgraph.specs.declared.multiportgraph.Release.{Release}
 use Rattle.multiportgraph.specs.Calls.{visibleNodes, visiblePorts, visibleLinks}
 use Rattle.multiportgraph.specs.Wires.{Walked, wirePlaces, walked, wiresWalked, allWires, portsOfSide}
 use Rattle.theorems.specs.Book.{Call, Block, Book}
@@ -101,13 +102,13 @@ module _ {m : MultiPortGraph} {M : Model} {B : Book} (r : Rel m M B) where
 -- Every history.
 
 -- the visible links of every history are the wires of its book
-pub visible-links-of-history : (calls : List Call) → visibleLinks (run calls .graph) ≡ length (run calls .book .wires)
-visible-links-of-history calls = counted (run calls) (rel-run calls .0) (rel-run calls .1)
+pub visible-links-of-history : (release : Release) (calls : List Call) → visibleLinks (run release calls .graph) ≡ length (run release calls .book .wires)
+visible-links-of-history release calls = counted (run release calls) (rel-run release calls .0) (rel-run release calls .1)
 
 -- the visible nodes are its blocks
-pub visible-nodes-of-history : (calls : List Call) → visibleNodes (run calls .graph) ≡ length (run calls .book .blocks)
-visible-nodes-of-history calls = nodes-counted (rel-run calls .1)
+pub visible-nodes-of-history : (release : Release) (calls : List Call) → visibleNodes (run release calls .graph) ≡ length (run release calls .book .blocks)
+visible-nodes-of-history release calls = nodes-counted (rel-run release calls .1)
 
 -- the visible ports are those of its blocks
-pub visible-ports-of-history : (calls : List Call) → visiblePorts (run calls .graph) ≡ length (portsInBook (run calls .book))
-visible-ports-of-history calls = ports-counted (rel-run calls .1)
+pub visible-ports-of-history : (release : Release) (calls : List Call) → visiblePorts (run release calls .graph) ≡ length (portsInBook (run release calls .book))
+visible-ports-of-history release calls = ports-counted (rel-run release calls .1)

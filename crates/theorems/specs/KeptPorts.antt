@@ -11,6 +11,7 @@ use Rattle.portgraph.specs.Model as model
 use Rattle.portgraph.specs.Model.{Model, Slots, Valid, slotOf, countOf}
 use Rattle.portgraph.specs.Entries.{portsOn}
 use Rattle.portgraph.specs.declared.direction.Direction.{Direction}
+use Rattle.multiportgraph.specs.declared.multiportgraph.Release.{Release}
 use Rattle.multiportgraph.specs.Reading.{isSplit}
 use Rattle.multiportgraph.specs.Inner.{inner#, Fine, Seen}
 use Rattle.multiportgraph.specs.Ends.{port-of, count-of}
@@ -55,11 +56,11 @@ module _ {m : MultiPortGraph} {M : Model} (f : Fine m M) {m′ : MultiPortGraph}
 
 -- After a history, a resize of block n to i incoming and o outgoing ports is accepted: every port of block n whose position lies below
 -- the old and the new count of its side, and every port of another block, is split afterwards exactly if it was, with as many subports.
-pub kept-ports-stay-split : (calls : List Call) (n i o room e : ℕ) → step (run calls .graph) (book.setCall n i o room) .answer ≡ resize.Set e →
-    (k : ℕ) → InBook (run calls .book) k → (d : Direction) (j : ℕ) → j < numPorts (run calls .graph .graph) k d → (k ≡ n → j < newCount i o d) →
-    SplitAsBefore (run calls .graph) (step (run calls .graph) (book.setCall n i o room) .graph) k d j
-kept-ports-stay-split calls n i o room e a k b d j l h =
-    let r = rel-run calls .1 in
+pub kept-ports-stay-split : (release : Release) (calls : List Call) (n i o room e : ℕ) → step (run release calls .graph) (book.setCall n i o room) .answer ≡ resize.Set e →
+    (k : ℕ) → InBook (run release calls .book) k → (d : Direction) (j : ℕ) → j < numPorts (run release calls .graph .graph) k d → (k ≡ n → j < newCount i o d) →
+    SplitAsBefore (run release calls .graph) (step (run release calls .graph) (book.setCall n i o room) .graph) k d j
+kept-ports-stay-split release calls n i o room e a k b d j l h =
+    let r = rel-run release calls .1 in
     let c = block-booked r k b in
     let q = count-of (r .fine) k d in
     stays-split (r .fine) (set-counts-law (r .fine) n i o room e a) (inner# k d j) (omega arith, c .1 .0) h

@@ -19,21 +19,23 @@ use Rattle.theorems.specs.Book as book
 use Rattle.multiportgraph.specs.Inner.{Fine}
 use Rattle.multiportgraph.specs.declared.multiportgraph.MultiPortGraph.{MultiPortGraph}
 use Rattle.multiportgraph.specs.declared.multiportgraph.Refusal.{Refusal}
-use Rattle.multiportgraph.specs.declared.multiportgraph.Refusal.the-variants.{NoRoom, UnknownSecondPort, IncompatibleDirections}
+use Rattle.multiportgraph.specs.declared.multiportgraph.Refusal.the-variants.{NoRoom, UnknownSecondPort, IncompatibleDirections, InputWired}
 use Rattle.multiportgraph.specs.declared.multiportgraph.LinkAnswer.the-variants as link
 use Rattle.multiportgraph.specs.declared.multiportgraph.PortsLinked.{PortsLinked}
 use Rattle.multiportgraph.specs.Graph.{withGraph}
-use Rattle.multiportgraph.specs.Cases.{linkRefused, linkPrepared, linkSecond, linkFirst, linkSeen, linkLive}
+use Rattle.multiportgraph.specs.Refusals.{inputTaken}
+use Rattle.multiportgraph.specs.Cases.{linkRefused, linkPrepared, linkSecond, linkFirst, linkSeen, linkLive, takenSeen}
 use Rattle.multiportgraph.specs.HiddenNodes.{Prepared, ready, full, prepare}
-use Rattle.multiportgraph.specs.CaseLaws.{link-cases}
+use Rattle.multiportgraph.specs.CaseLaws.{link-cases, link-taken}
 use Rattle.theorems.specs.LinkLaw.{link-says}
 use Rattle.theorems.specs.WireRule.{after-link}
 use Rattle.multiportgraph.specs.SpaceLaws.{link-space}
 use Rattle.theorems.specs.Works.{worksOf}
-use Rattle.theorems.specs.Conditions.{LinkRefused, LinkSays, OfBlock, OfHidden, PortIs, block-port, comesLate, hidden-port, link-first-dead, link-first-full, link-first-hidden, link-one-side, link-second-dead, link-second-full, link-second-hidden, no-port}
+use Rattle.theorems.specs.Conditions.{LinkRefused, LinkSays, OfBlock, OfHidden, PortIs, Taken, block-port, comesLate, hidden-port, link-first-dead, link-first-full, link-first-hidden, link-one-side, link-second-dead, link-second-full, link-second-hidden, link-wired, no-port}
 use Rattle.theorems.specs.PortCases.{port-is, seen-block-port, seen-hidden-port, seen-none}
+use Rattle.theorems.specs.TakenLaws.{free-so, so-free, so-taken, taken-so}
 use Rattle.theorems.specs.CallLaw.{CallLaw}
-use Rattle.multiportgraph.specs.Calls.{linkPair}
+use Rattle.multiportgraph.specs.Calls.{linkPair, linkPairIf}
 
 -- Linking ports.
 
@@ -56,26 +58,45 @@ pub sides-differ : (d e : Direction) → sameSide d e ≡ false → d ≡ e → 
 sides-differ d e s q = let t = sides-same d e q in zero-is-not-one (cc)
 
 module _ {m : MultiPortGraph} {M : Model} (f : Fine m M) (a b : ℕ) where
-  link-is : (v w : Port) → seen m a ≡ v → seen m b ≡ w → linkPair m a b ≡ linkSeen m a b v w
-  link-is v w e g = link-cases present m a b ∙ rw (e, g)
+  -- 7 and 8 come before 18
+  link-before : (v w : Port) → seen m a ≡ v → seen m b ≡ w → (r : Refusal) → takenSeen a b v w ≡ r → linkSeen m a b v w ≡ linkRefused m r → linkPair m a b ≡ linkRefused m r
+  link-before v w e g r t s = go (inputTaken m a b)
+    where
+      go : (taken : Bool) → linkPairIf taken present m a b ≡ linkRefused m r
+      go true = link-taken present m a b ∙ rw (e, g) (ap (linkRefused m) t)
+      go false = link-cases present m a b ∙ rw (e, g) s
 
-  link-blocks : (x y : model.InnerPlace) → OfBlock m M a x → OfBlock m M b y → linkPair m a b ≡ linkLive m a (x .side) b (y .side) (prepare m a (x .side))
-  link-blocks x y s t = link-is (visible (x .node) (x .side)) (visible (y .node) (y .side)) (seen-block-port f a x s) (seen-block-port f b y t)
+  -- 18
+  pub wired-seen : (x : model.InnerPlace) → OfBlock m M a x → (OfHidden m M b → ⊥) → takenSeen a b (seen m a) (seen m b) ≡ InputWired
+  wired-seen x s n = ap (λ (v : Port). takenSeen a b v (seen m b)) (seen-block-port f a x s) ∙ go (port-is f b)
+    where
+      go : PortIs m M b → takenSeen a b (visible (x .node) (x .side)) (seen m b) ≡ InputWired
+      go (no-port d) = ap (takenSeen a b (visible (x .node) (x .side))) (seen-none f b d)
+      go (hidden-port k) = absurd (n k)
+      go (block-port y t) = ap (takenSeen a b (visible (x .node) (x .side))) (seen-block-port f b y t)
 
-  link-to-none : (x : model.InnerPlace) → OfBlock m M a x → Dead M b → linkPair m a b ≡ linkFirst m b (prepare m a (x .side))
-  link-to-none x s d = link-is (visible (x .node) (x .side)) dead (seen-block-port f a x s) (seen-none f b d)
+  -- and where it is not given the rest is done
+  link-is : (Taken m M a b → ⊥) → (v w : Port) → seen m a ≡ v → seen m b ≡ w → linkPair m a b ≡ linkSeen m a b v w
+  link-is free v w e g = ap (λ (taken : Bool). linkPairIf taken present m a b) (free-so f a b free) ∙ (link-cases present m a b ∙ rw (e, g))
+
+  link-blocks : (Taken m M a b → ⊥) → (x y : model.InnerPlace) → OfBlock m M a x → OfBlock m M b y →
+      linkPair m a b ≡ linkLive m a (x .side) b (y .side) (prepare m a (x .side))
+  link-blocks free x y s t = link-is free (visible (x .node) (x .side)) (visible (y .node) (y .side)) (seen-block-port f a x s) (seen-block-port f b y t)
+
+  link-to-none : (Taken m M a b → ⊥) → (x : model.InnerPlace) → OfBlock m M a x → Dead M b → linkPair m a b ≡ linkFirst m b (prepare m a (x .side))
+  link-to-none free x s d = link-is free (visible (x .node) (x .side)) dead (seen-block-port f a x s) (seen-none f b d)
 
   -- both ends are prepared
-  link-both : (x y : model.InnerPlace) (m₁ m₂ : MultiPortGraph) (u o v r : ℕ) → OfBlock m M a x → OfBlock m M b y →
+  link-both : (Taken m M a b → ⊥) → (x y : model.InnerPlace) (m₁ m₂ : MultiPortGraph) (u o v r : ℕ) → OfBlock m M a x → OfBlock m M b y →
       prepare m a (x .side) ≡ ready m₁ u o → prepare m₁ b (y .side) ≡ ready m₂ v r → linkPair m a b ≡ linkPrepared m₂ a (x .side) u o b (y .side) v r
-  link-both x y m₁ m₂ u o v r s t e g =
-      link-blocks x y s t ∙ (ap (linkLive m a (x .side) b (y .side)) e ∙ ap (linkSecond m a (x .side) u o b (y .side)) g)
+  link-both free x y m₁ m₂ u o v r s t e g =
+      link-blocks free x y s t ∙ (ap (linkLive m a (x .side) b (y .side)) e ∙ ap (linkSecond m a (x .side) u o b (y .side)) g)
 
-  -- ports of blocks on opposite sides, with room for both: linked
-  pub links-otherwise : (x y : model.InnerPlace) (m₁ m₂ : MultiPortGraph) (u o v r : ℕ) → OfBlock m M a x → OfBlock m M b y →
+  -- ports of blocks on opposite sides, no input that has a wire, with room for both: linked
+  pub links-otherwise : (Taken m M a b → ⊥) → (x y : model.InnerPlace) (m₁ m₂ : MultiPortGraph) (u o v r : ℕ) → OfBlock m M a x → OfBlock m M b y →
       prepare m a (x .side) ≡ ready m₁ u o → prepare m₁ b (y .side) ≡ ready m₂ v r → (x .side ≡ y .side → ⊥) →
       linkPair m a b ≡ record { graph = withGraph m₂ (linkPorts (m₂ .graph) u v .graph); answer = link.Linked (subport# a o) (subport# b r) }
-  links-otherwise x y m₁ m₂ u o v r s t e g n = link-both x y m₁ m₂ u o v r s t e g ∙ go (sameSide (x .side) (y .side)) refl
+  links-otherwise free x y m₁ m₂ u o v r s t e g n = link-both free x y m₁ m₂ u o v r s t e g ∙ go (sameSide (x .side) (y .side)) refl
     where
       go : (c : Bool) → sameSide (x .side) (y .side) ≡ c →
           linkPrepared m₂ a (x .side) u o b (y .side) v r
@@ -84,19 +105,22 @@ module _ {m : MultiPortGraph} {M : Model} (f : Fine m M) (a b : ℕ) where
       go false c = rw c
 
   pub link-refuses : (h : MultiPortGraph) (r : Refusal) → LinkRefused m M a b h r → linkPair m a b ≡ linkRefused h r
-  link-refuses h r (link-first-dead d) = link-is dead (seen m b) (seen-none f a d) refl
-  link-refuses h r (link-first-hidden k) = link-is hidden (seen m b) (seen-hidden-port f a k) refl
-  link-refuses h r (link-second-hidden x s k) = link-is (visible (x .node) (x .side)) hidden (seen-block-port f a x s) (seen-hidden-port f b k)
-  link-refuses h r (link-first-full x s n e) = go (port-is f b)
+  link-refuses h r (link-first-dead d) = link-before dead (seen m b) (seen-none f a d) refl _ refl refl
+  link-refuses h r (link-first-hidden k) = link-before hidden (seen m b) (seen-hidden-port f a k) refl _ refl refl
+  link-refuses h r (link-second-hidden x s k) =
+      link-before (visible (x .node) (x .side)) hidden (seen-block-port f a x s) (seen-hidden-port f b k) _ refl refl
+  link-refuses h r (link-wired x s n k) =
+      ap (λ (taken : Bool). linkPairIf taken present m a b) (taken-so f a b k) ∙ (link-taken present m a b ∙ ap (linkRefused m) (wired-seen x s n))
+  link-refuses h r (link-first-full x s n free e) = go (port-is f b)
     where
       go : PortIs m M b → linkPair m a b ≡ linkRefused m NoRoom
-      go (no-port d) = link-to-none x s d ∙ ap (linkFirst m b) e
+      go (no-port d) = link-to-none free x s d ∙ ap (linkFirst m b) e
       go (hidden-port k) = absurd (n k)
-      go (block-port y t) = link-blocks x y s t ∙ ap (linkLive m a (x .side) b (y .side)) e
-  link-refuses h r (link-second-full x y m₁ u o s t e g) =
-      link-blocks x y s t ∙ (ap (linkLive m a (x .side) b (y .side)) e ∙ ap (linkSecond m a (x .side) u o b (y .side)) g)
-  link-refuses h r (link-second-dead x m₁ u o s d e) = link-to-none x s d ∙ ap (linkFirst m b) e
-  link-refuses h r (link-one-side x y m₁ m₂ u o v r′ s t e g q) = link-both x y m₁ m₂ u o v r′ s t e g ∙ rw (sides-same (x .side) (y .side) q)
+      go (block-port y t) = link-blocks free x y s t ∙ ap (linkLive m a (x .side) b (y .side)) e
+  link-refuses h r (link-second-full x y m₁ u o s t free e g) =
+      link-blocks free x y s t ∙ (ap (linkLive m a (x .side) b (y .side)) e ∙ ap (linkSecond m a (x .side) u o b (y .side)) g)
+  link-refuses h r (link-second-dead x m₁ u o s d free e) = link-to-none free x s d ∙ ap (linkFirst m b) e
+  link-refuses h r (link-one-side x y m₁ m₂ u o v r′ s t free e g q) = link-both free x y m₁ m₂ u o v r′ s t e g ∙ rw (sides-same (x .side) (y .side) q)
 
   abbrev LinkSaid : PortsLinked → Type 0
   LinkSaid v = LinkSays (LinkRefused m M a b (v .graph)) (v .answer)
@@ -107,31 +131,39 @@ module _ {m : MultiPortGraph} {M : Model} (f : Fine m M) (a b : ℕ) where
       so : (h : MultiPortGraph) (r : Refusal) → LinkRefused m M a b h r → LinkSaid (linkPair m a b)
       so h r c = subst LinkSaid (sym (link-refuses h r c)) c
 
-      sides : (x y : model.InnerPlace) (m₁ m₂ : MultiPortGraph) (u o v r : ℕ) → OfBlock m M a x → OfBlock m M b y →
+      sides : (Taken m M a b → ⊥) → (x y : model.InnerPlace) (m₁ m₂ : MultiPortGraph) (u o v r : ℕ) → OfBlock m M a x → OfBlock m M b y →
           prepare m a (x .side) ≡ ready m₁ u o → prepare m₁ b (y .side) ≡ ready m₂ v r → (c : Bool) → sameSide (x .side) (y .side) ≡ c → LinkSaid (linkPair m a b)
-      sides x y m₁ m₂ u o v r s t e g true c = so m₂ _ (link-one-side x y m₁ m₂ u o v r s t e g (same-side-is (x .side) (y .side) c))
-      sides x y m₁ m₂ u o v r s t e g false c =
-          subst LinkSaid (sym (links-otherwise x y m₁ m₂ u o v r s t e g (sides-differ (x .side) (y .side) c))) tt
+      sides free x y m₁ m₂ u o v r s t e g true c = so m₂ _ (link-one-side x y m₁ m₂ u o v r s t free e g (same-side-is (x .side) (y .side) c))
+      sides free x y m₁ m₂ u o v r s t e g false c =
+          subst LinkSaid (sym (links-otherwise free x y m₁ m₂ u o v r s t e g (sides-differ (x .side) (y .side) c))) tt
 
-      second : (x y : model.InnerPlace) (m₁ : MultiPortGraph) (u o : ℕ) → OfBlock m M a x → OfBlock m M b y → prepare m a (x .side) ≡ ready m₁ u o →
+      second : (Taken m M a b → ⊥) → (x y : model.InnerPlace) (m₁ : MultiPortGraph) (u o : ℕ) → OfBlock m M a x → OfBlock m M b y → prepare m a (x .side) ≡ ready m₁ u o →
           (w : Prepared) → prepare m₁ b (y .side) ≡ w → LinkSaid (linkPair m a b)
-      second x y m₁ u o s t e full g = so m NoRoom (link-second-full x y m₁ u o s t e g)
-      second x y m₁ u o s t e (ready m₂ v r) g = sides x y m₁ m₂ u o v r s t e g (sameSide (x .side) (y .side)) refl
+      second free x y m₁ u o s t e full g = so m NoRoom (link-second-full x y m₁ u o s t free e g)
+      second free x y m₁ u o s t e (ready m₂ v r) g = sides free x y m₁ m₂ u o v r s t e g (sameSide (x .side) (y .side)) refl
 
-      both : (x y : model.InnerPlace) → OfBlock m M a x → OfBlock m M b y → (w : Prepared) → prepare m a (x .side) ≡ w → LinkSaid (linkPair m a b)
-      both x y s t full e = so m NoRoom (link-first-full x s (block-not-hidden f b y t) e)
-      both x y s t (ready m₁ u o) e = second x y m₁ u o s t e (prepare m₁ b (y .side)) refl
+      both : (Taken m M a b → ⊥) → (x y : model.InnerPlace) → OfBlock m M a x → OfBlock m M b y → (w : Prepared) → prepare m a (x .side) ≡ w → LinkSaid (linkPair m a b)
+      both free x y s t full e = so m NoRoom (link-first-full x s (block-not-hidden f b y t) free e)
+      both free x y s t (ready m₁ u o) e = second free x y m₁ u o s t e (prepare m₁ b (y .side)) refl
 
-      alone : (x : model.InnerPlace) → OfBlock m M a x → Dead M b → (w : Prepared) → prepare m a (x .side) ≡ w → LinkSaid (linkPair m a b)
-      alone x s d full e = so m NoRoom (link-first-full x s (dead-not-hidden f b d) e)
-      alone x s d (ready m₁ u o) e = so m₁ _ (link-second-dead x m₁ u o s d e)
+      alone : (Taken m M a b → ⊥) → (x : model.InnerPlace) → OfBlock m M a x → Dead M b → (w : Prepared) → prepare m a (x .side) ≡ w → LinkSaid (linkPair m a b)
+      alone free x s d full e = so m NoRoom (link-first-full x s (dead-not-hidden f b d) free e)
+      alone free x s d (ready m₁ u o) e = so m₁ _ (link-second-dead x m₁ u o s d free e)
+
+      -- 18, or the rest
+      wired : (x : model.InnerPlace) → OfBlock m M a x → (OfHidden m M b → ⊥) → ((Taken m M a b → ⊥) → LinkSaid (linkPair m a b)) →
+          (taken : Bool) → inputTaken m a b ≡ taken → LinkSaid (linkPair m a b)
+      wired x s n rest true e = so m _ (link-wired x s n (so-taken f a b e))
+      wired x s n rest false e = rest (so-free f a b e)
 
       first : PortIs m M a → PortIs m M b → LinkSaid (linkPair m a b)
       first (no-port d) q = so m _ (link-first-dead d)
       first (hidden-port k) q = so m _ (link-first-hidden k)
       first (block-port x s) (hidden-port k) = so m _ (link-second-hidden x s k)
-      first (block-port x s) (no-port d) = alone x s d (prepare m a (x .side)) refl
-      first (block-port x s) (block-port y t) = both x y s t (prepare m a (x .side)) refl
+      first (block-port x s) (no-port d) =
+          wired x s (dead-not-hidden f b d) (λ free. alone free x s d (prepare m a (x .side)) refl) (inputTaken m a b) refl
+      first (block-port x s) (block-port y t) =
+          wired x s (block-not-hidden f b y t) (λ free. both free x y s t (prepare m a (x .side)) refl) (inputTaken m a b) refl
 
   pub link-refused : (r : Refusal) → linkPair m a b .answer ≡ link.Refused r → LinkRefused m M a b (linkPair m a b .graph) r
   link-refused r e = subst (LinkSays (LinkRefused m M a b (linkPair m a b .graph))) e link-said
@@ -142,10 +174,11 @@ module _ {m : MultiPortGraph} {M : Model} (f : Fine m M) where
   link-leaves a b h r (link-first-dead d) n = refl
   link-leaves a b h r (link-first-hidden k) n = refl
   link-leaves a b h r (link-second-hidden x s k) n = refl
-  link-leaves a b h r (link-first-full x s k e) n = refl
-  link-leaves a b h r (link-second-full x y m₁ u o s t e g) n = refl
-  link-leaves a b h r (link-second-dead x m₁ u o s d e) n = absurd (zero-is-not-one (cc))
-  link-leaves a b h r (link-one-side x y m₁ m₂ u o v w s t e g q) n = absurd (zero-is-not-one (cc))
+  link-leaves a b h r (link-wired x s k j) n = refl
+  link-leaves a b h r (link-first-full x s k free e) n = refl
+  link-leaves a b h r (link-second-full x y m₁ u o s t free e g) n = refl
+  link-leaves a b h r (link-second-dead x m₁ u o s d free e) n = absurd (zero-is-not-one (cc))
+  link-leaves a b h r (link-one-side x y m₁ m₂ u o v w s t free e g q) n = absurd (zero-is-not-one (cc))
 
   -- 11 of linking ports: the graph is what the preparation of the first end left
   pub unknown-second-leaves : (a b : ℕ) (q : PortIndex) → linkPair m a b .answer ≡ link.Refused (UnknownSecondPort q) →
@@ -157,10 +190,11 @@ module _ {m : MultiPortGraph} {M : Model} (f : Fine m M) where
       go h r (link-first-dead d) n = absurd (zero-is-not-one (cc))
       go h r (link-first-hidden k) n = absurd (zero-is-not-one (cc))
       go h r (link-second-hidden x s k) n = absurd (zero-is-not-one (cc))
-      go h r (link-first-full x s k e) n = absurd (zero-is-not-one (cc))
-      go h r (link-second-full x y m₁ u o s t e g) n = absurd (zero-is-not-one (cc))
-      go h r (link-second-dead x m₁ u o s d e) n = (x, u, o, s, e)
-      go h r (link-one-side x y m₁ m₂ u o v w s t e g q) n = absurd (zero-is-not-one (cc))
+      go h r (link-wired x s k j) n = absurd (zero-is-not-one (cc))
+      go h r (link-first-full x s k free e) n = absurd (zero-is-not-one (cc))
+      go h r (link-second-full x y m₁ u o s t free e g) n = absurd (zero-is-not-one (cc))
+      go h r (link-second-dead x m₁ u o s d free e) n = (x, u, o, s, e)
+      go h r (link-one-side x y m₁ m₂ u o v w s t free e g q) n = absurd (zero-is-not-one (cc))
 
   -- 12 of linking ports: the graph is what the preparations of both ends left, and their inner ports are carried
   pub one-side-leaves : (a b : ℕ) (i j : PortIndex) (d : Direction) → linkPair m a b .answer ≡ link.Refused (IncompatibleDirections i j d) →
@@ -174,10 +208,11 @@ module _ {m : MultiPortGraph} {M : Model} (f : Fine m M) where
       go h r (link-first-dead k) n = absurd (zero-is-not-one (cc))
       go h r (link-first-hidden k) n = absurd (zero-is-not-one (cc))
       go h r (link-second-hidden x s k) n = absurd (zero-is-not-one (cc))
-      go h r (link-first-full x s k e) n = absurd (zero-is-not-one (cc))
-      go h r (link-second-full x y m₁ u o s t e g) n = absurd (zero-is-not-one (cc))
-      go h r (link-second-dead x m₁ u o s k e) n = absurd (zero-is-not-one (cc))
-      go h r (link-one-side x y m₁ m₂ u o v w s t e g q) n =
+      go h r (link-wired x s k j) n = absurd (zero-is-not-one (cc))
+      go h r (link-first-full x s k free e) n = absurd (zero-is-not-one (cc))
+      go h r (link-second-full x y m₁ u o s t free e g) n = absurd (zero-is-not-one (cc))
+      go h r (link-second-dead x m₁ u o s k free e) n = absurd (zero-is-not-one (cc))
+      go h r (link-one-side x y m₁ m₂ u o v w s t free e g q) n =
           let z : x .side ≡ d = cc in
           let a′ : port# u ≡ i = cc in
           let b′ : port# v ≡ j = cc in

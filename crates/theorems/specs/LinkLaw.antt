@@ -30,8 +30,9 @@ use Rattle.multiportgraph.specs.Places.{Place, Wire, wireOfSides}
 use Rattle.multiportgraph.specs.Graph.{withGraph}
 use Rattle.multiportgraph.specs.HiddenNodes.{Prepared, ready, full, prepare}
 use Rattle.multiportgraph.specs.Cases.{linkPrepared, linkSecond, linkFirst, linkSeen, linkLive}
-use Rattle.multiportgraph.specs.CaseLaws.{link-cases}
-use Rattle.multiportgraph.specs.Calls.{linkPair, linkPairUnder}
+use Rattle.multiportgraph.specs.CaseLaws.{link-cases, link-taken}
+use Rattle.multiportgraph.specs.Refusals.{inputTaken}
+use Rattle.multiportgraph.specs.Calls.{linkPair, linkPairIf}
 
 -- one wire came, between the ports named, each at its lowest unwired offset
 pub record LinkDone (m : MultiPortGraph) (M : Model) (m′ : MultiPortGraph) (a b : ℕ) (s t : SubportIndex) : Type 0 where
@@ -183,9 +184,11 @@ module _ {m : MultiPortGraph} {M : Model} (f : Fine m M) where
         wires = record { kept = λ w h t. h; came = λ w h. absurd h; only = λ w h. inl (h, refl) };
       }
 
-  pub link-says : (a b : ℕ) → LinkSays m M a b (linkPair m a b .graph) (linkPair m a b .answer)
+  -- where an input named has a wire, under release 2, nothing is done
+  pub link-says-if : (taken : Bool) (a b : ℕ) → LinkSays m M a b (linkPairIf taken present m a b .graph) (linkPairIf taken present m a b .answer)
   unfolding port-kept
-  link-says a b = subst (LinkSaid m M a b) (sym (link-cases present m a b)) (go (seen m a) (seen m b) refl refl)
+  link-says-if true a b = subst (LinkSaid m M a b) (sym (link-taken present m a b)) nothing-left
+  link-says-if false a b = subst (LinkSaid m M a b) (sym (link-cases present m a b)) (go (seen m a) (seen m b) refl refl)
     where
       first : (x : model.InnerPlace) (p : Prepared) → PreparedSays m M x p → LinkSaid m M a b (linkFirst m b p)
       first x full s = nothing-left
@@ -220,6 +223,9 @@ module _ {m : MultiPortGraph} {M : Model} (f : Fine m M) where
       go (visible n d) (visible k e) p q =
           let x = block-seen f a n d p in
           both n d x k e (block-seen f b k e q) (prepare m a d) (prepare-at f a n d x)
+
+  pub link-says : (a b : ℕ) → LinkSays m M a b (linkPair m a b .graph) (linkPair m a b .answer)
+  link-says a b = link-says-if (inputTaken m a b) a b
 
   pub link-done-law : (a b : ℕ) (s t : SubportIndex) → linkPair m a b .answer ≡ link.Linked s t → LinkDone m M (linkPair m a b .graph) a b s t
   link-done-law a b s t e = subst (LinkSays m M a b (linkPair m a b .graph)) e (link-says a b)

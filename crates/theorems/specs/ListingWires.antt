@@ -2,103 +2,48 @@
 -- connections between two blocks are exactly the book's wires there, each once for its end there.
 use mathlib.Core.Path.{_≡_, refl, sym, _∙_, ap, subst}
 use mathlib.Core.Bool.{Bool, true, false, cond}
-use mathlib.Core.List.{List, [], _∷_, flatMap, map}
+use mathlib.Core.List.{List, [], _∷_, map}
 use mathlib.Core.Logic.{inl, inr, ⊎-elim, _↔_}
 use Prim.Native.Nat.{ℕ, _<_}
 use native.Mathlib.Omega.{arith}
-use lib.Dec.{eqb, leb, ltb}
-use borrow.Author.Tests.{ltb-true, leb-true, leb-false, le-leb, eq-eqb, eqb-true}
+use lib.Dec.{eqb, leb}
+use borrow.Author.Tests.{leb-true, leb-false, le-leb, eq-eqb, eqb-true}
 use Rattle.portgraph.specs.Limits.{nodeSlots}
 use Rattle.portgraph.specs.Lists.{range, filter, Member, Rising}
 use Rattle.portgraph.specs.Model as model
-use Rattle.portgraph.specs.Model.{Model, Far, nowhere, to, slotOf}
-use Rattle.portgraph.specs.Lookups.{portLink}
-use Rattle.portgraph.specs.declared.portgraph.PortLink.{PortLink}
+use Rattle.portgraph.specs.Model.{Model, slotOf}
 use Rattle.portgraph.specs.Meaning.{sameSide}
 use Rattle.portgraph.specs.GoodSlots.{zero-is-not-one, same-place}
-use Rattle.portgraph.specs.PlaceLaws.{port-link-to, port-link-none, node-of-meta}
+use Rattle.portgraph.specs.PlaceLaws.{node-of-meta}
 use Rattle.portgraph.specs.declared.direction.Direction.{Direction}
 use Rattle.portgraph.specs.declared.direction.Direction.the-variants.{Incoming, Outgoing}
 use Rattle.portgraph.specs.declared.iter.Sides.{Sides}
 use Rattle.portgraph.specs.declared.iter.Sides.the-variants.{One, Both}
 use Rattle.portgraph.specs.declared.node_entry.NodeMeta.{NodeMeta}
-use Rattle.multiportgraph.specs.Reading.{ownerOf, isHidden, isSplit, Port, dead, hidden, visible, seen, subports, subportAt, End, inner, lacking, endAt, subport#, subportOf, standing}
-use Rattle.multiportgraph.specs.Calls.{linkOfEnd, farSubport}
+use Rattle.multiportgraph.specs.declared.multiportgraph.Release.{Release}
+use Rattle.multiportgraph.specs.Reading.{ownerOf, isHidden, isSplit, Port, dead, hidden, visible, seen, subport#}
 use Rattle.multiportgraph.specs.Places as places
-use Rattle.multiportgraph.specs.Places.{Place, Wire, Spot, spot, atSpot, touches, wireOfSides}
-use Rattle.multiportgraph.specs.Wires.{isBlock, blocks, portsOfSide, subportsOfPort, subportsOfSide, wireTo, wireOf, sideLinks, placeOf}
+use Rattle.multiportgraph.specs.Places.{Place, Wire, Spot, spot, atSpot, touches}
+use Rattle.multiportgraph.specs.Wires.{isBlock, blocks, portsOfSide, subportsOfPort, subportsOfSide, wireOf, sideLinks, placeOf}
 use Rattle.multiportgraph.specs.Walks.{portLinksSeen, portLinks, notSkipped, nodeLinks, notIgnored, neighbourLinks, neighbours, connections}
-use Rattle.multiportgraph.specs.Inner.{inner#, Fine, BlockIs, Seen, lift, outer, IsEnd, WireIn}
-use Rattle.multiportgraph.specs.Ends.{EndOf, lift-place, seen-block, block-seen, ends-join-ends, out-side, into-side, outer-seen, outer-apart, end-read, place-of-sub, subport-of, other-side, map-append}
+use Rattle.multiportgraph.specs.Inner.{inner#, Fine, BlockIs, Seen, lift}
+use Rattle.multiportgraph.specs.Ends.{seen-block, block-seen, ends-join-ends, outer-seen, place-of-sub, map-append}
 use Rattle.multiportgraph.specs.PlainLaws.{at-spot-here, at-spot-is}
-use Rattle.multiportgraph.specs.Listing.{Apart, member-filter, filter-member, member-flatMap, flatMap-member, member-map, map-member, range-member, filter-append, rising-filter, rising-map, rising-once}
+use Rattle.multiportgraph.specs.Listing.{Apart, member-filter, filter-member, member-flatMap, flatMap-member, member-map, map-member, filter-append, rising-filter, rising-map, rising-once}
 use Rattle.multiportgraph.specs.ScanLaws.{block-not-hidden, block-has-meta}
 use Rattle.multiportgraph.specs.declared.multiportgraph.MultiPortGraph.{MultiPortGraph}
 use Rattle.multiportgraph.specs.declared.multiportgraph.SubportIndex.{SubportIndex}
 use Rattle.multiportgraph.specs.declared.multiportgraph.SubportLink.{SubportLink}
 use Rattle.theorems.specs.Book.{Call, Block, Book, spotOf}
 use Rattle.theorems.specs.History.{run}
-use Rattle.theorems.specs.BookLaws.{or-true, or-right}
 use Rattle.theorems.specs.WireRule.{Rel, Right, past-block, spot-of}
 use Rattle.theorems.specs.CallLaws.{rel-run}
-use Rattle.theorems.specs.TheoremProofs.{end-named}
 use Rattle.theorems.specs.PortListing.{blocks-list, side-listed, side-has}
 use Rattle.theorems.specs.Cursors.{rising-as}
 use Rattle.theorems.specs.WalkStepLaws.{linkOffset, port-links-rise}
 use Rattle.theorems.specs.BlockWalkLaws.{Ahead, block-links-rise}
 use Rattle.theorems.specs.ListingClaims.{wireFrom, endOn, farFrom, Exactly, InBook, OverSides, OutOfRange, FarNodes, NotOwnOutput}
-
--- Listed links, as links between ends.
-
--- a link listed at a port x of a block: its end z there, and the end y that z is linked with
-pub record LinkIs (m : MultiPortGraph) (M : Model) (x : model.InnerPlace) (w : SubportLink) : Type 0 where
-  pub z : model.InnerPlace
-  pub y : model.InnerPlace
-  pub isSeen : Seen m M x
-  pub end : IsEnd m M z
-  pub side : z .side ≡ x .side
-  pub own : outer m M z ≡ lift x (w .from .«subport_offset»)
-  pub slot : slotOf (M .node) x ≡ w .from .port .0
-  pub joined : M .join z ≡ to y
-  pub far : w .to ≡ subportOf m (slotOf (M .node) y)
-  pub stood : w .place ≡ standing m (w .to)
-
--- a wire, by its end z on a side
-record EndIs (m : MultiPortGraph) (M : Model) (d : Direction) (w : Wire) : Type 0 where
-  pub z : model.InnerPlace
-  pub y : model.InnerPlace
-  pub end : IsEnd m M z
-  pub side : z .side ≡ d
-  pub joined : M .join z ≡ to y
-  pub is : w ≡ wireOfSides d (outer m M z) (outer m M y)
-
--- a link as listed
-abbrev placedLink : MultiPortGraph → SubportIndex → SubportIndex → SubportLink
-placedLink m a b = record { from = a; to = b; place = standing m b }
-
--- a wire, by the port x of its end on a side and the link listed there
-record Found (m : MultiPortGraph) (M : Model) (d : Direction) (w : Wire) : Type 0 where
-  pub x : model.InnerPlace
-  pub from : SubportIndex
-  pub to : SubportIndex
-  pub isSeen : Seen m M x
-  pub side : x .side ≡ d
-  pub at : endOn d w ≡ lift x (from .«subport_offset»)
-  pub listed : Member from (subportsOfPort m d (slotOf (M .node) x))
-  pub wired : Member (placedLink m from to) (wireOf m d from)
-  pub is : w ≡ wireFrom m d (placedLink m from to)
-
-own-end : (d : Direction) (x y : Place) → endOn d (wireOfSides d x y) ≡ x
-own-end Incoming x y = refl
-own-end Outgoing x y = refl
-
-pub far-end : (d : Direction) (x y : Place) → farFrom d (wireOfSides d x y) ≡ y
-far-end Incoming x y = refl
-far-end Outgoing x y = refl
-
-own-touches : (d : Direction) (t : Place → Bool) (x y : Place) → t x ≡ true → touches t (wireOfSides d x y) ≡ true
-own-touches Incoming t x y e = or-right (t y) (t x) e
-own-touches Outgoing t x y e = rw e
+use Rattle.theorems.specs.ListedLinks.{LinkIs, Found, placedLink, own-end, far-end, own-touches, from-place, link-wire, same-from, wire-found, touched-own, port-link, port-has-link, wire-is, sub-read}
 
 -- the far nodes of listed links
 far-nodes : (m : MultiPortGraph) (d : Direction) (l : List SubportLink) →
@@ -137,158 +82,7 @@ module _ {m : MultiPortGraph} {d : Direction} {booked : List Wire} {P : Wire →
             (g .0, filter-member t (g .0) l (g .1) (back (g .0) (g .1) (subst Q (g .2) (p .1))), g .2);
       }
 
--- a listed subport stands at its port, with its offset as read
-sub-read : (m : MultiPortGraph) (d : Direction) (p : ℕ) (s : SubportIndex) → Member s (subportsOfPort m d p) →
-    (s .port .0 ≡ p) × (cond (isSplit m p) (s .«subport_offset») 0 ≡ s .«subport_offset»)
-unfolding subportsOfPort
-sub-read m d p s = go (isSplit m p)
-  where
-    go : (b : Bool) → Member s (cond b (map (subport# p) (range 0 (subports m p d))) (subport# p 0 ∷ [])) → (s .port .0 ≡ p) × (cond b (s .«subport_offset») 0 ≡ s .«subport_offset»)
-    go true i = (ap (λ (t : SubportIndex). t .port .0) (member-map (subport# p) s (range 0 (subports m p d)) i .2), refl)
-    go false (inl e) = (ap (λ (t : SubportIndex). t .port .0) e, sym (ap (λ (t : SubportIndex). t .«subport_offset») e))
-    go false (inr i) = absurd i
-
 module _ {m : MultiPortGraph} {M : Model} (f : Fine m M) where
-  wire-is : (x : model.InnerPlace) → Seen m M x → (o : ℕ) → cond (isSplit m (slotOf (M .node) x)) o 0 ≡ o → (w : SubportLink) →
-      Member w (wireOf m (x .side) (subport# (slotOf (M .node) x) o)) → LinkIs m M x w
-  unfolding wireOf
-  wire-is x s o c w = by-end (endAt m (slotOf (M .node) x) (x .side) o) refl
-    where
-      by-join : (q : ℕ) (r : EndOf m M x o q) (y : Far) → M .join (r .end) ≡ y → Member w (wireTo (subport# (slotOf (M .node) x) o) (linkOfEnd m (slotOf (M .node) x) (inner q))) → LinkIs m M x w
-      by-join q r nowhere j i =
-          absurd (subst (λ (v : PortLink). Member w (wireTo (subport# (slotOf (M .node) x) o) (farSubport m v))) (ap (portLink (m .graph)) (sym (r .slot)) ∙ port-link-none (f .good) (f .holds) (r .end) (r .isEnd .valid) j) i)
-      by-join q r (to y) j i =
-          let h = subst (λ (v : PortLink). Member w (wireTo (subport# (slotOf (M .node) x) o) (farSubport m v))) (ap (portLink (m .graph)) (sym (r .slot)) ∙ port-link-to (f .good) (f .holds) (r .end) y (r .isEnd .valid) j) i in
-          let e : w ≡ placedLink m (subport# (slotOf (M .node) x) o) (subportOf m (slotOf (M .node) y)) = ⊎-elim (λ a. a) (λ a. absurd a) h in
-          record {
-            z = r .end;
-            y = y;
-            isSeen = s;
-            end = r .isEnd;
-            side = r .side;
-            own = r .is ∙ ap (lift x) (c ∙ sym (ap (λ (v : SubportLink). v .from .«subport_offset») e));
-            slot = sym (ap (λ (v : SubportLink). v .from .port .0) e);
-            joined = j;
-            far = ap (λ (v : SubportLink). v .to) e;
-            stood = ap (λ (v : SubportLink). v .place) e ∙ sym (ap (λ (v : SubportLink). standing m (v .to)) e);
-          }
-
-      by-end : (v : End) → endAt m (slotOf (M .node) x) (x .side) o ≡ v → Member w (wireTo (subport# (slotOf (M .node) x) o) (linkOfEnd m (slotOf (M .node) x) v)) → LinkIs m M x w
-      by-end lacking e i = absurd i
-      by-end (inner q) e i = let r = end-read f x o q s e in by-join q r (M .join (r .end)) refl i
-
-  -- a subport at which an end is read is listed at its port
-  sub-listed : (p : ℕ) (d : Direction) (o q : ℕ) → endAt m p d o ≡ inner q → cond (isSplit m p) o 0 ≡ o → Member (subport# p o) (subportsOfPort m d p)
-  unfolding subportsOfPort endAt
-  sub-listed p d o q e c = go (isSplit m p) (ltb o (subports m p d)) refl e c
-    where
-      go : (a b : Bool) → ltb o (subports m p d) ≡ b → cond a (cond b (inner (subportAt m p d o)) lacking) (inner p) ≡ inner q → cond a o 0 ≡ o →
-          Member (subport# p o) (cond a (map (subport# p) (range 0 (subports m p d))) (subport# p 0 ∷ []))
-      go true true t e c = map-member (subport# p) o (range 0 (subports m p d)) (range-member o 0 (subports m p d) (omega arith) (let l = ltb-true o (subports m p d) t in omega arith))
-      go true false t e c = absurd (zero-is-not-one (cc))
-      go false b t e c = inl (ap (subport# p) (sym c))
-
-  -- every link of an end is listed at the port that the end belongs to
-  link-there : (z y : model.InnerPlace) → IsEnd m M z → M .join z ≡ to y → (x : model.InnerPlace) (o : ℕ) → Seen m M x → outer m M z ≡ lift x o →
-      Member (subport# (slotOf (M .node) x) o) (subportsOfPort m (x .side) (slotOf (M .node) x))
-      × Member (placedLink m (subport# (slotOf (M .node) x) o) (subportOf m (slotOf (M .node) y))) (wireOf m (x .side) (subport# (slotOf (M .node) x) o))
-  unfolding wireOf
-  link-there z y e j x o s is =
-      let n = end-named f x z o e is in
-      let r = end-read f x o (n .1 .0) s (n .1 .1) in
-      let q : r .end ≡ z = outer-apart f (r .end) z (r .isEnd) e (r .is ∙ (ap (lift x) (n .2) ∙ sym is)) in
-      let k : endAt m (slotOf (M .node) x) (x .side) o ≡ inner (slotOf (M .node) z) =
-      n .1 .1 ∙ ap inner (sym (r .slot) ∙ ap (slotOf (M .node)) q) in
-      (sub-listed (slotOf (M .node) x) (x .side) o (n .1 .0) (n .1 .1) (n .2), rw (k, port-link-to (f .good) (f .holds) z y (e .valid) j) (inl refl))
-
-  -- As places.
-
-  pub from-place : (x : model.InnerPlace) (w : SubportLink) → LinkIs m M x w → placeOf m (w .from) ≡ lift x (w .from .«subport_offset»)
-  from-place x w l =
-      ap (λ (p : ℕ). placeOf m (subport# p (w .from .«subport_offset»))) (sym (l .slot)) ∙ place-of-sub f x (w .from .«subport_offset») (l .isSeen)
-
-  to-place : (x : model.InnerPlace) (w : SubportLink) (l : LinkIs m M x w) → placeOf m (w .to) ≡ outer m M (l .y)
-  to-place x w l = ap (placeOf m) (l .far) ∙ subport-of f (l .y) (ends-join-ends f (l .z) (l .y) (l .end) (l .joined))
-
-  -- a listed link is a wire
-  pub link-wire : (x : model.InnerPlace) (w : SubportLink) → LinkIs m M x w → WireIn m M (wireFrom m (x .side) w)
-  link-wire x w l = go (x .side) refl
-    where
-      out : placeOf m (w .from) ≡ outer m M (l .z)
-      out = from-place x w l ∙ sym (l .own)
-
-      into : placeOf m (w .to) ≡ outer m M (l .y)
-      into = to-place x w l
-
-      go : (d : Direction) → x .side ≡ d → WireIn m M (wireFrom m d w)
-      go Outgoing e =
-          record {
-            x = l .z;
-            y = l .y;
-            joined = l .joined;
-            outgoing = l .side ∙ e;
-            end = l .end;
-            is = λ i. record { out = out i; into = into i };
-          }
-      go Incoming e =
-          record {
-            x = l .y;
-            y = l .z;
-            joined = f .good .joinBack (l .z) (l .y) (l .joined);
-            outgoing = other-side Incoming (l .y .side) (λ q. f .good .joinSides (l .z) (l .y) (l .joined) (l .side ∙ (e ∙ q)));
-            end = ends-join-ends f (l .z) (l .y) (l .end) (l .joined);
-            is = λ i. record { out = into i; into = out i };
-          }
-
-  -- two listed links with one own place are at one subport
-  same-from : (x y : model.InnerPlace) (v w : SubportLink) → LinkIs m M x v → LinkIs m M y w → placeOf m (v .from) ≡ placeOf m (w .from) →
-      (v .from .port .0 ≡ w .from .port .0) × (v .from .«subport_offset» ≡ w .from .«subport_offset»)
-  same-from x y v w k l e =
-      let q : lift x (v .from .«subport_offset») ≡ lift y (w .from .«subport_offset») = sym (from-place x v k) ∙ (e ∙ from-place y w l) in
-      (sym (k .slot) ∙ (ap (slotOf (M .node)) (lift-place q) ∙ l .slot), ap (λ (p : Place). p .offset) q)
-
-  -- a wire, by its end on a side
-  end-of-wire : (d : Direction) (w : Wire) → WireIn m M w → EndIs m M d w
-  end-of-wire Outgoing w e = record { z = e .x; y = e .y; end = e .end; side = e .outgoing; joined = e .joined; is = e .is }
-  end-of-wire Incoming w e =
-      record {
-        z = e .y;
-        y = e .x;
-        end = ends-join-ends f (e .x) (e .y) (e .end) (e .joined);
-        side = other-side Outgoing (e .y .side) (λ q. f .good .joinSides (e .x) (e .y) (e .joined) (e .outgoing ∙ q));
-        joined = f .good .joinBack (e .x) (e .y) (e .joined);
-        is = e .is;
-      }
-
-  -- every wire is listed at the port of its end on a side
-  wire-found : (d : Direction) (w : Wire) → WireIn m M w → Found m M d w
-  wire-found d w e =
-      let i = end-of-wire d w e in
-      let r = outer-seen f (i .z) (i .end) in
-      let l = link-there (i .z) (i .y) (i .end) (i .joined) (r .main) (r .offset) (r .isSeen) (r .is) in
-      let own : placeOf m (subport# (slotOf (M .node) (r .main)) (r .offset)) ≡ outer m M (i .z) = place-of-sub f (r .main) (r .offset) (r .isSeen) ∙ sym (r .is) in
-      let far = subport-of f (i .y) (ends-join-ends f (i .z) (i .y) (i .end) (i .joined)) in
-      let p : r .main .side ≡ d = sym (r .side) ∙ i .side in
-      let a : SubportLink = placedLink m (subport# (slotOf (M .node) (r .main)) (r .offset)) (subportOf m (slotOf (M .node) (i .y))) in
-      record {
-        x = r .main;
-        from = subport# (slotOf (M .node) (r .main)) (r .offset);
-        to = subportOf m (slotOf (M .node) (i .y));
-        isSeen = r .isSeen;
-        side = p;
-        at = ap (endOn d) (i .is) ∙ (own-end d (outer m M (i .z)) (outer m M (i .y)) ∙ r .is);
-        listed = subst (λ (b : Direction). Member (subport# (slotOf (M .node) (r .main)) (r .offset)) (subportsOfPort m b (slotOf (M .node) (r .main)))) p (l .0);
-        wired = subst (λ (b : Direction). Member a (wireOf m b (subport# (slotOf (M .node) (r .main)) (r .offset)))) p (l .1);
-        is = i .is ∙ sym (λ j. wireOfSides d (own j) (far j));
-      }
-
-  -- a wire that touches a port has its end of that port's side there
-  touched-own : (w : Wire) → WireIn m M w → (n : ℕ) (d : Direction) (i : ℕ) → touches (atSpot (spot n d i)) w ≡ true → atSpot (spot n d i) (endOn d w) ≡ true
-  touched-own w h n Outgoing i t =
-      ⊎-elim (λ e. e) (λ e. let k = at-spot-is n Outgoing i (w .into) e .1 in let q = into-side f w h in absurd (zero-is-not-one (cc))) (or-true _ _ t)
-  touched-own w h n Incoming i t =
-      ⊎-elim (λ e. let k = at-spot-is n Incoming i (w .out) e .1 in let q = out-side f w h in absurd (zero-is-not-one (cc))) (λ e. e) (or-true _ _ t)
-
   -- The links of a side of a block.
 
   pub side-link : (n : ℕ) → isHidden m n ≡ false → (d : Direction) (w : SubportLink) → Member w (sideLinks m d n) → (i : ℕ) × LinkIs m M (inner# n d i) w
@@ -299,7 +93,7 @@ module _ {m : MultiPortGraph} {M : Model} (f : Fine m M) where
       let r = side-listed f n d (k .0) (k .1) in
       let t = sub-read m d (k .0) (g .0) (k .2) in (
         r .0,
-        wire-is (inner# n d (r .0)) (r .1, h) (g .0 .«subport_offset»)
+        wire-is f (inner# n d (r .0)) (r .1, h) (g .0 .«subport_offset»)
             (subst (λ (p : ℕ). cond (isSplit m p) (g .0 .«subport_offset») 0 ≡ g .0 .«subport_offset») (sym (r .2)) (t .1)) w
             (subst (λ (p : ℕ). Member w (wireOf m d (subport# p (g .0 .«subport_offset»)))) (t .0 ∙ sym (r .2)) (g .2)),
       )
@@ -315,7 +109,7 @@ module _ {m : MultiPortGraph} {M : Model} (f : Fine m M) where
   -- links at different subports are different wires
   links-apart : (d : Direction) (x y : model.InnerPlace) (v w : SubportLink) → LinkIs m M x v → LinkIs m M y w → Ahead (λ (u : SubportLink). u .from .port .0) linkOffset v w → wireFrom m d v ≡ wireFrom m d w → ⊥
   links-apart d x y v w k l a e =
-      let q = same-from x y v w k l (sym (own-end d _ (placeOf m (v .to))) ∙ (ap (endOn d) e ∙ own-end d _ (placeOf m (w .to)))) in
+      let q = same-from f x y v w k l (sym (own-end d _ (placeOf m (v .to))) ∙ (ap (endOn d) e ∙ own-end d _ (placeOf m (w .to)))) in
       let s = q .0 in
       let t = q .1 in
       ⊎-elim (λ h. omega arith) (λ h. let u = h .1 in omega arith) a
@@ -483,45 +277,24 @@ module _ {m : MultiPortGraph} {M : Model} {B : Book} (r : Rel m M B) where
 
   -- The links of a port.
 
-  port-links-are : (x : model.InnerPlace) → Seen m M x → portLinks m (slotOf (M .node) x) ≡ flatMap (wireOf m (x .side)) (subportsOfPort m (x .side) (slotOf (M .node) x))
-  unfolding portLinks
-  port-links-are x s = rw (seen-block (r .fine) x s) refl
-
-  pub port-link : (x : model.InnerPlace) → Seen m M x → (w : SubportLink) → Member w (portLinks m (slotOf (M .node) x)) → LinkIs m M x w
-  port-link x s w i =
-      let g = member-flatMap (wireOf m (x .side)) w (subportsOfPort m (x .side) (slotOf (M .node) x)) (subst (Member w) (port-links-are x s) i) in
-      let t = sub-read m (x .side) (slotOf (M .node) x) (g .0) (g .1) in
-      wire-is (r .fine) x s (g .0 .«subport_offset») (t .1) w (subst (λ (p : ℕ). Member w (wireOf m (x .side) (subport# p (g .0 .«subport_offset»)))) (t .0) (g .2))
-
   port-lists : (x : model.InnerPlace) → Seen m M x →
       Lists m (x .side) (B .wires) (λ w. touches (atSpot (spot (x .node) (x .side) (x .pos))) w ≡ true) (portLinks m (slotOf (M .node) x))
   port-lists x s =
       record {
         apart = rising-as (λ v w. linkOffset v < linkOffset w) (λ v w. Apart (wireFrom m (x .side) v) (wireFrom m (x .side) w)) (portLinks m (slotOf (M .node) x))
             (λ v w i j a.
-            let p = port-link x s v i in
-            let q = port-link x s w j in
+            let p = port-link (r .fine) x s v i in
+            let q = port-link (r .fine) x s w j in
             links-apart (r .fine) (x .side) x x v w p q (inr (sym (p .slot) ∙ q .slot, a)))
             (port-links-rise m (slotOf (M .node) x));
         only = λ a i.
-            let p = port-link x s a i in (
+            let p = port-link (r .fine) x s a i in (
               r .wires .walks _ (link-wire (r .fine) x a p),
               own-touches (x .side) (atSpot (spot (x .node) (x .side) (x .pos))) _ _
                   (ap (atSpot (spot (x .node) (x .side) (x .pos))) (from-place (r .fine) x a p) ∙ at-spot-here (x .node) (x .side) (x .pos) _ refl refl refl),
             );
         all = λ w i t.
-            let g = wire-found (r .fine) (x .side) w (r .wires .booked w i) in
-            let e : atSpot (spot (x .node) (x .side) (x .pos)) (endOn (x .side) w) ≡ true = touched-own (r .fine) w (r .wires .booked w i) (x .node) (x .side) (x .pos) t in
-            let k = at-spot-is (x .node) (x .side) (x .pos) (endOn (x .side) w) e in
-            let at = g .at in
-            let z : g .x ≡ x = same-place (g .x) x (ap (λ (v : Place). v .node) (sym (g .at)) ∙ k .0) (g .side) (ap (λ (v : Place). v .pos) (sym (g .at)) ∙ k .2) in
-            let a : SubportLink = placedLink m (g .from) (g .to) in (
-              a,
-              subst (Member a) (sym (port-links-are x s))
-                  (flatMap-member (wireOf m (x .side)) a (g .from) (subportsOfPort m (x .side) (slotOf (M .node) x))
-                  (subst (λ (y : model.InnerPlace). Member (g .from) (subportsOfPort m (x .side) (slotOf (M .node) y))) z (g .listed)) (g .wired)),
-              g .is,
-            );
+            port-has-link (r .fine) x s w (r .wires .booked w i) (touched-own (r .fine) w (r .wires .booked w i) (x .node) (x .side) (x .pos) t);
       }
 
   -- a number that stands nowhere in the book lists nothing
@@ -546,42 +319,42 @@ module _ {m : MultiPortGraph} {M : Model} {B : Book} (r : Rel m M B) where
       r .blocks .all n (k .0) (block-not-hidden m n b, node-of-meta (r .fine .good) (r .fine .holds) n (k .0) (k .1))
 
 -- 1. The links of a side of a block, either side, are exactly the book's wires with an end on that side of that block, each once.
-pub listings-are-wires-of-side : (calls : List Call) (d : Direction) (n : ℕ) → InBook (run calls .book) n →
-    Exactly (run calls .book .wires) (λ w. endOn d w .node ≡ n) (map (wireFrom (run calls .graph) d) (sideLinks (run calls .graph) d n))
-listings-are-wires-of-side calls d n b =
-    let r = rel-run calls .1 in
+pub listings-are-wires-of-side : (release : Release) (calls : List Call) (d : Direction) (n : ℕ) → InBook (run release calls .book) n →
+    Exactly (run release calls .book .wires) (λ w. endOn d w .node ≡ n) (map (wireFrom (run release calls .graph) d) (sideLinks (run release calls .graph) d n))
+listings-are-wires-of-side release calls d n b =
+    let r = rel-run release calls .1 in
     let k = block-booked r n b in
     lists-exactly (side-lists r n (k .0) (k .1) d)
 
 -- 2. The links of a port of the book, at the spot n, d, i, are exactly the book's wires with an end at that port, each once;
-pub listings-are-wires-of-port : (calls : List Call) (p n : ℕ) (d : Direction) (i : ℕ) → spotOf (run calls .book .blocks) p ≡ spot n d i →
-    Exactly (run calls .book .wires) (λ w. touches (atSpot (spot n d i)) w ≡ true) (map (wireFrom (run calls .graph) d) (portLinks (run calls .graph) p))
-listings-are-wires-of-port calls p n d i e =
-    let r = rel-run calls .1 in
+pub listings-are-wires-of-port : (release : Release) (calls : List Call) (p n : ℕ) (d : Direction) (i : ℕ) → spotOf (run release calls .book .blocks) p ≡ spot n d i →
+    Exactly (run release calls .book .wires) (λ w. touches (atSpot (spot n d i)) w ≡ true) (map (wireFrom (run release calls .graph) d) (portLinks (run release calls .graph) p))
+listings-are-wires-of-port release calls p n d i e =
+    let r = rel-run release calls .1 in
     let s = spot-back r p n d i e in
-    subst (λ (q : ℕ). Exactly (run calls .book .wires) (λ w. touches (atSpot (spot n d i)) w ≡ true) (map (wireFrom (run calls .graph) d) (portLinks (run calls .graph) q)))
+    subst (λ (q : ℕ). Exactly (run release calls .book .wires) (λ w. touches (atSpot (spot n d i)) w ≡ true) (map (wireFrom (run release calls .graph) d) (portLinks (run release calls .graph) q)))
     (s .1) (lists-exactly (port-lists r (inner# n d i) (s .0)))
 
 -- and a number that is no port of the book lists nothing.
-pub listings-are-wires-of-no-port : (calls : List Call) (p : ℕ) → spotOf (run calls .book .blocks) p ≡ places.nowhere → portLinks (run calls .graph) p ≡ []
-listings-are-wires-of-no-port calls p = no-port-links (rel-run calls .1) p
+pub listings-are-wires-of-no-port : (release : Release) (calls : List Call) (p : ℕ) → spotOf (run release calls .book .blocks) p ≡ places.nowhere → portLinks (run release calls .graph) p ≡ []
+listings-are-wires-of-no-port release calls p = no-port-links (rel-run release calls .1) p
 
 -- 3. The links of a block over one side or both, with a range of ports skipped: on each side walked, exactly the book's wires with an
 -- end there whose far port is not in the range, its end excluded, each once. A wire from a block to itself so comes twice where both
 -- sides are walked.
-pub listings-are-wires-of-node : (calls : List Call) (n : ℕ) → InBook (run calls .book) n → (sides : Sides) (lo hi : ℕ) →
+pub listings-are-wires-of-node : (release : Release) (calls : List Call) (n : ℕ) → InBook (run release calls .book) n → (sides : Sides) (lo hi : ℕ) →
     OverSides
-    (λ d l. Exactly (run calls .book .wires) (λ w. (endOn d w .node ≡ n) × OutOfRange (run calls .book) lo hi (farFrom d w)) (map (wireFrom (run calls .graph) d) l))
-    sides (nodeLinks (run calls .graph) n sides lo hi)
+    (λ d l. Exactly (run release calls .book .wires) (λ w. (endOn d w .node ≡ n) × OutOfRange (run release calls .book) lo hi (farFrom d w)) (map (wireFrom (run release calls .graph) d) l))
+    sides (nodeLinks (run release calls .graph) n sides lo hi)
 unfolding nodeLinks
-listings-are-wires-of-node calls n b (One d) lo hi =
-    let r = rel-run calls .1 in
+listings-are-wires-of-node release calls n b (One d) lo hi =
+    let r = rel-run release calls .1 in
     let k = block-booked r n b in
     lists-exactly (node-links-list r n (k .0) (k .1) lo hi d)
-listings-are-wires-of-node calls n b Both lo hi =
-    let r = rel-run calls .1 in
+listings-are-wires-of-node release calls n b Both lo hi =
+    let r = rel-run release calls .1 in
     let k = block-booked r n b in
-    let m = run calls .graph in (
+    let m = run release calls .graph in (
       filter (notSkipped lo hi) (sideLinks m Incoming n),
       filter (notSkipped lo hi) (sideLinks m Outgoing n),
       filter-append (notSkipped lo hi) (sideLinks m Incoming n) (sideLinks m Outgoing n),
@@ -591,17 +364,17 @@ listings-are-wires-of-node calls n b Both lo hi =
 
 -- 4. The neighbours of a block over one side or both: on each side walked, one node for each of the book's wires with an end there,
 -- that of the far end; with the flag, wires whose far end is on the block's own outgoing side are left out, and no others.
-pub listings-are-wires-of-neighbours : (calls : List Call) (n : ℕ) → InBook (run calls .book) n → (sides : Sides) (flag : Bool) →
-    OverSides (λ d. FarNodes (run calls .book .wires) (λ w. (endOn d w .node ≡ n) × NotOwnOutput n flag (farFrom d w)) d) sides (neighbours (run calls .graph) n sides flag)
+pub listings-are-wires-of-neighbours : (release : Release) (calls : List Call) (n : ℕ) → InBook (run release calls .book) n → (sides : Sides) (flag : Bool) →
+    OverSides (λ d. FarNodes (run release calls .book .wires) (λ w. (endOn d w .node ≡ n) × NotOwnOutput n flag (farFrom d w)) d) sides (neighbours (run release calls .graph) n sides flag)
 unfolding neighbours neighbourLinks
-listings-are-wires-of-neighbours calls n b (One d) flag =
-    let r = rel-run calls .1 in
+listings-are-wires-of-neighbours release calls n b (One d) flag =
+    let r = rel-run release calls .1 in
     let k = block-booked r n b in
-    (_, lists-exactly (neighbour-links-list r n (k .0) (k .1) flag d), far-nodes (run calls .graph) d (filter (notIgnored (run calls .graph) n flag) (sideLinks (run calls .graph) d n)))
-listings-are-wires-of-neighbours calls n b Both flag =
-    let r = rel-run calls .1 in
+    (_, lists-exactly (neighbour-links-list r n (k .0) (k .1) flag d), far-nodes (run release calls .graph) d (filter (notIgnored (run release calls .graph) n flag) (sideLinks (run release calls .graph) d n)))
+listings-are-wires-of-neighbours release calls n b Both flag =
+    let r = rel-run release calls .1 in
     let k = block-booked r n b in
-    let m = run calls .graph in
+    let m = run release calls .graph in
     let a = filter (notIgnored m n flag) (sideLinks m Incoming n) in
     let c = filter (notIgnored m n flag) (sideLinks m Outgoing n) in (
       map (λ (w : SubportLink). ownerOf (m .graph) (w .to .port .0)) a,
@@ -613,15 +386,15 @@ listings-are-wires-of-neighbours calls n b Both flag =
     )
 
 -- 5. The connections from one block's outgoing side to another are exactly the book's wires from the one to the other, each once.
-pub listings-are-wires-between : (calls : List Call) (n k : ℕ) → InBook (run calls .book) n →
-    Exactly (run calls .book .wires) (λ w. (w .out .node ≡ n) × (w .into .node ≡ k)) (map (wireFrom (run calls .graph) Outgoing) (connections (run calls .graph) n k))
-listings-are-wires-between calls n k b =
-    let r = rel-run calls .1 in
+pub listings-are-wires-between : (release : Release) (calls : List Call) (n k : ℕ) → InBook (run release calls .book) n →
+    Exactly (run release calls .book .wires) (λ w. (w .out .node ≡ n) × (w .into .node ≡ k)) (map (wireFrom (run release calls .graph) Outgoing) (connections (run release calls .graph) n k))
+listings-are-wires-between release calls n k b =
+    let r = rel-run release calls .1 in
     let a = block-booked r n b in
     lists-exactly (connections-list r n (a .0) (a .1) k)
 
 -- The blocks at which walks start are the blocks of the book.
-pub blocks-are-booked : (calls : List Call) (n : ℕ) → (isBlock (run calls .graph) n ≡ true) ↔ InBook (run calls .book) n
-blocks-are-booked calls n =
-    let r = rel-run calls .1 in
+pub blocks-are-booked : (release : Release) (calls : List Call) (n : ℕ) → (isBlock (run release calls .graph) n ≡ true) ↔ InBook (run release calls .book) n
+blocks-are-booked release calls n =
+    let r = rel-run release calls .1 in
     (booked-block r n, (λ b. let k = block-booked r n b in is-block (r .fine) n (k .0) (k .1)))

@@ -39,6 +39,7 @@ use Rattle.portgraph.specs.declared.portgraph.PortGraph.{PortGraph}
 use Rattle.portgraph.specs.declared.resize.SetAnswer as lower-set-answer
 use Rattle.portgraph.specs.declared.resize.SetAnswer.the-variants as lower-set
 use Rattle.portgraph.specs.declared.resize.PortsSet as lower-ports-set
+use Rattle.multiportgraph.specs.declared.multiportgraph.Release.{Release}
 use Rattle.multiportgraph.specs.Reading.{portOf, hasLink, farPort, isHidden, isSplit, copyNode}
 use Rattle.multiportgraph.specs.HiddenNodes.{copiesIn, copiesDropped, recounted, removeAll}
 use Rattle.multiportgraph.specs.Calls.{setAs, setCounts, movesTold, movesToldUnder, toldMeta}
@@ -467,10 +468,10 @@ moves-by-places {m} f n i o moves e ok =
     ∙ (λ q. told-is f n i o (length moves) e ok q ++ drop (long q) moves))
 
 -- every history
-pub moves-are-places : (calls : List Call) (n i o : ℕ) (moves : List ℕ) (e : ℕ) → setCounts (run calls .graph) n i o (length moves) .answer ≡ resize.Set e →
-    movesTold (run calls .graph) n i o moves
-    ≡ toldEvents (run calls .graph .graph) (setCounts (run calls .graph) n i o (length moves) .graph .graph) n i o ++ drop (3 * e) moves
-moves-are-places calls = moves-by-places (run-kept calls .fine)
+pub moves-are-places : (release : Release) (calls : List Call) (n i o : ℕ) (moves : List ℕ) (e : ℕ) → setCounts (run release calls .graph) n i o (length moves) .answer ≡ resize.Set e →
+    movesTold (run release calls .graph) n i o moves
+    ≡ toldEvents (run release calls .graph .graph) (setCounts (run release calls .graph) n i o (length moves) .graph .graph) n i o ++ drop (3 * e) moves
+moves-are-places release calls = moves-by-places (run-kept release calls .fine)
 
 -- The number answered is the number of places told.
 
@@ -500,12 +501,12 @@ length-told g h n i o =
     let s = length-append d k in
     omega arith
 
-pub events-answered : (calls : List Call) (n i o room e : ℕ) → setCounts (run calls .graph) n i o room .answer ≡ resize.Set e → e ≡ length (toldPlaces (run calls .graph .graph) n i o)
-events-answered calls n i o room e ok =
-    let f = run-kept calls .fine in
+pub events-answered : (release : Release) (calls : List Call) (n i o room e : ℕ) → setCounts (run release calls .graph) n i o room .answer ≡ resize.Set e → e ≡ length (toldPlaces (run release calls .graph .graph) n i o)
+events-answered release calls n i o room e ok =
+    let f = run-kept release calls .fine in
     let a = told-long f n i o room e ok in
     let b = ap length (told-is f n i o room e ok) in
-    let c = length-told (run calls .graph .graph) (setCounts (run calls .graph) n i o room .graph .graph) n i o in
+    let c = length-told (run release calls .graph .graph) (setCounts (run release calls .graph) n i o room .graph .graph) n i o in
     omega arith
 
 -- Hidden nodes of dropped ports.
@@ -604,7 +605,7 @@ module _ {m : MultiPortGraph} {M : Model} (f : Fine m M) (n i o room e : ℕ) (o
 
 -- The hidden nodes of dropped ports go after the resize, in the order in which these ports are told: of the free node slots, those of
 -- the last one told is the next to be taken, then the one before, and so on, and below them are those that were free before.
-pub hidden-go-in-order : (calls : List Call) (n i o room e : ℕ) → setCounts (run calls .graph) n i o room .answer ≡ resize.Set e →
-    (M N : Model) → Fine (run calls .graph) M → Fine (setCounts (run calls .graph) n i o room .graph) N →
-    N .freeNodes ≡ givenBack (hiddenTold (run calls .graph) n i o) (M .freeNodes)
-hidden-go-in-order calls n i o room e ok M N f g = hidden-go f n i o room e ok N g
+pub hidden-go-in-order : (release : Release) (calls : List Call) (n i o room e : ℕ) → setCounts (run release calls .graph) n i o room .answer ≡ resize.Set e →
+    (M N : Model) → Fine (run release calls .graph) M → Fine (setCounts (run release calls .graph) n i o room .graph) N →
+    N .freeNodes ≡ givenBack (hiddenTold (run release calls .graph) n i o) (M .freeNodes)
+hidden-go-in-order release calls n i o room e ok M N f g = hidden-go f n i o room e ok N g

@@ -9,7 +9,7 @@ use Rattle.multiportgraph.specs.Answers.{refusalNumbers, addNumbers, removeNumb
 use Rattle.multiportgraph.specs.Lookups.{directionNumbers, nodeNumbers, offsetNumbers, portNumbers, countNumbers}
 use Rattle.multiportgraph.specs.WalkNumbers.{linkValues}
 use Rattle.multiportgraph.specs.declared.multiportgraph.Refusal.{Refusal}
-use Rattle.multiportgraph.specs.declared.multiportgraph.Refusal.the-variants.{BadOffset, TooManyPorts, UnknownNode, HiddenNode, MovesTooShort, UnknownPort, HiddenPort, UnknownOffset, NoRoom, UnknownSecondPort, IncompatibleDirections, AlreadyLinked}
+use Rattle.multiportgraph.specs.declared.multiportgraph.Refusal.the-variants.{BadOffset, TooManyPorts, UnknownNode, HiddenNode, MovesTooShort, UnknownPort, HiddenPort, UnknownOffset, NoRoom, UnknownSecondPort, IncompatibleDirections, AlreadyLinked, InputWired}
 use Rattle.multiportgraph.specs.declared.multiportgraph.AddAnswer.the-variants as add
 use Rattle.multiportgraph.specs.declared.multiportgraph.RemoveAnswer.the-variants as remove
 use Rattle.multiportgraph.specs.declared.multiportgraph.SetAnswer.the-variants as resize
@@ -27,14 +27,14 @@ abbrev pub refusals : ℕ → ℕ → List Refusal
 refusals p q =
     BadOffset ∷ TooManyPorts ∷ UnknownNode ∷ HiddenNode ∷ MovesTooShort ∷ UnknownPort (port# p) ∷ HiddenPort (port# p) ∷ UnknownOffset (port# p)
     ∷ NoRoom ∷ UnknownSecondPort (port# q) ∷ IncompatibleDirections (port# p) (port# q) Incoming ∷ IncompatibleDirections (port# p) (port# q) Outgoing
-    ∷ AlreadyLinked (port# p) ∷ []
+    ∷ AlreadyLinked (port# p) ∷ InputWired ∷ []
 
 -- 01's number of each, and what it carries
 abbrev pub refusalTable : ℕ → ℕ → List (List ℕ)
 refusalTable p q =
     (2 ∷ []) ∷ (3 ∷ []) ∷ (4 ∷ []) ∷ (5 ∷ []) ∷ (6 ∷ []) ∷ (7 ∷ p ∷ []) ∷ (8 ∷ p ∷ []) ∷ (9 ∷ p ∷ [])
     ∷ (10 ∷ []) ∷ (11 ∷ q ∷ []) ∷ (12 ∷ p ∷ q ∷ 0 ∷ []) ∷ (12 ∷ p ∷ q ∷ 1 ∷ [])
-    ∷ (13 ∷ p ∷ []) ∷ []
+    ∷ (13 ∷ p ∷ []) ∷ (18 ∷ []) ∷ []
 
 -- every kind of answer that is no refusal, with a node n, ports p and q, offsets o and r, and a count or position k
 abbrev pub answers : ℕ → ℕ → ℕ → ℕ → ℕ → ℕ → List (List ℕ)

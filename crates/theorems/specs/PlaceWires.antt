@@ -13,9 +13,10 @@ use Rattle.portgraph.specs.Model.{Model, Far, nowhere, to, slotOf}
 use Rattle.portgraph.specs.GoodSlots.{zero-is-not-one}
 use Rattle.portgraph.specs.declared.direction.Direction.{Direction}
 use Rattle.portgraph.specs.declared.direction.Direction.the-variants.{Outgoing}
-use Rattle.multiportgraph.specs.Reading.{isSplit, Port, dead, hidden, visible, seen, End, inner, lacking, endAt, subport#, asRead, subportOf, standing}
+use Rattle.multiportgraph.specs.declared.multiportgraph.Release.{Release}
+use Rattle.multiportgraph.specs.Reading.{isSplit, Port, dead, hidden, visible, seen, End, inner, lacking, endAt, subport#, asRead, subportOf, standing, linkOfEnd}
 use Rattle.multiportgraph.specs.Refusals.{goodOffset}
-use Rattle.multiportgraph.specs.Calls.{linkOfEnd, subportLink, cutPort}
+use Rattle.multiportgraph.specs.Calls.{subportLink, cutPort}
 use Rattle.multiportgraph.specs.Cases.{linkOfSeen, cutSeen}
 use Rattle.multiportgraph.specs.CaseLaws.{cut-cases, subport-link-cases}
 use Rattle.multiportgraph.specs.Answers.{unplaced}
@@ -46,7 +47,8 @@ use Rattle.theorems.specs.WireRule.{Rel, spot-of}
 use Rattle.theorems.specs.CallLaws.{rel-run}
 use Rattle.theorems.specs.AnswerClaims.{wireBetween, PortOfBlock, EndThere}
 use Rattle.theorems.specs.AnswerWires.{place-at, asked-linked, asked-far, found-link, found-booked, here, itself, read-plain, cut-linked, cut-free, cut-split, cut-sub-answers}
-use Rattle.theorems.specs.ListingWires.{LinkIs, far-end, from-place, link-wire, side-link, port-link}
+use Rattle.theorems.specs.ListedLinks.{LinkIs, far-end, from-place, link-wire, port-link}
+use Rattle.theorems.specs.ListingWires.{side-link}
 use Rattle.theorems.specs.BlockWalkLaws.{by-sides-member}
 use Rattle.theorems.specs.WalkHeldLaws.{port-links-give, port-links-give-back, links-give, links-end, connections-give, connections-end}
 use Rattle.theorems.specs.WiresHeld.{wires-give}
@@ -164,7 +166,7 @@ module _ (s : State) {M : Model} (r : Rel (s .graph) M (s .book)) where
       go hidden e h = absurd h
       go (visible n d) e h =
           let c = block-seen (r .fine) p n d e in
-          link-stands (c .place) w (port-link r (c .place) (c .isSeen) w (subst (λ (q : ℕ). Member w (portLinks m q)) (sym (c .slot)) i))
+          link-stands (c .place) w (port-link (r .fine) (c .place) (c .isSeen) w (subst (λ (q : ℕ). Member w (portLinks m q)) (sym (c .slot)) i))
 
   -- a walk of a block that gives something is one of a block
   links-block : (c d : NodeLinks) (w : SubportLink) → stepLinks m c ≡ links-step.Item w d → isBlock m (c .node .0) ≡ true
@@ -208,15 +210,15 @@ from-start : (m : MultiPortGraph) (c : Wires) → c .held ≡ 0 → stepWires m 
 unfolding stepWires
 from-start m c z = rw (eq-eqb (c .held) 0 z)
 
-wire-listed : (calls : List Call) (c d : Wires) (w : SubportLink) (h : ℕ) → c .held ≡ h → stepWires (run calls .graph) c ≡ wires-step.Item w d → Member w (allWires (run calls .graph))
-wire-listed calls c d w zero z e = first-listed (allWires (run calls .graph)) w d (sym (from-start (run calls .graph) c z) ∙ e)
-wire-listed calls c d w (suc p) z e =
-    let g = wires-give calls c d p w z e .3 in
+wire-listed : (release : Release) (calls : List Call) (c d : Wires) (w : SubportLink) (h : ℕ) → c .held ≡ h → stepWires (run release calls .graph) c ≡ wires-step.Item w d → Member w (allWires (run release calls .graph))
+wire-listed release calls c d w zero z e = first-listed (allWires (run release calls .graph)) w d (sym (from-start (run release calls .graph) c z) ∙ e)
+wire-listed release calls c d w (suc p) z e =
+    let g = wires-give release calls c d p w z e .3 in
     subst (Member w) (sym (g .whole)) (member-right w (g .before) (w ∷ g .after) (inl refl))
 
 -- The place that an answer or a walk's item gives is that of the far end of the book's wire; a split port that is cut answers its own.
-pub places-are-wires : (calls : List Call) → PlacesAreWires (run calls)
-places-are-wires calls =
+pub places-are-wires : (release : Release) (calls : List Call) → PlacesAreWires (run release calls)
+places-are-wires release calls =
     record {
       asks = asked-stands s r;
       cutsSub = λ p o t x e. asked-stands s r p o t x (sym (cut-sub-answers (s .graph) p o) ∙ e);
@@ -226,11 +228,11 @@ places-are-wires calls =
       linksBack = λ c d w e. port-stands s r (c .port .0) w (port-links-give-back (s .graph) c d w e .0);
       nodeLinks = links-stand s r;
       connections = connections-stand s r;
-      wires = λ c d w e. wire-stands s r w (wire-listed calls c d w (c .held) refl e);
+      wires = λ c d w e. wire-stands s r w (wire-listed release calls c d w (c .held) refl e);
     }
   where
     s : State
-    s = run calls
+    s = run release calls
 
-    r : Rel (run calls .graph) (rel-run calls .0) (run calls .book)
-    r = rel-run calls .1
+    r : Rel (run release calls .graph) (rel-run release calls .0) (run release calls .book)
+    r = rel-run release calls .1

@@ -1,31 +1,29 @@
 -- Proofs of the wire rule, of cuts that restore and of links in either order.
 use mathlib.Core.Path.{_≡_, refl, sym, ap, _∙_, subst}
-use mathlib.Core.Bool.{Bool, true, false, cond, _||_}
+use mathlib.Core.Bool.{cond}
 use mathlib.Core.List.{List, [], _∷_}
 use mathlib.Core.Logic.{inl, inr, ⊎-elim}
-use Prim.Native.Nat.{ℕ, _+_, _≤_, _<_}
+use Prim.Native.Nat.{ℕ, _+_, _<_}
 use native.Mathlib.Omega.{arith}
 use borrow.Author.Tests.{lt-ltb}
-use Rattle.portgraph.specs.Limits.{portSlots}
-use Rattle.portgraph.specs.Entries.{reversed}
 use Rattle.portgraph.specs.Model as model
-use Rattle.portgraph.specs.Model.{Model, to, Slots, slotOf, firstOf, sideStart, countOf}
-use Rattle.portgraph.specs.GoodSlots.{slots-apart, slot-in-range, zero-is-not-one}
+use Rattle.portgraph.specs.Model.{Model, Slots, slotOf, firstOf, sideStart, countOf}
+use Rattle.portgraph.specs.GoodSlots.{slots-apart, zero-is-not-one}
 use Rattle.portgraph.specs.declared.direction.Direction.{Direction}
 use Rattle.portgraph.specs.declared.direction.Direction.the-variants.{Incoming, Outgoing}
 use Rattle.portgraph.specs.declared.portgraph.PortLink.{PortLink}
 use Rattle.portgraph.specs.declared.portgraph.PortLink.the-variants as lower-cut
 use Rattle.portgraph.specs.Calls.{unlinkPort}
-use Rattle.multiportgraph.specs.Reading.{isHidden, isSplit, copySide, inner, endAt, subport#}
-use Rattle.multiportgraph.specs.Calls.{linkSub, cutSub, farSubport, linkPair, linkClean}
+use Rattle.multiportgraph.specs.declared.multiportgraph.Release.{Release}
+use Rattle.multiportgraph.specs.Reading.{isSplit, inner, endAt, subport#, farSubport}
+use Rattle.multiportgraph.specs.Calls.{linkSub, cutSub, linkPair, linkClean}
 use Rattle.multiportgraph.specs.Wires.{wiresWalked}
-use Rattle.theorems.specs.Book as book
 use Rattle.theorems.specs.Book.{Call, Block, Book, spotOf, addWire}
 use Rattle.theorems.specs.History.{State, step, entered, next, run}
-use Rattle.multiportgraph.specs.Inner.{copyPlace, Fine, Seen, lift, outer, IsEnd, WireIn, SameBlocks, Wiring, none}
+use Rattle.multiportgraph.specs.Inner.{Fine, Seen, lift, outer, IsEnd, WireIn, SameBlocks, Wiring, none}
 use Rattle.theorems.specs.BookLaws.{so-not-false, same-count}
 use Rattle.multiportgraph.specs.Frame.{true-not-false}
-use Rattle.multiportgraph.specs.Ends.{seen-block, hangs, one-copy, end-side, outer-of-subport, outer-of-block, lift-place, end-of-split, end-of-unsplit, ends-join-ends}
+use Rattle.multiportgraph.specs.Ends.{seen-block, ends-join-ends}
 use Rattle.multiportgraph.specs.WalkRule.{walk-ends, walked-is-wires, walked-once, same-wires-same-list}
 use Rattle.multiportgraph.specs.PlainLaws.{endNamed, CutDone, CutSays, cut-sub-law, LinkSubSays, link-sub-law}
 use Rattle.multiportgraph.specs.SplitLaws.{HasEnd}
@@ -40,8 +38,9 @@ use Rattle.multiportgraph.specs.declared.multiportgraph.LinkAnswer.{LinkAnswer}
 use Rattle.multiportgraph.specs.declared.multiportgraph.LinkAnswer.the-variants as link
 use Rattle.multiportgraph.specs.declared.multiportgraph.CutAnswer.{CutAnswer}
 use Rattle.multiportgraph.specs.declared.multiportgraph.CutAnswer.the-variants as cutting
-use Rattle.multiportgraph.specs.Places.{Place, Wire, Spot, nowhere, spot, atSpot, touches, wireOfSides}
-use Rattle.theorems.specs.Claims.{Link, byPorts, byPortsClean, bySubports, linking, LinkedBy, acceptedLink, joins, between, Restored, WireRule, count}
+use Rattle.multiportgraph.specs.Places.{Wire, Spot, nowhere, spot, atSpot, touches, wireOfSides}
+use Rattle.theorems.specs.Claims.{Link, byPorts, byPortsClean, bySubports, linking, LinkedBy, acceptedLink, joins, between, Restored, WireRule}
+use Rattle.theorems.specs.ListedLinks.{end-named}
 
 -- Graph and book that go together obey the wire rule.
 rule-of : (s : State) (M : Model) → Rel (s .graph) M (s .book) → WireRule s
@@ -100,37 +99,6 @@ module _ (s t : Spot) where
   walked-as-booked x r = same-count (joins s t) (wiresWalked (x .graph)) (x .book .wires) (r .once) (r .bookOnce) (r .booked) (r .walks)
 
 -- Cutting an end.
-
--- the end of a port at which a wire ends is read as named
-module _ {m : MultiPortGraph} {M : Model} (f : Fine m M) (x z : model.InnerPlace) (o : ℕ) (e : IsEnd m M z) (is : outer m M z ≡ lift x o) where
-  slot-small : o ≤ z .pos → o < 65535
-  slot-small h = let b : slotOf (M .node) z < portSlots = slot-in-range (f .good) z (e .valid) in omega arith
-
-  pub end-named : (o < 65535) × ((q : ℕ) × (endAt m (slotOf (M .node) x) (x .side) o ≡ inner q)) × (cond (isSplit m (slotOf (M .node) x)) o 0 ≡ o)
-  end-named = go (isHidden m (z .node)) refl
-    where
-      go : (b : Bool) → isHidden m (z .node) ≡ b →
-          (o < 65535) × ((q : ℕ) × (endAt m (slotOf (M .node) x) (x .side) o ≡ inner q)) × (cond (isSplit m (slotOf (M .node) x)) o 0 ≡ o)
-      go false h =
-          let q = sym (outer-of-block f z h) ∙ is in
-          let p : z ≡ x = lift-place q in
-          let n : 0 ≡ o = ap (λ (v : Place). v .offset) q in
-          let t : isSplit m (slotOf (M .node) x) ≡ false = ap (λ (v : model.InnerPlace). isSplit m (slotOf (M .node) v)) (sym p) ∙ e .unsplit h in
-          (omega arith, (slotOf (M .node) x, end-of-unsplit f (slotOf (M .node) x) (x .side) o t), (rw (← n) (rw t refl)))
-      go true h =
-          let c = f .copy (z .node) h in
-          let q = sym (outer-of-subport f z (c .main) h (c .joined)) ∙ is in
-          let p : c .main ≡ x = lift-place q in
-          let n : z .pos ≡ o = ap (λ (v : Place). v .offset) q in
-          let j : M .join (copyPlace m (z .node)) ≡ to x = c .joined ∙ ap to p in
-          let t : isSplit m (slotOf (M .node) x) ≡ true = f .mainMarked (z .node) x h j in
-          let k = hangs f (z .node) x h j in
-          let a : z .node ≡ k .copy = one-copy f (z .node) (k .copy) x j (k .from) in
-          let d : z .side ≡ x .side = end-side f z e h ∙ ap (λ (v : ℕ). reversed (copySide m v)) a ∙ sym (k .side) in
-          let l : o < countOf (M .node (k .copy)) (x .side) =
-          subst (λ (v : ℕ). v < countOf (M .node (k .copy)) (x .side)) n
-          (subst (λ (v : Direction). z .pos < countOf (M .node (k .copy)) v) d (subst (λ (v : ℕ). z .pos < countOf (M .node v) (z .side)) a (e .valid))) in
-          (slot-small (omega arith), (_, end-of-split f x o k t l), (rw t refl))
 
 never-refused : (m : MultiPortGraph) (v : PortLink) (e : Refusal) → farSubport m v ≡ cutting.Refused e → ⊥
 never-refused m (lower-cut.Linked q) e h = zero-is-not-one (cc)
@@ -224,8 +192,8 @@ ends-restore {m} {M} {m′} {a} {o} {b} {r} f l = (
 
 -- The theorems.
 
-pub wire-rule : (calls : List Call) → WireRule (run calls)
-wire-rule calls = let r = rel-run calls in rule-of (run calls) (r .0) (r .1)
+pub wire-rule : (release : Release) (calls : List Call) → WireRule (run release calls)
+wire-rule release calls = let r = rel-run release calls in rule-of (run release calls) (r .0) (r .1)
 
 link-restores : {m : MultiPortGraph} {M : Model} → Fine m M → (a b : ℕ) (m′ : MultiPortGraph) (v : LinkAnswer) (x y : SubportIndex) → LinkSays m M a b m′ v →
     v ≡ link.Linked x y → Restored m m′ x × Restored m m′ y
@@ -252,20 +220,20 @@ restores {m} f B (byPortsClean a b) x y h = link-restores f a b _ (linkClean m a
 restores {m} f B (bySubports p o q r) x y h = link-sub-restores f p o q r _ (linkSub m p o q r .answer) x y (link-sub-law f p o q r) h
 
 -- a link is accepted and answers two ends: cutting either one brings back the earlier list of walked wires
-pub cut-restores : (calls : List Call) (c : Link) (x y : SubportIndex) → LinkedBy (run calls) c x y →
-    Restored (run calls .graph) (next (run calls) (linking c) .graph) x × Restored (run calls .graph) (next (run calls) (linking c) .graph) y
-cut-restores calls c x y h = restores (rel-run calls .1 .fine) (run calls .book) c x y h
+pub cut-restores : (release : Release) (calls : List Call) (c : Link) (x y : SubportIndex) → LinkedBy (run release calls) c x y →
+    Restored (run release calls .graph) (next (run release calls) (linking c) .graph) x × Restored (run release calls .graph) (next (run release calls) (linking c) .graph) y
+cut-restores release calls c x y h = restores (rel-run release calls .1 .fine) (run release calls .book) c x y h
 
 -- two links, accepted in both orders, leave as many walked wires between any two ports in either order
-pub links-in-either-order : (calls : List Call) (c d : Link) → acceptedLink (run calls) c → acceptedLink (next (run calls) (linking c)) d → acceptedLink (run calls) d →
-    acceptedLink (next (run calls) (linking d)) c → (s t : Spot) →
-    between s t (wiresWalked (next (next (run calls) (linking c)) (linking d) .graph)) ≡ between s t (wiresWalked (next (next (run calls) (linking d)) (linking c) .graph))
-links-in-either-order calls c d a b e h s t =
-    let r = rel-run calls in
+pub links-in-either-order : (release : Release) (calls : List Call) (c d : Link) → acceptedLink (run release calls) c → acceptedLink (next (run release calls) (linking c)) d → acceptedLink (run release calls) d →
+    acceptedLink (next (run release calls) (linking d)) c → (s t : Spot) →
+    between s t (wiresWalked (next (next (run release calls) (linking c)) (linking d) .graph)) ≡ between s t (wiresWalked (next (next (run release calls) (linking d)) (linking c) .graph))
+links-in-either-order release calls c d a b e h s t =
+    let r = rel-run release calls in
     let rc = rel-step (r .1) (linking c) in
     let rcd = rel-step (rc .1) (linking d) in
     let rd = rel-step (r .1) (linking d) in
     let rdc = rel-step (rd .1) (linking c) in
-    let one = walked-as-booked s t (next (next (run calls) (linking c)) (linking d)) (rule-of _ (rcd .0) (rcd .1)) ∙ book-both s t (run calls) c d a b in
-    let two = walked-as-booked s t (next (next (run calls) (linking d)) (linking c)) (rule-of _ (rdc .0) (rdc .1)) ∙ book-both s t (run calls) d c e h in
+    let one = walked-as-booked s t (next (next (run release calls) (linking c)) (linking d)) (rule-of _ (rcd .0) (rcd .1)) ∙ book-both s t (run release calls) c d a b in
+    let two = walked-as-booked s t (next (next (run release calls) (linking d)) (linking c)) (rule-of _ (rdc .0) (rdc .1)) ∙ book-both s t (run release calls) d c e h in
     one ∙ (omega arith) ∙ sym two

@@ -15,8 +15,7 @@ use Rattle.portgraph.specs.GoodSlots.{zero-is-not-one}
 use Rattle.portgraph.specs.WalkLaws.{whole}
 use Rattle.portgraph.specs.declared.index.PortIndex.{PortIndex}
 use Rattle.portgraph.specs.declared.direction.Direction.{Direction}
-use Rattle.multiportgraph.specs.Reading.{isSplit, Port, dead, hidden, visible, seen, subports, endAt, subport#}
-use Rattle.multiportgraph.specs.Calls.{linkOfEnd}
+use Rattle.multiportgraph.specs.Reading.{isSplit, Port, dead, hidden, visible, seen, subports, endAt, subport#, linkOfEnd}
 use Rattle.multiportgraph.specs.Wires.{isBlock, blocks, subportsOfPort, wireTo, wireOf}
 use Rattle.multiportgraph.specs.Walks.{Start, started, refused, isSeen, heldSeen, between, nodeHeld, blocksLeft, stepNodes, stepNodesBack, allPorts, portsLeft, stepAllPorts, stepAllPortsBack, portLinksSeen, portLinks, linksLeft, stepFront, stepBack, startAtPort, portLinksFrom, startPortLinks}
 use Rattle.multiportgraph.specs.Listing.{Apart, member-filter, filter-all, rising-filter, rising-flatMap, rising-map, range-rises}

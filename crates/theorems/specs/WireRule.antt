@@ -47,6 +47,7 @@ use Rattle.multiportgraph.specs.declared.multiportgraph.CutAnswer.{CutAnswer}
 use Rattle.multiportgraph.specs.declared.multiportgraph.CutAnswer.the-variants as cutting
 use Rattle.multiportgraph.specs.Places.{Place, Wire, Spot, spot, atEnd, touches, wireOfSides}
 use Rattle.multiportgraph.specs.Wires.{portsWalked}
+use Rattle.multiportgraph.specs.declared.multiportgraph.Release.{Release}
 use Rattle.multiportgraph.specs.Graph.{emptyGraph}
 
 -- The relation.
@@ -455,10 +456,10 @@ module _ {m : MultiPortGraph} {M : Model} (f : Fine m M) (m′ : MultiPortGraph)
 
 -- Every history.
 
-pub rel-start : Rel emptyGraph emptyModel emptyBook
-rel-start =
+pub rel-start : (release : Release) → Rel (emptyGraph release) emptyModel emptyBook
+rel-start release =
     record {
-      fine = fine-empty;
-      blocks = record { right = λ b i. absurd i; all = λ n k h. absurd (empty-has-no-block n k h); once = tt };
-      wires = record { booked = λ w i. absurd i; walks = λ w h. absurd (empty-has-no-wire w h); once = tt };
+      fine = fine-empty release;
+      blocks = record { right = λ b i. absurd i; all = λ n k h. absurd (empty-has-no-block release n k h); once = tt };
+      wires = record { booked = λ w i. absurd i; walks = λ w h. absurd (empty-has-no-wire release w h); once = tt };
     }

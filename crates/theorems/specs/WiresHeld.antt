@@ -19,8 +19,8 @@ use Rattle.portgraph.specs.GoodSlots.{zero-is-not-one, slot-in-block}
 use Rattle.portgraph.specs.declared.direction.Direction.{Direction}
 use Rattle.portgraph.specs.declared.direction.Direction.the-variants.{Outgoing}
 use Rattle.portgraph.specs.declared.node_entry.NodeMeta.{NodeMeta}
-use Rattle.multiportgraph.specs.Reading.{Port, dead, hidden, visible, seen, ownerOf, isSplit, subport#, subports, portOf, endAt}
-use Rattle.multiportgraph.specs.Calls.{linkOfEnd}
+use Rattle.multiportgraph.specs.declared.multiportgraph.Release.{Release}
+use Rattle.multiportgraph.specs.Reading.{Port, dead, hidden, visible, seen, ownerOf, isSplit, subport#, subports, portOf, endAt, linkOfEnd}
 use Rattle.multiportgraph.specs.Inner.{inner#, Fine, Seen}
 use Rattle.multiportgraph.specs.Ends.{owner-of, port-of, count-of, seen-block, block-seen}
 use Rattle.multiportgraph.specs.Wires.{isBlock, blocks, portsOfSide, subportsOfPort, subportsOfSide, wireTo, wireOf, sideLinks, allWires, isBeyond, firstItem, wiresBeyond, wiresSeen, stepWires, walkBy, walkedOn, walkWires}
@@ -198,19 +198,19 @@ module _ {m : MultiPortGraph} {M : Model} (f : Fine m M) (c : Wires) (p : ℕ) (
 
 -- A step that gives an item: the port held is one of a block, the item is the first of the present listing beyond it and the offset,
 -- and the cursor comes back holding it.
-pub wires-give : (calls : List Call) (c d : Wires) (p : ℕ) (w : SubportLink) → c .held ≡ suc p → stepWires (run calls .graph) c ≡ Item w d →
-    (n : ℕ) × (s : Direction) × (seen (run calls .graph) p ≡ visible n s) × FirstOf (Beyond (run calls .graph) n p (c .offset)) (allWires (run calls .graph)) w × (d ≡ holding w)
-wires-give calls c d p w h g =
-    let f = run-kept calls .fine in
-    let s = item-seen f c p h (seen (run calls .graph) p) refl w d g in
+pub wires-give : (release : Release) (calls : List Call) (c d : Wires) (p : ℕ) (w : SubportLink) → c .held ≡ suc p → stepWires (run release calls .graph) c ≡ Item w d →
+    (n : ℕ) × (s : Direction) × (seen (run release calls .graph) p ≡ visible n s) × FirstOf (Beyond (run release calls .graph) n p (c .offset)) (allWires (run release calls .graph)) w × (d ≡ holding w)
+wires-give release calls c d p w h g =
+    let f = run-kept release calls .fine in
+    let s = item-seen f c p h (seen (run release calls .graph) p) refl w d g in
     let r = gives f c p h (s .0) (s .1) (s .2) w d g in
     (s .0, s .1, s .2, r .0, r .1)
 
 -- A step that ends the walk: the port held is gone or hidden, or no item of the present listing lies beyond it and the offset.
-pub wires-end : (calls : List Call) (c : Wires) (p : ℕ) → c .held ≡ suc p → stepWires (run calls .graph) c ≡ End →
-    (isSeen (seen (run calls .graph) p) ≡ false)
-    ⊎ ((n : ℕ) × (s : Direction) × (seen (run calls .graph) p ≡ visible n s) × ((w : SubportLink) → Member w (allWires (run calls .graph)) → Beyond (run calls .graph) n p (c .offset) w → ⊥))
-wires-end calls c p h g = ends (run-kept calls .fine) c p h (seen (run calls .graph) p) refl g
+pub wires-end : (release : Release) (calls : List Call) (c : Wires) (p : ℕ) → c .held ≡ suc p → stepWires (run release calls .graph) c ≡ End →
+    (isSeen (seen (run release calls .graph) p) ≡ false)
+    ⊎ ((n : ℕ) × (s : Direction) × (seen (run release calls .graph) p ≡ visible n s) × ((w : SubportLink) → Member w (allWires (run release calls .graph)) → Beyond (run release calls .graph) n p (c .offset) w → ⊥))
+wires-end release calls c p h g = ends (run-kept release calls .fine) c p h (seen (run release calls .graph) p) refl g
 
 -- Walks.
 
@@ -364,10 +364,10 @@ module _ {m : MultiPortGraph} {M : Model} (f : Fine m M) where
 
 -- A walk from any cursor that holds a port of a block, with steps enough: exactly the items of the present listing that lie beyond it
 -- and the offset, in the order of the listing, and then the end.
-pub wires-forward : (calls : List Call) (c : Wires) (p n : ℕ) (s : Direction) (fuel : ℕ) → c .held ≡ suc p → seen (run calls .graph) p ≡ visible n s →
-    length (filter (liesBeyond (run calls .graph) n p (c .offset)) (allWires (run calls .graph))) < fuel →
-    walkWires (run calls .graph) fuel c ≡ record { items = filter (liesBeyond (run calls .graph) n p (c .offset)) (allWires (run calls .graph)); ended = true }
-wires-forward calls c p n s fuel h e few = walks-on (run-kept calls .fine) fuel _ c p n s h e refl few
+pub wires-forward : (release : Release) (calls : List Call) (c : Wires) (p n : ℕ) (s : Direction) (fuel : ℕ) → c .held ≡ suc p → seen (run release calls .graph) p ≡ visible n s →
+    length (filter (liesBeyond (run release calls .graph) n p (c .offset)) (allWires (run release calls .graph))) < fuel →
+    walkWires (run release calls .graph) fuel c ≡ record { items = filter (liesBeyond (run release calls .graph) n p (c .offset)) (allWires (run release calls .graph)); ended = true }
+wires-forward release calls c p n s fuel h e few = walks-on (run-kept release calls .fine) fuel _ c p n s h e refl few
 
 -- the test says what lies beyond
 pub lies-beyond-iff : (m : MultiPortGraph) (n p o : ℕ) (w : SubportLink) → (liesBeyond m n p o w ≡ true) ↔ Beyond m n p o w

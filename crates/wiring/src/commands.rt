@@ -14,6 +14,7 @@ use crate::orders::LINK;
 use crate::orders::LINKCLEAN;
 use crate::orders::LINKSUB;
 use crate::orders::LOAD;
+use crate::orders::NEW;
 use crate::orders::NOTHING;
 use crate::orders::Order;
 use crate::orders::PLACES;
@@ -30,12 +31,15 @@ use crate::replies::show_answer;
 use crate::replies::show_count;
 use crate::resize::resize_block;
 use crate::sheet::link_pairs;
+use crate::show::write_bytes;
 use crate::store::save_as;
 use crate::whole::list_whole;
 use multiportgraph::multiportgraph::MultiPortGraph;
+use multiportgraph::multiportgraph::Release;
 use portgraph::index::NodeIndex;
 use portgraph::index::PortIndex;
 use records::ask::ask;
+use records::ask::empty;
 use records::ask::link_clean;
 ghost use Rattle.multiportgraph.specs.Inner.{MultiWf};
 
@@ -60,6 +64,17 @@ fn link_cleanly(graph: MultiPortGraph, order: Order) -> MultiPortGraph
     told.graph
 }
 
+// An empty wiring of the release that the order names, 1 or 2.
+fn begin(order: Order) -> MultiPortGraph
+    ensures { λ r. ⌜ MultiWf r ⌝ }
+{
+    write_bytes(b"ok\n");
+    if order.a == 1 {
+        return empty(Release::One);
+    }
+    empty(Release::Two)
+}
+
 // A command that changes the graph, or asks for what a request asks; the text is that of its line.
 pub(crate) fn run(graph: MultiPortGraph, order: Order, text: &[u8]) -> MultiPortGraph
     requires { ⌜ MultiWf graph ⌝ }
@@ -71,6 +86,7 @@ pub(crate) fn run(graph: MultiPortGraph, order: Order, text: &[u8]) -> MultiPort
         RESIZE => resize_block(graph, order),
         SHEET => link_pairs(graph, order, text),
         LOAD => load_from(graph, order, text),
+        NEW => begin(order),
         REMOVE => request(graph, order, 0),
         ADD => request(graph, order, 2),
         UNLINK | UNLINKSUB => cut(graph, order),

@@ -64,7 +64,8 @@ pub(crate) fn read_file(name: &[u8], buffer: &mut [u8]) -> FileRead {
     read
 }
 
-// The wiring of the file whose name stands in the line; the one in hand stays where it cannot be read or is refused.
+// The wiring of the file whose name stands in the line, for the release of the one in hand, which stays where the file cannot be read or is
+// refused.
 pub(crate) fn load_from(graph: MultiPortGraph, order: Order, text: &[u8]) -> MultiPortGraph
     requires { ⌜ MultiWf graph ⌝ }
     ensures { λ r. ⌜ MultiWf r ⌝ }
@@ -76,13 +77,14 @@ pub(crate) fn load_from(graph: MultiPortGraph, order: Order, text: &[u8]) -> Mul
         show_failure(b"cannot read ", name, read.error);
         return graph;
     }
-    let loaded = load(part(
+    let bytes = part(
         &buffer,
         Span {
             from: 0,
             to: read.len,
         },
-    ));
+    );
+    let loaded = load(graph.release(), bytes);
     let answer = loaded.answer;
     match answer {
         LoadAnswer::Loaded => {

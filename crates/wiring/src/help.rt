@@ -43,7 +43,8 @@ List (each ends in ok NUMBER; SIDE is 0 incoming, 1 outgoing, 2 both; a link has
   places                  all wires: NODE POSITION OFFSET NODE POSITION OFFSET each
 Keep:
   save NAME               writes the wiring to a file, at once or not at all: ok LENGTH
-  load NAME               the wiring of a file in place of this one, which stays if it is refused: ok
+  load NAME               the wiring of a file, for the release in hand, in place of this one, which stays if it is refused: ok
+  new RELEASE             an empty wiring for release 1, where an input takes many wires, or 2, where it takes one: ok
 Besides:
   help                    these lines
   quit                    ends the program

@@ -61,9 +61,11 @@ pub(crate) const SAVE: u32 = 23;
 
 pub(crate) const LOAD: u32 = 24;
 
-pub(crate) const HELP: u32 = 25;
+pub(crate) const NEW: u32 = 25;
 
-pub(crate) const QUIT: u32 = 26;
+pub(crate) const HELP: u32 = 26;
+
+pub(crate) const QUIT: u32 = 27;
 
 // There are fewer rows than this.
 const ROWS: u32 = 64;
@@ -87,6 +89,8 @@ const NO_FLAG: u32 = 5;
 pub(crate) const TOO_LONG: u32 = 6;
 
 const LONG_NAME: u32 = 7;
+
+const NO_RELEASE: u32 = 8;
 
 // The longest name of a file, so that a name beside it is a path too.
 const MOST_NAME: usize = 4000;
@@ -173,6 +177,9 @@ fn unsuited(usage: &[u8], name: Span) -> u32 {
     if is_word(usage, name, b"NAME") {
         return LONG_NAME;
     }
+    if is_word(usage, name, b"RELEASE") {
+        return NO_RELEASE;
+    }
     NO_NUMBER
 }
 
@@ -181,18 +188,22 @@ fn most(unsuited: u32) -> u64
     ensures { λ r. ⌜ r ≤ 4294967295 ⌝ }
 {
     match unsuited {
-        NO_SIDE => 2,
+        NO_SIDE | NO_RELEASE => 2,
         NO_FLAG => 1,
         _ => 4294967295,
     }
 }
 
-// The number that a word says; a name is none, and has the value 0.
+// The number that a word says; a name is none, and has the value 0. No release is 0.
 fn value_of(text: &[u8], word: Span, unsuited: u32) -> u64 {
-    if unsuited != LONG_NAME {
-        return number_of(text, word);
+    if unsuited == LONG_NAME {
+        return if word.len() <= MOST_NAME { 0 } else { NO_VALUE };
     }
-    if word.len() <= MOST_NAME { 0 } else { NO_VALUE }
+    let value = number_of(text, word);
+    if unsuited == NO_RELEASE {
+        return if value == 0 { NO_VALUE } else { value };
+    }
+    value
 }
 
 // An order with the numbers after a line's first word, one for each name after the row's first word; there are at most four.
@@ -281,6 +292,7 @@ sheet A B A B ..
 linkclean A B
 save NAME
 load NAME
+new RELEASE
 help
 quit
 ";

@@ -9,7 +9,7 @@ use records::answers::Answer5;
 use records::answers::refusal_words;
 
 // The line of the reasons from which refusals are counted; it stands for 12 where both ends are outputs.
-const REFUSALS: u32 = 8;
+const REFUSALS: u32 = 9;
 
 // A line of a text, counted from 0.
 fn line_at(text: &[u8], number: u32) -> Span {
@@ -40,6 +40,7 @@ no side (0, 1 or 2)
 no flag (0 or 1)
 too long
 no name of at most 4000 bytes
+no release (1 or 2)
 both ends are outputs
 a list of a wrong length
 an offset is at most 65534
@@ -58,6 +59,7 @@ a sheet has at most 64 entries
 the buffer is too short for the file
 the file is damaged: a sum or the length is wrong
 the file is not laid out as a wiring's is
+an input has its wire, and takes one only
 ";
     line.with(b"  # ")
         .with(part(reasons, line_at(reasons, number)))

@@ -8,7 +8,7 @@ use std::path::{Path, PathBuf};
 use std::process::{Command as Process, Stdio};
 use std::thread;
 
-use driver::{Answer, Call, Listing, Oracle, Random, Shape, Side, Sides, Subport, Wire};
+use driver::{Answer, Call, End, Listing, Oracle, Random, Release, Shape, Side, Sides, Subport, Wire};
 
 use crate::compare::fewest;
 use crate::files::{self, Folder, View};
@@ -64,8 +64,10 @@ pub enum Command {
     Places,
     /// Saves the wiring, under a name of this number; what is compared is the file, unit by unit.
     Save(u32),
-    /// Loads a wiring.
+    /// Loads a wiring, for the release in hand.
     Load(Source),
+    /// An empty wiring of a release.
+    New(Release),
     /// A line that is no command.
     Nonsense(&'static str),
 }
@@ -87,6 +89,8 @@ pub enum Careless {
     AcceptedKeeps,
     /// A load links its wires from the last to the first.
     LinksBackwards,
+    /// A load builds for release 1, whatever the release in hand.
+    LoadsForOne,
 }
 
 /// What the console writes for a command: items, then the last line.
@@ -185,6 +189,7 @@ impl Command {
             Command::Places => "places",
             Command::Save(_) => "save",
             Command::Load(_) => "load",
+            Command::New(_) => "new",
             Command::Nonsense(_) => "no command",
         }
     }
@@ -213,6 +218,8 @@ impl Command {
             Command::Blocks | Command::Wires | Command::Places => Vec::new(),
             Command::Save(number) => return format!("save {}", files::name(number)),
             Command::Load(source) => return format!("load {}", source.name()),
+            Command::New(Release::One) => vec![1],
+            Command::New(Release::Two) => vec![2],
             Command::Nonsense(text) => return text.into(),
         };
         format!("{}{}", self.name(), words(&arguments))
@@ -220,19 +227,30 @@ impl Command {
 
     /// What the console must write, as the line of that number; a call is made in the history.
     fn block(self, hand: &mut Hand, line: usize) -> Block {
+        // Only a spoiled script comes to this.
+        if hand.history.ended && !self.reads() {
+            return vec!["nothing may follow the resize set apart".into()];
+        }
         match self {
             Command::Call(call) => return call_block(call, &mut hand.history),
             Command::LinkClean(a, b) => return link_clean_block(a, b, &mut hand.history),
             Command::Sheet(sheet) => return sheet.block(&mut hand.history),
             Command::Load(source) => return hand.load(source),
             Command::Save(number) => return hand.save(number),
+            Command::New(release) => {
+                hand.history.load(Oracle::made_for(release));
+                return vec!["ok".into()];
+            }
             _ => {}
         }
         let oracle = &hand.history.oracle;
         match self {
-            Command::Call(_) | Command::LinkClean(..) | Command::Sheet(_) | Command::Load(_) | Command::Save(_) => {
-                unreachable!("answered above")
-            }
+            Command::Call(_)
+            | Command::LinkClean(..)
+            | Command::Sheet(_)
+            | Command::Load(_)
+            | Command::Save(_)
+            | Command::New(_) => unreachable!("answered above"),
             Command::FanOut(port) => number(oracle.port_fan_out(port)),
             Command::BlockFanOut(node) => number(oracle.fan_out(node)),
             Command::Blocks => listing(Ok(oracle.blocks()), one),
@@ -287,18 +305,23 @@ impl Hand {
             Source::Given(number) => Some(given(number)),
         };
         let Some(file) = file else { return vec![format!("cannot read {}", source.name())] };
-        match (built(&file), self.careless) {
+        let release = self.history.oracle.release();
+        let built_for = match self.careless {
+            Some(Careless::LoadsForOne) => Release::One,
+            _ => release,
+        };
+        match (built(built_for, &file), self.careless) {
             (Ok(_), Some(Careless::AcceptedKeeps)) => {}
             (Ok(_), Some(Careless::LinksBackwards)) => {
                 let view = files::read(&file).expect("it was built");
                 let backwards: Vec<_> = view.wires.into_iter().rev().collect();
-                self.history
-                    .load(Oracle::build(&view.blocks, &backwards).map_or_else(|_| Oracle::new(), |built| built.1));
+                let built = Oracle::build(release, &view.blocks, &backwards);
+                self.history.load(built.map_or_else(|_| Oracle::made_for(release), |built| built.1));
             }
             (Ok(built), _) => self.history.load(built.oracle),
             (Err(refusal), careless) => {
                 if let Some(Careless::RefusedEmpties) = careless {
-                    self.history.load(Oracle::new());
+                    self.history.load(Oracle::made_for(release));
                 }
                 return refused([refusal, 0, 0, 0, 0]);
             }
@@ -403,8 +426,15 @@ fn link_clean_block(a: u32, b: u32, history: &mut History) -> Block {
 }
 
 /// The kinds of loads.
-pub const LOADS: [&str; 6] =
-    ["load, accepted", "load, no file", "load, refused 16", "load, refused 17", "load, refused 3", "load, refused 10"];
+pub const LOADS: [&str; 7] = [
+    "load, accepted",
+    "load, no file",
+    "load, refused 16",
+    "load, refused 17",
+    "load, refused 3",
+    "load, refused 10",
+    "load, refused 18",
+];
 
 /// What kind of load it is, by what the console must write for it.
 fn load_kind(block: &Block) -> &'static str {
@@ -414,6 +444,7 @@ fn load_kind(block: &Block) -> &'static str {
         "refused 17" => LOADS[3],
         "refused 3" => LOADS[4],
         "refused 10" => LOADS[5],
+        "refused 18" => LOADS[6],
         _ => LOADS[1],
     }
 }
@@ -573,8 +604,19 @@ fn draw_sheet(shape: &Shape, history: &History, random: &mut Random) -> Sheet {
     Sheet::of(&pairs)
 }
 
-const NONSENSE: [&str; 8] =
-    ["hello", "link 1", "link 1 2 3", "add x 1", "remove", "sheet 1", "sheet 0 1 2", "sheet 0 1 2 4294967296"];
+const NONSENSE: [&str; 11] = [
+    "hello",
+    "link 1",
+    "link 1 2 3",
+    "add x 1",
+    "remove",
+    "sheet 1",
+    "sheet 0 1 2",
+    "sheet 0 1 2 4294967296",
+    "new",
+    "new 0",
+    "new 3",
+];
 
 /// Every listing that shows a subport, a wire or a count.
 fn whole(history: &History) -> Vec<Command> {
@@ -639,10 +681,22 @@ impl Drawing {
     }
 }
 
+fn other(release: Release) -> Release {
+    match release {
+        Release::One => Release::Two,
+        Release::Two => Release::One,
+    }
+}
+
 /// A random script: calls and listings; then what it saved is loaded, something else is, it goes on from there, and what it saved
-/// before is loaded again.
+/// before is loaded again, for its release and for the other. As many are of release 2 as are of release 1; of these every other
+/// one says so.
 fn draw(shape: &Shape, seed: u64, lines: usize) -> Vec<Command> {
     let mut drawing = Drawing { script: Vec::new(), hand: Hand::default(), random: Random::new(seed) };
+    let release = if drawing.random.one_in(2) { Release::One } else { Release::Two };
+    if release == Release::Two || drawing.random.one_in(2) {
+        drawing.push(Command::New(release));
+    }
     for call in shape.first_calls(&mut drawing.random) {
         drawing.push(Command::Call(call));
     }
@@ -667,24 +721,32 @@ fn draw(shape: &Shape, seed: u64, lines: usize) -> Vec<Command> {
     // The first is a file that is there if no line was left out; the other never is.
     drawing.load(Source::Saved(saved));
     drawing.load(Source::Saved(saved + 1));
-    drawing.save();
+    let again = drawing.save();
+    for release in [other(release), release] {
+        drawing.push(Command::New(release));
+        drawing.load(Source::Saved(again));
+        drawing.calls(shape, 10);
+    }
     drawing.script
 }
 
 /// All sheets of up to so many entries of a few ports (live, hidden after the first split, and dead), on the bench wiring's states start,
-/// A, B and D; after each the wires, and the subports of both blocks. Gives how many there were.
+/// A, B and D, of both releases; after each the wires, and the subports of both blocks. Gives how many there were.
 pub fn all_sheets(console: &Console, most: u32, tally: &mut Tally) -> Result<u64, String> {
     const PORTS: [u32; 5] = [0, 1, 2, 4, 9];
     let link = |a, b| Command::Call(Call::Link { a, b });
     let states = [vec![], vec![link(0, 1)], vec![link(0, 1), link(0, 2)], vec![link(0, 1), link(1, 2)]];
     let pairs: Vec<[u32; 2]> = PORTS.iter().flat_map(|a| PORTS.map(|b| [*a, b])).collect();
     let mut sheets = 0;
-    for state in &states {
+    let all =
+        [Release::One, Release::Two].into_iter().flat_map(|release| states.iter().map(move |state| (release, state)));
+    for (release, state) in all {
         for count in 0..=most {
             for number in 0..pairs.len().pow(count) {
                 let place = |entry: u32| number / pairs.len().pow(entry) % pairs.len();
                 let entries: Vec<[u32; 2]> = (0..count).map(|entry| pairs[place(entry)]).collect();
                 let mut script = vec![
+                    Command::New(release),
                     Command::Call(Call::Add { incoming: 0, outgoing: 1 }),
                     Command::Call(Call::Add { incoming: 2, outgoing: 0 }),
                 ];
@@ -712,6 +774,7 @@ pub fn run(console: &Console, seeds: Range<u64>, tally: &mut Tally) -> Result<()
 /// A small graph, and the commands of which all scripts of one length are run after it.
 struct Small {
     name: &'static str,
+    release: Release,
     start: &'static [Call],
     commands: &'static [Command],
 }
@@ -728,9 +791,15 @@ const fn unlink(port: u32) -> Command {
     Command::Call(Call::Unlink { port })
 }
 
-const SMALL: [Small; 3] = [
+const fn linksub(a: [u32; 2], b: [u32; 2]) -> Command {
+    let [a, b] = [End { port: a[0], offset: a[1] }, End { port: b[0], offset: b[1] }];
+    Command::Call(Call::LinkSubports { a, b })
+}
+
+const SMALL: [Small; 6] = [
     Small {
         name: "one outgoing port, two incoming",
+        release: Release::One,
         start: &[add(0, 1), add(2, 0)],
         commands: &[
             link(0, 1),
@@ -750,6 +819,7 @@ const SMALL: [Small; 3] = [
     Small {
         // To save, and to load what was saved last; the numbers are given when the script is put together.
         name: "saved and loaded",
+        release: Release::One,
         start: &[add(0, 1), add(2, 0), Call::Link { a: 0, b: 2 }, Call::Link { a: 0, b: 1 }],
         commands: &[
             link(0, 1),
@@ -768,6 +838,7 @@ const SMALL: [Small; 3] = [
     },
     Small {
         name: "six port slots left",
+        release: Release::One,
         start: &[add(512, 512), add(512, 512), add(500, 515), add(0, 1), add(2, 0)],
         commands: &[
             link(3_063, 3_064),
@@ -775,6 +846,62 @@ const SMALL: [Small; 3] = [
             Command::LinkClean(3_065, 3_063),
             Command::LinkClean(3_064, 3_065),
             Command::LinkClean(3_063, 4_000),
+            unlink(3_063),
+            Command::Call(add(0, 3)),
+            Command::Call(add(3, 0)),
+        ],
+    },
+    Small {
+        name: "one outgoing port, two incoming, release 2",
+        release: Release::Two,
+        start: &[add(0, 1), add(2, 0)],
+        commands: &[
+            link(0, 1),
+            link(2, 0),
+            link(1, 2),
+            link(1, 1),
+            link(1, 9),
+            link(9, 1),
+            Command::LinkClean(1, 9),
+            Command::LinkClean(1, 2),
+            linksub([0, 0], [1, 0]),
+            linksub([1, 7], [9, 0]),
+            linksub([1, 0], [0, 2]),
+            unlink(1),
+            Command::Call(Call::Remove { node: 1 }),
+            Command::Call(Call::Resize { node: 1, incoming: 3, outgoing: 0 }),
+        ],
+    },
+    Small {
+        // As above, with files that give an input a second wire, and either release named.
+        name: "saved and loaded, release 2",
+        release: Release::Two,
+        start: &[add(0, 2), add(2, 0), Call::Link { a: 0, b: 3 }, Call::Link { a: 0, b: 2 }],
+        commands: &[
+            link(1, 2),
+            link(0, 3),
+            unlink(2),
+            Command::New(Release::One),
+            Command::New(Release::Two),
+            Command::Save(0),
+            Command::Load(Source::Saved(0)),
+            Command::Load(Source::Given(0)),
+            Command::Load(Source::Given(5)),
+            Command::Load(Source::Given(6)),
+            Command::Load(Source::Given(7)),
+        ],
+    },
+    Small {
+        name: "six port slots left, release 2",
+        release: Release::Two,
+        start: &[add(512, 512), add(512, 512), add(500, 515), add(0, 1), add(2, 0)],
+        commands: &[
+            link(3_063, 3_064),
+            link(3_065, 3_063),
+            link(3_064, 3_065),
+            link(3_064, 4_000),
+            Command::LinkClean(3_063, 3_064),
+            Command::LinkClean(3_064, 3_065),
             unlink(3_063),
             Command::Call(add(0, 3)),
             Command::Call(add(3, 0)),
@@ -800,7 +927,9 @@ fn run_all(console: &Console, small: &Small, most: usize, tally: &mut Tally) -> 
         let mut hand = Hand::default();
         let mut script = Vec::new();
         let mut last = 0;
-        for command in small.start.iter().map(|call| Command::Call(*call)).chain(commands.iter().copied()) {
+        let start =
+            [Command::New(small.release)].into_iter().chain(small.start.iter().map(|call| Command::Call(*call)));
+        for command in start.chain(commands.iter().copied()) {
             let command = match command {
                 Command::Save(_) => {
                     last = script.len() as u32;
@@ -811,7 +940,7 @@ fn run_all(console: &Console, small: &Small, most: usize, tally: &mut Tally) -> 
             };
             command.block(&mut hand, 0);
             script.push(command);
-            if script.len() > small.start.len() {
+            if script.len() > 1 + small.start.len() {
                 script.extend(whole(&hand.history));
             }
         }

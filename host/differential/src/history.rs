@@ -1,6 +1,6 @@
 //! A list of calls with what each must answer, asked of the original call by call.
 
-use driver::{Answer, Asked, Call, End, Oracle, Random, Reason, Shape, Side, Sides, PORT_SLOTS};
+use driver::{Answer, Asked, Call, End, Oracle, Random, Reason, Release, Shape, Side, Sides, PORT_SLOTS};
 
 /// A request record.
 pub type Record = [u32; 5];
@@ -34,6 +34,8 @@ pub struct Step {
     pub record: Record,
     pub expected: Answer,
     pub by: By,
+    /// The release of the graph that it was given to.
+    pub release: Release,
     /// What kind of case it is, where the call and the answer don't tell.
     pub note: Option<&'static str>,
 }
@@ -69,7 +71,7 @@ impl History {
         history
     }
 
-    /// Goes on from a loaded graph, also after the resize set apart.
+    /// Goes on from a loaded or a new graph, also after the resize set apart.
     pub fn load(&mut self, oracle: Oracle) {
         self.oracle = oracle;
         self.ended = false;
@@ -120,14 +122,15 @@ impl History {
             note = None;
         }
         let call = if record[0] < 10 { record[0] as usize } else { 0 };
-        self.steps.push(Step { call, record, expected, by, note });
+        self.steps.push(Step { call, record, expected, by, release: self.oracle.release(), note });
     }
 
     /// Asks for the link that leaves no stub.
     pub fn link_clean(&mut self, a: u32, b: u32) {
         let asked = self.oracle.link_clean(a, b);
         let (expected, by) = self.told(asked).expect("no resize");
-        self.steps.push(Step { call: LINK_CLEAN, record: [0; 5], expected, by, note: None });
+        let release = self.oracle.release();
+        self.steps.push(Step { call: LINK_CLEAN, record: [0; 5], expected, by, release, note: None });
     }
 
     /// What must be answered, and who says so; `None` for the resize set apart.

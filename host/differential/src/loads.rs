@@ -1,6 +1,6 @@
 //! Loaded files: the entry `records_of_file` beside the reader of [`crate::files`] and the original, which builds what it read.
 
-use driver::{to_bytes, Call, Oracle, Random, Shape, PORT_SLOTS};
+use driver::{to_bytes, Call, Oracle, Random, Release, Shape, PORT_SLOTS};
 
 use crate::broken::{damage, mend_all, DAMAGES};
 use crate::compare::{compare as compare_run, write, Entry, Writes};
@@ -47,10 +47,10 @@ pub(crate) struct Built {
     pub(crate) oracle: Oracle,
 }
 
-/// What loading must give: 16 or 17 from the reader, then 3 or 10 from the build.
-pub(crate) fn built(file: &[u8]) -> Result<Built, u32> {
+/// What loading for a release must give: 16 or 17 from the reader, then 3, 10 or 18 from the build.
+pub(crate) fn built(release: Release, file: &[u8]) -> Result<Built, u32> {
     let view = read(file)?;
-    let (calls, oracle) = Oracle::build(&view.blocks, &view.wires)?;
+    let (calls, oracle) = Oracle::build(release, &view.blocks, &view.wires)?;
     Ok(Built { view, records: calls.into_iter().map(Call::to_record).collect(), oracle })
 }
 
@@ -74,7 +74,7 @@ fn compare(
     tally: &mut Tally,
 ) -> Result<bool, String> {
     let shown = |text: String| format!("{text}\n{}", described(file));
-    let built = built(file);
+    let built = built(Release::One, file);
     let requests = built.as_ref().map(|built| to_bytes(&built.records)).map_err(|refusal| *refusal);
     let length = requests.as_ref().map_or(0, Vec::len);
     let room = match random.below(8) {
@@ -209,24 +209,33 @@ fn drawn(random: &mut Random) -> View {
 }
 
 /// A file for a script to load, by its number. The first five are a small wiring, and what is refused by 16, 17, 3 and 10; the
+/// next three give an input a second wire, with space for all, with none left for that wire, and with none for one before it. The
 /// others are of any wirings, as often as not damaged, at times too wide or too large.
 pub fn given(number: u32) -> Vec<u8> {
     let mut random = Random::new(number.into());
     let mut view = match number {
         0..=2 => View { blocks: vec![[0, 1], [2, 0]], wires: vec![[0, 0, 1, 0], [0, 0, 1, 1]] },
         3 | 4 => View::default(),
+        // Of these the third wire ends where the first does.
+        5..=7 => {
+            let mut blocks = vec![[0, 2], [2, 0]];
+            if number > 5 {
+                blocks.extend([[1_024, 0], [1_024, 0], [if number == 6 { 1_017 } else { 1_020 }, 0]]);
+            }
+            View { blocks, wires: vec![[0, 0, 1, 0], [0, 0, 1, 1], [0, 1, 1, 0]] }
+        }
         _ => drawn(&mut random),
     };
     match (number, number % 8) {
         (2, _) => view.wires.reverse(),
-        (_, 3) => view.blocks.push([1_025, 0]),
-        (_, 4) => view.blocks.extend([[1_024, 0], [0, 1_024], [512, 512], [1, 1]]),
+        (3 | 8.., 3) => view.blocks.push([1_025, 0]),
+        (4 | 8.., 4) => view.blocks.extend([[1_024, 0], [0, 1_024], [512, 512], [1, 1]]),
         _ => {}
     }
     let mut file = view.file();
     match (number, number % 8) {
         (1, _) => file[508] ^= 1,
-        (5.., 5..) => _ = damage(&mut file, &drawn(&mut random).file(), &mut random),
+        (8.., 5..) => _ = damage(&mut file, &drawn(&mut random).file(), &mut random),
         _ => {}
     }
     file

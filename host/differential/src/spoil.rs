@@ -1,6 +1,6 @@
 //! Wrong answers put in by hand, one kind at a time, to show that each is caught.
 
-use driver::Call;
+use driver::{Call, Release};
 
 use crate::compare::run_records;
 use crate::console::{Block, Command, Console};
@@ -158,7 +158,7 @@ pub struct WrongCommand {
 }
 
 /// The kinds of wrong commands.
-pub const WRONG_COMMANDS: [WrongCommand; 2] = [
+pub const WRONG_COMMANDS: [WrongCommand; 4] = [
     WrongCommand {
         name: "the link that leaves no stub is the link of ports",
         alter: |command| match command {
@@ -170,6 +170,20 @@ pub const WRONG_COMMANDS: [WrongCommand; 2] = [
         name: "the link that leaves no stub takes its ports the other way round",
         alter: |command| match command {
             Command::LinkClean(a, b) => Command::LinkClean(b, a),
+            other => other,
+        },
+    },
+    WrongCommand {
+        name: "every new wiring is of release 1",
+        alter: |command| match command {
+            Command::New(_) => Command::New(Release::One),
+            other => other,
+        },
+    },
+    WrongCommand {
+        name: "every new wiring is of release 2",
+        alter: |command| match command {
+            Command::New(_) => Command::New(Release::Two),
             other => other,
         },
     },

@@ -3,6 +3,8 @@
 use std::collections::BTreeMap;
 use std::fmt;
 
+use driver::Release;
+
 use crate::console::{LOADS, SHEETS};
 use crate::history::{By, Step, LINK_CLEAN};
 use crate::{loads, saves};
@@ -40,12 +42,19 @@ pub struct Tally {
     pub lists_refused: u64,
     /// Items of listings and move lists, in the console's answers.
     pub items: u64,
+    /// Calls on graphs of release 2: answered by the Rust, and refused with 18.
+    pub two_by_rust: u64,
+    pub two_refused: u64,
 }
 
 impl Tally {
     pub fn count(&mut self, steps: &[Step]) {
         for step in steps {
             *self.calls.entry((step.by, step.call, step.expected[0])).or_default() += 1;
+            if step.release == Release::Two {
+                self.two_by_rust += u64::from(step.by == By::Rust);
+                self.two_refused += u64::from(step.expected[0] == 18);
+            }
             if let Some(note) = step.note {
                 *self.notes.entry(note).or_default() += 1;
             }
@@ -91,6 +100,8 @@ impl Tally {
         self.loads_refused += other.loads_refused;
         self.lists_refused += other.lists_refused;
         self.items += other.items;
+        self.two_by_rust += other.two_by_rust;
+        self.two_refused += other.two_refused;
     }
 
     /// Calls whose answer the Rust gave.
@@ -179,7 +190,9 @@ impl Tally {
             "R1, second port given as a surely dead number",
         ];
         let clean = [(By::Rust, 0), (By::Rust, 7), (By::Added, 8), (By::Added, 10), (By::Added, 11), (By::Added, 12)];
-        let clean = clean.into_iter().filter(|_| console).map(|(by, refusal)| (by, LINK_CLEAN, refusal));
+        let clean = clean.into_iter().map(|(by, refusal)| (by, LINK_CLEAN, refusal));
+        let taken = [4, 6, LINK_CLEAN].into_iter().map(|call| (By::Added, call, 18));
+        let clean = clean.chain(taken).filter(|_| console);
         let kinds = SHEETS.into_iter().chain(LOADS).filter(|_| self.listings() > 0);
         let sheets = kinds.filter(|kind| !self.listings.contains_key(kind)).map(str::to_string);
         let all = given.into_iter().map(|(code, refusal)| (By::Rust, code, refusal));
@@ -220,6 +233,10 @@ impl fmt::Display for Tally {
         }
         for (note, count) in &self.notes {
             writeln!(f, "  {note:45} {count:9}")?;
+        }
+        if self.two_by_rust + self.two_refused > 0 {
+            let (by_rust, refused) = (self.two_by_rust, self.two_refused);
+            writeln!(f, "on graphs of release 2: {by_rust} calls compared with the Rust, {refused} refused with 18")?;
         }
         if self.listings() > 0 {
             writeln!(f, "listings: {}, with move lists {} items", self.listings(), self.items)?;

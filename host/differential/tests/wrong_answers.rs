@@ -79,7 +79,7 @@ fn wrong_loads_are_caught() {
 
 #[test]
 fn careless_loads_are_caught() {
-    for how in [Careless::RefusedEmpties, Careless::AcceptedKeeps, Careless::LinksBackwards] {
+    for how in [Careless::RefusedEmpties, Careless::AcceptedKeeps, Careless::LinksBackwards, Careless::LoadsForOne] {
         let console = |script: &[_]| careless(how, script);
         for run in [
             console::run(&console, Plan::SHORT.script_seeds(), &mut Tally::default()),

@@ -2,6 +2,8 @@
 //!
 //! - [`Call`]: the nine calls, and their records.
 //! - [`Oracle`]: one graph of the original; [`Oracle::ask`] gives a call to it, or says why it is not given.
+//! - [`Release`]: the kit's release that a graph is made for. Under release 2 the calls that give 18 are left out of the
+//!   original's history; it is asked for all others.
 //! - [`Oracle::build`]: a wiring built as a file has it, its blocks and then its wires.
 //! - [`run_list`]: a list of request records, run from an empty graph.
 //! - [`Shape`]: random calls for histories of many shapes.
@@ -19,7 +21,7 @@ mod walk;
 pub use call::{Answer, Call, End};
 pub use draw::{Random, Shape, Start};
 pub use list::{run_list, to_bytes};
-pub use oracle::{Asked, Event, Graph, Oracle, Reason};
+pub use oracle::{Asked, Event, Graph, Oracle, Reason, Release};
 pub use walk::{Listing, Place, Side, Sides, Subport, Wire};
 
 /// Node slots of the port's table. With the feature `former` they are those of the kits before document 02's request 08.

@@ -24,10 +24,20 @@ const FIRST_UNHELD: u32 = 2_147_483_647;
 /// More ports than any block of a run has: such a node always takes its block at the end of the port table.
 const LARGER_THAN_ANY_BLOCK: usize = 3_000;
 
+/// The kit's release that a graph is made for (document 02, request 09).
+#[derive(Clone, Copy, Debug, Default, PartialEq, Eq, PartialOrd, Ord, Hash)]
+pub enum Release {
+    /// Every port takes many wires.
+    #[default]
+    One,
+    /// An input takes one wire.
+    Two,
+}
+
 /// Why a call is not given to the original.
 #[derive(Clone, Copy, Debug, PartialEq, Eq)]
 pub enum Reason {
-    /// A refusal that the port adds (2, 3, 5, 6, 8, 9 or 10), with the whole answer that follows from the inner graph.
+    /// A refusal that the port adds (2, 3, 5, 6, 8, 9, 10 or 18), with the whole answer that follows from the inner graph.
     Added(Answer),
     /// R2: the original panics where a dead port is read. The answer is 7.
     DeadPortRead(Answer),
@@ -95,6 +105,8 @@ pub struct Oracle {
     pub(crate) port_table: usize,
     /// Events of the last accepted resize.
     pub(crate) moves: Vec<Event>,
+    /// The release that the graph is made for.
+    pub(crate) release: Release,
 }
 
 impl Default for Oracle {
@@ -145,9 +157,19 @@ pub(crate) fn highest_node(inner: &Inner) -> usize {
 }
 
 impl Oracle {
-    /// An empty graph.
+    /// An empty graph of release 1.
     pub fn new() -> Self {
-        Self { graph: Graph::new(), node_table: 0, port_table: 0, moves: Vec::new() }
+        Self::made_for(Release::One)
+    }
+
+    /// An empty graph.
+    pub fn made_for(release: Release) -> Self {
+        Self { graph: Graph::new(), node_table: 0, port_table: 0, moves: Vec::new(), release }
+    }
+
+    /// The release that the graph is made for.
+    pub fn release(&self) -> Release {
+        self.release
     }
 
     /// The original's graph.
@@ -211,11 +233,14 @@ impl Oracle {
         Asked::Answer(answer)
     }
 
-    /// The link that leaves no stub, which the original lacks. 11 and 12 are decided on its inner graph, 12 with the ports as
-    /// named, and it is not given such a call; every other one is its link.
+    /// The link that leaves no stub, which the original lacks. 18, 11 and 12 are decided on its inner graph, 12 with the ports
+    /// as named, and it is not given such a call; every other one is its link.
     pub fn link_clean(&mut self, a: u32, b: u32) -> Asked {
         let added = |answer| Asked::NotGiven(Reason::Added(answer));
         match (self.port_standing(a), self.port_standing(b)) {
+            (Standing::Visible, Standing::Unheld | Standing::Dead | Standing::Visible) if self.taken(a, b) => {
+                return added(refusal(18, 0));
+            }
             (Standing::Visible, Standing::Unheld | Standing::Dead) => return added(refusal(11, b)),
             (Standing::Visible, Standing::Visible) => {}
             _ => return self.ask(Call::Link { a, b }),
@@ -287,6 +312,18 @@ impl Oracle {
         } else {
             None
         }
+    }
+
+    /// Whether a port is a live input that has a wire.
+    fn wired_input(&self, port: u32) -> bool {
+        self.port_standing(port) == Standing::Visible
+            && self.inner().port_direction(PortIndex::new(port as usize)) == Some(Direction::Incoming)
+            && self.graph.port_links(PortIndex::new(port as usize)).next().is_some()
+    }
+
+    /// Whether 18 keeps two ports from being linked, where nothing that is tested before it does.
+    fn taken(&self, a: u32, b: u32) -> bool {
+        self.release == Release::Two && (self.wired_input(a) || self.wired_input(b))
     }
 
     /// Whether a live end is split and has no such offset.
@@ -373,6 +410,7 @@ impl Oracle {
                 Standing::Dead => None,
                 Standing::Hidden => added(8, a),
                 Standing::Visible if self.port_standing(b) == Standing::Hidden => added(8, b),
+                Standing::Visible if self.taken(a, b) => added(18, 0),
                 Standing::Visible => None,
             },
             Call::Unlink { port } => match self.port_standing(port) {
@@ -395,6 +433,7 @@ impl Oracle {
                     Standing::Visible if second_hidden => added(8, b.port),
                     Standing::Visible if self.lacks_offset(a) => added(9, a.port),
                     Standing::Visible if self.lacks_offset(b) => added(9, b.port),
+                    Standing::Visible if self.taken(a.port, b.port) => added(18, 0),
                     Standing::Visible => None,
                 }
             }

@@ -1,10 +1,10 @@
 //! Wirings built as a file has them: the same calls, graphs and refusals as call by call.
 
-use driver::{Call, Oracle, Random, NODE_SLOTS};
+use driver::{Call, Oracle, Random, Release, NODE_SLOTS};
 
 /// The calls made one by one, up to the first refusal.
-fn one_by_one(blocks: &[[u16; 2]], wires: &[[u16; 4]]) -> Result<(Vec<Call>, Oracle), u32> {
-    let mut oracle = Oracle::new();
+fn one_by_one(release: Release, blocks: &[[u16; 2]], wires: &[[u16; 4]]) -> Result<(Vec<Call>, Oracle), u32> {
+    let mut oracle = Oracle::made_for(release);
     let mut calls = Vec::new();
     let mut first = vec![0];
     let accepted = |oracle: &mut Oracle, call| match oracle.ask(call).expected().expect("no resize")[0] {
@@ -26,9 +26,13 @@ fn one_by_one(blocks: &[[u16; 2]], wires: &[[u16; 4]]) -> Result<(Vec<Call>, Ora
     Ok((calls, oracle))
 }
 
-/// The number of calls, or of the refusal; both ways must agree.
 fn built(blocks: &[[u16; 2]], wires: &[[u16; 4]]) -> Result<usize, u32> {
-    match (Oracle::build(blocks, wires), one_by_one(blocks, wires)) {
+    built_for(Release::One, blocks, wires)
+}
+
+/// The number of calls, or of the refusal; both ways must agree.
+fn built_for(release: Release, blocks: &[[u16; 2]], wires: &[[u16; 4]]) -> Result<usize, u32> {
+    match (Oracle::build(release, blocks, wires), one_by_one(release, blocks, wires)) {
         (Ok((calls, oracle)), Ok((others, other))) => {
             assert_eq!(calls, others);
             assert!(oracle.graph() == other.graph() && oracle.tables() == other.tables());
@@ -66,10 +70,23 @@ fn wires_at_one_output() {
     }
 }
 
+/// P21: 18 where a link would give it, and 10 only at a wire before.
+#[test]
+fn second_wires_into_an_input() {
+    let wires = [[0, 0, 1, 0], [0, 0, 1, 1], [0, 1, 1, 0]];
+    let with = |last| [[0, 2], [2, 0], [1_024, 0], [1_024, 0], [last, 0]];
+    for (blocks, one, two) in [(&with(0)[..2], Ok(5), 18), (&with(1_017), Err(10), 18), (&with(1_018), Err(10), 10)] {
+        assert_eq!(built_for(Release::One, blocks, &wires), one);
+        assert_eq!(built_for(Release::Two, blocks, &wires), Err(two));
+        assert!(built_for(Release::Two, &blocks[..2], &wires[..2]).is_ok());
+    }
+}
+
 #[test]
 fn at_random() {
     let mut random = Random::new(1);
     let mut refused = [0; 2];
+    let mut taken = 0;
     for _ in 0..400 {
         let most = [3, 30, 600][random.below(3) as usize];
         let ports = [3, 9, 400][random.below(3) as usize];
@@ -84,6 +101,7 @@ fn at_random() {
             })
             .collect();
         refused[usize::from(built(&blocks, &wires).is_err())] += 1;
+        taken += u32::from(built_for(Release::Two, &blocks, &wires) == Err(18));
     }
-    assert!(refused.iter().all(|count| *count > 50), "{refused:?}");
+    assert!(refused.iter().all(|count| *count > 50) && taken > 50, "{refused:?}, {taken}");
 }

@@ -2,7 +2,7 @@
 
 use std::collections::VecDeque;
 
-use driver::{Call, Oracle, PORT_SLOTS};
+use driver::{Call, Oracle, Release, PORT_SLOTS};
 
 fn answer(oracle: &mut Oracle, call: Call) -> [u32; 5] {
     oracle.ask(call).expected().expect("no resize that is set apart")
@@ -78,5 +78,5 @@ fn the_most_wires_of_one_output() {
         ends.extend((0..used).map(|input| [0, 0, rank as u16, input as u16]));
         left -= used;
     }
-    assert_eq!((ends.len(), Oracle::build(&blocks, &ends).err()), (1_022, Some(10)));
+    assert_eq!((ends.len(), Oracle::build(Release::One, &blocks, &ends).err()), (1_022, Some(10)));
 }

@@ -30,13 +30,13 @@ returns c = records-refused (c .before .before .before .before .before .before .
 few : (c : tie.Else1) → (c .before .before .before .list-build .result .blocks ≤ nodeSlots) × (2 * c .before .before .before .list-build .result .wires ≤ portSlots)
 few c = records-few (c .before .before .before .before .before .before .before .args .file .now) (c .before .before .before .before .before .before .before .args .requests .now) _ (c .before .before .before .list-build .ensures .0) (c .before .load-number .ensures) (c .if1 .left)
 
-room : (c : tie.Else2) → 2 * (c .before .before .before .before .list-build .result .blocks + c .before .before .before .before .list-build .result .wires) ≤ length (c .before .before .before .before .list-build .last .1 .0)
+room : (c : tie.Else2) → 2 * (c .before .before .before .before .list-build .result .blocks + c .before .before .before .before .list-build .result .wires) ≤ length (c .before .before .before .before .list-build .last .1 .1 .0)
 room c = numbers-room (c .before .before .before .before .before .before .before .before .args .file .now) (c .before .before .before .before .before .before .before .before .args .requests .now) _ (c .before .before .before .before .list-build .ensures .0) (c .before .before .load-number .ensures) (c .before .if1 .left) _ (c .before .before .before .before .list-build .ensures .1)
 
-is-adds : (c : tie.Else2) → take (2 * c .before .before .before .before .list-build .result .blocks) (c .before .before .before .before .list-build .last .1 .0) ≡ flatMap addPair (unbytes (c .before .before .before .before .before .before .before .before .args .file .now) .blocks)
+is-adds : (c : tie.Else2) → take (2 * c .before .before .before .before .list-build .result .blocks) (c .before .before .before .before .list-build .last .1 .1 .0) ≡ flatMap addPair (unbytes (c .before .before .before .before .before .before .before .before .args .file .now) .blocks)
 is-adds c = adds-are (c .before .before .before .before .before .before .before .before .args .file .now) (c .before .before .before .before .before .before .before .before .args .requests .now) _ (c .before .before .before .before .list-build .ensures .0) (c .before .before .load-number .ensures) (c .before .if1 .left) _ (c .before .before .before .before .list-build .ensures .1)
 
-is-links : (c : tie.Else2) → take (2 * (c .before .before .before .before .list-build .result .blocks + c .before .before .before .before .list-build .result .wires) - 2 * c .before .before .before .before .list-build .result .blocks) (drop (2 * c .before .before .before .before .list-build .result .blocks) (c .before .before .before .before .list-build .last .1 .0)) ≡ flatMap (linkPair (unbytes (c .before .before .before .before .before .before .before .before .args .file .now) .blocks)) (unbytes (c .before .before .before .before .before .before .before .before .args .file .now) .wires)
+is-links : (c : tie.Else2) → take (2 * (c .before .before .before .before .list-build .result .blocks + c .before .before .before .before .list-build .result .wires) - 2 * c .before .before .before .before .list-build .result .blocks) (drop (2 * c .before .before .before .before .list-build .result .blocks) (c .before .before .before .before .list-build .last .1 .1 .0)) ≡ flatMap (linkPair (unbytes (c .before .before .before .before .before .before .before .before .args .file .now) .blocks)) (unbytes (c .before .before .before .before .before .before .before .before .args .file .now) .wires)
 is-links c = links-are (c .before .before .before .before .before .before .before .before .args .file .now) (c .before .before .before .before .before .before .before .before .args .requests .now) _ (c .before .before .before .before .list-build .ensures .0) (c .before .before .load-number .ensures) (c .before .if1 .left) _ (c .before .before .before .before .list-build .ensures .1)
 
 add-size : tie.Need-add-size

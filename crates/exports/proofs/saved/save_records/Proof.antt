@@ -18,7 +18,7 @@ no-held-requires : tie.Need-no-held-requires
 no-held-requires c κs = search needs
 
 run-tables-requires : tie.Need-run-tables-requires
-run-tables-requires c κs = subst MultiWf (sym (start-in _ (c .no-held .ensures))) empty-kept
+run-tables-requires c κs = subst MultiWf (sym (start-in _ _ (c .no-held .ensures))) (empty-kept _)
 
 save-in-requires : tie.Need-save-in-requires
 save-in-requires c κs = c .before .before .before .before .before .before .before .run-tables .ensures .1
@@ -32,7 +32,7 @@ same-length c = search needs
 returns-2 : tie.Need-returns-2
 returns-2 c =
     let a = c .before .before .before .before .before .before .before .before .before .before .before .before .before .before .before .before .before .before .before .before .before .before .args in
-    let m = c .before .before .before .before .before .before .before .before .before .before .before .run-tables .ensures .0 ∙ ap (λ (g : MultiPortGraph). graphFrom g (requestsOf (a .requests .now))) (start-in _ (c .before .before .before .before .before .before .before .before .before .before .before .before .no-held .ensures)) in
+    let m = c .before .before .before .before .before .before .before .before .before .before .before .run-tables .ensures .0 ∙ ap (λ (g : MultiPortGraph). graphFrom g (requestsOf (a .requests .now))) (start-in _ _ (c .before .before .before .before .before .before .before .before .before .before .before .before .no-held .ensures)) in
     let d = save-done (a .requests .now) (a .file .now) _ _ _ (c .before .before .before .before .before .before .before .before .before .before .before .before .before .before .before .before .before .before .before .if1 .left) m (c .before .before .before .save-in .ensures) in
     (c .save-told .ensures ∙ d .0, d .1)
 

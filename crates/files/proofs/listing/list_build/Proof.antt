@@ -19,7 +19,7 @@ unlisted-requires : tie.Need-unlisted-requires
 unlisted-requires c κs = search needs
 
 returns : tie.Need-returns
-returns c = list-refused (c .before .before .before .before .before .args .file .now) (c .before .before .before .before .before .args .numbers .now) BadSums (answer-bad-sums (c .before .before .before .before .before .args .file .now) (sym (not-true _ (c .before .if1 .taken)) ∙ c .before .before .is-whole .ensures)) refl _ (c .unlisted .ensures)
+returns c = list-refused (c .before .before .before .before .before .args .release) (c .before .before .before .before .before .args .file .now) (c .before .before .before .before .before .args .numbers .now) BadSums (answer-bad-sums (c .before .before .before .before .before .args .release) (c .before .before .before .before .before .args .file .now) (sym (not-true _ (c .before .if1 .taken)) ∙ c .before .before .is-whole .ensures)) refl _ (c .unlisted .ensures)
 
 laid-requires : tie.Need-laid-requires
 laid-requires c κs = whole-length (c .before .before .before .before .args .file .now) (sym (not-false _ (c .if1 .left)) ∙ c .before .is-whole .ensures)
@@ -28,7 +28,7 @@ unlisted-requires-2 : tie.Need-unlisted-requires-2
 unlisted-requires-2 c κs = search needs
 
 returns-2 : tie.Need-returns-2
-returns-2 c = list-refused (c .before .before .before .before .before .before .before .before .args .file .now) (c .before .before .before .before .before .before .before .before .args .numbers .now) BadLayout (answer-bad-layout (c .before .before .before .before .before .before .before .before .args .file .now) (sym (not-false _ (c .before .before .before .before .if1 .left)) ∙ c .before .before .before .before .before .is-whole .ensures) (sym (not-true _ (c .before .if2 .taken)) ∙ c .before .before .before .laid .ensures .answer)) refl _ (c .unlisted2 .ensures)
+returns-2 c = list-refused (c .before .before .before .before .before .before .before .before .args .release) (c .before .before .before .before .before .before .before .before .args .file .now) (c .before .before .before .before .before .before .before .before .args .numbers .now) BadLayout (answer-bad-layout (c .before .before .before .before .before .before .before .before .args .release) (c .before .before .before .before .before .before .before .before .args .file .now) (sym (not-false _ (c .before .before .before .before .if1 .left)) ∙ c .before .before .before .before .before .is-whole .ensures) (sym (not-true _ (c .before .if2 .taken)) ∙ c .before .before .before .laid .ensures .answer)) refl _ (c .unlisted2 .ensures)
 
 -- the shape of a laid file
 shape : (c : tie.Else2) → Laid (c .before .before .before .before .before .before .before .args .file .now) true (c .before .before .laid .result .blocks) (c .before .before .laid .result .wires)
@@ -44,11 +44,11 @@ unlisted-requires-3 : tie.Need-unlisted-requires-3
 unlisted-requires-3 c κs = search needs
 
 returns-3 : tie.Need-returns-3
-returns-3 c = list-refused (c .before .before .before .before .before .before .before .before .before .before .before .args .file .now) (c .before .before .before .before .before .before .before .before .before .before .before .args .numbers .now) _ (answer-built (c .before .before .before .before .before .before .before .before .before .before .before .args .file .now) (sym (not-false _ (c .before .before .before .before .before .before .before .if1 .left)) ∙ c .before .before .before .before .before .before .before .before .is-whole .ensures) (sym (not-false _ (c .before .before .before .before .if2 .left)) ∙ c .before .before .before .before .before .before .laid .ensures .answer) (c .before .before .before .build .ensures)) (sym (c .before .before .accepted .ensures) ∙ not-true _ (c .before .if3 .taken)) _ (c .unlisted3 .ensures)
+returns-3 c = list-refused (c .before .before .before .before .before .before .before .before .before .before .before .args .release) (c .before .before .before .before .before .before .before .before .before .before .before .args .file .now) (c .before .before .before .before .before .before .before .before .before .before .before .args .numbers .now) _ (answer-built (c .before .before .before .before .before .before .before .before .before .before .before .args .release) (c .before .before .before .before .before .before .before .before .before .before .before .args .file .now) (sym (not-false _ (c .before .before .before .before .before .before .before .if1 .left)) ∙ c .before .before .before .before .before .before .before .before .is-whole .ensures) (sym (not-false _ (c .before .before .before .before .if2 .left)) ∙ c .before .before .before .before .before .before .laid .ensures .answer) (c .before .before .before .build .ensures)) (sym (c .before .before .accepted .ensures) ∙ not-true _ (c .before .if3 .taken)) _ (c .unlisted3 .ensures)
 
 list-laid-requires : tie.Need-list-laid-requires
 list-laid-requires c κs =
-    let h = built-few (unbytes (c .before .before .before .before .before .before .before .before .before .before .before .args .file .now)) (ap isLoaded (sym (c .before .before .before .build .ensures .answer)) ∙ (sym (c .before .before .accepted .ensures) ∙ not-false _ (c .before .if3 .left))) in
+    let h = built-few (c .before .before .before .before .before .before .before .before .before .before .before .args .release) (unbytes (c .before .before .before .before .before .before .before .before .before .before .before .args .file .now)) (ap isLoaded (sym (c .before .before .before .build .ensures .answer)) ∙ (sym (c .before .before .accepted .ensures) ∙ not-false _ (c .before .if3 .left))) in
     let m = shape (c .before .before .before .before) .blocksAre refl .many in
     (shape (c .before .before .before .before), omega arith)
 
@@ -56,7 +56,7 @@ same-length : tie.Need-same-length
 same-length c = search needs
 
 returns-4 : tie.Need-returns-4
-returns-4 c = list-done (c .before .before .before .before .before .before .before .before .before .before .before .before .before .before .args .file .now) (c .before .before .before .before .before .before .before .before .before .before .before .before .before .before .args .numbers .now) _ _ _ _ (answer-built (c .before .before .before .before .before .before .before .before .before .before .before .before .before .before .args .file .now) (sym (not-false _ (c .before .before .before .before .before .before .before .before .before .before .if1 .left)) ∙ c .before .before .before .before .before .before .before .before .before .before .before .is-whole .ensures) (sym (not-false _ (c .before .before .before .before .before .before .before .if2 .left)) ∙ c .before .before .before .before .before .before .before .before .before .laid .ensures .answer) (c .before .before .before .before .before .before .build .ensures)) (sym (c .before .before .before .before .before .accepted .ensures) ∙ not-false _ (c .before .before .before .before .if3 .left)) (sym (shape (c .before .before .before .before .before .before .before) .blocksAre refl .many)) (sym (shape (c .before .before .before .before .before .before .before) .wiresAre refl .many)) (c .before .before .list-laid .ensures)
+returns-4 c = list-done (c .before .before .before .before .before .before .before .before .before .before .before .before .before .before .args .release) (c .before .before .before .before .before .before .before .before .before .before .before .before .before .before .args .file .now) (c .before .before .before .before .before .before .before .before .before .before .before .before .before .before .args .numbers .now) _ _ _ _ (answer-built (c .before .before .before .before .before .before .before .before .before .before .before .before .before .before .args .release) (c .before .before .before .before .before .before .before .before .before .before .before .before .before .before .args .file .now) (sym (not-false _ (c .before .before .before .before .before .before .before .before .before .before .if1 .left)) ∙ c .before .before .before .before .before .before .before .before .before .before .before .is-whole .ensures) (sym (not-false _ (c .before .before .before .before .before .before .before .if2 .left)) ∙ c .before .before .before .before .before .before .before .before .before .laid .ensures .answer) (c .before .before .before .before .before .before .build .ensures)) (sym (c .before .before .before .before .before .accepted .ensures) ∙ not-false _ (c .before .before .before .before .if3 .left)) (sym (shape (c .before .before .before .before .before .before .before) .blocksAre refl .many)) (sym (shape (c .before .before .before .before .before .before .before) .wiresAre refl .many)) (c .before .before .list-laid .ensures)
 
 pub list-build-spec : {M : Type 1} → statement M
 list-build-spec =

@@ -16,7 +16,7 @@ no-held-requires : tie.Need-no-held-requires
 no-held-requires c κs = search needs
 
 add-blocks-requires : tie.Need-add-blocks-requires
-add-blocks-requires c κs = (subst MultiWf (sym (tables-empty _ (c .before .before .before .before .before .before .no-held .ensures))) empty-kept, c .before .before .before .before .before .before .before .before .pre .blocksAre refl)
+add-blocks-requires c κs = (subst MultiWf (sym (tables-empty _ _ (c .before .before .before .before .before .before .no-held .ensures))) (empty-kept _), c .before .before .before .before .before .before .before .before .pre .blocksAre refl)
 
 accepted-requires : tie.Need-accepted-requires
 accepted-requires c κs = search needs
@@ -25,12 +25,12 @@ refused-requires : tie.Need-refused-requires
 refused-requires c κs = search needs
 
 returns : tie.Need-returns
-returns c = build-refused-first (unbytes (c .before .before .before .before .before .before .before .before .before .before .before .before .args .file .now)) (tables-empty _ (c .before .before .before .before .before .before .before .before .before .before .no-held .ensures)) (c .before .before .before .add-blocks .ensures) (sym (c .before .before .accepted .ensures) ∙ not-true _ (c .before .if1 .taken)) _ (c .refused .ensures)
+returns c = build-refused-first (c .before .before .before .before .before .before .before .before .before .before .before .before .args .release) (unbytes (c .before .before .before .before .before .before .before .before .before .before .before .before .args .file .now)) (tables-empty _ _ (c .before .before .before .before .before .before .before .before .before .before .no-held .ensures)) (c .before .before .before .add-blocks .ensures) (sym (c .before .before .accepted .ensures) ∙ not-true _ (c .before .if1 .taken)) _ (c .refused .ensures)
 
 -- the blocks fit the table
 few : (c : tie.Else1) → c .before .before .before .before .before .before .before .before .before .before .before .args .blocks ≤ nodeSlots
 few c =
-    let h = blocks-fit-table (unbytes (c .before .before .before .before .before .before .before .before .before .before .before .args .file .now)) (tables-empty _ (c .before .before .before .before .before .before .before .before .before .no-held .ensures)) (c .before .before .add-blocks .ensures) (sym (c .before .accepted .ensures) ∙ not-false _ (c .if1 .left)) in
+    let h = blocks-fit-table (c .before .before .before .before .before .before .before .before .before .before .before .args .release) (unbytes (c .before .before .before .before .before .before .before .before .before .before .before .args .file .now)) (tables-empty _ _ (c .before .before .before .before .before .before .before .before .before .no-held .ensures)) (c .before .before .add-blocks .ensures) (sym (c .before .accepted .ensures) ∙ not-false _ (c .if1 .left)) in
     let m = c .before .before .before .before .before .before .before .before .before .before .before .pre .blocksAre refl .many in
     omega arith
 
@@ -51,13 +51,13 @@ refused-requires-2 : tie.Need-refused-requires-2
 refused-requires-2 c κs = search needs
 
 returns-2 : tie.Need-returns-2
-returns-2 c = build-refused-second (unbytes (c .before .before .before .before .before .before .before .before .before .before .before .before .before .before .before .before .before .before .before .before .before .before .before .before .before .args .file .now)) (tables-empty _ (c .before .before .before .before .before .before .before .before .before .before .before .before .before .before .before .before .before .before .before .before .before .before .before .no-held .ensures)) (c .before .before .before .before .before .before .before .before .before .before .before .before .before .before .before .before .add-blocks .ensures) (sym (c .before .before .before .before .before .before .before .before .before .before .before .before .before .before .before .accepted .ensures) ∙ not-false _ (c .before .before .before .before .before .before .before .before .before .before .before .before .before .before .if1 .left)) (c .before .before .before .link-wires .ensures) (sym (c .before .before .accepted2 .ensures) ∙ not-true _ (c .before .if2 .taken)) _ (c .refused2 .ensures)
+returns-2 c = build-refused-second (c .before .before .before .before .before .before .before .before .before .before .before .before .before .before .before .before .before .before .before .before .before .before .before .before .before .args .release) (unbytes (c .before .before .before .before .before .before .before .before .before .before .before .before .before .before .before .before .before .before .before .before .before .before .before .before .before .args .file .now)) (tables-empty _ _ (c .before .before .before .before .before .before .before .before .before .before .before .before .before .before .before .before .before .before .before .before .before .before .before .no-held .ensures)) (c .before .before .before .before .before .before .before .before .before .before .before .before .before .before .before .before .add-blocks .ensures) (sym (c .before .before .before .before .before .before .before .before .before .before .before .before .before .before .before .accepted .ensures) ∙ not-false _ (c .before .before .before .before .before .before .before .before .before .before .before .before .before .before .if1 .left)) (c .before .before .before .link-wires .ensures) (sym (c .before .before .accepted2 .ensures) ∙ not-true _ (c .before .if2 .taken)) _ (c .refused2 .ensures)
 
 graph-of-tables-requires : tie.Need-graph-of-tables-requires
 graph-of-tables-requires c κs = search needs
 
 returns-3 : tie.Need-returns-3
-returns-3 c = build-done (unbytes (c .before .before .before .before .before .before .before .before .before .before .before .before .before .before .before .before .before .before .before .before .before .before .before .before .before .before .before .before .before .before .before .before .args .file .now)) (tables-empty _ (c .before .before .before .before .before .before .before .before .before .before .before .before .before .before .before .before .before .before .before .before .before .before .before .before .before .before .before .before .before .before .no-held .ensures)) (c .before .before .before .before .before .before .before .before .before .before .before .before .before .before .before .before .before .before .before .before .before .before .before .add-blocks .ensures) (sym (c .before .before .before .before .before .before .before .before .before .before .before .before .before .before .before .before .before .before .before .before .before .before .accepted .ensures) ∙ not-false _ (c .before .before .before .before .before .before .before .before .before .before .before .before .before .before .before .before .before .before .before .before .before .if1 .left)) (c .before .before .before .before .before .before .before .before .before .before .link-wires .ensures) (sym (c .before .before .before .before .before .before .before .before .before .accepted2 .ensures) ∙ not-false _ (c .before .before .before .before .before .before .before .before .if2 .left)) _ (c .graph-of-tables .ensures)
+returns-3 c = build-done (c .before .before .before .before .before .before .before .before .before .before .before .before .before .before .before .before .before .before .before .before .before .before .before .before .before .before .before .before .before .before .before .before .args .release) (unbytes (c .before .before .before .before .before .before .before .before .before .before .before .before .before .before .before .before .before .before .before .before .before .before .before .before .before .before .before .before .before .before .before .before .args .file .now)) (tables-empty _ _ (c .before .before .before .before .before .before .before .before .before .before .before .before .before .before .before .before .before .before .before .before .before .before .before .before .before .before .before .before .before .before .no-held .ensures)) (c .before .before .before .before .before .before .before .before .before .before .before .before .before .before .before .before .before .before .before .before .before .before .before .add-blocks .ensures) (sym (c .before .before .before .before .before .before .before .before .before .before .before .before .before .before .before .before .before .before .before .before .before .before .accepted .ensures) ∙ not-false _ (c .before .before .before .before .before .before .before .before .before .before .before .before .before .before .before .before .before .before .before .before .before .if1 .left)) (c .before .before .before .before .before .before .before .before .before .before .link-wires .ensures) (sym (c .before .before .before .before .before .before .before .before .before .accepted2 .ensures) ∙ not-false _ (c .before .before .before .before .before .before .before .before .if2 .left)) _ (c .graph-of-tables .ensures)
 
 pub build-spec : {M : Type 1} → statement M
 build-spec =

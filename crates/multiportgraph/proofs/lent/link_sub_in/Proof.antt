@@ -1,12 +1,22 @@
--- `multiportgraph::lent::link_sub_in` meets its contract: two ends that are linked, and a refusal.
+-- `multiportgraph::lent::link_sub_in` meets its contract: an input that has a wire, two ends that are linked, and a refusal.
 use mathlib.Core.Path.{refl}
 use native.Mathlib.Omega.{arith}
 use borrow.Author.Needs.{needs}
 use Rattle.portgraph.specs.WfFacts.{link-count-fits}
 use Rattle.multiportgraph.specs.CallSteps.{lower-wf}
-use Rattle.multiportgraph.specs.LentSteps.{link-refused-in, link-made-in}
+use Rattle.multiportgraph.specs.InputSteps.{sub-taken, sub-untaken, parts-untaken}
+use Rattle.multiportgraph.specs.LentSteps.{link-parts, link-refused-in, link-made-in}
 use Rattle.multiportgraph.proofs.lent.link_sub_in.Statement.{statement}
 use Rattle.multiportgraph.proofs.lent.link_sub_in.Tie as tie
+
+input-taken-requires : tie.Need-input-taken-requires
+input-taken-requires c κs = search needs
+
+taken-subports-requires : tie.Need-taken-subports-requires
+taken-subports-requires c κs = search needs
+
+returns : tie.Need-returns
+returns c = link-parts (sub-taken (c .before .before .before .before .before .before .before .before .before .before .before .before .before .pre) _ _ (c .before .before .before .before .before .before .input-taken .ensures) (c .before .before .before .before .before .if1 .taken) _ _ _ (c .taken-subports .ensures))
 
 link-named-requires : tie.Need-link-named-requires
 link-named-requires c κs = search needs
@@ -24,7 +34,7 @@ link-both-requires : tie.Need-link-both-requires
 link-both-requires c κs = search needs
 
 add-with-links : tie.Need-add-with-links
-add-with-links c = omega (arith, link-count-fits _ (lower-wf _ (c .before .before .before .before .before .before .before .before .before .before .before .before .before .before .before .pre)))
+add-with-links c = omega (arith, link-count-fits _ (lower-wf _ (c .before .before .before .before .before .before .before .before .before .before .before .before .before .before .before .before .before .before .before .before .before .before .before .pre)))
 
 with-links-requires : tie.Need-with-links-requires
 with-links-requires c κs = search needs
@@ -32,16 +42,19 @@ with-links-requires c κs = search needs
 enum-known-refusal : tie.Need-enum-known-refusal
 enum-known-refusal c = search needs
 
-returns : tie.Need-returns
-returns c = link-made-in (c .before .before .before .before .before .before .before .before .before .before .before .before .before .before .before .before .args .nodes .now) (c .before .before .before .before .before .before .before .before .before .before .before .before .before .before .before .before .args .links .now) (c .before .before .before .before .before .before .before .before .before .before .before .before .before .before .before .before .args .owners .now) (c .before .before .before .before .before .before .before .before .before .before .before .before .before .before .before .before .args .heads .now) (c .before .before .before .before .before .before .before .before .before .before .before .before .before .before .before .before .args .marks .now) (c .before .before .before .before .before .before .before .before .before .before .before .before .before .before .before .before .args .flags .now) (c .before .before .before .before .before .before .before .before .before .before .before .before .before .before .before .before .args .held) (c .before .before .before .before .before .before .before .before .before .before .before .before .before .before .before .before .pre) _ _ _ _ (c .before .before .before .before .before .before .before .before .before .before .before .link-named .ensures) (c .before .before .before .before .before .before .before .before .before .x .given .1) (c .before .before .before .before .before .before .read-in .ensures) (c .before .before .before .before .read-in2 .ensures) (c .before .before .link-both .ensures) refl (c .with-links .ensures)
-
 returns-2 : tie.Need-returns-2
-returns-2 c = link-refused-in (c .before .before .before .before .before .before .before .before .args .nodes .now) (c .before .before .before .before .before .before .before .before .args .links .now) (c .before .before .before .before .before .before .before .before .args .owners .now) (c .before .before .before .before .before .before .before .before .args .heads .now) (c .before .before .before .before .before .before .before .before .args .marks .now) (c .before .before .before .before .before .before .before .before .args .flags .now) (c .before .before .before .before .before .before .before .before .args .held) (c .before .before .before .before .before .before .before .before .pre) _ _ _ _ (c .before .before .before .link-named .ensures) (c .before .refusal .given .1)
+returns-2 c = parts-untaken (sub-untaken (c .before .before .before .before .before .before .before .before .before .before .before .before .before .before .before .before .before .before .before .before .before .before .before .before .pre) _ _ (c .before .before .before .before .before .before .before .before .before .before .before .before .before .before .before .before .before .input-taken .ensures) (c .before .before .before .before .before .before .before .before .before .before .before .before .before .before .before .before .if1 .left) _ _ refl) (link-made-in (c .before .before .before .before .before .before .before .before .before .before .before .before .before .before .before .before .before .before .before .before .before .before .before .before .args .nodes .now) (c .before .before .before .before .before .before .before .before .before .before .before .before .before .before .before .before .before .before .before .before .before .before .before .before .args .links .now) (c .before .before .before .before .before .before .before .before .before .before .before .before .before .before .before .before .before .before .before .before .before .before .before .before .args .owners .now) (c .before .before .before .before .before .before .before .before .before .before .before .before .before .before .before .before .before .before .before .before .before .before .before .before .args .heads .now) (c .before .before .before .before .before .before .before .before .before .before .before .before .before .before .before .before .before .before .before .before .before .before .before .before .args .marks .now) (c .before .before .before .before .before .before .before .before .before .before .before .before .before .before .before .before .before .before .before .before .before .before .before .before .args .flags .now) (c .before .before .before .before .before .before .before .before .before .before .before .before .before .before .before .before .before .before .before .before .before .before .before .before .args .held) (c .before .before .before .before .before .before .before .before .before .before .before .before .before .before .before .before .before .before .before .before .before .before .before .before .pre) _ _ _ _ (c .before .before .before .before .before .before .before .before .before .before .before .link-named .ensures) (c .before .before .before .before .before .before .before .before .before .x .given .1) (c .before .before .before .before .before .before .read-in .ensures) (c .before .before .before .before .read-in2 .ensures) (c .before .before .link-both .ensures) refl (c .with-links .ensures))
+
+returns-3 : tie.Need-returns-3
+returns-3 c = parts-untaken (sub-untaken (c .before .before .before .before .before .before .before .before .before .before .before .before .before .before .before .before .pre) _ _ (c .before .before .before .before .before .before .before .before .before .input-taken .ensures) (c .before .before .before .before .before .before .before .before .if1 .left) _ _ refl) (link-refused-in (c .before .before .before .before .before .before .before .before .before .before .before .before .before .before .before .before .args .nodes .now) (c .before .before .before .before .before .before .before .before .before .before .before .before .before .before .before .before .args .links .now) (c .before .before .before .before .before .before .before .before .before .before .before .before .before .before .before .before .args .owners .now) (c .before .before .before .before .before .before .before .before .before .before .before .before .before .before .before .before .args .heads .now) (c .before .before .before .before .before .before .before .before .before .before .before .before .before .before .before .before .args .marks .now) (c .before .before .before .before .before .before .before .before .before .before .before .before .before .before .before .before .args .flags .now) (c .before .before .before .before .before .before .before .before .before .before .before .before .before .before .before .before .args .held) (c .before .before .before .before .before .before .before .before .before .before .before .before .before .before .before .before .pre) _ _ _ _ (c .before .before .before .link-named .ensures) (c .before .refusal .given .1))
 
 pub link-sub-in-spec : {M : Type 1} → statement M
 link-sub-in-spec =
     tie.close
     (tie.spec
+    input-taken-requires
+    taken-subports-requires
+    returns
     link-named-requires
     enum-known-x
     read-in-requires
@@ -50,5 +63,5 @@ link-sub-in-spec =
     add-with-links
     with-links-requires
     enum-known-refusal
-    returns
-    returns-2)
+    returns-2
+    returns-3)

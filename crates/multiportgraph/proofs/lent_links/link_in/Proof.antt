@@ -1,11 +1,23 @@
--- `multiportgraph::lent_links::link_in` meets its contract, by how the first port is seen.
+-- `multiportgraph::lent_links::link_in` meets its contract: an input that has a wire, and else by how the first port is seen.
+use mathlib.Core.Path.{refl}
 use borrow.Author.Needs.{needs}
 use Rattle.multiportgraph.specs.MultiLent.{multiIn}
 use Rattle.multiportgraph.specs.NamedLaws.{seen-as}
 use Rattle.multiportgraph.specs.LinkSteps.{on-block}
+use Rattle.multiportgraph.specs.InputSteps.{ports-taken, ports-untaken, parts-untaken}
+use Rattle.multiportgraph.specs.LentSteps.{link-parts}
 use Rattle.multiportgraph.specs.LentEndSteps.{call-unknown, call-hidden}
 use Rattle.multiportgraph.proofs.lent_links.link_in.Statement.{statement}
 use Rattle.multiportgraph.proofs.lent_links.link_in.Tie as tie
+
+input-taken-requires : tie.Need-input-taken-requires
+input-taken-requires c κs = search needs
+
+taken-ports-requires : tie.Need-taken-ports-requires
+taken-ports-requires c κs = search needs
+
+returns : tie.Need-returns
+returns c = link-parts (ports-taken (c .before .before .before .before .before .before .before .before .before .pre) _ _ (c .before .before .before .before .input-taken .ensures) (c .before .before .before .if1 .taken) _ (c .taken-ports .ensures))
 
 seen-in-requires : tie.Need-seen-in-requires
 seen-in-requires c κs = search needs
@@ -21,31 +33,36 @@ enum-known-d c = search needs
 
 link-seen-in-requires : tie.Need-link-seen-in-requires
 link-seen-in-requires c κs =
-    let a = c .before .before .before .before .before .before .before .before .before .before .before .before .args in
-    on-block (c .before .before .before .before .before .before .before .before .before .before .before .before .pre) _ _ (seen-as (c .before .before .before .before .before .before .before .before .before .before .before .before .pre) (a .port-a .0) (c .before .before .before .before .before .before .before .before .before .seen-in .ensures)) (c .before .before .before .before .before .before .before .d .given .1)
-
-returns : tie.Need-returns
-returns c =
-    let a = c .before .before .before .before .before .args in
-    call-unknown (multiIn (a .nodes .now) (a .links .now) (a .owners .now) (a .heads .now) (a .marks .now) (a .flags .now) (a .held)) (a .port-a .0) (a .port-b .0) (seen-as (c .before .before .before .before .before .pre) (a .port-a .0) (c .before .before .seen-in .ensures)) (c .enum-told .given .1)
+    let a = c .before .before .before .before .before .before .before .before .before .before .before .before .before .before .before .before .before .before .args in
+    on-block (c .before .before .before .before .before .before .before .before .before .before .before .before .before .before .before .before .before .before .pre) _ _ (seen-as (c .before .before .before .before .before .before .before .before .before .before .before .before .before .before .before .before .before .before .pre) (a .port-a .0) (c .before .before .before .before .before .before .before .before .before .seen-in .ensures)) (c .before .before .before .before .before .before .before .d .given .1)
 
 returns-2 : tie.Need-returns-2
 returns-2 c =
-    let a = c .before .before .before .before .before .args in
-    call-hidden (multiIn (a .nodes .now) (a .links .now) (a .owners .now) (a .heads .now) (a .marks .now) (a .flags .now) (a .held)) (a .port-a .0) (a .port-b .0) (seen-as (c .before .before .before .before .before .pre) (a .port-a .0) (c .before .before .seen-in .ensures)) (c .enum-told2 .given .1)
+    let a = c .before .before .before .before .before .before .before .before .before .before .before .args in
+    parts-untaken (ports-untaken (c .before .before .before .before .before .before .before .before .before .before .before .pre) _ _ (c .before .before .before .before .before .before .input-taken .ensures) (c .before .before .before .before .before .if1 .left) refl)
+    (call-unknown (multiIn (a .nodes .now) (a .links .now) (a .owners .now) (a .heads .now) (a .marks .now) (a .flags .now) (a .held)) (a .port-a .0) (a .port-b .0) (seen-as (c .before .before .before .before .before .before .before .before .before .before .before .pre) (a .port-a .0) (c .before .before .seen-in .ensures)) (c .enum-told .given .1))
 
 returns-3 : tie.Need-returns-3
-returns-3 c = search needs
+returns-3 c =
+    let a = c .before .before .before .before .before .before .before .before .before .before .before .args in
+    parts-untaken (ports-untaken (c .before .before .before .before .before .before .before .before .before .before .before .pre) _ _ (c .before .before .before .before .before .before .input-taken .ensures) (c .before .before .before .before .before .if1 .left) refl)
+    (call-hidden (multiIn (a .nodes .now) (a .links .now) (a .owners .now) (a .heads .now) (a .marks .now) (a .flags .now) (a .held)) (a .port-a .0) (a .port-b .0) (seen-as (c .before .before .before .before .before .before .before .before .before .before .before .pre) (a .port-a .0) (c .before .before .seen-in .ensures)) (c .enum-told2 .given .1))
+
+returns-4 : tie.Need-returns-4
+returns-4 c = parts-untaken (ports-untaken (c .before .before .before .before .before .before .before .before .before .before .before .before .before .before .before .before .before .before .before .pre) _ _ (c .before .before .before .before .before .before .before .before .before .before .before .before .before .before .input-taken .ensures) (c .before .before .before .before .before .before .before .before .before .before .before .before .before .if1 .left) refl) (c .link-seen-in .ensures)
 
 pub link-in-spec : {M : Type 1} → statement M
 link-in-spec =
     tie.close
     (tie.spec
+    input-taken-requires
+    taken-ports-requires
+    returns
     seen-in-requires
     enum-told
     enum-told-2
     enum-known-d
     link-seen-in-requires
-    returns
     returns-2
-    returns-3)
+    returns-3
+    returns-4)

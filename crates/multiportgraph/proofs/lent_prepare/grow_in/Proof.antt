@@ -57,8 +57,8 @@ wide-requires-4 c κs = search needs
 put-mark-requires-2 : tie.Need-put-mark-requires-2
 put-mark-requires-2 c κs = search needs
 
-add-t25 : tie.Need-add-t25
-add-t25 c =
+add-t26 : tie.Need-add-t26
+add-t26 c =
     let a = c .before .before .before .before .before .before .before .before .before .before .before .before .before .before .before .before .before .before .before .before .before .before .before .before .before .args in
     omega (arith, few-subs (multiIn (a .nodes .now) (a .links .now) (a .owners .now) (a .heads .now) (a .marks .now) (a .flags .now) (a .held)) (c .before .before .before .before .before .before .before .before .before .before .before .before .before .before .before .before .before .before .before .before .before .before .before .before .before .pre .port .block .wf))
 
@@ -67,8 +67,8 @@ last-beside-requires c κs =
     let a = c .before .before .before .before .before .before .before .before .before .before .before .before .before .before .before .before .before .before .before .before .before .before .before .before .before .args in
     omega (arith, copy-low (a .nodes .now) (a .links .now) (a .owners .now) (a .heads .now) (a .marks .now) (a .flags .now) (a .held) (c .before .before .before .before .before .before .before .before .before .before .before .before .before .before .before .before .before .before .before .before .before .before .before .before .before .pre) _ (c .before .before .before .before .before .before .before .before .before .before .before .before .before .before .before .before .before .before .before .before .before .before .before .wide .ensures) (c .before .before .before .before .before .before .before .before .before .before .before .before .before .before .before .before .before .before .before .before .before .before .far-in .ensures) (c .before .before .before .before .before .before .before .before .before .before .before .before .before .before .before .before .before .before .before .before .before .num-ports .ensures) (c .before .before .before .before .before .before .before .before .before .before .before .before .before .before .before .grown-in .ensures) (c .before .before .before .before .before .before .before .before .before .before .before .before .before .before .grown-out .ensures) (c .before .before .before .before .before .before .before .before .before .before .before .before .before .set-num-ports-quiet-in .ensures .0) (c .before .before .before .before .before .before .before .before .before .before .before .before .before .set-num-ports-quiet-in .ensures .1) (c .before .before .before .before .before .before .before .before .before .before .enum-told .given .1) (c .before .before .before .before .before .before .before .before .wide2 .ensures) (c .before .before .before .before .before .before .before .far-in2 .ensures), grow-few (c .before .before .before .before .before .before .before .before .before .before .before .before .before .before .before .before .before .before .before .before .before .before .before .before .before .pre), c .before .before .before .before .before .before .before .before .before .before .before .before .before .before .before .before .before .before .before .before .before .num-ports .ensures)
 
-cast-t33 : tie.Need-cast-t33
-cast-t33 c = omega (arith, grow-few (c .before .before .before .before .before .before .before .before .before .before .before .before .before .before .before .before .before .before .before .before .before .before .before .before .before .before .pre), c .before .before .before .before .before .before .before .before .before .before .before .before .before .before .before .before .before .before .before .before .before .before .num-ports .ensures)
+cast-t34 : tie.Need-cast-t34
+cast-t34 c = omega (arith, grow-few (c .before .before .before .before .before .before .before .before .before .before .before .before .before .before .before .before .before .before .before .before .before .before .before .before .before .before .pre), c .before .before .before .before .before .before .before .before .before .before .before .before .before .before .before .before .before .before .before .before .before .before .num-ports .ensures)
 
 returns-2 : tie.Need-returns-2
 returns-2 c =
@@ -94,7 +94,7 @@ grow-in-spec =
     put-mark-requires
     wide-requires-4
     put-mark-requires-2
-    add-t25
+    add-t26
     last-beside-requires
-    cast-t33
+    cast-t34
     returns-2)

@@ -80,6 +80,12 @@ enum-known-refusal-6 c = search needs
 five-words-requires-12 : tie.Need-five-words-requires-12
 five-words-requires-12 c κs = search needs
 
+enum-told-7 : tie.Need-enum-told-7
+enum-told-7 c = search needs
+
+five-words-requires-13 : tie.Need-five-words-requires-13
+five-words-requires-13 c κs = search needs
+
 returns : tie.Need-returns
 returns c = told refusalNumbers _ _ _ (c .five-words .ensures) (c .before .enum-told .given .1)
 
@@ -116,6 +122,9 @@ returns-11 c = told-side _ _ _ _ _ _ (c .five-words11 .ensures) (c .before .side
 returns-12 : tie.Need-returns-12
 returns-12 c = told refusalNumbers _ _ _ (c .five-words12 .ensures) (c .before .before .refusal6 .given .1)
 
+returns-13 : tie.Need-returns-13
+returns-13 c = told refusalNumbers _ _ _ (c .five-words13 .ensures) (c .before .enum-told7 .given .1)
+
 pub refusal-words-spec : {M : Type 1} → statement M
 refusal-words-spec =
     tie.close
@@ -145,6 +154,8 @@ refusal-words-spec =
     five-words-requires-11
     enum-known-refusal-6
     five-words-requires-12
+    enum-told-7
+    five-words-requires-13
     returns
     returns-2
     returns-3
@@ -156,4 +167,5 @@ refusal-words-spec =
     returns-9
     returns-10
     returns-11
-    returns-12)
+    returns-12
+    returns-13)

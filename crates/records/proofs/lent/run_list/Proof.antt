@@ -25,7 +25,7 @@ no-held-requires : tie.Need-no-held-requires Inv-loop μ-loop
 no-held-requires c κs = search needs
 
 loop-holds : tie.Need-loop-holds Inv-loop μ-loop
-loop-holds c = run-starts (start-in _ (c .no-held .ensures)) (c .before .before .before .pre .0) (c .before .before .before .pre .1)
+loop-holds c = run-starts (start-in _ _ (c .no-held .ensures)) (c .before .before .before .pre .0) (c .before .before .before .pre .1)
 
 ask-at-requires : tie.Need-ask-at-requires Inv-loop μ-loop
 ask-at-requires c κs = run-fits (c .before .loop .inv) (c .loop-test .taken)

@@ -33,6 +33,9 @@ slice-aggregate-part c = search needs
 part-requires-2 : tie.Need-part-requires-2
 part-requires-2 c κs = search needs
 
+release-requires : tie.Need-release-requires
+release-requires c κs = search needs
+
 load-requires : tie.Need-load-requires
 load-requires c κs = search needs
 
@@ -67,13 +70,13 @@ returns-2 : tie.Need-returns-2
 returns-2 c = search needs
 
 returns-3 : tie.Need-returns-3
-returns-3 c = search needs
+returns-3 c = c .before .before .before .before .before .before .before .before .before .before .before .before .before .before .before .before .before .pre
 
 returns-4 : tie.Need-returns-4
-returns-4 c = search needs
+returns-4 c = c .before .before .before .before .before .before .before .before .before .before .before .before .before .before .before .before .before .pre
 
 returns-5 : tie.Need-returns-5
-returns-5 c = c .before .before .before .before .before .before .before .before .before .before .before .before .before .before .before .before .before .pre
+returns-5 c = c .before .before .before .before .before .before .before .before .before .before .before .before .before .before .before .before .before .before .pre
 
 pub load-from-spec : {M : Type 1} → statement M
 load-from-spec =
@@ -89,6 +92,7 @@ load-from-spec =
     returns
     slice-aggregate-part
     part-requires-2
+    release-requires
     load-requires
     enum-told
     slice-aggregate-write-bytes

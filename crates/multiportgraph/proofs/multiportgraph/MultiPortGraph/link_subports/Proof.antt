@@ -9,9 +9,19 @@ use Rattle.multiportgraph.specs.declared.multiportgraph.PortsLinked.{Por
 use Rattle.multiportgraph.specs.declared.multiportgraph.MultiPortGraph.{MultiPortGraph}
 use Rattle.multiportgraph.specs.declared.multiportgraph.LinkAnswer.the-variants as link
 use Rattle.multiportgraph.specs.CallSteps.{lower-wf}
+use Rattle.multiportgraph.specs.InputSteps.{sub-taken, sub-untaken}
 use Rattle.multiportgraph.proofs.multiportgraph.MultiPortGraph.link_subports.Statement.{statement}
 use Rattle.multiportgraph.proofs.multiportgraph.MultiPortGraph.link_subports.Tie as tie
 use Rattle.multiportgraph.specs.Answers.{linkNumbers}
+
+input-taken-requires : tie.Need-input-taken-requires
+input-taken-requires c κs = search needs
+
+taken-subports-requires : tie.Need-taken-subports-requires
+taken-subports-requires c κs = search needs
+
+returns : tie.Need-returns
+returns c = with-numbers (λ (r : PortsLinked). linkNumbers (r .answer)) (sub-taken (c .before .before .before .before .before .before .before .before .before .before .before .before .before .before .before .pre) _ _ (c .before .before .before .before .before .before .before .input-taken .ensures) (c .before .before .before .before .before .before .if1 .taken) _ _ _ (c .taken-subports .ensures))
 
 link-named-requires : tie.Need-link-named-requires
 link-named-requires c κs = search needs
@@ -29,24 +39,27 @@ link-both-requires : tie.Need-link-both-requires
 link-both-requires c κs = search needs
 
 add-self : tie.Need-add-self
-add-self c = let b = link-count-fits (c .before .before .before .before .before .before .before .before .before .before .before .before .before .before .before .before .before .args .t1 .graph) (lower-wf (c .before .before .before .before .before .before .before .before .before .before .before .before .before .before .before .before .before .args .t1) (c .before .before .before .before .before .before .before .before .before .before .before .before .before .before .before .before .before .pre)) in omega arith
+add-self c = let b = link-count-fits (c .before .before .before .before .before .before .before .before .before .before .before .before .before .before .before .before .before .before .before .before .before .before .before .before .before .before .args .t1 .graph) (lower-wf (c .before .before .before .before .before .before .before .before .before .before .before .before .before .before .before .before .before .before .before .before .before .before .before .before .before .before .args .t1) (c .before .before .before .before .before .before .before .before .before .before .before .before .before .before .before .before .before .before .before .before .before .before .before .before .before .before .pre)) in omega arith
 
 enum-known-refusal : tie.Need-enum-known-refusal
 enum-known-refusal c = search needs
 
-returns : tie.Need-returns
-returns c =
-    with-numbers (λ (r : PortsLinked). linkNumbers (r .answer))
-    (link-done (c .before .before .before .before .before .before .before .before .before .before .before .before .before .before .before .before .before .before .pre) _ _ _ _ (c .before .before .before .before .before .before .before .before .before .before .before .before .link-named .ensures) (c .before .before .before .before .before .before .before .before .before .before .x .given .1) (c .before .before .before .before .before .before .read-in .ensures) (c .before .before .before .read-in2 .ensures)
-    (ap (λ (g : MultiPortGraph). record { graph = g; answer = link.Linked (c .before .before .before .before .before .before .read-in .result) (c .before .before .before .read-in2 .result) }) (join-made (c .before .before .before .before .before .before .before .before .before .before .before .before .before .before .before .before .before .before .args .t1) _ _ (c .before .link-both .ensures))))
-
 returns-2 : tie.Need-returns-2
-returns-2 c = with-numbers (λ (r : PortsLinked). linkNumbers (r .answer)) (link-refused (c .before .before .before .before .before .before .before .before .before .pre) _ _ _ _ _ (c .before .before .before .link-named .ensures) (c .before .refusal .given .1))
+returns-2 c =
+    with-numbers (λ (r : PortsLinked). linkNumbers (r .answer))
+    (sub-untaken (c .before .before .before .before .before .before .before .before .before .before .before .before .before .before .before .before .before .before .before .before .before .before .before .before .before .before .before .pre) _ _ (c .before .before .before .before .before .before .before .before .before .before .before .before .before .before .before .before .before .before .before .input-taken .ensures) (c .before .before .before .before .before .before .before .before .before .before .before .before .before .before .before .before .before .before .if1 .left) _ _ (link-done (c .before .before .before .before .before .before .before .before .before .before .before .before .before .before .before .before .before .before .before .before .before .before .before .before .before .before .before .pre) _ _ _ _ (c .before .before .before .before .before .before .before .before .before .before .before .before .link-named .ensures) (c .before .before .before .before .before .before .before .before .before .before .x .given .1) (c .before .before .before .before .before .before .read-in .ensures) (c .before .before .before .read-in2 .ensures)
+    (ap (λ (g : MultiPortGraph). record { graph = g; answer = link.Linked (c .before .before .before .before .before .before .read-in .result) (c .before .before .before .read-in2 .result) }) (join-made (c .before .before .before .before .before .before .before .before .before .before .before .before .before .before .before .before .before .before .before .before .before .before .before .before .before .before .before .args .t1) _ _ (c .before .link-both .ensures)))))
+
+returns-3 : tie.Need-returns-3
+returns-3 c = with-numbers (λ (r : PortsLinked). linkNumbers (r .answer)) (sub-untaken (c .before .before .before .before .before .before .before .before .before .before .before .before .before .before .before .before .before .before .pre) _ _ (c .before .before .before .before .before .before .before .before .before .before .input-taken .ensures) (c .before .before .before .before .before .before .before .before .before .if1 .left) _ _ (link-refused (c .before .before .before .before .before .before .before .before .before .before .before .before .before .before .before .before .before .before .pre) _ _ _ _ _ (c .before .before .before .link-named .ensures) (c .before .refusal .given .1)))
 
 pub link-subports-spec : {M : Type 1} → statement M
 link-subports-spec =
     tie.close
     (tie.spec
+    input-taken-requires
+    taken-subports-requires
+    returns
     link-named-requires
     enum-known-x
     read-in-requires
@@ -54,5 +67,5 @@ link-subports-spec =
     link-both-requires
     add-self
     enum-known-refusal
-    returns
-    returns-2)
+    returns-2
+    returns-3)

@@ -10,7 +10,7 @@ use Rattle.multiportgraph.specs.Reading.{isSplit}
 use Rattle.multiportgraph.specs.Calls.{subportLink, visibleNodes, visiblePorts, visibleLinks, movesTold}
 use Rattle.multiportgraph.specs.Wires.{subportsOfSide, wiresWalked}
 use Rattle.multiportgraph.specs.Lookups.{portFanOut, nodeFanOut, countNumbers}
-use Rattle.theorems.specs.Book.{Call, addCall, removeCall, setCall, linkCall, linkCleanCall, linkSubCall, cutCall, cutSubCall, AnswerOf}
+use Rattle.theorems.specs.Book.{Call, addCall, removeCall, setCall, linkCall, linkCleanCall, linkSubCall, cutCall, cutSubCall, AnswerOf, tidyCall}
 use Rattle.theorems.specs.History.{step, numbersOf}
 use Rattle.multiportgraph.specs.declared.multiportgraph.MultiPortGraph.{MultiPortGraph}
 use Rattle.multiportgraph.specs.declared.multiportgraph.Release.{Release}
@@ -205,11 +205,38 @@ inputLines release =
     ∷ ask (stateA ++ (call (cutCall 1) ∷ call (linkCall 0 1) ∷ fanOut 1 ∷ [])) (numbersA ++ ((0 ∷ 1 ∷ 0 ∷ 0 ∷ 0 ∷ 1 ∷ 0 ∷ []) ∷ (0 ∷ 0 ∷ 0 ∷ 1 ∷ 0 ∷ []) ∷ (0 ∷ 1 ∷ []) ∷ []))
     ∷ []
 
+-- Tidies, smallest inputs: what the theorems on tidies say of every history, on a few.
+abbrev pub tidyLines : List Line
+tidyLines =
+    -- an unsplit port; no live port; a hidden node's
+    ask (stateA ++ (call (tidyCall 0) ∷ counts ∷ call (tidyCall 9) ∷ [])) (numbersA ++ ((0 ∷ []) ∷ (2 ∷ 3 ∷ 1 ∷ []) ∷ (7 ∷ 9 ∷ []) ∷ []))
+    ∷ ask (stateB ++ (call (tidyCall 4) ∷ [])) (numbersB ++ ((8 ∷ 4 ∷ []) ∷ []))
+    -- offset 1 is wired: the hidden node stays, with offset 0 empty
+    ∷ ask (stateB ++ (call (cutSubCall 0 0) ∷ call (tidyCall 0) ∷ mark 0 ∷ listing 0 ∷ linkOf 0 1 ∷ []))
+    (numbersB ++ ((0 ∷ 1 ∷ 1 ∷ 0 ∷ 1 ∷ 0 ∷ 0 ∷ []) ∷ (0 ∷ []) ∷ (1 ∷ []) ∷ (0 ∷ 0 ∷ 0 ∷ 1 ∷ []) ∷ (0 ∷ 1 ∷ 2 ∷ 0 ∷ 1 ∷ 0 ∷ 1 ∷ []) ∷ []))
+    -- offset 0 alone: the wire is linked to the port, and every offset of the port is that wire's end
+    ∷ ask (stateB ++ (call (cutSubCall 0 1) ∷ call (tidyCall 0) ∷ mark 0 ∷ listing 0 ∷ linkOf 0 0 ∷ wires ∷ call (cutSubCall 0 1) ∷ wires ∷ []))
+    (numbersB ++ ((0 ∷ 1 ∷ 2 ∷ 0 ∷ 1 ∷ 0 ∷ 1 ∷ []) ∷ (0 ∷ []) ∷ (0 ∷ []) ∷ (0 ∷ 0 ∷ []) ∷ (0 ∷ 1 ∷ 1 ∷ 0 ∷ 1 ∷ 0 ∷ 0 ∷ []) ∷ (1 ∷ []) ∷ (0 ∷ 1 ∷ 1 ∷ 0 ∷ 1 ∷ 0 ∷ 0 ∷ []) ∷ (0 ∷ []) ∷ []))
+    -- cuts of a whole port answer otherwise than they would have
+    ∷ ask (stateB ++ (call (cutSubCall 0 1) ∷ call (tidyCall 0) ∷ call (cutCall 1) ∷ []))
+    (numbersB ++ ((0 ∷ 1 ∷ 2 ∷ 0 ∷ 1 ∷ 0 ∷ 1 ∷ []) ∷ (0 ∷ []) ∷ (0 ∷ 1 ∷ 0 ∷ 0 ∷ 0 ∷ 1 ∷ 0 ∷ []) ∷ []))
+    -- no wire: the hidden node goes, and an add of three ports takes its slots
+    ∷ ask (stateB ++ (call (cutSubCall 0 0) ∷ call (cutSubCall 0 1) ∷ call (tidyCall 0) ∷ mark 0 ∷ counts ∷ call (addCall 1 2) ∷ []))
+    (numbersB ++ ((0 ∷ 1 ∷ 1 ∷ 0 ∷ 1 ∷ 0 ∷ 0 ∷ []) ∷ (0 ∷ 1 ∷ 2 ∷ 0 ∷ 1 ∷ 0 ∷ 1 ∷ []) ∷ (0 ∷ []) ∷ (0 ∷ []) ∷ (2 ∷ 3 ∷ 0 ∷ []) ∷ (0 ∷ 2 ∷ 3 ∷ []) ∷ []))
+    -- a split input with three subports, of which the last is cut: its copy port moves from slot 10 to slot 9
+    ∷ ask
+    (call (addCall 1 0) ∷ call (addCall 0 3) ∷ call (linkCall 1 0) ∷ call (linkCall 2 0) ∷ call (linkCall 3 0) ∷ call (cutSubCall 0 2) ∷ moves 0 0 0 3
+    ∷ call (tidyCall 0) ∷ moves 0 0 0 3 ∷ counts ∷ listing 0 ∷ wires ∷ [])
+    ((0 ∷ 0 ∷ 0 ∷ []) ∷ (0 ∷ 1 ∷ 1 ∷ []) ∷ (0 ∷ 1 ∷ 0 ∷ 0 ∷ 0 ∷ []) ∷ (0 ∷ 2 ∷ 0 ∷ 0 ∷ 1 ∷ []) ∷ (0 ∷ 3 ∷ 0 ∷ 0 ∷ 2 ∷ []) ∷ (0 ∷ 1 ∷ 3 ∷ 0 ∷ 1 ∷ 1 ∷ 2 ∷ []) ∷ (0 ∷ 1 ∷ 10 ∷ [])
+    ∷ (0 ∷ []) ∷ (0 ∷ 1 ∷ 9 ∷ []) ∷ (2 ∷ 4 ∷ 2 ∷ []) ∷ (0 ∷ 0 ∷ 0 ∷ 1 ∷ []) ∷ (2 ∷ []) ∷ [])
+    ∷ []
+
 -- every number of every line
 all-tables : (askedAll benchLines ≡ expectedAll benchLines) × (askedAll resizeLines ≡ expectedAll resizeLines) × (askedAll fanOutLines ≡ expectedAll fanOutLines)
     × ((release : Release) → askedUnder release (inputLines release) ≡ expectedAll (inputLines release))
-unfolding asked Rattle.portgraph.specs.Tables.at Rattle.portgraph.specs.Tables.put Rattle.portgraph.specs.Tables.fill Rattle.portgraph.specs.Tables.fillRange Rattle.portgraph.specs.Tables.headAt Rattle.portgraph.specs.Tables.putHead Rattle.portgraph.specs.Tables.ownBlock Rattle.portgraph.specs.Tables.linkBoth Rattle.portgraph.specs.Tables.cutFar Rattle.portgraph.specs.Tables.cut Rattle.portgraph.specs.Tables.cutRange Rattle.portgraph.specs.Tables.linkCount Rattle.portgraph.specs.Tables.cutCount Rattle.portgraph.specs.Tables.relink Rattle.portgraph.specs.Tables.movePort Rattle.portgraph.specs.Tables.moveUp Rattle.portgraph.specs.Tables.moveDown Rattle.portgraph.specs.Tables.shift Rattle.portgraph.specs.Tables.transfer Rattle.portgraph.specs.Tables.chainBlock Rattle.portgraph.specs.Tables.toldLink Rattle.portgraph.specs.Tables.dropEvents Rattle.portgraph.specs.Tables.moveUpEvents Rattle.portgraph.specs.Tables.moveDownEvents Rattle.portgraph.specs.Tables.shiftEvents Rattle.portgraph.specs.Entries.portEntry Rattle.portgraph.specs.Entries.setPrev Rattle.portgraph.specs.Calls.newGraph Rattle.portgraph.specs.Calls.findSlotUnder Rattle.portgraph.specs.Calls.findBlockUnder Rattle.portgraph.specs.Calls.restOf Rattle.portgraph.specs.Calls.grown Rattle.portgraph.specs.Calls.slotAfter Rattle.portgraph.specs.Calls.placeNode Rattle.portgraph.specs.Calls.addNodeUnder Rattle.portgraph.specs.Calls.freeNode Rattle.portgraph.specs.Calls.removeNode Rattle.portgraph.specs.Calls.linkPorts Rattle.portgraph.specs.Calls.unlinkPort Rattle.portgraph.specs.Resize.doubled Rattle.portgraph.specs.Resize.roundUp Rattle.portgraph.specs.Resize.sameCounts Rattle.portgraph.specs.Resize.fitsInside Rattle.portgraph.specs.Resize.planOfUnder Rattle.portgraph.specs.Resize.dropIncoming Rattle.portgraph.specs.Resize.dropLinks Rattle.portgraph.specs.Resize.dropCount Rattle.portgraph.specs.Resize.dropTold Rattle.portgraph.specs.Resize.insideLinks Rattle.portgraph.specs.Resize.resizeInside Rattle.portgraph.specs.Resize.insideTold Rattle.portgraph.specs.Resize.anewLinks Rattle.portgraph.specs.Resize.resizeAnew Rattle.portgraph.specs.Resize.anewTold Rattle.portgraph.specs.Resize.setNumPortsUnder Rattle.portgraph.specs.Resize.movesAfterUnder Rattle.portgraph.specs.Meaning.upd Rattle.portgraph.specs.Meaning.samePlace Rattle.portgraph.specs.Meaning.dropJoin Rattle.portgraph.specs.Meaning.linkJoin Rattle.portgraph.specs.Meaning.handOver Rattle.multiportgraph.specs.Reading.farPort Rattle.multiportgraph.specs.Reading.hasLink Rattle.multiportgraph.specs.Reading.ownerOf Rattle.multiportgraph.specs.Reading.portOf Rattle.multiportgraph.specs.Reading.positionOf Rattle.multiportgraph.specs.Reading.isHidden Rattle.multiportgraph.specs.Reading.isSplit Rattle.multiportgraph.specs.Reading.seen Rattle.multiportgraph.specs.Reading.copyNode Rattle.multiportgraph.specs.Reading.subports Rattle.multiportgraph.specs.Reading.subportAt Rattle.multiportgraph.specs.Reading.endAt Rattle.multiportgraph.specs.Reading.asRead Rattle.multiportgraph.specs.Reading.copySide Rattle.multiportgraph.specs.Reading.mainPort Rattle.multiportgraph.specs.Reading.subportOf Rattle.multiportgraph.specs.Graph.emptyGraph Rattle.multiportgraph.specs.Calls.addBlockUnder Rattle.multiportgraph.specs.HiddenNodes.removeCopy Rattle.multiportgraph.specs.HiddenNodes.unsplit Rattle.multiportgraph.specs.HiddenNodes.unsplitRange Rattle.multiportgraph.specs.Calls.dropBlock Rattle.multiportgraph.specs.Calls.removeBlock Rattle.multiportgraph.specs.HiddenNodes.layRange Rattle.multiportgraph.specs.HiddenNodes.layMarks Rattle.multiportgraph.specs.HiddenNodes.recounted Rattle.multiportgraph.specs.HiddenNodes.copiesIn Rattle.multiportgraph.specs.HiddenNodes.copiesDropped Rattle.multiportgraph.specs.HiddenNodes.removeLone Rattle.multiportgraph.specs.HiddenNodes.removeAll Rattle.multiportgraph.specs.Calls.setCountsUnder Rattle.multiportgraph.specs.Calls.movesToldUnder Rattle.multiportgraph.specs.HiddenNodes.splitGraph Rattle.multiportgraph.specs.HiddenNodes.splitPort Rattle.multiportgraph.specs.HiddenNodes.splitUnder Rattle.multiportgraph.specs.HiddenNodes.lowestFree Rattle.multiportgraph.specs.HiddenNodes.growUnder Rattle.multiportgraph.specs.HiddenNodes.reuseUnder Rattle.multiportgraph.specs.HiddenNodes.prepareUnder Rattle.multiportgraph.specs.Calls.linkPairIf Rattle.multiportgraph.specs.Calls.linkCleanIf Rattle.multiportgraph.specs.Calls.linkSubIf Rattle.multiportgraph.specs.Refusals.wiredInput Rattle.multiportgraph.specs.Refusals.inputTaken Rattle.multiportgraph.specs.Calls.cutPort Rattle.multiportgraph.specs.Calls.cutSub Rattle.multiportgraph.specs.Calls.subportLink Rattle.multiportgraph.specs.Calls.visibleNodes Rattle.multiportgraph.specs.Calls.visiblePorts Rattle.multiportgraph.specs.Calls.visibleLinks Rattle.portgraph.specs.Lists.range mathlib.Core.List.flatMap Rattle.portgraph.specs.Lists.filter Rattle.multiportgraph.specs.Wires.isBlock Rattle.multiportgraph.specs.Wires.blocks Rattle.multiportgraph.specs.Wires.portsOfSide Rattle.multiportgraph.specs.Wires.subportsOfPort Rattle.multiportgraph.specs.Wires.subportsOfSide Rattle.multiportgraph.specs.Wires.wireOf Rattle.multiportgraph.specs.Wires.sideLinks Rattle.multiportgraph.specs.Wires.allWires Rattle.multiportgraph.specs.Wires.isBeyond Rattle.multiportgraph.specs.Wires.wiresBeyond Rattle.multiportgraph.specs.Wires.stepWires Rattle.multiportgraph.specs.Wires.walkWires Rattle.multiportgraph.specs.Reading.placeOf Rattle.multiportgraph.specs.Wires.walked Rattle.multiportgraph.specs.Wires.wiresWalked Rattle.multiportgraph.specs.Lookups.portFanOut Rattle.multiportgraph.specs.Lookups.nodeFanOut Rattle.multiportgraph.specs.Walks.portLinks Rattle.multiportgraph.specs.Walks.fanOut Rattle.multiportgraph.specs.Walks.sumOf Rattle.multiportgraph.specs.Walks.blockFanOut Rattle.multiportgraph.specs.Walks.startAtNode
-all-tables = (refl, refl, refl, inputs)
+    × (askedAll tidyLines ≡ expectedAll tidyLines)
+unfolding asked Rattle.portgraph.specs.Tables.at Rattle.portgraph.specs.Tables.put Rattle.portgraph.specs.Tables.fill Rattle.portgraph.specs.Tables.fillRange Rattle.portgraph.specs.Tables.headAt Rattle.portgraph.specs.Tables.putHead Rattle.portgraph.specs.Tables.ownBlock Rattle.portgraph.specs.Tables.linkBoth Rattle.portgraph.specs.Tables.cutFar Rattle.portgraph.specs.Tables.cut Rattle.portgraph.specs.Tables.cutRange Rattle.portgraph.specs.Tables.linkCount Rattle.portgraph.specs.Tables.cutCount Rattle.portgraph.specs.Tables.relink Rattle.portgraph.specs.Tables.movePort Rattle.portgraph.specs.Tables.moveUp Rattle.portgraph.specs.Tables.moveDown Rattle.portgraph.specs.Tables.shift Rattle.portgraph.specs.Tables.transfer Rattle.portgraph.specs.Tables.chainBlock Rattle.portgraph.specs.Tables.toldLink Rattle.portgraph.specs.Tables.dropEvents Rattle.portgraph.specs.Tables.moveUpEvents Rattle.portgraph.specs.Tables.moveDownEvents Rattle.portgraph.specs.Tables.shiftEvents Rattle.portgraph.specs.Entries.portEntry Rattle.portgraph.specs.Entries.setPrev Rattle.portgraph.specs.Calls.newGraph Rattle.portgraph.specs.Calls.findSlotUnder Rattle.portgraph.specs.Calls.findBlockUnder Rattle.portgraph.specs.Calls.restOf Rattle.portgraph.specs.Calls.grown Rattle.portgraph.specs.Calls.slotAfter Rattle.portgraph.specs.Calls.placeNode Rattle.portgraph.specs.Calls.addNodeUnder Rattle.portgraph.specs.Calls.freeNode Rattle.portgraph.specs.Calls.removeNode Rattle.portgraph.specs.Calls.linkPorts Rattle.portgraph.specs.Calls.unlinkPort Rattle.portgraph.specs.Resize.doubled Rattle.portgraph.specs.Resize.roundUp Rattle.portgraph.specs.Resize.sameCounts Rattle.portgraph.specs.Resize.fitsInside Rattle.portgraph.specs.Resize.planOfUnder Rattle.portgraph.specs.Resize.dropIncoming Rattle.portgraph.specs.Resize.dropLinks Rattle.portgraph.specs.Resize.dropCount Rattle.portgraph.specs.Resize.dropTold Rattle.portgraph.specs.Resize.insideLinks Rattle.portgraph.specs.Resize.resizeInside Rattle.portgraph.specs.Resize.insideTold Rattle.portgraph.specs.Resize.anewLinks Rattle.portgraph.specs.Resize.resizeAnew Rattle.portgraph.specs.Resize.anewTold Rattle.portgraph.specs.Resize.setNumPortsUnder Rattle.portgraph.specs.Resize.movesAfterUnder Rattle.portgraph.specs.Meaning.upd Rattle.portgraph.specs.Meaning.samePlace Rattle.portgraph.specs.Meaning.dropJoin Rattle.portgraph.specs.Meaning.linkJoin Rattle.portgraph.specs.Meaning.handOver Rattle.multiportgraph.specs.Reading.farPort Rattle.multiportgraph.specs.Reading.hasLink Rattle.multiportgraph.specs.Reading.ownerOf Rattle.multiportgraph.specs.Reading.portOf Rattle.multiportgraph.specs.Reading.positionOf Rattle.multiportgraph.specs.Reading.isHidden Rattle.multiportgraph.specs.Reading.isSplit Rattle.multiportgraph.specs.Reading.seen Rattle.multiportgraph.specs.Reading.copyNode Rattle.multiportgraph.specs.Reading.subports Rattle.multiportgraph.specs.Reading.subportAt Rattle.multiportgraph.specs.Reading.endAt Rattle.multiportgraph.specs.Reading.asRead Rattle.multiportgraph.specs.Reading.copySide Rattle.multiportgraph.specs.Reading.mainPort Rattle.multiportgraph.specs.Reading.subportOf Rattle.multiportgraph.specs.Graph.emptyGraph Rattle.multiportgraph.specs.Calls.addBlockUnder Rattle.multiportgraph.specs.HiddenNodes.removeCopy Rattle.multiportgraph.specs.HiddenNodes.unsplit Rattle.multiportgraph.specs.HiddenNodes.unsplitRange Rattle.multiportgraph.specs.Calls.dropBlock Rattle.multiportgraph.specs.Calls.removeBlock Rattle.multiportgraph.specs.HiddenNodes.layRange Rattle.multiportgraph.specs.HiddenNodes.layMarks Rattle.multiportgraph.specs.HiddenNodes.recounted Rattle.multiportgraph.specs.HiddenNodes.copiesIn Rattle.multiportgraph.specs.HiddenNodes.copiesDropped Rattle.multiportgraph.specs.HiddenNodes.removeLone Rattle.multiportgraph.specs.HiddenNodes.removeAll Rattle.multiportgraph.specs.Calls.setCountsUnder Rattle.multiportgraph.specs.Calls.movesToldUnder Rattle.multiportgraph.specs.HiddenNodes.splitGraph Rattle.multiportgraph.specs.HiddenNodes.splitPort Rattle.multiportgraph.specs.HiddenNodes.splitUnder Rattle.multiportgraph.specs.HiddenNodes.lowestFree Rattle.multiportgraph.specs.HiddenNodes.growUnder Rattle.multiportgraph.specs.HiddenNodes.reuseUnder Rattle.multiportgraph.specs.HiddenNodes.prepareUnder Rattle.multiportgraph.specs.Calls.linkPairIf Rattle.multiportgraph.specs.Calls.linkCleanIf Rattle.multiportgraph.specs.Calls.linkSubIf Rattle.multiportgraph.specs.Refusals.wiredInput Rattle.multiportgraph.specs.Refusals.inputTaken Rattle.multiportgraph.specs.Calls.cutPort Rattle.multiportgraph.specs.Calls.cutSub Rattle.multiportgraph.specs.Tidy.linkedUpTo Rattle.multiportgraph.specs.Tidy.subportsLeft Rattle.multiportgraph.specs.Tidy.dropSubports Rattle.multiportgraph.specs.Tidy.linkDirectly Rattle.multiportgraph.specs.Tidy.tidied Rattle.multiportgraph.specs.Calls.tidyPort Rattle.multiportgraph.specs.Calls.subportLink Rattle.multiportgraph.specs.Calls.visibleNodes Rattle.multiportgraph.specs.Calls.visiblePorts Rattle.multiportgraph.specs.Calls.visibleLinks Rattle.portgraph.specs.Lists.range mathlib.Core.List.flatMap Rattle.portgraph.specs.Lists.filter Rattle.multiportgraph.specs.Wires.isBlock Rattle.multiportgraph.specs.Wires.blocks Rattle.multiportgraph.specs.Wires.portsOfSide Rattle.multiportgraph.specs.Wires.subportsOfPort Rattle.multiportgraph.specs.Wires.subportsOfSide Rattle.multiportgraph.specs.Wires.wireOf Rattle.multiportgraph.specs.Wires.sideLinks Rattle.multiportgraph.specs.Wires.allWires Rattle.multiportgraph.specs.Wires.isBeyond Rattle.multiportgraph.specs.Wires.wiresBeyond Rattle.multiportgraph.specs.Wires.stepWires Rattle.multiportgraph.specs.Wires.walkWires Rattle.multiportgraph.specs.Reading.placeOf Rattle.multiportgraph.specs.Wires.walked Rattle.multiportgraph.specs.Wires.wiresWalked Rattle.multiportgraph.specs.Lookups.portFanOut Rattle.multiportgraph.specs.Lookups.nodeFanOut Rattle.multiportgraph.specs.Walks.portLinks Rattle.multiportgraph.specs.Walks.fanOut Rattle.multiportgraph.specs.Walks.sumOf Rattle.multiportgraph.specs.Walks.blockFanOut Rattle.multiportgraph.specs.Walks.startAtNode
+all-tables = (refl, refl, refl, inputs, refl)
   where
     inputs : (release : Release) → askedUnder release (inputLines release) ≡ expectedAll (inputLines release)
     inputs One = refl
@@ -226,3 +253,6 @@ fan-out-table = all-tables .2
 
 pub input-table : (release : Release) → askedUnder release (inputLines release) ≡ expectedAll (inputLines release)
 input-table = all-tables .3
+
+pub tidy-table : askedAll tidyLines ≡ expectedAll tidyLines
+tidy-table = all-tables .4

@@ -324,7 +324,7 @@ module _ {m : MultiPortGraph} {M : Model} (f : Fine m M) (x : model.InnerPlace) 
   abbrev bareModel : Model
   bareModel = removeModel M (h .copy) (f .copy (h .copy) (h .isCopy) .meta)
 
-  went : CopyGone m M x bare bareModel
+  pub went : CopyGone m M x bare bareModel
   went = copy-goes f x h
 
   module _ (y : model.InnerPlace) (linked : M .join first ≡ to y) where

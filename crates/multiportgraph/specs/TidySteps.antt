@@ -3,12 +3,12 @@ use mathlib.Core.Path.{_≡_, refl, sym, _∙_, ap, subst, transport}
 use mathlib.Core.Bool.{Bool, true, false, cond}
 use mathlib.Core.List.{List}
 use mathlib.Core.Logic.{_⊎_, inl, inr, ⊎-elim}
-use Prim.Native.Nat.{ℕ, zero, suc, _+_, _-_, _≤_, _<_}
+use Prim.Native.Nat.{ℕ, zero, suc, _+_, _-_, _*_, _≤_, _<_}
 use native.Mathlib.Omega.{arith}
 use lib.Dec.{eqb, ltb}
 use lib.ListN.{set}
 use borrow.Author.Tests.{eq-eqb, ne-eqb, lt-ltb, le-ltb}
-use Rattle.portgraph.specs.Limits.{portSlots}
+use Rattle.portgraph.specs.Limits.{nodeSlots, nodePorts, portSlots}
 use Rattle.portgraph.specs.Tables.{at, linkBoth}
 use Rattle.portgraph.specs.Lookups.{numPorts, port#}
 use Rattle.portgraph.specs.Calls.{linkPorts, withLinks}
@@ -17,6 +17,7 @@ use Rattle.portgraph.specs.Model as model
 use Rattle.portgraph.specs.Model.{Model, Far, nowhere, to, Slots, Valid, slotOf, countOf, firstOf, sideStart}
 use Rattle.portgraph.specs.GoodSlots.{slot-in-range}
 use Rattle.portgraph.specs.PlaceLaws.{link-none, link-to}
+use Rattle.portgraph.specs.WfFacts.{link-count-fits}
 use Rattle.portgraph.specs.declared.direction.Direction.{Direction}
 use Rattle.portgraph.specs.declared.direction.Direction.the-variants.{Incoming, Outgoing}
 use Rattle.portgraph.specs.declared.portgraph.PortGraph.{PortGraph}
@@ -29,9 +30,9 @@ use Rattle.multiportgraph.specs.Forms.{putFlag, linkedFrom}
 use Rattle.multiportgraph.specs.CopySteps.{two-puts}
 use Rattle.multiportgraph.specs.Reads.{farIn, ownerIn, subportsIn, firstIn}
 use Rattle.multiportgraph.specs.ReadLaws.{owner-read, subports-read, first-read, far-is}
-use Rattle.multiportgraph.specs.HiddenNodes.{enough, recounted, unsplit}
+use Rattle.multiportgraph.specs.HiddenNodes.{enough, recounted, removeCopy, unsplit}
 use Rattle.multiportgraph.specs.Tidy.{linkedUpTo, subportsLeft, leftIn, leftOut, dropSubports, linkDirectly, tidied}
-use Rattle.multiportgraph.specs.TidyLaws.{LastLinked, last-linked, empty-above, drop-marks, direct-links, bare-is, unchanged}
+use Rattle.multiportgraph.specs.TidyLaws.{LastLinked, last-linked, empty-above, drop-marks, went, direct-links, bare-is, unchanged}
 use Rattle.multiportgraph.specs.Calls.{tidyPort}
 use Rattle.multiportgraph.specs.Cases.{tidySeen}
 use Rattle.multiportgraph.specs.CaseLaws.{tidy-cases}
@@ -161,6 +162,14 @@ module _ {m : MultiPortGraph} {p : ℕ} {d : Direction} (b : SplitPort m p d) wh
   bare# : unsplit m p ≡ unsplit m (slotOf (M .node) x)
   bare# = ap (unsplit m) (sym (block .slot))
 
+  -- without the hidden node its links are still counted
+  pub bare-links : {r : MultiPortGraph} → r ≡ unsplit m p → r .graph .«link_count» ≤ nodeSlots * nodePorts
+  bare-links {r} e =
+      let w = went f x (block .isSeen) h in
+      let is : r ≡ removeCopy m (slotOf (M .node) x) (h .copy) = e ∙ (bare# ∙ bare-is f x (block .isSeen) h split-here) in
+      subst (λ (u : MultiPortGraph). u .graph .«link_count» ≤ nodeSlots * nodePorts) (sym is)
+      (link-count-fits _ (record { model = _; good = w .fine .good; holds = w .fine .holds }))
+
   pub direct-none : {first held : ℕ} {r : MultiPortGraph} → first ≡ firstIn (m .graph .«port_link») (m .graph .«port_meta») p d → held ≡ at (m .graph .«port_link») first → r ≡ unsplit m p →
       held ≡ 0 → r ≡ linkDirectly m p d
   unfolding linkDirectly
@@ -238,7 +247,7 @@ module _ {m : MultiPortGraph} {p : ℕ} {d : Direction} {count left : ℕ} (b : 
       t₂ ≡ putFlag t₁ portSlots w₄ true →
       gone ≡ count - left →
       subs ≡ m .«subport_count» - gone →
-      _≡_ {A = MultiPortGraph} (multi (r .graph) t₂ (m .«copy_node») (m .«copy_node_count») subs) (dropSubports m (copyNode m p) d left)
+      _≡_ {A = MultiPortGraph} (multi (r .graph) t₂ (m .«copy_node») (m .«copy_node_count») subs (m .release)) (dropSubports m (copyNode m p) d left)
   unfolding dropSubports recounted subports
   drop-step {copy} {node} {i} {o} {len} {far} {w₁} {w₂} {w₃} {w₄} {gone} {subs} {r} {t₁} {t₂} k₁ k₂ k₃ k₄ k₅ k₆ k₇ k₈ k₉ l₁ l₂ l₃ l₄ l₅ l₆ =
       let s = b .port in
@@ -250,7 +259,7 @@ module _ {m : MultiPortGraph} {p : ℕ} {d : Direction} {count left : ℕ} (b : 
       let marks-is : t₂ ≡ set (set (m .multiport) (farIn (m .graph .«port_link») p) false) (farIn (r .graph .«port_link») p) true =
       rw (l₄, l₂, l₃, l₁, far-is′, copy-is) (two-puts (m .multiport) portSlots _ _ false true (g .marksLong)) in
       let subs-is : subs ≡ m .«subport_count» - (numPorts (m .graph) (copyNode m p) d - left) = rw (l₆, l₅, b .counts) refl in
-      (λ j. multi (set-is j .graph) (marks-told set-is marks-is j) (m .«copy_node») (m .«copy_node_count») (subs-is j))
+      (λ j. multi (set-is j .graph) (marks-told set-is marks-is j) (m .«copy_node») (m .«copy_node_count») (subs-is j) (m .release))
     where
       marks-told : r ≡ setNumPorts (m .graph) (copyNode m p) (leftIn d left) (leftOut d left) enough →
           t₂ ≡ set (set (m .multiport) (farIn (m .graph .«port_link») p) false) (farIn (r .graph .«port_link») p) true →
@@ -277,7 +286,8 @@ module _ (m : MultiPortGraph) (w : MultiWf m) (p : ℕ) where
 
   module _ (n : ℕ) (d : Direction) (e : seen m p ≡ visible n d) where
     pub tidy-whole : isSplit m p ≡ false → _≡_ {A = PortTidied} (record { graph = m; answer = tidying.Tidied }) (tidyPort m p)
-    tidy-whole s = rw s (tidy-seen (visible n d) e)
+    tidy-whole s =
+        ap (λ (u : MultiPortGraph). record { graph = u; answer = tidying.Tidied }) (sym (ap (λ (b : Bool). cond b (tidied m p d) m) s)) ∙ tidy-seen (visible n d) e
 
     module _ (s : isSplit m p ≡ true) {left : ℕ} (l : left ≡ subportsLeft m p d) where
       tidy-by : {r : MultiPortGraph} → r ≡ tidied m p d → _≡_ {A = PortTidied} (record { graph = r; answer = tidying.Tidied }) (tidyPort m p)

@@ -38,13 +38,14 @@ use Rattle.portgraph.specs.declared.slots.NodeRemoved as lower-removed
 use Rattle.portgraph.specs.declared.slots.AddAnswer.the-variants as lower-add
 use Rattle.portgraph.specs.declared.resize.SetAnswer as lower-set-answer
 use Rattle.portgraph.specs.declared.resize.SetAnswer.the-variants as lower-set
-use Rattle.multiportgraph.specs.Reading.{isHidden, isSplit, portOf, copyNode, copySide, Port, dead, hidden, visible, seen, End, inner, lacking, endAt, asRead}
+use Rattle.multiportgraph.specs.Reading.{isHidden, isSplit, hasLink, farPort, portOf, copyNode, copySide, subportAt, Port, dead, hidden, visible, seen, End, inner, lacking, endAt, asRead}
 use Rattle.multiportgraph.specs.Graph.{withGraph}
 use Rattle.multiportgraph.specs.Inner.{Fine}
 use Rattle.multiportgraph.specs.Frame.{true-not-false}
 use Rattle.multiportgraph.specs.RecountLaws.{SomeRecount, set-recounts}
 use Rattle.multiportgraph.specs.HiddenNodes.{copiesDropped, recounted, removeAll, removeCopy, removeLone, unsplit, unsplitRange}
 use Rattle.multiportgraph.specs.Refusals.{goodOffset}
+use Rattle.multiportgraph.specs.Tidy.{linkDirectly}
 use Rattle.multiportgraph.specs.Calls.{addBlock, removeBlock, setCounts, dropBlock, linkSubIf, cutPort, cutSub}
 use Rattle.multiportgraph.specs.Cases.{cutEnd, cutRefused, cutSeen, cutSubSeen, linkFirstEnd, linkInner, linkRefused, linkSecondEnd, linkSubSeen, removeMeta, resized, setMeta, setRefused}
 use Rattle.multiportgraph.specs.CaseLaws.{add-cases, remove-cases, set-cases, link-sub-cases, cut-cases, cut-sub-cases}
@@ -303,6 +304,21 @@ module _ {m : MultiPortGraph} {M : Model} (f : Fine m M) (on : OnOutputs m) wher
       good : (b : Bool) → OnOutputs (cond b (cutSubSeen m p o (seen m p)) (cutRefused m BadOffset) .graph)
       good true = go (seen m p)
       good false = on
+
+  -- a tidy that takes a hidden node away
+  pub direct-on : (p : ℕ) (d : Direction) → OnOutputs (linkDirectly m p d)
+  unfolding linkDirectly
+  direct-on p d = go (hasLink (m .graph) (subportAt m p d 0))
+    where
+      far : ℕ
+      far = farPort (m .graph) (subportAt m p d 0)
+
+      bare : OnOutputs (unsplit m p)
+      bare = unsplit-hung m p hung .on
+
+      go : (b : Bool) → OnOutputs (cond b (withGraph (unsplit m p) (linkPorts (unsplit m p .graph) p far .graph)) (unsplit m p))
+      go true = links-on (unsplit m p) (linkPorts (unsplit m p .graph) p far .graph) (link-nodes (unsplit m p .graph) p far) bare
+      go false = bare
 
   -- linking subports prepares nothing
   pub sub-on : (p o q r : ℕ) → OnOutputs (linkSubIf false m p o q r .graph)

@@ -96,37 +96,37 @@ pub clean-link-refused-leaves-all : (release : Release) (calls : List Call) (a b
 clean-link-refused-leaves-all release calls = clean.clean-refused-leaves (run release calls) (every.run-kept release calls .fine)
 
 -- A tidy is no change: the book stays, no wire changes its place at either end, and no block's port changes its number.
-pub tidy-keeps-places : (calls : List Call) (p : ℕ) → PlacesKept (run calls) (next (run calls) (tidyCall p))
+pub tidy-keeps-places : (release : Release) (calls : List Call) (p : ℕ) → PlacesKept (run release calls) (next (run release calls) (tidyCall p))
 tidy-keeps-places = tidy.tidy-keeps-places
 
 -- A port that is tidied is left with what its wires need: no hidden node where none ends there at an offset above 0, else its subports up to the
 -- highest wired one.
-pub tidy-leaves-what-is-wired : (calls : List Call) (p n : ℕ) (d : Direction) (i : ℕ) → spotOf (run calls .book .blocks) p ≡ spot n d i →
-    LeftByWires (next (run calls) (tidyCall p)) p n d i
+pub tidy-leaves-what-is-wired : (release : Release) (calls : List Call) (p n : ℕ) (d : Direction) (i : ℕ) → spotOf (run release calls .book .blocks) p ≡ spot n d i →
+    LeftByWires (next (run release calls) (tidyCall p)) p n d i
 tidy-leaves-what-is-wired = tidy.tidy-leaves-what-is-wired
 
 -- A second tidy of the same port finds nothing to do: answer, graph and book are those of the first.
-pub tidy-twice-is-once : (calls : List Call) (p : ℕ) →
-    (step (step (run calls .graph) (tidyCall p) .graph) (tidyCall p) ≡ step (run calls .graph) (tidyCall p))
-    × (next (next (run calls) (tidyCall p)) (tidyCall p) ≡ next (run calls) (tidyCall p))
+pub tidy-twice-is-once : (release : Release) (calls : List Call) (p : ℕ) →
+    (step (step (run release calls .graph) (tidyCall p) .graph) (tidyCall p) ≡ step (run release calls .graph) (tidyCall p))
+    × (next (next (run release calls) (tidyCall p)) (tidyCall p) ≡ next (run release calls) (tidyCall p))
 tidy-twice-is-once = tidy.tidy-twice-is-once
 
 -- A port that stays split keeps its hidden node in its block, whatever the block's size, and nothing is taken or given back.
-pub tidy-drops-within-the-block : (calls : List Call) (p n : ℕ) (d : Direction) → seen (run calls .graph) p ≡ visible n d → isSplit (run calls .graph) p ≡ true →
-    isSplit (next (run calls) (tidyCall p) .graph) p ≡ true →
-    SameBlock (run calls .graph .graph) (next (run calls) (tidyCall p) .graph .graph) (copyNode (run calls .graph) p)
-    × ((M N : Model) → Fine (run calls .graph) M → Fine (next (run calls) (tidyCall p) .graph) N → roomOf N ≡ roomOf M)
+pub tidy-drops-within-the-block : (release : Release) (calls : List Call) (p n : ℕ) (d : Direction) → seen (run release calls .graph) p ≡ visible n d → isSplit (run release calls .graph) p ≡ true →
+    isSplit (next (run release calls) (tidyCall p) .graph) p ≡ true →
+    SameBlock (run release calls .graph .graph) (next (run release calls) (tidyCall p) .graph .graph) (copyNode (run release calls .graph) p)
+    × ((M N : Model) → Fine (run release calls .graph) M → Fine (next (run release calls) (tidyCall p) .graph) N → roomOf N ≡ roomOf M)
 tidy-drops-within-the-block = tidy.tidy-drops-within-the-block
 
 -- A port that was split and is not any more: the slot and the block of its hidden node are the last that were freed, and are found again by
 -- adds and links of that size.
-pub tidied-slots-are-found : (calls : List Call) (p : ℕ) (k : NodeMeta) → isSplit (run calls .graph) p ≡ true → isSplit (next (run calls) (tidyCall p) .graph) p ≡ false →
-    metaAt (run calls .graph .graph) (copyNode (run calls .graph) p) ≡ maybe-meta.Some k →
-    FoundAgain (run calls .graph) (next (run calls) (tidyCall p) .graph) (copyNode (run calls .graph) p) k
+pub tidied-slots-are-found : (release : Release) (calls : List Call) (p : ℕ) (k : NodeMeta) → isSplit (run release calls .graph) p ≡ true → isSplit (next (run release calls) (tidyCall p) .graph) p ≡ false →
+    metaAt (run release calls .graph .graph) (copyNode (run release calls .graph) p) ≡ maybe-meta.Some k →
+    FoundAgain (run release calls .graph) (next (run release calls) (tidyCall p) .graph) (copyNode (run release calls .graph) p) k
 tidied-slots-are-found = tidy.tidied-slots-are-found
 
 -- A tidy is never refused for room.
-pub tidy-needs-no-room : (calls : List Call) (p : ℕ) → RefusedBy (tidyCall p) (step (run calls .graph) (tidyCall p) .answer) NoRoom → ⊥
+pub tidy-needs-no-room : (release : Release) (calls : List Call) (p : ℕ) → RefusedBy (tidyCall p) (step (run release calls .graph) (tidyCall p) .answer) NoRoom → ⊥
 tidy-needs-no-room = tidy.tidy-needs-no-room
 
 -- Answers and listings, which are all that a tablet sees.

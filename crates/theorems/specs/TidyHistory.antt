@@ -40,6 +40,7 @@ use Rattle.multiportgraph.specs.Tidy.{subportsLeft, tidied}
 use Rattle.multiportgraph.specs.TidyLaws.{TidyDone, TidySays, TidyLeft, SameBlock, tidy-port-law, tidy-left, left-linked, tidy-again, tidied-split}
 use Rattle.multiportgraph.specs.SplitLaws.{HasEnd, end-of-wire, wire-of-end}
 use Rattle.multiportgraph.specs.declared.multiportgraph.MultiPortGraph.{MultiPortGraph}
+use Rattle.multiportgraph.specs.declared.multiportgraph.Release.{Release}
 use Rattle.multiportgraph.specs.declared.multiportgraph.Refusal.{Refusal}
 use Rattle.multiportgraph.specs.declared.multiportgraph.Refusal.the-variants.{NoRoom}
 use Rattle.multiportgraph.specs.declared.multiportgraph.TidyAnswer.{TidyAnswer}
@@ -83,8 +84,8 @@ tidy-keeps s M r p = go (tidyPort (s .graph) p .answer) (tidy-port-law (r .fine)
               count-of (d .fine) n e ∙ (ap (λ (v : Slots). countOf v e) (d .blocks .0 n (k .0) (k .1) .1 ∙ sym (k .1 .1)) ∙ sym (count-of (r .fine) n e));
         }
 
-pub tidy-keeps-places : (calls : List Call) (p : ℕ) → PlacesKept (run calls) (next (run calls) (tidyCall p))
-tidy-keeps-places calls p = let r = rel-run calls in tidy-keeps (run calls) (r .0) (r .1) p
+pub tidy-keeps-places : (release : Release) (calls : List Call) (p : ℕ) → PlacesKept (run release calls) (next (run release calls) (tidyCall p))
+tidy-keeps-places release calls p = let r = rel-run release calls in tidy-keeps (run release calls) (r .0) (r .1) p
 
 -- What is left.
 
@@ -119,28 +120,28 @@ module _ {s : State} {M : Model} (r : Rel (s .graph) M (s .book)) (x : model.Inn
             (k .0, (w .0, r .wires .walks (w .0) (w .1), has-end-touches x o (w .0) (subst (HasEnd (w .0)) (h .outers o) (w .2))));
       }
 
-pub tidy-leaves-what-is-wired : (calls : List Call) (p n : ℕ) (d : Direction) (i : ℕ) → spotOf (run calls .book .blocks) p ≡ spot n d i →
-    LeftByWires (next (run calls) (tidyCall p)) p n d i
-tidy-leaves-what-is-wired calls p n d i e =
-    let r = rel-run calls in
+pub tidy-leaves-what-is-wired : (release : Release) (calls : List Call) (p n : ℕ) (d : Direction) (i : ℕ) → spotOf (run release calls .book .blocks) p ≡ spot n d i →
+    LeftByWires (next (run release calls) (tidyCall p)) p n d i
+tidy-leaves-what-is-wired release calls p n d i e =
+    let r = rel-run release calls in
     let b = spot-back (r .1) p n d i e in
     let t = rel-step (r .1) (tidyCall p) in
     let c = spot-back (t .1) p n d i e in
-    let seen-here : seen (run calls .graph) p ≡ visible n d = ap (seen (run calls .graph)) (sym (b .1)) ∙ seen-block (r .1 .fine) (inner# n d i) (b .0) in
+    let seen-here : seen (run release calls .graph) p ≡ visible n d = ap (seen (run release calls .graph)) (sym (b .1)) ∙ seen-block (r .1 .fine) (inner# n d i) (b .0) in
     let l = tidy-left (r .1 .fine) p n d seen-here in
-    subst (λ (q : ℕ). LeftByWires (next (run calls) (tidyCall p)) q n d i) (c .1)
-    (left-by-wires {s = next (run calls) (tidyCall p)} (t .1) (inner# n d i) (c .0) (subst (λ (q : ℕ). TidyLeft (tidyPort (run calls .graph) p .graph) q d) (sym (c .1)) l))
+    subst (λ (q : ℕ). LeftByWires (next (run release calls) (tidyCall p)) q n d i) (c .1)
+    (left-by-wires {s = next (run release calls) (tidyCall p)} (t .1) (inner# n d i) (c .0) (subst (λ (q : ℕ). TidyLeft (tidyPort (run release calls .graph) p .graph) q d) (sym (c .1)) l))
 
 abbrev asStep : (p : ℕ) → PortTidied → Stepped (tidyCall p)
 asStep p v = record { graph = v .graph; answer = v .answer }
 
-pub tidy-twice-is-once : (calls : List Call) (p : ℕ) →
-    (step (step (run calls .graph) (tidyCall p) .graph) (tidyCall p) ≡ step (run calls .graph) (tidyCall p))
-    × (next (next (run calls) (tidyCall p)) (tidyCall p) ≡ next (run calls) (tidyCall p))
-tidy-twice-is-once calls p =
-    let e = tidy-again (rel-run calls .1 .fine) p in (
+pub tidy-twice-is-once : (release : Release) (calls : List Call) (p : ℕ) →
+    (step (step (run release calls .graph) (tidyCall p) .graph) (tidyCall p) ≡ step (run release calls .graph) (tidyCall p))
+    × (next (next (run release calls) (tidyCall p)) (tidyCall p) ≡ next (run release calls) (tidyCall p))
+tidy-twice-is-once release calls p =
+    let e = tidy-again (rel-run release calls .1 .fine) p in (
       ap (asStep p) e,
-      ap (λ (v : PortTidied). record { graph = v .graph; book = run calls .book }) e,
+      ap (λ (v : PortTidied). record { graph = v .graph; book = run release calls .book }) e,
     )
 
 -- a tidy is refused with 7 and 8 alone
@@ -148,8 +149,8 @@ not-room : {m : MultiPortGraph} {M : Model} (p : ℕ) (r : Refusal) → CutRefus
 not-room p r (cut-dead d) q = zero-is-not-one (cc)
 not-room p r (cut-hidden h) q = zero-is-not-one (cc)
 
-pub tidy-needs-no-room : (calls : List Call) (p : ℕ) → RefusedBy (tidyCall p) (step (run calls .graph) (tidyCall p) .answer) NoRoom → ⊥
-tidy-needs-no-room calls p e = not-room p NoRoom (tidy-refused (rel-run calls .1 .fine) p NoRoom e) refl
+pub tidy-needs-no-room : (release : Release) (calls : List Call) (p : ℕ) → RefusedBy (tidyCall p) (step (run release calls .graph) (tidyCall p) .answer) NoRoom → ⊥
+tidy-needs-no-room release calls p e = not-room p NoRoom (tidy-refused (rel-run release calls .1 .fine) p NoRoom e) refl
 
 -- What is given back is found again.
 
@@ -340,14 +341,14 @@ module _ {m : MultiPortGraph} {M : Model} (f : Fine m M) (p : ℕ) (k : NodeMeta
             );
       }
 
-pub tidied-slots-are-found : (calls : List Call) (p : ℕ) (k : NodeMeta) → isSplit (run calls .graph) p ≡ true → isSplit (next (run calls) (tidyCall p) .graph) p ≡ false →
-    metaAt (run calls .graph .graph) (copyNode (run calls .graph) p) ≡ maybe-meta.Some k →
-    FoundAgain (run calls .graph) (next (run calls) (tidyCall p) .graph) (copyNode (run calls .graph) p) k
-tidied-slots-are-found calls p k was goes meta = found-again (rel-run calls .1 .fine) p k was goes meta
+pub tidied-slots-are-found : (release : Release) (calls : List Call) (p : ℕ) (k : NodeMeta) → isSplit (run release calls .graph) p ≡ true → isSplit (next (run release calls) (tidyCall p) .graph) p ≡ false →
+    metaAt (run release calls .graph .graph) (copyNode (run release calls .graph) p) ≡ maybe-meta.Some k →
+    FoundAgain (run release calls .graph) (next (run release calls) (tidyCall p) .graph) (copyNode (run release calls .graph) p) k
+tidied-slots-are-found release calls p k was goes meta = found-again (rel-run release calls .1 .fine) p k was goes meta
 
 -- a hidden node that stays keeps its block, and nothing is taken or given back
-pub tidy-drops-within-the-block : (calls : List Call) (p n : ℕ) (d : Direction) → seen (run calls .graph) p ≡ visible n d → isSplit (run calls .graph) p ≡ true →
-    isSplit (next (run calls) (tidyCall p) .graph) p ≡ true →
-    SameBlock (run calls .graph .graph) (next (run calls) (tidyCall p) .graph .graph) (copyNode (run calls .graph) p)
-    × ((M N : Model) → Fine (run calls .graph) M → Fine (next (run calls) (tidyCall p) .graph) N → roomOf N ≡ roomOf M)
-tidy-drops-within-the-block calls p n d e was stays = stays-in-block (rel-run calls .1 .fine) p n d e was stays
+pub tidy-drops-within-the-block : (release : Release) (calls : List Call) (p n : ℕ) (d : Direction) → seen (run release calls .graph) p ≡ visible n d → isSplit (run release calls .graph) p ≡ true →
+    isSplit (next (run release calls) (tidyCall p) .graph) p ≡ true →
+    SameBlock (run release calls .graph .graph) (next (run release calls) (tidyCall p) .graph .graph) (copyNode (run release calls .graph) p)
+    × ((M N : Model) → Fine (run release calls .graph) M → Fine (next (run release calls) (tidyCall p) .graph) N → roomOf N ≡ roomOf M)
+tidy-drops-within-the-block release calls p n d e was stays = stays-in-block (rel-run release calls .1 .fine) p n d e was stays

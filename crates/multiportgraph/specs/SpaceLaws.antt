@@ -809,10 +809,10 @@ module _ {m : MultiPortGraph} {M : Model} (f : Fine m M) where
   -- tidying takes nothing: a node that is left with fewer subports keeps its block
   drop-keeps-room : (c : ℕ) (k : NodeMeta) → M .node c ≡ live k → (d : Direction) (n : ℕ) → DropWithin (m .graph) c k (leftIn d n) (leftOut d n) → HasRoom (dropSubports m c d n .graph) (roomOf M)
   unfolding dropSubports recounted
-  drop-keeps-room c k here d n (no-change e) =
-      subst (λ (v : lower-set-done.PortsSet). HasRoom (v .graph) (roomOf M)) (sym e) (record { model = M; good = f .good; holds = f .holds; is = refl })
-  drop-keeps-room c k here d n (in-block some few e) =
-      subst (λ (v : lower-set-done.PortsSet). HasRoom (v .graph) (roomOf M)) (sym e)
+  drop-keeps-room c k here d n (no-change e w) =
+      subst (λ (v : PortGraph). HasRoom v (roomOf M)) (sym w) (record { model = M; good = f .good; holds = f .holds; is = refl })
+  drop-keeps-room c k here d n (in-block some few e w) =
+      subst (λ (v : PortGraph). HasRoom v (roomOf M)) (sym w)
       (record {
         model = resizeModel M c k (leftIn d n) (leftOut d n);
         good = good-resize (f .good) c k here (leftIn d n) (leftOut d n) (omega arith);

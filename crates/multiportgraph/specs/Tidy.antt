@@ -3,16 +3,18 @@
 use mathlib.Core.Bool.{cond}
 use Prim.Native.Nat.{ℕ, zero, suc, _-_}
 use lib.Dec.{ltb}
-use Rattle.portgraph.specs.Lookups.{numPorts}
+use Rattle.portgraph.specs.Lookups.{metaAt, numPorts}
 use Rattle.portgraph.specs.Calls.{linkPorts}
-use Rattle.portgraph.specs.Resize.{setNumPorts}
+use Rattle.portgraph.specs.Resize.{sameCounts, resizeInside}
 use Rattle.portgraph.specs.declared.direction.Direction.{Direction}
 use Rattle.portgraph.specs.declared.direction.Direction.the-variants.{Incoming, Outgoing}
+use Rattle.portgraph.specs.declared.node_entry.MaybeNodeMeta.{MaybeNodeMeta}
+use Rattle.portgraph.specs.declared.node_entry.MaybeNodeMeta.the-variants as maybe-meta
 use Rattle.portgraph.specs.declared.portgraph.PortGraph.{PortGraph}
 use Rattle.multiportgraph.specs.Reading.{farPort, hasLink, portOf, copyNode, subports, subportAt}
 use Rattle.multiportgraph.specs.declared.multiportgraph.MultiPortGraph.{MultiPortGraph}
 use Rattle.multiportgraph.specs.Graph.{withGraph, withSubports}
-use Rattle.multiportgraph.specs.HiddenNodes.{enough, recounted, unsplit}
+use Rattle.multiportgraph.specs.HiddenNodes.{recounted, unsplit}
 
 -- how many of the first n positions of a node's side are left without the unlinked ones above the highest linked one
 unfoldable pub linkedUpTo : PortGraph → ℕ → Direction → ℕ → ℕ
@@ -32,10 +34,18 @@ abbrev pub leftOut : Direction → ℕ → ℕ
 leftOut Incoming n = 1
 leftOut Outgoing n = n
 
--- a hidden node is left with its first n subports: it is resized, and the mark of its copy port moves with it
+-- a node with other counts, by a resize within its block; equal counts change nothing
+abbrev pub withinBlock : PortGraph → ℕ → ℕ → ℕ → MaybeNodeMeta → PortGraph
+withinBlock g n incoming outgoing maybe-meta.None = g
+withinBlock g n incoming outgoing (maybe-meta.Some k) = cond (sameCounts k incoming outgoing) g (resizeInside g n k incoming outgoing)
+
+unfoldable pub resizedWithin : PortGraph → ℕ → ℕ → ℕ → PortGraph
+resizedWithin g n incoming outgoing = withinBlock g n incoming outgoing (metaAt g n)
+
+-- a hidden node is left with its first n subports: it is resized within its block, and the mark of its copy port moves with it
 unfoldable pub dropSubports : MultiPortGraph → ℕ → Direction → ℕ → MultiPortGraph
 dropSubports m c d n =
-    withSubports (recounted m c (setNumPorts (m .graph) c (leftIn d n) (leftOut d n) enough .graph))
+    withSubports (recounted m c (resizedWithin (m .graph) c (leftIn d n) (leftOut d n)))
     (m .«subport_count» - (numPorts (m .graph) c d - n))
 
 -- the hidden node of a split port goes, and what its first subport was linked with is linked to the port

@@ -6,9 +6,9 @@ use mathlib.Core.List.{List, [], _∷_}
 use mathlib.Core.Logic.{_⊎_, inl, inr, ⊎-elim}
 use Prim.Native.Nat.{ℕ, zero, suc, _+_, _-_, _*_, _≤_, _<_}
 use native.Mathlib.Omega.{arith}
-use lib.Dec.{ltb}
+use lib.Dec.{eqb, ltb}
 use lib.ListN.{set}
-use borrow.Author.Tests.{ltb-true, ltb-false, lt-ltb, le-ltb, eq-eqb}
+use borrow.Author.Tests.{ltb-true, ltb-false, lt-ltb, le-ltb, eq-eqb, eqb-true}
 use Rattle.portgraph.specs.Limits.{nodeSlots, nodePorts}
 use Rattle.portgraph.specs.Entries.{reversed, portsOn}
 use Rattle.portgraph.specs.Lookups.{numPorts, metaAt}
@@ -19,7 +19,7 @@ use Rattle.portgraph.specs.Sums.{total-has, drop-there, upd-same}
 use Rattle.portgraph.specs.Tables.{linkBoth}
 use Rattle.portgraph.specs.Calls.{linkPorts, withLinks}
 use Rattle.portgraph.specs.LinkHolds.{link-done}
-use Rattle.portgraph.specs.Resize.{setNumPorts, resizeInside, dropped, keptOut}
+use Rattle.portgraph.specs.Resize.{setNumPorts, sameCounts, resizeInside, dropped, keptOut}
 use Rattle.portgraph.specs.ResizeLaws.{set-same, set-inside}
 use Rattle.portgraph.specs.PlaceLaws.{meta-of-node}
 use Rattle.portgraph.specs.InsideHolds.{inside-holds}
@@ -54,7 +54,7 @@ use Rattle.multiportgraph.specs.CaseLaws.{tidy-cases}
 use Rattle.multiportgraph.specs.Reads.{farIn}
 use Rattle.multiportgraph.specs.ReadLaws.{far-is}
 use Rattle.multiportgraph.specs.GrowLaws.{slot-x, mark-moves}
-use Rattle.multiportgraph.specs.Tidy.{linkedUpTo, subportsLeft, leftIn, leftOut, dropSubports, linkDirectly, tidied}
+use Rattle.multiportgraph.specs.Tidy.{linkedUpTo, subportsLeft, leftIn, leftOut, resizedWithin, dropSubports, linkDirectly, tidied}
 
 -- What is left.
 
@@ -117,13 +117,37 @@ pub record TidyDone (m : MultiPortGraph) (M : Model) (m′ : MultiPortGraph) : T
 
 -- Empty subports go, and two or more are left.
 
--- a resize that changes no count, or is done within the block
+-- a resize within the block, to equal counts and to others
+same-within : (g : PortGraph) (n i o : ℕ) (k : NodeMeta) → metaAt g n ≡ maybe-meta.Some k → i ≡ k .incoming → o ≡ k .outgoing → resizedWithin g n i o ≡ g
+unfolding resizedWithin sameCounts
+same-within g n i o k e a b = rw (e, eq-eqb i (k .incoming) a, eq-eqb o (k .outgoing) b) refl
+
+other-within : (g : PortGraph) (n i o : ℕ) (k : NodeMeta) → metaAt g n ≡ maybe-meta.Some k → (i ≡ k .incoming → o ≡ k .outgoing → ⊥) → resizedWithin g n i o ≡ resizeInside g n k i o
+unfolding resizedWithin sameCounts
+other-within g n i o k e other = rw e (go (eqb i (k .incoming)) (eqb o (k .outgoing)) refl refl)
+  where
+    go : (a b : Bool) → eqb i (k .incoming) ≡ a → eqb o (k .outgoing) ≡ b → cond (cond a b false) g (resizeInside g n k i o) ≡ resizeInside g n k i o
+    go true true p q = absurd (other (eqb-true i (k .incoming) p) (eqb-true o (k .outgoing) q))
+    go true false p q = refl
+    go false b p q = refl
+
+-- a resize, as of any node, that changes no count, or is done within the block
 pub data DropWithin (g : PortGraph) (n : ℕ) (k : NodeMeta) (incoming outgoing : ℕ) : Type 0 where
-  no-change : setNumPorts g n incoming outgoing enough ≡ record { graph = g; answer = lower-set.Set 0 } → DropWithin g n k incoming outgoing
+  no-change : setNumPorts g n incoming outgoing enough ≡ record { graph = g; answer = lower-set.Set 0 } → resizedWithin g n incoming outgoing ≡ g →
+      DropWithin g n k incoming outgoing
   in-block : 3 ≤ incoming + outgoing → incoming + outgoing < k .capacity →
       setNumPorts g n incoming outgoing enough
       ≡ record { graph = resizeInside g n k incoming outgoing; answer = lower-set.Set (dropped k incoming outgoing + keptOut k outgoing) } →
-      DropWithin g n k incoming outgoing
+      resizedWithin g n incoming outgoing ≡ resizeInside g n k incoming outgoing → DropWithin g n k incoming outgoing
+
+-- so dropping within the block is the resize as of any node, which is not refused
+pub within-is : {g : PortGraph} {n : ℕ} {k : NodeMeta} {i o : ℕ} → DropWithin g n k i o → resizedWithin g n i o ≡ setNumPorts g n i o enough .graph
+within-is (no-change e w) = w ∙ sym (ap (λ (r : PortsSet). r .graph) e)
+within-is (in-block some less e w) = w ∙ sym (ap (λ (r : PortsSet). r .graph) e)
+
+pub within-set : {g : PortGraph} {n : ℕ} {k : NodeMeta} {i o : ℕ} → DropWithin g n k i o → (e : ℕ) × (setNumPorts g n i o enough .answer ≡ lower-set.Set e)
+within-set (no-change e w) = (0, ap (λ (r : PortsSet). r .answer) e)
+within-set (in-block some less e w) = (_, ap (λ (r : PortsSet). r .answer) e)
 
 -- a node has the block that it had
 pub record SameBlock (g g′ : PortGraph) (n : ℕ) : Type 0 where
@@ -206,18 +230,17 @@ module _ {m : MultiPortGraph} {M : Model} (f : Fine m M) (x : model.InnerPlace) 
           → ((n ≡ portsOn k (x .side) → ⊥) → leftIn (x .side) n + leftOut (x .side) n < k .capacity) → DropWithin (m .graph) (h .copy) k (leftIn (x .side) n) (leftOut (x .side) n)
       go (inl q) a b c =
           let l = left-of k (x .side) one in
-          no-change (set-same (f .good) (f .holds) (h .copy) _ _ enough a k here b (ap (leftIn (x .side)) q ∙ l .0) (ap (leftOut (x .side)) q ∙ l .1))
+          let i = ap (leftIn (x .side)) q ∙ l .0 in
+          let o = ap (leftOut (x .side)) q ∙ l .1 in
+          no-change (set-same (f .good) (f .holds) (h .copy) _ _ enough a k here b i o) (same-within (m .graph) (h .copy) _ _ k (meta-of-node (f .good) (f .holds) (h .copy) k here) i o)
       go (inr q) a b c =
           let t = left-counts (x .side) n in
           in-block (omega arith) (c q) (set-inside (f .good) (f .holds) (h .copy) _ _ enough a k here b (λ i o. q (sym (left-on k (x .side) n (sym i) (sym o) .0))) (omega arith) (c q))
+          (other-within (m .graph) (h .copy) _ _ k (meta-of-node (f .good) (f .holds) (h .copy) k here) (λ i o. q (sym (left-on k (x .side) n (sym i) (sym o) .0))))
 
   -- so it is never refused for room
   pub drop-set : (e : ℕ) × (sized .answer ≡ lower-set.Set e)
-  drop-set = go drop-within
-    where
-      go : DropWithin (m .graph) (h .copy) k (leftIn (x .side) n) (leftOut (x .side) n) → (e : ℕ) × (sized .answer ≡ lower-set.Set e)
-      go (no-change e) = (0, ap (λ (r : PortsSet). r .answer) e)
-      go (in-block few more e) = (_, ap (λ (r : PortsSet). r .answer) e)
+  drop-set = within-set drop-within
 
   abbrev subsLeft : ℕ
   subsLeft = m .«subport_count» - (numPorts (m .graph) (h .copy) (x .side) - n)
@@ -266,7 +289,7 @@ module _ {m : MultiPortGraph} {M : Model} (f : Fine m M) (x : model.InnerPlace) 
   unfolding dropSubports
   drop-done =
       let s = set-recounts (f .good) (f .holds) (h .copy) (leftIn (x .side) n) (leftOut (x .side) n) enough (drop-set .0) (drop-set .1) in
-      record { model = s .model′; is = shorter s }
+      subst (λ (g : PortGraph). ShorterDone m M x (h .copy) n (counted m (h .copy) g subsLeft)) (sym (within-is drop-within)) (record { model = s .model′; is = shorter s })
 
   -- what it does to the marks: the copy port's moves with it
   pub drop-marks : Seen m M x → recounted m (h .copy) (sized .graph) .multiport
@@ -290,12 +313,12 @@ module _ {m : MultiPortGraph} {M : Model} (f : Fine m M) (x : model.InnerPlace) 
   -- the node keeps its block
   pub drop-block : SameBlock (m .graph) (dropSubports m (h .copy) (x .side) n .graph) (h .copy)
   unfolding dropSubports recounted
-  drop-block = go drop-within
+  drop-block = subst (λ (g : PortGraph). SameBlock (m .graph) g (h .copy)) (sym (within-is drop-within)) (go drop-within)
     where
       go : DropWithin (m .graph) (h .copy) k (leftIn (x .side) n) (leftOut (x .side) n) → SameBlock (m .graph) (sized .graph) (h .copy)
-      go (no-change e) =
+      go (no-change e w) =
           record { before = k; after = k; was = meta-of-node (f .good) (f .holds) (h .copy) k here; is = ap (λ (r : PortsSet). metaAt (r .graph) (h .copy)) e ∙ meta-of-node (f .good) (f .holds) (h .copy) k here; first = refl; capacity = refl }
-      go (in-block some less e) =
+      go (in-block some less e w) =
           let i = leftIn (x .side) n in
           let o = leftOut (x .side) n in
           record {
@@ -527,10 +550,8 @@ module _ {m : MultiPortGraph} {M : Model} (f : Fine m M) where
       let l = left-of (k .meta) (x .side) one in
       let i : leftIn (x .side) (countOf (M .node (h .copy)) (x .side)) ≡ k .meta .incoming = ap (leftIn (x .side)) c ∙ l .0 in
       let o : leftOut (x .side) (countOf (M .node (h .copy)) (x .side)) ≡ k .meta .outgoing = ap (leftOut (x .side)) c ∙ l .1 in
-      let a = f .good .portsInBlock (h .copy) (k .meta) (k .here) in
-      let b = f .good .blockSmall (h .copy) (k .meta) (k .here) in
-      let g : setNumPorts (m .graph) (h .copy) (leftIn (x .side) (countOf (M .node (h .copy)) (x .side))) (leftOut (x .side) (countOf (M .node (h .copy)) (x .side))) enough .graph ≡ m .graph =
-      ap (λ (r : PortsSet). r .graph) (set-same (f .good) (f .holds) (h .copy) _ _ enough (omega arith) (k .meta) (k .here) (omega arith) i o) in
+      let g : resizedWithin (m .graph) (h .copy) (leftIn (x .side) (countOf (M .node (h .copy)) (x .side))) (leftOut (x .side) (countOf (M .node (h .copy)) (x .side))) ≡ m .graph =
+      same-within (m .graph) (h .copy) _ _ (k .meta) (meta-of-node (f .good) (f .holds) (h .copy) (k .meta) (k .here)) i o in
       let z : m .«subport_count» - (countOf (M .node (h .copy)) (x .side) - countOf (M .node (h .copy)) (x .side)) ≡ m .«subport_count» = omega arith in
       rw (g, count-of f (h .copy) (x .side), z) (ap (λ (u : MultiPortGraph). withSubports u (m .«subport_count»)) (same-recount (h .copy) (k .meta) (k .here)))
 

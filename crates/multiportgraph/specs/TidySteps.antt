@@ -25,14 +25,14 @@ use Rattle.portgraph.specs.declared.resize.PortsSet.{PortsSet}
 use Rattle.multiportgraph.specs.Reading.{farPort, hasLink, portOf, isSplit, copyNode, subports, subportAt, Port, dead, hidden, visible, seen}
 use Rattle.multiportgraph.specs.Inner.{inner#, Fine, Seen, MultiWf}
 use Rattle.multiportgraph.specs.Ends.{BlockPort, Hangs, block-seen, split-has-copy, port-of, linked-is, unlinked-is, far-of}
-use Rattle.multiportgraph.specs.Graph.{multi, withGraph}
+use Rattle.multiportgraph.specs.Graph.{multi, withGraph, withSubports}
 use Rattle.multiportgraph.specs.Forms.{putFlag, linkedFrom}
 use Rattle.multiportgraph.specs.CopySteps.{two-puts}
 use Rattle.multiportgraph.specs.Reads.{farIn, ownerIn, subportsIn, firstIn}
 use Rattle.multiportgraph.specs.ReadLaws.{owner-read, subports-read, first-read, far-is}
 use Rattle.multiportgraph.specs.HiddenNodes.{enough, recounted, removeCopy, unsplit}
-use Rattle.multiportgraph.specs.Tidy.{linkedUpTo, subportsLeft, leftIn, leftOut, dropSubports, linkDirectly, tidied}
-use Rattle.multiportgraph.specs.TidyLaws.{LastLinked, last-linked, empty-above, drop-marks, went, direct-links, bare-is, unchanged}
+use Rattle.multiportgraph.specs.Tidy.{linkedUpTo, subportsLeft, leftIn, leftOut, resizedWithin, dropSubports, linkDirectly, tidied}
+use Rattle.multiportgraph.specs.TidyLaws.{LastLinked, last-linked, empty-above, within-is, drop-within, drop-marks, went, direct-links, bare-is, unchanged}
 use Rattle.multiportgraph.specs.Calls.{tidyPort}
 use Rattle.multiportgraph.specs.Cases.{tidySeen}
 use Rattle.multiportgraph.specs.CaseLaws.{tidy-cases}
@@ -208,11 +208,12 @@ module _ {m : MultiPortGraph} {p : ℕ} {d : Direction} (b : SplitPort m p d) wh
           rw (z, at-first, linked-is f first# y j)
           (ap (withGraph r) (ap (λ (u : List ℕ). withLinks (r .graph) u (r .graph .«link_count» + 1)) e₆ ∙ sym k) ∙ ap (λ (u : MultiPortGraph). withGraph u (linkPorts (u .graph) p far .graph)) e₄)
 
--- the marks of a hidden node that is left with some of its subports
-left-marks : {m : MultiPortGraph} {p : ℕ} {d : Direction} {count left : ℕ} (b : LeftPort m p d count left) →
-    recounted m (copyNode m p) (setNumPorts (m .graph) (copyNode m p) (leftIn d left) (leftOut d left) enough .graph) .multiport
-    ≡ set (set (m .multiport) (farIn (m .graph .«port_link») p) false) (farIn (setNumPorts (m .graph) (copyNode m p) (leftIn d left) (leftOut d left) enough .graph .«port_link») p) true
-left-marks {m} {p} {d} {count} {left} b =
+-- a hidden node that is left with some of its subports: the resize, and its marks
+left-sized : {m : MultiPortGraph} {p : ℕ} {d : Direction} {count left : ℕ} (b : LeftPort m p d count left) →
+    (resizedWithin (m .graph) (copyNode m p) (leftIn d left) (leftOut d left) ≡ setNumPorts (m .graph) (copyNode m p) (leftIn d left) (leftOut d left) enough .graph)
+    × (recounted m (copyNode m p) (setNumPorts (m .graph) (copyNode m p) (leftIn d left) (leftOut d left) enough .graph) .multiport
+    ≡ set (set (m .multiport) (farIn (m .graph .«port_link») p) false) (farIn (setNumPorts (m .graph) (copyNode m p) (leftIn d left) (leftOut d left) enough .graph .«port_link») p) true)
+left-sized {m} {p} {d} {count} {left} b =
     let s = b .port in
     let g = s .block .wf .fine in
     let y = block s in
@@ -222,11 +223,13 @@ left-marks {m} {p} {d} {count} {left} b =
     let l = last-linked g (k .copy) (y .place .side) (countOf n (y .place .side)) (omega arith) in
     let e : left ≡ linkedUpTo (m .graph) (k .copy) (y .place .side) (countOf n (y .place .side)) = b .leaves ∙ left-is s in
     let r : LastLinked (s .block .wf .model) (k .copy) (y .place .side) (countOf n (y .place .side)) left = subst (LastLinked (s .block .wf .model) (k .copy) (y .place .side) (countOf n (y .place .side))) (sym e) l in
+    let none = empty-above g (k .copy) (y .place .side) left r in
     transport
-    (λ i. recounted m (c i) (setNumPorts (m .graph) (c i) (leftIn (y .side i) left) (leftOut (y .side i) left) enough .graph) .multiport
+    (λ i. (resizedWithin (m .graph) (c i) (leftIn (y .side i) left) (leftOut (y .side i) left) ≡ setNumPorts (m .graph) (c i) (leftIn (y .side i) left) (leftOut (y .side i) left) enough .graph)
+    × (recounted m (c i) (setNumPorts (m .graph) (c i) (leftIn (y .side i) left) (leftOut (y .side i) left) enough .graph) .multiport
     ≡ set (set (m .multiport) (farIn (m .graph .«port_link») (y .slot i)) false)
-    (farIn (setNumPorts (m .graph) (c i) (leftIn (y .side i) left) (leftOut (y .side i) left) enough .graph .«port_link») (y .slot i)) true)
-    (drop-marks g (y .place) k left (b .more) (r .most) (empty-above g (k .copy) (y .place .side) left r) (y .isSeen))
+    (farIn (setNumPorts (m .graph) (c i) (leftIn (y .side i) left) (leftOut (y .side i) left) enough .graph .«port_link») (y .slot i)) true))
+    (within-is (drop-within g (y .place) k left (b .more) (r .most) none), drop-marks g (y .place) k left (b .more) (r .most) none (y .isSeen))
 
 -- A hidden node that is left with some of its subports.
 module _ {m : MultiPortGraph} {p : ℕ} {d : Direction} {count left : ℕ} (b : LeftPort m p d count left) where
@@ -260,11 +263,12 @@ module _ {m : MultiPortGraph} {p : ℕ} {d : Direction} {count left : ℕ} (b : 
       rw (l₄, l₂, l₃, l₁, far-is′, copy-is) (two-puts (m .multiport) portSlots _ _ false true (g .marksLong)) in
       let subs-is : subs ≡ m .«subport_count» - (numPorts (m .graph) (copyNode m p) d - left) = rw (l₆, l₅, b .counts) refl in
       (λ j. multi (set-is j .graph) (marks-told set-is marks-is j) (m .«copy_node») (m .«copy_node_count») (subs-is j) (m .release))
+      ∙ ap (λ (u : PortGraph). withSubports (recounted m (copyNode m p) u) (m .«subport_count» - (numPorts (m .graph) (copyNode m p) d - left))) (sym (left-sized b .0))
     where
       marks-told : r ≡ setNumPorts (m .graph) (copyNode m p) (leftIn d left) (leftOut d left) enough →
           t₂ ≡ set (set (m .multiport) (farIn (m .graph .«port_link») p) false) (farIn (r .graph .«port_link») p) true →
           t₂ ≡ recounted m (copyNode m p) (setNumPorts (m .graph) (copyNode m p) (leftIn d left) (leftOut d left) enough .graph) .multiport
-      marks-told e q = q ∙ (ap (λ (u : PortsSet). set (set (m .multiport) (farIn (m .graph .«port_link») p) false) (farIn (u .graph .«port_link») p) true) e ∙ sym (left-marks b))
+      marks-told e q = q ∙ (ap (λ (u : PortsSet). set (set (m .multiport) (farIn (m .graph .«port_link») p) false) (farIn (u .graph .«port_link») p) true) e ∙ sym (left-sized b .1))
 
 -- where all subports are left nothing changes
 all-left : {m : MultiPortGraph} {p : ℕ} {d : Direction} (b : SplitPort m p d) (left : ℕ) → left ≡ subportsLeft m p d → subports m p d ≤ left → m ≡ dropSubports m (copyNode m p) d left

@@ -4,7 +4,7 @@ use mathlib.Core.Path.{_≡_, refl, sym, _∙_, ap, subst}
 use mathlib.Core.Bool.{Bool, true, false, cond, not}
 use mathlib.Core.List.{[], _++_, flatMap}
 use mathlib.Core.Logic.{_⊎_, ⊎-elim}
-use Prim.Native.Nat.{ℕ, _+_, _≤_}
+use Prim.Native.Nat.{ℕ, _+_, _-_, _≤_}
 use native.Mathlib.Omega.{arith}
 use lib.Dec.{eqb, ltb}
 use lib.ListN.{length}
@@ -15,7 +15,6 @@ use Rattle.portgraph.specs.Entries.{reversed}
 use Rattle.portgraph.specs.Meaning.{sameSide}
 use Rattle.portgraph.specs.Lookups.{numPorts, portLink}
 use Rattle.portgraph.specs.Calls.{addNode, linkPorts}
-use Rattle.portgraph.specs.Resize.{setNumPorts}
 use Rattle.portgraph.specs.Model as model
 use Rattle.portgraph.specs.Model.{Model, Far, nowhere, to, Slots, slotOf, countOf}
 use Rattle.portgraph.specs.GoodSlots.{zero-is-not-one, slot-in-block}
@@ -31,8 +30,8 @@ use Rattle.portgraph.specs.declared.slots.AddAnswer as lower-add-answer
 use Rattle.portgraph.specs.declared.slots.AddAnswer.the-variants as lower-add
 use Rattle.portgraph.specs.declared.resize.SetAnswer as lower-set-answer
 use Rattle.portgraph.specs.declared.resize.SetAnswer.the-variants as lower-set
-use Rattle.portgraph.specs.declared.resize.PortsSet as lower-set-done
 use Rattle.multiportgraph.specs.Reading.{isHidden, isSplit, hasLink, isLinked, portOf, copyNode, copySide, subports, Port, dead, hidden, visible, seen, endAt, subport#, farSubport}
+use Rattle.multiportgraph.specs.Graph.{withSubports}
 use Rattle.multiportgraph.specs.Inner.{Fine, Seen, IsEnd, outer, WireIn}
 use Rattle.multiportgraph.specs.Ends.{BlockPort, Hangs, block-seen, count-of, end-side, ends-join-ends, into-side, linked-is, outer-of-block, outer-side, split-has-copy, subport-count, unlinked-is, unsplit-is-end, wires-by-into}
 use Rattle.multiportgraph.specs.Frame.{true-not-false}
@@ -40,8 +39,8 @@ use Rattle.multiportgraph.specs.SplitLaws.{PreparedEnd}
 use Rattle.multiportgraph.specs.PrepareLaws.{prepare-law}
 use Rattle.multiportgraph.specs.RecountLaws.{SomeRecount, set-recounts, growth#, number-cases}
 use Rattle.multiportgraph.specs.HiddenNodes.{enough, full, grow, grownBy, growUnder, lowestFree, more, moreIn, moreOut, Prepared, prepare, prepareUnder, ready, recounted, reuse, reuseUnder, split, splitBy, splitGraph, splitPort, splitUnder}
-use Rattle.multiportgraph.specs.Tidy.{subportsLeft, leftIn, leftOut, dropSubports, linkDirectly, tidied}
-use Rattle.multiportgraph.specs.TidyLaws.{DropWithin, no-change, in-block, left-within}
+use Rattle.multiportgraph.specs.Tidy.{subportsLeft, leftIn, leftOut, resizedWithin, dropSubports, linkDirectly, tidied}
+use Rattle.multiportgraph.specs.TidyLaws.{DropWithin, within-is, within-set, left-within}
 use Rattle.multiportgraph.specs.Wires.{subportsOfPort, wireOf, wireTo}
 use Rattle.multiportgraph.specs.Walks.{fanOut, portLinks}
 use Rattle.multiportgraph.specs.Places.{Place, Wire, flag}
@@ -280,17 +279,13 @@ module _ {m : MultiPortGraph} {M : Model} (f : Fine m M) (on : OnOutputs m) wher
   -- the hidden node of an output is left with some of its subports
   drop-on : (c : ℕ) (k : NodeMeta) (d : Direction) (n : ℕ) → d ≡ Outgoing → DropWithin (m .graph) c k (leftIn d n) (leftOut d n) → OnOutputs (dropSubports m c d n)
   unfolding dropSubports recounted isHidden
-  drop-on c k d n out w = let e = told w in left (set-recounts (f .good) (f .holds) c (leftIn d n) (leftOut d n) enough (e .0) (e .1))
+  drop-on c k d n out w =
+      let e = within-set w in
+      left (resizedWithin (m .graph) c (leftIn d n) (leftOut d n))
+      (subst (λ (g : PortGraph). SomeRecount g M c (leftIn d n) (leftOut d n)) (sym (within-is w)) (set-recounts (f .good) (f .holds) c (leftIn d n) (leftOut d n) enough (e .0) (e .1)))
     where
-      g′ : PortGraph
-      g′ = setNumPorts (m .graph) c (leftIn d n) (leftOut d n) enough .graph
-
-      told : DropWithin (m .graph) c k (leftIn d n) (leftOut d n) → (e : ℕ) × (setNumPorts (m .graph) c (leftIn d n) (leftOut d n) enough .answer ≡ lower-set.Set e)
-      told (no-change e) = (0, ap (λ (v : lower-set-done.PortsSet). v .answer) e)
-      told (in-block some few e) = (_, ap (λ (v : lower-set-done.PortsSet). v .answer) e)
-
-      left : SomeRecount g′ M c (leftIn d n) (leftOut d n) → OnOutputs (dropSubports m c d n)
-      left s i h =
+      left : (g : PortGraph) → SomeRecount g M c (leftIn d n) (leftOut d n) → OnOutputs (withSubports (recounted m c g) (m .«subport_count» - (numPorts (m .graph) c d - n)))
+      left g s i h =
           let r = s .is in
           ⊎-elim (λ e. count-in (r .good) (r .holds) i Incoming ∙ (ap (λ (v : Slots). countOf v Incoming) (ap (s .model′ .node) e ∙ r .there) ∙ (r .ins ∙ one-in d n out)))
           (λ e. counts-same (f .good) (f .holds) (r .good) (r .holds) i Incoming (r .others i e) ∙ on i h)

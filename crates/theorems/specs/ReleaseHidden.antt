@@ -100,14 +100,13 @@ module _ {g : PortGraph} {M : Model} (good : Good M) (holds : Holds g M) where
           let block = leb-true (M .portLen + growth (i + o) (M .freeBlocks (i + o))) portSlots r in
           let good′ = good-add good i o few slot block in
           let holds′ = place-holds good holds i o few slot block in
-          let new : NodeMeta = metaOf (nextBlock M (i + o)) i o (i + o) in
-          (
+          let new : NodeMeta = metaOf (nextBlock M (i + o)) i o (i + o) in (
             (λ n a d e. counts-same good holds good′ holds′ n d (upd-other (M .node) (nextSlot M) (live new) n (λ s. gone-not-live (ap (M .node) s ∙ next-slot-gone good) e))),
             (λ c s e.
-            let same : node# (nextSlot M) ≡ c = cc in
-            let is : nextSlot M ≡ c .0 = ap (λ (k : NodeIndex). k .0) same in
-            ap (λ (k : ℕ). numPorts (placeNode g (nextSlot M) (nextBlock M (i + o)) i o) k Incoming) (sym is)
-            ∙ (count-in good′ holds′ (nextSlot M) Incoming ∙ ap (λ (v : Slots). countOf v Incoming) (upd-same (M .node) (nextSlot M) (live new)))),
+                let same : node# (nextSlot M) ≡ c = cc in
+                let is : nextSlot M ≡ c .0 = ap (λ (k : NodeIndex). k .0) same in
+                ap (λ (k : ℕ). numPorts (placeNode g (nextSlot M) (nextBlock M (i + o)) i o) k Incoming) (sym is)
+                ∙ (count-in good′ holds′ (nextSlot M) Incoming ∙ ap (λ (v : Slots). countOf v Incoming) (upd-same (M .node) (nextSlot M) (live new)))),
           )
       go true p true q false r = ((λ n a d e. refl), (λ c s e. absurd (zero-is-not-one (cc))))
       go true p false q z r = ((λ n a d e. refl), (λ c s e. absurd (zero-is-not-one (cc))))

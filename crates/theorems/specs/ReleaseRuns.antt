@@ -504,8 +504,7 @@ pub two-is-one : (calls : List Call) → without18 (answers Two calls) ≡ answe
     (answers One calls ≡ answers Two calls) × (run One calls .graph ≡ forRelease One (run Two calls .graph)) × (run One calls .book ≡ run Two calls .book)
 two-is-one calls e =
     let t = two-is-one-without-18 calls in
-    let q : callsPassed calls ≡ calls = ap callsOf e ∙ calls-answered (start Two) calls in
-    (
+    let q : callsPassed calls ≡ calls = ap callsOf e ∙ calls-answered (start Two) calls in (
       ap (answers One) (sym q) ∙ (t .0 ∙ e),
       ap (λ (l : List Call). run One l .graph) (sym q) ∙ t .1,
       ap (λ (l : List Call). run One l .book) (sym q) ∙ t .2,

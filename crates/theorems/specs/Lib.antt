@@ -18,7 +18,7 @@
 -- What is proved of a call, a bundle (CallLaw) in a file for each call: AddCall, RemoveCall, SetCall, LinkCall, LinkCleanCall,
 -- LinkSubCall, CutCall, CutSubCall, TidyCall; collected in CallLaws. A new call is: its row in Book, History, Conditions and Works, its file, its row in CallLaws.
 -- The links listed at a port are its wires (ListedLinks); so 18's test is its condition (TakenLaws).
--- Proofs over histories: TheoremProofs, AnswerWires, ListingWires, PlaceWires, KeptPorts, MovePlaces, TidyHistory, WiresHeld, HistoryCounts, FanOutWires, Runs; the bench wiring,
+-- Proofs over histories: TheoremProofs, AnswerWires, ListingWires, PlaceWires, KeptPorts, MovePlaces, TidyWalks, TidyHistory, WiresHeld, HistoryCounts, FanOutWires, Runs; the bench wiring,
 -- cases A to K, a few resizes, fan-outs, second wires into an input and tidies: Bench; 01's numbers: NumberTable.
 -- Releases: no call looks at the release but for 18 (ReleaseLaws), so release 2 is release 1 without it (ReleaseRuns); hidden nodes stay on
 -- outputs (ReleaseHidden, ReleaseInputs, ReleaseHistory).
@@ -66,6 +66,7 @@ pub mod KeptPorts
 pub mod MovePlaces
 pub mod WiresHeld
 pub mod PlaceWires
+pub mod TidyWalks
 pub mod TidyHistory
 pub mod PortListing
 pub mod HistoryCounts

@@ -34,7 +34,7 @@ use Rattle.theorems.specs.Works.{worksOf}
 use Rattle.theorems.specs.Claims.{WireRule, Link, byPorts, byPortsClean, linking, LinkedBy, acceptedLink, Restored, between, FanOutIsWires, portsInBook}
 use Rattle.theorems.specs.AnswerClaims.{AnswersItsWire, AnswersAreWires}
 use Rattle.theorems.specs.PlaceClaims.{PlacesAreWires}
-use Rattle.theorems.specs.TidyClaims.{PlacesKept, LeftByWires, FoundAgain}
+use Rattle.theorems.specs.TidyClaims.{PlacesKept, WalksKept, LeftByWires, FoundAgain}
 use Rattle.theorems.specs.TidyHistory as tidy
 use Rattle.theorems.specs.ListingClaims.{wireFrom, endOn, farFrom, Exactly, InBook, OverSides, OutOfRange, FarNodes, NotOwnOutput}
 use Rattle.theorems.specs.Conditions.{RefusedBy, Accepted, Condition, leavesPrepared}
@@ -98,6 +98,15 @@ clean-link-refused-leaves-all release calls = clean.clean-refused-leaves (run re
 -- A tidy is no change: the book stays, no wire changes its place at either end, and no block's port changes its number.
 pub tidy-keeps-places : (release : Release) (calls : List Call) (p : ℕ) → PlacesKept (run release calls) (next (run release calls) (tidyCall p))
 tidy-keeps-places = tidy.tidy-keeps-places
+
+-- A cursor from before a tidy goes on as if nothing had happened, in every walk that gives wires.
+pub tidy-keeps-walks : (release : Release) (calls : List Call) (p : ℕ) → WalksKept (run release calls .graph) (next (run release calls) (tidyCall p) .graph)
+tidy-keeps-walks = tidy.tidy-keeps-walks
+
+-- A port that is not split stays as it is, with all else.
+pub tidy-leaves-an-unsplit-port : (release : Release) (calls : List Call) (p : ℕ) → isSplit (run release calls .graph) p ≡ false →
+    next (run release calls) (tidyCall p) ≡ run release calls
+tidy-leaves-an-unsplit-port = tidy.tidy-leaves-an-unsplit-port
 
 -- A port that is tidied is left with what its wires need: no hidden node where none ends there at an offset above 0, else its subports up to the
 -- highest wired one.

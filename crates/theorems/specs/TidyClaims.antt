@@ -13,9 +13,14 @@ use Rattle.multiportgraph.specs.Reading.{isSplit, subports}
 use Rattle.multiportgraph.specs.Places.{Wire, spot, atEnd, touches}
 use Rattle.multiportgraph.specs.Inner.{Fine}
 use Rattle.multiportgraph.specs.Space.{roomOf, afterWorks, takeNode, takeBlock, giveNode, giveBlock}
-use Rattle.multiportgraph.specs.Wires.{wiresWalked, portsWalked}
+use Rattle.multiportgraph.specs.Wires.{stepWires, wiresWalked, portsWalked}
+use Rattle.multiportgraph.specs.Walks.{stepFront, stepBack, stepLinks, stepConnections}
 use Rattle.multiportgraph.specs.declared.multiportgraph.MultiPortGraph.{MultiPortGraph}
 use Rattle.multiportgraph.specs.declared.multiportgraph.Refusal.the-variants.{NoRoom}
+use Rattle.multiportgraph.specs.declared.iter.Wires.{Wires}
+use Rattle.multiportgraph.specs.declared.iter.PortLinks.{PortLinks}
+use Rattle.multiportgraph.specs.declared.iter.NodeLinks.{NodeLinks}
+use Rattle.multiportgraph.specs.declared.iter.NodeConnections.{NodeConnections}
 use Rattle.multiportgraph.specs.declared.multiportgraph.AddAnswer.the-variants as add
 use Rattle.theorems.specs.Book.{Call}
 use Rattle.theorems.specs.History.{State, step}
@@ -31,6 +36,14 @@ pub record PlacesKept (s t : State) : Type 0 where
   -- the ports of every block as walked, and how many there are on each side
   pub ports : (n : ℕ) → InBook (s .book) n → portsWalked (t .graph) n ≡ portsWalked (s .graph) n
   pub counts : (n : ℕ) → InBook (s .book) n → (d : Direction) → numPorts (t .graph .graph) n d ≡ numPorts (s .graph .graph) n d
+
+-- Between two graphs, a cursor from before goes on as if nothing had happened, in every walk that gives wires.
+pub record WalksKept (m m′ : MultiPortGraph) : Type 0 where
+  pub wires : (c : Wires) → stepWires m′ c ≡ stepWires m c
+  pub front : (c : PortLinks) → stepFront m′ c ≡ stepFront m c
+  pub back : (c : PortLinks) → stepBack m′ c ≡ stepBack m c
+  pub links : (c : NodeLinks) → stepLinks m′ c ≡ stepLinks m c
+  pub connections : (c : NodeConnections) → stepConnections m′ c ≡ stepConnections m c
 
 -- What a tidied port, at a spot, has: no hidden node where no wire ends there at an offset above 0; else its subports up to the highest wired
 -- one.

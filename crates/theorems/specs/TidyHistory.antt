@@ -29,7 +29,7 @@ use Rattle.multiportgraph.specs.Reading.{isHidden, isSplit, subports, copySide,
 use Rattle.multiportgraph.specs.Calls.{tidyPort, addBlock, addedAs}
 use Rattle.multiportgraph.specs.Cases.{tidySeen}
 use Rattle.multiportgraph.specs.CaseLaws.{add-cases, tidy-cases}
-use Rattle.multiportgraph.specs.Inner.{inner#, Fine, Seen, lift, WireIn, MultiWf}
+use Rattle.multiportgraph.specs.Inner.{inner#, Fine, Seen, lift, WireIn, SameBlocks, MultiWf}
 use Rattle.multiportgraph.specs.Ends.{BlockPort, split-has-copy, unsplit-no-copy, outer-of-subport, outer-of-block, lift-place, block-seen, seen-block, ports-walked, count-of}
 use Rattle.multiportgraph.specs.Frame.{true-not-false, true-or-false}
 use Rattle.multiportgraph.specs.WalkRule.{same-wires-same-list}
@@ -59,7 +59,8 @@ use Rattle.theorems.specs.CallLaws.{rel-run, rel-step, call-space, call-
 use Rattle.theorems.specs.TidyCall.{tidy-refused}
 use Rattle.theorems.specs.ListingClaims.{InBook}
 use Rattle.theorems.specs.ListingWires.{block-booked, spot-back}
-use Rattle.theorems.specs.TidyClaims.{PlacesKept, LeftByWires, FoundAgain}
+use Rattle.theorems.specs.TidyClaims.{PlacesKept, WalksKept, LeftByWires, FoundAgain}
+use Rattle.theorems.specs.TidyWalks.{walks-kept}
 
 -- What stays.
 
@@ -86,6 +87,30 @@ tidy-keeps s M r p = go (tidyPort (s .graph) p .answer) (tidy-port-law (r .fine)
 
 pub tidy-keeps-places : (release : Release) (calls : List Call) (p : ℕ) → PlacesKept (run release calls) (next (run release calls) (tidyCall p))
 tidy-keeps-places release calls p = let r = rel-run release calls in tidy-keeps (run release calls) (r .0) (r .1) p
+
+-- Every walk that gives wires goes on as it would have.
+walks-go-on : {m : MultiPortGraph} {M : Model} → Fine m M → (p : ℕ) → WalksKept m (tidyPort m p .graph)
+walks-go-on {m} {M} f p = go (tidyPort m p .answer) (tidy-port-law f p)
+  where
+    go : (a : TidyAnswer) → TidySays m M (tidyPort m p .graph) a → WalksKept m (tidyPort m p .graph)
+    go (tidying.Refused e) same = walks-kept f (subst (λ (u : MultiPortGraph). Fine u M) (sym same) f) (subst (λ (u : MultiPortGraph). SameBlocks m M u M) (sym same) ((λ n k b. b), λ n k b. b))
+        (λ w i. subst (λ (u : MultiPortGraph). WireIn u M w) (sym same) i) (λ w i. subst (λ (u : MultiPortGraph). WireIn u M w) same i)
+    go tidying.Tidied d = walks-kept f (d .fine) (d .blocks) (λ w i. d .wires .kept w i refl) (λ w i. ⊎-elim (λ a. a .0) absurd (d .wires .only w i))
+
+pub tidy-keeps-walks : (release : Release) (calls : List Call) (p : ℕ) → WalksKept (run release calls .graph) (next (run release calls) (tidyCall p) .graph)
+tidy-keeps-walks release calls p = walks-go-on (rel-run release calls .1 .fine) p
+
+-- A port that is not split stays as it is.
+unsplit-stays : (m : MultiPortGraph) (p : ℕ) → isSplit m p ≡ false → tidyPort m p .graph ≡ m
+unsplit-stays m p s = ap (λ (v : PortTidied). v .graph) (tidy-cases m p) ∙ go (seen m p)
+  where
+    go : (v : Port) → tidySeen m p v .graph ≡ m
+    go dead = refl
+    go hidden = refl
+    go (visible n d) = ap (λ (b : Bool). cond b (tidied m p d) m) s
+
+pub tidy-leaves-an-unsplit-port : (release : Release) (calls : List Call) (p : ℕ) → isSplit (run release calls .graph) p ≡ false → next (run release calls) (tidyCall p) ≡ run release calls
+tidy-leaves-an-unsplit-port release calls p s = ap (λ (m : MultiPortGraph). record { graph = m; book = run release calls .book }) (unsplit-stays (run release calls .graph) p s)
 
 -- What is left.
 

@@ -1,8 +1,8 @@
--- `wiring::arguments::read_arguments` meets its contract. The measure is how many words are left. Assumes nothing.
+-- `lines::arguments::read_arguments` meets its contract. The measure is how many words are left. Assumes nothing.
 use borrow.Author.Needs.{needs}
 use Prim.Native.Nat.{_-_}
-use Rattle.wiring.proofs.arguments.read_arguments.Statement.{statement}
-use Rattle.wiring.proofs.arguments.read_arguments.Tie as tie
+use Rattle.lines.proofs.arguments.read_arguments.Statement.{statement}
+use Rattle.lines.proofs.arguments.read_arguments.Tie as tie
 
 abbrev Inv-loop : tie.InvT-loop
 Inv-loop count found₀ number₀ found number = Unit {0}

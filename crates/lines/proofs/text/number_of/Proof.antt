@@ -1,8 +1,8 @@
--- `wiring::text::number_of` meets its contract. The measure is what is left of the word. Assumes nothing.
+-- `lines::text::number_of` meets its contract. The measure is what is left of the word. Assumes nothing.
 use borrow.Author.Needs.{needs}
 use Prim.Native.Nat.{_-_}
-use Rattle.wiring.proofs.text.number_of.Statement.{statement}
-use Rattle.wiring.proofs.text.number_of.Tie as tie
+use Rattle.lines.proofs.text.number_of.Statement.{statement}
+use Rattle.lines.proofs.text.number_of.Tie as tie
 
 abbrev Inv-loop : tie.InvT-loop
 Inv-loop text to value₀ at₀ value at = Unit {0}

@@ -29,7 +29,7 @@ pub struct Reader {
 }
 
 // Stores a byte; outside nothing changes.
-pub(crate) fn put_byte(buffer: &mut [u8], at: usize, byte: u8) {
+pub fn put_byte(buffer: &mut [u8], at: usize, byte: u8) {
     if at < buffer.len() {
         buffer[at] = byte;
     }
@@ -78,12 +78,12 @@ fn read_more(buffer: &mut [u8], held: usize) -> Reader {
 }
 
 impl Reader {
-    pub(crate) fn new() -> Self {
+    pub fn new() -> Self {
         found_first(Found::Nothing, 0, 0, 0)
     }
 
     // The next line, if the buffer has one; else one read.
-    pub(crate) fn step(self, buffer: &mut [u8]) -> Self {
+    pub fn step(self, buffer: &mut [u8]) -> Self {
         let end = line_end(buffer, self.seen, self.held);
         if end < self.held {
             return Reader {

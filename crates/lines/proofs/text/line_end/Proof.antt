@@ -1,8 +1,8 @@
--- `wiring::text::line_end` meets its contract. The measure is what is left of the text. Assumes nothing.
+-- `lines::text::line_end` meets its contract. The measure is what is left of the text. Assumes nothing.
 use borrow.Author.Needs.{needs}
 use Prim.Native.Nat.{_-_}
-use Rattle.wiring.proofs.text.line_end.Statement.{statement}
-use Rattle.wiring.proofs.text.line_end.Tie as tie
+use Rattle.lines.proofs.text.line_end.Statement.{statement}
+use Rattle.lines.proofs.text.line_end.Tie as tie
 
 abbrev Inv-loop : tie.InvT-loop
 Inv-loop text from to at₀ at = Unit {0}

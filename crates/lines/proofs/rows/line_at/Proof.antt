@@ -1,7 +1,7 @@
--- `wiring::replies::line_at` meets its contract. The measure is how many lines are left. Assumes nothing.
+-- `lines::rows::line_at` meets its contract. The measure is how many lines are left. Assumes nothing.
 use borrow.Author.Needs.{needs}
-use Rattle.wiring.proofs.replies.line_at.Statement.{statement}
-use Rattle.wiring.proofs.replies.line_at.Tie as tie
+use Rattle.lines.proofs.rows.line_at.Statement.{statement}
+use Rattle.lines.proofs.rows.line_at.Tie as tie
 
 abbrev Inv-loop : tie.InvT-loop
 Inv-loop text number from₀ left₀ from left = Unit {0}

@@ -1,5 +1,4 @@
 // Lines, words and numbers in a text. Blanks, tabs and newlines stand between words.
-use portgraph::numbers::less;
 ghost use Prim.Native.Nat.{_≤_};
 ghost use lib.ListN.{length};
 
@@ -10,15 +9,15 @@ pub struct Span {
 }
 
 // What is no number has this value.
-pub(crate) const NO_VALUE: u64 = 4294967296;
+pub const NO_VALUE: u64 = 4294967296;
 
 // The byte at a place; 0 outside.
-pub(crate) fn byte_at(text: &[u8], at: usize) -> u8 {
+pub fn byte_at(text: &[u8], at: usize) -> u8 {
     if at < text.len() { text[at] } else { 0 }
 }
 
 // A part of a text; an empty one where there is no such part.
-pub(crate) fn part(text: &[u8], span: Span) -> &[u8] {
+pub fn part(text: &[u8], span: Span) -> &[u8] {
     let from = span.from;
     let to = span.to;
     if from <= to {
@@ -30,7 +29,7 @@ pub(crate) fn part(text: &[u8], span: Span) -> &[u8] {
 }
 
 // The length of a line without a carriage return at its end.
-pub(crate) fn without_return(text: &[u8]) -> usize
+pub fn without_return(text: &[u8]) -> usize
     ensures { λ r. ⌜ r ≤ length (now (text .entry)) ⌝ }
 {
     let len = text.len();
@@ -43,14 +42,14 @@ pub(crate) fn without_return(text: &[u8]) -> usize
 }
 
 // A line of a text, without a carriage return at its end.
-pub(crate) fn line_part(text: &[u8], span: Span) -> &[u8] {
+pub fn line_part(text: &[u8], span: Span) -> &[u8] {
     let line = part(text, span);
     let len = without_return(line);
     &line[0..len]
 }
 
 // The first newline between two places, or the second of them.
-pub(crate) fn line_end(text: &[u8], from: usize, to: usize) -> usize {
+pub fn line_end(text: &[u8], from: usize, to: usize) -> usize {
     let mut at = from;
     while at < to {
         if byte_at(text, at) == b'\n' {
@@ -81,7 +80,7 @@ fn pass_over(text: &[u8], from: usize, blanks: bool) -> usize {
 }
 
 // The next word from a place on; empty where no word is left.
-pub(crate) fn next_word(text: &[u8], from: usize) -> Span {
+pub fn next_word(text: &[u8], from: usize) -> Span {
     let start = pass_over(text, from, true);
     Span {
         from: start,
@@ -90,17 +89,20 @@ pub(crate) fn next_word(text: &[u8], from: usize) -> Span {
 }
 
 impl Span {
-    pub(crate) fn is_empty(self) -> bool {
+    pub fn is_empty(self) -> bool {
         self.to <= self.from
     }
 
-    pub(crate) fn len(self) -> usize {
-        less(self.to, self.from)
+    pub fn len(self) -> usize {
+        if self.to <= self.from {
+            return 0;
+        }
+        self.to - self.from
     }
 }
 
 // Whether a word of one text is a word of another.
-pub(crate) fn same_word(text: &[u8], word: Span, other: &[u8], name: Span) -> bool {
+pub fn same_word(text: &[u8], word: Span, other: &[u8], name: Span) -> bool {
     let to = word.to;
     let end = name.to;
     let mut at = word.from;
@@ -119,7 +121,7 @@ pub(crate) fn same_word(text: &[u8], word: Span, other: &[u8], name: Span) -> bo
 }
 
 // Whether a word of a text is this one.
-pub(crate) fn is_word(text: &[u8], word: Span, name: &[u8]) -> bool {
+pub fn is_word(text: &[u8], word: Span, name: &[u8]) -> bool {
     same_word(text, word, name, next_word(name, 0))
 }
 
@@ -142,7 +144,7 @@ fn with_digit(value: u64, byte: u8) -> u64 {
 }
 
 // The number that a word says in decimal digits.
-pub(crate) fn number_of(text: &[u8], word: Span) -> u64 {
+pub fn number_of(text: &[u8], word: Span) -> u64 {
     let to = word.to;
     let mut value: u64 = 0;
     let mut at = word.from;

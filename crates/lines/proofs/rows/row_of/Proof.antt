@@ -1,8 +1,8 @@
--- `wiring::orders::row_of` meets its contract. The measure is how many rows there may still be. Assumes nothing.
+-- `lines::rows::row_of` meets its contract. The measure is how many rows there may still be. Assumes nothing.
 use borrow.Author.Needs.{needs}
 use Prim.Native.Nat.{_-_}
-use Rattle.wiring.proofs.orders.row_of.Statement.{statement}
-use Rattle.wiring.proofs.orders.row_of.Tie as tie
+use Rattle.lines.proofs.rows.row_of.Statement.{statement}
+use Rattle.lines.proofs.rows.row_of.Tie as tie
 
 abbrev Inv-loop : tie.InvT-loop
 Inv-loop table text word number₀ from₀ number from = Unit {0}

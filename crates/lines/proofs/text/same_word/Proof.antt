@@ -1,8 +1,8 @@
--- `wiring::text::same_word` meets its contract. The measure is what is left of the word. Assumes nothing.
+-- `lines::text::same_word` meets its contract. The measure is what is left of the word. Assumes nothing.
 use borrow.Author.Needs.{needs}
 use Prim.Native.Nat.{_-_}
-use Rattle.wiring.proofs.text.same_word.Statement.{statement}
-use Rattle.wiring.proofs.text.same_word.Tie as tie
+use Rattle.lines.proofs.text.same_word.Statement.{statement}
+use Rattle.lines.proofs.text.same_word.Tie as tie
 
 abbrev Inv-loop : tie.InvT-loop
 Inv-loop text other to end at₀ place₀ at place = Unit {0}

@@ -18,7 +18,7 @@ fn asked_by(number: usize) -> Asked {
     Asked::Usage
 }
 
-pub(crate) fn read_arguments() -> Asked {
+pub fn read_arguments() -> Asked {
     let count = os::arg_count();
     let mut found = Asked::Run;
     let mut number: usize = 1;

@@ -1,9 +1,9 @@
--- `wiring::show::Line::with` meets its contract. The measure is what is left of the text. Assumes nothing.
+-- `lines::show::Line::with` meets its contract. The measure is what is left of the text. Assumes nothing.
 use borrow.Author.Needs.{needs}
 use Prim.Native.Nat.{_-_}
 use lib.ListN.{length}
-use Rattle.wiring.proofs.show.Line.with.Statement.{statement}
-use Rattle.wiring.proofs.show.Line.with.Tie as tie
+use Rattle.lines.proofs.show.Line.with.Statement.{statement}
+use Rattle.lines.proofs.show.Line.with.Tie as tie
 
 abbrev Inv-loop : tie.InvT-loop
 Inv-loop text line₀ at₀ line at = Unit {0}

@@ -10,7 +10,7 @@ pub struct Line {
 }
 
 // Writes bytes as they are.
-pub(crate) fn write_bytes(bytes: &[u8]) {
+pub fn write_bytes(bytes: &[u8]) {
     io::write_all(STDOUT_FILENO, bytes);
 }
 
@@ -31,7 +31,7 @@ impl Line {
         self
     }
 
-    pub(crate) fn of(text: &[u8]) -> Self {
+    pub fn of(text: &[u8]) -> Self {
         let line = Line {
             bytes: [0u8; WIDTH],
             len: 0,
@@ -39,7 +39,7 @@ impl Line {
         line.with(text)
     }
 
-    pub(crate) fn with(self, text: &[u8]) -> Self {
+    pub fn with(self, text: &[u8]) -> Self {
         let mut line = self;
         let mut at = 0;
         while at < text.len() {
@@ -50,18 +50,18 @@ impl Line {
     }
 
     // A blank, and the number in decimal digits.
-    pub(crate) fn long(self, value: u64) -> Self {
+    pub fn long(self, value: u64) -> Self {
         let mut digits = [0u8; 20];
         let count = io::decimal(value, &mut digits);
         self.byte(b' ').with(&digits[..count])
     }
 
-    pub(crate) fn number(self, value: u32) -> Self {
+    pub fn number(self, value: u32) -> Self {
         self.long(value as u64)
     }
 
     // Writes the line with its newline.
-    pub(crate) fn write(self) {
+    pub fn write(self) {
         let line = self.byte(b'\n');
         let bytes = line.bytes;
         write_first(&bytes, line.len);

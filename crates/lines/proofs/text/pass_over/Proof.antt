@@ -1,9 +1,9 @@
--- `wiring::text::pass_over` meets its contract. The measure is what is left of the text. Assumes nothing.
+-- `lines::text::pass_over` meets its contract. The measure is what is left of the text. Assumes nothing.
 use borrow.Author.Needs.{needs}
 use Prim.Native.Nat.{_-_}
 use lib.ListN.{length}
-use Rattle.wiring.proofs.text.pass_over.Statement.{statement}
-use Rattle.wiring.proofs.text.pass_over.Tie as tie
+use Rattle.lines.proofs.text.pass_over.Statement.{statement}
+use Rattle.lines.proofs.text.pass_over.Tie as tie
 
 abbrev Inv-loop : tie.InvT-loop
 Inv-loop text from blanks at₀ at = Unit {0}

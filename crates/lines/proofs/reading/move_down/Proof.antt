@@ -1,10 +1,10 @@
--- `wiring::reading::move_down` meets its contract. The buffer keeps its length, and the count is at most the place. The measure is what is left to move. Assumes nothing.
+-- `lines::reading::move_down` meets its contract. The buffer keeps its length, and the count is at most the place. The measure is what is left to move. Assumes nothing.
 use borrow.Author.Needs.{needs}
 use mathlib.Core.Path.{_≡_}
 use Prim.Native.Nat.{_-_, _≤_}
 use lib.ListN.{length}
-use Rattle.wiring.proofs.reading.move_down.Statement.{statement}
-use Rattle.wiring.proofs.reading.move_down.Tie as tie
+use Rattle.lines.proofs.reading.move_down.Statement.{statement}
+use Rattle.lines.proofs.reading.move_down.Tie as tie
 
 abbrev Inv-loop : tie.InvT-loop
 Inv-loop buffer₀ from end at₀ count₀ buffer at count =

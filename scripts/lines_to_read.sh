@@ -22,5 +22,8 @@ echo 'for sheets and files besides:'
 lines sheets Theorems Sheets SheetHistory Held
 lines files View Layout Saving Loading BuildList Claims LoadClaims FileTheorems LoadTheorems
 lines exports Exports
+echo 'for the sketch besides:'
+lines sketches Plan PlanNumbers PlanCalls PlanLists SketchTables
+lines agreement Meaning Agreement Histories AgreementTheorems
 echo 'for kits with other limits besides:'
 lines kits Kits KitTheorems

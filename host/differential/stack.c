@@ -12,12 +12,13 @@
 uint32_t run_records(const uint8_t *, size_t, uint8_t *, size_t);
 uint64_t save_records(const uint8_t *, size_t, uint8_t *, size_t);
 uint64_t records_of_file(const uint8_t *, size_t, uint8_t *, size_t);
+uint64_t merge_files(const uint8_t *, size_t, const uint8_t *, size_t, uint8_t *, size_t);
 
 enum { CALLS = 20000, WORDS = 5, STACK = 1 << 20, PAINT = 0xA5, BLOCKS = 1000, LINKS = BLOCKS - 1, FILE_BYTES = 65536 };
 
 static uint32_t requests[CALLS * WORDS], answers[CALLS * WORDS], ring[(BLOCKS + LINKS) * WORDS], loaded[CALLS * WORDS];
-static uint8_t file[FILE_BYTES];
-static uint64_t file_bytes, loaded_bytes;
+static uint8_t file[FILE_BYTES], merged[FILE_BYTES];
+static uint64_t file_bytes, loaded_bytes, merged_bytes;
 
 static void draw(uint32_t *request) {
     static const uint32_t below[10][5] = {
@@ -42,6 +43,11 @@ static void *save(void *unused) {
 
 static void *load(void *unused) {
     loaded_bytes = records_of_file(file, file_bytes, (uint8_t *)loaded, sizeof loaded);
+    return unused;
+}
+
+static void *merge(void *unused) {
+    merged_bytes = merge_files(file, file_bytes, file, 0, merged, sizeof merged);
     return unused;
 }
 
@@ -79,4 +85,6 @@ int main(void) {
     printf("save_records: a file of %llu bytes, %zu bytes of stack\n", (unsigned long long)file_bytes, bytes);
     bytes = taken(load);
     printf("records_of_file: %llu requests, %zu bytes of stack\n", (unsigned long long)(loaded_bytes / 20), bytes);
+    bytes = taken(merge);
+    printf("merge_files: a file of %llu bytes, %zu bytes of stack\n", (unsigned long long)merged_bytes, bytes);
 }

@@ -13,7 +13,10 @@ use Rattle.files.specs.View.{BlockPorts, RankWire, View}
 use Rattle.files.specs.Layout.{unbytes}
 use Rattle.files.specs.Loading.{outPort, inPort, loadAnswer, loadNumbers}
 use Rattle.files.specs.BuildList.{ifLoaded}
+use Rattle.files.specs.Merging.{mergeAnswer, mergeNumbers}
 use Rattle.files.specs.Saving.{saveAnswer, saveBuffer}
+use Rattle.files.specs.declared.merge.MergeAnswer.{MergeAnswer}
+use Rattle.files.specs.declared.merge.MergeAnswer.the-variants as merge
 use Rattle.files.specs.declared.save.SaveAnswer.{SaveAnswer}
 use Rattle.files.specs.declared.save.SaveAnswer.the-variants.{Saved, BufferShort}
 
@@ -63,3 +66,15 @@ recordsReturn file requests =
 -- the requests, and past them what the buffer held; as it was if it is too short or the load is refused
 unfoldable pub recordsWritten : List ℕ → List ℕ → List ℕ
 recordsWritten file requests = ifLoaded (loadAnswer One file) (listAfter (fileRequests file) requests) requests
+
+-- Two files as one: the length of the result, or the number of what merging answers. The buffer is as merging leaves it.
+
+abbrev pub mergeTold : MergeAnswer → ℕ
+mergeTold (merge.Merged n) = n
+mergeTold merge.BadSums = refusedWith (getD (mergeNumbers merge.BadSums) 0 0)
+mergeTold merge.BadLayout = refusedWith (getD (mergeNumbers merge.BadLayout) 0 0)
+mergeTold (merge.Refused r) = refusedWith (getD (mergeNumbers (merge.Refused r)) 0 0)
+mergeTold merge.BufferShort = refusedWith (getD (mergeNumbers merge.BufferShort) 0 0)
+
+unfoldable pub mergeReturn : List ℕ → List ℕ → List ℕ → ℕ
+mergeReturn first second file = mergeTold (mergeAnswer first second file)

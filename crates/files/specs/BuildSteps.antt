@@ -412,42 +412,47 @@ module _ (release : Release) (v : View) where
     pub blocks-fit-table : isLoaded a₁ ≡ true → length (v .blocks) ≤ nodeSlots
     blocks-fit-table h = adds-few release (v .blocks) (ap isLoaded (sym (first .told)) ∙ h)
 
-    pub build-refused-first : isLoaded a₁ ≡ false → (r : FileLoaded) → r ≡ record { graph = emptyGraph release; answer = a₁ } → BuildIs release v r
+    -- refused at a block, and at a wire or not
+    pub built-blocks : isLoaded a₁ ≡ false → Built (emptyGraph release) (buildOf v) m₁ a₁
     unfolding buildOf
-    build-refused-first h r e =
-        let f : firstRefusal (emptyGraph release) (adds ++ links) ≡ a₁ = first-refused (emptyGraph release) adds links (ap isLoaded (sym (first .told)) ∙ h) ∙ sym (first .told) in
+    built-blocks h =
         record {
-          answer = ap (λ (x : FileLoaded). x .answer) e ∙ sym f;
-          graph = ap (λ (x : FileLoaded). x .graph) e ∙ graph-refused release (firstRefusal (emptyGraph release) (adds ++ links)) _ (ap isLoaded f ∙ h);
-          kept = subst MultiWf (sym (ap (λ (x : FileLoaded). x .graph) e)) (empty-kept release);
+          told = sym (first-refused (emptyGraph release) adds links (ap isLoaded (sym (first .told)) ∙ h) ∙ sym (first .told));
+          graph = λ k. absurd (true-not-false k h);
+          kept = first .kept;
         }
 
-    module _ (h : isLoaded a₁ ≡ true) {m₂ : MultiPortGraph} {a₂ : LoadAnswer} (second : Built m₁ links m₂ a₂) where
-      told-both : firstRefusal (emptyGraph release) (adds ++ links) ≡ a₂
-      told-both =
-          first-append (emptyGraph release) adds links (ap isLoaded (sym (first .told)) ∙ h)
-          ∙ (ap (λ (m : MultiPortGraph). firstRefusal m links) (sym (first .graph h)) ∙ sym (second .told))
+    pub built-wires : isLoaded a₁ ≡ true → {m₂ : MultiPortGraph} {a₂ : LoadAnswer} → Built m₁ links m₂ a₂ → Built (emptyGraph release) (buildOf v) m₂ a₂
+    unfolding buildOf
+    built-wires h second =
+        record {
+          told =
+              sym
+              (first-append (emptyGraph release) adds links (ap isLoaded (sym (first .told)) ∙ h)
+              ∙ (ap (λ (m : MultiPortGraph). firstRefusal m links) (sym (first .graph h)) ∙ sym (second .told)));
+          graph = λ k. second .graph k ∙ (ap (λ (x : MultiPortGraph). graphAfter x links) (first .graph h) ∙ sym (after-append (emptyGraph release) adds links));
+          kept = second .kept;
+        }
 
-      pub build-refused-second : isLoaded a₂ ≡ false → (r : FileLoaded) → r ≡ record { graph = emptyGraph release; answer = a₂ } → BuildIs release v r
-      unfolding buildOf
-      build-refused-second k r e =
-          record {
-            answer = ap (λ (x : FileLoaded). x .answer) e ∙ sym told-both;
-            graph = ap (λ (x : FileLoaded). x .graph) e ∙ graph-refused release (firstRefusal (emptyGraph release) (adds ++ links)) _ (ap isLoaded told-both ∙ k);
-            kept = subst MultiWf (sym (ap (λ (x : FileLoaded). x .graph) e)) (empty-kept release);
-          }
+-- a build as a load gives it
+module _ (release : Release) (v : View) {m : MultiPortGraph} {a : LoadAnswer} (b : Built (emptyGraph release) (buildOf v) m a) where
+  pub build-refused : isLoaded a ≡ false → (r : FileLoaded) → r ≡ record { graph = emptyGraph release; answer = a } → BuildIs release v r
+  build-refused h r e =
+      record {
+        answer = ap (λ (x : FileLoaded). x .answer) e ∙ b .told;
+        graph = ap (λ (x : FileLoaded). x .graph) e ∙ graph-refused release (firstRefusal (emptyGraph release) (buildOf v)) _ (ap isLoaded (sym (b .told)) ∙ h);
+        kept = subst MultiWf (sym (ap (λ (x : FileLoaded). x .graph) e)) (empty-kept release);
+      }
 
-      pub build-done : isLoaded a₂ ≡ true → (m : MultiPortGraph) → m ≡ m₂ → BuildIs release v (record { graph = m; answer = Loaded })
-      unfolding buildOf
-      build-done k m e =
-          let t : firstRefusal (emptyGraph release) (adds ++ links) ≡ Loaded = told-both ∙ is-loaded a₂ k in
-          let g : run release (adds ++ links) .graph ≡ m₂ =
-          run-graph release (adds ++ links) ∙ (after-append (emptyGraph release) adds links ∙ (ap (λ (x : MultiPortGraph). graphAfter x links) (sym (first .graph h)) ∙ sym (second .graph k))) in
-          record {
-            answer = sym t;
-            graph = e ∙ (sym g ∙ ap (λ (x : LoadAnswer). graphIf release x (run release (adds ++ links) .graph)) (sym t));
-            kept = subst MultiWf (sym e) (second .kept);
-          }
+  pub build-done : isLoaded a ≡ true → (m′ : MultiPortGraph) → m′ ≡ m → BuildIs release v (record { graph = m′; answer = Loaded })
+  build-done k m′ e =
+      let t : firstRefusal (emptyGraph release) (buildOf v) ≡ Loaded = sym (b .told) ∙ is-loaded a k in
+      let g : run release (buildOf v) .graph ≡ m = run-graph release (buildOf v) ∙ sym (b .graph k) in
+      record {
+        answer = sym t;
+        graph = e ∙ (sym g ∙ ap (λ (x : LoadAnswer). graphIf release x (run release (buildOf v) .graph)) (sym t));
+        kept = subst MultiWf (sym e) (b .kept);
+      }
 
 -- The load.
 

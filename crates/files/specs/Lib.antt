@@ -1,4 +1,5 @@
--- A wiring as a file on the stick: saved and loaded (document 02, Req 05 and 06), loaded for either release (Req 09).
+-- A wiring as a file on the stick: saved and loaded (document 02, Req 05 and 06), loaded for either release (Req 09), and two files as one
+-- (Req 12).
 --
 -- What must be believed, in this order: that these definitions, over those of the multiport graph, say what 02 says.
 --   View          the view of a graph: blocks by rank, wires between ports by rank, sorted
@@ -8,9 +9,12 @@
 --   BuildList     the build of a file as numbers, for those who ask it elsewhere
 --   Claims        the words of the theorems: the same wiring, over the wire book; sizes; sound views
 --   LoadClaims    when a build is refused
+--   Merging       two files as one: the result, what merging answers and leaves in the lent buffer
+--   MergeClaims   which answer of a merge is given when
 -- Then what is proved of them:
 --   FileTheorems  of saving: every theorem with a sentence and its statement
 --   LoadTheorems  of loading, in the same way
+--   MergeTheorems of merging, in the same way
 --   LayoutExample one small file, byte by byte
 --
 -- What is proved, and need not be believed: everything else.
@@ -32,6 +36,8 @@
 --   LoadAnswers   the answers of a load, case by case
 --   ReleaseFiles  a file loaded for either release
 --   OneWire       a history of release 2 saves no two wires into one input
+--   MergeLaws     the view of two files: sorting in is appending, and the grouping makes no difference
+--   MergeAnswers  the answers of a merge, case by case
 pub mod View
 pub mod Layout
 pub mod Saving
@@ -42,6 +48,9 @@ pub mod LoadClaims
 pub mod FileTheorems
 pub mod LoadTheorems
 pub mod LayoutExample
+pub mod Merging
+pub mod MergeClaims
+pub mod MergeTheorems
 -- laws
 pub mod OrderLaws
 pub mod LayoutLaws
@@ -61,9 +70,12 @@ pub mod BuildRefusals
 pub mod LoadAnswers
 pub mod ReleaseFiles
 pub mod OneWire
+pub mod MergeLaws
+pub mod MergeAnswers
 -- the code's own forms
 pub mod Forms
 pub mod LoadForms
+pub mod MergeForms
 -- steps that the functions' proofs cite
 pub mod TurnSteps
 pub mod ByteSteps
@@ -74,3 +86,4 @@ pub mod CheckSteps
 pub mod WireSteps
 pub mod BuildSteps
 pub mod ListingSteps
+pub mod MergeSteps

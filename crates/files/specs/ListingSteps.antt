@@ -28,11 +28,10 @@ use Rattle.files.specs.OrderLaws.{sorted-length}
 use Rattle.files.specs.ViewLaws.{wires-few}
 use Rattle.files.specs.SoundLaws.{laid-sound}
 use Rattle.files.specs.BuildLaws.{built-view}
-use Rattle.files.specs.LoadForms.{placeOf, recordIn, noWire, BlocksRead, WiresRead, Laid, isLoaded, Firsts, Linked, BuildIs}
+use Rattle.files.specs.LoadForms.{placeOf, recordIn, noWire, BlocksRead, WiresRead, Laid, isLoaded, Firsts, Linked}
 use Rattle.files.specs.BuildSteps.{adds-few, first-refused, is-loaded}
 use Rattle.files.specs.declared.load.LoadAnswer.{LoadAnswer}
 use Rattle.files.specs.declared.load.LoadAnswer.the-variants.{Loaded, BadSums, BadLayout, Refused}
-use Rattle.files.specs.declared.load.FileLoaded.{FileLoaded}
 use Rattle.files.specs.declared.listing.BuildListed.{BuildListed}
 
 pub two-numbers : (l : List ℕ) (i a b : ℕ) → set (set l i a) (i + 1) b ≡ sets l i (a ∷ b ∷ [])
@@ -167,9 +166,9 @@ module _ (release : Release) (bytes : List ℕ) where
   unfolding loadAnswerUnder
   answer-bad-layout w h = rw (← w, ← h)
 
-  pub answer-built : true ≡ isWhole bytes → true ≡ isLaid bytes → {r : FileLoaded} → BuildIs release (unbytes bytes) r → r .answer ≡ loadAnswer release bytes
+  pub answer-built : true ≡ isWhole bytes → true ≡ isLaid bytes → {a : LoadAnswer} → a ≡ firstRefusal (emptyGraph release) (buildOf (unbytes bytes)) → a ≡ loadAnswer release bytes
   unfolding loadAnswerUnder
-  answer-built w h b = rw (← w, ← h) (b .answer)
+  answer-built w h e = rw (← w, ← h) e
 
 -- Accepted files are small.
 

@@ -127,7 +127,7 @@ module _ {m : MultiPortGraph} {M : Model} (f : Fine m M) where
   both-small n gone e = omega arith
   both-small n (live k) e = let a = f .good .portsInBlock n k e in let b = f .good .blockSmall n k e in omega arith
 
-  view-small : (b : BlockPorts) → Member b (viewOf m .blocks) → b .incoming + b .outgoing ≤ nodePorts
+  pub view-small : (b : BlockPorts) → Member b (viewOf m .blocks) → b .incoming + b .outgoing ≤ nodePorts
   unfolding viewOf blockPorts
   view-small b h =
       let k = member-map (blockPorts m) b (blocks m) h in

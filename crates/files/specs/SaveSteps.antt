@@ -32,11 +32,11 @@ use Rattle.files.specs.Layout.{Record, blockRecord, wireRecord, unitsFor
 use Rattle.files.specs.LayoutLaws.{FieldsFit, units-length}
 use Rattle.files.specs.Saving.{fileOf, saveAnswer, saveBuffer}
 use Rattle.files.specs.Claims.{At}
-use Rattle.files.specs.OrderLaws.{sorted-member, sorted-length}
+use Rattle.files.specs.OrderLaws.{sorted-member}
 use Rattle.files.specs.RankLaws.{at-member, rank-below, blocks-rise}
 use Rattle.files.specs.ViewLaws.{EndFits, walked-places, walked-fits, ports-small, node-in-use, blocks-few, wires-few, file-length-is}
-use Rattle.files.specs.Forms.{numberOf, recordOf, turns, blocksIn, nodeListed, blockListed, nodesOf, blocksOf, BlocksFit, rankTurn, blockTurn, wiresIn, wireListed, wiresOf, rankRead, WiresFit, wireTurn, Listings}
-use Rattle.files.specs.SortSteps.{number-back, wireNumber, wires-numbered}
+use Rattle.files.specs.Forms.{numberOf, recordOf, turns, sortedNumbers, blocksIn, nodeListed, blockListed, nodesOf, blocksOf, BlocksFit, rankTurn, blockTurn, wiresIn, wireListed, wiresOf, rankRead, WiresFit, wireTurn, Listings}
+use Rattle.files.specs.SortSteps.{number-back, wireNumber, sorted-as-numbers}
 use Rattle.files.specs.declared.save.SaveAnswer.the-variants.{Saved, BufferShort}
 
 -- Ranks.
@@ -81,23 +81,28 @@ module _ (listed : List ℕ) where
       let a = rank-written (blocksIn listed) 0 x table r h k in
       omega arith
 
--- Records of blocks.
+-- Records.
 
-module _ (listed : List ℕ) where
-  blocks-from : (n i : ℕ) (sofar rest : List ℕ) → length sofar ≡ i → n ≤ length rest →
-      turns (blockTurn listed) i n (sofar ++ rest) ≡ (sofar ++ map (λ j. numberOf (blockRecord (blockListed listed j))) (range i n)) ++ drop n rest
-  unfolding turns range
-  blocks-from zero i sofar rest e h = ap (λ l. l ++ rest) (sym (append-nil sofar))
-  blocks-from (suc n) i sofar [] e h = absurd (omega arith)
-  blocks-from (suc n) i sofar (z ∷ rest) e h =
-      let x = numberOf (blockRecord (blockListed listed i)) in
-      let a : set (sofar ++ (z ∷ rest)) i x ≡ (sofar ++ (x ∷ [])) ++ rest = set-at sofar z rest x i e ∙ sym (append-assoc sofar (x ∷ []) rest) in
-      let l = length-append sofar (x ∷ []) in
-      ap (turns (blockTurn listed) (suc i) n) a
-      ∙ (blocks-from n (suc i) (sofar ++ (x ∷ [])) rest (omega arith) (omega arith)
-      ∙ ap (λ k. k ++ drop n rest) (append-assoc sofar (x ∷ []) (map (λ j. numberOf (blockRecord (blockListed listed j))) (range (suc i) n))))
+-- a number for each turn, stored one after the other
+numbers-stored : (f : ℕ → ℕ) (n i : ℕ) (sofar rest : List ℕ) → length sofar ≡ i → n ≤ length rest →
+    turns (λ j l. set l j (f j)) i n (sofar ++ rest) ≡ (sofar ++ map f (range i n)) ++ drop n rest
+unfolding turns range
+numbers-stored f zero i sofar rest e h = ap (λ l. l ++ rest) (sym (append-nil sofar))
+numbers-stored f (suc n) i sofar [] e h = absurd (omega arith)
+numbers-stored f (suc n) i sofar (z ∷ rest) e h =
+    let x = f i in
+    let a : set (sofar ++ (z ∷ rest)) i x ≡ (sofar ++ (x ∷ [])) ++ rest = set-at sofar z rest x i e ∙ sym (append-assoc sofar (x ∷ []) rest) in
+    let l = length-append sofar (x ∷ []) in
+    ap (turns (λ j l. set l j (f j)) (suc i) n) a
+    ∙ (numbers-stored f n (suc i) (sofar ++ (x ∷ [])) rest (omega arith) (omega arith)
+    ∙ ap (λ k. k ++ drop n rest) (append-assoc sofar (x ∷ []) (map f (range (suc i) n))))
 
-records-back : {A : Type 0} (f : A → Record) (l : List A) → ((x : A) → Member x l → FieldsFit (f x)) → map recordOf (map (λ x. numberOf (f x)) l) ≡ map f l
+-- the first so many of them
+numbers-taken : (f : ℕ → ℕ) (n : ℕ) (numbers : List ℕ) → n ≤ length numbers → take n (turns (λ j l. set l j (f j)) 0 n numbers) ≡ map f (range 0 n)
+numbers-taken f n numbers h =
+    ap (take n) (numbers-stored f n 0 [] numbers refl h) ∙ take-at (map f (range 0 n)) (drop n numbers) n (length-map f (range 0 n) ∙ length-range 0 n)
+
+pub records-back : {A : Type 0} (f : A → Record) (l : List A) → ((x : A) → Member x l → FieldsFit (f x)) → map recordOf (map (λ x. numberOf (f x)) l) ≡ map f l
 records-back f [] h = refl
 records-back f (x ∷ l) h =
     let a = number-back (f x) (h x (inl refl)) in
@@ -114,13 +119,9 @@ pub block-records : (listed numbers : List ℕ) → blocksIn listed ≤ length n
 unfolding blocksOf
 block-records listed numbers h f =
     let n = blocksIn listed in
-    let g : ℕ → ℕ = λ j. numberOf (blockRecord (blockListed listed j)) in
-    let e = blocks-from listed n 0 [] numbers refl h in
-    let l = length-map g (range 0 n) ∙ length-range 0 n in
-    ap (λ (k : List ℕ). map recordOf (take n k)) e
-    ∙ (ap (map recordOf) (take-at (map g (range 0 n)) (drop n numbers) n l)
+    ap (map recordOf) (numbers-taken (λ j. numberOf (blockRecord (blockListed listed j))) n numbers h)
     ∙ (records-back (λ j. blockRecord (blockListed listed j)) (range 0 n) (λ j i. let r = member-range j 0 n i in f j (omega arith))
-    ∙ map-map (blockListed listed) blockRecord (range 0 n)))
+    ∙ map-map (blockListed listed) blockRecord (range 0 n))
 
 -- Records of wires.
 
@@ -161,10 +162,6 @@ module _ {listed ends : List ℕ} (table : List ℕ) (p : Listings listed ends (
       let r = wires-same n (suc i) (λ j k. h j (omega arith)) in
       λ j. record { source = a j; output = getD ends (8 * i + 3) 0; target = b j; input = getD ends (8 * i + 7) 0 } ∷ r j
 
-  wires-many : length (wiresOf (rankRead ranks) ends) ≡ wiresIn ends
-  unfolding wiresOf
-  wires-many = length-map (wireListed (rankRead ranks) ends) (range 0 (wiresIn ends)) ∙ length-range 0 (wiresIn ends)
-
   wires-ranked : wiresOf (rankRead ranks) ends ≡ wiresOf (rankAmong (nodesOf listed)) ends
   unfolding wiresOf
   wires-ranked = wires-same (wiresIn ends) 0 (λ j k. omega arith)
@@ -176,16 +173,17 @@ module _ {listed ends : List ℕ} (table : List ℕ) (p : Listings listed ends (
       let r = member-range (g .0) 0 (wiresIn ends) (g .1) in
       subst (λ (v : RankWire). FieldsFit (wireRecord v)) (sym (g .2)) (wires-fit (g .0) (omega arith))
 
-  -- the records that are written of the wires of a listing
+  -- the records that are written of the wires of a listing: those of the sorted numbers
   pub wire-records : (numbers : List ℕ) → wiresIn ends ≤ length numbers →
-      map recordOf (take (wiresIn ends) (turns (wireTurn ends ranks) 0 (wiresIn ends) numbers)) ≡ map wireRecord (sorted (wiresOf (rankAmong (nodesOf listed)) ends))
+      map recordOf (sortedNumbers (take (wiresIn ends) (turns (wireTurn ends ranks) 0 (wiresIn ends) numbers))) ≡ map wireRecord (sorted (wiresOf (rankAmong (nodesOf listed)) ends))
+  unfolding wiresOf
   wire-records numbers h =
       let n = wiresIn ends in
-      let ws = sorted (wiresOf (rankRead ranks) ends) in
-      let l = length-map wireNumber ws ∙ (sorted-length (wiresOf (rankRead ranks) ends) ∙ wires-many) in
-      ap (λ (k : List ℕ). map recordOf (take n k)) (wires-numbered ends ranks numbers h wires-fit)
-      ∙ (ap (map recordOf) (take-at (map wireNumber ws) (drop n numbers) n l)
-      ∙ (records-back wireRecord ws (λ w i. wires-small w (sorted-member w (wiresOf (rankRead ranks) ends) i))
+      let ws = wiresOf (rankRead ranks) ends in
+      ap (λ (l : List ℕ). map recordOf (sortedNumbers l))
+      (numbers-taken (λ j. numberOf (wireRecord (wireListed (rankRead ranks) ends j))) n numbers h ∙ map-map (wireListed (rankRead ranks) ends) wireNumber (range 0 n))
+      ∙ (ap (map recordOf) (sorted-as-numbers ws wires-small)
+      ∙ (records-back wireRecord (sorted ws) (λ w i. wires-small w (sorted-member w ws i))
       ∙ ap (λ (k : List RankWire). map wireRecord (sorted k)) wires-ranked))
 
 -- The listings of a graph.

@@ -6,7 +6,7 @@ use crate::build::out_port;
 use crate::bytes::field_at;
 use crate::check::is_whole;
 use crate::load::LoadAnswer;
-use crate::load::build;
+use crate::load::build_answer;
 use crate::load::laid;
 use crate::wires::place;
 use multiportgraph::multiportgraph::Release;
@@ -128,8 +128,7 @@ pub fn list_build(release: Release, file: &[u8], numbers: &mut [u32]) -> BuildLi
     }
     let blocks = shape.blocks;
     let wires = shape.wires;
-    let built = build(release, file, blocks, wires);
-    let answer = built.answer;
+    let answer = build_answer(release, file, blocks, wires);
     if !accepted(answer) {
         return unlisted(answer);
     }

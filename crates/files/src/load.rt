@@ -1,4 +1,5 @@
 // Loading a file: sums and layout are held against the whole file, then its blocks are added and its wires linked.
+use crate::build::BuiltIn;
 use crate::build::accepted;
 use crate::build::add_blocks;
 use crate::build::fill_firsts;
@@ -22,9 +23,10 @@ ghost use Prim.Native.Nat.{_%_};
 ghost use lib.ListN.{length};
 ghost use Rattle.multiportgraph.specs.Graph.{emptyGraph};
 ghost use Rattle.multiportgraph.specs.Inner.{MultiWf};
+ghost use Rattle.multiportgraph.specs.MultiLent.{multiIn, noHeld};
 ghost use Rattle.files.specs.Layout.{unbytes};
-ghost use Rattle.files.specs.Loading.{loadAnswer, loadGraph};
-ghost use Rattle.files.specs.LoadForms.{Laid, BuildIs};
+ghost use Rattle.files.specs.Loading.{buildOf, firstRefusal, loadAnswer, loadGraph};
+ghost use Rattle.files.specs.LoadForms.{Built, Laid, BuildIs};
 
 // What loading comes to.
 pub enum LoadAnswer {
@@ -72,8 +74,83 @@ pub(crate) fn laid(file: &[u8]) -> Shape
     }
 }
 
+// Builds the wiring of a laid file for a release over lent tables, which are empty, as far as the first add or link that is refused.
+fn build_over(
+    nodes: &mut [u32; NODE_WORDS],
+    links: &mut [u32; PORT_SLOTS],
+    owners: &mut [u32; PORT_SLOTS],
+    heads: &mut [u32; FREE_LISTS],
+    marks: &mut [bool; PORT_SLOTS],
+    flags: &mut [bool; NODE_SLOTS],
+    release: Release,
+    file: &[u8],
+    blocks: usize,
+    wires: usize,
+) -> BuiltIn
+    requires { ⌜ (multiIn (now nodes) (now links) (now owners) (now heads) (now marks) (now flags) (noHeld release) ≡ emptyGraph release) × Laid (now file) true blocks wires ⌝ }
+    ensures { λ r. ⌜ Built (emptyGraph release) (buildOf (unbytes (now (file .entry)))) (multiIn (now (nodes .exit)) (now (links .exit)) (now (owners .exit)) (now (heads .exit)) (now (marks .exit)) (now (flags .exit)) (r .held)) (r .answer) ⌝ }
+{
+    let added = add_blocks(
+        nodes,
+        links,
+        owners,
+        heads,
+        marks,
+        flags,
+        no_held(release),
+        file,
+        blocks,
+    );
+    let answer = added.answer;
+    if !accepted(answer) {
+        return added;
+    }
+    let mut firsts = [0u32; NODE_SLOTS];
+    fill_firsts(&mut firsts, file, blocks);
+    link_wires(
+        nodes,
+        links,
+        owners,
+        heads,
+        marks,
+        flags,
+        added.held,
+        &firsts,
+        file,
+        blocks,
+        (blocks + 62) / 63,
+        wires,
+    )
+}
+
+// What building a laid file for a release answers.
+pub(crate) fn build_answer(release: Release, file: &[u8], blocks: usize, wires: usize) -> LoadAnswer
+    requires { ⌜ Laid (now file) true blocks wires ⌝ }
+    ensures { λ r. ⌜ r ≡ firstRefusal (emptyGraph release) (buildOf (unbytes (now (file .entry)))) ⌝ }
+{
+    let mut nodes = [0u32; NODE_WORDS];
+    let mut links = [0u32; PORT_SLOTS];
+    let mut owners = [0u32; PORT_SLOTS];
+    let mut heads = [0u32; FREE_LISTS];
+    let mut marks = [false; PORT_SLOTS];
+    let mut flags = [false; NODE_SLOTS];
+    let built = build_over(
+        &mut nodes,
+        &mut links,
+        &mut owners,
+        &mut heads,
+        &mut marks,
+        &mut flags,
+        release,
+        file,
+        blocks,
+        wires,
+    );
+    built.answer
+}
+
 // Builds the wiring of a laid file for a release.
-pub(crate) fn build(release: Release, file: &[u8], blocks: usize, wires: usize) -> FileLoaded
+fn build(release: Release, file: &[u8], blocks: usize, wires: usize) -> FileLoaded
     requires { ⌜ Laid (now file) true blocks wires ⌝ }
     ensures { λ r. ⌜ BuildIs release (unbytes (now (file .entry))) r ⌝ }
 {
@@ -83,45 +160,24 @@ pub(crate) fn build(release: Release, file: &[u8], blocks: usize, wires: usize) 
     let mut heads = [0u32; FREE_LISTS];
     let mut marks = [false; PORT_SLOTS];
     let mut flags = [false; NODE_SLOTS];
-    let held = no_held(release);
-    let added = add_blocks(
+    let built = build_over(
         &mut nodes,
         &mut links,
         &mut owners,
         &mut heads,
         &mut marks,
         &mut flags,
-        held,
+        release,
         file,
         blocks,
-    );
-    let first = added.answer;
-    if !accepted(first) {
-        return refused(release, first);
-    }
-    let middle = added.held;
-    let mut firsts = [0u32; NODE_SLOTS];
-    fill_firsts(&mut firsts, file, blocks);
-    let linked = link_wires(
-        &mut nodes,
-        &mut links,
-        &mut owners,
-        &mut heads,
-        &mut marks,
-        &mut flags,
-        middle,
-        &firsts,
-        file,
-        blocks,
-        (blocks + 62) / 63,
         wires,
     );
-    let second = linked.answer;
-    if !accepted(second) {
-        return refused(release, second);
+    let answer = built.answer;
+    if !accepted(answer) {
+        return refused(release, answer);
     }
-    let after = linked.held;
-    let graph = graph_of_tables(&nodes, &links, &owners, &heads, &marks, &flags, after);
+    let held = built.held;
+    let graph = graph_of_tables(&nodes, &links, &owners, &heads, &marks, &flags, held);
     FileLoaded {
         graph: graph,
         answer: LoadAnswer::Loaded,

@@ -1,5 +1,4 @@
 // Records of blocks and wires as numbers, read off the listings of a graph; wires by the ranks of their blocks.
-use crate::sort::insert_number;
 ghost use mathlib.Core.Path.{_≡_};
 ghost use Prim.Native.Nat.{_≤_, _<_};
 ghost use lib.ListN.{length, getD, set};
@@ -68,7 +67,7 @@ fn wire_number<'a>(ends: &'a [u32], ranks: &'a [u32], i: usize) -> u64
     record_number(source, ends[k + 3], target, ends[k + 7])
 }
 
-// The records of the wires of a listing, as numbers, sorted.
+// The records of the wires of a listing, as numbers.
 pub(crate) fn wire_numbers<'a>(ends: &'a [u32], ranks: &'a [u32], numbers: &mut [u64])
     requires { ⌜ (wiresIn (now ends) ≤ length (now numbers)) × WiresFit (now ends) (now ranks) ⌝ }
     ensures { λ _. ⌜ now (numbers .exit) ≡ turns (wireTurn (now (ends .entry)) (now (ranks .entry))) 0 (wiresIn (now (ends .entry))) (now (numbers .entry)) ⌝ }
@@ -76,7 +75,7 @@ pub(crate) fn wire_numbers<'a>(ends: &'a [u32], ranks: &'a [u32], numbers: &mut 
     let count = ends.len() / 8;
     let mut i: usize = 0;
     while i < count {
-        insert_number(numbers, i, wire_number(ends, ranks, i));
+        numbers[i] = wire_number(ends, ranks, i);
         i += 1;
     }
 }

@@ -2,6 +2,7 @@
 use crate::ranks::block_numbers;
 use crate::ranks::fill_ranks;
 use crate::ranks::wire_numbers;
+use crate::sort::sort_numbers;
 use crate::units::put_units;
 use multiportgraph::lent::Held;
 use multiportgraph::lent::link_count_in;
@@ -20,14 +21,14 @@ ghost use mathlib.Core.List.{map};
 ghost use Prim.Native.Nat.{_+_, _*_, _≤_};
 ghost use lib.ListN.{length};
 ghost use lib.Seq.{sets};
-ghost use Rattle.portgraph.specs.Limits.{nodeSlots, portSlots};
+ghost use Rattle.portgraph.specs.Limits.{portSlots};
 ghost use Rattle.multiportgraph.specs.Calls.{visibleNodes, visibleLinks};
 ghost use Rattle.multiportgraph.specs.Inner.{MultiWf};
 ghost use Rattle.multiportgraph.specs.MultiLent.{multiIn};
 ghost use Rattle.files.specs.View.{rankAmong, sorted};
 ghost use Rattle.files.specs.Layout.{blockRecord, wireRecord, unitsFor, unitsOf, fileLength};
 ghost use Rattle.files.specs.Saving.{saveAnswer, saveBuffer};
-ghost use Rattle.files.specs.Forms.{blocksIn, nodesOf, blocksOf, BlocksFit, wiresIn, wiresOf, Listings};
+ghost use Rattle.files.specs.Forms.{recordOf, sortedNumbers, blocksIn, nodesOf, blocksOf, BlocksFit, wiresIn, wiresOf, Listings};
 
 // A wire takes two port slots.
 const MOST_WIRES: usize = PORT_SLOTS / 2;
@@ -49,8 +50,8 @@ pub enum SaveAnswer {
 }
 
 // The length of a file of so many blocks and wires.
-fn file_length(blocks: usize, wires: usize) -> usize
-    requires { ⌜ (blocks ≤ nodeSlots) × (wires ≤ portSlots) ⌝ }
+pub(crate) fn file_length(blocks: usize, wires: usize) -> usize
+    requires { ⌜ (blocks ≤ portSlots) × (wires ≤ portSlots) ⌝ }
     ensures { λ r. ⌜ r ≡ fileLength blocks wires ⌝ }
 {
     512 * ((blocks + 62) / 63 + (wires + 62) / 63)
@@ -65,6 +66,15 @@ fn put_blocks(listed: &[u32], numbers: &mut [u64], buffer: &mut [u8]) -> usize
     block_numbers(listed, numbers);
     let count = listed.len() / 4;
     put_units(buffer, 0, 1, &numbers[..count])
+}
+
+// Lays the units of wires from a place on, whose records as numbers come in any order.
+fn put_sorted(numbers: &mut [u64], buffer: &mut [u8], at: usize)
+    requires { ⌜ at + 512 * unitsFor (length (now numbers)) ≤ length (now buffer) ⌝ }
+    ensures { λ _. ⌜ now (buffer .exit) ≡ sets (now (buffer .entry)) at (unitsOf 2 (map recordOf (sortedNumbers (now (numbers .entry))))) ⌝ }
+{
+    sort_numbers(numbers);
+    put_units(buffer, at, 2, numbers);
 }
 
 // Lays the units of the wires of a listing from a place on, by the ranks of their blocks.
@@ -82,7 +92,7 @@ fn put_wires<'a>(
     fill_ranks(listed, ranks);
     wire_numbers(ends, ranks, numbers);
     let count = ends.len() / 8;
-    put_units(buffer, at, 2, &numbers[..count]);
+    put_sorted(&mut numbers[..count], buffer, at);
 }
 
 // Lays the file of lent tables from the buffer's start on, by working lists that are long enough.

@@ -4,6 +4,7 @@ use crate::cuts::show_link;
 use crate::fetch::load_from;
 use crate::help::show_help;
 use crate::listing::list;
+use crate::merging::merge_as;
 use crate::orders::ADD;
 use crate::orders::BLOCKFANOUT;
 use crate::orders::BLOCKS;
@@ -14,6 +15,7 @@ use crate::orders::LINK;
 use crate::orders::LINKCLEAN;
 use crate::orders::LINKSUB;
 use crate::orders::LOAD;
+use crate::orders::MERGE;
 use crate::orders::NEW;
 use crate::orders::NOTHING;
 use crate::orders::Order;
@@ -113,6 +115,7 @@ fn look(graph: MultiPortGraph, order: Order, text: &[u8])
         FANOUT => show_count(graph.port_fan_out(PortIndex(order.a))),
         BLOCKFANOUT => show_count(graph.node_fan_out(NodeIndex(order.a))),
         SAVE => save_as(graph, order, text),
+        MERGE => merge_as(order, text),
         HELP => show_help(),
         BLOCKS | WIRES | PLACES => list_whole(graph, command),
         _ => list(graph, order),

@@ -45,6 +45,7 @@ List (each ends in ok NUMBER; SIDE is 0 incoming, 1 outgoing, 2 both; a link has
 Keep:
   save NAME               writes the wiring to a file, at once or not at all: ok LENGTH
   load NAME               the wiring of a file, for the release in hand, in place of this one, which stays if it is refused: ok
+  merge NAME NAME NAME    the first two files as one, the second behind the first, into the third: ok LENGTH
   new RELEASE             an empty wiring for release 1, where an input takes many wires, or 2, where it takes one: ok
 Besides:
   help                    these lines

@@ -6,6 +6,7 @@ mod cuts;
 mod fetch;
 mod help;
 mod listing;
+mod merging;
 mod orders;
 mod replies;
 mod resize;

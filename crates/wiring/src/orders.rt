@@ -68,6 +68,8 @@ pub(crate) const HELP: u32 = 27;
 
 pub(crate) const QUIT: u32 = 28;
 
+pub(crate) const MERGE: u32 = 29;
+
 // A line has fewer numbers than this.
 const NUMBERS: u32 = 65536;
 
@@ -264,6 +266,7 @@ new RELEASE
 tidy P
 help
 quit
+merge NAME NAME NAME
 ";
     let row = row_of(table, text, first);
     if row.number == NOTHING {

@@ -162,7 +162,7 @@ fn write_file(name: &[u8], bytes: &[u8]) -> i32 {
 }
 
 // Writes the file of a wiring under a name, and says its length.
-fn write_wiring(name: &[u8], bytes: &[u8]) {
+pub(crate) fn write_wiring(name: &[u8], bytes: &[u8]) {
     let error = write_file(name, bytes);
     if error == 0 {
         show_number(bytes.len() as u64);

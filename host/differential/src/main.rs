@@ -8,6 +8,7 @@ use std::process::ExitCode;
 use differential::compare::{run_records, Entry, Writes};
 use differential::console::{Command, Console};
 use differential::loads::{records_of_file, Entries};
+use differential::merges::merge_files;
 use differential::runs::Plan;
 use differential::saves::save_records;
 use differential::spoil::{spoiled, spoiled_console, spoiled_load, spoiled_save, KINDS};
@@ -75,6 +76,10 @@ fn run(options: &Options, total: &mut Tally) -> Result<(), String> {
     total.add(&loaded);
     lines.iter().for_each(|line| println!("{line}"));
     println!("{loaded}");
+    let (lines, merged) = runs::merges(&merge_files, &options.plan)?;
+    total.add(&merged);
+    lines.iter().for_each(|line| println!("{line}"));
+    println!("{merged}");
     if let Some(program) = wiring {
         let mut scripts = Tally::default();
         let seeds = options.plan.script_seeds();
@@ -123,7 +128,7 @@ fn main() -> ExitCode {
     }
     let (compared, expected, listings, files) = (total.compared(), total.expected(), total.listings(), total.files());
     println!("{compared} calls compared with the Rust, {expected} expected by 01");
-    println!("{listings} listings compared, {files} files saved or loaded by records");
+    println!("{listings} listings compared, {files} files saved, loaded or merged");
     println!("{} passed, {failed} failed", compared + expected + listings + files);
     ExitCode::from(u8::from(failed > 0))
 }

@@ -7,7 +7,7 @@ use driver::Release;
 
 use crate::console::{LOADS, SHEETS};
 use crate::history::{By, Step, LINK_CLEAN};
-use crate::{loads, saves};
+use crate::{loads, merges, saves};
 
 /// The calls by code; 0 stands for unknown codes.
 pub const CALLS: [&str; LINK_CLEAN + 1] = [
@@ -38,6 +38,9 @@ pub struct Tally {
     /// Files loaded, and loads refused, with the buffer untouched.
     pub loaded: u64,
     pub loads_refused: u64,
+    /// Pairs of files merged, and merges refused, with the buffer untouched.
+    pub merged: u64,
+    pub merges_refused: u64,
     /// Lists refused as a whole (refusal 1).
     pub lists_refused: u64,
     /// Items of listings and move lists, in the console's answers.
@@ -84,6 +87,15 @@ impl Tally {
         }
     }
 
+    /// Counts two files merged, or a refused merge, by its kind.
+    pub fn merge(&mut self, kind: &'static str, merged: bool) {
+        self.file(kind);
+        match merged {
+            true => self.merged += 1,
+            false => self.merges_refused += 1,
+        }
+    }
+
     /// Counts a kind that a file has besides.
     pub fn file(&mut self, kind: &'static str) {
         *self.files.entry(kind).or_default() += 1;
@@ -98,6 +110,8 @@ impl Tally {
         self.saves_refused += other.saves_refused;
         self.loaded += other.loaded;
         self.loads_refused += other.loads_refused;
+        self.merged += other.merged;
+        self.merges_refused += other.merges_refused;
         self.lists_refused += other.lists_refused;
         self.items += other.items;
         self.two_by_rust += other.two_by_rust;
@@ -119,9 +133,9 @@ impl Tally {
         self.listings.values().sum()
     }
 
-    /// Files saved by records and loaded as records, the refused ones included.
+    /// Files saved by records, loaded as records and merged, the refused ones included.
     pub fn files(&self) -> u64 {
-        self.saved + self.saves_refused + self.loaded + self.loads_refused
+        self.saved + self.saves_refused + self.loaded + self.loads_refused + self.merged + self.merges_refused
     }
 
     fn by(&self, who: impl Fn(By) -> bool) -> u64 {
@@ -200,8 +214,8 @@ impl Tally {
         let all = all.chain(reasons).chain(clean);
         let calls = all.filter(|key| !self.calls.contains_key(key)).map(|key| format!("{key:?}"));
         let notes = notes.into_iter().filter(|note| !self.notes.contains_key(note)).map(str::to_string);
-        let files =
-            saves::kinds().chain(loads::kinds()).filter(|kind| !self.files.contains_key(kind)).map(str::to_string);
+        let files = saves::kinds().chain(loads::kinds()).chain(merges::kinds());
+        let files = files.filter(|kind| !self.files.contains_key(kind)).map(str::to_string);
         calls.chain(notes).chain(sheets).chain(files).collect()
     }
 }
@@ -249,6 +263,9 @@ impl fmt::Display for Tally {
         }
         if self.loaded > 0 {
             writeln!(f, "files loaded: {}, and {} loads refused", self.loaded, self.loads_refused)?;
+        }
+        if self.merged > 0 {
+            writeln!(f, "files merged: {} pairs, and {} merges refused", self.merged, self.merges_refused)?;
         }
         for (kind, count) in &self.files {
             writeln!(f, "  {kind:45} {count:9}")?;

@@ -1,5 +1,5 @@
 //! Lists of wiring calls, run by the proved entry `run_records` of the crate `records`, and saved and loaded by `save_records`
-//! and `records_of_file` of the crate `exports`.
+//! and `records_of_file` of the crate `exports`; two saved files are merged by its `merge_files`.
 //!
 //! A [`List`] collects calls and runs them from an empty graph; it holds no graph itself. A refused call changes nothing
 //! but what refusals 11 and 12 of a link leave prepared, and the run goes on past it.
@@ -65,6 +65,27 @@
 //!
 //! file[6] = 0; // the first block's output, without which the sum is wrong
 //! assert_eq!(List::load(&file).unwrap_err(), Refusal::WrongSum);
+//! ```
+//!
+//! Two files are merged to one: the second's blocks behind the first's, with its wires.
+//!
+//! ```
+//! use kanhtrev::{merge, Answer, Counts, List, Port};
+//!
+//! let mut steering = List::new();
+//! steering.add(0, 1);
+//! steering.add(1, 0);
+//! steering.link(Port(0), Port(1));
+//! let mut sprayer = List::new();
+//! sprayer.add(1, 1);
+//! sprayer.link(Port(1), Port(0));
+//!
+//! let file = merge(&steering.save(), &sprayer.save()).unwrap();
+//! assert_eq!(file[512..532], [2, 0, 2, 0, 0, 0, 0, 0, 1, 0, 0, 0, 2, 0, 0, 0, 2, 0, 0, 0]); // the second wire is the third block's
+//! let mut both = List::load(&file).unwrap();
+//! let counts = both.counts();
+//! assert_eq!(both.run()[counts], Ok(Answer::Counts(Counts { nodes: 3, ports: 4, links: 2 })));
+//! assert_eq!(merge(&[], &file), Ok(file.clone()));
 //! ```
 
 use std::error::Error;
@@ -164,11 +185,13 @@ pub enum Refusal {
     SameDirection { a: Port, b: Port, direction: Direction },
     /// 13: an end is linked. The port is an inner one.
     AlreadyLinked(Port),
-    /// 15: the lent buffer is too short. Only [`save_bytes`] and [`load_bytes`].
+    /// 15: the lent buffer is too short. Only [`save_bytes`], [`load_bytes`] and [`merge_bytes`].
     BufferShort,
-    /// 16: the length of a file is not a multiple of 512, or a unit's sum is wrong. Only [`load_bytes`].
+    /// 16: the length of a file is not a multiple of 512, or a unit's sum is wrong. Only [`load_bytes`] and
+    /// [`merge_bytes`].
     WrongSum,
-    /// 17: kinds, counts, zeros, order, ranks or positions break a file's layout. Only [`load_bytes`].
+    /// 17: kinds, counts, zeros, order, ranks or positions break a file's layout. Only [`load_bytes`] and
+    /// [`merge_bytes`].
     WrongLayout,
 }
 
@@ -364,6 +387,34 @@ pub fn load_bytes(file: &[u8], requests: &mut [u8]) -> Result<usize, Refusal> {
     }
     // SAFETY: as in `run_bytes`.
     length(unsafe { records_of_file(file.as_ptr(), file.len(), requests.as_mut_ptr(), requests.len()) })
+}
+
+/// Writes two files as one, the second behind the first, and gives the result's length; bytes past it are as before. Refused as
+/// [`Refusal::WrongSum`] or [`Refusal::WrongLayout`] for the first file, then for the second; then as loading the first, the second or
+/// the result is; then as [`Refusal::BufferShort`] if the result is longer than the buffer. The buffer is then as before.
+pub fn merge_bytes(first: &[u8], second: &[u8], file: &mut [u8]) -> Result<usize, Refusal> {
+    extern "C" {
+        fn merge_files(
+            first: *const u8,
+            first_bytes: usize,
+            second: *const u8,
+            second_bytes: usize,
+            file: *mut u8,
+            file_bytes: usize,
+        ) -> u64;
+    }
+    // SAFETY: as in `run_bytes`.
+    length(unsafe {
+        merge_files(first.as_ptr(), first.len(), second.as_ptr(), second.len(), file.as_mut_ptr(), file.len())
+    })
+}
+
+/// Two files as one, the second behind the first; refused as [`merge_bytes`] is, but never for the buffer.
+pub fn merge(first: &[u8], second: &[u8]) -> Result<Vec<u8>, Refusal> {
+    let mut file = vec![0; LONGEST_FILE];
+    let length = merge_bytes(first, second, &mut file)?;
+    file.truncate(length);
+    Ok(file)
 }
 
 /// What an entry that answers a length returned: from 4,294,967,296 on, what is above it is the number of a refusal.

@@ -34,8 +34,8 @@ returns-2 c = list-refused (c .before .before .before .before .before .before .b
 shape : (c : tie.Else2) → Laid (c .before .before .before .before .before .before .before .args .file .now) true (c .before .before .laid .result .blocks) (c .before .before .laid .result .wires)
 shape c = subst (λ (t : Bool). Laid (c .before .before .before .before .before .before .before .args .file .now) t (c .before .before .laid .result .blocks) (c .before .before .laid .result .wires)) (not-false _ (c .if2 .left)) (c .before .before .laid .ensures)
 
-build-requires : tie.Need-build-requires
-build-requires c κs = shape c
+build-answer-requires : tie.Need-build-answer-requires
+build-answer-requires c κs = shape c
 
 accepted-requires : tie.Need-accepted-requires
 accepted-requires c κs = search needs
@@ -44,11 +44,11 @@ unlisted-requires-3 : tie.Need-unlisted-requires-3
 unlisted-requires-3 c κs = search needs
 
 returns-3 : tie.Need-returns-3
-returns-3 c = list-refused (c .before .before .before .before .before .before .before .before .before .before .before .args .release) (c .before .before .before .before .before .before .before .before .before .before .before .args .file .now) (c .before .before .before .before .before .before .before .before .before .before .before .args .numbers .now) _ (answer-built (c .before .before .before .before .before .before .before .before .before .before .before .args .release) (c .before .before .before .before .before .before .before .before .before .before .before .args .file .now) (sym (not-false _ (c .before .before .before .before .before .before .before .if1 .left)) ∙ c .before .before .before .before .before .before .before .before .is-whole .ensures) (sym (not-false _ (c .before .before .before .before .if2 .left)) ∙ c .before .before .before .before .before .before .laid .ensures .answer) (c .before .before .before .build .ensures)) (sym (c .before .before .accepted .ensures) ∙ not-true _ (c .before .if3 .taken)) _ (c .unlisted3 .ensures)
+returns-3 c = list-refused (c .before .before .before .before .before .before .before .before .before .before .before .args .release) (c .before .before .before .before .before .before .before .before .before .before .before .args .file .now) (c .before .before .before .before .before .before .before .before .before .before .before .args .numbers .now) _ (answer-built (c .before .before .before .before .before .before .before .before .before .before .before .args .release) (c .before .before .before .before .before .before .before .before .before .before .before .args .file .now) (sym (not-false _ (c .before .before .before .before .before .before .before .if1 .left)) ∙ c .before .before .before .before .before .before .before .before .is-whole .ensures) (sym (not-false _ (c .before .before .before .before .if2 .left)) ∙ c .before .before .before .before .before .before .laid .ensures .answer) (c .before .before .before .build-answer .ensures)) (sym (c .before .before .accepted .ensures) ∙ not-true _ (c .before .if3 .taken)) _ (c .unlisted3 .ensures)
 
 list-laid-requires : tie.Need-list-laid-requires
 list-laid-requires c κs =
-    let h = built-few (c .before .before .before .before .before .before .before .before .before .before .before .args .release) (unbytes (c .before .before .before .before .before .before .before .before .before .before .before .args .file .now)) (ap isLoaded (sym (c .before .before .before .build .ensures .answer)) ∙ (sym (c .before .before .accepted .ensures) ∙ not-false _ (c .before .if3 .left))) in
+    let h = built-few (c .before .before .before .before .before .before .before .before .before .before .before .args .release) (unbytes (c .before .before .before .before .before .before .before .before .before .before .before .args .file .now)) (ap isLoaded (sym (c .before .before .before .build-answer .ensures)) ∙ (sym (c .before .before .accepted .ensures) ∙ not-false _ (c .before .if3 .left))) in
     let m = shape (c .before .before .before .before) .blocksAre refl .many in
     (shape (c .before .before .before .before), omega arith)
 
@@ -56,7 +56,7 @@ same-length : tie.Need-same-length
 same-length c = search needs
 
 returns-4 : tie.Need-returns-4
-returns-4 c = list-done (c .before .before .before .before .before .before .before .before .before .before .before .before .before .before .args .release) (c .before .before .before .before .before .before .before .before .before .before .before .before .before .before .args .file .now) (c .before .before .before .before .before .before .before .before .before .before .before .before .before .before .args .numbers .now) _ _ _ _ (answer-built (c .before .before .before .before .before .before .before .before .before .before .before .before .before .before .args .release) (c .before .before .before .before .before .before .before .before .before .before .before .before .before .before .args .file .now) (sym (not-false _ (c .before .before .before .before .before .before .before .before .before .before .if1 .left)) ∙ c .before .before .before .before .before .before .before .before .before .before .before .is-whole .ensures) (sym (not-false _ (c .before .before .before .before .before .before .before .if2 .left)) ∙ c .before .before .before .before .before .before .before .before .before .laid .ensures .answer) (c .before .before .before .before .before .before .build .ensures)) (sym (c .before .before .before .before .before .accepted .ensures) ∙ not-false _ (c .before .before .before .before .if3 .left)) (sym (shape (c .before .before .before .before .before .before .before) .blocksAre refl .many)) (sym (shape (c .before .before .before .before .before .before .before) .wiresAre refl .many)) (c .before .before .list-laid .ensures)
+returns-4 c = list-done (c .before .before .before .before .before .before .before .before .before .before .before .before .before .before .args .release) (c .before .before .before .before .before .before .before .before .before .before .before .before .before .before .args .file .now) (c .before .before .before .before .before .before .before .before .before .before .before .before .before .before .args .numbers .now) _ _ _ _ (answer-built (c .before .before .before .before .before .before .before .before .before .before .before .before .before .before .args .release) (c .before .before .before .before .before .before .before .before .before .before .before .before .before .before .args .file .now) (sym (not-false _ (c .before .before .before .before .before .before .before .before .before .before .if1 .left)) ∙ c .before .before .before .before .before .before .before .before .before .before .before .is-whole .ensures) (sym (not-false _ (c .before .before .before .before .before .before .before .if2 .left)) ∙ c .before .before .before .before .before .before .before .before .before .laid .ensures .answer) (c .before .before .before .before .before .before .build-answer .ensures)) (sym (c .before .before .before .before .before .accepted .ensures) ∙ not-false _ (c .before .before .before .before .if3 .left)) (sym (shape (c .before .before .before .before .before .before .before) .blocksAre refl .many)) (sym (shape (c .before .before .before .before .before .before .before) .wiresAre refl .many)) (c .before .before .list-laid .ensures)
 
 pub list-build-spec : {M : Type 1} → statement M
 list-build-spec =
@@ -68,7 +68,7 @@ list-build-spec =
     laid-requires
     unlisted-requires-2
     returns-2
-    build-requires
+    build-answer-requires
     accepted-requires
     unlisted-requires-3
     returns-3

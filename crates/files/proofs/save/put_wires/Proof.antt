@@ -1,4 +1,4 @@
--- `files::save::put_wires` meets its contract: ranks, the records as sorted numbers, then the units of kind 2.
+-- `files::save::put_wires` meets its contract: ranks, the records as numbers, then the units of these sorted.
 use native.Mathlib.Omega.{arith}
 use mathlib.Core.Path.{_≡_, sym, ap, _∙_, subst}
 use mathlib.Core.List.{List, map}
@@ -6,7 +6,7 @@ use Prim.Native.Nat.{ℕ}
 use lib.ListN.{length, take}
 use lib.Seq.{sets, length-take-le}
 use Rattle.files.specs.Layout.{Record, unitsFor, unitsOf}
-use Rattle.files.specs.Forms.{recordOf, turns, wiresIn, WiresFit, wireTurn}
+use Rattle.files.specs.Forms.{recordOf, turns, sortedNumbers, wiresIn, WiresFit, wireTurn}
 use Rattle.files.specs.SaveSteps.{wires-fit, wire-records}
 use borrow.Author.Needs.{needs}
 use Rattle.files.proofs.save.put_wires.Statement.{statement}
@@ -22,14 +22,14 @@ fill-ranks-requires c κs = search needs
 wire-numbers-requires : tie.Need-wire-numbers-requires
 wire-numbers-requires c κs = (c .before .before .before .before .before .before .before .before .before .before .before .pre .1, subst (WiresFit (c .before .before .before .before .before .before .before .before .before .before .before .args .ends .now)) (sym (c .before .before .before .before .fill-ranks .ensures)) (wires-fit (c .before .before .before .before .before .before .before .before .before .before .before .args .ranks .now) (c .before .before .before .before .before .before .before .before .before .before .before .pre .0)))
 
-slice-reshare-prefix-put-units : tie.Need-slice-reshare-prefix-put-units
-slice-reshare-prefix-put-units c = search needs
+slice-relend-prefix-put-sorted : tie.Need-slice-relend-prefix-put-sorted
+slice-relend-prefix-put-sorted c = search needs
 
-slice-aggregate-put-units : tie.Need-slice-aggregate-put-units
-slice-aggregate-put-units c = sym (many (c .before .before))
+slice-aggregate-put-sorted : tie.Need-slice-aggregate-put-sorted
+slice-aggregate-put-sorted c = sym (many (c .before))
 
-put-units-requires : tie.Need-put-units-requires
-put-units-requires c κs = let e = ap unitsFor (many (c .before .before)) in omega (arith, e, c .before .before .before .before .before .before .before .before .before .before .before .before .before .before .before .before .pre .2)
+put-sorted-requires : tie.Need-put-sorted-requires
+put-sorted-requires c κs = let e = ap unitsFor (many (c .before .before)) in omega (arith, e, c .before .before .before .before .before .before .before .before .before .before .before .before .before .before .before .before .pre .2)
 
 same-length : tie.Need-same-length
 same-length c = search needs
@@ -42,11 +42,11 @@ same-length-3 c = search needs
 
 returns : tie.Need-returns
 returns c =
-    let a = c .before .before .before .before .before .before .before .before .before .before .before .before .before .before .before .before .before .before .before .args in
+    let a = c .before .before .before .before .before .before .before .before .before .before .before .before .before .before .before .before .before .before .before .before .before .args in
     let n = wiresIn (a .ends .now) in
-    let w = c .before .before .before .before .before .before .before .wire-numbers .ensures ∙ ap (λ (ranks : List ℕ). turns (wireTurn (a .ends .now) ranks) 0 n (a .numbers .now)) (c .before .before .before .before .before .before .before .before .before .before .before .before .fill-ranks .ensures) in
-    let r = ap (λ (l : List ℕ). map recordOf (take n l)) w ∙ wire-records (a .ranks .now) (c .before .before .before .before .before .before .before .before .before .before .before .before .before .before .before .before .before .before .before .pre .0) (a .numbers .now) (c .before .before .before .before .before .before .before .before .before .before .before .before .before .before .before .before .before .before .before .pre .1) in
-    c .before .before .put-units .ensures .1 ∙ ap (λ (l : List Record). sets (a .buffer .now) (a .at) (unitsOf 2 l)) r
+    let w = c .before .before .before .before .before .before .before .before .before .wire-numbers .ensures ∙ ap (λ (ranks : List ℕ). turns (wireTurn (a .ends .now) ranks) 0 n (a .numbers .now)) (c .before .before .before .before .before .before .before .before .before .before .before .before .before .before .fill-ranks .ensures) in
+    let r = ap (λ (l : List ℕ). map recordOf (sortedNumbers (take n l))) w ∙ wire-records (a .ranks .now) (c .before .before .before .before .before .before .before .before .before .before .before .before .before .before .before .before .before .before .before .before .before .pre .0) (a .numbers .now) (c .before .before .before .before .before .before .before .before .before .before .before .before .before .before .before .before .before .before .before .before .before .pre .1) in
+    c .before .before .before .before .put-sorted .ensures ∙ ap (λ (l : List Record). sets (a .buffer .now) (a .at) (unitsOf 2 l)) r
 
 pub put-wires-spec : {M : Type 1} → statement M
 put-wires-spec =
@@ -54,9 +54,9 @@ put-wires-spec =
     (tie.spec
     fill-ranks-requires
     wire-numbers-requires
-    slice-reshare-prefix-put-units
-    slice-aggregate-put-units
-    put-units-requires
+    slice-relend-prefix-put-sorted
+    slice-aggregate-put-sorted
+    put-sorted-requires
     same-length
     same-length-2
     same-length-3

@@ -38,7 +38,7 @@ link-count-in-requires : tie.Need-link-count-in-requires
 link-count-in-requires c κs = search needs
 
 file-length-requires : tie.Need-file-length-requires
-file-length-requires c κs = let n = counts-few (c .before .before .before .pre .fine) (blocks-are c) (wires-are c) in (n .0, omega (arith, n .1))
+file-length-requires c κs = let n = counts-few (c .before .before .before .pre .fine) (blocks-are c) (wires-are c) in (omega (arith, n .0), omega (arith, n .1))
 
 returns : tie.Need-returns
 returns c = save-short (c .before .before .before .before .before .pre .fine) (c .before .before .before .before .before .args .buffer .now) _ (size-is (c .before)) (c .if1 .taken)

@@ -1,0 +1,76 @@
+-- `files::merge::raised_number` meets its contract: four fields make a number.
+use native.Mathlib.Omega.{arith}
+use Rattle.files.specs.Forms.{numberOf}
+use borrow.Author.Needs.{needs}
+use Rattle.files.proofs.merge.raised_number.Statement.{statement}
+use Rattle.files.proofs.merge.raised_number.Tie as tie
+
+field-at-requires : tie.Need-field-at-requires
+field-at-requires c κs = search needs
+
+add-source : tie.Need-add-source
+add-source c = search needs
+
+add-field-at : tie.Need-add-field-at
+add-field-at c = search needs
+
+field-at-requires-2 : tie.Need-field-at-requires-2
+field-at-requires-2 c κs = search needs
+
+add-field-at-2 : tie.Need-add-field-at-2
+add-field-at-2 c = search needs
+
+field-at-requires-3 : tie.Need-field-at-requires-3
+field-at-requires-3 c κs = search needs
+
+add-target : tie.Need-add-target
+add-target c = search needs
+
+add-field-at-3 : tie.Need-add-field-at-3
+add-field-at-3 c = search needs
+
+field-at-requires-4 : tie.Need-field-at-requires-4
+field-at-requires-4 c κs = search needs
+
+mul-result : tie.Need-mul-result
+mul-result c = search needs
+
+mul-result-2 : tie.Need-mul-result-2
+mul-result-2 c = search needs
+
+add-result : tie.Need-add-result
+add-result c = search needs
+
+mul-result-3 : tie.Need-mul-result-3
+mul-result-3 c = search needs
+
+add-result-2 : tie.Need-add-result-2
+add-result-2 c = search needs
+
+add-result-3 : tie.Need-add-result-3
+add-result-3 c = search needs
+
+returns : tie.Need-returns
+unfolding numberOf
+returns c = omega (arith, c .before .before .before .field-at .ensures .0, c .before .before .field-at2 .ensures .0, c .before .field-at3 .ensures .0, c .field-at4 .ensures .0)
+
+pub raised-number-spec : {M : Type 1} → statement M
+raised-number-spec =
+    tie.close
+    (tie.spec
+    field-at-requires
+    add-source
+    add-field-at
+    field-at-requires-2
+    add-field-at-2
+    field-at-requires-3
+    add-target
+    add-field-at-3
+    field-at-requires-4
+    mul-result
+    mul-result-2
+    add-result
+    mul-result-3
+    add-result-2
+    add-result-3
+    returns)

@@ -13,14 +13,14 @@ made() { # FOLDER, WORDS of rt: what it says is shown only if it fails
 [ -n "${KANHTREV_RECORDS:-}" ] || made .. staticlib records
 [ -n "${KANHTREV_EXPORTS:-}" ] || made .. staticlib exports
 if [ -z "${KANHTREV_WALKS:-}" ]; then
-  made .. check records
+  made .. check records timing
   mkdir -p "$work/copy/target"
   cp -r ../crates ../crates.txt "$work/copy"
   cp -r ../target/rlib ../target/stamp "$work/copy/target"
   cp -r walks "$work/copy/crates/walks"
   # here they end in .txt, since the gate takes every other file of the language for a part of what it must prove
   find "$work/copy/crates/walks" -name '*.txt' -exec sh -c 'mv "$1" "${1%.txt}"' sh {} \;
-  echo 'walks: records theorems multiportgraph portgraph' >>"$work/copy/crates.txt"
+  echo 'walks: timing files records theorems multiportgraph portgraph' >>"$work/copy/crates.txt"
   made "$work/copy" staticlib walks
   mkdir -p target/walks
   cp "$work/copy/target/staticlib/libwalks.a" target/walks

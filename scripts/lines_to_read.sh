@@ -27,3 +27,5 @@ lines sketches Plan PlanNumbers PlanCalls PlanLists SketchTables
 lines agreement Meaning Agreement Histories AgreementTheorems
 echo 'for kits with other limits besides:'
 lines kits Kits KitTheorems
+echo 'for times along wires besides:'
+lines timing TimingTheorems TimingClaims Longest RunOrder Path

@@ -1,11 +1,12 @@
 // The console: it hears a line, runs it, and hears the next.
-use crate::commands::run;
 use crate::orders::QUIT;
 use crate::session::order_heard;
+use crate::times::run_timed;
 use lines::listening::Listener;
 use lines::text::line_part;
 use multiportgraph::multiportgraph::MultiPortGraph;
 use multiportgraph::multiportgraph::Release;
+use portgraph::index::NODE_SLOTS;
 use records::ask::empty;
 ghost use Rattle.multiportgraph.specs.Inner.{MultiWf};
 
@@ -18,8 +19,13 @@ pub struct Turn {
     pub ended: bool,
 }
 
-// Runs what was heard, with its text.
-fn obey(graph: MultiPortGraph, listener: Listener, text: &[u8]) -> Turn
+// Runs what was heard, with its text and the times of node slots.
+fn obey(
+    graph: MultiPortGraph,
+    listener: Listener,
+    text: &[u8],
+    times: &mut [u16; NODE_SLOTS],
+) -> Turn
     requires { ⌜ MultiWf graph ⌝ }
     ensures { λ r. ⌜ MultiWf (r .graph) ⌝ }
 {
@@ -31,7 +37,7 @@ fn obey(graph: MultiPortGraph, listener: Listener, text: &[u8]) -> Turn
         };
     }
     Turn {
-        graph: run(graph, order, text),
+        graph: run_timed(graph, order, text, times),
         ended: listener.ended,
     }
 }
@@ -39,13 +45,14 @@ fn obey(graph: MultiPortGraph, listener: Listener, text: &[u8]) -> Turn
 // A loop has to end, and nothing says that the input does: so its turns are counted down, from a number that no run uses up.
 fn converse(buffer: &mut [u8], echo: bool) {
     let mut graph = empty(Release::One);
+    let mut times = [0u16; NODE_SLOTS];
     let mut listener = Listener::new(echo);
     let mut turns = u64::MAX;
     while 0 < turns {
         listener = listener.listen(buffer);
         let reader = listener.reader;
         let span = reader.span;
-        let turn = obey(graph, listener, line_part(buffer, span));
+        let turn = obey(graph, listener, line_part(buffer, span), &mut times);
         graph = turn.graph;
         if turn.ended {
             return;

@@ -47,6 +47,11 @@ Keep:
   load NAME               the wiring of a file, for the release in hand, in place of this one, which stays if it is refused: ok
   merge NAME NAME NAME    the first two files as one, the second behind the first, into the third: ok LENGTH
   new RELEASE             an empty wiring for release 1, where an input takes many wires, or 2, where it takes one: ok
+Times of node slots, 0 at the start, kept by new and load:
+  time N MICROSECONDS     the time of a node slot, up to 65535: ok
+  longest N               the largest sum of times along wires that end at a block, its own included: ok SUM
+  path N                  blocks along wires that have this sum, from the first to N: NODE TIME each, ok SUM
+  runorder N N ..         whether the blocks can run in this order, each once and after all that feed it: ok 1, or ok 0
 Besides:
   help                    these lines
   quit                    ends the program

@@ -14,6 +14,7 @@ mod session;
 mod sheet;
 mod store;
 mod tidy;
+mod times;
 mod whole;
 
 use crate::console::read_and_run;

@@ -70,6 +70,14 @@ pub(crate) const QUIT: u32 = 28;
 
 pub(crate) const MERGE: u32 = 29;
 
+pub(crate) const TIME: u32 = 30;
+
+pub(crate) const LONGEST: u32 = 31;
+
+pub(crate) const PATH: u32 = 32;
+
+pub(crate) const RUNORDER: u32 = 33;
+
 // A line has fewer numbers than this.
 const NUMBERS: u32 = 65536;
 
@@ -91,6 +99,10 @@ pub(crate) const TOO_LONG: u32 = 6;
 const LONG_NAME: u32 = 7;
 
 const NO_RELEASE: u32 = 8;
+
+const NO_SLOT: u32 = 9;
+
+const NO_TIME: u32 = 10;
 
 // The longest name of a file, so that a name beside it is a path too.
 const MOST_NAME: usize = 4000;
@@ -150,6 +162,12 @@ fn unsuited(usage: &[u8], name: Span) -> u32 {
     if is_word(usage, name, b"RELEASE") {
         return NO_RELEASE;
     }
+    if is_word(usage, name, b"SLOT") {
+        return NO_SLOT;
+    }
+    if is_word(usage, name, b"MICROSECONDS") {
+        return NO_TIME;
+    }
     NO_NUMBER
 }
 
@@ -160,6 +178,8 @@ fn most(unsuited: u32) -> u64
     match unsuited {
         NO_SIDE | NO_RELEASE => 2,
         NO_FLAG => 1,
+        NO_SLOT => 1023,
+        NO_TIME => 65535,
         _ => 4294967295,
     }
 }
@@ -204,19 +224,16 @@ fn with_numbers(command: u32, text: &[u8], from: usize, usage: &[u8]) -> Order {
     order.spoiled(WORD_COUNT)
 }
 
-// An order with pairs of numbers after a line's first word, as many as there are: it holds their count and where they stand.
-fn with_pairs(command: u32, text: &[u8], from: usize) -> Order {
+// An order with numbers after a line's first word, as many as there are: it holds their count and where they stand.
+fn with_list(command: u32, text: &[u8], from: usize) -> Order {
     let mut order = order_to(command);
     order.from = from;
     let mut word = next_word(text, from);
     let mut count: u32 = 0;
     while count < NUMBERS {
         if word.is_empty() {
-            order.a = count / 2;
-            if count % 2 == 0 {
-                return order;
-            }
-            return order.spoiled(WORD_COUNT);
+            order.a = count;
+            return order;
         }
         if NO_VALUE <= number_of(text, word) {
             return order.spoiled(NO_NUMBER);
@@ -227,10 +244,24 @@ fn with_pairs(command: u32, text: &[u8], from: usize) -> Order {
     order.spoiled(WORD_COUNT)
 }
 
+// The same with pairs of numbers: it holds the count of pairs.
+fn with_pairs(command: u32, text: &[u8], from: usize) -> Order {
+    let mut order = with_list(command, text, from);
+    let count = order.a;
+    order.a = count / 2;
+    if count % 2 == 0 {
+        return order;
+    }
+    order.spoiled(WORD_COUNT)
+}
+
 // An order with the numbers after a line's first word.
 fn with_words(command: u32, text: &[u8], from: usize, usage: &[u8]) -> Order {
     if command == SHEET {
         return with_pairs(command, text, from);
+    }
+    if command == RUNORDER {
+        return with_list(command, text, from);
     }
     with_numbers(command, text, from, usage)
 }
@@ -267,6 +298,10 @@ tidy P
 help
 quit
 merge NAME NAME NAME
+time SLOT MICROSECONDS
+longest N
+path N
+runorder N N ..
 ";
     let row = row_of(table, text, first);
     if row.number == NOTHING {

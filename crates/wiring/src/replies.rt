@@ -8,7 +8,7 @@ use records::answers::Answer5;
 use records::answers::refusal_words;
 
 // The line of the reasons from which refusals are counted; it stands for 12 where both ends are outputs.
-const REFUSALS: u32 = 9;
+const REFUSALS: u32 = 11;
 
 // The reason stands after two blanks and `#`: what is wrong with a line, or why a call is refused.
 fn with_reason(line: Line, number: u32) -> Line {
@@ -22,6 +22,8 @@ no flag (0 or 1)
 too long
 no name of at most 4000 bytes
 no release (1 or 2)
+no node slot (0 to 1023)
+no time (0 to 65535 microseconds)
 both ends are outputs
 a list of a wrong length
 an offset is at most 65534
@@ -41,6 +43,8 @@ the buffer is too short for the file
 the file is damaged: a sum or the length is wrong
 the file is not laid out as a wiring's is
 an input has its wire, and takes one only
+a list of times has one for each node slot
+a cycle can reach this block
 ";
     line.with(b"  # ")
         .with(part(reasons, line_at(reasons, number)))

@@ -476,19 +476,12 @@ pub fn without_reason(line: &str) -> &str {
     line.split_once("  #").map_or(line, |(answer, _)| answer)
 }
 
-/// The program as console.
-pub fn written(program: &Path, script: &[Command]) -> Result<Vec<Block>, String> {
+/// What the program writes for an input, typed in a folder: a block for each answer.
+pub fn typed(program: &Path, folder: Option<&Path>, input: String) -> Result<Vec<Block>, String> {
     let failed = |error: std::io::Error| format!("{}: {error}", program.display());
-    let folder = Folder::new().map_err(failed)?;
-    for command in script {
-        if let Command::Load(source @ Source::Given(number)) = command {
-            folder.put(&source.name(), &given(*number)).map_err(failed)?;
-        }
-    }
     let mut process = Process::new(program);
-    process.current_dir(folder.path()).stdin(Stdio::piped()).stdout(Stdio::piped());
-    let mut child = process.spawn().map_err(failed)?;
-    let input: String = script.iter().map(|command| command.line() + "\n").collect();
+    folder.into_iter().for_each(|folder| _ = process.current_dir(folder));
+    let mut child = process.stdin(Stdio::piped()).stdout(Stdio::piped()).spawn().map_err(failed)?;
     let mut stdin = child.stdin.take().expect("piped");
     // A program that ends early shows as missing lines.
     let typing = thread::spawn(move || _ = stdin.write_all(input.as_bytes()));
@@ -504,6 +497,20 @@ pub fn written(program: &Path, script: &[Command]) -> Result<Vec<Block>, String>
             blocks.push(Block::new());
         }
     }
+    Ok(blocks)
+}
+
+/// The program as console.
+pub fn written(program: &Path, script: &[Command]) -> Result<Vec<Block>, String> {
+    let failed = |error: std::io::Error| format!("{}: {error}", program.display());
+    let folder = Folder::new().map_err(failed)?;
+    for command in script {
+        if let Command::Load(source @ Source::Given(number)) = command {
+            folder.put(&source.name(), &given(*number)).map_err(failed)?;
+        }
+    }
+    let input: String = script.iter().map(|command| command.line() + "\n").collect();
+    let mut blocks = typed(program, Some(folder.path()), input)?;
     for (command, block) in script.iter().zip(&mut blocks) {
         if let Command::Save(number) = command {
             block.splice(0..0, folder.items(&files::name(*number)));

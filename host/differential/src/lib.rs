@@ -8,6 +8,7 @@
 //! - [`saves`]: files that lists are saved as, beside that writer.
 //! - [`loads`], [`broken`]: files that are loaded, whole and damaged, beside that reader and the original.
 //! - [`merges`]: two files as one, beside a merge from document 02's words over that reader, that writer and the original.
+//! - [`timing`]: times along wires, through the program `wiring`.
 //! - [`spoil`]: wrong answers put in by hand, to show that they are caught.
 //! - [`lists`], [`plain`], [`plain_files`]: lists that the original answers itself, the original without the driver, and a plain
 //!   writer and reader of files over it, for the benchmark.
@@ -31,4 +32,5 @@ pub mod runs;
 pub mod saves;
 pub mod spoil;
 pub mod tally;
+pub mod timing;
 pub mod walks;

@@ -13,7 +13,7 @@ use differential::runs::Plan;
 use differential::saves::save_records;
 use differential::spoil::{spoiled, spoiled_console, spoiled_load, spoiled_save, KINDS};
 use differential::tally::Tally;
-use differential::{console, runs};
+use differential::{console, runs, timing};
 
 /// A run that compares fewer calls of random lists, or fewer saved files, fails.
 const LEAST: u64 = 1_000_000;
@@ -96,6 +96,13 @@ fn run(options: &Options, total: &mut Tally) -> Result<(), String> {
             "console: {sheets} sheets, all of up to {} entries of five ports on four wirings",
             options.plan.entries
         );
+        let timed: &timing::Answers = &|script| timing::written(&program, script);
+        timing::run(timed, options.plan.timed_seeds(), &mut scripts)?;
+        let small = timing::run_small(timed, &mut scripts)?;
+        if let Some(kind) = timing::TIMED.into_iter().find(|kind| !scripts.lists(kind)) {
+            return Err(format!("no question came up: {kind}"));
+        }
+        println!("console: times along wires, {} random wirings and all {small} of three blocks", options.plan.timed);
         println!("{scripts}");
         total.add(&scripts);
     }

@@ -29,6 +29,8 @@ pub struct Plan {
     pub length: usize,
     /// All sheets of up to so many entries.
     pub entries: u32,
+    /// Random wirings of which times along wires are asked.
+    pub timed: u64,
     /// So many files of random lists are compared, or more.
     pub files: u64,
     /// How often files of each size are compared, and full wirings.
@@ -54,6 +56,7 @@ impl Plan {
         scripts: 600,
         length: 3,
         entries: 2,
+        timed: 3_000,
         files: 300_000,
         sized: 20,
         full: 30,
@@ -73,6 +76,7 @@ impl Plan {
         scripts: 30,
         length: 2,
         entries: 1,
+        timed: 100,
         files: 2_000,
         sized: 1,
         full: 3,
@@ -90,6 +94,10 @@ impl Plan {
 
     pub fn script_seeds(&self) -> Range<u64> {
         self.seed..self.seed + self.scripts
+    }
+
+    pub fn timed_seeds(&self) -> Range<u64> {
+        self.seed..self.seed + self.timed
     }
 }
 

@@ -69,6 +69,11 @@ impl Tally {
         *self.listings.entry(command).or_default() += 1;
     }
 
+    /// Whether a listing was counted under this name.
+    pub fn lists(&self, command: &'static str) -> bool {
+        self.listings.contains_key(command)
+    }
+
     /// Counts a saved file, or a refused save, by its kind.
     pub fn save(&mut self, kind: &'static str, saved: bool) {
         self.file(kind);

@@ -259,7 +259,7 @@ fn growth(table: &Table) {
 
 #[cfg(walks)]
 fn by_value() {
-    use differential::walks::{list_original, list_port, run_by_value, wired};
+    use differential::walks::{forward, list_original, list_port, longest_original, longest_port, run_by_value, wired};
 
     println!("\n| 400 wires listed | ns a wire | Rust, ns | ratio |\n|---|---|---|---|");
     for (name, outputs) in [("each at an output of its own", 20), ("four at each output", 5)] {
@@ -279,6 +279,24 @@ fn by_value() {
         assert!(ends == original, "{name}: other wires than the original's");
         let [ours, theirs] = [all - none, theirs].map(|time| time / (LISTINGS * 400) as f64);
         println!("| {name} | {ours:.1} | {theirs:.1} | {:.2} |", ours / theirs);
+    }
+    {
+        const ROUNDS: usize = 200;
+        let records = forward();
+        let requests = driver::to_bytes(&records);
+        let graph = plain::run(&requests, &mut vec![0; requests.len()]);
+        let times: Vec<u16> = (0..1024u32).map(|slot| (slot * 7919 % 2_000) as u16).collect();
+        let sum = longest_original(&graph, &times, 1023).expect("no wire goes back");
+        let [none, all, theirs] = least([
+            &mut || assert_eq!(longest_port(black_box(&records), &times, 1023, 0), 0),
+            &mut || assert_eq!(longest_port(black_box(&records), black_box(&times), 1023, ROUNDS), sum),
+            &mut || {
+                (0..ROUNDS).for_each(|_| assert_eq!(longest_original(black_box(&graph), black_box(&times), 1023), Some(sum)))
+            },
+        ]);
+        let [ours, theirs] = [all - none, theirs].map(|time| time / (1_000 * ROUNDS) as f64);
+        println!("\n| The largest sum | blocks, wires | us | Rust, us | ratio |\n|---|---|---|---|---|");
+        println!("| every slot taken | 1024, {} | {ours:.1} | {theirs:.1} | {:.2} |", graph.link_count(), ours / theirs);
     }
     println!("\n| List, run by value | ns a call |\n|---|---|");
     for list in (0..LISTS).map(|list| benchmark(list, CALLS)) {

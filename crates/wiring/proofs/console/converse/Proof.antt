@@ -7,10 +7,10 @@ use Rattle.wiring.proofs.console.converse.Statement.{statement}
 use Rattle.wiring.proofs.console.converse.Tie as tie
 
 abbrev Inv-loop : tie.InvT-loop
-Inv-loop buffer₀ echo graph₀ listener₀ turns₀ buffer graph listener turns = MultiWf graph × (length buffer ≡ length buffer₀)
+Inv-loop buffer₀ echo graph₀ times₀ listener₀ turns₀ buffer graph times listener turns = MultiWf graph × (length buffer ≡ length buffer₀)
 
 abbrev μ-loop : tie.MeasureT-loop
-μ-loop buffer₀ echo graph₀ listener₀ turns₀ buffer graph listener turns = turns
+μ-loop buffer₀ echo graph₀ times₀ listener₀ turns₀ buffer graph times listener turns = turns
 
 empty-requires : tie.Need-empty-requires Inv-loop μ-loop
 empty-requires c κs = search needs

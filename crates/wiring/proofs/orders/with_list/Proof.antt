@@ -1,8 +1,8 @@
--- `wiring::orders::with_pairs` meets its contract. The measure is how many numbers may still come. Assumes nothing.
+-- `wiring::orders::with_list` meets its contract. The measure is how many numbers may still come. Assumes nothing.
 use borrow.Author.Needs.{needs}
 use Prim.Native.Nat.{_-_}
-use Rattle.wiring.proofs.orders.with_pairs.Statement.{statement}
-use Rattle.wiring.proofs.orders.with_pairs.Tie as tie
+use Rattle.wiring.proofs.orders.with_list.Statement.{statement}
+use Rattle.wiring.proofs.orders.with_list.Tie as tie
 
 abbrev Inv-loop : tie.InvT-loop
 Inv-loop command text from order₀ word₀ count₀ order word count = Unit {0}
@@ -25,20 +25,14 @@ is-empty-requires c κs = search needs
 returns : tie.Need-returns Inv-loop μ-loop
 returns c = search needs
 
+number-of-requires : tie.Need-number-of-requires Inv-loop μ-loop
+number-of-requires c κs = search needs
+
 spoiled-requires : tie.Need-spoiled-requires Inv-loop μ-loop
 spoiled-requires c κs = search needs
 
 returns-2 : tie.Need-returns-2 Inv-loop μ-loop
 returns-2 c = search needs
-
-number-of-requires : tie.Need-number-of-requires Inv-loop μ-loop
-number-of-requires c κs = search needs
-
-spoiled-requires-2 : tie.Need-spoiled-requires-2 Inv-loop μ-loop
-spoiled-requires-2 c κs = search needs
-
-returns-3 : tie.Need-returns-3 Inv-loop μ-loop
-returns-3 c = search needs
 
 next-word-requires-2 : tie.Need-next-word-requires-2 Inv-loop μ-loop
 next-word-requires-2 c κs = search needs
@@ -52,14 +46,14 @@ loop-less c = search needs
 loop-again : tie.Need-loop-again Inv-loop μ-loop
 loop-again c = tt
 
-spoiled-requires-3 : tie.Need-spoiled-requires-3 Inv-loop μ-loop
-spoiled-requires-3 c κs = search needs
+spoiled-requires-2 : tie.Need-spoiled-requires-2 Inv-loop μ-loop
+spoiled-requires-2 c κs = search needs
 
-returns-4 : tie.Need-returns-4 Inv-loop μ-loop
-returns-4 c = search needs
+returns-3 : tie.Need-returns-3 Inv-loop μ-loop
+returns-3 c = search needs
 
-pub with-pairs-spec : {M : Type 1} → statement M
-with-pairs-spec =
+pub with-list-spec : {M : Type 1} → statement M
+with-list-spec =
     tie.close
     (tie.spec
     Inv-loop
@@ -69,14 +63,12 @@ with-pairs-spec =
     loop-holds
     is-empty-requires
     returns
+    number-of-requires
     spoiled-requires
     returns-2
-    number-of-requires
-    spoiled-requires-2
-    returns-3
     next-word-requires-2
     add-count
     loop-less
     loop-again
-    spoiled-requires-3
-    returns-4)
+    spoiled-requires-2
+    returns-3)

@@ -1,8 +1,8 @@
 #!/usr/bin/env bash
 # Everything that runs beside the Rust original: the tests, then the differential run. The last line is 'N passed, 0 failed'.
-# Words go to the differential run: --records-only leaves out the program wiring.
-# KANHTREV_RECORDS and KANHTREV_EXPORTS (folders with librecords.a and libexports.a) and KANHTREV_WIRING (a program) take the
-# place of what rt makes.
+# Words go to the differential run: --records-only leaves out the programs wiring and sketch.
+# KANHTREV_RECORDS and KANHTREV_EXPORTS (folders with librecords.a and libexports.a), KANHTREV_WIRING and KANHTREV_SKETCH (programs)
+# take the place of what rt makes.
 set -euo pipefail
 cd "$(dirname "$0")"
 bash setup.sh
@@ -14,9 +14,11 @@ made() { # WORDS of rt: what it says is shown only if it fails
 [ -n "${KANHTREV_RECORDS:-}" ] || made staticlib records
 [ -n "${KANHTREV_EXPORTS:-}" ] || made staticlib exports
 [ -n "${KANHTREV_WIRING:-}" ] || [[ " $* " == *" --records-only "* ]] || made check wiring
+[ -n "${KANHTREV_SKETCH:-}" ] || [[ " $* " == *" --records-only "* ]] || made check sketch
 status=0
 cargo test --offline --release --workspace 2>&1 | tee "$log" || status=1
 cargo run --offline --release -q -p differential -- "$@" | tee -a "$log" || status=1
+[[ " $* " == *" --records-only "* ]] || cargo run --offline --release -q -p sketching | tee -a "$log" || status=1
 awk -v status="$status" '
   /^test result:/ { passed += $4; failed += $6 }
   /^[0-9]+ passed, [0-9]+ failed$/ { passed += $1; failed += $3; ran = 1 }

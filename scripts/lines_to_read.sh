@@ -25,6 +25,8 @@ lines exports Exports
 echo 'for the sketch besides:'
 lines sketches Plan PlanNumbers PlanCalls PlanLists SketchTables
 lines agreement Meaning Agreement Histories AgreementTheorems
+echo 'for slots besides:'
+lines slots SlotTheorems Blocks SlotClaims SlotHistory
 echo 'for kits with other limits besides:'
 lines kits Kits KitTheorems
 echo 'for times along wires besides:'

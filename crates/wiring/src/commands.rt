@@ -25,6 +25,7 @@ use crate::orders::REMOVE;
 use crate::orders::RESIZE;
 use crate::orders::SAVE;
 use crate::orders::SHEET;
+use crate::orders::SLOTS;
 use crate::orders::SUBLINK;
 use crate::orders::TIDY;
 use crate::orders::UNLINK;
@@ -34,6 +35,7 @@ use crate::replies::show_answer;
 use crate::replies::show_count;
 use crate::resize::resize_block;
 use crate::sheet::link_pairs;
+use crate::slot_list::show_slots;
 use crate::store::save_as;
 use crate::tidy::tidy;
 use crate::whole::list_whole;
@@ -117,6 +119,7 @@ fn look(graph: MultiPortGraph, order: Order, text: &[u8])
         SAVE => save_as(graph, order, text),
         MERGE => merge_as(order, text),
         HELP => show_help(),
+        SLOTS => show_slots(graph),
         BLOCKS | WIRES | PLACES => list_whole(graph, command),
         _ => list(graph, order),
     }

@@ -42,6 +42,7 @@ List (each ends in ok NUMBER; SIDE is 0 incoming, 1 outgoing, 2 both; a link has
   connections N M         the links from block N to block M
   wires                   all wires: PORT OFFSET PORT OFFSET NODE SIDE POSITION each
   places                  all wires: NODE POSITION OFFSET NODE POSITION OFFSET each
+  slots                   every block of port slots in use: FIRST SIZE NODE each, or FIRST SIZE free
 Keep:
   save NAME               writes the wiring to a file, at once or not at all: ok LENGTH
   load NAME               the wiring of a file, for the release in hand, in place of this one, which stays if it is refused: ok

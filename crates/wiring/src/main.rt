@@ -12,6 +12,7 @@ mod replies;
 mod resize;
 mod session;
 mod sheet;
+mod slot_list;
 mod store;
 mod tidy;
 mod times;

@@ -64,19 +64,21 @@ pub(crate) const NEW: u32 = 25;
 
 pub(crate) const TIDY: u32 = 26;
 
-pub(crate) const HELP: u32 = 27;
+pub(crate) const SLOTS: u32 = 27;
 
-pub(crate) const QUIT: u32 = 28;
+pub(crate) const HELP: u32 = 28;
 
-pub(crate) const MERGE: u32 = 29;
+pub(crate) const QUIT: u32 = 29;
 
-pub(crate) const TIME: u32 = 30;
+pub(crate) const MERGE: u32 = 30;
 
-pub(crate) const LONGEST: u32 = 31;
+pub(crate) const TIME: u32 = 31;
 
-pub(crate) const PATH: u32 = 32;
+pub(crate) const LONGEST: u32 = 32;
 
-pub(crate) const RUNORDER: u32 = 33;
+pub(crate) const PATH: u32 = 33;
+
+pub(crate) const RUNORDER: u32 = 34;
 
 // A line has fewer numbers than this.
 const NUMBERS: u32 = 65536;
@@ -295,6 +297,7 @@ save NAME
 load NAME
 new RELEASE
 tidy P
+slots
 help
 quit
 merge NAME NAME NAME

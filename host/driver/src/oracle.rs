@@ -346,6 +346,16 @@ impl Oracle {
             .then(|| self.inner().node_port_capacity(NodeIndex::new(node as usize)))
     }
 
+    /// The blocks of slots that the original's nodes hold, hidden ones too: node, first port if it has one, and how many slots.
+    pub fn held_blocks(&self) -> Vec<(u32, Option<u32>, u32)> {
+        let inner = self.inner();
+        let block = |node: NodeIndex<u32>| {
+            let first = inner.all_ports(node).next().map(|port| number(port.index()));
+            (number(node.index()), first, number(inner.node_port_capacity(node)))
+        };
+        inner.nodes_iter().map(block).filter(|(_, _, size)| *size > 0).collect()
+    }
+
     /// The graph after a resize that is set apart (R9), as the port's rules have it: the dropped split ports are cut in
     /// the order in which they are reported, which takes their hidden nodes, and then nothing is set apart any more.
     pub fn after_set_apart(&self, node: u32, incoming: u32, outgoing: u32) -> Oracle {

@@ -12,15 +12,15 @@ lines() {
 }
 echo 'for the calls and the theorems:'
 lines portgraph Limits Lists Entries Tables Lookups Calls Resize Lent
-lines multiportgraph Reading Graph Answers HiddenNodes Refusals Calls Places Wires MultiLent
-lines theorems Theorems Book History Claims AnswerClaims PlaceClaims ListingClaims MoveClaims CursorClaims Conditions Works ReleaseTheorems ReleaseClaims
+lines multiportgraph Reading Graph Answers HiddenNodes Tidy Refusals Calls Places Wires MultiLent
+lines theorems Theorems Book History Claims AnswerClaims PlaceClaims ListingClaims MoveClaims CursorClaims Conditions Works TidyClaims ReleaseTheorems ReleaseClaims
 lines records Words Run Forms
 echo 'for walks, lookups and whole listings besides:'
 lines portgraph Walks LinkWalks
 lines multiportgraph Walks WalkNumbers Lookups Listed
 echo 'for sheets and files besides:'
 lines sheets Theorems Sheets SheetHistory Held
-lines files View Layout Saving Loading BuildList Claims LoadClaims FileTheorems LoadTheorems
+lines files View Layout Saving Loading BuildList Merging Claims LoadClaims MergeClaims FileTheorems LoadTheorems MergeTheorems
 lines exports Exports
 echo 'for the sketch besides:'
 lines sketches Plan PlanNumbers PlanCalls PlanLists SketchTables

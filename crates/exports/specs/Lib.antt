@@ -8,9 +8,11 @@
 --   LoadedLaws    the requests of a file are its build, and a list that begins with them goes on from the loaded graph
 --   ExportSteps, LoadedSteps   what the functions' proofs cite
 pub mod Exports
+pub mod Viewed
 -- laws
 pub mod ExportLaws
 pub mod LoadedLaws
 -- steps
 pub mod ExportSteps
 pub mod LoadedSteps
+pub mod ViewedSteps

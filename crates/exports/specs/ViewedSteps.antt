@@ -3,7 +3,7 @@ use mathlib.Core.Path.{_≡_, refl, sym, ap, _∙_}
 use mathlib.Core.List.{List, [], _∷_, _++_}
 use Prim.Native.Nat.{ℕ, suc, _+_, _*_, _%_, _≤_, _<_}
 use native.Mathlib.Omega.{arith}
-use lib.ListN.{length, getD, take, drop, replicate, length-append, length-drop, length-replicate}
+use lib.ListN.{length, getD, take, drop, replicate, length-append, length-drop, length-replicate, take-append-drop}
 use lib.Seq.{sets, length-sets, sets-eq, drop-cons}
 use borrow.Author.Tests.{eq-eqb, ne-eqb, le-leb, lt-leb}
 use Rattle.portgraph.specs.Limits.{nodeSlots, portSlots}
@@ -41,19 +41,21 @@ module _ (words : List ℕ) (i : ℕ) {l₀ l : List ℕ} {at p : ℕ} (w : Writ
   words-end h = ap (sets l p) (sym (none-left h)) ∙ w .same
 
   module _ (h : i < length words) where
-    word-on : bytesOf (drop i words) ≡ bytesOf (getD words i 0 ∷ []) ++ bytesOf (drop (suc i) words)
-    word-on = ap bytesOf (drop-cons words i 0 h) ∙ bytes-append (getD words i 0 ∷ []) (drop (suc i) words)
+    word-on : bytesOf (drop i words) ≡ bytesOf (getD words i 0 ∷ []) ++ bytesOf (drop (i + 1) words)
+    word-on =
+        let e : suc i ≡ i + 1 = omega arith in
+        ap bytesOf (drop-cons words i 0 h ∙ ap (λ (k : ℕ). getD words i 0 ∷ drop k words) e) ∙ bytes-append (getD words i 0 ∷ []) (drop (i + 1) words)
 
-    counted-on : length (bytesOf (drop i words)) ≡ 4 + length (bytesOf (drop (suc i) words))
+    counted-on : length (bytesOf (drop i words)) ≡ 4 + length (bytesOf (drop (i + 1) words))
     counted-on =
-        let a = ap length word-on ∙ length-append (bytesOf (getD words i 0 ∷ [])) (bytesOf (drop (suc i) words)) in
+        let a = ap length word-on ∙ length-append (bytesOf (getD words i 0 ∷ [])) (bytesOf (drop (i + 1) words)) in
         let b = bytes-long (getD words i 0 ∷ []) in
         omega arith
 
     pub word-fits : at + 4 * length words ≤ length l₀ → p + 4 ≤ length l
     word-fits k = let a = w .counted in let b = counted-on in let c = w .long in let d = bytes-long words in omega arith
 
-    pub word-turn : {l′ : List ℕ} → l′ ≡ sets l p (bytesOf (getD words i 0 ∷ [])) → Writing l₀ at (bytesOf words) l′ (p + 4) (bytesOf (drop (suc i) words))
+    pub word-turn : {l′ : List ℕ} → l′ ≡ sets l p (bytesOf (getD words i 0 ∷ [])) → Writing l₀ at (bytesOf words) l′ (p + 4) (bytesOf (drop (i + 1) words))
     word-turn {l′} e =
         let u = bytesOf (getD words i 0 ∷ []) in
         let a = w .counted in
@@ -62,8 +64,8 @@ module _ (words : List ℕ) (i : ℕ) {l₀ l : List ℕ} {at p : ℕ} (w : Writ
         record {
           counted = omega arith;
           same =
-              (λ j. sets (e j) (p + sym n j) (bytesOf (drop (suc i) words)))
-              ∙ (sets-append l p u (bytesOf (drop (suc i) words)) ∙ (ap (sets l p) (sym word-on) ∙ w .same));
+              (λ j. sets (e j) (p + sym n j) (bytesOf (drop (i + 1) words)))
+              ∙ (sets-append l p u (bytesOf (drop (i + 1) words)) ∙ (ap (sets l p) (sym word-on) ∙ w .same));
           long = ap length e ∙ (length-sets l p u ∙ w .long);
         }
 
@@ -73,22 +75,40 @@ view-parts x y b w =
     bytes-append (x ∷ y ∷ b) w
     ∙ ap (λ (l : List ℕ). l ++ bytesOf w) (bytes-append (x ∷ y ∷ []) b ∙ ap (λ (l : List ℕ). l ++ bytesOf b) (bytes-append (x ∷ []) (y ∷ [])))
 
+take-short : (n : ℕ) (l : List ℕ) → length (take n l) ≤ length l
+take-short n l = let h = length-append (take n l) (drop n l) in let e = ap length (take-append-drop n l) in omega arith
+
 -- The listings of a graph, in lists that have room for every one.
 
 module _ {m : MultiPortGraph} {M : Model} (f : Fine m M) where
-  pub blocks-taken : (n : ℕ) → n ≡ visibleNodes m → take (4 * n) (listAfter (blocksListed m) (replicate (4 * nodeSlots) 0)) ≡ blocksListed m
-  blocks-taken n e =
-      let h = listed-blocks f n e in
-      let a = length-replicate {A = ℕ} (4 * nodeSlots) 0 in
-      let b = h .1 in
-      listing-taken (blocksListed m) (replicate (4 * nodeSlots) 0) (4 * n) (h .0) (omega arith)
+  -- so many numbers are taken of the blocks' listing, and they are the blocks; it fits, and four bytes each
+  module _ (n : ℕ) (counted : n ≡ visibleNodes m) {list : List ℕ} (isList : list ≡ listAfter (blocksListed m) (replicate (4 * nodeSlots) 0)) where
+    pub blocks-taken : take (4 * n) list ≡ blocksListed m
+    blocks-taken =
+        let h = listed-blocks f n counted in
+        let a = length-replicate {A = ℕ} (4 * nodeSlots) 0 in
+        let b = h .1 in
+        ap (take (4 * n)) isList ∙ listing-taken (blocksListed m) (replicate (4 * nodeSlots) 0) (4 * n) (h .0) (omega arith)
 
-  pub wires-taken : (n : ℕ) → n ≡ visibleLinks m → take (8 * n) (listAfter (wiresListed m) (replicate (4 * portSlots) 0)) ≡ wiresListed m
-  wires-taken n e =
-      let h = listed-wires f n e in
-      let a = length-replicate {A = ℕ} (4 * portSlots) 0 in
-      let b = h .1 in
-      listing-taken (wiresListed m) (replicate (4 * portSlots) 0) (8 * n) (h .0) (omega arith)
+    pub blocks-long : length (take (4 * n) list) ≡ 4 * n
+    blocks-long = ap length blocks-taken ∙ sym (listed-blocks f n counted .0)
+
+    pub blocks-fit : (4 * n ≤ length list) × (4 * n ≤ 4 * nodeSlots)
+    blocks-fit = let h = listed-blocks f n counted in let a = h .0 in let b = h .1 in let c = blocks-long in let d = take-short (4 * n) list in (omega arith, omega arith)
+
+  module _ (n : ℕ) (counted : n ≡ visibleLinks m) {list : List ℕ} (isList : list ≡ listAfter (wiresListed m) (replicate (4 * portSlots) 0)) where
+    pub wires-taken : take (8 * n) list ≡ wiresListed m
+    wires-taken =
+        let h = listed-wires f n counted in
+        let a = length-replicate {A = ℕ} (4 * portSlots) 0 in
+        let b = h .1 in
+        ap (take (8 * n)) isList ∙ listing-taken (wiresListed m) (replicate (4 * portSlots) 0) (8 * n) (h .0) (omega arith)
+
+    pub wires-long : length (take (8 * n) list) ≡ 8 * n
+    wires-long = ap length wires-taken ∙ sym (listed-wires f n counted .0)
+
+    pub wires-fit : (8 * n ≤ length list) × (8 * n ≤ 4 * portSlots)
+    wires-fit = let h = listed-wires f n counted in let a = h .0 in let b = h .1 in let c = wires-long in let d = take-short (8 * n) list in (omega arith, omega arith)
 
   -- The length of a view follows from the counts.
   pub view-length : length (viewBytes m) ≡ 8 + 16 * visibleNodes m + 32 * visibleLinks m

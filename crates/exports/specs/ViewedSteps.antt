@@ -69,6 +69,10 @@ module _ (words : List ℕ) (i : ℕ) {l₀ l : List ℕ} {at p : ℕ} (w : Writ
           long = ap length e ∙ (length-sets l p u ∙ w .long);
         }
 
+-- the two counts leave a buffer's length
+pub counts-long : (view : List ℕ) (x y : ℕ) {view₁ view₂ : List ℕ} → view₁ ≡ sets view 0 (bytesOf (x ∷ [])) → view₂ ≡ sets view₁ 4 (bytesOf (y ∷ [])) → length view₂ ≡ length view
+counts-long view x y {view₁} {view₂} e h = ap length h ∙ (length-sets view₁ 4 (bytesOf (y ∷ [])) ∙ (ap length e ∙ length-sets view 0 (bytesOf (x ∷ []))))
+
 -- the words of a view in four parts
 view-parts : (x y : ℕ) (b w : List ℕ) → bytesOf (x ∷ y ∷ b ++ w) ≡ ((bytesOf (x ∷ []) ++ bytesOf (y ∷ [])) ++ bytesOf b) ++ bytesOf w
 view-parts x y b w =
@@ -109,6 +113,9 @@ module _ {m : MultiPortGraph} {M : Model} (f : Fine m M) where
 
     pub wires-fit : (8 * n ≤ length list) × (8 * n ≤ 4 * portSlots)
     wires-fit = let h = listed-wires f n counted in let a = h .0 in let b = h .1 in let c = wires-long in let d = take-short (8 * n) list in (omega arith, omega arith)
+
+  pub listing-long : (view : List ℕ) {view′ : List ℕ} → view′ ≡ sets view 8 (bytesOf (blocksListed m)) → length view′ ≡ length view
+  listing-long view e = ap length e ∙ length-sets view 8 (bytesOf (blocksListed m))
 
   -- The length of a view follows from the counts.
   pub view-length : length (viewBytes m) ≡ 8 + 16 * visibleNodes m + 32 * visibleLinks m

@@ -6,6 +6,7 @@
 //! - [`console`]: listings, move lists and saved files, through the program `wiring`.
 //! - [`files`]: a second writer and a reader of saved files, from document 02's words.
 //! - [`saves`]: files that lists are saved as, beside that writer.
+//! - [`views`]: what a page is drawn from, beside the original's listings.
 //! - [`loads`], [`broken`]: files that are loaded, whole and damaged, beside that reader and the original.
 //! - [`spoil`]: wrong answers put in by hand, to show that they are caught.
 //! - [`lists`], [`plain`], [`plain_files`]: lists that the original answers itself, the original without the driver, and a plain
@@ -29,4 +30,5 @@ pub mod runs;
 pub mod saves;
 pub mod spoil;
 pub mod tally;
+pub mod views;
 pub mod walks;

@@ -12,6 +12,7 @@ use differential::runs::Plan;
 use differential::saves::save_records;
 use differential::spoil::{spoiled, spoiled_console, spoiled_load, spoiled_save, KINDS};
 use differential::tally::Tally;
+use differential::views::view_of_records;
 use differential::{console, runs};
 
 /// A run that compares fewer calls of random lists, or fewer saved files, fails.
@@ -75,6 +76,10 @@ fn run(options: &Options, total: &mut Tally) -> Result<(), String> {
     total.add(&loaded);
     lines.iter().for_each(|line| println!("{line}"));
     println!("{loaded}");
+    let (lines, views) = runs::views(&view_of_records, &options.plan)?;
+    total.add(&views);
+    lines.iter().for_each(|line| println!("{line}"));
+    println!("{views}");
     if let Some(program) = wiring {
         let mut scripts = Tally::default();
         let seeds = options.plan.script_seeds();
@@ -123,7 +128,8 @@ fn main() -> ExitCode {
     }
     let (compared, expected, listings, files) = (total.compared(), total.expected(), total.listings(), total.files());
     println!("{compared} calls compared with the Rust, {expected} expected by 01");
-    println!("{listings} listings compared, {files} files saved or loaded by records");
-    println!("{} passed, {failed} failed", compared + expected + listings + files);
+    let views = total.views();
+    println!("{listings} listings compared, {files} files saved or loaded by records, {views} views");
+    println!("{} passed, {failed} failed", compared + expected + listings + files + views);
     ExitCode::from(u8::from(failed > 0))
 }

@@ -8,7 +8,7 @@ use crate::compare::{compare, Entry, Writes};
 use crate::history::History;
 use crate::loads::Entries;
 use crate::tally::Tally;
-use crate::{damage, exhaustive, loads, saves};
+use crate::{damage, exhaustive, loads, saves, views};
 
 /// How much is run.
 #[derive(Clone, Copy, Debug)]
@@ -37,6 +37,8 @@ pub struct Plan {
     pub loads: u64,
     pub small: u64,
     pub damaged: u64,
+    /// So many views of random lists are compared, or more.
+    pub views: u64,
 }
 
 impl Plan {
@@ -56,6 +58,7 @@ impl Plan {
         loads: 20_000,
         small: 8,
         damaged: 1_000_000,
+        views: 200_000,
     };
     /// A run of seconds.
     pub const SHORT: Plan = Plan {
@@ -73,6 +76,7 @@ impl Plan {
         loads: 400,
         small: 1,
         damaged: 20_000,
+        views: 2_000,
     };
 
     /// The seeds of the altered lists, and of the scripts.
@@ -138,6 +142,19 @@ pub fn loads(entries: Entries, plan: &Plan) -> Result<(Vec<String>, Tally), Stri
         loads::long(entries, &mut tally)?,
         loads::every_byte(entries, plan.small, &mut tally)?,
         loads::damaged(entries, plan.seed, plan.damaged, &mut tally)?,
+    ];
+    Ok((lines, tally))
+}
+
+/// Views by records: of random lists, of sizes up to full wirings, of lists with altered bytes, and by buffers and lists of every
+/// length. Gives what was run, and the tally.
+pub fn views(view: &Writes, plan: &Plan) -> Result<(Vec<String>, Tally), String> {
+    let mut tally = Tally::default();
+    let lines = vec![
+        views::lengths(view, plan.lengths, &mut tally)?,
+        views::sizes(view, plan.seed..plan.seed + plan.full, &mut tally)?,
+        views::altered(view, plan.altered_seeds(), &mut tally)?,
+        views::random(view, plan.seed, plan.views, &mut tally)?,
     ];
     Ok((lines, tally))
 }

@@ -7,7 +7,7 @@ use driver::Release;
 
 use crate::console::{LOADS, SHEETS};
 use crate::history::{By, Step, LINK_CLEAN};
-use crate::{loads, saves};
+use crate::{loads, saves, views};
 
 /// The calls by code; 0 stands for unknown codes.
 pub const CALLS: [&str; LINK_CLEAN + 1] = [
@@ -38,6 +38,9 @@ pub struct Tally {
     /// Files loaded, and loads refused, with the buffer untouched.
     pub loaded: u64,
     pub loads_refused: u64,
+    /// Views written by records, and views refused, with the buffer untouched.
+    pub viewed: u64,
+    pub views_refused: u64,
     /// Lists refused as a whole (refusal 1).
     pub lists_refused: u64,
     /// Items of listings and move lists, in the console's answers.
@@ -84,7 +87,16 @@ impl Tally {
         }
     }
 
-    /// Counts a kind that a file has besides.
+    /// Counts a view, or a refused one, by its kind.
+    pub fn view(&mut self, kind: &'static str, viewed: bool) {
+        self.file(kind);
+        match viewed {
+            true => self.viewed += 1,
+            false => self.views_refused += 1,
+        }
+    }
+
+    /// Counts a kind that a file or a view has besides.
     pub fn file(&mut self, kind: &'static str) {
         *self.files.entry(kind).or_default() += 1;
     }
@@ -98,6 +110,8 @@ impl Tally {
         self.saves_refused += other.saves_refused;
         self.loaded += other.loaded;
         self.loads_refused += other.loads_refused;
+        self.viewed += other.viewed;
+        self.views_refused += other.views_refused;
         self.lists_refused += other.lists_refused;
         self.items += other.items;
         self.two_by_rust += other.two_by_rust;
@@ -117,6 +131,11 @@ impl Tally {
     /// Listings of the console, and its lines that are no commands.
     pub fn listings(&self) -> u64 {
         self.listings.values().sum()
+    }
+
+    /// Views by records, the refused ones included.
+    pub fn views(&self) -> u64 {
+        self.viewed + self.views_refused
     }
 
     /// Files saved by records and loaded as records, the refused ones included.
@@ -201,7 +220,7 @@ impl Tally {
         let calls = all.filter(|key| !self.calls.contains_key(key)).map(|key| format!("{key:?}"));
         let notes = notes.into_iter().filter(|note| !self.notes.contains_key(note)).map(str::to_string);
         let files =
-            saves::kinds().chain(loads::kinds()).filter(|kind| !self.files.contains_key(kind)).map(str::to_string);
+            saves::kinds().chain(loads::kinds()).chain(views::kinds()).filter(|kind| !self.files.contains_key(kind)).map(str::to_string);
         calls.chain(notes).chain(sheets).chain(files).collect()
     }
 }
@@ -249,6 +268,9 @@ impl fmt::Display for Tally {
         }
         if self.loaded > 0 {
             writeln!(f, "files loaded: {}, and {} loads refused", self.loaded, self.loads_refused)?;
+        }
+        if self.viewed > 0 {
+            writeln!(f, "views: {}, and {} refused", self.viewed, self.views_refused)?;
         }
         for (kind, count) in &self.files {
             writeln!(f, "  {kind:45} {count:9}")?;

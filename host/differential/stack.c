@@ -1,7 +1,8 @@
 /* How much stack the entries take: each runs on a thread whose stack is painted beforehand, and how much of it was written is
-   printed, the thread's own part included. The run has 20,000 random calls, the file as many blocks and wires as there is room for.
+   printed, the thread's own part included. The run has 20,000 random calls, the file and the view as many blocks and wires as there is room for.
 
-   cc -O1 host/differential/stack.c target/staticlib/librecords.a target/staticlib/libexports.a -lpthread -o target/stack && target/stack */
+   cc -O1 -Ihost/include host/differential/stack.c target/staticlib/libkanhtrev.a -lpthread -o target/stack && target/stack */
+#include <kanhtrev.h>
 #include <pthread.h>
 #include <stdint.h>
 #include <stdio.h>
@@ -9,15 +10,11 @@
 #include <string.h>
 #include <sys/mman.h>
 
-uint32_t run_records(const uint8_t *, size_t, uint8_t *, size_t);
-uint64_t save_records(const uint8_t *, size_t, uint8_t *, size_t);
-uint64_t records_of_file(const uint8_t *, size_t, uint8_t *, size_t);
-
 enum { CALLS = 20000, WORDS = 5, STACK = 1 << 20, PAINT = 0xA5, BLOCKS = 1000, LINKS = BLOCKS - 1, FILE_BYTES = 65536 };
 
 static uint32_t requests[CALLS * WORDS], answers[CALLS * WORDS], ring[(BLOCKS + LINKS) * WORDS], loaded[CALLS * WORDS];
-static uint8_t file[FILE_BYTES];
-static uint64_t file_bytes, loaded_bytes;
+static uint8_t file[FILE_BYTES], view[KANHTREV_LONGEST_VIEW];
+static uint64_t file_bytes, loaded_bytes, view_bytes;
 
 static void draw(uint32_t *request) {
     static const uint32_t below[10][5] = {
@@ -37,6 +34,11 @@ static void *run(void *unused) {
 
 static void *save(void *unused) {
     file_bytes = save_records((uint8_t *)ring, sizeof ring, file, sizeof file);
+    return unused;
+}
+
+static void *look(void *unused) {
+    view_bytes = view_of_records((uint8_t *)ring, sizeof ring, view, sizeof view);
     return unused;
 }
 
@@ -79,4 +81,6 @@ int main(void) {
     printf("save_records: a file of %llu bytes, %zu bytes of stack\n", (unsigned long long)file_bytes, bytes);
     bytes = taken(load);
     printf("records_of_file: %llu requests, %zu bytes of stack\n", (unsigned long long)(loaded_bytes / 20), bytes);
+    bytes = taken(look);
+    printf("view_of_records: a view of %llu bytes, %zu bytes of stack\n", (unsigned long long)view_bytes, bytes);
 }

@@ -17,7 +17,9 @@ fn link(name: &str, folder: &Path) {
     println!("cargo:rerun-if-changed={}", library.display());
     if !library.is_file() {
         eprintln!("\nkanhtrev: there is no {}.", library.display());
-        eprintln!("kanhtrev: run `bash host/library.sh` in the repository of Kanhtrev, which proves and makes it with `rt`;");
+        eprintln!(
+            "kanhtrev: run `bash host/library.sh` in the repository of Kanhtrev, which proves and makes it with `rt`;"
+        );
         eprintln!("kanhtrev: or name the folder that has it: KANHTREV_LIBRARY=FOLDER cargo build\n");
         exit(1);
     }

@@ -219,8 +219,11 @@ impl Tally {
         let all = all.chain(reasons).chain(clean);
         let calls = all.filter(|key| !self.calls.contains_key(key)).map(|key| format!("{key:?}"));
         let notes = notes.into_iter().filter(|note| !self.notes.contains_key(note)).map(str::to_string);
-        let files =
-            saves::kinds().chain(loads::kinds()).chain(views::kinds()).filter(|kind| !self.files.contains_key(kind)).map(str::to_string);
+        let files = saves::kinds()
+            .chain(loads::kinds())
+            .chain(views::kinds())
+            .filter(|kind| !self.files.contains_key(kind))
+            .map(str::to_string);
         calls.chain(notes).chain(sheets).chain(files).collect()
     }
 }

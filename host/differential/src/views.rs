@@ -27,9 +27,8 @@ const SHORT: &str = "a buffer much shorter than the view";
 const LENGTH: &str = "a list of wrong length, viewed";
 const ALTERED: &str = "a list with altered bytes, viewed";
 
-const KINDS: [&str; 13] = [
-    EMPTY, PORTLESS, SHARED, REUSED, RESIZED, FULL, LONGEST, EXACT, LONGER, ONE_SHORT, SHORT, LENGTH, ALTERED,
-];
+const KINDS: [&str; 13] =
+    [EMPTY, PORTLESS, SHARED, REUSED, RESIZED, FULL, LONGEST, EXACT, LONGER, ONE_SHORT, SHORT, LENGTH, ALTERED];
 
 /// The kinds of views, buffers and lists that a whole run must bring up.
 pub fn kinds() -> impl Iterator<Item = &'static str> {
@@ -142,7 +141,11 @@ pub fn random(entry: &Writes, seed: u64, views: u64, tally: &mut Tally) -> Resul
         next += 1;
     }
     let lists = next - seed;
-    Ok(format!("viewed: {} views, after each call of {lists} lists, seeds {seed} to {}", tally.viewed - before, next - 1))
+    Ok(format!(
+        "viewed: {} views, after each call of {lists} lists, seeds {seed} to {}",
+        tally.viewed - before,
+        next - 1
+    ))
 }
 
 /// Wirings of many sizes, and full ones.
@@ -153,10 +156,16 @@ pub fn sizes(entry: &Writes, seeds: std::ops::Range<u64>, tally: &mut Tally) -> 
         let counts = [(0, 0), (1, 0), (1, 1), (63, 64), (127, 126), (600, 300)];
         let histories = counts.map(|(blocks, wires)| sized(blocks, wires, &mut random));
         for history in histories.into_iter().chain([full(&mut random)]) {
-            compare(entry, &history, &mut random, tally).map_err(|text| format!("viewed, sizes, seed {seed}: {text}"))?;
+            compare(entry, &history, &mut random, tally)
+                .map_err(|text| format!("viewed, sizes, seed {seed}: {text}"))?;
         }
     }
-    Ok(format!("viewed: {} views of up to full wirings, seeds {} to {}", tally.viewed - before, seeds.start, seeds.end - 1))
+    Ok(format!(
+        "viewed: {} views of up to full wirings, seeds {} to {}",
+        tally.viewed - before,
+        seeds.start,
+        seeds.end - 1
+    ))
 }
 
 /// Lists with altered bytes.
@@ -174,7 +183,12 @@ pub fn altered(entry: &Writes, seeds: std::ops::Range<u64>, tally: &mut Tally) -
             .map_err(|text| format!("viewed, altered bytes, seed {seed}: {text}"))?;
         tally.file(ALTERED);
     }
-    Ok(format!("viewed: {} lists with altered bytes, seeds {} to {}", seeds.end - seeds.start, seeds.start, seeds.end - 1))
+    Ok(format!(
+        "viewed: {} lists with altered bytes, seeds {} to {}",
+        seeds.end - seeds.start,
+        seeds.start,
+        seeds.end - 1
+    ))
 }
 
 /// Buffers of every length up to the longest that matters, for a few lists; and lists cut to every length up to so many bytes.
@@ -239,16 +253,22 @@ pub const WRONG_VIEWS: [WrongView; 9] = [
         name: "a wire's ends are exchanged",
         alter: |returned, view| {
             let first = first_wire(&words(returned, view));
-            first.is_some_and(|first| (0..4).fold(false, |any, word| exchange(view, first + word, first + 4 + word) || any))
+            first.is_some_and(|first| {
+                (0..4).fold(false, |any, word| exchange(view, first + word, first + 4 + word) || any)
+            })
         },
     },
     WrongView {
         name: "an end's node is its port",
-        alter: |returned, view| first_wire(&words(returned, view)).is_some_and(|first| exchange(view, first, first + 2)),
+        alter: |returned, view| {
+            first_wire(&words(returned, view)).is_some_and(|first| exchange(view, first, first + 2))
+        },
     },
     WrongView {
         name: "an end's position is its offset",
-        alter: |returned, view| first_wire(&words(returned, view)).is_some_and(|first| exchange(view, first + 1, first + 3)),
+        alter: |returned, view| {
+            first_wire(&words(returned, view)).is_some_and(|first| exchange(view, first + 1, first + 3))
+        },
     },
     WrongView {
         name: "the last wire is left out",
@@ -264,7 +284,9 @@ pub const WRONG_VIEWS: [WrongView; 9] = [
     },
     WrongView {
         name: "a byte past the view is cleared",
-        alter: |returned, view| returned.is_ok_and(|length| length < view.len() && std::mem::take(&mut view[length]) != 0),
+        alter: |returned, view| {
+            returned.is_ok_and(|length| length < view.len() && std::mem::take(&mut view[length]) != 0)
+        },
     },
     WrongView {
         name: "a short buffer is written in part",

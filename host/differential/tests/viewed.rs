@@ -31,7 +31,9 @@ fn by_hand() {
     ];
     let records: Vec<_> = calls.iter().map(|call| call.to_record()).collect();
     let mut oracle = Oracle::new();
-    calls.iter().for_each(|call| drop(oracle.ask(*call)));
+    for call in calls {
+        oracle.ask(call);
+    }
     let mut view = vec![0; kanhtrev::LONGEST_VIEW];
     let length = view_of_records(&to_bytes(&records), &mut view).unwrap();
     assert_eq!(view[..length], view_of(&oracle));

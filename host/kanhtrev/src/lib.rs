@@ -321,7 +321,9 @@ impl fmt::Display for Refusal {
     fn fmt(&self, f: &mut fmt::Formatter) -> fmt::Result {
         match self {
             Refusal::Length => f.write_str("the list is not whole records, or as long as the answers"),
-            Refusal::Malformed => f.write_str("a record has an unknown code, a number in an unused word, or too large an offset"),
+            Refusal::Malformed => {
+                f.write_str("a record has an unknown code, a number in an unused word, or too large an offset")
+            }
             Refusal::TooManyPorts => f.write_str("a block has at most 1,024 ports"),
             Refusal::NodeNotLive => f.write_str("there is no such block"),
             Refusal::NodeHidden => f.write_str("this number is not a block's"),
@@ -435,7 +437,9 @@ impl List {
     pub fn run(&self) -> Vec<Result<Answer, Refusal>> {
         let mut answers = vec![0; self.requests.len()];
         match run_bytes(&self.requests, &mut answers) {
-            Ok(()) => words(&self.requests).zip(words(&answers)).map(|(request, answer)| read(request, answer)).collect(),
+            Ok(()) => {
+                words(&self.requests).zip(words(&answers)).map(|(request, answer)| read(request, answer)).collect()
+            }
             Err(refusal) => vec![Err(refusal); self.len()],
         }
     }

@@ -142,7 +142,11 @@ fn saved_and_loaded_on_the_next_tractor() {
         let mut wires: Vec<String> = wiring
             .wires()
             .iter()
-            .map(|wire| [wire.from, wire.to].map(|end| format!("{:?} {}", wiring.name(end.place.node), end.place.position)).join(" to "))
+            .map(|wire| {
+                [wire.from, wire.to]
+                    .map(|end| format!("{:?} {}", wiring.name(end.place.node), end.place.position))
+                    .join(" to ")
+            })
             .collect();
         wires.sort();
         wires
@@ -170,7 +174,11 @@ fn as_its_list() {
         let node = |random: u32| Node(if random % 37 == 0 { u32::MAX - random } else { random % 9 });
         let place = |below: &mut dyn FnMut(u64) -> u32| {
             let (block, position) = (node(below(1_000)), below(4));
-            if below(2) == 0 { block.input(position) } else { block.output(position) }
+            if below(2) == 0 {
+                block.input(position)
+            } else {
+                block.output(position)
+            }
         };
         let before = (wiring.list().clone(), wiring.view().clone());
         let done = match below(10) {

@@ -87,55 +87,27 @@ fn a_line_may_come_in_pieces_and_lines_together() {
 
 #[test]
 fn every_refusal_and_bad_line_says_why() {
-    let text = run(
-        &[],
-        b"add 512 513\nremove 7\nlink 9 0\nfoo\nadd 1\nadd x 1\nsubports 0 3\nneighbours 0 1 2\nsublink 0 65535\n",
-    );
+    let text = run(&[], b"add 512 513\nremove 7\nlink 9 0\nfoo\nadd 1\nadd x 1\nsubports 0 3\nneighbours 0 1 2\nsublink 0 65535\n");
     for line in text.lines() {
         let (answer, reason) = line.split_once("  # ").unwrap();
         assert!(answer.starts_with("refused ") || answer.starts_with("bad line "), "{line}");
         assert!(!reason.is_empty());
     }
-    assert_eq!(
-        text.lines().map(without_reason).collect::<Vec<_>>(),
-        [
-            "refused 3",
-            "refused 4",
-            "refused 7 9",
-            "bad line 4",
-            "bad line 5",
-            "bad line 6",
-            "bad line 7",
-            "bad line 8",
-            "refused 2",
-        ]
-    );
+    assert_eq!(text.lines().map(without_reason).collect::<Vec<_>>(), [
+        "refused 3", "refused 4", "refused 7 9", "bad line 4", "bad line 5", "bad line 6", "bad line 7", "bad line 8", "refused 2",
+    ]);
 }
 
 #[test]
 fn a_sheet_is_one_line() {
     let start = "add 0 1\nadd 2 0\n";
-    let lines = |text: &str| {
-        run(&[], format!("{start}{text}").as_bytes())
-            .lines()
-            .skip(2)
-            .map(without_reason)
-            .map(str::to_string)
-            .collect::<Vec<_>>()
-    };
-    assert_eq!(
-        lines("sheet 0 1 1 2 9 0 0 2\ncounts\n"),
-        ["  ok 0 0 1 0", "  refused 12 4 2 0", "  refused 7 9", "  ok 0 1 2 0", "ok 4", "ok 2 3 2",]
-    );
-    assert_eq!(
-        lines("sheet\n  sheet \t\r\nsheet 0 1 2\nsheet 0 x\ncounts\n"),
-        ["ok 0", "ok 0", "bad line 5", "bad line 6", "ok 2 3 0"]
-    );
+    let lines = |text: &str| run(&[], format!("{start}{text}").as_bytes()).lines().skip(2).map(without_reason).map(str::to_string).collect::<Vec<_>>();
+    assert_eq!(lines("sheet 0 1 1 2 9 0 0 2\ncounts\n"), [
+        "  ok 0 0 1 0", "  refused 12 4 2 0", "  refused 7 9", "  ok 0 1 2 0", "ok 4", "ok 2 3 2",
+    ]);
+    assert_eq!(lines("sheet\n  sheet \t\r\nsheet 0 1 2\nsheet 0 x\ncounts\n"), ["ok 0", "ok 0", "bad line 5", "bad line 6", "ok 2 3 0"]);
     let long = lines(&format!("sheet{}\ncounts\n", " 0 1".repeat(64)));
-    assert_eq!(
-        (long.len(), long[63].as_str(), long[64].as_str(), long[65].as_str()),
-        (66, "  ok 0 63 1 63", "ok 64", "ok 2 3 64")
-    );
+    assert_eq!((long.len(), long[63].as_str(), long[64].as_str(), long[65].as_str()), (66, "  ok 0 63 1 63", "ok 64", "ok 2 3 64"));
     // As many as a line can hold: 65,536 bytes.
     for pairs in [65, 66, 1_000, 16_382] {
         assert_eq!(lines(&format!("sheet{}\ncounts\n", " 0 1".repeat(pairs))), ["refused 14", "ok 2 3 0"]);

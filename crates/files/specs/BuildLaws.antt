@@ -56,6 +56,7 @@ goes-or-stops (book.linkCleanCall a b) v = inl (λ rest. refl)
 goes-or-stops (book.linkSubCall p o q r) v = inl (λ rest. refl)
 goes-or-stops (book.cutCall p) v = inl (λ rest. refl)
 goes-or-stops (book.cutSubCall p o) v = inl (λ rest. refl)
+goes-or-stops (book.tidyCall p) v = inl (λ rest. refl)
 
 pub refused-not-loaded : (r : Refusal) → Refused r ≡ Loaded → ⊥
 refused-not-loaded r e = zero-is-not-one (cc)

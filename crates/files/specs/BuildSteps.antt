@@ -57,6 +57,7 @@ after-loaded (book.linkCleanCall a b) v rest h = refl
 after-loaded (book.linkSubCall p o q r) v rest h = refl
 after-loaded (book.cutCall p) v rest h = refl
 after-loaded (book.cutSubCall p o) v rest h = refl
+after-loaded (book.tidyCall p) v rest h = refl
 
 after-refused : (c : Call) (v : AnswerOf c) (rest : LoadAnswer) → isLoaded (afterCall c v Loaded) ≡ false → afterCall c v rest ≡ afterCall c v Loaded
 after-refused (book.addCall i o) (add.Added n p) rest h = absurd (true-not-false refl h)
@@ -69,6 +70,7 @@ after-refused (book.linkCleanCall a b) v rest h = absurd (true-not-false refl h)
 after-refused (book.linkSubCall p o q r) v rest h = absurd (true-not-false refl h)
 after-refused (book.cutCall p) v rest h = absurd (true-not-false refl h)
 after-refused (book.cutSubCall p o) v rest h = absurd (true-not-false refl h)
+after-refused (book.tidyCall p) v rest h = absurd (true-not-false refl h)
 
 add-telling : (v : AddAnswer) (i o : ℕ) → addTold v ≡ afterCall (book.addCall i o) v Loaded
 add-telling (add.Added n p) i o = refl

@@ -58,64 +58,64 @@ plain = rankWire (λ n. n)
 
 -- A link from an output to an input, where the book has the wires of a list, each as often as it stands there.
 module _ {m : MultiPortGraph} {M : Model} {B : Book} (r : Rel m M B) (a b : ℕ) (n i k j : ℕ) (s : OfBlock m M a (inner# n Outgoing i)) (t : OfBlock m M b (inner# k Incoming j))
-    where
-  same-port : (p : ℕ) (x y : model.InnerPlace) → OfBlock m M p x → OfBlock m M p y → x ≡ y
-  same-port p x y u v = slots-apart (r .fine .good) x y (u .0 .0) (v .0 .0) (u .1 ∙ sym (v .1))
+  where
+    same-port : (p : ℕ) (x y : model.InnerPlace) → OfBlock m M p x → OfBlock m M p y → x ≡ y
+    same-port p x y u v = slots-apart (r .fine .good) x y (u .0 .0) (v .0 .0) (u .1 ∙ sym (v .1))
 
-  outgoing-not-incoming : Outgoing ≡ Incoming → ⊥
-  outgoing-not-incoming e = zero-is-not-one (cc)
+    outgoing-not-incoming : Outgoing ≡ Incoming → ⊥
+    outgoing-not-incoming e = zero-is-not-one (cc)
 
-  -- it is refused with 18 or for space
-  refusals : (h : MultiPortGraph) (c : Refusal) → LinkRefused m M a b h c → (Taken m M a b × (c ≡ InputWired)) ⊎ (c ≡ NoRoom)
-  refusals h c (link-first-dead d) = absurd (d _ (s .0 .0) (s .1))
-  refusals h c (link-first-hidden z) = absurd (block-not-hidden (r .fine) a _ s z)
-  refusals h c (link-second-hidden x u z) = absurd (block-not-hidden (r .fine) b _ t z)
-  refusals h c (link-wired x u z w) = inl (w, refl)
-  refusals h c (link-first-full x u z w e) = inr refl
-  refusals h c (link-second-full x y m₁ p o u z w e g) = inr refl
-  refusals h c (link-second-dead x m₁ p o u d w e) = absurd (d _ (t .0 .0) (t .1))
-  refusals h c (link-one-side x y m₁ m₂ p o v q u z w e g l) =
-      absurd
-      (outgoing-not-incoming
-      (ap (λ (p : model.InnerPlace). p .side) (same-port a (inner# n Outgoing i) x s u) ∙ (l ∙ ap (λ (p : model.InnerPlace). p .side) (same-port b y (inner# k Incoming j) z t))))
+    -- it is refused with 18 or for space
+    refusals : (h : MultiPortGraph) (c : Refusal) → LinkRefused m M a b h c → (Taken m M a b × (c ≡ InputWired)) ⊎ (c ≡ NoRoom)
+    refusals h c (link-first-dead d) = absurd (d _ (s .0 .0) (s .1))
+    refusals h c (link-first-hidden z) = absurd (block-not-hidden (r .fine) a _ s z)
+    refusals h c (link-second-hidden x u z) = absurd (block-not-hidden (r .fine) b _ t z)
+    refusals h c (link-wired x u z w) = inl (w, refl)
+    refusals h c (link-first-full x u z w e) = inr refl
+    refusals h c (link-second-full x y m₁ p o u z w e g) = inr refl
+    refusals h c (link-second-dead x m₁ p o u d w e) = absurd (d _ (t .0 .0) (t .1))
+    refusals h c (link-one-side x y m₁ m₂ p o v q u z w e g l) =
+        absurd
+        (outgoing-not-incoming
+        (ap (λ (p : model.InnerPlace). p .side) (same-port a (inner# n Outgoing i) x s u) ∙ (l ∙ ap (λ (p : model.InnerPlace). p .side) (same-port b y (inner# k Incoming j) z t))))
 
-  pub link-refusals : (c : Refusal) → linkPair m a b .answer ≡ link.Refused c → (Taken m M a b × (c ≡ InputWired)) ⊎ (c ≡ NoRoom)
-  link-refusals c e = refusals (linkPair m a b .graph) c (link-refused (r .fine) a b c e)
+    pub link-refusals : (c : Refusal) → linkPair m a b .answer ≡ link.Refused c → (Taken m M a b × (c ≡ InputWired)) ⊎ (c ≡ NoRoom)
+    link-refusals c e = refusals (linkPair m a b .graph) c (link-refused (r .fine) a b c e)
 
-  pub taken-refused : Taken m M a b → linkPair m a b .answer ≡ link.Refused InputWired
-  taken-refused w = ap (λ (v : PortsLinked). v .answer) (link-refuses (r .fine) a b m InputWired (link-wired (inner# n Outgoing i) s (block-not-hidden (r .fine) b _ t) w))
+    pub taken-refused : Taken m M a b → linkPair m a b .answer ≡ link.Refused InputWired
+    taken-refused w = ap (λ (v : PortsLinked). v .answer) (link-refuses (r .fine) a b m InputWired (link-wired (inner# n Outgoing i) s (block-not-hidden (r .fine) b _ t) w))
 
-  module _ (ws : List RankWire) (entered : (z : RankWire) → count (λ (w : Wire). sameWire (plain w) z) (B .wires) ≡ howMany sameWire z ws) where
-    -- the input has a wire exactly if one of the list ends there
-    wired-by : WiredInput m M b → (u : RankWire) × Member u ws × (u .target ≡ k) × (u .input ≡ j)
-    wired-by (x, p, side, w, o, here, into) =
-        let q = same-port b x (inner# k Incoming j) p t in
-        let c = counts (λ (v : Wire). sameWire (plain v) (plain w)) w (B .wires) (r .wires .walks w here) (same-wire-self (plain w)) in
-        let e = entered (plain w) in (
-          plain w,
-          counted-in sameWire same-wire-equal same-wire-self (plain w) ws (omega arith),
-          (ap (λ (z : Place). z .node) into ∙ ap (λ (z : model.InnerPlace). z .node) q),
-          (ap (λ (z : Place). z .pos) into ∙ ap (λ (z : model.InnerPlace). z .pos) q),
-        )
+    module _ (ws : List RankWire) (entered : (z : RankWire) → count (λ (w : Wire). sameWire (plain w) z) (B .wires) ≡ howMany sameWire z ws) where
+      -- the input has a wire exactly if one of the list ends there
+      wired-by : WiredInput m M b → (u : RankWire) × Member u ws × (u .target ≡ k) × (u .input ≡ j)
+      wired-by (x, p, side, w, o, here, into) =
+          let q = same-port b x (inner# k Incoming j) p t in
+          let c = counts (λ (v : Wire). sameWire (plain v) (plain w)) w (B .wires) (r .wires .walks w here) (same-wire-self (plain w)) in
+          let e = entered (plain w) in (
+            plain w,
+            counted-in sameWire same-wire-equal same-wire-self (plain w) ws (omega arith),
+            (ap (λ (z : Place). z .node) into ∙ ap (λ (z : model.InnerPlace). z .node) q),
+            (ap (λ (z : Place). z .pos) into ∙ ap (λ (z : model.InnerPlace). z .pos) q),
+          )
 
-    by-wire : (u : RankWire) → Member u ws → u .target ≡ k → u .input ≡ j → WiredInput m M b
-    by-wire u z p q =
-        let c = member-counted u ws z in
-        let e = entered u in
-        let f = counted (λ (v : Wire). sameWire (plain v) u) (B .wires) (omega arith) in
-        let w = f .0 in
-        let here = r .wires .booked w (f .1) in
-        let l = same-wire-equal (plain w) u (f .2) in
-        let x = ap (λ (v : RankWire). v .target) l ∙ p in
-        let y = ap (λ (v : RankWire). v .input) l ∙ q in
-        let side = into-side (r .fine) w here in
-        (inner# k Incoming j, t, refl, w, w .into .offset, here, (λ h. record { node = x h; side = side h; pos = y h; offset = w .into .offset }))
+      by-wire : (u : RankWire) → Member u ws → u .target ≡ k → u .input ≡ j → WiredInput m M b
+      by-wire u z p q =
+          let c = member-counted u ws z in
+          let e = entered u in
+          let f = counted (λ (v : Wire). sameWire (plain v) u) (B .wires) (omega arith) in
+          let w = f .0 in
+          let here = r .wires .booked w (f .1) in
+          let l = same-wire-equal (plain w) u (f .2) in
+          let x = ap (λ (v : RankWire). v .target) l ∙ p in
+          let y = ap (λ (v : RankWire). v .input) l ∙ q in
+          let side = into-side (r .fine) w here in
+          (inner# k Incoming j, t, refl, w, w .into .offset, here, (λ h. record { node = x h; side = side h; pos = y h; offset = w .into .offset }))
 
-    -- so 18 is given, for release 2, exactly then
-    pub taken-by : Taken m M a b → (m .release ≡ Two) × ((u : RankWire) × Member u ws × (u .target ≡ k) × (u .input ≡ j))
-    taken-by (two, inl h) =
-        absurd (outgoing-not-incoming (ap (λ (z : model.InnerPlace). z .side) (same-port a (inner# n Outgoing i) (h .0) s (h .1)) ∙ h .2))
-    taken-by (two, inr h) = (two, wired-by h)
+      -- so 18 is given, for release 2, exactly then
+      pub taken-by : Taken m M a b → (m .release ≡ Two) × ((u : RankWire) × Member u ws × (u .target ≡ k) × (u .input ≡ j))
+      taken-by (two, inl h) =
+          absurd (outgoing-not-incoming (ap (λ (z : model.InnerPlace). z .side) (same-port a (inner# n Outgoing i) (h .0) s (h .1)) ∙ h .2))
+      taken-by (two, inr h) = (two, wired-by h)
 
-    pub by-taken : m .release ≡ Two → (u : RankWire) → Member u ws → u .target ≡ k → u .input ≡ j → Taken m M a b
-    by-taken two u z p q = (two, inr (by-wire u z p q))
+      pub by-taken : m .release ≡ Two → (u : RankWire) → Member u ws → u .target ≡ k → u .input ≡ j → Taken m M a b
+      by-taken two u z p q = (two, inr (by-wire u z p q))

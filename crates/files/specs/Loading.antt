@@ -140,6 +140,7 @@ afterCall (book.linkCleanCall a b) v rest = rest
 afterCall (book.linkSubCall p o q r) v rest = rest
 afterCall (book.cutCall p) v rest = rest
 afterCall (book.cutSubCall p o) v rest = rest
+afterCall (book.tidyCall p) v rest = rest
 
 unfoldable pub firstRefusalUnder : Limits → MultiPortGraph → List Call → LoadAnswer
 firstRefusalUnder L m [] = Loaded

@@ -96,9 +96,10 @@ module _ {m : MultiPortGraph} {M : Model} {B : Book} (r : Rel m M B) (one : OneE
       let w = s .wire in
       let x = viewed u (subst (Member u) (sym (s .is)) (member-left u (s .first) (w ∷ s .later) (s .before))) in
       let y = viewed w (subst (Member w) (sym (s .is)) (member-right w (s .first) (w ∷ s .later) (inl refl))) in
-      let same : SameInput (ranked (x .0)) (ranked (y .0)) =
-      (ap (λ (v : RankWire). v .target) (x .2) ∙ (s .same .0 ∙ ap (λ (v : RankWire). v .target) (sym (y .2))),
-      ap (λ (v : RankWire). v .input) (x .2) ∙ (s .same .1 ∙ ap (λ (v : RankWire). v .input) (sym (y .2)))) in
+      let same : SameInput (ranked (x .0)) (ranked (y .0)) = (
+        ap (λ (v : RankWire). v .target) (x .2) ∙ (s .same .0 ∙ ap (λ (v : RankWire). v .target) (sym (y .2))),
+        ap (λ (v : RankWire). v .input) (x .2) ∙ (s .same .1 ∙ ap (λ (v : RankWire). v .input) (sym (y .2))),
+      ) in
       let e : u ≡ w = sym (x .2) ∙ (ap ranked (ranked-one (x .0) (y .0) (x .1) (y .1) same) ∙ y .2) in
       let h = counted-twice w (s .first) (s .later) (subst (λ (v : RankWire). Member v (s .first)) e (s .before)) in
       let k = ap (howMany sameWire w) (s .is) in

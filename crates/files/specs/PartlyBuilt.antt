@@ -1,5 +1,5 @@
 -- A build that is refused leaves less than the view says: each call enters one block or wire at most, and a refused one none.
-use mathlib.Core.Path.{_≡_, sym, ap, _∙_}
+use mathlib.Core.Path.{_≡_, refl, sym, ap, _∙_}
 use mathlib.Core.Bool.{Bool, true, false, cond, not}
 use mathlib.Core.List.{List, [], _∷_, map}
 use mathlib.Core.Logic.{⊎-elim}
@@ -80,6 +80,7 @@ enters-one B (book.linkSubCall p o q t) (link.Linked x y) marks ports =
 enters-one B (book.linkSubCall p o q t) (link.Refused r) marks ports = omega arith
 enters-one B (book.cutCall p) v marks ports = cut-none B (atSpot (spotOf (B .blocks) p)) v
 enters-one B (book.cutSubCall p o) v marks ports = cut-none B (atEnd (spotOf (B .blocks) p) (readBy (firstMark marks) o)) v
+enters-one B (book.tidyCall p) v marks ports = omega arith
 
 -- and a refused one nothing
 pub refused-enters-nothing : (B : Book) (c : Call) (v : AnswerOf c) (marks : List Bool) (ports : List ℕ) (r : Refusal) → RefusedBy c v r → bookAnswer B c v marks ports ≡ B
@@ -91,6 +92,7 @@ refused-enters-nothing B (book.linkCleanCall a b) v marks ports r e = ap (bookLi
 refused-enters-nothing B (book.linkSubCall p o q t) v marks ports r e = ap (λ a. bookLinkSub B p o q t a marks) e
 refused-enters-nothing B (book.cutCall p) v marks ports r e = ap (bookCut B _) e
 refused-enters-nothing B (book.cutSubCall p o) v marks ports r e = ap (bookCut B _) e
+refused-enters-nothing B (book.tidyCall p) v marks ports r e = refl
 
 next-enters-one : (s : State) (c : Call) → entries (next s c .book) ≤ suc (entries (s .book))
 next-enters-one s c = enters-one (s .book) c (step (s .graph) c .answer) _ _

@@ -50,6 +50,7 @@ Builds (book.linkCleanCall a b) = ⊥
 Builds (book.linkSubCall p o q r) = ⊥
 Builds (book.cutCall p) = ⊥
 Builds (book.cutSubCall p o) = ⊥
+Builds (book.tidyCall p) = ⊥
 
 -- the refusal with number 18
 refusal-eighteen : (r : Refusal) → getD (refusalNumbers r) 0 0 ≡ 18 → r ≡ InputWired
@@ -94,6 +95,7 @@ eighteen-stops (book.linkCleanCall x y) v b e rest = absurd b
 eighteen-stops (book.linkSubCall p o q r) v b e rest = absurd b
 eighteen-stops (book.cutCall p) v b e rest = absurd b
 eighteen-stops (book.cutSubCall p o) v b e rest = absurd b
+eighteen-stops (book.tidyCall p) v b e rest = absurd b
 
 -- one that does not give 18 does the same on the graph as made for release 1
 step-alike : (m : MultiPortGraph) (c : Call) → Gave18 m c ⊎ (step (forRelease One m) c ≡ steppedFor One (step m c))

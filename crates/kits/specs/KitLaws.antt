@@ -28,6 +28,7 @@ use Rattle.multiportgraph.specs.declared.multiportgraph.RemoveAnswer.the-varian
 use Rattle.multiportgraph.specs.declared.multiportgraph.SetAnswer.the-variants as resize
 use Rattle.multiportgraph.specs.declared.multiportgraph.LinkAnswer.the-variants as link
 use Rattle.multiportgraph.specs.declared.multiportgraph.CutAnswer.the-variants as cutting
+use Rattle.multiportgraph.specs.declared.multiportgraph.TidyAnswer.the-variants as tidying
 use Rattle.theorems.specs.Book as book
 use Rattle.theorems.specs.Book.{Call, AnswerOf, emptyBook, bookAnswer}
 use Rattle.theorems.specs.History.{Stepped, stepUnder, State, marksNamed, portsShown, nextUnder, runFromUnder, runUnder, numbersOf}
@@ -94,6 +95,8 @@ ten-known (book.cutCall p) (cutting.Refused r) e = ap cutting.Refused (refusal-k
 ten-known (book.cutSubCall p o) (cutting.Found s x) e = let h = head-same e in absurd (omega arith)
 ten-known (book.cutSubCall p o) cutting.Nothing e = let h = head-same e in absurd (omega arith)
 ten-known (book.cutSubCall p o) (cutting.Refused r) e = ap cutting.Refused (refusal-known r e)
+ten-known (book.tidyCall p) tidying.Tidied e = let h = head-same e in absurd (omega arith)
+ten-known (book.tidyCall p) (tidying.Refused r) e = ap tidying.Refused (refusal-known r e)
 
 ten-numbers : (c : Call) → numbersOf c (tenOf c) ≡ 10 ∷ []
 ten-numbers (book.addCall i o) = refl
@@ -104,6 +107,7 @@ ten-numbers (book.linkCleanCall a b) = refl
 ten-numbers (book.linkSubCall p o q r) = refl
 ten-numbers (book.cutCall p) = refl
 ten-numbers (book.cutSubCall p o) = refl
+ten-numbers (book.tidyCall p) = refl
 
 -- Histories.
 

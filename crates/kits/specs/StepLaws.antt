@@ -10,7 +10,7 @@ use Rattle.portgraph.specs.Limits.{nodePorts, Limits}
 use Rattle.portgraph.specs.Entries.{reversed}
 use Rattle.portgraph.specs.Lookups.{metaAt, numPorts, port#}
 use Rattle.portgraph.specs.Calls.{addNodeUnder, linkPorts, unlinkPort}
-use Rattle.portgraph.specs.Resize.{setNumPortsUnder}
+use Rattle.portgraph.specs.Resize.{sameCounts, resizeInside, setNumPortsUnder}
 use Rattle.portgraph.specs.Meaning.{sameSide}
 use Rattle.portgraph.specs.GoodSlots.{zero-is-not-one}
 use Rattle.portgraph.specs.declared.direction.Direction.{Direction}
@@ -26,11 +26,12 @@ use Rattle.portgraph.specs.declared.slots.NodeAdded as lower-added
 use Rattle.portgraph.specs.declared.resize.SetAnswer as lower-set-answer
 use Rattle.portgraph.specs.declared.resize.SetAnswer.the-variants as lower-set
 use Rattle.portgraph.specs.declared.resize.PortsSet as lower-set-done
-use Rattle.multiportgraph.specs.Reading.{hasLink, isHidden, isSplit, Port, dead, hidden, visible, seen, sideOf, copyNode, subports, portOf, farPort, subport#, asRead, standing}
+use Rattle.multiportgraph.specs.Reading.{hasLink, isHidden, isSplit, Port, dead, hidden, visible, seen, sideOf, copyNode, subports, subportAt, portOf, farPort, subport#, asRead, standing}
 use Rattle.multiportgraph.specs.Graph.{withGraph}
 use Rattle.multiportgraph.specs.HiddenNodes.{removeCopy, unsplit, unsplitRange, recounted, copiesDropped, removeLone, removeAll, Prepared, ready, full, copyIn, copyOut, splitGraph, splitPort, splitBy, splitUnder, moreIn, moreOut, enough, grownBy, growUnder, lowestFree, reuseUnder, prepareUnder}
 use Rattle.multiportgraph.specs.Refusals.{Line, checked, inputTaken, joining, endOf, preparedGraph, preparedPort, firstEnd, secondEnd, addRefusals, removeRefusals, setRefusals, linkRefusals, linkCleanRefusals, linkSubRefusals, cutRefusals, subportRefusals}
-use Rattle.multiportgraph.specs.Calls.{addedAs, addBlockUnder, setAs, setCountsUnder, dropBlock, dropMeta, removeBlock, resizedMeta, bothLinked, linkPairIf, linkPairUnder, linkCleanIf, joined, linkSubIf, cutPlain, cutPort, cutSub}
+use Rattle.multiportgraph.specs.Calls.{addedAs, addBlockUnder, setAs, setCountsUnder, dropBlock, dropMeta, removeBlock, resizedMeta, bothLinked, linkPairIf, linkPairUnder, linkCleanIf, joined, linkSubIf, cutPlain, cutPort, cutSub, tidyPort}
+use Rattle.multiportgraph.specs.Tidy.{subportsLeft, leftIn, leftOut, withinBlock, resizedWithin, dropSubports, linkDirectly, tidied}
 use Rattle.multiportgraph.specs.Cases.{setRefused, resized, setMetaUnder, linkRefused, linkPrepared, linkSecond, linkLiveUnder, linkFirst, linkSeenUnder, pairSeen, linkCleanBy}
 use Rattle.multiportgraph.specs.CaseLaws.{add-cases, set-cases, link-cases, link-taken, link-clean-cases, link-clean-taken}
 use Rattle.multiportgraph.specs.declared.named.NamedPair.{NamedPair}
@@ -48,6 +49,8 @@ use Rattle.multiportgraph.specs.declared.multiportgraph.PortsLinked.{PortsLinke
 use Rattle.multiportgraph.specs.declared.multiportgraph.LinkAnswer.the-variants as link
 use Rattle.multiportgraph.specs.declared.multiportgraph.CutAnswer.the-variants as cutting
 use Rattle.multiportgraph.specs.declared.multiportgraph.PortUnlinked.{PortUnlinked}
+use Rattle.multiportgraph.specs.declared.multiportgraph.TidyAnswer.the-variants as tidying
+use Rattle.multiportgraph.specs.declared.multiportgraph.PortTidied.{PortTidied}
 use Rattle.theorems.specs.Book as book
 use Rattle.theorems.specs.Book.{Call, AnswerOf}
 use Rattle.theorems.specs.History.{Stepped, stepUnder}
@@ -64,6 +67,7 @@ tenOf (book.linkCleanCall a b) = link.Refused NoRoom
 tenOf (book.linkSubCall p o q r) = link.Refused NoRoom
 tenOf (book.cutCall p) = cutting.Refused NoRoom
 tenOf (book.cutSubCall p o) = cutting.Refused NoRoom
+tenOf (book.tidyCall p) = tidying.Refused NoRoom
 
 abbrev pub noRoom : MultiPortGraph → (c : Call) → Stepped c
 noRoom m c = record { graph = m; answer = tenOf c }
@@ -98,6 +102,39 @@ split-graph-same g p d c =
     same-still (unlink-same g p)
     (same-still (link-same (unlinkPort g p .graph) p (portOf g c (reversed d) 0))
     (link-same (linkPorts (unlinkPort g p .graph) p (portOf g c (reversed d) 0) .graph) (portOf g c d 0) (farPort g p)))
+
+-- Nor do the subports that a tidy drops.
+
+within-same : (g : PortGraph) (n i o : ℕ) → Same g (resizedWithin g n i o)
+unfolding resizedWithin resizeInside
+within-same g n i o = go (metaAt g n)
+  where
+    counts : (k : NodeMeta) (b : Bool) → Same g (cond b g (resizeInside g n k i o))
+    counts k true = record { nodes = refl; ports = refl }
+    counts k false = record { nodes = refl; ports = refl }
+
+    go : (v : MaybeNodeMeta) → Same g (withinBlock g n i o v)
+    go maybe-meta.None = record { nodes = refl; ports = refl }
+    go (maybe-meta.Some k) = counts k (sameCounts k i o)
+
+direct-same : (m : MultiPortGraph) (p : ℕ) (d : Direction) → Same (m .graph) (linkDirectly m p d .graph)
+unfolding linkDirectly
+direct-same m p d = go (hasLink (m .graph) (subportAt m p d 0))
+  where
+    far : ℕ
+    far = farPort (m .graph) (subportAt m p d 0)
+
+    go : (b : Bool) → Same (m .graph) (cond b (withGraph (unsplit m p) (linkPorts (unsplit m p .graph) p far .graph)) (unsplit m p) .graph)
+    go true = same-still (unsplit-same m p) (link-same (unsplit m p .graph) p far)
+    go false = unsplit-same m p
+
+tidied-same : (m : MultiPortGraph) (p : ℕ) (d : Direction) → Same (m .graph) (tidied m p d .graph)
+unfolding tidied dropSubports recounted
+tidied-same m p d = go (ltb 1 (subportsLeft m p d))
+  where
+    go : (b : Bool) → Same (m .graph) (cond b (dropSubports m (copyNode m p) d (subportsLeft m p d)) (linkDirectly m p d) .graph)
+    go true = within-same (m .graph) (copyNode m p) (leftIn d (subportsLeft m p d)) (leftOut d (subportsLeft m p d))
+    go false = direct-same m p d
 
 -- Preparing an end.
 
@@ -210,8 +247,12 @@ module _ (K : Limits) (P : PortGraph → Type 0) (by : ByLengths P) (more : (g :
     cut-keeps p true = by (m .graph) (unsplit m p .graph) (unsplit-same m p) here
     cut-keeps p false = by (m .graph) (unlinkPort (m .graph) p .graph) (unlink-same (m .graph) p) here
 
+    tidy-keeps : (p : ℕ) (d : Direction) (b : Bool) → P (cond b (tidied m p d) m .graph)
+    tidy-keeps p d true = by (m .graph) (tidied m p d .graph) (tidied-same m p d) here
+    tidy-keeps p d false = here
+
     pub step-keeps : (c : Call) → P (stepUnder K m c .graph .graph)
-    unfolding addBlockUnder removeBlock setCountsUnder linkPairIf linkCleanIf linkSubIf cutPort cutSub
+    unfolding addBlockUnder removeBlock setCountsUnder linkPairIf linkCleanIf linkSubIf cutPort cutSub tidyPort
     step-keeps (book.addCall i o) = checked-in P (λ (v : NodeAdded). v .graph) (λ l. record { graph = l .leaves; answer = add.Refused (l .refusal) }) (λ l. refl) (addRefusals K m i o) _ (here, (here, tt)) (more (m .graph) i o here)
     step-keeps (book.removeCall n) = checked-in P (λ (v : NodeRemoved). v .graph) (λ l. record { graph = l .leaves; answer = remove.Refused (l .refusal) }) (λ l. refl) (removeRefusals m n) _ (here, (here, tt)) (drop-keeps n (metaAt (m .graph) n))
     step-keeps (book.setCall n i o room) =
@@ -228,6 +269,8 @@ module _ (K : Limits) (P : PortGraph → Type 0) (by : ByLengths P) (more : (g :
     step-keeps (book.cutCall p) = checked-in P (λ (v : PortUnlinked). v .graph) (λ l. record { graph = l .leaves; answer = cutting.Refused (l .refusal) }) (λ l. refl) (cutRefusals m p) _ (here, (here, tt)) (cut-keeps p (isSplit m p))
     step-keeps (book.cutSubCall p o) =
         checked-in P (λ (v : PortUnlinked). v .graph) (λ l. record { graph = l .leaves; answer = cutting.Refused (l .refusal) }) (λ l. refl) (subportRefusals m p o) _ (here, (here, (here, (here, tt)))) (by (m .graph) _ (unlink-same (m .graph) (endOf m p o)) here)
+    step-keeps (book.tidyCall p) =
+        checked-in P (λ (v : PortTidied). v .graph) (λ l. record { graph = l .leaves; answer = tidying.Refused (l .refusal) }) (λ l. refl) (cutRefusals m p) _ (here, (here, tt)) (tidy-keeps p (sideOf (seen m p)) (isSplit m p))
 
 -- no call shortens a table
 longer-by-lengths : (g : PortGraph) → ByLengths (Longer g)
@@ -453,3 +496,4 @@ module _ {L K : Limits} (low : Lower L K) where
   step-alike m (book.linkSubCall p o q r) = inl refl
   step-alike m (book.cutCall p) = inl refl
   step-alike m (book.cutSubCall p o) = inl refl
+  step-alike m (book.tidyCall p) = inl refl

@@ -15,6 +15,8 @@ use Rattle.multiportgraph.specs.declared.multiportgraph.LinkAnswer.the-v
 use Rattle.multiportgraph.specs.declared.multiportgraph.PortPlace.{PortPlace}
 use Rattle.multiportgraph.specs.declared.multiportgraph.CutAnswer.{CutAnswer}
 use Rattle.multiportgraph.specs.declared.multiportgraph.CutAnswer.the-variants as cutting
+use Rattle.multiportgraph.specs.declared.multiportgraph.TidyAnswer.{TidyAnswer}
+use Rattle.multiportgraph.specs.declared.multiportgraph.TidyAnswer.the-variants as tidying
 use Rattle.multiportgraph.specs.declared.multiportgraph.EndAnswer.{EndAnswer}
 use Rattle.multiportgraph.specs.declared.multiportgraph.EndAnswer.the-variants as end
 
@@ -57,6 +59,11 @@ abbrev pub cutNumbers : CutAnswer → List ℕ
 cutNumbers (cutting.Found s x) = 0 ∷ 1 ∷ s .port .0 ∷ s .«subport_offset» ∷ placeNumbers x
 cutNumbers cutting.Nothing = 0 ∷ 0 ∷ 0 ∷ 0 ∷ []
 cutNumbers (cutting.Refused r) = refusalNumbers r
+
+-- an accepted tidy answers no value
+abbrev pub tidyNumbers : TidyAnswer → List ℕ
+tidyNumbers tidying.Tidied = 0 ∷ []
+tidyNumbers (tidying.Refused r) = refusalNumbers r
 
 -- The answer without the place, as the calls over lent tables give it; nothing else is left out.
 abbrev pub unplaced : CutAnswer → EndAnswer

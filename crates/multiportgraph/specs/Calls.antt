@@ -18,7 +18,7 @@ use Rattle.portgraph.specs.declared.slots.AddAnswer as lower-add-answer
 use Rattle.portgraph.specs.declared.slots.AddAnswer.the-variants as lower-add
 use Rattle.portgraph.specs.declared.resize.SetAnswer as lower-set-answer
 use Rattle.portgraph.specs.declared.resize.SetAnswer.the-variants as lower-set
-use Rattle.multiportgraph.specs.Reading.{isHidden, isSplit, subport#, asRead, standing, standingOf, farSubport}
+use Rattle.multiportgraph.specs.Reading.{isHidden, isSplit, subport#, asRead, standing, standingOf, farSubport, sideOf, seen}
 use Rattle.multiportgraph.specs.declared.multiportgraph.MultiPortGraph.{MultiPortGraph}
 use Rattle.multiportgraph.specs.declared.multiportgraph.SubportIndex.{SubportIndex}
 use Rattle.multiportgraph.specs.declared.multiportgraph.Refusal.the-variants.{TooManyPorts, UnknownNode, MovesTooShort, UnknownPort, NoRoom, UnknownSecondPort, IncompatibleDirections, AlreadyLinked}
@@ -35,8 +35,11 @@ use Rattle.multiportgraph.specs.declared.multiportgraph.PortsLinked.{Por
 use Rattle.multiportgraph.specs.declared.multiportgraph.CutAnswer.{CutAnswer}
 use Rattle.multiportgraph.specs.declared.multiportgraph.CutAnswer.the-variants as cutting
 use Rattle.multiportgraph.specs.declared.multiportgraph.PortUnlinked.{PortUnlinked}
+use Rattle.multiportgraph.specs.declared.multiportgraph.TidyAnswer.the-variants as tidying
+use Rattle.multiportgraph.specs.declared.multiportgraph.PortTidied.{PortTidied}
 use Rattle.multiportgraph.specs.Graph.{withGraph}
 use Rattle.multiportgraph.specs.HiddenNodes.{copiesDropped, recounted, removeAll, unsplit, unsplitRange}
+use Rattle.multiportgraph.specs.Tidy.{tidied}
 use Rattle.multiportgraph.specs.Refusals.{addRefusals, checked, cutRefusals, endOf, firstEnd, inputTaken, joining, linkCleanRefusals, linkRefusals, linkSubRefusals, preparedGraph, preparedOffset, preparedPort, removeRefusals, secondEnd, setRefusals, subportRefusals}
 
 -- Adding a block.
@@ -189,6 +192,13 @@ cutSub m p o =
       graph = withGraph m (unlinkPort (m .graph) (endOf m p o) .graph);
       answer = farSubport m (unlinkPort (m .graph) (endOf m p o) .answer);
     })
+
+-- Tidying: a split port is left with what its wires need; an unsplit one is left as it is.
+
+unfoldable pub tidyPort : MultiPortGraph → ℕ → PortTidied
+tidyPort m p =
+    checked (cutRefusals m p) (λ l. record { graph = l .leaves; answer = tidying.Refused (l .refusal) })
+    (record { graph = cond (isSplit m p) (tidied m p (sideOf (seen m p))) m; answer = tidying.Tidied })
 
 -- Reading.
 

@@ -22,8 +22,8 @@ use Rattle.multiportgraph.specs.Reading.{sideOf, isHidden, isSplit, Port
 use Rattle.multiportgraph.specs.Graph.{withGraph}
 use Rattle.multiportgraph.specs.HiddenNodes.{Prepared, ready, full, prepareUnder}
 use Rattle.multiportgraph.specs.Refusals.{goodOffset, innerPort, endOf, joining, onOneSide, oneLinked, refusedBelow}
-use Rattle.multiportgraph.specs.Calls.{joined, addedAs, addBlockUnder, removeBlock, setCountsUnder, cutPort, cutSub, subportLink, linkPairIf, linkCleanIf, linkSubIf}
-use Rattle.multiportgraph.specs.Cases.{removeMeta, setRefused, setMetaUnder, linkRefused, linkPrepared, linkSecond, linkFirst, linkSeenUnder, linkInner, linkSecondEnd, linkFirstEnd, linkSubSeen, cutRefused, cutSeen, cutSubSeen, linkOfSeen, linkLiveUnder, pairSeen, linkCleanBy, takenSeen, takenSecond, takenFirst, takenSubSeen}
+use Rattle.multiportgraph.specs.Calls.{joined, addedAs, addBlockUnder, removeBlock, setCountsUnder, cutPort, cutSub, subportLink, linkPairIf, linkCleanIf, linkSubIf, tidyPort}
+use Rattle.multiportgraph.specs.Cases.{removeMeta, setRefused, setMetaUnder, linkRefused, linkPrepared, linkSecond, linkFirst, linkSeenUnder, linkInner, linkSecondEnd, linkFirstEnd, linkSubSeen, cutRefused, cutSeen, cutSubSeen, linkOfSeen, linkLiveUnder, pairSeen, linkCleanBy, takenSeen, takenSecond, takenFirst, takenSubSeen, tidySeen}
 use Rattle.multiportgraph.specs.declared.multiportgraph.MultiPortGraph.{MultiPortGraph}
 use Rattle.multiportgraph.specs.declared.multiportgraph.SubportIndex.{SubportIndex}
 use Rattle.multiportgraph.specs.declared.multiportgraph.NodeAdded.{NodeAdded}
@@ -41,6 +41,15 @@ module _ (m : MultiPortGraph) (p : ℕ) where
   cut-cases = go (seen m p) refl
     where
       go : (u : Port) → seen m p ≡ u → cutPort m p ≡ cutSeen m p u
+      go dead e = rw e refl
+      go hidden e = rw e refl
+      go (visible n d) e = rw e refl
+
+  pub tidy-cases : tidyPort m p ≡ tidySeen m p (seen m p)
+  unfolding tidyPort
+  tidy-cases = go (seen m p) refl
+    where
+      go : (u : Port) → seen m p ≡ u → tidyPort m p ≡ tidySeen m p u
       go dead e = rw e refl
       go hidden e = rw e refl
       go (visible n d) e = rw e refl

@@ -29,8 +29,11 @@ use Rattle.multiportgraph.specs.declared.multiportgraph.PortsLinked.{Por
 use Rattle.multiportgraph.specs.declared.multiportgraph.CutAnswer.{CutAnswer}
 use Rattle.multiportgraph.specs.declared.multiportgraph.CutAnswer.the-variants as cutting
 use Rattle.multiportgraph.specs.declared.multiportgraph.PortUnlinked.{PortUnlinked}
+use Rattle.multiportgraph.specs.declared.multiportgraph.TidyAnswer.the-variants as tidying
+use Rattle.multiportgraph.specs.declared.multiportgraph.PortTidied.{PortTidied}
 use Rattle.multiportgraph.specs.Graph.{withGraph}
 use Rattle.multiportgraph.specs.HiddenNodes.{copiesDropped, prepareUnder, recounted, removeAll, unsplit, Prepared, ready, full}
+use Rattle.multiportgraph.specs.Tidy.{tidied}
 use Rattle.multiportgraph.specs.declared.named.NamedPair.{NamedPair}
 use Rattle.multiportgraph.specs.declared.named.NamedPair.the-variants as pair
 use Rattle.multiportgraph.specs.Calls.{cutPlain, dropBlock, setAs, linkPairIf}
@@ -202,6 +205,16 @@ abbrev pub cutSubSeen : MultiPortGraph → ℕ → ℕ → Port → PortUnlinked
 cutSubSeen m p o dead = cutRefused m (UnknownPort (port# p))
 cutSubSeen m p o hidden = cutRefused m (HiddenPort (port# p))
 cutSubSeen m p o (visible n d) = cutEnd m p (endAt m p d o)
+
+-- Tidying.
+
+abbrev pub tidyRefused : MultiPortGraph → Refusal → PortTidied
+tidyRefused m r = record { graph = m; answer = tidying.Refused r }
+
+abbrev pub tidySeen : MultiPortGraph → ℕ → Port → PortTidied
+tidySeen m p dead = tidyRefused m (UnknownPort (port# p))
+tidySeen m p hidden = tidyRefused m (HiddenPort (port# p))
+tidySeen m p (visible n d) = record { graph = cond (isSplit m p) (tidied m p d) m; answer = tidying.Tidied }
 
 -- Reading.
 

@@ -76,7 +76,7 @@ module _ {m : MultiPortGraph} {M : Model} (f : Fine m M) (x : model.InnerPlace) 
   x-seen : Seen m M x
   x-seen = main-seen f c x hc from
 
-  x-not-copy : x .node ≡ c → ⊥
+  pub x-not-copy : x .node ≡ c → ⊥
   x-not-copy e = true-not-false hc (ap (isHidden m) (sym e) ∙ x-seen .1)
 
   copy-slot : portOf (m .graph) c (copySide m c) 0 ≡ slotOf (M .node) (copyPlace m c)
@@ -121,7 +121,7 @@ module _ {m : MultiPortGraph} {M : Model} (f : Fine m M) (x : model.InnerPlace) 
   still-split : (s : ℕ) → isSplit withoutCopy s ≡ true → isSplit m s ≡ true
   still-split s t = sym (split-other s (split-not-copy s t) (split-not-main s t)) ∙ t
 
-  hidden-other : (n : ℕ) → (n ≡ c → ⊥) → isHidden withoutCopy n ≡ isHidden m n
+  pub hidden-other : (n : ℕ) → (n ≡ c → ⊥) → isHidden withoutCopy n ≡ isHidden m n
   unfolding isHidden removeCopy
   hidden-other n other = getD-set-other (m .«copy_node») c n false false other
 
@@ -141,7 +141,7 @@ module _ {m : MultiPortGraph} {M : Model} (f : Fine m M) (x : model.InnerPlace) 
   still-hidden : (n : ℕ) → isHidden withoutCopy n ≡ true → isHidden m n ≡ true
   still-hidden n t = sym (hidden-other n (hidden-not-copy n t)) ∙ t
 
-  node-other : (n : ℕ) → (n ≡ c → ⊥) → modelAfter .node n ≡ M .node n
+  pub node-other : (n : ℕ) → (n ≡ c → ⊥) → modelAfter .node n ≡ M .node n
   node-other n other = upd-other (M .node) c gone n other
 
   -- links away from the hidden node stay
@@ -204,7 +204,7 @@ module _ {m : MultiPortGraph} {M : Model} (f : Fine m M) (x : model.InnerPlace) 
       let e = f .subs in
       omega arith
 
-  copy-frame : Frame m M withoutCopy modelAfter
+  pub copy-frame : Frame m M withoutCopy modelAfter
   unfolding removeCopy
   copy-frame =
       record {
@@ -249,7 +249,7 @@ module _ {m : MultiPortGraph} {M : Model} (f : Fine m M) (x : model.InnerPlace) 
   end-of-copy z q =
       ap (portAt x) (outer-of-subport f z x (ap (isHidden m) q ∙ hc) (ap (λ (n : ℕ). M .join (copyPlace m n)) q ∙ from)) ∙ port-at-here x (z .pos)
 
-  end-elsewhere : (z : model.InnerPlace) → IsEnd m M z → (z .node ≡ c → ⊥) → portAt x (outer m M z) ≡ false
+  pub end-elsewhere : (z : model.InnerPlace) → IsEnd m M z → (z .node ≡ c → ⊥) → portAt x (outer m M z) ≡ false
   end-elsewhere z ez other = ⊎-elim (λ t. absurd (clash t)) (λ e. e) (true-or-false (portAt x (outer m M z)))
     where
       clash : portAt x (outer m M z) ≡ true → ⊥
@@ -266,7 +266,7 @@ module _ {m : MultiPortGraph} {M : Model} (f : Fine m M) (x : model.InnerPlace) 
               let q : i .main ≡ x = port-at-is x (i .main) (z .pos) (ap (portAt x) (sym (outer-of-subport f z (i .main) h (i .joined))) ∙ t) in
               other (one-copy f (z .node) c x (i .joined ∙ ap to q) from)
 
-  copy-alike : (z : model.InnerPlace) → Valid (M .node) z → (z .node ≡ c → ⊥) → (z ≡ x → ⊥) → Alike m M withoutCopy modelAfter z
+  pub copy-alike : (z : model.InnerPlace) → Valid (M .node) z → (z .node ≡ c → ⊥) → (z ≡ x → ⊥) → Alike m M withoutCopy modelAfter z
   copy-alike z v other away =
       record {
         node = node-other (z .node) other;

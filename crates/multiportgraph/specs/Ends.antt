@@ -14,7 +14,7 @@ use Rattle.portgraph.specs.Lookups.{numPorts, countIn, nodeOf}
 use Rattle.portgraph.specs.Model as model
 use Rattle.portgraph.specs.Model.{Model, nowhere, to, Slots, gone, live, Valid, slotOf, countOf, firstOf, sideStart}
 use Rattle.portgraph.specs.LinkLaws.{Vacant}
-use Rattle.portgraph.specs.GoodSlots.{zero-is-not-one, same-place, slots-apart, joined-is-valid}
+use Rattle.portgraph.specs.GoodSlots.{zero-is-not-one, same-place, slots-apart, slot-in-block, joined-is-valid}
 use Rattle.portgraph.specs.PlaceLaws.{port-of-place, slot-cases, vacant-is-dead, port-link-to, port-link-none, port-index-is, port-offset-is, meta-of-node, gone-has-no-meta}
 use Rattle.portgraph.specs.declared.direction.Direction.{Direction}
 use Rattle.portgraph.specs.declared.direction.Direction.the-variants.{Incoming, Outgoing}
@@ -22,10 +22,10 @@ use Rattle.portgraph.specs.declared.node_entry.NodeMeta.{NodeMeta}
 use Rattle.portgraph.specs.declared.port_entry.PortEntry.{PortEntry}
 use Rattle.multiportgraph.specs.Reading.{sideOf, linkNumber, isLinked, farPort, hasLink, nodeNumber, ownerOf, portNumber, portOf, positionNumber, positionOf, isHidden, isSplit, dead, hidden, visible, seenEntry, seen, copyNode, subports, subportAt, inner, lacking, endAt, subport#, copySide, mainPort, subportOf}
 use Rattle.multiportgraph.specs.Wires.{portsOfSide, subportsOfPort, subportsOfSide, placeOf, isFirst, portsWalked}
-use Rattle.multiportgraph.specs.Inner.{inner#, copyPlace, Marked, copy-port, main-port, Fine, BlockIs, Seen, lift, outer, IsEnd, WireIn}
+use Rattle.multiportgraph.specs.Inner.{inner#, copyPlace, Marked, copy-port, main-port, Fine, BlockIs, Seen, lift, outer, IsEnd, WireIn, SameBlocks}
 use Rattle.multiportgraph.specs.declared.multiportgraph.MultiPortGraph.{MultiPortGraph}
 use Rattle.multiportgraph.specs.declared.multiportgraph.SubportIndex.{SubportIndex}
-use Rattle.multiportgraph.specs.Places.{Place, Wire}
+use Rattle.multiportgraph.specs.Places.{Place, Wire, wireOfSides}
 
 -- a port of a block, by its number
 pub record BlockPort (m : MultiPortGraph) (M : Model) (p n : ℕ) (d : Direction) : Type 0 where
@@ -78,7 +78,7 @@ other-side Incoming Outgoing h = refl
 other-side Outgoing Incoming h = refl
 other-side Outgoing Outgoing h = absurd (h refl)
 
-side-cases : (d e : Direction) → (d ≡ e) ⊎ (d ≡ reversed e)
+pub side-cases : (d e : Direction) → (d ≡ e) ⊎ (d ≡ reversed e)
 side-cases Incoming Incoming = inl refl
 side-cases Incoming Outgoing = inr refl
 side-cases Outgoing Incoming = inr refl
@@ -492,6 +492,15 @@ module _ {m : MultiPortGraph} {M : Model} (f : Fine m M) where
 
   -- Wires.
 
+  -- a link at an end is a wire
+  pub wire-at : (x y : model.InnerPlace) → IsEnd m M x → M .join x ≡ to y → WireIn m M (wireOfSides (x .side) (outer m M x) (outer m M y))
+  wire-at x y e j = go (x .side) (y .side) refl refl
+    where
+      go : (a b : Direction) → x .side ≡ a → y .side ≡ b → WireIn m M (wireOfSides a (outer m M x) (outer m M y))
+      go Outgoing b p q = record { x = x; y = y; joined = j; outgoing = p; end = e; is = refl }
+      go Incoming Outgoing p q = record { x = y; y = x; joined = f .good .joinBack x y j; outgoing = q; end = ends-join-ends x y e j; is = refl }
+      go Incoming Incoming p q = absurd (f .good .joinSides x y j (p ∙ sym q))
+
   pub wires-by-out : (w v : Wire) → WireIn m M w → WireIn m M v → w .out ≡ v .out → w ≡ v
   wires-by-out w v a b e =
       let q : a .x ≡ b .x = outer-apart (a .x) (b .x) (a .end) (b .end) (ap (λ (u : Wire). u .out) (sym (a .is)) ∙ e ∙ ap (λ (u : Wire). u .out) (b .is)) in
@@ -568,3 +577,12 @@ module _ {m : MultiPortGraph} {M : Model} (f : Fine m M) where
       ap (map (λ (t : SubportIndex). t .port .0)) (filter-append isFirst (subportsOfSide m n Incoming) (subportsOfSide m n Outgoing))
       ∙ (map-append (λ (t : SubportIndex). t .port .0) (filter isFirst (subportsOfSide m n Incoming)) (filter isFirst (subportsOfSide m n Outgoing))
       ∙ ((λ j. i j ++ o j) ∙ ap (λ (s : ℕ). range s (k .incoming) ++ range (k .«first_port» .0 + k .incoming) (k .outgoing)) q))
+
+-- A port of a block where the blocks are the same: it is one still, with its number.
+pub seen-still : {m : MultiPortGraph} {M : Model} {m′ : MultiPortGraph} {M′ : Model} → Fine m M → Fine m′ M′ → SameBlocks m M m′ M′ → (x : model.InnerPlace) → Seen m M x →
+    Seen m′ M′ x × (slotOf (M′ .node) x ≡ slotOf (M .node) x)
+seen-still {m} {M} {m′} {M′} f f′ same x s =
+    let b = slot-in-block (f .good) x (s .0) in
+    let r = same .0 (x .node) (b .0) (s .1, b .1) in
+    let q : M′ .node (x .node) ≡ M .node (x .node) = r .1 ∙ sym (b .1) in
+    ((subst (λ (t : Slots). x .pos < countOf t (x .side)) (sym q) (s .0), r .0), ap (λ (t : Slots). firstOf t + (sideStart t (x .side) + x .pos)) q)

@@ -70,6 +70,11 @@ unfoldable pub lowestUnlinked : List ℕ → ℕ → ℕ → ℕ → ℕ
 lowestUnlinked t first o zero = o
 lowestUnlinked t first o (suc n) = cond (eqb (at t (first + o)) 0) o (lowestUnlinked t first (suc o) n)
 
+-- how many of n slots from first on are left without those that hold no link above the highest that holds one
+unfoldable pub linkedFrom : List ℕ → ℕ → ℕ → ℕ
+linkedFrom t first zero = 0
+linkedFrom t first (suc n) = cond (eqb (at t (first + n)) 0) (linkedFrom t first n) (suc n)
+
 -- a prepared end; without room the graph is the one handed in
 abbrev pub preparedAs : MultiPortGraph → hiding.Prepared → Prepared
 preparedAs m (hiding.ready k q o) = record { graph = k; port = q; offset = o; ready = true }

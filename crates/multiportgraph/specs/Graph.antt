@@ -37,3 +37,7 @@ withMarks m marks = multi (m .graph) marks (m .«copy_node») (m .«copy_node_co
 -- with other hidden nodes, in number too, and so many subports in them
 abbrev pub withHidden : MultiPortGraph → List Bool → ℕ → ℕ → MultiPortGraph
 withHidden m flags copies subs = multi (m .graph) (m .multiport) flags copies subs (m .release)
+
+-- with so many subports in the same hidden nodes
+abbrev pub withSubports : MultiPortGraph → ℕ → MultiPortGraph
+withSubports m subs = withHidden m (m .«copy_node») (m .«copy_node_count») subs

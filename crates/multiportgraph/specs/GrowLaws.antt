@@ -1,4 +1,5 @@
--- What one more subport does to the tables: the copy port's mark moves with it, and the new port follows the others.
+-- What other counts of a hidden node do to the tables: the copy port's mark moves with it. What one more subport does: the new port
+-- follows the others.
 use mathlib.Core.Path.{_≡_, refl, sym, _∙_, ap, transport}
 use mathlib.Core.Bool.{Bool, true, false}
 use mathlib.Core.Logic.{⊎-elim}
@@ -21,7 +22,7 @@ use Rattle.portgraph.specs.declared.resize.PortsSet.{PortsSet}
 use Rattle.multiportgraph.specs.Reading.{isHidden, isSplit, copySide, copyNode, portOf}
 use Rattle.multiportgraph.specs.Inner.{inner#, copyPlace, Fine, Marked, copy-port, main-port, Seen}
 use Rattle.multiportgraph.specs.Ends.{Hangs, hangs, copy-valid, copy-count, count-of, one-copy, main-seen, block-seen, split-has-copy}
-use Rattle.multiportgraph.specs.RecountLaws.{Recount, WasMarked, number-cases, marked-place, marks-long, other-slot, recount-marks, marked-was, set-recounts, copy-place-same, grown, growth#, valid-kept, joins-same, ends-same, hidden-same, grown-fine, fresh, fresh-valid, fresh-slot, more-longer}
+use Rattle.multiportgraph.specs.RecountLaws.{Recount, WasMarked, number-cases, marked-place, marks-long, other-slot, other-count, recount-marks, marked-was, set-recounts, copy-place-same, grown, growth#, valid-kept, joins-same, ends-same, hidden-same, grown-fine, fresh, fresh-valid, fresh-slot, more-longer}
 use Rattle.multiportgraph.specs.Reads.{farIn, firstIn, lastBeside, grownIn, grownOut}
 use Rattle.multiportgraph.specs.ReadLaws.{first-there, far-is}
 use Rattle.multiportgraph.specs.declared.multiportgraph.MultiPortGraph.{MultiPortGraph}
@@ -42,17 +43,14 @@ marked-copy {m} {M} f c h y v n t = go (f .onlyMarked (slotOf (M .node) y) t)
         let b : isHidden m (z .node) ≡ true = ap (λ (u : model.InnerPlace). isHidden m (u .node)) q ∙ (ap (isHidden m) n ∙ h) in
         absurd (zero-is-not-one (cc))
 
+-- A hidden node has other counts, and its copy port is still there: the copy port's mark moves with it, and no other does.
 module _ {m : MultiPortGraph} {M : Model} (f : Fine m M) (x : model.InnerPlace) (h : Hangs m M x) {g′ : PortGraph} {M′ : Model} {i o : ℕ} {a b : NodeMeta}
-    (r : Recount g′ M M′ (h .copy) a b i o) (longer : portsOn b (x .side) ≡ portsOn a (x .side) + 1)
-    (same : portsOn b (reversed (x .side)) ≡ portsOn a (reversed (x .side))) where
+    (r : Recount g′ M M′ (h .copy) a b i o) (valid-cp′ : Valid (M′ .node) (copyPlace m (h .copy))) where
   abbrev cp : model.InnerPlace
   cp = copyPlace m (h .copy)
 
   valid-cp : Valid (M .node) cp
   valid-cp = copy-valid f (h .copy) (h .isCopy)
-
-  valid-cp′ : Valid (M′ .node) cp
-  valid-cp′ = valid-kept f x h r longer same cp valid-cp
 
   below : slotOf (M .node) cp < length (m .multiport)
   below = rw (f .marksLong) (slot-in-range (f .good) cp valid-cp)
@@ -85,11 +83,11 @@ module _ {m : MultiPortGraph} {M : Model} (f : Fine m M) (x : model.InnerPlace) 
       let q = p .2 in
       let u : isSplit m (slotOf (M .node) y) ≡ true = ap (isSplit m) q ∙ t in
       let e : y .node ≡ h .copy → ⊥ = λ e. n (sym q ∙ ap (slotOf (M .node)) (marked-copy f (h .copy) (h .isCopy) y (p .1) e u)) in
-      ap (isSplit (recounted m (h .copy) g′)) (sym (other-slot f r y e ∙ q)) ∙ (recount-marks f r y (p .1) (valid-kept f x h r longer same y (p .1)) ∙ u)
+      ap (isSplit (recounted m (h .copy) g′)) (sym (other-slot f r y e ∙ q)) ∙ (recount-marks f r y (p .1) (let k = other-count f r (y .node) (y .side) e in let v = p .1 in omega arith) ∙ u)
 
-  pub grown-marks : recounted m (h .copy) g′ .multiport ≡ set (set (m .multiport) (slotOf (M .node) cp) false) (slotOf (M′ .node) cp) true
+  pub mark-moves : recounted m (h .copy) g′ .multiport ≡ set (set (m .multiport) (slotOf (M .node) cp) false) (slotOf (M′ .node) cp) true
   unfolding isSplit
-  grown-marks =
+  mark-moves =
       ext-getD false _ _
       (marks-long f r ∙ sym (length-set (set (m .multiport) (slotOf (M .node) cp) false) (slotOf (M′ .node) cp) true ∙ (length-set (m .multiport) (slotOf (M .node) cp) false ∙ f .marksLong)))
       (λ s l. ⊎-elim (new s) (λ n. ⊎-elim (old s n) (else s n) (number-cases s (slotOf (M .node) cp))) (number-cases s (slotOf (M′ .node) cp)))
@@ -121,17 +119,28 @@ module _ {m : MultiPortGraph} {M : Model} (f : Fine m M) (x : model.InnerPlace) 
           go false true p q = let z = marked-still s k q in absurd (zero-is-not-one (cc))
           go false false p q = refl
 
-  -- the port itself stays where it is, and hangs on the same node
-  slot-x : Seen m M x → slotOf (M′ .node) x ≡ slotOf (M .node) x
+  -- the port itself stays where it is
+  pub slot-x : Seen m M x → slotOf (M′ .node) x ≡ slotOf (M .node) x
   slot-x s = other-slot f r x (λ e. let a = s .1 in let b = ap (isHidden m) e in let c = h .isCopy in zero-is-not-one (cc))
 
-  pub far-after : Seen m M x → farIn (g′ .«port_link») (slotOf (M .node) x) ≡ slotOf (M′ .node) cp
+-- One more subport.
+module _ {m : MultiPortGraph} {M : Model} (f : Fine m M) (x : model.InnerPlace) (h : Hangs m M x) {g′ : PortGraph} {M′ : Model} {i o : ℕ} {a b : NodeMeta}
+    (r : Recount g′ M M′ (h .copy) a b i o) (longer : portsOn b (x .side) ≡ portsOn a (x .side) + 1)
+    (same : portsOn b (reversed (x .side)) ≡ portsOn a (reversed (x .side))) where
+  valid-after : Valid (M′ .node) (copyPlace m (h .copy))
+  valid-after = valid-kept f x h r longer same (copyPlace m (h .copy)) (copy-valid f (h .copy) (h .isCopy))
+
+  pub grown-marks : recounted m (h .copy) g′ .multiport ≡ set (set (m .multiport) (slotOf (M .node) (copyPlace m (h .copy))) false) (slotOf (M′ .node) (copyPlace m (h .copy))) true
+  grown-marks = mark-moves f x h r valid-after
+
+  -- it hangs on the same node
+  pub far-after : Seen m M x → farIn (g′ .«port_link») (slotOf (M .node) x) ≡ slotOf (M′ .node) (copyPlace m (h .copy))
   unfolding recounted
   far-after s =
-      ap (farIn (g′ .«port_link»)) (sym (slot-x s)) ∙ far-is (grown-fine f x h r longer same) x cp (joins-same f x h r longer same x ∙ h .back)
+      ap (farIn (g′ .«port_link»)) (sym (slot-x f x h r valid-after s)) ∙ far-is (grown-fine f x h r longer same) x (copyPlace m (h .copy)) (joins-same f x h r longer same x ∙ h .back)
 
   from-after : M′ .join (copyPlace (grown m (h .copy) g′) (h .copy)) ≡ to x
-  from-after = ap (M′ .join) (copy-place-same f (ends-same f x h r longer same) (h .copy) (h .isCopy)) ∙ (joins-same f x h r longer same cp ∙ h .from)
+  from-after = ap (M′ .join) (copy-place-same f (ends-same f x h r longer same) (h .copy) (h .isCopy)) ∙ (joins-same f x h r longer same (copyPlace m (h .copy)) ∙ h .from)
 
   hangs-after : Hangs (grown m (h .copy) g′) M′ x
   hangs-after = hangs (grown-fine f x h r longer same) (h .copy) x (hidden-same f x h r longer same (h .copy) ∙ h .isCopy) from-after
@@ -145,7 +154,7 @@ module _ {m : MultiPortGraph} {M : Model} (f : Fine m M) (x : model.InnerPlace) 
       let k = hangs-after in
       let n = k .several in
       let first : firstIn (g′ .«port_link») (g′ .«port_meta») (slotOf (M .node) x) (x .side) ≡ slotOf (M′ .node) (inner# (h .copy) (x .side) 0) =
-      ap (λ (p : ℕ). firstIn (g′ .«port_link») (g′ .«port_meta») p (x .side)) (sym (slot-x s))
+      ap (λ (p : ℕ). firstIn (g′ .«port_link») (g′ .«port_meta») p (x .side)) (sym (slot-x f x h r valid-after s))
       ∙ (first-there (grown-fine f x h r longer same) x k
       ∙ (k .reads 0 (omega arith) ∙ ap (λ (c : ℕ). slotOf (M′ .node) (inner# c (x .side) 0)) same-copy)) in
       let new = fresh-slot f x h r longer same in
@@ -203,7 +212,7 @@ grow-here {m} {M} f x s h e t =
       beside =
           ap (portOf g (h .copy) (x .side)) n
           ∙ (new-beside f x h r (l .0) (l .1) s ∙ ap (lastBeside (x .side) (farIn (g .«port_link») (slotOf (M .node) x))) (sym n));
-      low = let q = slot-in-range (r .good) (copyPlace m (h .copy)) (valid-cp′ f x h r (l .0) (l .1)) in omega arith;
+      low = let q = slot-in-range (r .good) (copyPlace m (h .copy)) (valid-after f x h r (l .0) (l .1)) in omega arith;
     }
 
 -- the new subport, by the first one, and by the copy port

@@ -25,7 +25,7 @@ use Rattle.multiportgraph.specs.declared.multiportgraph.MultiPortGraph.{
 use Rattle.multiportgraph.specs.declared.multiportgraph.Refusal.the-variants.{TooManyPorts, UnknownNode, MovesTooShort, NoRoom}
 use Rattle.multiportgraph.specs.declared.multiportgraph.AddAnswer.{AddAnswer}
 use Rattle.multiportgraph.specs.declared.multiportgraph.SetAnswer.{SetAnswer}
-use Rattle.multiportgraph.specs.Graph.{withGraph, withMarks, withHidden}
+use Rattle.multiportgraph.specs.Graph.{withGraph, withMarks, withHidden, withSubports}
 
 -- the hidden node of a split port goes, with every link at it; neither port is marked any more
 unfoldable pub removeCopy : MultiPortGraph → ℕ → ℕ → MultiPortGraph
@@ -150,7 +150,7 @@ abbrev pub enough : ℕ
 enough = 3 * nodePorts
 
 abbrev pub more : MultiPortGraph → MultiPortGraph
-more m = withHidden m (m .«copy_node») (m .«copy_node_count») (m .«subport_count» + 1)
+more m = withSubports m (m .«subport_count» + 1)
 
 abbrev pub grownBy : MultiPortGraph → ℕ → Direction → PortGraph → lower-set-answer.SetAnswer → Prepared
 grownBy m c d g (lower-set.Set e) = ready (more (recounted m c g)) (portOf g c d (numPorts (m .graph) c d)) (numPorts (m .graph) c d)

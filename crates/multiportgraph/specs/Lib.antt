@@ -7,6 +7,7 @@
 --   Graph         a graph from its parts: every other graph is made by these (`withGraph`, `withMarks`, `withHidden`)
 --   Answers       01's numbers and values of each answer
 --   HiddenNodes   how hidden nodes go, how they move with their ports, and how an end of a link is prepared
+--   Tidy          what is left of a split port's hidden node where the port is tidied
 --   Refusals      the refusals of each call in their order, as a table: condition, refusal, graph left
 --   Calls         each call: the first line of its table that applies, else what is done
 --   Wires         the list of all wires and the cursor that walks it
@@ -26,6 +27,7 @@ pub mod Reading
 pub mod Graph
 pub mod Answers
 pub mod HiddenNodes
+pub mod Tidy
 pub mod Refusals
 pub mod Calls
 pub mod Wires
@@ -66,6 +68,7 @@ pub mod RecountLaws
 pub mod SetLaws
 pub mod PrepareLaws
 pub mod GrowLaws
+pub mod TidyLaws
 pub mod ReadLaws
 pub mod NamedLaws
 pub mod NeedStays
@@ -78,6 +81,7 @@ pub mod ReadSteps
 pub mod CopySteps
 pub mod PrepareSteps
 pub mod CallSteps
+pub mod TidySteps
 pub mod LinkSteps
 pub mod TableSteps
 pub mod NamedSteps

@@ -1,12 +1,14 @@
 -- Marks of a node whose ports move: a kept port has its old mark at its new slot, new ports and slots left behind are unmarked,
 -- and every other slot keeps its mark.
-use mathlib.Core.Path.{_≡_, refl, _∙_}
-use mathlib.Core.Bool.{Bool, false}
+use mathlib.Core.Path.{_≡_, refl, _∙_, subst}
+use mathlib.Core.Bool.{Bool, true, false}
 use mathlib.Core.List.{List, [], _∷_}
 use Prim.Native.Nat.{ℕ, zero, suc, _+_, _-_, _≤_, _<_, min}
 use native.Mathlib.Omega.{arith}
 use lib.ListN.{getD, set, length, length-set}
-use lib.Seq.{getD-set-same, getD-set-other}
+use lib.Seq.{getD-set-same, getD-set-other, ext-getD}
+use lib.Dec.{leb, ltb}
+use borrow.Author.Tests.{leb-true, leb-false, ltb-true, ltb-false}
 use Rattle.portgraph.specs.Tables.{fill}
 use Rattle.portgraph.specs.TableLaws.{length-fill}
 use Rattle.portgraph.specs.declared.node_entry.NodeMeta.{NodeMeta}
@@ -130,3 +132,25 @@ module _ (marks : List Bool) (a b : NodeMeta) where
     -- a slot of neither
     pub lay-else : (a .«first_port» .0 ≤ s → s < a .«first_port» .0 + (a .incoming + a .outgoing) → ⊥) → getD (layMarks marks a b) s false ≡ getD marks s false
     lay-else h = lay-away ∙ getD-fill-out marks (a .«first_port» .0) (a .incoming + a .outgoing) s false false h
+
+-- where nothing moves, no mark changes
+pub lay-same : (marks : List Bool) (a : NodeMeta) → a .«first_port» .0 + (a .incoming + a .outgoing) ≤ length marks → layMarks marks a a ≡ marks
+lay-same marks a fit = ext-getD false _ _ (length-layMarks marks a a) (λ s l. at s)
+  where
+    at : (s : ℕ) → getD (layMarks marks a a) s false ≡ getD marks s false
+    at s = go (leb (a .«first_port» .0) s) refl (ltb s (a .«first_port» .0 + a .incoming)) refl (ltb s (a .«first_port» .0 + (a .incoming + a .outgoing))) refl
+      where
+        go : (b : Bool) → leb (a .«first_port» .0) s ≡ b → (c : Bool) → ltb s (a .«first_port» .0 + a .incoming) ≡ c → (d : Bool) → ltb s (a .«first_port» .0 + (a .incoming + a .outgoing)) ≡ d
+            → getD (layMarks marks a a) s false ≡ getD marks s false
+        go false p c q d r = let h = leb-false (a .«first_port» .0) s p in lay-else marks a a s (λ u v. omega arith) (λ u v. omega arith)
+        go true p true q d r =
+            let h = leb-true (a .«first_port» .0) s p in
+            let k = ltb-true s (a .«first_port» .0 + a .incoming) q in
+            let e : a .«first_port» .0 + (s - a .«first_port» .0) ≡ s = omega arith in
+            subst (λ (i : ℕ). getD (layMarks marks a a) i false ≡ getD marks i false) e (lay-kept-in marks a a (s - a .«first_port» .0) (omega arith) (omega arith))
+        go true p false q true r =
+            let k = ltb-false s (a .«first_port» .0 + a .incoming) q in
+            let l = ltb-true s (a .«first_port» .0 + (a .incoming + a .outgoing)) r in
+            let e : a .«first_port» .0 + a .incoming + (s - (a .«first_port» .0 + a .incoming)) ≡ s = omega arith in
+            subst (λ (i : ℕ). getD (layMarks marks a a) i false ≡ getD marks i false) e (lay-kept-out marks a a (s - (a .«first_port» .0 + a .incoming)) (omega arith) (omega arith))
+        go true p false q false r = let l = ltb-false s (a .«first_port» .0 + (a .incoming + a .outgoing)) r in lay-else marks a a s (λ u v. omega arith) (λ u v. omega arith)

@@ -1,14 +1,15 @@
 -- What the inner functions of a link presume of the ports that they are given; what public calls presume is `MultiWf` alone.
 use mathlib.Core.Path.{_≡_}
 use mathlib.Core.Bool.{true, false}
-use Prim.Native.Nat.{ℕ}
+use Prim.Native.Nat.{ℕ, _<_}
 use Rattle.portgraph.specs.Tables.{at}
 use Rattle.portgraph.specs.Lookups.{metaAt}
 use Rattle.portgraph.specs.declared.direction.Direction.{Direction}
 use Rattle.portgraph.specs.declared.node_entry.NodeMeta.{NodeMeta}
 use Rattle.portgraph.specs.declared.node_entry.MaybeNodeMeta.the-variants as maybe-meta
-use Rattle.multiportgraph.specs.Reading.{visible, seen, isSplit, copyNode}
+use Rattle.multiportgraph.specs.Reading.{visible, seen, isSplit, copyNode, subports}
 use Rattle.multiportgraph.specs.HiddenNodes.{ready, prepare}
+use Rattle.multiportgraph.specs.Tidy.{subportsLeft}
 use Rattle.multiportgraph.specs.Inner.{MultiWf}
 use Rattle.multiportgraph.specs.declared.multiportgraph.MultiPortGraph.{MultiPortGraph}
 
@@ -27,6 +28,13 @@ pub record LinkedPort (m : MultiPortGraph) (p : ℕ) (d : Direction) : Type 0 wh
 pub record SplitPort (m : MultiPortGraph) (p : ℕ) (d : Direction) : Type 0 where
   pub block : OnBlock m p d
   pub split : isSplit m p ≡ true
+
+-- one that is split, with so many subports, of which so many are left where it is tidied, and more than one
+pub record LeftPort (m : MultiPortGraph) (p : ℕ) (d : Direction) (count left : ℕ) : Type 0 where
+  pub port : SplitPort m p d
+  pub counts : count ≡ subports m p d
+  pub leaves : left ≡ subportsLeft m p d
+  pub more : 1 < left
 
 -- two ports of blocks
 pub record BothOnBlock (m : MultiPortGraph) (a : ℕ) (d : Direction) (b : ℕ) (e : Direction) : Type 0 where

@@ -22,7 +22,7 @@ use Rattle.portgraph.specs.SlotHolds.{blockRoom}
 use Rattle.portgraph.specs.InsideHolds.{inside-holds}
 use Rattle.portgraph.specs.AnewHolds.{anew-holds}
 use Rattle.portgraph.specs.GoodLaws.{good-resize, good-move}
-use Rattle.portgraph.specs.GoodSlots.{zero-is-not-one, block-of-one, upd-same, upd-other, joined-is-valid, slots-apart}
+use Rattle.portgraph.specs.GoodSlots.{zero-is-not-one, block-of-one, upd-same, upd-other, joined-is-valid, slots-apart, same-place}
 use Rattle.portgraph.specs.Sums.{drop-nowhere, drop-kept, total-one}
 use Rattle.portgraph.specs.PlaceLaws.{meta-of-node, port-index-is}
 use Rattle.portgraph.specs.declared.direction.Direction.{Direction}
@@ -38,11 +38,12 @@ use Rattle.multiportgraph.specs.MarkMoves.{within-cases}
 use Rattle.multiportgraph.specs.Inner.{inner#, copyPlace, Fine, Marked, copy-port, main-port, lift, outer, IsEnd, WireIn, Seen, SameBlocks, none, SameWires, subportsOfSlot}
 use Rattle.multiportgraph.specs.Needs.{needOf}
 use Rattle.multiportgraph.specs.NeedStays.{alike-same, need-alike}
-use Rattle.multiportgraph.specs.Ends.{Hangs, other-side, count-of, copy-valid, end-side, ends-join-ends, outer-apart}
+use Rattle.multiportgraph.specs.Ends.{Hangs, other-side, side-cases, count-of, copy-valid, end-side, ends-join-ends, outer-apart}
 use Rattle.multiportgraph.specs.Frame.{copy-side-is, true-not-false}
 use Rattle.multiportgraph.specs.SplitLaws.{HasEnd, KeptEnd, PreparedEnd}
 use Rattle.multiportgraph.specs.declared.multiportgraph.MultiPortGraph.{MultiPortGraph}
 use Rattle.multiportgraph.specs.Places.{Place, Wire, flag}
+use Rattle.multiportgraph.specs.Graph.{withSubports}
 use Rattle.multiportgraph.specs.HiddenNodes.{recounted, layMarks, ready, moreIn, moreOut, enough, more, grownBy, grow, growUnder}
 
 -- What the lower resize does to the model: node n has other counts and maybe another block, links of dropped places go.
@@ -400,20 +401,21 @@ module _ {m : MultiPortGraph} {M : Model} (f : Fine m M) {g′ : PortGraph} {M�
               let v = t .1 in
               record { place = x; was = t .1; is = omega arith; slot = other-slot x other ∙ t .2; marked = ap (isSplit m) (t .2) ∙ d }
 
--- Hidden nodes, links and marks are the same at every place that was there: so are ends and wires.
+-- Hidden nodes, links and marks are the same at every place that is there before and after, and every linked place is: so are ends
+-- and wires.
 pub record SameEnds (m : MultiPortGraph) (M : Model) (m′ : MultiPortGraph) (M′ : Model) : Type 0 where
   pub hid : (k : ℕ) → isHidden m′ k ≡ isHidden m k
   pub sides : (k : ℕ) → isHidden m k ≡ true → copySide m′ k ≡ copySide m k
   pub joins : (y : model.InnerPlace) → M′ .join y ≡ M .join y
-  pub valid : (y : model.InnerPlace) → Valid (M .node) y → Valid (M′ .node) y
-  pub marks : (y : model.InnerPlace) → Valid (M .node) y → isSplit m′ (slotOf (M′ .node) y) ≡ isSplit m (slotOf (M .node) y)
+  pub linked : (y z : model.InnerPlace) → M .join y ≡ to z → Valid (M′ .node) y
+  pub marks : (y : model.InnerPlace) → Valid (M .node) y → Valid (M′ .node) y → isSplit m′ (slotOf (M′ .node) y) ≡ isSplit m (slotOf (M .node) y)
 
 module _ {m : MultiPortGraph} {M : Model} {m′ : MultiPortGraph} {M′ : Model} (f : Fine m M) (t : SameEnds m M m′ M′) where
-  pub end-kept : (y : model.InnerPlace) → IsEnd m M y → IsEnd m′ M′ y
-  end-kept y e =
+  pub end-kept : (y : model.InnerPlace) → Valid (M′ .node) y → IsEnd m M y → IsEnd m′ M′ y
+  end-kept y v e =
       record {
-        valid = t .valid y (e .valid);
-        unsplit = λ h. t .marks y (e .valid) ∙ e .unsplit (sym (t .hid (y .node)) ∙ h);
+        valid = v;
+        unsplit = λ h. t .marks y (e .valid) v ∙ e .unsplit (sym (t .hid (y .node)) ∙ h);
         subport = λ h s. let p = sym (t .hid (y .node)) ∙ h in e .subport p (s ∙ t .sides (y .node) p);
       }
 
@@ -421,7 +423,7 @@ module _ {m : MultiPortGraph} {M : Model} {m′ : MultiPortGraph} {M′ : Model}
   end-was y v e =
       record {
         valid = v;
-        unsplit = λ h. sym (t .marks y v) ∙ e .unsplit (t .hid (y .node) ∙ h);
+        unsplit = λ h. sym (t .marks y v (e .valid)) ∙ e .unsplit (t .hid (y .node) ∙ h);
         subport = λ h s. e .subport (t .hid (y .node) ∙ h) (s ∙ sym (t .sides (y .node) h));
       }
 
@@ -448,7 +450,7 @@ module _ {m : MultiPortGraph} {M : Model} {m′ : MultiPortGraph} {M′ : Model}
               y = i .y;
               joined = t .joins (i .x) ∙ i .joined;
               outgoing = i .outgoing;
-              end = end-kept (i .x) (i .end);
+              end = end-kept (i .x) (t .linked (i .x) (i .y) (i .joined)) (i .end);
               is = i .is ∙ sym (wires-at (i .x) (i .y));
             };
         came = λ w e. absurd e;
@@ -470,10 +472,11 @@ module _ {m : MultiPortGraph} {M : Model} {m′ : MultiPortGraph} {M′ : Model}
       wires-at : (x y : model.InnerPlace) → _≡_ {A = Wire} (record { out = outer m′ M′ x; into = outer m′ M′ y }) (record { out = outer m M x; into = outer m M y })
       wires-at x y = λ q. record { out = outer-same x q; into = outer-same y q }
 
--- A hidden node grows by one subport.
+-- A hidden node with other counts: two subports or more are left, and no link goes with the others.
 
-abbrev pub grown : MultiPortGraph → ℕ → PortGraph → MultiPortGraph
-grown m c g = more (recounted m c g)
+-- its meta data is that of the new lower graph, and there are so many subports in all
+abbrev pub counted : MultiPortGraph → ℕ → PortGraph → ℕ → MultiPortGraph
+counted m c g subs = withSubports (recounted m c g) subs
 
 reversed-twice : (d e : Direction) → d ≡ reversed e → reversed d ≡ e
 reversed-twice Incoming Incoming p = absurd (zero-is-not-one (cc))
@@ -493,6 +496,185 @@ pub record Shape (m : MultiPortGraph) (M′ : Model) (k : ℕ) : Type 0 where
   pub several : 2 ≤ portsOn meta (reversed (copySide m k))
 
 module _ {m : MultiPortGraph} {M : Model} (f : Fine m M) (x : model.InnerPlace) (h : Hangs m M x) {g′ : PortGraph} {M′ : Model} {i o : ℕ} {a b : NodeMeta}
+    (r : Recount g′ M M′ (h .copy) a b i o) (left : 2 ≤ portsOn b (x .side)) (same : portsOn b (reversed (x .side)) ≡ portsOn a (reversed (x .side)))
+    (empty : (j : ℕ) → portsOn b (x .side) ≤ j → M .join (inner# (h .copy) (x .side) j) ≡ nowhere)
+    (subs : ℕ) (sum : subs + portsOn a (x .side) ≡ m .«subport_count» + portsOn b (x .side)) where
+  -- a linked port of the node stays
+  linked-below : (y z : model.InnerPlace) → M .join y ≡ to z → y .node ≡ h .copy → y .pos < portsOn b (y .side)
+  linked-below y z j e = ⊎-elim sub copy (side-cases (y .side) (x .side))
+    where
+      sub : y .side ≡ x .side → y .pos < portsOn b (y .side)
+      sub s = go (ltb (y .pos) (portsOn b (x .side))) refl
+        where
+          go : (t : Bool) → ltb (y .pos) (portsOn b (x .side)) ≡ t → y .pos < portsOn b (y .side)
+          go true q = subst (λ (d : Direction). y .pos < portsOn b d) (sym s) (ltb-true (y .pos) (portsOn b (x .side)) q)
+          go false q =
+              let n = empty (y .pos) (ltb-false (y .pos) (portsOn b (x .side)) q) in
+              let k : M .join y ≡ nowhere = ap (M .join) (same-place y (inner# (h .copy) (x .side) (y .pos)) e s refl) ∙ n in
+              absurd (zero-is-not-one (cc))
+
+      copy : y .side ≡ reversed (x .side) → y .pos < portsOn b (y .side)
+      copy s =
+          let v = f .good .joinValid y z j in
+          let p = count-before f r y e in
+          let q : portsOn b (y .side) ≡ portsOn a (y .side) = ap (portsOn b) s ∙ (same ∙ ap (portsOn a) (sym s)) in
+          omega arith
+
+  pub linked-valid : (y z : model.InnerPlace) → M .join y ≡ to z → Valid (M′ .node) y
+  linked-valid y z j =
+      ⊎-elim
+      (λ e. let p = count-after f r y e in let l = linked-below y z j e in omega arith)
+      (λ e. let p = other-count f r (y .node) (y .side) e in let v = f .good .joinValid y z j in omega arith)
+      (number-cases (y .node) (h .copy))
+
+  linked-stays : (y z : model.InnerPlace) → M .join y ≡ to z → beyond (h .copy) i o y ≡ false
+  linked-stays y z j = below-stays (h .copy) i o y (λ e.
+      let l = linked-below y z j e in
+      let q = count-new b i o (y .side) (r .ins) (r .outs) in
+      omega arith)
+
+  pub recount-joins : (y : model.InnerPlace) → M′ .join y ≡ M .join y
+  recount-joins y = r .join y ∙ go (M .join y) refl
+    where
+      go : (w : Far) → M .join y ≡ w → dropJoin (beyond (h .copy) i o) (M .join) y ≡ M .join y
+      go nowhere j = drop-nowhere (beyond (h .copy) i o) (M .join) y j ∙ sym j
+      go (to z) j =
+          drop-kept (beyond (h .copy) i o) (M .join) y z j (linked-stays y z j) (linked-stays z y (f .good .joinBack y z j)) ∙ sym j
+
+  pub recount-hidden : (k : ℕ) → isHidden (counted m (h .copy) g′ subs) k ≡ isHidden m k
+  unfolding isHidden recounted
+  recount-hidden k = refl
+
+  recount-split : (y : model.InnerPlace) → Valid (M .node) y → Valid (M′ .node) y → isSplit (counted m (h .copy) g′ subs) (slotOf (M′ .node) y) ≡ isSplit m (slotOf (M .node) y)
+  unfolding isSplit recounted
+  recount-split y v u = recount-marks f r y v u
+
+  recount-holds : Holds (counted m (h .copy) g′ subs .graph) M′
+  unfolding recounted
+  recount-holds = r .holds
+
+  shape-here : Shape m M′ (h .copy)
+  shape-here =
+      let k = f .copy (h .copy) (h .isCopy) in
+      let e = k .here in
+      let d = r .here in
+      let s : k .meta ≡ a = cc in
+      let p : reversed (x .side) ≡ copySide m (h .copy) = reversed-twice (x .side) (copySide m (h .copy)) (h .side) in
+      record {
+        meta = b;
+        here = r .there;
+        single = sym (ap (portsOn b) p) ∙ same ∙ ap (portsOn a) p ∙ sym (ap (λ (l : NodeMeta). portsOn l (copySide m (h .copy))) s) ∙ k .single;
+        several = subst (λ (d : Direction). 2 ≤ portsOn b d) (h .side) left;
+      }
+
+  shape : (k : ℕ) → isHidden m k ≡ true → Shape m M′ k
+  shape k e = ⊎-elim
+      (λ q. subst (Shape m M′) (sym q) shape-here)
+      (λ q. let c = f .copy k e in record { meta = c .meta; here = r .others k q ∙ c .here; single = c .single; several = c .several })
+      (number-cases k (h .copy))
+
+  recount-sides : (k : ℕ) → isHidden m k ≡ true → copySide (counted m (h .copy) g′ subs) k ≡ copySide m k
+  recount-sides k e =
+      let t = shape k e in
+      copy-side-is (counted m (h .copy) g′ subs) k (t .meta) (copySide m k) (meta-of-node (r .good) recount-holds k (t .meta) (t .here)) (t .single) (t .several)
+
+  pub recount-ends : SameEnds m M (counted m (h .copy) g′ subs) M′
+  recount-ends = record { hid = recount-hidden; sides = recount-sides; joins = recount-joins; linked = linked-valid; marks = recount-split }
+
+  recount-flags : length (counted m (h .copy) g′ subs .«copy_node») ≡ nodeSlots
+  unfolding recounted
+  recount-flags = f .flagsLong
+
+  recount-copies : counted m (h .copy) g′ subs .«copy_node_count» ≡ total nodeSlots (λ n. flag (isHidden (counted m (h .copy) g′ subs) n))
+  unfolding recounted isHidden
+  recount-copies = f .copies
+
+  subs-are : (k : ℕ) (s : Slots) → isHidden m k ≡ true → M .node k ≡ s → subportsOfSlot m M k ≡ portsOf s - 1
+  subs-are k s e d = rw (e, d)
+
+  new-subs-are : (k : ℕ) (s : Slots) → isHidden m k ≡ true → M′ .node k ≡ s → subportsOfSlot (counted m (h .copy) g′ subs) M′ k ≡ portsOf s - 1
+  new-subs-are k s e d = rw (recount-hidden k, e, d)
+
+  other-subs : (k : ℕ) → (k ≡ h .copy → ⊥) → subportsOfSlot m M k ≡ subportsOfSlot (counted m (h .copy) g′ subs) M′ k
+  other-subs k ne = sym (rw (recount-hidden k, r .others k ne))
+
+  recount-subs : subs ≡ total nodeSlots (subportsOfSlot (counted m (h .copy) g′ subs) M′)
+  recount-subs =
+      let used = f .good .nodeUsed (h .copy) a (r .here) in
+      let fit = f .good .nodesFit in
+      let one = total-one nodeSlots (h .copy) (subportsOfSlot m M) (subportsOfSlot (counted m (h .copy) g′ subs) M′) (omega arith) (λ k l ne. other-subs k ne) in
+      let p = subs-are (h .copy) (live a) (h .isCopy) (r .here) in
+      let q = new-subs-are (h .copy) (live b) (h .isCopy) (r .there) in
+      let u = both-sides a (x .side) in
+      let v = both-sides b (x .side) in
+      let w : 2 ≤ portsOn a (x .side) = subst (λ (s : Slots). 2 ≤ countOf s (x .side)) (r .here) (h .several) in
+      let s = f .subs in
+      omega arith
+
+  recount-only : (s : ℕ) → isSplit (counted m (h .copy) g′ subs) s ≡ true → Marked (counted m (h .copy) g′ subs) M′ s
+  unfolding isSplit recounted
+  recount-only s e = go (marked-was f r s e)
+    where
+      go : WasMarked m M M′ s → Marked (counted m (h .copy) g′ subs) M′ s
+      go w = by (f .onlyMarked _ (w .marked))
+        where
+          by : Marked m M (slotOf (M .node) (w .place)) → Marked (counted m (h .copy) g′ subs) M′ s
+          by (copy-port c q t) =
+              let z : copyPlace m c ≡ w .place = slots-apart (f .good) (copyPlace m c) (w .place) (copy-valid f c q) (w .was) t in
+              copy-port c (recount-hidden c ∙ q) (ap (slotOf (M′ .node)) (copy-place-same f recount-ends c q ∙ z) ∙ w .slot)
+          by (main-port c y q j t) =
+              let z : y ≡ w .place = slots-apart (f .good) y (w .place) (joined-is-valid (f .good) (copyPlace m c) y j) (w .was) t in
+              main-port c y (recount-hidden c ∙ q) (ap (M′ .join) (copy-place-same f recount-ends c q) ∙ recount-joins _ ∙ j) (ap (slotOf (M′ .node)) z ∙ w .slot)
+
+  pub recount-fine : Fine (counted m (h .copy) g′ subs) M′
+  recount-fine =
+      record {
+        good = r .good;
+        holds = recount-holds;
+        marksLong = marks-long f r;
+        flagsLong = recount-flags;
+        copy = λ c q.
+            let e = sym (recount-hidden c) ∙ q in
+            let k = f .copy c e in
+            let t = shape c e in
+            record {
+              meta = t .meta;
+              here = t .here;
+              single = rw (recount-sides c e) (t .single);
+              several = rw (recount-sides c e) (t .several);
+              main = k .main;
+              joined = ap (M′ .join) (copy-place-same f recount-ends c e) ∙ recount-joins _ ∙ k .joined;
+              mainSeen = recount-hidden (k .main .node) ∙ k .mainSeen;
+            };
+        copyMarked = λ c q.
+            let e = sym (recount-hidden c) ∙ q in
+            let k = f .copy c e in
+            ap (λ (y : model.InnerPlace). isSplit (counted m (h .copy) g′ subs) (slotOf (M′ .node) y)) (copy-place-same f recount-ends c e)
+            ∙ recount-split (copyPlace m c) (copy-valid f c e) (linked-valid (copyPlace m c) (k .main) (k .joined)) ∙ f .copyMarked c e;
+        mainMarked = λ c y q j.
+            let e = sym (recount-hidden c) ∙ q in
+            let d : M .join (copyPlace m c) ≡ to y = sym (ap (M′ .join) (copy-place-same f recount-ends c e) ∙ recount-joins _) ∙ j in
+            recount-split y (joined-is-valid (f .good) (copyPlace m c) y d) (linked-valid y (copyPlace m c) (f .good .joinBack (copyPlace m c) y d)) ∙ f .mainMarked c y e d;
+        onlyMarked = recount-only;
+        copies = recount-copies;
+        subs = recount-subs;
+      }
+
+  pub no-block-here : (n : ℕ) → isHidden m n ≡ false → n ≡ h .copy → ⊥
+  no-block-here n e q = true-not-false (ap (isHidden m) q ∙ h .isCopy) e
+
+  pub recount-blocks : SameBlocks m M (counted m (h .copy) g′ subs) M′
+  recount-blocks = (
+    (λ n k e. (recount-hidden n ∙ e .0, r .others n (no-block-here n (e .0)) ∙ e .1)),
+    (λ n k e. let d = sym (recount-hidden n) ∙ e .0 in (d, sym (r .others n (no-block-here n d)) ∙ e .1)),
+  )
+
+-- A hidden node grows by one subport.
+
+abbrev pub grown : MultiPortGraph → ℕ → PortGraph → MultiPortGraph
+grown m c g = more (recounted m c g)
+
+module _ {m : MultiPortGraph} {M : Model} (f : Fine m M) (x : model.InnerPlace) (h : Hangs m M x) {g′ : PortGraph} {M′ : Model} {i o : ℕ} {a b : NodeMeta}
     (r : Recount g′ M M′ (h .copy) a b i o) (longer : portsOn b (x .side) ≡ portsOn a (x .side) + 1)
     (same : portsOn b (reversed (x .side)) ≡ portsOn a (reversed (x .side))) where
   side-grows : (d : Direction) → portsOn a d ≤ portsOn b d
@@ -510,155 +692,50 @@ module _ {m : MultiPortGraph} {M : Model} (f : Fine m M) (x : model.InnerPlace) 
       (λ e. let p = other-count f r (y .node) (y .side) e in omega arith)
       (number-cases (y .node) (h .copy))
 
-  kept-below : (y : model.InnerPlace) → Valid (M .node) y → beyond (h .copy) i o y ≡ false
-  kept-below y v = below-stays (h .copy) i o y (λ e.
-      let p = count-before f r y e in
-      let l = side-grows (y .side) in
-      let q = count-new b i o (y .side) (r .ins) (r .outs) in
-      omega arith)
+  two-left : 2 ≤ portsOn b (x .side)
+  two-left = let w : 2 ≤ portsOn a (x .side) = subst (λ (s : Slots). 2 ≤ countOf s (x .side)) (r .here) (h .several) in omega arith
+
+  -- beyond the last port there is no link
+  none-beyond : (j : ℕ) → portsOn b (x .side) ≤ j → M .join (inner# (h .copy) (x .side) j) ≡ nowhere
+  none-beyond j l = go (M .join (inner# (h .copy) (x .side) j)) refl
+    where
+      go : (w : Far) → M .join (inner# (h .copy) (x .side) j) ≡ w → M .join (inner# (h .copy) (x .side) j) ≡ nowhere
+      go nowhere e = e
+      go (to y) e =
+          let v = f .good .joinValid (inner# (h .copy) (x .side) j) y e in
+          let p = count-before f r (inner# (h .copy) (x .side) j) refl in
+          absurd (omega arith)
+
+  one-more : (subs : ℕ) → subs ≡ m .«subport_count» → subs + 1 + portsOn a (x .side) ≡ m .«subport_count» + portsOn b (x .side)
+  one-more subs e = omega arith
+
+  subs-before : recounted m (h .copy) g′ .«subport_count» ≡ m .«subport_count»
+  unfolding recounted
+  subs-before = refl
+
+  subs-after : recounted m (h .copy) g′ .«subport_count» + 1 + portsOn a (x .side) ≡ m .«subport_count» + portsOn b (x .side)
+  subs-after = one-more (recounted m (h .copy) g′ .«subport_count») subs-before
 
   pub joins-same : (y : model.InnerPlace) → M′ .join y ≡ M .join y
-  joins-same y = r .join y ∙ go (M .join y) refl
-    where
-      go : (w : Far) → M .join y ≡ w → dropJoin (beyond (h .copy) i o) (M .join) y ≡ M .join y
-      go nowhere j = drop-nowhere (beyond (h .copy) i o) (M .join) y j ∙ sym j
-      go (to z) j =
-          drop-kept (beyond (h .copy) i o) (M .join) y z j (kept-below y (f .good .joinValid y z j)) (kept-below z (joined-is-valid (f .good) y z j)) ∙ sym j
+  joins-same = recount-joins f x h r two-left same none-beyond _ subs-after
 
   pub hidden-same : (k : ℕ) → isHidden (grown m (h .copy) g′) k ≡ isHidden m k
-  unfolding isHidden recounted
-  hidden-same k = refl
+  hidden-same = recount-hidden f x h r two-left same none-beyond _ subs-after
 
   split-same : (y : model.InnerPlace) → Valid (M .node) y → isSplit (grown m (h .copy) g′) (slotOf (M′ .node) y) ≡ isSplit m (slotOf (M .node) y)
-  unfolding isSplit recounted
-  split-same y v = recount-marks f r y v (valid-kept y v)
-
-  holds-grown : Holds (grown m (h .copy) g′ .graph) M′
-  unfolding recounted
-  holds-grown = r .holds
-
-  shape-here : Shape m M′ (h .copy)
-  shape-here =
-      let k = f .copy (h .copy) (h .isCopy) in
-      let e = k .here in
-      let d = r .here in
-      let s : k .meta ≡ a = cc in
-      let p : reversed (x .side) ≡ copySide m (h .copy) = reversed-twice (x .side) (copySide m (h .copy)) (h .side) in
-      let q = h .side in
-      let u : portsOn b (reversed (copySide m (h .copy))) ≡ portsOn b (x .side) = ap (portsOn b) (sym q) in
-      let v : portsOn (k .meta) (reversed (copySide m (h .copy))) ≡ portsOn a (x .side) = ap (λ (l : NodeMeta). portsOn l (reversed (copySide m (h .copy)))) s ∙ ap (portsOn a) (sym q) in
-      let w = k .several in
-      record {
-        meta = b;
-        here = r .there;
-        single = sym (ap (portsOn b) p) ∙ same ∙ ap (portsOn a) p ∙ sym (ap (λ (l : NodeMeta). portsOn l (copySide m (h .copy))) s) ∙ k .single;
-        several = omega arith;
-      }
-
-  shape : (k : ℕ) → isHidden m k ≡ true → Shape m M′ k
-  shape k e = ⊎-elim
-      (λ q. subst (Shape m M′) (sym q) shape-here)
-      (λ q. let c = f .copy k e in record { meta = c .meta; here = r .others k q ∙ c .here; single = c .single; several = c .several })
-      (number-cases k (h .copy))
+  split-same y v = recount-split f x h r two-left same none-beyond _ subs-after y v (valid-kept y v)
 
   sides-same : (k : ℕ) → isHidden m k ≡ true → copySide (grown m (h .copy) g′) k ≡ copySide m k
-  sides-same k e =
-      let t = shape k e in
-      copy-side-is (grown m (h .copy) g′) k (t .meta) (copySide m k) (meta-of-node (r .good) holds-grown k (t .meta) (t .here)) (t .single) (t .several)
+  sides-same = recount-sides f x h r two-left same none-beyond _ subs-after
 
   pub ends-same : SameEnds m M (grown m (h .copy) g′) M′
-  ends-same = record { hid = hidden-same; sides = sides-same; joins = joins-same; valid = valid-kept; marks = split-same }
-
-  grown-long : length (grown m (h .copy) g′ .multiport) ≡ portSlots
-  grown-long = marks-long f r
-
-  grown-flags : length (grown m (h .copy) g′ .«copy_node») ≡ nodeSlots
-  unfolding recounted
-  grown-flags = f .flagsLong
-
-  grown-copies : grown m (h .copy) g′ .«copy_node_count» ≡ total nodeSlots (λ n. flag (isHidden (grown m (h .copy) g′) n))
-  unfolding recounted isHidden
-  grown-copies = f .copies
-
-  subs-are : (k : ℕ) (s : Slots) → isHidden m k ≡ true → M .node k ≡ s → subportsOfSlot m M k ≡ portsOf s - 1
-  subs-are k s e d = rw (e, d)
-
-  grown-subs-are : (k : ℕ) (s : Slots) → isHidden m k ≡ true → M′ .node k ≡ s → subportsOfSlot (grown m (h .copy) g′) M′ k ≡ portsOf s - 1
-  grown-subs-are k s e d = rw (hidden-same k, e, d)
-
-  other-subs : (k : ℕ) → (k ≡ h .copy → ⊥) → subportsOfSlot m M k ≡ subportsOfSlot (grown m (h .copy) g′) M′ k
-  other-subs k ne = sym (rw (hidden-same k, r .others k ne))
-
-  grown-subs : grown m (h .copy) g′ .«subport_count» ≡ total nodeSlots (subportsOfSlot (grown m (h .copy) g′) M′)
-  unfolding recounted
-  grown-subs =
-      let used = f .good .nodeUsed (h .copy) a (r .here) in
-      let fit = f .good .nodesFit in
-      let one = total-one nodeSlots (h .copy) (subportsOfSlot m M) (subportsOfSlot (grown m (h .copy) g′) M′) (omega arith) (λ k l ne. other-subs k ne) in
-      let p = subs-are (h .copy) (live a) (h .isCopy) (r .here) in
-      let q = grown-subs-are (h .copy) (live b) (h .isCopy) (r .there) in
-      let u = both-sides a (x .side) in
-      let v = both-sides b (x .side) in
-      let w : 2 ≤ portsOn a (x .side) = subst (λ (s : Slots). 2 ≤ countOf s (x .side)) (r .here) (h .several) in
-      let s = f .subs in
-      omega arith
-
-  grown-only : (s : ℕ) → isSplit (grown m (h .copy) g′) s ≡ true → Marked (grown m (h .copy) g′) M′ s
-  unfolding isSplit recounted
-  grown-only s e = go (marked-was f r s e)
-    where
-      go : WasMarked m M M′ s → Marked (grown m (h .copy) g′) M′ s
-      go w = by (f .onlyMarked _ (w .marked))
-        where
-          by : Marked m M (slotOf (M .node) (w .place)) → Marked (grown m (h .copy) g′) M′ s
-          by (copy-port c q t) =
-              let z : copyPlace m c ≡ w .place = slots-apart (f .good) (copyPlace m c) (w .place) (copy-valid f c q) (w .was) t in
-              copy-port c (hidden-same c ∙ q) (ap (slotOf (M′ .node)) (copy-place-same f ends-same c q ∙ z) ∙ w .slot)
-          by (main-port c y q j t) =
-              let z : y ≡ w .place = slots-apart (f .good) y (w .place) (joined-is-valid (f .good) (copyPlace m c) y j) (w .was) t in
-              main-port c y (hidden-same c ∙ q) (ap (M′ .join) (copy-place-same f ends-same c q) ∙ joins-same _ ∙ j) (ap (slotOf (M′ .node)) z ∙ w .slot)
+  ends-same = recount-ends f x h r two-left same none-beyond _ subs-after
 
   pub grown-fine : Fine (grown m (h .copy) g′) M′
-  grown-fine =
-      record {
-        good = r .good;
-        holds = holds-grown;
-        marksLong = grown-long;
-        flagsLong = grown-flags;
-        copy = λ c q.
-            let e = sym (hidden-same c) ∙ q in
-            let k = f .copy c e in
-            let t = shape c e in
-            record {
-              meta = t .meta;
-              here = t .here;
-              single = rw (sides-same c e) (t .single);
-              several = rw (sides-same c e) (t .several);
-              main = k .main;
-              joined = ap (M′ .join) (copy-place-same f ends-same c e) ∙ joins-same _ ∙ k .joined;
-              mainSeen = hidden-same (k .main .node) ∙ k .mainSeen;
-            };
-        copyMarked = λ c q.
-            let e = sym (hidden-same c) ∙ q in
-            ap (λ (y : model.InnerPlace). isSplit (grown m (h .copy) g′) (slotOf (M′ .node) y)) (copy-place-same f ends-same c e)
-            ∙ split-same (copyPlace m c) (copy-valid f c e) ∙ f .copyMarked c e;
-        mainMarked = λ c y q j.
-            let e = sym (hidden-same c) ∙ q in
-            let d : M .join (copyPlace m c) ≡ to y = sym (ap (M′ .join) (copy-place-same f ends-same c e) ∙ joins-same _) ∙ j in
-            split-same y (joined-is-valid (f .good) (copyPlace m c) y d) ∙ f .mainMarked c y e d;
-        onlyMarked = grown-only;
-        copies = grown-copies;
-        subs = grown-subs;
-      }
-
-  no-block-here : (n : ℕ) → isHidden m n ≡ false → n ≡ h .copy → ⊥
-  no-block-here n e q = true-not-false (ap (isHidden m) q ∙ h .isCopy) e
+  grown-fine = recount-fine f x h r two-left same none-beyond _ subs-after
 
   grown-blocks : SameBlocks m M (grown m (h .copy) g′) M′
-  grown-blocks = (
-    (λ n k e. (hidden-same n ∙ e .0, r .others n (no-block-here n (e .0)) ∙ e .1)),
-    (λ n k e. let d = sym (hidden-same n) ∙ e .0 in (d, sym (r .others n (no-block-here n d)) ∙ e .1)),
-  )
+  grown-blocks = recount-blocks f x h r two-left same none-beyond _ subs-after
 
   -- the new subport
   abbrev pub fresh : model.InnerPlace
@@ -723,13 +800,13 @@ module _ {m : MultiPortGraph} {M : Model} (f : Fine m M) (x : model.InnerPlace) 
     where
       at-fresh : (y z : model.InnerPlace) → M .join y ≡ to z → IsEnd m M y → outer m M y ≡ lift x (portsOn a (x .side)) → ⊥
       at-fresh y z j d q =
-          let s : y ≡ fresh = outer-apart grown-fine y fresh (end-kept f ends-same y d) fresh-end (outer-same f ends-same y ∙ q ∙ sym fresh-outer) in
+          let s : y ≡ fresh = outer-apart grown-fine y fresh (end-kept f ends-same y (valid-kept y (d .valid)) d) fresh-end (outer-same f ends-same y ∙ q ∙ sym fresh-outer) in
           fresh-was-free z (ap (M .join) (sym s) ∙ j)
 
   grown-keeps : (v : model.InnerPlace) → IsEnd m M v → M .join v ≡ nowhere → (v .side ≡ x .side → ⊥) → KeptEnd m M (grown m (h .copy) g′) M′ v
   grown-keeps v e j s =
       record {
-        end = end-kept f ends-same v e;
+        end = end-kept f ends-same v (valid-kept v (e .valid)) e;
         free = joins-same v ∙ j;
         slot = other-slot f r v elsewhere;
         is = outer-same f ends-same v;
@@ -742,7 +819,7 @@ module _ {m : MultiPortGraph} {M : Model} (f : Fine m M) (x : model.InnerPlace) 
 
   others-need : (v : model.InnerPlace) → Seen m M v → (v ≡ x → ⊥) → needOf (grown m (h .copy) g′) (slotOf (M .node) v) (v .side) ≡ needOf m (slotOf (M .node) v) (v .side)
   others-need v sv apart =
-      let here = no-block-here (v .node) (sv .1) in
+      let here = no-block-here f x h r two-left same none-beyond _ subs-after (v .node) (sv .1) in
       need-alike f grown-fine v sv (r .others (v .node) here) (ap (isSplit (grown m (h .copy) g′)) (sym (other-slot f r v here)) ∙ split-same v (sv .0)) (alike-same (M′ .join v) (M .join v) (joins-same v))
       (λ k.
       record {

@@ -242,7 +242,7 @@ linkSubRefusals taken m p o q r =
     ∷ refuse m (oneLinked (joining m p o q r)) (refusedBelow (joining m p o q r))
     ∷ []
 
--- 7, 8
+-- 7, 8, of cutting a port and of tidying it
 abbrev pub cutRefusals : MultiPortGraph → ℕ → List Line
 cutRefusals m p =
     refuse m (isDead (seen m p)) (UnknownPort (port# p))

@@ -17,6 +17,7 @@ use Rattle.portgraph.specs.declared.node_entry.MaybeNodeMeta.the-variants as ma
 use Rattle.multiportgraph.specs.Reading.{hasLink, isHidden, isSplit, Port, dead, hidden, visible, seen, copyNode, subports}
 use Rattle.multiportgraph.specs.Refusals.{inputTaken}
 use Rattle.multiportgraph.specs.declared.multiportgraph.MultiPortGraph.{MultiPortGraph}
+use Rattle.multiportgraph.specs.Tidy.{subportsLeft}
 use Rattle.multiportgraph.specs.HiddenNodes.{copiesIn, copiesDropped, Prepared, ready, full, lowestFree, prepare}
 
 -- free node slots and free blocks of each size, the one freed last first, and the used lengths of the tables
@@ -183,6 +184,10 @@ removeWorks m n = removeMetaWorks m n (metaAt (m .graph) n)
 unfoldable pub cutWorks : MultiPortGraph → ℕ → List Work
 cutWorks m p = cond (isSplit m p) (goneWorks (copyNode m p) (metaAt (m .graph) (copyNode m p))) []
 
+-- tidying a port: the hidden node of a split one goes where no offset above 0 is wired; else nothing is taken or given back
+unfoldable pub tidyWorks : MultiPortGraph → ℕ → Direction → List Work
+tidyWorks m p d = cond (isSplit m p) (cond (ltb 1 (subportsLeft m p d)) [] (goneWorks (copyNode m p) (metaAt (m .graph) (copyNode m p)))) []
+
 -- The works of every call; none where it is refused before 10.
 
 abbrev pub toldWorks : MultiPortGraph → ℕ → ℕ → ℕ → ℕ → MaybeNodeMeta → List Work
@@ -194,3 +199,8 @@ abbrev pub cutSeenWorks : MultiPortGraph → ℕ → Port → List Work
 cutSeenWorks m p dead = []
 cutSeenWorks m p hidden = []
 cutSeenWorks m p (visible n d) = cutWorks m p
+
+abbrev pub tidySeenWorks : MultiPortGraph → ℕ → Port → List Work
+tidySeenWorks m p dead = []
+tidySeenWorks m p hidden = []
+tidySeenWorks m p (visible n d) = tidyWorks m p d

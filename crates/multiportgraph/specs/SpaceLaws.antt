@@ -1,6 +1,6 @@
 -- Refusal 10 is given exactly where the works of a call would lengthen a table past its limit, and after an accepted call the
 -- room is that after its works.
-use mathlib.Core.Path.{_≡_, refl, sym, _∙_, ap, subst}
+use mathlib.Core.Path.{_≡_, refl, sym, _∙_, ap, subst, transport}
 use mathlib.Core.Bool.{Bool, true, false, cond, not, _||_}
 use mathlib.Core.List.{List, [], _∷_, _++_, flatMap}
 use mathlib.Core.Logic.{_↔_, inl, inr}
@@ -49,15 +49,17 @@ use Rattle.portgraph.specs.declared.resize.SetAnswer as lower-set-answer
 use Rattle.portgraph.specs.declared.resize.SetAnswer.the-variants as lower-set
 use Rattle.portgraph.specs.declared.slots.AddAnswer as lower-add-answer
 use Rattle.portgraph.specs.declared.slots.AddAnswer.the-variants as lower-add
-use Rattle.multiportgraph.specs.Calls.{dropBlock, removeBlock, addedAs, addBlock, setAs, setCounts, cutPlain, cutPort, cutSub, linkSub, linkSubIf, setCountsUnder, addBlockUnder, linkPair, linkPairIf, linkClean, linkCleanIf}
+use Rattle.multiportgraph.specs.Calls.{dropBlock, removeBlock, addedAs, addBlock, setAs, setCounts, cutPlain, cutPort, cutSub, linkSub, linkSubIf, setCountsUnder, addBlockUnder, linkPair, linkPairIf, linkClean, linkCleanIf, tidyPort}
 use Rattle.multiportgraph.specs.Inner.{inner#, copyPlace, Fine, Seen, BlockIs, SameBlocks}
-use Rattle.multiportgraph.specs.Reading.{ownerOf, copySide, hasLink, portOf, isHidden, isSplit, Port, dead, hidden, visible, seen, copyNode, subports, subport#, End, inner, lacking, endAt, asRead, standing, farSubport}
-use Rattle.multiportgraph.specs.Ends.{Hangs, split-has-copy, block-seen, seen-block, copy-valid, port-of, far-of, owner-of}
+use Rattle.multiportgraph.specs.Reading.{ownerOf, copySide, hasLink, portOf, isHidden, isSplit, Port, dead, hidden, visible, seen, copyNode, subports, subport#, End, inner, lacking, endAt, asRead, standing, farSubport, farPort, subportAt}
+use Rattle.multiportgraph.specs.Ends.{Hangs, split-has-copy, block-seen, seen-block, copy-valid, port-of, far-of, owner-of, BlockPort, seen-still}
 use Rattle.multiportgraph.specs.CopyLaws.{copy-goes, unsplit-split, unsplit-whole}
 use Rattle.multiportgraph.specs.PrepareLaws.{prepare-law}
+use Rattle.multiportgraph.specs.Tidy.{subportsLeft, leftIn, leftOut, dropSubports, linkDirectly, tidied}
+use Rattle.multiportgraph.specs.TidyLaws.{DropWithin, no-change, in-block, left-within}
 use Rattle.multiportgraph.specs.RecountLaws.{Recount, SomeRecount, set-recounts, slotIn, place-among}
 use Rattle.multiportgraph.specs.SetLaws.{resize-loosens}
-use Rattle.multiportgraph.specs.Space.{Room, roomOf, Work, takeNode, takeBlock, giveNode, giveBlock, blockTaken, afterWork, afterWorks, onTheWay, nodesPast, portsPast, nodesShort, portsShort, overflows, addWorks, goneWorks, splitWorks, moveWorks, recountWorks, growWorks, reuseWorks, prepareWorks, secondWorks, linkSeenWorks, linkWorks, linkCleanSeenWorks, linkCleanWorks, copiesGone, setMetaWorks, setWorks, cutWorks, cutSeenWorks, removeWorks, removeMetaWorks, toldWorks}
+use Rattle.multiportgraph.specs.Space.{Room, roomOf, Work, tidyWorks, tidySeenWorks, takeNode, takeBlock, giveNode, giveBlock, blockTaken, afterWork, afterWorks, onTheWay, nodesPast, portsPast, nodesShort, portsShort, overflows, addWorks, goneWorks, splitWorks, moveWorks, recountWorks, growWorks, reuseWorks, prepareWorks, secondWorks, linkSeenWorks, linkWorks, linkCleanSeenWorks, linkCleanWorks, copiesGone, setMetaWorks, setWorks, cutWorks, cutSeenWorks, removeWorks, removeMetaWorks, toldWorks}
 use Rattle.multiportgraph.specs.declared.multiportgraph.MultiPortGraph.{MultiPortGraph}
 use Rattle.multiportgraph.specs.declared.multiportgraph.Refusal.{Refusal}
 use Rattle.multiportgraph.specs.declared.multiportgraph.Refusal.the-variants.{BadOffset, TooManyPorts, UnknownNode, HiddenNode, MovesTooShort, NoRoom, IncompatibleDirections, InputWired}
@@ -67,6 +69,8 @@ use Rattle.multiportgraph.specs.declared.multiportgraph.NodeRemoved.{Nod
 use Rattle.multiportgraph.specs.declared.multiportgraph.RemoveAnswer.the-variants as remove
 use Rattle.multiportgraph.specs.declared.multiportgraph.PortUnlinked.{PortUnlinked}
 use Rattle.multiportgraph.specs.declared.multiportgraph.CutAnswer.the-variants as cutting
+use Rattle.multiportgraph.specs.declared.multiportgraph.TidyAnswer.the-variants as tidying
+use Rattle.multiportgraph.specs.declared.multiportgraph.PortTidied.{PortTidied}
 use Rattle.multiportgraph.specs.declared.multiportgraph.PortsSet.{PortsSet}
 use Rattle.multiportgraph.specs.declared.multiportgraph.SetAnswer.the-variants as resize
 use Rattle.multiportgraph.specs.declared.multiportgraph.PortsLinked.{PortsLinked}
@@ -75,10 +79,10 @@ use Rattle.multiportgraph.specs.declared.named.NamedPair.{NamedPair}
 use Rattle.multiportgraph.specs.declared.named.NamedPair.the-variants as pair
 use Rattle.multiportgraph.specs.declared.multiportgraph.AddAnswer.the-variants as add
 use Rattle.multiportgraph.specs.HiddenNodes.{unsplitRange, copiesIn, recounted, Prepared, ready, full, copyIn, copyOut, split, splitBy, splitPort, splitGraph, lowestFree, moreIn, moreOut, enough, grow, grownBy, reuse, prepare, removeCopy, removeLone, removeAll, copiesDropped, unsplit, splitUnder, growUnder, prepareUnder, reuseUnder}
-use Rattle.multiportgraph.specs.Cases.{removeRefused, removeMeta, linkFirst, linkSecond, linkSeen, linkRefused, setRefused, resized, setMeta, cutSeen, cutRefused, cutEnd, cutSubSeen, linkInner, linkSecondEnd, linkFirstEnd, linkSubSeen, linkLive, pairSeen, linkCleanBy, takenSeen, takenSecond, takenFirst, takenSubSeen}
+use Rattle.multiportgraph.specs.Cases.{removeRefused, removeMeta, linkFirst, linkSecond, linkSeen, linkRefused, setRefused, resized, setMeta, cutSeen, cutRefused, cutEnd, cutSubSeen, linkInner, linkSecondEnd, linkFirstEnd, linkSubSeen, linkLive, pairSeen, linkCleanBy, takenSeen, takenSecond, takenFirst, takenSubSeen, tidySeen}
 use Rattle.multiportgraph.specs.Graph.{withGraph}
 use Rattle.multiportgraph.specs.Refusals.{goodOffset, inputTaken}
-use Rattle.multiportgraph.specs.CaseLaws.{add-cases, set-cases, link-cases, link-taken, link-clean-cases, link-clean-taken, link-sub-cases, link-sub-taken, cut-cases, cut-sub-cases, remove-cases}
+use Rattle.multiportgraph.specs.CaseLaws.{add-cases, set-cases, link-cases, link-taken, link-clean-cases, link-clean-taken, link-sub-cases, link-sub-taken, cut-cases, cut-sub-cases, remove-cases, tidy-cases}
 
 -- Lengths never shrink, so what is passed on the way is passed at the end.
 
@@ -520,16 +524,12 @@ module _ {m : MultiPortGraph} {M : Model} (f : Fine m M) where
       subst (λ (t : Direction). PreparedSpace M (prepareWorks m p t) (prepare m p t)) (b .side)
       (subst (λ (q : ℕ). PreparedSpace M (prepareWorks m q (b .place .side)) (prepare m q (b .place .side))) (b .slot) (prepare-space f (b .place) (b .isSeen)))
 
--- a block's port is one still where the blocks are the same
-seen-still : {m : MultiPortGraph} {M : Model} {m′ : MultiPortGraph} {M′ : Model} → Fine m M → Fine m′ M′ → SameBlocks m M m′ M′ → (p n : ℕ) (d : Direction) → seen m p ≡ visible n d → seen m′ p ≡ visible n d
-seen-still {m} {M} {m′} {M′} f f′ same p n d e =
+-- a block's port is seen as one still where the blocks are the same
+still-seen : {m : MultiPortGraph} {M : Model} {m′ : MultiPortGraph} {M′ : Model} → Fine m M → Fine m′ M′ → SameBlocks m M m′ M′ → (p n : ℕ) (d : Direction) → seen m p ≡ visible n d → seen m′ p ≡ visible n d
+still-seen {m} {M} {m′} {M′} f f′ same p n d e =
     let b = block-seen f p n d e in
-    let s = slot-in-block (f .good) (b .place) (b .isSeen .0) in
-    let r = same .0 (b .place .node) (s .0) (b .isSeen .1, s .1) in
-    let q : M′ .node (b .place .node) ≡ M .node (b .place .node) = r .1 ∙ sym (s .1) in
-    let v : Valid (M′ .node) (b .place) = subst (λ (t : Slots). b .place .pos < countOf t (b .place .side)) (sym q) (b .isSeen .0) in
-    let slot : slotOf (M′ .node) (b .place) ≡ p = ap (λ (t : Slots). firstOf t + (sideStart t (b .place .side) + b .place .pos)) q ∙ b .slot in
-    ap (seen m′) (sym slot) ∙ (seen-block f′ (b .place) (v, r .0) ∙ (λ i. visible (b .node i) (b .side i)))
+    let k = seen-still f f′ same (b .place) (b .isSeen) in
+    ap (seen m′) (sym (k .1 ∙ b .slot)) ∙ (seen-block f′ (b .place) (k .0) ∙ (λ i. visible (b .node i) (b .side i)))
 
 -- 7, 8 and 18 are not 10
 not-room : (a b : ℕ) (u v : Port) → link.Refused (takenSeen a b u v) ≡ link.Refused NoRoom → ⊥
@@ -579,7 +579,7 @@ link-space-if {m} {M} f false a b =
         let done : prepare m (slotOf (M .node) (w .place)) (w .place .side) ≡ ready m₁ x o = (λ i. prepare m (w .slot i) (w .side i)) ∙ u in
         let r = prepare-law f (w .place) (w .isSeen) m₁ x o done in
         second d x o e (prepareWorks m a d) (prepareWorks m₁ b e) (r .0) (room-is (s .1) (r .1 .fine .holds)) (prepare m₁ b e)
-        (prepare-seen-space (r .1 .fine) b k e (seen-still f (r .1 .fine) (r .1 .blocks) b k e q))
+        (prepare-seen-space (r .1 .fine) b k e (still-seen f (r .1 .fine) (r .1 .blocks) b k e q))
 
     go : (s : Port) → seen m a ≡ s → (t : Port) → seen m b ≡ t → Spaced m M (linkSeenWorks m a b s t) (linkSeen m a b s t .answer ≡ link.Refused NoRoom) (linkSeen m a b s t .graph)
     go dead p t q = idle (linkSeen m a b dead t) refl (λ e. zero-is-not-one (cc))
@@ -729,14 +729,19 @@ module _ {m : MultiPortGraph} {M : Model} (f : Fine m M) where
   no-work : {refused : Type 0} {m′ : MultiPortGraph} → (refused → ⊥) → HasRoom (m′ .graph) (afterWorks (roomOf M) []) → Spaced m M [] refused m′
   no-work never h = spaced-done never (fits (f .good)) h
 
+  -- a node that goes lengthens nothing
+  gone-fits : (c : ℕ) → overflows (roomOf M) (goneWorks c (metaAt (m .graph) c)) ≡ false
+  unfolding afterWorks
+  gone-fits c =
+      overflows-at-end (roomOf M) (goneWorks c (metaAt (m .graph) c))
+      ∙ (gone-lengthens-nothing (roomOf M) c (metaAt (m .graph) c) ∙ (sym (overflows-at-end (roomOf M) []) ∙ fits (f .good)))
+
   pub cut-fits : (p : ℕ) → overflows (roomOf M) (cutWorks m p) ≡ false
-  unfolding cutWorks afterWorks
+  unfolding cutWorks
   cut-fits p = go (isSplit m p)
     where
       go : (b : Bool) → overflows (roomOf M) (cond b (goneWorks (copyNode m p) (metaAt (m .graph) (copyNode m p))) []) ≡ false
-      go true =
-          overflows-at-end (roomOf M) (goneWorks (copyNode m p) (metaAt (m .graph) (copyNode m p)))
-          ∙ (gone-lengthens-nothing (roomOf M) (copyNode m p) (metaAt (m .graph) (copyNode m p)) ∙ (sym (overflows-at-end (roomOf M) []) ∙ fits (f .good)))
+      go true = gone-fits (copyNode m p)
       go false = fits (f .good)
 
 pub unsplit-room : (m : MultiPortGraph) {r : Room} → HasRoom (m .graph) r → (p : ℕ) → HasRoom (unsplit m p .graph) (afterWorks r (cutWorks m p))
@@ -750,6 +755,10 @@ unsplit-room m {r} h p = go (isSplit m p)
 cuts-nothing : (m : MultiPortGraph) (p : ℕ) → isSplit m p ≡ false → cutWorks m p ≡ []
 unfolding cutWorks
 cuts-nothing m p e = rw e
+
+tidies-nothing : (m : MultiPortGraph) (p : ℕ) (d : Direction) → isSplit m p ≡ false → tidyWorks m p d ≡ []
+unfolding tidyWorks
+tidies-nothing m p d e = rw e
 
 module _ {m : MultiPortGraph} {M : Model} (f : Fine m M) where
   pub cut-space : (p : ℕ) → Spaced m M (cutSeenWorks m p (seen m p)) (cutPort m p .answer ≡ cutting.Refused NoRoom) (cutPort m p .graph)
@@ -796,6 +805,77 @@ module _ {m : MultiPortGraph} {M : Model} (f : Fine m M) where
       offset : (b : Bool) → Spaced m M [] (cond b (cutSubSeen m p o (seen m p)) (cutRefused m BadOffset) .answer ≡ cutting.Refused NoRoom) (cond b (cutSubSeen m p o (seen m p)) (cutRefused m BadOffset) .graph)
       offset true = port (seen m p)
       offset false = no-work f (λ e. zero-is-not-one (cc)) (own-room f)
+
+  -- tidying takes nothing: a node that is left with fewer subports keeps its block
+  drop-keeps-room : (c : ℕ) (k : NodeMeta) → M .node c ≡ live k → (d : Direction) (n : ℕ) → DropWithin (m .graph) c k (leftIn d n) (leftOut d n) → HasRoom (dropSubports m c d n .graph) (roomOf M)
+  unfolding dropSubports recounted
+  drop-keeps-room c k here d n (no-change e w) =
+      subst (λ (v : PortGraph). HasRoom v (roomOf M)) (sym w) (record { model = M; good = f .good; holds = f .holds; is = refl })
+  drop-keeps-room c k here d n (in-block some few e w) =
+      subst (λ (v : PortGraph). HasRoom v (roomOf M)) (sym w)
+      (record {
+        model = resizeModel M c k (leftIn d n) (leftOut d n);
+        good = good-resize (f .good) c k here (leftIn d n) (leftOut d n) (omega arith);
+        holds = inside-holds (f .good) (f .holds) c k here (leftIn d n) (leftOut d n) (omega arith);
+        is = refl;
+      })
+
+  direct-room : (p : ℕ) (d : Direction) {r : Room} → HasRoom (unsplit m p .graph) r → HasRoom (linkDirectly m p d .graph) r
+  unfolding linkDirectly
+  direct-room p d {r} h = go (hasLink (m .graph) (subportAt m p d 0))
+    where
+      go : (b : Bool) → HasRoom (cond b (withGraph (unsplit m p) (linkPorts (unsplit m p .graph) p (farPort (m .graph) (subportAt m p d 0)) .graph)) (unsplit m p) .graph) r
+      go true = link-keeps-room h p (farPort (m .graph) (subportAt m p d 0))
+      go false = h
+
+  tidied-room : (x : model.InnerPlace) → Seen m M x → isSplit m (slotOf (M .node) x) ≡ true →
+      (overflows (roomOf M) (tidyWorks m (slotOf (M .node) x) (x .side)) ≡ false)
+      × HasRoom (tidied m (slotOf (M .node) x) (x .side) .graph) (afterWorks (roomOf M) (tidyWorks m (slotOf (M .node) x) (x .side)))
+  unfolding tidied tidyWorks afterWorks cutWorks
+  tidied-room x sx s = rw s (go (ltb 1 (subportsLeft m (slotOf (M .node) x) (x .side))) refl)
+    where
+      h : Hangs m M x
+      h = split-has-copy f x sx s
+
+      room : HasRoom (m .graph) (roomOf M)
+      room = record { model = M; good = f .good; holds = f .holds; is = refl }
+
+      go : (b : Bool) → ltb 1 (subportsLeft m (slotOf (M .node) x) (x .side)) ≡ b →
+          (overflows (roomOf M) (cond b [] (goneWorks (copyNode m (slotOf (M .node) x)) (metaAt (m .graph) (copyNode m (slotOf (M .node) x))))) ≡ false)
+          × HasRoom (cond b (dropSubports m (copyNode m (slotOf (M .node) x)) (x .side) (subportsLeft m (slotOf (M .node) x) (x .side))) (linkDirectly m (slotOf (M .node) x) (x .side)) .graph)
+          (afterWorks (roomOf M) (cond b [] (goneWorks (copyNode m (slotOf (M .node) x)) (metaAt (m .graph) (copyNode m (slotOf (M .node) x))))))
+      go true e =
+          let k = f .copy (h .copy) (h .isCopy) in
+          let c : h .copy ≡ copyNode m (slotOf (M .node) x) = sym (h .copyIs) in (
+            fits (f .good),
+            subst (λ (n : ℕ). HasRoom (dropSubports m n (x .side) (subportsLeft m (slotOf (M .node) x) (x .side)) .graph) (roomOf M)) c
+                (drop-keeps-room (h .copy) (k .meta) (k .here) (x .side) (subportsLeft m (slotOf (M .node) x) (x .side)) (left-within f x sx h (ltb-true 1 (subportsLeft m (slotOf (M .node) x) (x .side)) e))),
+          )
+      go false e = (
+        gone-fits f (copyNode m (slotOf (M .node) x)),
+        direct-room (slotOf (M .node) x) (x .side)
+            (subst (λ (l : List Work). HasRoom (unsplit m (slotOf (M .node) x) .graph) (afterWorks (roomOf M) l))
+            (ap (λ (b : Bool). cond b (goneWorks (copyNode m (slotOf (M .node) x)) (metaAt (m .graph) (copyNode m (slotOf (M .node) x)))) []) s)
+            (unsplit-room m room (slotOf (M .node) x))),
+      )
+
+  pub tidy-space : (p : ℕ) → Spaced m M (tidySeenWorks m p (seen m p)) (tidyPort m p .answer ≡ tidying.Refused NoRoom) (tidyPort m p .graph)
+  tidy-space p = subst (λ (v : PortTidied). Spaced m M (tidySeenWorks m p (seen m p)) (v .answer ≡ tidying.Refused NoRoom) (v .graph)) (sym (tidy-cases m p)) (go (seen m p) refl)
+    where
+      marks : (n : ℕ) (d : Direction) → BlockPort m M p n d → (b : Bool) → isSplit m p ≡ b →
+          (overflows (roomOf M) (tidyWorks m p d) ≡ false) × HasRoom (cond b (tidied m p d) m .graph) (afterWorks (roomOf M) (tidyWorks m p d))
+      marks n d b true e =
+          transport (λ i. (overflows (roomOf M) (tidyWorks m (b .slot i) (b .side i)) ≡ false) × HasRoom (tidied m (b .slot i) (b .side i) .graph) (afterWorks (roomOf M) (tidyWorks m (b .slot i) (b .side i))))
+          (tidied-room (b .place) (b .isSeen) (ap (isSplit m) (b .slot) ∙ e))
+      marks n d b false e =
+          subst (λ (l : List Work). (overflows (roomOf M) l ≡ false) × HasRoom (m .graph) (afterWorks (roomOf M) l)) (sym (tidies-nothing m p d e)) (fits (f .good), own-room f)
+
+      go : (s : Port) → seen m p ≡ s → Spaced m M (tidySeenWorks m p s) (tidySeen m p s .answer ≡ tidying.Refused NoRoom) (tidySeen m p s .graph)
+      go dead e = no-work f (λ q. zero-is-not-one (cc)) (own-room f)
+      go hidden e = no-work f (λ q. zero-is-not-one (cc)) (own-room f)
+      go (visible n d) e =
+          let r = marks n d (block-seen f p n d e) (isSplit m p) refl in
+          spaced-done (λ q. zero-is-not-one (cc)) (r .0) (r .1)
 
   -- leaving no stub: nothing is taken where 7, 8, 18, 11 or 12 is given
   link-clean-space-if : (taken : Bool) (a b : ℕ) → Spaced m M (cond taken [] (linkCleanSeenWorks m a b (seen m a) (seen m b)))

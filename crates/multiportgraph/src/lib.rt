@@ -29,5 +29,6 @@ pub mod reads;
 pub mod scans;
 pub mod starts;
 pub mod subports;
+pub mod tidy;
 pub mod walks;
 pub mod wires;

@@ -129,6 +129,16 @@ pub struct PortUnlinked {
     pub answer: CutAnswer,
 }
 
+pub enum TidyAnswer {
+    Tidied,
+    Refused(Refusal),
+}
+
+pub struct PortTidied {
+    pub graph: MultiPortGraph,
+    pub answer: TidyAnswer,
+}
+
 // A wire as a walk gives it: the two subports that are linked, and where the second one stands.
 pub struct SubportLink {
     pub from: SubportIndex,

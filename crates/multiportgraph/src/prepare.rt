@@ -29,7 +29,7 @@ ghost use Rattle.multiportgraph.specs.HiddenNodes.{split, grow, prepare,
 ghost use Rattle.multiportgraph.specs.Presumed.{OnBlock, LinkedPort, SplitPort};
 
 // A move list that is long enough for every node.
-const MOVES: usize = 3 * NODE_PORTS;
+pub(crate) const MOVES: usize = 3 * NODE_PORTS;
 
 // A prepared end: the graph, the inner port and its offset; or, where there is no room, the graph as it was.
 pub struct Prepared {

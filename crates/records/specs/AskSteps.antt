@@ -2,13 +2,14 @@
 use mathlib.Core.Path.{_≡_, refl, sym, ap, subst, _∙_}
 use mathlib.Core.List.{List, [], _∷_}
 use Prim.Native.Nat.{ℕ, _<_}
-use Rattle.multiportgraph.specs.Calls.{setCounts, subportLink, cutPort, cutSub, visibleNodes, visiblePorts, visibleLinks}
-use Rattle.theorems.specs.Book.{setCall, cutCall, cutSubCall}
+use Rattle.multiportgraph.specs.Calls.{setCounts, subportLink, cutPort, cutSub, visibleNodes, visiblePorts, visibleLinks, tidyPort}
+use Rattle.theorems.specs.Book.{setCall, cutCall, cutSubCall, tidyCall}
 use Rattle.multiportgraph.specs.Inner.{MultiWf}
 use Rattle.theorems.specs.CallLaws.{empty-kept, step-kept}
 use Rattle.multiportgraph.specs.declared.multiportgraph.MultiPortGraph.{MultiPortGraph}
 use Rattle.multiportgraph.specs.declared.multiportgraph.PortsSet.{PortsSet}
 use Rattle.multiportgraph.specs.declared.multiportgraph.PortUnlinked.{PortUnlinked}
+use Rattle.multiportgraph.specs.declared.multiportgraph.PortTidied.{PortTidied}
 use Rattle.multiportgraph.specs.declared.multiportgraph.SetAnswer.{SetAnswer}
 use Rattle.multiportgraph.specs.declared.multiportgraph.EndAnswer.{EndAnswer}
 use Rattle.records.specs.Run.{Asked, call, linkOf, counts, refused, after, numbers, five, Answered}
@@ -51,6 +52,9 @@ cut-wf m p r w e = rw e (step-kept m (cutCall p) w)
 
 pub cut-sub-wf : (m : MultiPortGraph) (p o : ℕ) (r : PortUnlinked) → MultiWf m → r ≡ cutSub m p o → MultiWf (r .graph)
 cut-sub-wf m p o r w e = rw e (step-kept m (cutSubCall p o) w)
+
+pub tidy-wf : (m : MultiPortGraph) (p : ℕ) (r : PortTidied) → MultiWf m → r ≡ tidyPort m p → MultiWf (r .graph)
+tidy-wf m p r w e = rw e (step-kept m (tidyCall p) w)
 
 -- the event count of a resize fits a word
 pub set-fits : (m : MultiPortGraph) (n i o room : ℕ) {a : SetAnswer} → a ≡ setCounts m n i o room .answer → room < 4294967296 → EventsFit a

@@ -25,6 +25,7 @@ use Rattle.multiportgraph.specs.declared.multiportgraph.SetAnswer.the-variants 
 use Rattle.multiportgraph.specs.declared.multiportgraph.LinkAnswer.the-variants as link
 use Rattle.multiportgraph.specs.declared.multiportgraph.CutAnswer.{CutAnswer}
 use Rattle.multiportgraph.specs.declared.multiportgraph.CutAnswer.the-variants as cutting
+use Rattle.multiportgraph.specs.declared.multiportgraph.TidyAnswer.the-variants as tidying
 use Rattle.records.specs.Words.{Request}
 use Rattle.records.specs.Run.{Asked, call, linkOf, counts, refused, allZero, goodOffsets, asked, askedBy, withoutPlace, recorded, numbers, callsOf}
 use Rattle.multiportgraph.specs.HiddenNodes.{enough}
@@ -72,6 +73,8 @@ answer-six (book.linkSubCall p o q r) (link.Linked s t) h = absurd (omega arith)
 answer-six (book.linkSubCall p o q r) (link.Refused z) h = ap link.Refused (refusal-six z h)
 answer-six (book.cutCall p) v h = cut-six v h
 answer-six (book.cutSubCall p o) v h = cut-six v h
+answer-six (book.tidyCall p) tidying.Tidied h = absurd (omega arith)
+answer-six (book.tidyCall p) (tidying.Refused r) h = ap tidying.Refused (refusal-six r h)
 
 -- only a resize gives it, and only with a shorter move list
 abbrev Roomy : Call → Type 0
@@ -83,6 +86,7 @@ Roomy (book.linkCleanCall a b) = Unit {0}
 Roomy (book.linkSubCall p o q r) = Unit {0}
 Roomy (book.cutCall p) = Unit {0}
 Roomy (book.cutSubCall p o) = Unit {0}
+Roomy (book.tidyCall p) = Unit {0}
 
 module _ {m : MultiPortGraph} {M : Model} (f : Fine m M) where
   add-never : (i o : ℕ) (r : Refusal) → AddRefused M i o r → r ≡ MovesTooShort → ⊥
@@ -154,6 +158,7 @@ module _ {m : MultiPortGraph} {M : Model} (f : Fine m M) where
   never (book.linkSubCall p o q r) z h = link-sub-never p o q r MovesTooShort h refl
   never (book.cutCall p) z h = cut-never p MovesTooShort h refl
   never (book.cutSubCall p o) z h = sub-never p o MovesTooShort h refl
+  never (book.tidyCall p) z h = cut-never p MovesTooShort h refl
 
 -- what a request asks has room
 abbrev AskedRoomy : Asked → Type 0

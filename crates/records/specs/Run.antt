@@ -6,7 +6,7 @@ use Prim.Native.Nat.{ℕ, _%_}
 use lib.Dec.{eqb}
 use lib.ListN.{getD, length, take}
 use Rattle.multiportgraph.specs.Calls.{subportLink, visibleNodes, visiblePorts, visibleLinks}
-use Rattle.theorems.specs.Book.{Call, addCall, removeCall, setCall, linkCall, linkCleanCall, linkSubCall, cutCall, cutSubCall}
+use Rattle.theorems.specs.Book.{Call, addCall, removeCall, setCall, linkCall, linkCleanCall, linkSubCall, cutCall, cutSubCall, tidyCall}
 use Rattle.theorems.specs.History.{step, numbersOf}
 use Rattle.multiportgraph.specs.Inner.{MultiWf}
 use Rattle.multiportgraph.specs.declared.multiportgraph.MultiPortGraph.{MultiPortGraph}
@@ -79,6 +79,7 @@ recorded (linkCleanCall a b) l = l
 recorded (linkSubCall p o q r) l = l
 recorded (cutCall p) l = withoutPlace l
 recorded (cutSubCall p o) l = withoutPlace l
+recorded (tidyCall p) l = l
 
 -- 0 or the refusal, then values
 abbrev pub numbers : MultiPortGraph → Asked → List ℕ

@@ -43,6 +43,7 @@ number-recorded (book.linkCleanCall a b) v = first-is (numbersOf (book.linkClean
 number-recorded (book.linkSubCall p o q r) v = first-is (numbersOf (book.linkSubCall p o q r) v)
 number-recorded (book.cutCall p) v = first-kept (numbersOf (book.cutCall p) v)
 number-recorded (book.cutSubCall p o) v = first-kept (numbersOf (book.cutSubCall p o) v)
+number-recorded (book.tidyCall p) v = first-is (numbersOf (book.tidyCall p) v)
 
 -- asking for a subport's link is not refused with it
 module _ {m : MultiPortGraph} {M : Model} (f : Fine m M) (p o : ℕ) where

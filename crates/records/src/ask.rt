@@ -12,6 +12,7 @@ use crate::requests::Ask;
 use crate::requests::MOVES;
 use crate::requests::ask_of;
 use multiportgraph::multiportgraph::MultiPortGraph;
+use multiportgraph::multiportgraph::PortTidied;
 use multiportgraph::multiportgraph::PortUnlinked;
 use multiportgraph::multiportgraph::PortsSet;
 use multiportgraph::multiportgraph::Release;
@@ -20,7 +21,7 @@ use portgraph::index::NodeIndex;
 use portgraph::index::PortIndex;
 ghost use mathlib.Core.Path.{_≡_};
 ghost use lib.ListN.{length};
-ghost use Rattle.multiportgraph.specs.Calls.{setCounts, movesTold, cutPort, cutSub};
+ghost use Rattle.multiportgraph.specs.Calls.{setCounts, movesTold, cutPort, cutSub, tidyPort};
 ghost use Rattle.theorems.specs.Book.{linkCleanCall, setCall};
 ghost use Rattle.multiportgraph.specs.Inner.{MultiWf};
 ghost use Rattle.records.specs.Run.{call, askedBy, Answered};
@@ -74,6 +75,14 @@ pub fn cut_subport(graph: MultiPortGraph, port: u32, offset: u16) -> PortUnlinke
         port: PortIndex(port),
         subport_offset: offset,
     })
+}
+
+// Tidies a port; no request asks for this.
+pub fn tidy_port(graph: MultiPortGraph, port: u32) -> PortTidied
+    requires { ⌜ MultiWf graph ⌝ }
+    ensures { λ r. ⌜ (r ≡ tidyPort graph port) × MultiWf (r .graph) ⌝ }
+{
+    graph.tidy(PortIndex(port))
 }
 
 // Links two ports and leaves no stub; no request asks for this.

@@ -1,21 +1,28 @@
--- 01's bench wiring, cases A to K, as one table with one claim; and smallest inputs of resizes, of fan-out and of wires into an input.
+-- 01's bench wiring, cases A to K, as one table with one claim; and smallest inputs of resizes, of fan-out, of wires into an input and of tidies.
 use mathlib.Core.Path.{_≡_, refl}
 use mathlib.Core.List.{List, [], _∷_, _++_, flatMap}
-use Prim.Native.Nat.{ℕ, _+_}
+use Prim.Native.Nat.{ℕ, suc, _+_}
 use lib.ListN.{length, replicate}
 use mathlib.Core.Bool.{cond}
 use Rattle.portgraph.specs.Limits.{noPort}
+use Rattle.portgraph.specs.Lookups.{node#}
+use Rattle.portgraph.specs.declared.iter.Sides.the-variants.{Both}
 use Rattle.portgraph.specs.declared.direction.Direction.the-variants.{Incoming, Outgoing}
 use Rattle.multiportgraph.specs.Reading.{isSplit}
 use Rattle.multiportgraph.specs.Calls.{subportLink, visibleNodes, visiblePorts, visibleLinks, movesTold}
-use Rattle.multiportgraph.specs.Wires.{subportsOfSide, wiresWalked}
+use Rattle.multiportgraph.specs.Wires.{subportsOfSide, stepWires, wiresWalked}
+use Rattle.multiportgraph.specs.Walks.{stepSubports}
 use Rattle.multiportgraph.specs.Lookups.{portFanOut, nodeFanOut, countNumbers}
-use Rattle.theorems.specs.Book.{Call, addCall, removeCall, setCall, linkCall, linkCleanCall, linkSubCall, cutCall, cutSubCall, AnswerOf}
+use Rattle.theorems.specs.Book.{Call, addCall, removeCall, setCall, linkCall, linkCleanCall, linkSubCall, cutCall, cutSubCall, AnswerOf, tidyCall}
 use Rattle.theorems.specs.History.{step, numbersOf}
 use Rattle.multiportgraph.specs.declared.multiportgraph.MultiPortGraph.{MultiPortGraph}
 use Rattle.multiportgraph.specs.declared.multiportgraph.Release.{Release}
 use Rattle.multiportgraph.specs.declared.multiportgraph.Release.the-variants.{One, Two}
 use Rattle.multiportgraph.specs.declared.multiportgraph.SubportIndex.{SubportIndex}
+use Rattle.multiportgraph.specs.declared.iter.WiresStep.{WiresStep}
+use Rattle.multiportgraph.specs.declared.iter.WiresStep.the-variants as wires-step
+use Rattle.multiportgraph.specs.declared.iter.NodeSubportsStep.{NodeSubportsStep}
+use Rattle.multiportgraph.specs.declared.iter.NodeSubportsStep.the-variants as subports-step
 use Rattle.multiportgraph.specs.Graph.{emptyGraph}
 use Rattle.multiportgraph.specs.Answers.{addNumbers, removeNumbers, setNumbers, linkNumbers, cutNumbers}
 
@@ -37,9 +44,21 @@ pub data Ask : Type 0 where
   blockFanOut : ℕ → Ask
   -- the move list of a resize, from zeros of this length
   moves : ℕ → ℕ → ℕ → ℕ → Ask
+  -- a step of a cursor that holds a port and an offset: over all wires, and over the subports of a node
+  wireBeyond : ℕ → ℕ → Ask
+  subportBeyond : ℕ → ℕ → ℕ → Ask
 
 abbrev subportNumbers : SubportIndex → List ℕ
 subportNumbers s = s .port .0 ∷ s .«subport_offset» ∷ []
+
+-- an item that a step gives, or nothing at the end
+abbrev wireNumbers : WiresStep → List ℕ
+wireNumbers (wires-step.Item w c) = subportNumbers (w .from) ++ subportNumbers (w .to)
+wireNumbers wires-step.End = []
+
+abbrev stepNumbers : NodeSubportsStep → List ℕ
+stepNumbers (subports-step.Item s c) = subportNumbers s
+stepNumbers subports-step.End = []
 
 abbrev looked : MultiPortGraph → Ask → List ℕ
 looked m (call c) = numbersOf c (step m c .answer)
@@ -51,6 +70,8 @@ looked m (mark p) = cond (isSplit m p) 1 0 ∷ []
 looked m (fanOut p) = countNumbers (portFanOut m p)
 looked m (blockFanOut n) = countNumbers (nodeFanOut m n)
 looked m (moves n i o k) = movesTold m n i o (replicate k 0)
+looked m (wireBeyond p o) = wireNumbers (stepWires m (record { held = suc p; offset = o }))
+looked m (subportBeyond n p o) = stepNumbers (stepSubports m (record { node = node# n; sides = Both; held = suc p; offset = o }))
 
 abbrev after : MultiPortGraph → Ask → MultiPortGraph
 after m (call c) = step m c .graph
@@ -62,6 +83,8 @@ after m (mark p) = m
 after m (fanOut p) = m
 after m (blockFanOut n) = m
 after m (moves n i o k) = m
+after m (wireBeyond p o) = m
+after m (subportBeyond n p o) = m
 
 unfoldable pub asked : MultiPortGraph → List Ask → List (List ℕ)
 asked m [] = []
@@ -205,11 +228,49 @@ inputLines release =
     ∷ ask (stateA ++ (call (cutCall 1) ∷ call (linkCall 0 1) ∷ fanOut 1 ∷ [])) (numbersA ++ ((0 ∷ 1 ∷ 0 ∷ 0 ∷ 0 ∷ 1 ∷ 0 ∷ []) ∷ (0 ∷ 0 ∷ 0 ∷ 1 ∷ 0 ∷ []) ∷ (0 ∷ 1 ∷ []) ∷ []))
     ∷ []
 
+-- Tidies, smallest inputs: what the theorems on tidies say of every history, on a few.
+abbrev pub tidyLines : List Line
+tidyLines =
+    -- an unsplit port; no live port; a hidden node's
+    ask (stateA ++ (call (tidyCall 0) ∷ counts ∷ call (tidyCall 9) ∷ [])) (numbersA ++ ((0 ∷ []) ∷ (2 ∷ 3 ∷ 1 ∷ []) ∷ (7 ∷ 9 ∷ []) ∷ []))
+    ∷ ask (stateB ++ (call (tidyCall 4) ∷ [])) (numbersB ++ ((8 ∷ 4 ∷ []) ∷ []))
+    -- offset 1 is wired: the hidden node stays, with offset 0 empty
+    ∷ ask (stateB ++ (call (cutSubCall 0 0) ∷ call (tidyCall 0) ∷ mark 0 ∷ listing 0 ∷ linkOf 0 1 ∷ []))
+    (numbersB ++ ((0 ∷ 1 ∷ 1 ∷ 0 ∷ 1 ∷ 0 ∷ 0 ∷ []) ∷ (0 ∷ []) ∷ (1 ∷ []) ∷ (0 ∷ 0 ∷ 0 ∷ 1 ∷ []) ∷ (0 ∷ 1 ∷ 2 ∷ 0 ∷ 1 ∷ 0 ∷ 1 ∷ []) ∷ []))
+    -- offset 0 alone: the wire is linked to the port, and every offset of the port is that wire's end
+    ∷ ask (stateB ++ (call (cutSubCall 0 1) ∷ call (tidyCall 0) ∷ mark 0 ∷ listing 0 ∷ linkOf 0 0 ∷ wires ∷ call (cutSubCall 0 1) ∷ wires ∷ []))
+    (numbersB ++ ((0 ∷ 1 ∷ 2 ∷ 0 ∷ 1 ∷ 0 ∷ 1 ∷ []) ∷ (0 ∷ []) ∷ (0 ∷ []) ∷ (0 ∷ 0 ∷ []) ∷ (0 ∷ 1 ∷ 1 ∷ 0 ∷ 1 ∷ 0 ∷ 0 ∷ []) ∷ (1 ∷ []) ∷ (0 ∷ 1 ∷ 1 ∷ 0 ∷ 1 ∷ 0 ∷ 0 ∷ []) ∷ (0 ∷ []) ∷ []))
+    -- cuts of a whole port answer otherwise than they would have
+    ∷ ask (stateB ++ (call (cutSubCall 0 1) ∷ call (tidyCall 0) ∷ call (cutCall 1) ∷ []))
+    (numbersB ++ ((0 ∷ 1 ∷ 2 ∷ 0 ∷ 1 ∷ 0 ∷ 1 ∷ []) ∷ (0 ∷ []) ∷ (0 ∷ 1 ∷ 0 ∷ 0 ∷ 0 ∷ 1 ∷ 0 ∷ []) ∷ []))
+    -- no wire: the hidden node goes, and an add of three ports takes its slots
+    ∷ ask (stateB ++ (call (cutSubCall 0 0) ∷ call (cutSubCall 0 1) ∷ call (tidyCall 0) ∷ mark 0 ∷ counts ∷ call (addCall 1 2) ∷ []))
+    (numbersB ++ ((0 ∷ 1 ∷ 1 ∷ 0 ∷ 1 ∷ 0 ∷ 0 ∷ []) ∷ (0 ∷ 1 ∷ 2 ∷ 0 ∷ 1 ∷ 0 ∷ 1 ∷ []) ∷ (0 ∷ []) ∷ (0 ∷ []) ∷ (2 ∷ 3 ∷ 0 ∷ []) ∷ (0 ∷ 2 ∷ 3 ∷ []) ∷ []))
+    -- a split input with three subports, of which the last is cut: its copy port moves from slot 10 to slot 9
+    ∷ ask
+    (call (addCall 1 0) ∷ call (addCall 0 3) ∷ call (linkCall 1 0) ∷ call (linkCall 2 0) ∷ call (linkCall 3 0) ∷ call (cutSubCall 0 2) ∷ moves 0 0 0 3
+    ∷ call (tidyCall 0) ∷ moves 0 0 0 3 ∷ counts ∷ listing 0 ∷ wires ∷ [])
+    ((0 ∷ 0 ∷ 0 ∷ []) ∷ (0 ∷ 1 ∷ 1 ∷ []) ∷ (0 ∷ 1 ∷ 0 ∷ 0 ∷ 0 ∷ []) ∷ (0 ∷ 2 ∷ 0 ∷ 0 ∷ 1 ∷ []) ∷ (0 ∷ 3 ∷ 0 ∷ 0 ∷ 2 ∷ []) ∷ (0 ∷ 1 ∷ 3 ∷ 0 ∷ 1 ∷ 1 ∷ 2 ∷ []) ∷ (0 ∷ 1 ∷ 10 ∷ [])
+    ∷ (0 ∷ []) ∷ (0 ∷ 1 ∷ 9 ∷ []) ∷ (2 ∷ 4 ∷ 2 ∷ []) ∷ (0 ∷ 0 ∷ 0 ∷ 1 ∷ []) ∷ (2 ∷ []) ∷ [])
+    -- cursors from before a tidy: over wires they go on as if nothing had happened, over subports beyond the offset that they hold
+    ∷ ask
+    (call (addCall 0 2) ∷ call (addCall 4 0) ∷ call (linkCall 0 2) ∷ call (linkCall 0 3) ∷ call (linkCall 0 4) ∷ call (linkCall 1 5) ∷ call (cutSubCall 0 2)
+    ∷ wireBeyond 0 0 ∷ wireBeyond 0 1 ∷ wireBeyond 0 2 ∷ subportBeyond 0 0 1
+    ∷ call (tidyCall 0) ∷ wireBeyond 0 0 ∷ wireBeyond 0 1 ∷ wireBeyond 0 2 ∷ subportBeyond 0 0 1 ∷ subportBeyond 0 0 2
+    ∷ call (cutSubCall 0 1) ∷ call (tidyCall 0) ∷ wireBeyond 0 0 ∷ wireBeyond 0 1 ∷ wireBeyond 1 0 ∷ subportBeyond 0 0 0 ∷ subportBeyond 0 0 1 ∷ [])
+    ((0 ∷ 0 ∷ 0 ∷ []) ∷ (0 ∷ 1 ∷ 2 ∷ []) ∷ (0 ∷ 0 ∷ 0 ∷ 2 ∷ 0 ∷ []) ∷ (0 ∷ 0 ∷ 1 ∷ 3 ∷ 0 ∷ []) ∷ (0 ∷ 0 ∷ 2 ∷ 4 ∷ 0 ∷ []) ∷ (0 ∷ 1 ∷ 0 ∷ 5 ∷ 0 ∷ [])
+    ∷ (0 ∷ 1 ∷ 4 ∷ 0 ∷ 1 ∷ 0 ∷ 2 ∷ [])
+    ∷ (0 ∷ 1 ∷ 3 ∷ 0 ∷ []) ∷ (1 ∷ 0 ∷ 5 ∷ 0 ∷ []) ∷ (1 ∷ 0 ∷ 5 ∷ 0 ∷ []) ∷ (0 ∷ 2 ∷ [])
+    ∷ (0 ∷ []) ∷ (0 ∷ 1 ∷ 3 ∷ 0 ∷ []) ∷ (1 ∷ 0 ∷ 5 ∷ 0 ∷ []) ∷ (1 ∷ 0 ∷ 5 ∷ 0 ∷ []) ∷ (1 ∷ 0 ∷ []) ∷ (1 ∷ 0 ∷ [])
+    ∷ (0 ∷ 1 ∷ 3 ∷ 0 ∷ 1 ∷ 0 ∷ 1 ∷ []) ∷ (0 ∷ []) ∷ (1 ∷ 0 ∷ 5 ∷ 0 ∷ []) ∷ (1 ∷ 0 ∷ 5 ∷ 0 ∷ []) ∷ [] ∷ (1 ∷ 0 ∷ []) ∷ (1 ∷ 0 ∷ []) ∷ [])
+    ∷ []
+
 -- every number of every line
 all-tables : (askedAll benchLines ≡ expectedAll benchLines) × (askedAll resizeLines ≡ expectedAll resizeLines) × (askedAll fanOutLines ≡ expectedAll fanOutLines)
     × ((release : Release) → askedUnder release (inputLines release) ≡ expectedAll (inputLines release))
-unfolding asked Rattle.portgraph.specs.Tables.at Rattle.portgraph.specs.Tables.put Rattle.portgraph.specs.Tables.fill Rattle.portgraph.specs.Tables.fillRange Rattle.portgraph.specs.Tables.headAt Rattle.portgraph.specs.Tables.putHead Rattle.portgraph.specs.Tables.ownBlock Rattle.portgraph.specs.Tables.linkBoth Rattle.portgraph.specs.Tables.cutFar Rattle.portgraph.specs.Tables.cut Rattle.portgraph.specs.Tables.cutRange Rattle.portgraph.specs.Tables.linkCount Rattle.portgraph.specs.Tables.cutCount Rattle.portgraph.specs.Tables.relink Rattle.portgraph.specs.Tables.movePort Rattle.portgraph.specs.Tables.moveUp Rattle.portgraph.specs.Tables.moveDown Rattle.portgraph.specs.Tables.shift Rattle.portgraph.specs.Tables.transfer Rattle.portgraph.specs.Tables.chainBlock Rattle.portgraph.specs.Tables.toldLink Rattle.portgraph.specs.Tables.dropEvents Rattle.portgraph.specs.Tables.moveUpEvents Rattle.portgraph.specs.Tables.moveDownEvents Rattle.portgraph.specs.Tables.shiftEvents Rattle.portgraph.specs.Entries.portEntry Rattle.portgraph.specs.Entries.setPrev Rattle.portgraph.specs.Calls.newGraph Rattle.portgraph.specs.Calls.findSlotUnder Rattle.portgraph.specs.Calls.findBlockUnder Rattle.portgraph.specs.Calls.restOf Rattle.portgraph.specs.Calls.grown Rattle.portgraph.specs.Calls.slotAfter Rattle.portgraph.specs.Calls.placeNode Rattle.portgraph.specs.Calls.addNodeUnder Rattle.portgraph.specs.Calls.freeNode Rattle.portgraph.specs.Calls.removeNode Rattle.portgraph.specs.Calls.linkPorts Rattle.portgraph.specs.Calls.unlinkPort Rattle.portgraph.specs.Resize.doubled Rattle.portgraph.specs.Resize.roundUp Rattle.portgraph.specs.Resize.sameCounts Rattle.portgraph.specs.Resize.fitsInside Rattle.portgraph.specs.Resize.planOfUnder Rattle.portgraph.specs.Resize.dropIncoming Rattle.portgraph.specs.Resize.dropLinks Rattle.portgraph.specs.Resize.dropCount Rattle.portgraph.specs.Resize.dropTold Rattle.portgraph.specs.Resize.insideLinks Rattle.portgraph.specs.Resize.resizeInside Rattle.portgraph.specs.Resize.insideTold Rattle.portgraph.specs.Resize.anewLinks Rattle.portgraph.specs.Resize.resizeAnew Rattle.portgraph.specs.Resize.anewTold Rattle.portgraph.specs.Resize.setNumPortsUnder Rattle.portgraph.specs.Resize.movesAfterUnder Rattle.portgraph.specs.Meaning.upd Rattle.portgraph.specs.Meaning.samePlace Rattle.portgraph.specs.Meaning.dropJoin Rattle.portgraph.specs.Meaning.linkJoin Rattle.portgraph.specs.Meaning.handOver Rattle.multiportgraph.specs.Reading.farPort Rattle.multiportgraph.specs.Reading.hasLink Rattle.multiportgraph.specs.Reading.ownerOf Rattle.multiportgraph.specs.Reading.portOf Rattle.multiportgraph.specs.Reading.positionOf Rattle.multiportgraph.specs.Reading.isHidden Rattle.multiportgraph.specs.Reading.isSplit Rattle.multiportgraph.specs.Reading.seen Rattle.multiportgraph.specs.Reading.copyNode Rattle.multiportgraph.specs.Reading.subports Rattle.multiportgraph.specs.Reading.subportAt Rattle.multiportgraph.specs.Reading.endAt Rattle.multiportgraph.specs.Reading.asRead Rattle.multiportgraph.specs.Reading.copySide Rattle.multiportgraph.specs.Reading.mainPort Rattle.multiportgraph.specs.Reading.subportOf Rattle.multiportgraph.specs.Graph.emptyGraph Rattle.multiportgraph.specs.Calls.addBlockUnder Rattle.multiportgraph.specs.HiddenNodes.removeCopy Rattle.multiportgraph.specs.HiddenNodes.unsplit Rattle.multiportgraph.specs.HiddenNodes.unsplitRange Rattle.multiportgraph.specs.Calls.dropBlock Rattle.multiportgraph.specs.Calls.removeBlock Rattle.multiportgraph.specs.HiddenNodes.layRange Rattle.multiportgraph.specs.HiddenNodes.layMarks Rattle.multiportgraph.specs.HiddenNodes.recounted Rattle.multiportgraph.specs.HiddenNodes.copiesIn Rattle.multiportgraph.specs.HiddenNodes.copiesDropped Rattle.multiportgraph.specs.HiddenNodes.removeLone Rattle.multiportgraph.specs.HiddenNodes.removeAll Rattle.multiportgraph.specs.Calls.setCountsUnder Rattle.multiportgraph.specs.Calls.movesToldUnder Rattle.multiportgraph.specs.HiddenNodes.splitGraph Rattle.multiportgraph.specs.HiddenNodes.splitPort Rattle.multiportgraph.specs.HiddenNodes.splitUnder Rattle.multiportgraph.specs.HiddenNodes.lowestFree Rattle.multiportgraph.specs.HiddenNodes.growUnder Rattle.multiportgraph.specs.HiddenNodes.reuseUnder Rattle.multiportgraph.specs.HiddenNodes.prepareUnder Rattle.multiportgraph.specs.Calls.linkPairIf Rattle.multiportgraph.specs.Calls.linkCleanIf Rattle.multiportgraph.specs.Calls.linkSubIf Rattle.multiportgraph.specs.Refusals.wiredInput Rattle.multiportgraph.specs.Refusals.inputTaken Rattle.multiportgraph.specs.Calls.cutPort Rattle.multiportgraph.specs.Calls.cutSub Rattle.multiportgraph.specs.Calls.subportLink Rattle.multiportgraph.specs.Calls.visibleNodes Rattle.multiportgraph.specs.Calls.visiblePorts Rattle.multiportgraph.specs.Calls.visibleLinks Rattle.portgraph.specs.Lists.range mathlib.Core.List.flatMap Rattle.portgraph.specs.Lists.filter Rattle.multiportgraph.specs.Wires.isBlock Rattle.multiportgraph.specs.Wires.blocks Rattle.multiportgraph.specs.Wires.portsOfSide Rattle.multiportgraph.specs.Wires.subportsOfPort Rattle.multiportgraph.specs.Wires.subportsOfSide Rattle.multiportgraph.specs.Wires.wireOf Rattle.multiportgraph.specs.Wires.sideLinks Rattle.multiportgraph.specs.Wires.allWires Rattle.multiportgraph.specs.Wires.isBeyond Rattle.multiportgraph.specs.Wires.wiresBeyond Rattle.multiportgraph.specs.Wires.stepWires Rattle.multiportgraph.specs.Wires.walkWires Rattle.multiportgraph.specs.Reading.placeOf Rattle.multiportgraph.specs.Wires.walked Rattle.multiportgraph.specs.Wires.wiresWalked Rattle.multiportgraph.specs.Lookups.portFanOut Rattle.multiportgraph.specs.Lookups.nodeFanOut Rattle.multiportgraph.specs.Walks.portLinks Rattle.multiportgraph.specs.Walks.fanOut Rattle.multiportgraph.specs.Walks.sumOf Rattle.multiportgraph.specs.Walks.blockFanOut Rattle.multiportgraph.specs.Walks.startAtNode
-all-tables = (refl, refl, refl, inputs)
+    × (askedAll tidyLines ≡ expectedAll tidyLines)
+unfolding asked Rattle.portgraph.specs.Tables.at Rattle.portgraph.specs.Tables.put Rattle.portgraph.specs.Tables.fill Rattle.portgraph.specs.Tables.fillRange Rattle.portgraph.specs.Tables.headAt Rattle.portgraph.specs.Tables.putHead Rattle.portgraph.specs.Tables.ownBlock Rattle.portgraph.specs.Tables.linkBoth Rattle.portgraph.specs.Tables.cutFar Rattle.portgraph.specs.Tables.cut Rattle.portgraph.specs.Tables.cutRange Rattle.portgraph.specs.Tables.linkCount Rattle.portgraph.specs.Tables.cutCount Rattle.portgraph.specs.Tables.relink Rattle.portgraph.specs.Tables.movePort Rattle.portgraph.specs.Tables.moveUp Rattle.portgraph.specs.Tables.moveDown Rattle.portgraph.specs.Tables.shift Rattle.portgraph.specs.Tables.transfer Rattle.portgraph.specs.Tables.chainBlock Rattle.portgraph.specs.Tables.toldLink Rattle.portgraph.specs.Tables.dropEvents Rattle.portgraph.specs.Tables.moveUpEvents Rattle.portgraph.specs.Tables.moveDownEvents Rattle.portgraph.specs.Tables.shiftEvents Rattle.portgraph.specs.Entries.portEntry Rattle.portgraph.specs.Entries.setPrev Rattle.portgraph.specs.Calls.newGraph Rattle.portgraph.specs.Calls.findSlotUnder Rattle.portgraph.specs.Calls.findBlockUnder Rattle.portgraph.specs.Calls.restOf Rattle.portgraph.specs.Calls.grown Rattle.portgraph.specs.Calls.slotAfter Rattle.portgraph.specs.Calls.placeNode Rattle.portgraph.specs.Calls.addNodeUnder Rattle.portgraph.specs.Calls.freeNode Rattle.portgraph.specs.Calls.removeNode Rattle.portgraph.specs.Calls.linkPorts Rattle.portgraph.specs.Calls.unlinkPort Rattle.portgraph.specs.Resize.doubled Rattle.portgraph.specs.Resize.roundUp Rattle.portgraph.specs.Resize.sameCounts Rattle.portgraph.specs.Resize.fitsInside Rattle.portgraph.specs.Resize.planOfUnder Rattle.portgraph.specs.Resize.dropIncoming Rattle.portgraph.specs.Resize.dropLinks Rattle.portgraph.specs.Resize.dropCount Rattle.portgraph.specs.Resize.dropTold Rattle.portgraph.specs.Resize.insideLinks Rattle.portgraph.specs.Resize.resizeInside Rattle.portgraph.specs.Resize.insideTold Rattle.portgraph.specs.Resize.anewLinks Rattle.portgraph.specs.Resize.resizeAnew Rattle.portgraph.specs.Resize.anewTold Rattle.portgraph.specs.Resize.setNumPortsUnder Rattle.portgraph.specs.Resize.movesAfterUnder Rattle.portgraph.specs.Meaning.upd Rattle.portgraph.specs.Meaning.samePlace Rattle.portgraph.specs.Meaning.dropJoin Rattle.portgraph.specs.Meaning.linkJoin Rattle.portgraph.specs.Meaning.handOver Rattle.multiportgraph.specs.Reading.farPort Rattle.multiportgraph.specs.Reading.hasLink Rattle.multiportgraph.specs.Reading.ownerOf Rattle.multiportgraph.specs.Reading.portOf Rattle.multiportgraph.specs.Reading.positionOf Rattle.multiportgraph.specs.Reading.isHidden Rattle.multiportgraph.specs.Reading.isSplit Rattle.multiportgraph.specs.Reading.seen Rattle.multiportgraph.specs.Reading.copyNode Rattle.multiportgraph.specs.Reading.subports Rattle.multiportgraph.specs.Reading.subportAt Rattle.multiportgraph.specs.Reading.endAt Rattle.multiportgraph.specs.Reading.asRead Rattle.multiportgraph.specs.Reading.copySide Rattle.multiportgraph.specs.Reading.mainPort Rattle.multiportgraph.specs.Reading.subportOf Rattle.multiportgraph.specs.Graph.emptyGraph Rattle.multiportgraph.specs.Calls.addBlockUnder Rattle.multiportgraph.specs.HiddenNodes.removeCopy Rattle.multiportgraph.specs.HiddenNodes.unsplit Rattle.multiportgraph.specs.HiddenNodes.unsplitRange Rattle.multiportgraph.specs.Calls.dropBlock Rattle.multiportgraph.specs.Calls.removeBlock Rattle.multiportgraph.specs.HiddenNodes.layRange Rattle.multiportgraph.specs.HiddenNodes.layMarks Rattle.multiportgraph.specs.HiddenNodes.recounted Rattle.multiportgraph.specs.HiddenNodes.copiesIn Rattle.multiportgraph.specs.HiddenNodes.copiesDropped Rattle.multiportgraph.specs.HiddenNodes.removeLone Rattle.multiportgraph.specs.HiddenNodes.removeAll Rattle.multiportgraph.specs.Calls.setCountsUnder Rattle.multiportgraph.specs.Calls.movesToldUnder Rattle.multiportgraph.specs.HiddenNodes.splitGraph Rattle.multiportgraph.specs.HiddenNodes.splitPort Rattle.multiportgraph.specs.HiddenNodes.splitUnder Rattle.multiportgraph.specs.HiddenNodes.lowestFree Rattle.multiportgraph.specs.HiddenNodes.growUnder Rattle.multiportgraph.specs.HiddenNodes.reuseUnder Rattle.multiportgraph.specs.HiddenNodes.prepareUnder Rattle.multiportgraph.specs.Calls.linkPairIf Rattle.multiportgraph.specs.Calls.linkCleanIf Rattle.multiportgraph.specs.Calls.linkSubIf Rattle.multiportgraph.specs.Refusals.wiredInput Rattle.multiportgraph.specs.Refusals.inputTaken Rattle.multiportgraph.specs.Calls.cutPort Rattle.multiportgraph.specs.Calls.cutSub Rattle.multiportgraph.specs.Tidy.linkedUpTo Rattle.multiportgraph.specs.Tidy.subportsLeft Rattle.multiportgraph.specs.Tidy.resizedWithin Rattle.multiportgraph.specs.Tidy.dropSubports Rattle.multiportgraph.specs.Tidy.linkDirectly Rattle.multiportgraph.specs.Tidy.tidied Rattle.multiportgraph.specs.Calls.tidyPort Rattle.multiportgraph.specs.Calls.subportLink Rattle.multiportgraph.specs.Calls.visibleNodes Rattle.multiportgraph.specs.Calls.visiblePorts Rattle.multiportgraph.specs.Calls.visibleLinks Rattle.portgraph.specs.Lists.range mathlib.Core.List.flatMap Rattle.portgraph.specs.Lists.filter Rattle.multiportgraph.specs.Wires.isBlock Rattle.multiportgraph.specs.Wires.blocks Rattle.multiportgraph.specs.Wires.portsOfSide Rattle.multiportgraph.specs.Wires.subportsOfPort Rattle.multiportgraph.specs.Wires.subportsOfSide Rattle.multiportgraph.specs.Wires.wireOf Rattle.multiportgraph.specs.Wires.sideLinks Rattle.multiportgraph.specs.Wires.allWires Rattle.multiportgraph.specs.Wires.isBeyond Rattle.multiportgraph.specs.Wires.wiresBeyond Rattle.multiportgraph.specs.Wires.stepWires Rattle.multiportgraph.specs.Wires.walkWires Rattle.multiportgraph.specs.Reading.placeOf Rattle.multiportgraph.specs.Wires.walked Rattle.multiportgraph.specs.Wires.wiresWalked Rattle.multiportgraph.specs.Lookups.portFanOut Rattle.multiportgraph.specs.Lookups.nodeFanOut Rattle.multiportgraph.specs.Walks.portLinks Rattle.multiportgraph.specs.Walks.fanOut Rattle.multiportgraph.specs.Walks.sumOf Rattle.multiportgraph.specs.Walks.blockFanOut Rattle.multiportgraph.specs.Walks.startAtNode Rattle.multiportgraph.specs.Walks.stepSubports Rattle.multiportgraph.specs.Walks.subportsOf Rattle.multiportgraph.specs.Walks.subportBeyond Rattle.portgraph.specs.Lists.onFirst
+all-tables = (refl, refl, refl, inputs, refl)
   where
     inputs : (release : Release) → askedUnder release (inputLines release) ≡ expectedAll (inputLines release)
     inputs One = refl
@@ -226,3 +287,6 @@ fan-out-table = all-tables .2
 
 pub input-table : (release : Release) → askedUnder release (inputLines release) ≡ expectedAll (inputLines release)
 input-table = all-tables .3
+
+pub tidy-table : askedAll tidyLines ≡ expectedAll tidyLines
+tidy-table = all-tables .4

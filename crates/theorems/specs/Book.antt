@@ -19,6 +19,7 @@ use Rattle.multiportgraph.specs.declared.multiportgraph.LinkAnswer.{LinkAnswer}
 use Rattle.multiportgraph.specs.declared.multiportgraph.LinkAnswer.the-variants as link
 use Rattle.multiportgraph.specs.declared.multiportgraph.CutAnswer.{CutAnswer}
 use Rattle.multiportgraph.specs.declared.multiportgraph.CutAnswer.the-variants as cutting
+use Rattle.multiportgraph.specs.declared.multiportgraph.TidyAnswer.{TidyAnswer}
 use Rattle.multiportgraph.specs.Places.{Spot, nowhere, spot, atSpot, atEnd, touches, wireOfSides, ofNode, ofDropped, Place, Wire}
 
 -- The calls that give back a graph.
@@ -32,6 +33,7 @@ pub data Call : Type 0 where
   linkSubCall : ℕ → ℕ → ℕ → ℕ → Call
   cutCall : ℕ → Call
   cutSubCall : ℕ → ℕ → Call
+  tidyCall : ℕ → Call
 
 -- what a call answers follows from the call
 abbrev pub AnswerOf : Call → Type 0
@@ -43,6 +45,7 @@ AnswerOf (linkCleanCall a b) = LinkAnswer
 AnswerOf (linkSubCall p o q r) = LinkAnswer
 AnswerOf (cutCall p) = CutAnswer
 AnswerOf (cutSubCall p o) = CutAnswer
+AnswerOf (tidyCall p) = TidyAnswer
 
 -- a block with its ports by side and position
 pub record Block : Type 0 where
@@ -160,3 +163,5 @@ bookAnswer B (linkCleanCall a b) x marks ports = bookLink B a b x
 bookAnswer B (linkSubCall p o q r) x marks ports = bookLinkSub B p o q r x marks
 bookAnswer B (cutCall p) x marks ports = bookCut B (atSpot (spotOf (B .blocks) p)) x
 bookAnswer B (cutSubCall p o) x marks ports = bookCut B (atEnd (spotOf (B .blocks) p) (readBy (firstMark marks) o)) x
+-- a tidy is no change
+bookAnswer B (tidyCall p) x marks ports = B

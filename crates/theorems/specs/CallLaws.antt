@@ -18,6 +18,7 @@ use Rattle.multiportgraph.specs.declared.multiportgraph.SetAnswer.the-variants 
 use Rattle.multiportgraph.specs.declared.multiportgraph.LinkAnswer.the-variants as link
 use Rattle.multiportgraph.specs.declared.multiportgraph.CutAnswer.{CutAnswer}
 use Rattle.multiportgraph.specs.declared.multiportgraph.CutAnswer.the-variants as cutting
+use Rattle.multiportgraph.specs.declared.multiportgraph.TidyAnswer.the-variants as tidying
 use Rattle.multiportgraph.specs.declared.multiportgraph.Refusal.{Refusal}
 use Rattle.multiportgraph.specs.declared.multiportgraph.Refusal.the-variants.{NoRoom}
 use Rattle.multiportgraph.specs.Graph.{emptyGraph}
@@ -34,6 +35,7 @@ use Rattle.theorems.specs.RemoveCall.{remove-call}
 use Rattle.theorems.specs.SetCall.{set-call}
 use Rattle.theorems.specs.CutCall.{cut-call}
 use Rattle.theorems.specs.CutSubCall.{cut-sub-call}
+use Rattle.theorems.specs.TidyCall.{tidy-call}
 use Rattle.theorems.specs.LinkCall.{link-call}
 use Rattle.theorems.specs.LinkCleanCall.{link-clean-call}
 use Rattle.theorems.specs.LinkSubCall.{link-sub-call}
@@ -59,6 +61,8 @@ accepted-or-refused (book.linkSubCall p o q t) (link.Linked x y) = inl (x, y, re
 accepted-or-refused (book.linkSubCall p o q t) (link.Refused r) = inr (r, refl)
 accepted-or-refused (book.cutCall p) v = cut-or-refused v
 accepted-or-refused (book.cutSubCall p o) v = cut-or-refused v
+accepted-or-refused (book.tidyCall p) tidying.Tidied = inl refl
+accepted-or-refused (book.tidyCall p) (tidying.Refused r) = inr (r, refl)
 
 module _ {m : MultiPortGraph} {M : Model} (f : Fine m M) where
   pub call-law : (c : Call) → CallLaw m M c
@@ -70,6 +74,7 @@ module _ {m : MultiPortGraph} {M : Model} (f : Fine m M) where
   call-law (book.linkSubCall p o q t) = link-sub-call f p o q t
   call-law (book.cutCall p) = cut-call f p
   call-law (book.cutSubCall p o) = cut-sub-call f p o
+  call-law (book.tidyCall p) = tidy-call f p
 
   -- All calls.
 

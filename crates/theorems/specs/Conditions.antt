@@ -34,6 +34,8 @@ use Rattle.multiportgraph.specs.declared.multiportgraph.LinkAnswer.{LinkAnswer}
 use Rattle.multiportgraph.specs.declared.multiportgraph.LinkAnswer.the-variants as link
 use Rattle.multiportgraph.specs.declared.multiportgraph.CutAnswer.{CutAnswer}
 use Rattle.multiportgraph.specs.declared.multiportgraph.CutAnswer.the-variants as cutting
+use Rattle.multiportgraph.specs.declared.multiportgraph.TidyAnswer.{TidyAnswer}
+use Rattle.multiportgraph.specs.declared.multiportgraph.TidyAnswer.the-variants as tidying
 use Rattle.multiportgraph.specs.HiddenNodes.{ready, full, prepare}
 
 -- Words.
@@ -96,6 +98,7 @@ pub data SetRefused (m : MultiPortGraph) (M : Model) (n incoming outgoing room :
   set-full : incoming + outgoing ≤ nodePorts → (k : NodeMeta) → BlockIs m M n k → 3 * (k .incoming + k .outgoing) ≤ room →
       NoNewBlock M k incoming outgoing → SetRefused m M n incoming outgoing room NoRoom
 
+-- of cutting a port, and of tidying it
 pub data CutRefused (m : MultiPortGraph) (M : Model) (p : ℕ) : Refusal → Type 0 where
   cut-dead : Dead M p → CutRefused m M p (UnknownPort (port# p))
   cut-hidden : OfHidden m M p → CutRefused m M p (HiddenPort (port# p))
@@ -168,6 +171,11 @@ CutSays T (cutting.Found s x) = Unit {0}
 CutSays T cutting.Nothing = Unit {0}
 CutSays T (cutting.Refused r) = T r
 
+-- an answer of a tidy that refuses has the condition listed
+abbrev pub TidySays : (Refusal → Type 0) → TidyAnswer → Type 0
+TidySays T tidying.Tidied = Unit {0}
+TidySays T (tidying.Refused r) = T r
+
 -- Every call.
 
 -- an answer is this refusal
@@ -180,6 +188,7 @@ RefusedBy (book.linkCleanCall a b) v r = v ≡ link.Refused r
 RefusedBy (book.linkSubCall p o q s) v r = v ≡ link.Refused r
 RefusedBy (book.cutCall p) v r = v ≡ cutting.Refused r
 RefusedBy (book.cutSubCall p o) v r = v ≡ cutting.Refused r
+RefusedBy (book.tidyCall p) v r = v ≡ tidying.Refused r
 
 -- an answer says that the call is done
 abbrev pub Accepted : (c : Call) → AnswerOf c → Type 0
@@ -191,6 +200,7 @@ Accepted (book.linkCleanCall a b) v = (s : SubportIndex) × (t : SubportIndex) �
 Accepted (book.linkSubCall p o q r) v = (s : SubportIndex) × (t : SubportIndex) × (v ≡ link.Linked s t)
 Accepted (book.cutCall p) v = ((s : SubportIndex) × (x : PortPlace) × (v ≡ cutting.Found s x)) ⊎ (v ≡ cutting.Nothing)
 Accepted (book.cutSubCall p o) v = ((s : SubportIndex) × (x : PortPlace) × (v ≡ cutting.Found s x)) ⊎ (v ≡ cutting.Nothing)
+Accepted (book.tidyCall p) v = v ≡ tidying.Tidied
 
 -- the condition of a refusal of a call
 abbrev pub Condition : MultiPortGraph → Model → Call → Refusal → Type 0
@@ -202,6 +212,7 @@ Condition m M (book.linkCleanCall a b) r = CleanRefused m M a b r
 Condition m M (book.linkSubCall p o q s) r = LinkSubRefused m M p o q s r
 Condition m M (book.cutCall p) r = CutRefused m M p r
 Condition m M (book.cutSubCall p o) r = SubRefused m M p o r
+Condition m M (book.tidyCall p) r = CutRefused m M p r
 
 -- the refusals that come after an end is prepared, where ports are linked
 abbrev pub comesLate : Refusal → Bool
@@ -228,3 +239,4 @@ leavesPrepared (book.linkCleanCall a b) r = false
 leavesPrepared (book.linkSubCall p o q s) r = false
 leavesPrepared (book.cutCall p) r = false
 leavesPrepared (book.cutSubCall p o) r = false
+leavesPrepared (book.tidyCall p) r = false

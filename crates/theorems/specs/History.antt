@@ -9,8 +9,8 @@ use Rattle.portgraph.specs.Limits.{Limits, present}
 use Rattle.portgraph.specs.Lists.{Member, Once, filter}
 use Rattle.portgraph.specs.declared.direction.Direction.the-variants.{Incoming, Outgoing}
 use Rattle.multiportgraph.specs.Reading.{isSplit}
-use Rattle.multiportgraph.specs.Calls.{addBlockUnder, removeBlock, setCountsUnder, linkSub, cutPort, cutSub, linkPairUnder, linkCleanUnder}
-use Rattle.multiportgraph.specs.Answers.{addNumbers, removeNumbers, setNumbers, linkNumbers, cutNumbers}
+use Rattle.multiportgraph.specs.Calls.{addBlockUnder, removeBlock, setCountsUnder, linkSub, cutPort, cutSub, tidyPort, linkPairUnder, linkCleanUnder}
+use Rattle.multiportgraph.specs.Answers.{addNumbers, removeNumbers, setNumbers, linkNumbers, cutNumbers, tidyNumbers}
 use Rattle.multiportgraph.specs.Wires.{subportsOfSide, walked, wiresWalked, isFirst, portsWalked}
 use Rattle.theorems.specs.Book as book
 use Rattle.theorems.specs.Book.{Call, AnswerOf, Book, emptyBook, bookAnswer}
@@ -34,6 +34,7 @@ stepUnder L m (book.linkCleanCall a b) = record { graph = linkCleanUnder L m a b
 stepUnder L m (book.linkSubCall p o q r) = record { graph = linkSub m p o q r .graph; answer = linkSub m p o q r .answer }
 stepUnder L m (book.cutCall p) = record { graph = cutPort m p .graph; answer = cutPort m p .answer }
 stepUnder L m (book.cutSubCall p o) = record { graph = cutSub m p o .graph; answer = cutSub m p o .answer }
+stepUnder L m (book.tidyCall p) = record { graph = tidyPort m p .graph; answer = tidyPort m p .answer }
 
 abbrev pub step : MultiPortGraph → (c : Call) → Stepped c
 step = stepUnder present
@@ -48,6 +49,7 @@ marksNamed m (book.linkCleanCall a b) = isSplit m a ∷ isSplit m b ∷ []
 marksNamed m (book.linkSubCall p o q r) = isSplit m p ∷ isSplit m q ∷ []
 marksNamed m (book.cutCall p) = isSplit m p ∷ []
 marksNamed m (book.cutSubCall p o) = isSplit m p ∷ []
+marksNamed m (book.tidyCall p) = isSplit m p ∷ []
 
 -- what the book is shown after an accepted resize
 abbrev pub portsShown : MultiPortGraph → Call → List ℕ
@@ -59,6 +61,7 @@ portsShown m (book.linkCleanCall a b) = []
 portsShown m (book.linkSubCall p o q r) = []
 portsShown m (book.cutCall p) = []
 portsShown m (book.cutSubCall p o) = []
+portsShown m (book.tidyCall p) = []
 
 pub record State : Type 0 where
   pub graph : MultiPortGraph
@@ -102,3 +105,4 @@ numbersOf (book.linkCleanCall a b) v = linkNumbers v
 numbersOf (book.linkSubCall p o q s) v = linkNumbers v
 numbersOf (book.cutCall p) v = cutNumbers v
 numbersOf (book.cutSubCall p o) v = cutNumbers v
+numbersOf (book.tidyCall p) v = tidyNumbers v

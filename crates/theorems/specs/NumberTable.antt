@@ -5,7 +5,7 @@ use Prim.Native.Nat.{ℕ}
 use Rattle.portgraph.specs.Lookups.{node#, port#}
 use Rattle.portgraph.specs.declared.direction.Direction.the-variants.{Incoming, Outgoing}
 use Rattle.multiportgraph.specs.Reading.{subport#}
-use Rattle.multiportgraph.specs.Answers.{refusalNumbers, addNumbers, removeNumbers, setNumbers, linkNumbers, cutNumbers, unplacedNumbers}
+use Rattle.multiportgraph.specs.Answers.{refusalNumbers, addNumbers, removeNumbers, setNumbers, linkNumbers, cutNumbers, tidyNumbers, unplacedNumbers}
 use Rattle.multiportgraph.specs.Lookups.{directionNumbers, nodeNumbers, offsetNumbers, portNumbers, countNumbers}
 use Rattle.multiportgraph.specs.WalkNumbers.{linkValues}
 use Rattle.multiportgraph.specs.declared.multiportgraph.Refusal.{Refusal}
@@ -15,6 +15,7 @@ use Rattle.multiportgraph.specs.declared.multiportgraph.RemoveAnswer.the-varian
 use Rattle.multiportgraph.specs.declared.multiportgraph.SetAnswer.the-variants as resize
 use Rattle.multiportgraph.specs.declared.multiportgraph.LinkAnswer.the-variants as link
 use Rattle.multiportgraph.specs.declared.multiportgraph.CutAnswer.the-variants as cutting
+use Rattle.multiportgraph.specs.declared.multiportgraph.TidyAnswer.the-variants as tidying
 use Rattle.multiportgraph.specs.declared.multiportgraph.EndAnswer.the-variants as end
 use Rattle.multiportgraph.specs.declared.lookups.DirectionAnswer.the-variants as direction-of
 use Rattle.multiportgraph.specs.declared.lookups.NodeAnswer.the-variants as node-of
@@ -42,7 +43,7 @@ answers n p o q r k =
     addNumbers (add.Added (node# n) (port# p)) ∷ removeNumbers remove.Removed ∷ setNumbers (resize.Set k)
     ∷ linkNumbers (link.Linked (subport# p o) (subport# q r))
     ∷ cutNumbers (cutting.Found (subport# p o) (record { node = node# n; side = Incoming; position = k }))
-    ∷ cutNumbers (cutting.Found (subport# p o) (record { node = node# n; side = Outgoing; position = k })) ∷ cutNumbers cutting.Nothing
+    ∷ cutNumbers (cutting.Found (subport# p o) (record { node = node# n; side = Outgoing; position = k })) ∷ cutNumbers cutting.Nothing ∷ tidyNumbers tidying.Tidied
     ∷ unplacedNumbers (end.Found (subport# p o)) ∷ unplacedNumbers end.Nothing
     ∷ linkValues (record { from = subport# p o; to = subport# q r; place = record { node = node# n; side = Outgoing; position = k } })
     ∷ directionNumbers (direction-of.Found Incoming) ∷ directionNumbers (direction-of.Found Outgoing) ∷ nodeNumbers (node-of.Found (node# n))
@@ -54,7 +55,7 @@ answerTable n p o q r k =
     (0 ∷ n ∷ p ∷ []) ∷ (0 ∷ []) ∷ (0 ∷ k ∷ [])
     ∷ (0 ∷ p ∷ o ∷ q ∷ r ∷ [])
     ∷ (0 ∷ 1 ∷ p ∷ o ∷ n ∷ 0 ∷ k ∷ [])
-    ∷ (0 ∷ 1 ∷ p ∷ o ∷ n ∷ 1 ∷ k ∷ []) ∷ (0 ∷ 0 ∷ 0 ∷ 0 ∷ [])
+    ∷ (0 ∷ 1 ∷ p ∷ o ∷ n ∷ 1 ∷ k ∷ []) ∷ (0 ∷ 0 ∷ 0 ∷ 0 ∷ []) ∷ (0 ∷ [])
     ∷ (0 ∷ 1 ∷ p ∷ o ∷ []) ∷ (0 ∷ 0 ∷ 0 ∷ 0 ∷ [])
     ∷ (p ∷ o ∷ q ∷ r ∷ n ∷ 1 ∷ k ∷ [])
     ∷ (0 ∷ 0 ∷ []) ∷ (0 ∷ 1 ∷ []) ∷ (0 ∷ n ∷ [])
@@ -64,7 +65,7 @@ answerTable n p o q r k =
 -- each answer that can be a refusal gives the refusal's numbers
 abbrev pub refusedAnswers : Refusal → List (List ℕ)
 refusedAnswers r =
-    addNumbers (add.Refused r) ∷ removeNumbers (remove.Refused r) ∷ setNumbers (resize.Refused r) ∷ linkNumbers (link.Refused r) ∷ cutNumbers (cutting.Refused r) ∷ unplacedNumbers (end.Refused r)
+    addNumbers (add.Refused r) ∷ removeNumbers (remove.Refused r) ∷ setNumbers (resize.Refused r) ∷ linkNumbers (link.Refused r) ∷ cutNumbers (cutting.Refused r) ∷ tidyNumbers (tidying.Refused r) ∷ unplacedNumbers (end.Refused r)
     ∷ directionNumbers (direction-of.Refused r) ∷ nodeNumbers (node-of.Refused r) ∷ offsetNumbers (offset-of.Refused r) ∷ portNumbers (port-of.Refused r)
     ∷ countNumbers (count-of.Refused r) ∷ []
 
@@ -77,5 +78,5 @@ answer-numbers n p o q r k = refl
 pub refused-numbers : (r : Refusal) →
     refusedAnswers r
     ≡ refusalNumbers r ∷ refusalNumbers r ∷ refusalNumbers r ∷ refusalNumbers r ∷ refusalNumbers r ∷ refusalNumbers r ∷ refusalNumbers r ∷ refusalNumbers r ∷ refusalNumbers r
-    ∷ refusalNumbers r ∷ refusalNumbers r ∷ []
+    ∷ refusalNumbers r ∷ refusalNumbers r ∷ refusalNumbers r ∷ []
 refused-numbers r = refl

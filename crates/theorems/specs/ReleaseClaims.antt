@@ -29,6 +29,7 @@ stepUnchecked m (book.linkCleanCall a b) = record { graph = linkCleanIf false pr
 stepUnchecked m (book.linkSubCall p o q r) = record { graph = linkSubIf false m p o q r .graph; answer = linkSubIf false m p o q r .answer }
 stepUnchecked m (book.cutCall p) = step m (book.cutCall p)
 stepUnchecked m (book.cutSubCall p o) = step m (book.cutSubCall p o)
+stepUnchecked m (book.tidyCall p) = step m (book.tidyCall p)
 
 -- the same step, but that its graph is made for this release
 abbrev pub steppedFor : Release → {c : Call} → Stepped c → Stepped c

@@ -38,13 +38,14 @@ use Rattle.portgraph.specs.declared.slots.NodeRemoved as lower-removed
 use Rattle.portgraph.specs.declared.slots.AddAnswer.the-variants as lower-add
 use Rattle.portgraph.specs.declared.resize.SetAnswer as lower-set-answer
 use Rattle.portgraph.specs.declared.resize.SetAnswer.the-variants as lower-set
-use Rattle.multiportgraph.specs.Reading.{isHidden, isSplit, portOf, copyNode, copySide, Port, dead, hidden, visible, seen, End, inner, lacking, endAt, asRead}
+use Rattle.multiportgraph.specs.Reading.{isHidden, isSplit, hasLink, farPort, portOf, copyNode, copySide, subportAt, Port, dead, hidden, visible, seen, End, inner, lacking, endAt, asRead}
 use Rattle.multiportgraph.specs.Graph.{withGraph}
 use Rattle.multiportgraph.specs.Inner.{Fine}
 use Rattle.multiportgraph.specs.Frame.{true-not-false}
 use Rattle.multiportgraph.specs.RecountLaws.{SomeRecount, set-recounts}
 use Rattle.multiportgraph.specs.HiddenNodes.{copiesDropped, recounted, removeAll, removeCopy, removeLone, unsplit, unsplitRange}
 use Rattle.multiportgraph.specs.Refusals.{goodOffset}
+use Rattle.multiportgraph.specs.Tidy.{linkDirectly}
 use Rattle.multiportgraph.specs.Calls.{addBlock, removeBlock, setCounts, dropBlock, linkSubIf, cutPort, cutSub}
 use Rattle.multiportgraph.specs.Cases.{cutEnd, cutRefused, cutSeen, cutSubSeen, linkFirstEnd, linkInner, linkRefused, linkSecondEnd, linkSubSeen, removeMeta, resized, setMeta, setRefused}
 use Rattle.multiportgraph.specs.CaseLaws.{add-cases, remove-cases, set-cases, link-sub-cases, cut-cases, cut-sub-cases}
@@ -99,14 +100,13 @@ module _ {g : PortGraph} {M : Model} (good : Good M) (holds : Holds g M) where
           let block = leb-true (M .portLen + growth (i + o) (M .freeBlocks (i + o))) portSlots r in
           let good′ = good-add good i o few slot block in
           let holds′ = place-holds good holds i o few slot block in
-          let new : NodeMeta = metaOf (nextBlock M (i + o)) i o (i + o) in
-          (
+          let new : NodeMeta = metaOf (nextBlock M (i + o)) i o (i + o) in (
             (λ n a d e. counts-same good holds good′ holds′ n d (upd-other (M .node) (nextSlot M) (live new) n (λ s. gone-not-live (ap (M .node) s ∙ next-slot-gone good) e))),
             (λ c s e.
-            let same : node# (nextSlot M) ≡ c = cc in
-            let is : nextSlot M ≡ c .0 = ap (λ (k : NodeIndex). k .0) same in
-            ap (λ (k : ℕ). numPorts (placeNode g (nextSlot M) (nextBlock M (i + o)) i o) k Incoming) (sym is)
-            ∙ (count-in good′ holds′ (nextSlot M) Incoming ∙ ap (λ (v : Slots). countOf v Incoming) (upd-same (M .node) (nextSlot M) (live new)))),
+                let same : node# (nextSlot M) ≡ c = cc in
+                let is : nextSlot M ≡ c .0 = ap (λ (k : NodeIndex). k .0) same in
+                ap (λ (k : ℕ). numPorts (placeNode g (nextSlot M) (nextBlock M (i + o)) i o) k Incoming) (sym is)
+                ∙ (count-in good′ holds′ (nextSlot M) Incoming ∙ ap (λ (v : Slots). countOf v Incoming) (upd-same (M .node) (nextSlot M) (live new)))),
           )
       go true p true q false r = ((λ n a d e. refl), (λ c s e. absurd (zero-is-not-one (cc))))
       go true p false q z r = ((λ n a d e. refl), (λ c s e. absurd (zero-is-not-one (cc))))
@@ -303,6 +303,21 @@ module _ {m : MultiPortGraph} {M : Model} (f : Fine m M) (on : OnOutputs m) wher
       good : (b : Bool) → OnOutputs (cond b (cutSubSeen m p o (seen m p)) (cutRefused m BadOffset) .graph)
       good true = go (seen m p)
       good false = on
+
+  -- a tidy that takes a hidden node away
+  pub direct-on : (p : ℕ) (d : Direction) → OnOutputs (linkDirectly m p d)
+  unfolding linkDirectly
+  direct-on p d = go (hasLink (m .graph) (subportAt m p d 0))
+    where
+      far : ℕ
+      far = farPort (m .graph) (subportAt m p d 0)
+
+      bare : OnOutputs (unsplit m p)
+      bare = unsplit-hung m p hung .on
+
+      go : (b : Bool) → OnOutputs (cond b (withGraph (unsplit m p) (linkPorts (unsplit m p .graph) p far .graph)) (unsplit m p))
+      go true = links-on (unsplit m p) (linkPorts (unsplit m p .graph) p far .graph) (link-nodes (unsplit m p .graph) p far) bare
+      go false = bare
 
   -- linking subports prepares nothing
   pub sub-on : (p o q r : ℕ) → OnOutputs (linkSubIf false m p o q r .graph)

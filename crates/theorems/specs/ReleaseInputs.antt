@@ -4,11 +4,12 @@ use mathlib.Core.Path.{_≡_, refl, sym, _∙_, ap, subst}
 use mathlib.Core.Bool.{Bool, true, false, cond, not}
 use mathlib.Core.List.{[], _++_, flatMap}
 use mathlib.Core.Logic.{_⊎_, ⊎-elim}
-use Prim.Native.Nat.{ℕ, _+_, _≤_}
+use Prim.Native.Nat.{ℕ, _+_, _-_, _≤_}
 use native.Mathlib.Omega.{arith}
 use lib.Dec.{eqb, ltb}
 use lib.ListN.{length}
 use lib.Seq.{getD-set-other}
+use borrow.Author.Tests.{ltb-true}
 use Rattle.portgraph.specs.Limits.{present}
 use Rattle.portgraph.specs.Entries.{reversed}
 use Rattle.portgraph.specs.Meaning.{sameSide}
@@ -21,6 +22,7 @@ use Rattle.portgraph.specs.declared.direction.Direction.{Direction}
 use Rattle.portgraph.specs.declared.direction.Direction.the-variants.{Incoming, Outgoing}
 use Rattle.portgraph.specs.declared.index.NodeIndex.{NodeIndex}
 use Rattle.portgraph.specs.declared.index.PortIndex.{PortIndex}
+use Rattle.portgraph.specs.declared.node_entry.NodeMeta.{NodeMeta}
 use Rattle.portgraph.specs.declared.portgraph.PortGraph.{PortGraph}
 use Rattle.portgraph.specs.declared.portgraph.PortLink.{PortLink}
 use Rattle.portgraph.specs.declared.portgraph.PortLink.the-variants as lower-cut
@@ -29,30 +31,34 @@ use Rattle.portgraph.specs.declared.slots.AddAnswer.the-variants as lower-add
 use Rattle.portgraph.specs.declared.resize.SetAnswer as lower-set-answer
 use Rattle.portgraph.specs.declared.resize.SetAnswer.the-variants as lower-set
 use Rattle.multiportgraph.specs.Reading.{isHidden, isSplit, hasLink, isLinked, portOf, copyNode, copySide, subports, Port, dead, hidden, visible, seen, endAt, subport#, farSubport}
-use Rattle.multiportgraph.specs.Inner.{Fine, IsEnd, outer, WireIn}
-use Rattle.multiportgraph.specs.Ends.{BlockPort, block-seen, count-of, end-side, ends-join-ends, into-side, linked-is, outer-of-block, outer-side, split-has-copy, subport-count, unlinked-is, unsplit-is-end, wires-by-into}
+use Rattle.multiportgraph.specs.Graph.{withSubports}
+use Rattle.multiportgraph.specs.Inner.{Fine, Seen, IsEnd, outer, WireIn}
+use Rattle.multiportgraph.specs.Ends.{BlockPort, Hangs, block-seen, count-of, end-side, ends-join-ends, into-side, linked-is, outer-of-block, outer-side, split-has-copy, subport-count, unlinked-is, unsplit-is-end, wires-by-into}
 use Rattle.multiportgraph.specs.Frame.{true-not-false}
 use Rattle.multiportgraph.specs.SplitLaws.{PreparedEnd}
 use Rattle.multiportgraph.specs.PrepareLaws.{prepare-law}
 use Rattle.multiportgraph.specs.RecountLaws.{SomeRecount, set-recounts, growth#, number-cases}
 use Rattle.multiportgraph.specs.HiddenNodes.{enough, full, grow, grownBy, growUnder, lowestFree, more, moreIn, moreOut, Prepared, prepare, prepareUnder, ready, recounted, reuse, reuseUnder, split, splitBy, splitGraph, splitPort, splitUnder}
+use Rattle.multiportgraph.specs.Tidy.{subportsLeft, leftIn, leftOut, resizedWithin, dropSubports, linkDirectly, tidied}
+use Rattle.multiportgraph.specs.TidyLaws.{DropWithin, within-is, within-set, left-within}
 use Rattle.multiportgraph.specs.Wires.{subportsOfPort, wireOf, wireTo}
 use Rattle.multiportgraph.specs.Walks.{fanOut, portLinks}
 use Rattle.multiportgraph.specs.Places.{Place, Wire, flag}
 use Rattle.multiportgraph.specs.Refusals.{inputTaken, takenUnder, wiredInput}
-use Rattle.multiportgraph.specs.Calls.{linkCleanIf, linkPairIf, linkSubIf}
-use Rattle.multiportgraph.specs.Cases.{linkCleanBy, linkFirst, linkLive, linkPrepared, linkSecond, linkSeen, pairSeen}
-use Rattle.multiportgraph.specs.CaseLaws.{link-cases, link-clean-cases, link-clean-taken, link-sub-taken, link-taken}
+use Rattle.multiportgraph.specs.Calls.{linkCleanIf, linkPairIf, linkSubIf, tidyPort}
+use Rattle.multiportgraph.specs.Cases.{linkCleanBy, linkFirst, linkLive, linkPrepared, linkSecond, linkSeen, pairSeen, tidySeen}
+use Rattle.multiportgraph.specs.CaseLaws.{link-cases, link-clean-cases, link-clean-taken, link-sub-taken, link-taken, tidy-cases}
 use Rattle.multiportgraph.specs.declared.multiportgraph.MultiPortGraph.{MultiPortGraph}
 use Rattle.multiportgraph.specs.declared.multiportgraph.Release.{Release}
 use Rattle.multiportgraph.specs.declared.multiportgraph.Release.the-variants.{Two}
 use Rattle.multiportgraph.specs.declared.multiportgraph.PortsLinked.{PortsLinked}
+use Rattle.multiportgraph.specs.declared.multiportgraph.PortTidied.{PortTidied}
 use Rattle.multiportgraph.specs.declared.named.NamedPair.{NamedPair}
 use Rattle.multiportgraph.specs.declared.named.NamedPair.the-variants as pair
 use Rattle.theorems.specs.Book as book
 use Rattle.theorems.specs.Book.{Call}
 use Rattle.theorems.specs.History.{step}
-use Rattle.theorems.specs.ReleaseHidden.{OnOutputs, add-counts, add-on, count-in, counts-same, cut-on, cut-sub-on, link-nodes, links-on, remove-on, set-on, sub-on, table-count, unlink-nodes}
+use Rattle.theorems.specs.ReleaseHidden.{OnOutputs, add-counts, add-on, count-in, counts-same, cut-on, cut-sub-on, direct-on, link-nodes, links-on, remove-on, set-on, sub-on, table-count, unlink-nodes}
 
 -- a port that is not split has a wire exactly if it is linked
 fan-of-unsplit : (m : MultiPortGraph) (p n : ℕ) (d : Direction) → seen m p ≡ visible n d → isSplit m p ≡ false → fanOut m p ≡ flag (hasLink (m .graph) p)
@@ -263,6 +269,60 @@ module _ {m : MultiPortGraph} {M : Model} (f : Fine m M) (on : OnOutputs m) wher
       go (pair.Refused r) = on
       go pair.Opposite = link-on a b wa wb
 
+  -- Tidying a port.
+
+  -- how many incoming ports a hidden node of an output is left with
+  one-in : (d : Direction) (n : ℕ) → d ≡ Outgoing → leftIn d n ≡ 1
+  one-in Outgoing n e = refl
+  one-in Incoming n e = absurd (zero-is-not-one (cc))
+
+  -- the hidden node of an output is left with some of its subports
+  drop-on : (c : ℕ) (k : NodeMeta) (d : Direction) (n : ℕ) → d ≡ Outgoing → DropWithin (m .graph) c k (leftIn d n) (leftOut d n) → OnOutputs (dropSubports m c d n)
+  unfolding dropSubports recounted isHidden
+  drop-on c k d n out w =
+      let e = within-set w in
+      left (resizedWithin (m .graph) c (leftIn d n) (leftOut d n))
+      (subst (λ (g : PortGraph). SomeRecount g M c (leftIn d n) (leftOut d n)) (sym (within-is w)) (set-recounts (f .good) (f .holds) c (leftIn d n) (leftOut d n) enough (e .0) (e .1)))
+    where
+      left : (g : PortGraph) → SomeRecount g M c (leftIn d n) (leftOut d n) → OnOutputs (withSubports (recounted m c g) (m .«subport_count» - (numPorts (m .graph) c d - n)))
+      left g s i h =
+          let r = s .is in
+          ⊎-elim (λ e. count-in (r .good) (r .holds) i Incoming ∙ (ap (λ (v : Slots). countOf v Incoming) (ap (s .model′ .node) e ∙ r .there) ∙ (r .ins ∙ one-in d n out)))
+          (λ e. counts-same (f .good) (f .holds) (r .good) (r .holds) i Incoming (r .others i e) ∙ on i h)
+          (number-cases i c)
+
+  tidied-on : (x : model.InnerPlace) → Seen m M x → x .side ≡ Outgoing → isSplit m (slotOf (M .node) x) ≡ true → OnOutputs (tidied m (slotOf (M .node) x) (x .side))
+  unfolding tidied
+  tidied-on x sx out s = go (ltb 1 left) refl
+    where
+      left : ℕ
+      left = subportsLeft m (slotOf (M .node) x) (x .side)
+
+      h : Hangs m M x
+      h = split-has-copy f x sx s
+
+      go : (b : Bool) → ltb 1 left ≡ b → OnOutputs (cond b (dropSubports m (copyNode m (slotOf (M .node) x)) (x .side) left) (linkDirectly m (slotOf (M .node) x) (x .side)))
+      go true e =
+          subst (λ (c : ℕ). OnOutputs (dropSubports m c (x .side) left)) (sym (h .copyIs))
+          (drop-on (h .copy) (f .copy (h .copy) (h .isCopy) .meta) (x .side) left out (left-within f x sx h (ltb-true 1 left e)))
+      go false e = direct-on f on (slotOf (M .node) x) (x .side)
+
+  tidy-on : (p : ℕ) → OnOutputs (tidyPort m p .graph)
+  tidy-on p = subst (λ (v : PortTidied). OnOutputs (v .graph)) (sym (tidy-cases m p)) (go (seen m p) refl)
+    where
+      here : (n : ℕ) (d : Direction) → seen m p ≡ visible n d → (b : Bool) → isSplit m p ≡ b → OnOutputs (cond b (tidied m p d) m)
+      here n d e false s = on
+      here n Incoming e true s = absurd (true-not-false s (input-whole f on p n e))
+      here n Outgoing e true s =
+          let b = block-seen f p n Outgoing e in
+          subst (λ (d : Direction). OnOutputs (tidied m p d)) (b .side)
+          (subst (λ (q : ℕ). OnOutputs (tidied m q (b .place .side))) (b .slot) (tidied-on (b .place) (b .isSeen) (b .side) (ap (isSplit m) (b .slot) ∙ s)))
+
+      go : (u : Port) → seen m p ≡ u → OnOutputs (tidySeen m p u .graph)
+      go dead e = on
+      go hidden e = on
+      go (visible n d) e = here n d e (isSplit m p) refl
+
   -- Every call under release 2.
 
   module _ (two : m .release ≡ Two) where
@@ -296,6 +356,7 @@ module _ {m : MultiPortGraph} {M : Model} (f : Fine m M) (on : OnOutputs m) wher
         go false e = sub-on f on p o q r
     step-on (book.cutCall p) = cut-on f on p
     step-on (book.cutSubCall p o) = cut-sub-on f on p o
+    step-on (book.tidyCall p) = tidy-on p
 
 -- Two wires that end at one input are one: its offset is 0.
 

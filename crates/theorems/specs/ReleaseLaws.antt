@@ -24,14 +24,15 @@ use Rattle.portgraph.specs.declared.slots.AddAnswer as lower-add-answer
 use Rattle.portgraph.specs.declared.slots.AddAnswer.the-variants as lower-add
 use Rattle.portgraph.specs.declared.resize.SetAnswer as lower-set-answer
 use Rattle.portgraph.specs.declared.resize.SetAnswer.the-variants as lower-set
-use Rattle.multiportgraph.specs.Reading.{isHidden, isSplit, hasLink, portOf, Port, dead, hidden, visible, seen, seenEntry, sideOf, End, inner, lacking, endAt, subports, subportAt, copyNode, copySide, mainPort, subport#, asRead, subportOf, placeOf, standing, standingOf, farSubport, ownerOf, positionOf}
+use Rattle.multiportgraph.specs.Reading.{isHidden, isSplit, hasLink, portOf, Port, dead, hidden, visible, seen, seenEntry, sideOf, End, inner, lacking, endAt, subports, subportAt, copyNode, copySide, mainPort, subport#, asRead, subportOf, farPort, placeOf, standing, standingOf, farSubport, ownerOf, positionOf}
 use Rattle.multiportgraph.specs.HiddenNodes.{copiesDropped, copiesIn, full, grownBy, growUnder, lowestFree, Prepared, prepareUnder, ready, recounted, removeAll, removeCopy, removeLone, reuseUnder, splitBy, splitPort, splitUnder, unsplit, unsplitRange}
 use Rattle.multiportgraph.specs.Graph.{withGraph}
 use Rattle.multiportgraph.specs.declared.multiportgraph.RemoveAnswer.the-variants as remove
-use Rattle.multiportgraph.specs.Calls.{addBlockUnder, removeBlock, setAs, setCountsUnder, cutPort, cutSub, cutPlain, dropBlock, linkPairIf, linkCleanIf, linkSubIf}
-use Rattle.multiportgraph.specs.Cases.{cutEnd, cutRefused, cutSeen, removeRefused, cutSubSeen, linkCleanBy, linkFirst, linkFirstEnd, linkInner, linkLiveUnder, linkPrepared, linkRefused, linkSecond, linkSecondEnd, linkSeenUnder, linkSubSeen, pairSeen, removeMeta, resized, setMetaUnder, setRefused}
-use Rattle.multiportgraph.specs.CaseLaws.{add-cases, remove-cases, set-cases, link-cases, link-clean-cases, link-sub-cases, cut-cases, cut-sub-cases}
+use Rattle.multiportgraph.specs.Calls.{addBlockUnder, removeBlock, setAs, setCountsUnder, cutPort, cutSub, cutPlain, dropBlock, linkPairIf, linkCleanIf, linkSubIf, tidyPort}
+use Rattle.multiportgraph.specs.Cases.{cutEnd, cutRefused, cutSeen, removeRefused, cutSubSeen, linkCleanBy, linkFirst, linkFirstEnd, linkInner, linkLiveUnder, linkPrepared, linkRefused, linkSecond, linkSecondEnd, linkSeenUnder, linkSubSeen, pairSeen, removeMeta, resized, setMetaUnder, setRefused, tidySeen}
+use Rattle.multiportgraph.specs.CaseLaws.{add-cases, remove-cases, set-cases, link-cases, link-clean-cases, link-sub-cases, cut-cases, cut-sub-cases, tidy-cases}
 use Rattle.multiportgraph.specs.Refusals.{goodOffset}
+use Rattle.multiportgraph.specs.Tidy.{subportsLeft, dropSubports, linkDirectly, tidied}
 use Rattle.multiportgraph.specs.declared.multiportgraph.MultiPortGraph.{MultiPortGraph}
 use Rattle.multiportgraph.specs.declared.multiportgraph.Release.{Release}
 use Rattle.multiportgraph.specs.declared.multiportgraph.SubportIndex.{SubportIndex}
@@ -42,6 +43,8 @@ use Rattle.multiportgraph.specs.declared.multiportgraph.PortsLinked.{PortsLinke
 use Rattle.multiportgraph.specs.declared.multiportgraph.PortUnlinked.{PortUnlinked}
 use Rattle.multiportgraph.specs.declared.multiportgraph.CutAnswer.{CutAnswer}
 use Rattle.multiportgraph.specs.declared.multiportgraph.CutAnswer.the-variants as cutting
+use Rattle.multiportgraph.specs.declared.multiportgraph.PortTidied.{PortTidied}
+use Rattle.multiportgraph.specs.declared.multiportgraph.TidyAnswer.the-variants as tidying
 use Rattle.multiportgraph.specs.declared.multiportgraph.Refusal.the-variants.{BadOffset, TooManyPorts, HiddenNode}
 use Rattle.multiportgraph.specs.declared.named.NamedPair.{NamedPair}
 use Rattle.multiportgraph.specs.declared.named.NamedPair.the-variants as pair
@@ -188,6 +191,9 @@ module _ (r : Release) where
 
   abbrev cutFor : PortUnlinked → PortUnlinked
   cutFor v = record { graph = forRelease r (v .graph); answer = v .answer }
+
+  abbrev tidiedFor : PortTidied → PortTidied
+  tidiedFor v = record { graph = forRelease r (v .graph); answer = v .answer }
 
   pub add-for : (L : Limits) (m : MultiPortGraph) (i o : ℕ) → addBlockUnder L (forRelease r m) i o ≡ addedFor (addBlockUnder L m i o)
   add-for L m i o = add-cases L (forRelease r m) i o ∙ ap addedFor (sym (add-cases L m i o))
@@ -361,3 +367,44 @@ module _ (r : Release) where
           ≡ cutFor (cond b (cutSubSeen m p o (seen m p)) (cutRefused m BadOffset))
       good true = go (seen m p)
       good false = refl
+
+  -- Tidying.
+
+  drop-for : (m : MultiPortGraph) (c : ℕ) (d : Direction) (n : ℕ) → dropSubports (forRelease r m) c d n ≡ forRelease r (dropSubports m c d n)
+  unfolding dropSubports recounted
+  drop-for m c d n = refl
+
+  direct-for : (m : MultiPortGraph) (p : ℕ) (d : Direction) → linkDirectly (forRelease r m) p d ≡ forRelease r (linkDirectly m p d)
+  unfolding linkDirectly subportAt copyNode
+  direct-for m p d = go (hasLink (m .graph) (subportAt m p d 0))
+    where
+      far : ℕ
+      far = farPort (m .graph) (subportAt m p d 0)
+
+      go : (b : Bool) → cond b (withGraph (unsplit (forRelease r m) p) (linkPorts (unsplit (forRelease r m) p .graph) p far .graph)) (unsplit (forRelease r m) p)
+          ≡ forRelease r (cond b (withGraph (unsplit m p) (linkPorts (unsplit m p .graph) p far .graph)) (unsplit m p))
+      go true = ap (λ (u : MultiPortGraph). withGraph u (linkPorts (u .graph) p far .graph)) (unsplit-for m p)
+      go false = unsplit-for m p
+
+  tidied-for : (m : MultiPortGraph) (p : ℕ) (d : Direction) → tidied (forRelease r m) p d ≡ forRelease r (tidied m p d)
+  unfolding tidied subportsLeft copyNode subports
+  tidied-for m p d = go (ltb 1 (subportsLeft m p d))
+    where
+      go : (b : Bool) → cond b (dropSubports (forRelease r m) (copyNode m p) d (subportsLeft m p d)) (linkDirectly (forRelease r m) p d)
+          ≡ forRelease r (cond b (dropSubports m (copyNode m p) d (subportsLeft m p d)) (linkDirectly m p d))
+      go true = drop-for m (copyNode m p) d (subportsLeft m p d)
+      go false = direct-for m p d
+
+  pub tidy-for : (m : MultiPortGraph) (p : ℕ) → tidyPort (forRelease r m) p ≡ tidiedFor (tidyPort m p)
+  unfolding isSplit
+  tidy-for m p =
+      tidy-cases (forRelease r m) p ∙ (ap (tidySeen (forRelease r m) p) (seen-for m p) ∙ (go (seen m p) ∙ ap tidiedFor (sym (tidy-cases m p))))
+    where
+      here : (d : Direction) (b : Bool) → cond b (tidied (forRelease r m) p d) (forRelease r m) ≡ forRelease r (cond b (tidied m p d) m)
+      here d true = tidied-for m p d
+      here d false = refl
+
+      go : (u : Port) → tidySeen (forRelease r m) p u ≡ tidiedFor (tidySeen m p u)
+      go dead = refl
+      go hidden = refl
+      go (visible n d) = ap (λ (u : MultiPortGraph). record { graph = u; answer = tidying.Tidied }) (here d (isSplit m p))

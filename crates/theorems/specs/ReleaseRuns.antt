@@ -28,12 +28,12 @@ use Rattle.portgraph.specs.declared.resize.SetAnswer.the-variants as lower-set
 use Rattle.multiportgraph.specs.Reading.{isHidden, isSplit, Port, dead, hidden, visible, seen, End, inner, lacking, endAt, asRead, farSubport, subports, copyNode}
 use Rattle.multiportgraph.specs.Graph.{emptyGraph}
 use Rattle.multiportgraph.specs.HiddenNodes.{Prepared, ready, full, prepare}
-use Rattle.multiportgraph.specs.Answers.{addNumbers, removeNumbers, setNumbers, linkNumbers, cutNumbers}
+use Rattle.multiportgraph.specs.Answers.{addNumbers, removeNumbers, setNumbers, linkNumbers, cutNumbers, tidyNumbers}
 use Rattle.multiportgraph.specs.Wires.{portsOfSide, portsWalked, subportsOfPort, subportsOfSide}
 use Rattle.multiportgraph.specs.Refusals.{goodOffset, inputTaken, takenUnder, wiredInput}
-use Rattle.multiportgraph.specs.Calls.{addBlock, addedAs, cutPlain, cutPort, cutSub, linkCleanIf, linkPairIf, linkSubIf, removeBlock, setAs, setCounts}
-use Rattle.multiportgraph.specs.Cases.{cutEnd, cutRefused, cutSeen, cutSubSeen, linkCleanBy, linkFirst, linkFirstEnd, linkInner, linkLive, linkPrepared, linkRefused, linkSecond, linkSecondEnd, linkSeen, linkSubSeen, pairSeen, removeMeta, setMeta, setRefused, takenFirst, takenSecond, takenSeen, takenSubSeen}
-use Rattle.multiportgraph.specs.CaseLaws.{add-cases, remove-cases, set-cases, link-cases, link-taken, link-clean-cases, link-clean-taken, link-sub-cases, link-sub-taken, cut-cases, cut-sub-cases}
+use Rattle.multiportgraph.specs.Calls.{addBlock, addedAs, cutPlain, cutPort, cutSub, linkCleanIf, linkPairIf, linkSubIf, removeBlock, setAs, setCounts, tidyPort}
+use Rattle.multiportgraph.specs.Cases.{cutEnd, cutRefused, cutSeen, cutSubSeen, linkCleanBy, linkFirst, linkFirstEnd, linkInner, linkLive, linkPrepared, linkRefused, linkSecond, linkSecondEnd, linkSeen, linkSubSeen, pairSeen, removeMeta, setMeta, setRefused, takenFirst, takenSecond, takenSeen, takenSubSeen, tidySeen}
+use Rattle.multiportgraph.specs.CaseLaws.{add-cases, remove-cases, set-cases, link-cases, link-taken, link-clean-cases, link-clean-taken, link-sub-cases, link-sub-taken, cut-cases, cut-sub-cases, tidy-cases}
 use Rattle.multiportgraph.specs.declared.multiportgraph.MultiPortGraph.{MultiPortGraph}
 use Rattle.multiportgraph.specs.declared.multiportgraph.Release.{Release}
 use Rattle.multiportgraph.specs.declared.multiportgraph.Release.the-variants.{One, Two}
@@ -43,12 +43,13 @@ use Rattle.multiportgraph.specs.declared.multiportgraph.NodeRemoved.{NodeRemove
 use Rattle.multiportgraph.specs.declared.multiportgraph.PortsSet.{PortsSet}
 use Rattle.multiportgraph.specs.declared.multiportgraph.PortsLinked.{PortsLinked}
 use Rattle.multiportgraph.specs.declared.multiportgraph.PortUnlinked.{PortUnlinked}
+use Rattle.multiportgraph.specs.declared.multiportgraph.PortTidied.{PortTidied}
 use Rattle.multiportgraph.specs.declared.multiportgraph.Refusal.the-variants.{BadOffset, InputWired, TooManyPorts}
 use Rattle.theorems.specs.Book as book
 use Rattle.theorems.specs.Book.{Call, Book, bookAnswer}
 use Rattle.theorems.specs.History.{Stepped, State, step, next, entered, marksNamed, portsShown, run, runFrom, runFromUnder, runUnder}
 use Rattle.theorems.specs.ReleaseClaims.{forRelease, stepUnchecked, steppedFor, firstOf, numberOf, Answered, start, answersFrom, answers, without18, callsOf, callsPassed}
-use Rattle.theorems.specs.ReleaseLaws.{add-for, remove-for, set-for, link-for, clean-for, sub-for, cut-for, cut-sub-for}
+use Rattle.theorems.specs.ReleaseLaws.{add-for, remove-for, set-for, link-for, clean-for, sub-for, cut-for, cut-sub-for, tidy-for}
 
 -- Without the check the release plays no part.
 
@@ -61,6 +62,7 @@ unchecked-for r m (book.linkCleanCall a b) = ap (λ (v : PortsLinked). record { 
 unchecked-for r m (book.linkSubCall p o q s) = ap (λ (v : PortsLinked). record { graph = v .graph; answer = v .answer }) (sub-for r m p o q s)
 unchecked-for r m (book.cutCall p) = ap (λ (v : PortUnlinked). record { graph = v .graph; answer = v .answer }) (cut-for r m p)
 unchecked-for r m (book.cutSubCall p o) = ap (λ (v : PortUnlinked). record { graph = v .graph; answer = v .answer }) (cut-sub-for r m p o)
+unchecked-for r m (book.tidyCall p) = ap (λ (v : PortTidied). record { graph = v .graph; answer = v .answer }) (tidy-for r m p)
 
 -- 18 is given, graph and book are as they were; or the step is that without the check.
 
@@ -165,6 +167,7 @@ module _ (m : MultiPortGraph) where
       (sub-either m p o q r (inputTaken m p q))
   step-either (book.cutCall p) = inr refl
   step-either (book.cutSubCall p o) = inr refl
+  step-either (book.tidyCall p) = inr refl
 
 -- Under release 1 it is always the latter.
 
@@ -184,6 +187,7 @@ one-unchecked m e (book.linkSubCall p o q r) =
     ap (λ (t : Bool). record { graph = linkSubIf t m p o q r .graph; answer = linkSubIf t m p o q r .answer }) (untaken m e p q)
 one-unchecked m e (book.cutCall p) = refl
 one-unchecked m e (book.cutSubCall p o) = refl
+one-unchecked m e (book.tidyCall p) = refl
 
 -- and 18 is not given.
 
@@ -343,6 +347,14 @@ module _ (m : MultiPortGraph) where
       good true = go (seen m p)
       good false = refl
 
+  tidy-other : (p : ℕ) → Other (tidyNumbers (tidyPort m p .answer))
+  tidy-other p = subst (λ (v : PortTidied). Other (tidyNumbers (v .answer))) (sym (tidy-cases m p)) (go (seen m p))
+    where
+      go : (u : Port) → Other (tidyNumbers (tidySeen m p u .answer))
+      go dead = refl
+      go hidden = refl
+      go (visible n d) = refl
+
   pub unchecked-other : (c : Call) → eqb (numberOf c (stepUnchecked m c .answer)) 18 ≡ false
   unchecked-other (book.addCall i o) = add-other i o
   unchecked-other (book.removeCall n) = remove-other n
@@ -352,6 +364,7 @@ module _ (m : MultiPortGraph) where
   unchecked-other (book.linkSubCall p o q r) = sub-other p o q r
   unchecked-other (book.cutCall p) = cut-other p
   unchecked-other (book.cutSubCall p o) = cut-sub-other p o
+  unchecked-other (book.tidyCall p) = tidy-other p
 
 -- The release is kept.
 
@@ -399,6 +412,7 @@ marks-for r m (book.linkCleanCall a b) = refl
 marks-for r m (book.linkSubCall p o q s) = refl
 marks-for r m (book.cutCall p) = refl
 marks-for r m (book.cutSubCall p o) = refl
+marks-for r m (book.tidyCall p) = refl
 
 shown-for : (r : Release) (m : MultiPortGraph) (c : Call) → portsShown (forRelease r m) c ≡ portsShown m c
 unfolding portsWalked subportsOfSide subportsOfPort portsOfSide isSplit subports copyNode
@@ -410,6 +424,7 @@ shown-for r m (book.linkCleanCall a b) = refl
 shown-for r m (book.linkSubCall p o q s) = refl
 shown-for r m (book.cutCall p) = refl
 shown-for r m (book.cutSubCall p o) = refl
+shown-for r m (book.tidyCall p) = refl
 
 -- a step that is the one without the check, on a graph made for release 1
 module _ (s : State) (c : Call) (e : step (s .graph) c ≡ stepUnchecked (s .graph) c) where
@@ -489,8 +504,7 @@ pub two-is-one : (calls : List Call) → without18 (answers Two calls) ≡ answe
     (answers One calls ≡ answers Two calls) × (run One calls .graph ≡ forRelease One (run Two calls .graph)) × (run One calls .book ≡ run Two calls .book)
 two-is-one calls e =
     let t = two-is-one-without-18 calls in
-    let q : callsPassed calls ≡ calls = ap callsOf e ∙ calls-answered (start Two) calls in
-    (
+    let q : callsPassed calls ≡ calls = ap callsOf e ∙ calls-answered (start Two) calls in (
       ap (answers One) (sym q) ∙ (t .0 ∙ e),
       ap (λ (l : List Call). run One l .graph) (sym q) ∙ t .1,
       ap (λ (l : List Call). run One l .book) (sym q) ∙ t .2,

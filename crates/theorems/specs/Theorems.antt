@@ -9,31 +9,37 @@ use mathlib.Core.Logic.{_↔_, _⊎_}
 use Prim.Native.Nat.{ℕ, suc, _<_, _*_}
 use lib.ListN.{length, drop}
 use Rattle.portgraph.specs.Lists.{filter, Member}
-use Rattle.portgraph.specs.Lookups.{numPorts}
+use Rattle.portgraph.specs.Lookups.{numPorts, metaAt}
 use Rattle.portgraph.specs.Meaning.{newCount}
 use Rattle.portgraph.specs.Model.{Model}
 use Rattle.portgraph.specs.declared.direction.Direction.{Direction}
 use Rattle.portgraph.specs.declared.direction.Direction.the-variants.{Outgoing}
+use Rattle.portgraph.specs.declared.node_entry.NodeMeta.{NodeMeta}
+use Rattle.portgraph.specs.declared.node_entry.MaybeNodeMeta.the-variants as maybe-meta
 use Rattle.portgraph.specs.declared.iter.Sides.{Sides}
 use Rattle.multiportgraph.specs.declared.multiportgraph.Release.{Release}
 use Rattle.multiportgraph.specs.Calls.{setCounts, movesTold, visibleNodes, visiblePorts, visibleLinks}
 use Rattle.multiportgraph.specs.Answers.{refusalNumbers}
 use Rattle.multiportgraph.specs.Places.{Spot, spot, atSpot, touches}
-use Rattle.multiportgraph.specs.Reading.{seen, visible}
+use Rattle.multiportgraph.specs.Reading.{seen, visible, isSplit, copyNode}
 use Rattle.multiportgraph.specs.Wires.{wiresWalked, walkWires, stepWires, allWires, sideLinks, isBlock}
 use Rattle.multiportgraph.specs.Walks.{isSeen, portLinks, nodeLinks, neighbours, connections}
 use Rattle.multiportgraph.specs.Inner.{Fine, MultiWf}
+use Rattle.multiportgraph.specs.Space.{roomOf}
 use Rattle.multiportgraph.specs.SpaceLaws.{Spaced}
-use Rattle.theorems.specs.Book.{Call, linkCleanCall, setCall, spotOf}
+use Rattle.multiportgraph.specs.TidyLaws.{SameBlock}
+use Rattle.theorems.specs.Book.{Call, linkCleanCall, setCall, tidyCall, spotOf}
 use Rattle.theorems.specs.History.{State, step, next, runFrom, run}
 use Rattle.theorems.specs.Works.{worksOf}
 use Rattle.theorems.specs.Claims.{WireRule, Link, byPorts, byPortsClean, linking, LinkedBy, acceptedLink, Restored, between, FanOutIsWires, portsInBook}
 use Rattle.theorems.specs.AnswerClaims.{AnswersItsWire, AnswersAreWires}
 use Rattle.theorems.specs.PlaceClaims.{PlacesAreWires}
+use Rattle.theorems.specs.TidyClaims.{PlacesKept, WalksKept, LeftByWires, FoundAgain}
+use Rattle.theorems.specs.TidyHistory as tidy
 use Rattle.theorems.specs.ListingClaims.{wireFrom, endOn, farFrom, Exactly, InBook, OverSides, OutOfRange, FarNodes, NotOwnOutput}
 use Rattle.theorems.specs.Conditions.{RefusedBy, Accepted, Condition, leavesPrepared}
 use Rattle.theorems.specs.Bench as bench
-use Rattle.theorems.specs.Bench.{askedAll, askedUnder, expectedAll, benchLines, resizeLines, fanOutLines, inputLines}
+use Rattle.theorems.specs.Bench.{askedAll, askedUnder, expectedAll, benchLines, resizeLines, fanOutLines, inputLines, tidyLines}
 use Rattle.theorems.specs.NumberTable as numbers
 use Rattle.theorems.specs.NumberTable.{refusals, refusalTable, answers, answerTable}
 use Rattle.theorems.specs.Runs as runs
@@ -88,6 +94,49 @@ clean-link-is-link release calls = clean.clean-link-is-link (run release calls)
 pub clean-link-refused-leaves-all : (release : Release) (calls : List Call) (a b : ℕ) (r : Refusal) →
     RefusedBy (linkCleanCall a b) (step (run release calls .graph) (linkCleanCall a b) .answer) r → next (run release calls) (linkCleanCall a b) ≡ run release calls
 clean-link-refused-leaves-all release calls = clean.clean-refused-leaves (run release calls) (every.run-kept release calls .fine)
+
+-- A tidy is no change: the book stays, no wire changes its place at either end, and no block's port changes its number.
+pub tidy-keeps-places : (release : Release) (calls : List Call) (p : ℕ) → PlacesKept (run release calls) (next (run release calls) (tidyCall p))
+tidy-keeps-places = tidy.tidy-keeps-places
+
+-- A cursor from before a tidy goes on as if nothing had happened, in every walk that gives wires.
+pub tidy-keeps-walks : (release : Release) (calls : List Call) (p : ℕ) → WalksKept (run release calls .graph) (next (run release calls) (tidyCall p) .graph)
+tidy-keeps-walks = tidy.tidy-keeps-walks
+
+-- A port that is not split stays as it is, with all else.
+pub tidy-leaves-an-unsplit-port : (release : Release) (calls : List Call) (p : ℕ) → isSplit (run release calls .graph) p ≡ false →
+    next (run release calls) (tidyCall p) ≡ run release calls
+tidy-leaves-an-unsplit-port = tidy.tidy-leaves-an-unsplit-port
+
+-- A port that is tidied is left with what its wires need: no hidden node where none ends there at an offset above 0, else its subports up to the
+-- highest wired one.
+pub tidy-leaves-what-is-wired : (release : Release) (calls : List Call) (p n : ℕ) (d : Direction) (i : ℕ) → spotOf (run release calls .book .blocks) p ≡ spot n d i →
+    LeftByWires (next (run release calls) (tidyCall p)) p n d i
+tidy-leaves-what-is-wired = tidy.tidy-leaves-what-is-wired
+
+-- A second tidy of the same port finds nothing to do: answer, graph and book are those of the first.
+pub tidy-twice-is-once : (release : Release) (calls : List Call) (p : ℕ) →
+    (step (step (run release calls .graph) (tidyCall p) .graph) (tidyCall p) ≡ step (run release calls .graph) (tidyCall p))
+    × (next (next (run release calls) (tidyCall p)) (tidyCall p) ≡ next (run release calls) (tidyCall p))
+tidy-twice-is-once = tidy.tidy-twice-is-once
+
+-- A port that stays split keeps its hidden node in its block, whatever the block's size, and nothing is taken or given back.
+pub tidy-drops-within-the-block : (release : Release) (calls : List Call) (p n : ℕ) (d : Direction) → seen (run release calls .graph) p ≡ visible n d → isSplit (run release calls .graph) p ≡ true →
+    isSplit (next (run release calls) (tidyCall p) .graph) p ≡ true →
+    SameBlock (run release calls .graph .graph) (next (run release calls) (tidyCall p) .graph .graph) (copyNode (run release calls .graph) p)
+    × ((M N : Model) → Fine (run release calls .graph) M → Fine (next (run release calls) (tidyCall p) .graph) N → roomOf N ≡ roomOf M)
+tidy-drops-within-the-block = tidy.tidy-drops-within-the-block
+
+-- A port that was split and is not any more: the slot and the block of its hidden node are the last that were freed, and are found again by
+-- adds and links of that size.
+pub tidied-slots-are-found : (release : Release) (calls : List Call) (p : ℕ) (k : NodeMeta) → isSplit (run release calls .graph) p ≡ true → isSplit (next (run release calls) (tidyCall p) .graph) p ≡ false →
+    metaAt (run release calls .graph .graph) (copyNode (run release calls .graph) p) ≡ maybe-meta.Some k →
+    FoundAgain (run release calls .graph) (next (run release calls) (tidyCall p) .graph) (copyNode (run release calls .graph) p) k
+tidied-slots-are-found = tidy.tidied-slots-are-found
+
+-- A tidy is never refused for room.
+pub tidy-needs-no-room : (release : Release) (calls : List Call) (p : ℕ) → RefusedBy (tidyCall p) (step (run release calls .graph) (tidyCall p) .answer) NoRoom → ⊥
+tidy-needs-no-room = tidy.tidy-needs-no-room
 
 -- Answers and listings, which are all that a tablet sees.
 
@@ -254,6 +303,10 @@ fan-out-table = bench.fan-out-table
 -- A second wire into an input by smallest inputs: every number under release 1 and under release 2.
 pub input-table : (release : Release) → askedUnder release (inputLines release) ≡ expectedAll (inputLines release)
 input-table = bench.input-table
+
+-- Tidies by smallest inputs: what stays, what goes, and the numbers that later answers carry.
+pub tidy-table : askedAll tidyLines ≡ expectedAll tidyLines
+tidy-table = bench.tidy-table
 
 -- 01's numbers of every refusal, with what it carries, and of every kind of answer.
 pub refusal-numbers : (p q : ℕ) → map refusalNumbers (refusals p q) ≡ refusalTable p q

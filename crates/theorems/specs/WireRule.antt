@@ -45,6 +45,9 @@ use Rattle.multiportgraph.specs.declared.multiportgraph.LinkAnswer.{LinkAnswer}
 use Rattle.multiportgraph.specs.declared.multiportgraph.LinkAnswer.the-variants as link
 use Rattle.multiportgraph.specs.declared.multiportgraph.CutAnswer.{CutAnswer}
 use Rattle.multiportgraph.specs.declared.multiportgraph.CutAnswer.the-variants as cutting
+use Rattle.multiportgraph.specs.declared.multiportgraph.TidyAnswer.{TidyAnswer}
+use Rattle.multiportgraph.specs.declared.multiportgraph.TidyAnswer.the-variants as tidying
+use Rattle.multiportgraph.specs.TidyLaws.{TidyDone, TidySays}
 use Rattle.multiportgraph.specs.Places.{Place, Wire, Spot, spot, atEnd, touches, wireOfSides}
 use Rattle.multiportgraph.specs.Wires.{portsWalked}
 use Rattle.multiportgraph.specs.declared.multiportgraph.Release.{Release}
@@ -453,6 +456,11 @@ module _ {m : MultiPortGraph} {M : Model} (f : Fine m M) (m′ : MultiPortGraph)
       go (cutting.Found s x) k = done k
       go cutting.Nothing k = done k
       go (cutting.Refused e) k = stays f m′ k
+
+  -- every block and every wire is where it was
+  pub after-tidy : (a : TidyAnswer) → TidySays m M m′ a → Leads m M m′ (λ B. B)
+  after-tidy tidying.Tidied d = record { model = d .model; fine = d .fine; booked = λ B r. rel-same r (d .fine) (d .blocks) (d .wires) }
+  after-tidy (tidying.Refused e) d = stays f m′ d
 
 -- Every history.
 

@@ -7,8 +7,8 @@ use Rattle.portgraph.specs.Limits.{nodePorts}
 use Rattle.portgraph.specs.Lookups.{metaAt}
 use Rattle.multiportgraph.specs.Reading.{isHidden, seen}
 use Rattle.theorems.specs.Book as book
-use Rattle.theorems.specs.Book.{Call, addCall, removeCall, setCall, linkCleanCall, linkSubCall, cutCall, cutSubCall}
-use Rattle.multiportgraph.specs.Space.{Work, addWorks, removeWorks, toldWorks, linkWorks, linkCleanWorks, cutSeenWorks}
+use Rattle.theorems.specs.Book.{Call, addCall, removeCall, setCall, linkCleanCall, linkSubCall, cutCall, cutSubCall, tidyCall}
+use Rattle.multiportgraph.specs.Space.{Work, addWorks, removeWorks, toldWorks, linkWorks, linkCleanWorks, cutSeenWorks, tidySeenWorks}
 use Rattle.multiportgraph.specs.declared.multiportgraph.MultiPortGraph.{MultiPortGraph}
 
 unfoldable pub worksOf : MultiPortGraph → Call → List Work
@@ -20,3 +20,4 @@ worksOf m (linkCleanCall a b) = linkCleanWorks m a b
 worksOf m (linkSubCall p o q r) = []
 worksOf m (cutCall p) = cutSeenWorks m p (seen m p)
 worksOf m (cutSubCall p o) = []
+worksOf m (tidyCall p) = tidySeenWorks m p (seen m p)

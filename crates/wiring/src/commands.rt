@@ -24,6 +24,7 @@ use crate::orders::RESIZE;
 use crate::orders::SAVE;
 use crate::orders::SHEET;
 use crate::orders::SUBLINK;
+use crate::orders::TIDY;
 use crate::orders::UNLINK;
 use crate::orders::UNLINKSUB;
 use crate::orders::WIRES;
@@ -33,6 +34,7 @@ use crate::resize::resize_block;
 use crate::sheet::link_pairs;
 use crate::show::write_bytes;
 use crate::store::save_as;
+use crate::tidy::tidy;
 use crate::whole::list_whole;
 use multiportgraph::multiportgraph::MultiPortGraph;
 use multiportgraph::multiportgraph::Release;
@@ -93,6 +95,7 @@ pub(crate) fn run(graph: MultiPortGraph, order: Order, text: &[u8]) -> MultiPort
         COUNTS => request(graph, order, 3),
         LINK | LINKSUB => request(graph, order, 4),
         LINKCLEAN => link_cleanly(graph, order),
+        TIDY => tidy(graph, order),
         _ => {
             look(graph, order, text);
             graph

@@ -26,6 +26,7 @@ Change the wiring:
   sheet A B A B ..        up to 64 links at once, in order: the answer of each, ok ENTRIES
   unlink P                cuts all wires at a port: ok 1 PORT OFFSET NODE SIDE POSITION, or ok 0 0 0
   unlinksub P O           cuts the wire at a subport: ok 1 PORT OFFSET NODE SIDE POSITION, or ok 0 0 0
+  tidy P                  takes the empty subports at a port's end away, and no wire: ok
 Ask for numbers:
   sublink P O             the far end of the wire at a subport: ok 1 PORT OFFSET NODE SIDE POSITION, or ok 0 0 0
   counts                  how much there is: ok NODES PORTS LINKS

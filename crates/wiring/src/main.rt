@@ -16,6 +16,7 @@ mod sheet;
 mod show;
 mod store;
 mod text;
+mod tidy;
 mod whole;
 
 use crate::arguments::Asked;

@@ -63,9 +63,11 @@ pub(crate) const LOAD: u32 = 24;
 
 pub(crate) const NEW: u32 = 25;
 
-pub(crate) const HELP: u32 = 26;
+pub(crate) const TIDY: u32 = 26;
 
-pub(crate) const QUIT: u32 = 27;
+pub(crate) const HELP: u32 = 27;
+
+pub(crate) const QUIT: u32 = 28;
 
 // There are fewer rows than this.
 const ROWS: u32 = 64;
@@ -293,6 +295,7 @@ linkclean A B
 save NAME
 load NAME
 new RELEASE
+tidy P
 help
 quit
 ";

@@ -12,7 +12,6 @@ use differential::runs::Plan;
 use differential::saves::save_records;
 use differential::spoil::{spoiled, spoiled_console, spoiled_load, spoiled_save, KINDS};
 use differential::tally::Tally;
-use differential::views::view_of_records;
 use differential::{console, runs};
 
 /// A run that compares fewer calls of random lists, or fewer saved files, fails.
@@ -76,10 +75,13 @@ fn run(options: &Options, total: &mut Tally) -> Result<(), String> {
     total.add(&loaded);
     lines.iter().for_each(|line| println!("{line}"));
     println!("{loaded}");
-    let (lines, views) = runs::views(&view_of_records, &options.plan)?;
-    total.add(&views);
-    lines.iter().for_each(|line| println!("{line}"));
-    println!("{views}");
+    #[cfg(not(feature = "former"))]
+    {
+        let (lines, views) = runs::views(&differential::views::view_of_records, &options.plan)?;
+        total.add(&views);
+        lines.iter().for_each(|line| println!("{line}"));
+        println!("{views}");
+    }
     if let Some(program) = wiring {
         let mut scripts = Tally::default();
         let seeds = options.plan.script_seeds();

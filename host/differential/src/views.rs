@@ -32,7 +32,7 @@ const KINDS: [&str; 13] =
 
 /// The kinds of views, buffers and lists that a whole run must bring up.
 pub fn kinds() -> impl Iterator<Item = &'static str> {
-    KINDS.into_iter()
+    KINDS.into_iter().filter(|_| !cfg!(feature = "former"))
 }
 
 /// The view of the original's graph, from its listings.

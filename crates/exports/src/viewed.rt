@@ -114,7 +114,17 @@ fn view_in<'a>(
     put_word(view, 0, blocks as u32);
     put_word(view, 4, wires as u32);
     put_blocks(nodes, links, owners, heads, marks, flags, held, view, 8);
-    put_wires(nodes, links, owners, heads, marks, flags, held, view, second);
+    put_wires(
+        nodes,
+        links,
+        owners,
+        heads,
+        marks,
+        flags,
+        held,
+        view,
+        second,
+    );
     size as u64
 }
 

@@ -18,9 +18,9 @@ lines records Words Run Forms
 echo 'for walks, lookups and whole listings besides:'
 lines portgraph Walks LinkWalks
 lines multiportgraph Walks WalkNumbers Lookups Listed
-echo 'for sheets and files besides:'
+echo 'for sheets, files and views besides:'
 lines sheets Theorems Sheets SheetHistory Held
 lines files View Layout Saving Loading BuildList Claims LoadClaims FileTheorems LoadTheorems
-lines exports Exports
+lines exports Exports Viewed ViewedClaims ViewedTheorems
 echo 'for kits with other limits besides:'
 lines kits Kits KitTheorems

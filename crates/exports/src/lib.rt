@@ -1,4 +1,4 @@
-// What the tablet's Rust calls on files, over bytes alone.
+// What the tablet's Rust or C calls on files and views, over bytes alone.
 pub mod loaded;
 pub mod saved;
 pub mod viewed;

@@ -376,8 +376,9 @@ impl List {
     }
 
     fn push(&mut self, request: [u32; 5]) -> usize {
+        let place = self.len();
         self.requests.extend(request.iter().flat_map(|word| word.to_le_bytes()));
-        self.len() - 1
+        place
     }
 
     /// Adds a node.

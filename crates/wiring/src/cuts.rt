@@ -2,7 +2,7 @@
 use crate::orders::Order;
 use crate::orders::UNLINK;
 use crate::replies::show_refusal;
-use crate::show::Line;
+use lines::show::Line;
 use multiportgraph::multiportgraph::CutAnswer;
 use multiportgraph::multiportgraph::MultiPortGraph;
 use multiportgraph::multiportgraph::PortUnlinked;

@@ -2,16 +2,16 @@
 use crate::orders::Order;
 use crate::replies::show_refusal;
 use crate::replies::show_refusal_number;
-use crate::show::write_bytes;
 use crate::store::last_error;
 use crate::store::put_text;
 use crate::store::show_failure;
-use crate::text::Span;
-use crate::text::next_word;
-use crate::text::part;
 use files::load::LoadAnswer;
 use files::load::load;
 use libc::EFBIG;
+use lines::show::write_bytes;
+use lines::text::Span;
+use lines::text::next_word;
+use lines::text::part;
 use multiportgraph::multiportgraph::MultiPortGraph;
 ghost use Rattle.multiportgraph.specs.Inner.{MultiWf};
 

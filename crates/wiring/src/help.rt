@@ -1,5 +1,5 @@
 // What the program says of itself: how it is started, and its commands.
-use crate::show::write_bytes;
+use lines::show::write_bytes;
 
 pub(crate) fn show_usage() {
     write_bytes(

@@ -10,7 +10,7 @@ use crate::orders::Order;
 use crate::orders::SUBPORTS;
 use crate::replies::show_number;
 use crate::replies::show_refusal;
-use crate::show::Line;
+use lines::show::Line;
 use multiportgraph::iter::Neighbours;
 use multiportgraph::iter::NeighboursStep;
 use multiportgraph::iter::NodeConnections;

@@ -1,6 +1,5 @@
 // A console for a wiring: commands on standard input, one a line, from an empty graph on; each is answered on standard output as
 // soon as its line is read.
-mod arguments;
 mod commands;
 mod console;
 mod cuts;
@@ -8,21 +7,18 @@ mod fetch;
 mod help;
 mod listing;
 mod orders;
-mod reading;
 mod replies;
 mod resize;
 mod session;
 mod sheet;
-mod show;
 mod store;
-mod text;
 mod tidy;
 mod whole;
 
-use crate::arguments::Asked;
-use crate::arguments::read_arguments;
 use crate::console::read_and_run;
 use crate::help::show_usage;
+use lines::arguments::Asked;
+use lines::arguments::read_arguments;
 
 fn main() {
     match read_arguments() {

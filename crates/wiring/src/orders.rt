@@ -1,13 +1,12 @@
 // What a line asks for: the commands, by number, and a row for each that says how it is typed.
 use crate::replies::show_bad;
-use crate::text::NO_VALUE;
-use crate::text::Span;
-use crate::text::is_word;
-use crate::text::line_end;
-use crate::text::next_word;
-use crate::text::number_of;
-use crate::text::part;
-use crate::text::same_word;
+use lines::rows::row_of;
+use lines::text::NO_VALUE;
+use lines::text::Span;
+use lines::text::is_word;
+use lines::text::next_word;
+use lines::text::number_of;
+use lines::text::part;
 ghost use Prim.Native.Nat.{_≤_};
 
 // A command's number is the line of its row, from 1; the requests have their codes.
@@ -69,9 +68,6 @@ pub(crate) const HELP: u32 = 27;
 
 pub(crate) const QUIT: u32 = 28;
 
-// There are fewer rows than this.
-const ROWS: u32 = 64;
-
 // A line has fewer numbers than this.
 const NUMBERS: u32 = 65536;
 
@@ -109,12 +105,6 @@ pub struct Order {
     pub from: usize,
 }
 
-// A line of the table: its number from 1, and where it stands.
-pub struct Row {
-    pub number: u32,
-    pub span: Span,
-}
-
 pub(crate) fn order_to(command: u32) -> Order {
     Order {
         command: command,
@@ -141,30 +131,6 @@ impl Order {
             _ => self.d = value,
         }
         self
-    }
-}
-
-// The row whose first word is this one of a line.
-fn row_of(table: &[u8], text: &[u8], word: Span) -> Row {
-    let mut number: u32 = 1;
-    let mut from: usize = 0;
-    while number < ROWS {
-        let to = line_end(table, from, table.len());
-        if same_word(text, word, table, next_word(table, from)) {
-            return Row {
-                number: number,
-                span: Span { from: from, to: to },
-            };
-        }
-        if table.len() <= to {
-            break;
-        }
-        from = to + 1;
-        number += 1;
-    }
-    Row {
-        number: NOTHING,
-        span: Span { from: 0, to: 0 },
     }
 }
 

@@ -1,8 +1,7 @@
 // Answers as lines: `ok` or `refused` with numbers, and `bad line`. A line that says no ends in its reason, for people.
-use crate::show::Line;
-use crate::text::Span;
-use crate::text::line_end;
-use crate::text::part;
+use lines::rows::line_at;
+use lines::show::Line;
+use lines::text::part;
 use multiportgraph::lookups::CountAnswer;
 use multiportgraph::multiportgraph::Refusal;
 use records::answers::Answer5;
@@ -10,24 +9,6 @@ use records::answers::refusal_words;
 
 // The line of the reasons from which refusals are counted; it stands for 12 where both ends are outputs.
 const REFUSALS: u32 = 9;
-
-// A line of a text, counted from 0.
-fn line_at(text: &[u8], number: u32) -> Span {
-    let mut from: usize = 0;
-    let mut left = number;
-    while 0 < left {
-        let end = line_end(text, from, text.len());
-        if text.len() <= end {
-            return Span { from: 0, to: 0 };
-        }
-        from = end + 1;
-        left -= 1;
-    }
-    Span {
-        from: from,
-        to: line_end(text, from, text.len()),
-    }
-}
 
 // The reason stands after two blanks and `#`: what is wrong with a line, or why a call is refused.
 fn with_reason(line: Line, number: u32) -> Line {

@@ -2,7 +2,7 @@
 use crate::orders::Order;
 use crate::replies::show_number;
 use crate::replies::show_refusal;
-use crate::show::Line;
+use lines::show::Line;
 use multiportgraph::multiportgraph::MultiPortGraph;
 use multiportgraph::multiportgraph::SetAnswer;
 use portgraph::index::NODE_PORTS;

@@ -1,14 +1,8 @@
 // The wiring as a file: written under a name beside it, synced, and then renamed, so that at any moment the old file or the new one
 // is there.
 use crate::orders::Order;
-use crate::reading::put_byte;
 use crate::replies::show_number;
 use crate::replies::show_refusal_number;
-use crate::show::write_bytes;
-use crate::text::Span;
-use crate::text::byte_at;
-use crate::text::next_word;
-use crate::text::part;
 use files::save::LONGEST_FILE;
 use files::save::SaveAnswer;
 use files::save::save;
@@ -24,6 +18,12 @@ use libc::ENOTDIR;
 use libc::EPERM;
 use libc::EROFS;
 use libc::PATH_MAX;
+use lines::reading::put_byte;
+use lines::show::write_bytes;
+use lines::text::Span;
+use lines::text::byte_at;
+use lines::text::next_word;
+use lines::text::part;
 use multiportgraph::multiportgraph::MultiPortGraph;
 ghost use Rattle.multiportgraph.specs.Inner.{MultiWf};
 

@@ -1,7 +1,7 @@
 // A port is tidied: no wire changes its place.
 use crate::orders::Order;
 use crate::replies::show_refusal;
-use crate::show::write_bytes;
+use lines::show::write_bytes;
 use multiportgraph::multiportgraph::MultiPortGraph;
 use multiportgraph::multiportgraph::TidyAnswer;
 use records::ask::tidy_port;

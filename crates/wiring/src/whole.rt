@@ -2,8 +2,8 @@
 use crate::orders::BLOCKS;
 use crate::orders::PLACES;
 use crate::replies::show_number;
-use crate::show::Line;
-use crate::show::write_bytes;
+use lines::show::Line;
+use lines::show::write_bytes;
 use multiportgraph::list_ends::ListAnswer;
 use multiportgraph::multiportgraph::MultiPortGraph;
 use portgraph::index::PORT_SLOTS;

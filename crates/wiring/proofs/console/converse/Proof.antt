@@ -7,10 +7,10 @@ use Rattle.wiring.proofs.console.converse.Statement.{statement}
 use Rattle.wiring.proofs.console.converse.Tie as tie
 
 abbrev Inv-loop : tie.InvT-loop
-Inv-loop buffer₀ echo graph₀ session₀ turns₀ buffer graph session turns = MultiWf graph × (length buffer ≡ length buffer₀)
+Inv-loop buffer₀ echo graph₀ listener₀ turns₀ buffer graph listener turns = MultiWf graph × (length buffer ≡ length buffer₀)
 
 abbrev μ-loop : tie.MeasureT-loop
-μ-loop buffer₀ echo graph₀ session₀ turns₀ buffer graph session turns = turns
+μ-loop buffer₀ echo graph₀ listener₀ turns₀ buffer graph listener turns = turns
 
 empty-requires : tie.Need-empty-requires Inv-loop μ-loop
 empty-requires c κs = search needs
@@ -27,8 +27,8 @@ listen-requires c κs = search needs
 line-part-requires : tie.Need-line-part-requires Inv-loop μ-loop
 line-part-requires c κs = search needs
 
-run-requires : tie.Need-run-requires Inv-loop μ-loop
-run-requires c κs = search needs
+obey-requires : tie.Need-obey-requires Inv-loop μ-loop
+obey-requires c κs = search needs
 
 same-length : tie.Need-same-length Inv-loop μ-loop
 same-length c = search needs
@@ -62,7 +62,7 @@ converse-spec =
     loop-holds
     listen-requires
     line-part-requires
-    run-requires
+    obey-requires
     same-length
     returns
     sub-turns

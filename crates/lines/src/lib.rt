@@ -1,0 +1,16 @@
+// What the programs that people type at share: lines are read from standard input and taken apart into words and numbers, and answers are
+// written as lines.
+
+// Lines, words and numbers in a text, and lines of a text as rows of a table.
+pub mod rows;
+pub mod text;
+
+// The input, cut into lines, and what is heard of it.
+pub mod listening;
+pub mod reading;
+
+// A line of output.
+pub mod show;
+
+// The words after a program's name.
+pub mod arguments;

@@ -13,8 +13,8 @@
 enum { CALLS = 20000, WORDS = 5, STACK = 1 << 20, PAINT = 0xA5, BLOCKS = 1000, LINKS = BLOCKS - 1, FILE_BYTES = 65536 };
 
 static uint32_t requests[CALLS * WORDS], answers[CALLS * WORDS], ring[(BLOCKS + LINKS) * WORDS], loaded[CALLS * WORDS];
-static uint8_t file[FILE_BYTES], view[KANHTREV_LONGEST_VIEW];
-static uint64_t file_bytes, loaded_bytes, view_bytes;
+static uint8_t file[FILE_BYTES], merged[FILE_BYTES], view[KANHTREV_LONGEST_VIEW];
+static uint64_t file_bytes, loaded_bytes, merged_bytes, view_bytes;
 
 static void draw(uint32_t *request) {
     static const uint32_t below[10][5] = {
@@ -44,6 +44,11 @@ static void *look(void *unused) {
 
 static void *load(void *unused) {
     loaded_bytes = records_of_file(file, file_bytes, (uint8_t *)loaded, sizeof loaded);
+    return unused;
+}
+
+static void *merge(void *unused) {
+    merged_bytes = merge_files(file, file_bytes, file, 0, merged, sizeof merged);
     return unused;
 }
 
@@ -81,6 +86,8 @@ int main(void) {
     printf("save_records: a file of %llu bytes, %zu bytes of stack\n", (unsigned long long)file_bytes, bytes);
     bytes = taken(load);
     printf("records_of_file: %llu requests, %zu bytes of stack\n", (unsigned long long)(loaded_bytes / 20), bytes);
+    bytes = taken(merge);
+    printf("merge_files: a file of %llu bytes, %zu bytes of stack\n", (unsigned long long)merged_bytes, bytes);
     bytes = taken(look);
     printf("view_of_records: a view of %llu bytes, %zu bytes of stack\n", (unsigned long long)view_bytes, bytes);
 }

@@ -54,6 +54,10 @@ uint64_t save_records(const uint8_t *requests, size_t request_bytes, uint8_t *fi
  * that was saved, with 3 or 10 if it cannot be built here, with 15 if the buffer is too short. */
 uint64_t records_of_file(const uint8_t *file, size_t file_bytes, uint8_t *requests, size_t request_bytes);
 
+/* Reads two files and writes one of both, the second's blocks behind the first's. The file's length; refused with 16 or 17 for the first file, then for
+ * the second, with 3 or 10 if the first, the second or both together cannot be built here, with 15 if the buffer is too short. */
+uint64_t merge_files(const uint8_t *first, size_t first_bytes, const uint8_t *second, size_t second_bytes, uint8_t *file, size_t file_bytes);
+
 #ifdef __cplusplus
 }
 #endif

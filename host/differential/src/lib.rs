@@ -8,6 +8,7 @@
 //! - [`saves`]: files that lists are saved as, beside that writer.
 //! - [`views`]: what a page is drawn from, beside the original's listings.
 //! - [`loads`], [`broken`]: files that are loaded, whole and damaged, beside that reader and the original.
+//! - [`merges`]: two files as one, beside a merge from document 02's words over that reader, that writer and the original.
 //! - [`spoil`]: wrong answers put in by hand, to show that they are caught.
 //! - [`lists`], [`plain`], [`plain_files`]: lists that the original answers itself, the original without the driver, and a plain
 //!   writer and reader of files over it, for the benchmark.
@@ -24,6 +25,7 @@ pub mod growth;
 pub mod history;
 pub mod lists;
 pub mod loads;
+pub mod merges;
 pub mod plain;
 pub mod plain_files;
 pub mod runs;

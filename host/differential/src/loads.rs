@@ -164,7 +164,7 @@ pub fn saved(entries: Entries, seed: u64, files: u64, tally: &mut Tally) -> Resu
 }
 
 /// A wiring as a file may have it, whether or not there is space for it.
-fn drawn(random: &mut Random) -> View {
+pub(crate) fn drawn(random: &mut Random) -> View {
     // How many blocks and wires at most, and how many ports a side.
     let (blocks, wires, ports) = match random.below(40) {
         0 => (20, 30, 200),

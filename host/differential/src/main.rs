@@ -77,6 +77,10 @@ fn run(options: &Options, total: &mut Tally) -> Result<(), String> {
     println!("{loaded}");
     #[cfg(not(feature = "former"))]
     {
+        let (lines, merged) = runs::merges(&differential::merges::merge_files, &options.plan)?;
+        total.add(&merged);
+        lines.iter().for_each(|line| println!("{line}"));
+        println!("{merged}");
         let (lines, views) = runs::views(&differential::views::view_of_records, &options.plan)?;
         total.add(&views);
         lines.iter().for_each(|line| println!("{line}"));
@@ -131,7 +135,7 @@ fn main() -> ExitCode {
     let (compared, expected, listings, files) = (total.compared(), total.expected(), total.listings(), total.files());
     println!("{compared} calls compared with the Rust, {expected} expected by 01");
     let views = total.views();
-    println!("{listings} listings compared, {files} files saved or loaded by records, {views} views");
+    println!("{listings} listings compared, {files} files saved, loaded or merged, {views} views");
     println!("{} passed, {failed} failed", compared + expected + listings + files + views);
     ExitCode::from(u8::from(failed > 0))
 }

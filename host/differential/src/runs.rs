@@ -7,8 +7,9 @@ use driver::{Random, Shape};
 use crate::compare::{compare, Entry, Writes};
 use crate::history::History;
 use crate::loads::Entries;
+use crate::merges::Merges;
 use crate::tally::Tally;
-use crate::{damage, exhaustive, loads, saves, views};
+use crate::{damage, exhaustive, loads, merges, saves, views};
 
 /// How much is run.
 #[derive(Clone, Copy, Debug)]
@@ -37,6 +38,9 @@ pub struct Plan {
     pub loads: u64,
     pub small: u64,
     pub damaged: u64,
+    /// Pairs of files that are merged, and three files in both groupings.
+    pub pairs: u64,
+    pub triples: u64,
     /// So many views of random lists are compared, or more.
     pub views: u64,
 }
@@ -58,6 +62,8 @@ impl Plan {
         loads: 20_000,
         small: 8,
         damaged: 1_000_000,
+        pairs: 60_000,
+        triples: 15_000,
         views: 200_000,
     };
     /// A run of seconds.
@@ -76,6 +82,8 @@ impl Plan {
         loads: 400,
         small: 1,
         damaged: 20_000,
+        pairs: 2_000,
+        triples: 400,
         views: 2_000,
     };
 
@@ -142,6 +150,20 @@ pub fn loads(entries: Entries, plan: &Plan) -> Result<(Vec<String>, Tally), Stri
         loads::long(entries, &mut tally)?,
         loads::every_byte(entries, plan.small, &mut tally)?,
         loads::damaged(entries, plan.seed, plan.damaged, &mut tally)?,
+    ];
+    Ok((lines, tally))
+}
+
+/// Files merged: of each kind beside each, all small ones, those about the limits, any, and three in both groupings. Gives what was run, and
+/// the tally.
+pub fn merges(merge: &Merges, plan: &Plan) -> Result<(Vec<String>, Tally), String> {
+    let mut tally = Tally::default();
+    let lines = vec![
+        merges::orders(merge, &mut tally)?,
+        merges::small(merge, &mut tally)?,
+        merges::limits(merge, &mut tally)?,
+        merges::pairs(merge, plan.seed, plan.pairs, &mut tally)?,
+        merges::triples(merge, plan.seed, plan.triples, &mut tally)?,
     ];
     Ok((lines, tally))
 }

@@ -7,7 +7,7 @@ use driver::Release;
 
 use crate::console::{LOADS, SHEETS};
 use crate::history::{By, Step, LINK_CLEAN};
-use crate::{loads, saves, views};
+use crate::{loads, merges, saves, views};
 
 /// The calls by code; 0 stands for unknown codes.
 pub const CALLS: [&str; LINK_CLEAN + 1] = [
@@ -38,6 +38,9 @@ pub struct Tally {
     /// Files loaded, and loads refused, with the buffer untouched.
     pub loaded: u64,
     pub loads_refused: u64,
+    /// Pairs of files merged, and merges refused, with the buffer untouched.
+    pub merged: u64,
+    pub merges_refused: u64,
     /// Views written by records, and views refused, with the buffer untouched.
     pub viewed: u64,
     pub views_refused: u64,
@@ -87,6 +90,15 @@ impl Tally {
         }
     }
 
+    /// Counts two files merged, or a refused merge, by its kind.
+    pub fn merge(&mut self, kind: &'static str, merged: bool) {
+        self.file(kind);
+        match merged {
+            true => self.merged += 1,
+            false => self.merges_refused += 1,
+        }
+    }
+
     /// Counts a view, or a refused one, by its kind.
     pub fn view(&mut self, kind: &'static str, viewed: bool) {
         self.file(kind);
@@ -110,6 +122,8 @@ impl Tally {
         self.saves_refused += other.saves_refused;
         self.loaded += other.loaded;
         self.loads_refused += other.loads_refused;
+        self.merged += other.merged;
+        self.merges_refused += other.merges_refused;
         self.viewed += other.viewed;
         self.views_refused += other.views_refused;
         self.lists_refused += other.lists_refused;
@@ -138,9 +152,9 @@ impl Tally {
         self.viewed + self.views_refused
     }
 
-    /// Files saved by records and loaded as records, the refused ones included.
+    /// Files saved by records, loaded as records and merged, the refused ones included.
     pub fn files(&self) -> u64 {
-        self.saved + self.saves_refused + self.loaded + self.loads_refused
+        self.saved + self.saves_refused + self.loaded + self.loads_refused + self.merged + self.merges_refused
     }
 
     fn by(&self, who: impl Fn(By) -> bool) -> u64 {
@@ -219,11 +233,8 @@ impl Tally {
         let all = all.chain(reasons).chain(clean);
         let calls = all.filter(|key| !self.calls.contains_key(key)).map(|key| format!("{key:?}"));
         let notes = notes.into_iter().filter(|note| !self.notes.contains_key(note)).map(str::to_string);
-        let files = saves::kinds()
-            .chain(loads::kinds())
-            .chain(views::kinds())
-            .filter(|kind| !self.files.contains_key(kind))
-            .map(str::to_string);
+        let files = saves::kinds().chain(loads::kinds()).chain(merges::kinds()).chain(views::kinds());
+        let files = files.filter(|kind| !self.files.contains_key(kind)).map(str::to_string);
         calls.chain(notes).chain(sheets).chain(files).collect()
     }
 }
@@ -271,6 +282,9 @@ impl fmt::Display for Tally {
         }
         if self.loaded > 0 {
             writeln!(f, "files loaded: {}, and {} loads refused", self.loaded, self.loads_refused)?;
+        }
+        if self.merged > 0 {
+            writeln!(f, "files merged: {} pairs, and {} merges refused", self.merged, self.merges_refused)?;
         }
         if self.viewed > 0 {
             writeln!(f, "views: {}, and {} refused", self.viewed, self.views_refused)?;

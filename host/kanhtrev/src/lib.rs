@@ -115,6 +115,30 @@
 //! # }
 //! ```
 //!
+//! Two files are merged to one: the second's blocks behind the first's, with its wires.
+//!
+//! ```
+//! use kanhtrev::{merge, Answer, Counts, List, Port, Refusal};
+//!
+//! # fn main() -> Result<(), Refusal> {
+//! let mut steering = List::new();
+//! steering.add(0, 1);
+//! steering.add(1, 0);
+//! steering.link(Port(0), Port(1));
+//! let mut sprayer = List::new();
+//! sprayer.add(1, 1);
+//! sprayer.link(Port(1), Port(0));
+//!
+//! let file = merge(&steering.save()?, &sprayer.save()?)?;
+//! assert_eq!(file[512..532], [2, 0, 2, 0, 0, 0, 0, 0, 1, 0, 0, 0, 2, 0, 0, 0, 2, 0, 0, 0]); // the second wire is the third block's
+//! let mut both = List::load(&file)?;
+//! let counts = both.counts();
+//! assert_eq!(both.run()[counts], Ok(Answer::Counts(Counts { nodes: 3, ports: 4, links: 2 })));
+//! assert_eq!(merge(&[], &file), Ok(file.clone()));
+//! # Ok(())
+//! # }
+//! ```
+//!
 //! # What is proved
 //!
 //! The entries are proved to give what their definitions say, for all bytes; this crate, which turns typed calls into bytes and
@@ -260,11 +284,13 @@ pub enum Refusal {
     },
     /// 13: an end is linked. The port is an inner one.
     AlreadyLinked(Port),
-    /// 15: the lent buffer is too short. Only [`view_bytes`], [`save_bytes`] and [`load_bytes`].
+    /// 15: the lent buffer is too short. Only [`view_bytes`], [`save_bytes`], [`load_bytes`] and [`merge_bytes`].
     BufferShort,
-    /// 16: the length of a file is not a multiple of 512, or a unit's sum is wrong. Only [`load_bytes`].
+    /// 16: the length of a file is not a multiple of 512, or a unit's sum is wrong. Only [`load_bytes`] and
+    /// [`merge_bytes`].
     WrongSum,
-    /// 17: kinds, counts, zeros, order, ranks or positions break a file's layout. Only [`load_bytes`].
+    /// 17: kinds, counts, zeros, order, ranks or positions break a file's layout. Only [`load_bytes`] and
+    /// [`merge_bytes`].
     WrongLayout,
     /// A number that this crate doesn't know: the library is of another version.
     Unknown(u32),
@@ -556,6 +582,42 @@ pub fn load_bytes(file: &[u8], requests: &mut [u8]) -> Result<usize, Refusal> {
     }
     // SAFETY: as in `run_bytes`.
     length(unsafe { records_of_file(file.as_ptr(), file.len(), requests.as_mut_ptr(), requests.len()) })
+}
+
+/// Writes two files as one, the second behind the first, and gives the result's length; bytes past it are as before.
+///
+/// # Errors
+///
+/// [`Refusal::WrongSum`] or [`Refusal::WrongLayout`] for the first file, then for the second; then [`Refusal::TooManyPorts`] or
+/// [`Refusal::NoSpace`], as loading the first, the second or the result is refused; else [`Refusal::BufferShort`] if the result is longer
+/// than the buffer. The buffer is then as before.
+pub fn merge_bytes(first: &[u8], second: &[u8], file: &mut [u8]) -> Result<usize, Refusal> {
+    extern "C" {
+        fn merge_files(
+            first: *const u8,
+            first_bytes: usize,
+            second: *const u8,
+            second_bytes: usize,
+            file: *mut u8,
+            file_bytes: usize,
+        ) -> u64;
+    }
+    // SAFETY: as in `run_bytes`.
+    length(unsafe {
+        merge_files(first.as_ptr(), first.len(), second.as_ptr(), second.len(), file.as_mut_ptr(), file.len())
+    })
+}
+
+/// Two files as one, the second behind the first.
+///
+/// # Errors
+///
+/// As [`merge_bytes`], but never for the buffer.
+pub fn merge(first: &[u8], second: &[u8]) -> Result<Vec<u8>, Refusal> {
+    let mut file = vec![0; LONGEST_FILE];
+    let length = merge_bytes(first, second, &mut file)?;
+    file.truncate(length);
+    Ok(file)
 }
 
 /// What an entry that answers a length returned: from 4,294,967,296 on, what is above it is the number of a refusal.

@@ -4,7 +4,7 @@ use std::collections::BTreeMap;
 use std::error::Error as StdError;
 use std::fmt;
 
-use crate::{Answer, Block, Direction, End, List, Node, Place, Port, Refusal, Subport, View, Wire};
+use crate::{merge, Answer, Block, Direction, End, List, Node, Place, Port, Refusal, Subport, View, Wire};
 
 /// Why a call of a [`Wiring`] is not done.
 #[derive(Clone, Debug, PartialEq, Eq, Hash)]
@@ -118,6 +118,46 @@ impl Wiring {
     /// None is given: the list is whole, and there is room for the longest file.
     pub fn save(&self) -> Result<Vec<u8>, Error> {
         Ok(self.list.save()?)
+    }
+
+    /// This wiring and another behind it, as of their files: the blocks of both are numbered from 0, this one's first, with the names that
+    /// they have. Neither of the two changes.
+    ///
+    /// ```
+    /// use kanhtrev::{Error, Wiring};
+    ///
+    /// # fn main() -> Result<(), Error> {
+    /// let mut steering = Wiring::new();
+    /// let fusion = steering.add("fusion", 0, 1)?;
+    /// let valve = steering.add("valve", 1, 0)?;
+    /// steering.link(fusion.output(0), valve.input(0))?;
+    /// let mut sprayer = Wiring::new();
+    /// sprayer.add("nozzle", 1, 0)?;
+    ///
+    /// let mut both = steering.merge(&sprayer)?;
+    /// let (fusion, nozzle) = (both.find("fusion").unwrap(), both.find("nozzle").unwrap());
+    /// both.link(fusion.output(0), nozzle.input(0))?;
+    /// assert_eq!((both.blocks().len(), both.wires().len()), (3, 2));
+    /// # Ok(())
+    /// # }
+    /// ```
+    ///
+    /// # Errors
+    ///
+    /// [`Error::NameTaken`] if a block of the other has a name of this one's; [`Refusal::NoSpace`] if one of the two, or both together, cannot be
+    /// loaded here.
+    pub fn merge(&self, other: &Wiring) -> Result<Wiring, Error> {
+        if let Some(name) = other.names.values().find(|name| self.find(name).is_some()) {
+            return Err(Error::NameTaken(name.clone()));
+        }
+        let mut both = Wiring::load(&merge(&self.save()?, &other.save()?)?)?;
+        let named = [self, other]
+            .into_iter()
+            .flat_map(|wiring| wiring.blocks().iter().map(|block| wiring.names.get(&block.node)));
+        for (block, name) in both.view.blocks.iter().zip(named) {
+            both.names.extend(name.map(|name| (block.node, name.clone())));
+        }
+        Ok(both)
     }
 
     /// The calls that were done.

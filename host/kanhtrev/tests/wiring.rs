@@ -4,7 +4,7 @@ use std::collections::hash_map::DefaultHasher;
 use std::error::Error as _;
 use std::hash::{Hash, Hasher};
 
-use kanhtrev::{Answer, Direction, Error, List, Node, Place, Port, Refusal, View, Wiring};
+use kanhtrev::{merge_bytes, Answer, Direction, Error, List, Node, Place, Port, Refusal, View, Wiring};
 
 /// The kit: receiver, gyro and wheel sensor into fusion, which feeds display, recorder and valve.
 fn kit() -> Wiring {
@@ -159,6 +159,40 @@ fn saved_and_loaded_on_the_next_tractor() {
     assert!(Wiring::load(&[]).unwrap().blocks().is_empty());
     let damaged: Vec<u8> = file.iter().map(|byte| byte ^ 1).collect();
     assert_eq!(Wiring::load(&damaged).unwrap_err(), Error::Refused(Refusal::WrongSum));
+}
+
+#[test]
+fn merged_with_the_sprayer() {
+    let steering = kit();
+    let mut sprayer = Wiring::new();
+    let flow = sprayer.add("flow meter", 0, 1).unwrap();
+    let (control, nozzle) = (sprayer.add("control", 2, 1).unwrap(), sprayer.add("nozzle", 1, 0).unwrap());
+    sprayer.link(flow.output(0), control.input(0)).unwrap();
+    sprayer.link(control.output(0), nozzle.input(0)).unwrap();
+    let mut both = steering.merge(&sprayer).unwrap();
+    assert_eq!((both.blocks().len(), both.wires().len()), (10, 8));
+    let [fusion, control] = ["fusion", "control"].map(|name| both.find(name).unwrap());
+    assert_eq!(control, Node(8));
+    both.link(fusion.output(0), control.input(1)).unwrap();
+    assert_eq!(both.wires_at(fusion.output(0)).count(), 4);
+    // nothing on either side changes nothing, and the grouping makes no difference
+    assert_eq!(steering.merge(&Wiring::new()).unwrap().save(), steering.save());
+    assert_eq!(Wiring::new().merge(&steering).unwrap().save(), steering.save());
+    let mut third = Wiring::new();
+    third.add("lamp", 1, 0).unwrap();
+    let left = steering.merge(&sprayer).unwrap().merge(&third).unwrap();
+    let right = steering.merge(&sprayer.merge(&third).unwrap()).unwrap();
+    assert_eq!(left.save(), right.save());
+    assert_eq!(steering.merge(&steering).unwrap_err(), Error::NameTaken("receiver".into()));
+    let mut full = Wiring::new();
+    for block in 0..3 {
+        full.add(format!("full {block}"), 512, 512).unwrap();
+    }
+    assert_eq!(full.merge(&third).unwrap_err(), Error::Refused(Refusal::NoSpace));
+    let mut file = vec![7; 100];
+    assert_eq!(merge_bytes(&[0], &[], &mut file), Err(Refusal::WrongSum));
+    assert_eq!(merge_bytes(&steering.save().unwrap(), &[], &mut file), Err(Refusal::BufferShort));
+    assert_eq!(file, [7; 100]);
 }
 
 /// Random calls, good and bad: what the wiring answers and shows is what its list gives, and no number makes it panic.

@@ -22,10 +22,10 @@ use Rattle.portgraph.specs.SlotHolds.{slotRoom, blockRoom, addWhere, add-law, p
 use Rattle.portgraph.specs.declared.direction.Direction.{Direction}
 use Rattle.portgraph.specs.declared.node_entry.NodeMeta.{NodeMeta}
 use Rattle.portgraph.specs.declared.slots.NodeAdded as lower-added
-use Rattle.multiportgraph.specs.Inner.{copyPlace, Fine, BlockIs, Seen}
+use Rattle.multiportgraph.specs.WellFormed.{copyPlace, Fine, BlockIs, Seen}
 use Rattle.multiportgraph.specs.Ends.{split-has-copy}
-use Rattle.multiportgraph.specs.Frame.{plain-frame, frame-fine, hidden-below, split-below, true-not-false}
-use Rattle.multiportgraph.specs.PlainLaws.{AddDone, AddSays, add-block-law, at-spot-is}
+use Rattle.multiportgraph.specs.HiddenStays.{plain-frame, frame-fine, hidden-below, split-below, true-not-false}
+use Rattle.multiportgraph.specs.LinkCutLaws.{AddDone, AddSays, add-block-law, at-spot-is}
 use Rattle.multiportgraph.specs.CaseLaws.{add-cases}
 use Rattle.multiportgraph.specs.Calls.{addBlock, addedAs}
 use Rattle.multiportgraph.specs.Graph.{withGraph}

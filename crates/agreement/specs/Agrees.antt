@@ -10,7 +10,7 @@ use borrow.Author.Tests.{lt-ltb, le-ltb, ltb-true, ltb-false}
 use Rattle.portgraph.specs.GoodLaws.{emptyModel}
 use Rattle.portgraph.specs.Model.{Model}
 use Rattle.multiportgraph.specs.Graph.{emptyGraph}
-use Rattle.multiportgraph.specs.PlainLaws.{empty-has-no-block}
+use Rattle.multiportgraph.specs.LinkCutLaws.{empty-has-no-block}
 use Rattle.multiportgraph.specs.declared.multiportgraph.Release.{Release}
 use Rattle.theorems.specs.Book.{Call}
 use Rattle.theorems.specs.History.{State, next, runFrom, runFromUnder, run, runUnder}

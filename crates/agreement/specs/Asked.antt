@@ -15,10 +15,10 @@ use Rattle.portgraph.specs.PlaceLaws.{port-link-to, port-link-none}
 use Rattle.portgraph.specs.declared.direction.Direction.{Direction}
 use Rattle.portgraph.specs.declared.direction.Direction.the-variants.{Incoming, Outgoing}
 use Rattle.portgraph.specs.declared.portgraph.PortLink.{PortLink}
-use Rattle.multiportgraph.specs.Inner.{Fine, Seen, lift, outer, IsEnd, WireIn}
+use Rattle.multiportgraph.specs.WellFormed.{Fine, Seen, lift, outer, IsEnd, WireIn}
 use Rattle.multiportgraph.specs.Ends.{EndOf, other-side, outer-seen, outer-apart, ends-join-ends, subport-of, outer-of-block, outer-of-subport, unsplit-no-copy}
-use Rattle.multiportgraph.specs.Frame.{true-not-false}
-use Rattle.multiportgraph.specs.PlainLaws.{end-is-here, end-is-same, nowhere-not-to, to-same}
+use Rattle.multiportgraph.specs.HiddenStays.{true-not-false}
+use Rattle.multiportgraph.specs.LinkCutLaws.{end-is-here, end-is-same, nowhere-not-to, to-same}
 use Rattle.multiportgraph.specs.CopyLaws.{port-at-is, port-at-here}
 use Rattle.multiportgraph.specs.CaseLaws.{subport-link-cases}
 use Rattle.multiportgraph.specs.Calls.{subportLink}

@@ -9,9 +9,9 @@ use Rattle.portgraph.specs.Lists.{Member}
 use Rattle.portgraph.specs.Model as model
 use Rattle.portgraph.specs.Model.{Model, Slots, countOf, slotOf}
 use Rattle.portgraph.specs.GoodSlots.{same-place}
-use Rattle.multiportgraph.specs.Inner.{Fine, Seen, SameBlocks, lift}
-use Rattle.multiportgraph.specs.Frame.{true-not-false}
-use Rattle.multiportgraph.specs.PlainLaws.{at-spot-here, at-spot-is}
+use Rattle.multiportgraph.specs.WellFormed.{Fine, Seen, SameBlocks, lift}
+use Rattle.multiportgraph.specs.HiddenStays.{true-not-false}
+use Rattle.multiportgraph.specs.LinkCutLaws.{at-spot-here, at-spot-is}
 use Rattle.multiportgraph.specs.Places.{Place, spot, atSpot}
 use Rattle.multiportgraph.specs.declared.multiportgraph.MultiPortGraph.{MultiPortGraph}
 use Rattle.theorems.specs.History.{State}

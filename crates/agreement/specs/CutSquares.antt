@@ -18,10 +18,10 @@ use Rattle.portgraph.specs.PlaceLaws.{port-link-to, port-link-none}
 use Rattle.portgraph.specs.declared.portgraph.PortGraph.{PortGraph}
 use Rattle.portgraph.specs.declared.portgraph.PortLink.{PortLink}
 use Rattle.portgraph.specs.declared.portgraph.PortLink.the-variants as lower-cut
-use Rattle.multiportgraph.specs.Inner.{copyPlace, Fine, Seen, outer, IsEnd, SameBlocks, Wiring}
+use Rattle.multiportgraph.specs.WellFormed.{copyPlace, Fine, Seen, outer, IsEnd, SameBlocks, Wiring}
 use Rattle.multiportgraph.specs.Ends.{Hangs, EndOf, split-has-copy, unsplit-is-end, ends-join-ends}
-use Rattle.multiportgraph.specs.Frame.{true-not-false, hidden-below, split-below}
-use Rattle.multiportgraph.specs.PlainLaws.{endIs, end-is-here, end-is-same, cut-end, to-same}
+use Rattle.multiportgraph.specs.HiddenStays.{true-not-false, hidden-below, split-below}
+use Rattle.multiportgraph.specs.LinkCutLaws.{endIs, end-is-here, end-is-same, cut-end, to-same}
 use Rattle.multiportgraph.specs.CopyLaws.{CopyGone, copy-goes, unsplit-split, same-test}
 use Rattle.multiportgraph.specs.CaseLaws.{cut-cases, cut-sub-cases}
 use Rattle.multiportgraph.specs.Cases.{cutRefused, cutEnd, cutSeen}

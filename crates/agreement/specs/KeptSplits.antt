@@ -8,9 +8,9 @@ use Rattle.portgraph.specs.Model.{Model, to, Slots, Holds, slotOf, countOf, fir
 use Rattle.portgraph.specs.PlaceLaws.{meta-of-node}
 use Rattle.portgraph.specs.declared.direction.Direction.{Direction}
 use Rattle.portgraph.specs.declared.portgraph.PortGraph.{PortGraph}
-use Rattle.multiportgraph.specs.Inner.{inner#, copyPlace, Fine, Seen}
+use Rattle.multiportgraph.specs.WellFormed.{inner#, copyPlace, Fine, Seen}
 use Rattle.multiportgraph.specs.Ends.{Hangs, hangs, split-has-copy, one-copy}
-use Rattle.multiportgraph.specs.Frame.{copy-side-is}
+use Rattle.multiportgraph.specs.HiddenStays.{copy-side-is}
 use Rattle.multiportgraph.specs.SetLaws.{SameSplit}
 use Rattle.multiportgraph.specs.Reading.{isHidden, isSplit, copySide, subports}
 use Rattle.multiportgraph.specs.declared.multiportgraph.MultiPortGraph.{MultiPortGraph}

@@ -13,13 +13,13 @@ use Rattle.portgraph.specs.GoodSlots.{zero-is-not-one}
 use Rattle.portgraph.specs.declared.direction.Direction.{Direction}
 use Rattle.portgraph.specs.declared.direction.Direction.the-variants.{Incoming, Outgoing}
 use Rattle.multiportgraph.specs.Reading.{subport#}
-use Rattle.multiportgraph.specs.Inner.{Fine, lift, outer, IsEnd, WireIn, SameBlocks}
+use Rattle.multiportgraph.specs.WellFormed.{Fine, lift, outer, IsEnd, WireIn, SameBlocks}
 use Rattle.multiportgraph.specs.Ends.{outer-apart}
 use Rattle.multiportgraph.specs.Graph.{withGraph}
 use Rattle.multiportgraph.specs.HiddenNodes.{prepare}
 use Rattle.multiportgraph.specs.HiddenNodes as hiding
 use Rattle.multiportgraph.specs.Places.{Place, Wire, spot, wireOfSides}
-use Rattle.multiportgraph.specs.PlainLaws.{Joined, join-ends}
+use Rattle.multiportgraph.specs.LinkCutLaws.{Joined, join-ends}
 use Rattle.multiportgraph.specs.PrepareLaws.{prepare-law}
 use Rattle.multiportgraph.specs.SplitLaws.{HasEnd, KeptEnd, PreparedEnd, end-of-wire}
 use Rattle.multiportgraph.specs.declared.multiportgraph.MultiPortGraph.{MultiPortGraph}

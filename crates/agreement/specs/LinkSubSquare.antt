@@ -16,7 +16,7 @@ use Rattle.portgraph.specs.GoodSlots.{slots-apart}
 use Rattle.multiportgraph.specs.Calls.{linkSub}
 use Rattle.multiportgraph.specs.Ends.{EndOf}
 use Rattle.multiportgraph.specs.Graph.{withGraph}
-use Rattle.multiportgraph.specs.Inner.{lift}
+use Rattle.multiportgraph.specs.WellFormed.{lift}
 use Rattle.multiportgraph.specs.Reading.{isSplit, End, inner, lacking, endAt, asRead}
 use Rattle.multiportgraph.specs.Refusals as kit
 use Rattle.multiportgraph.specs.declared.multiportgraph.MultiPortGraph.{MultiPortGraph}

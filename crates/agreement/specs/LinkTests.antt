@@ -12,11 +12,11 @@ use Rattle.portgraph.specs.GoodSlots.{zero-is-not-one, slots-apart}
 use Rattle.portgraph.specs.declared.direction.Direction.{Direction}
 use Rattle.portgraph.specs.declared.direction.Direction.the-variants.{Incoming, Outgoing}
 use Rattle.multiportgraph.specs.Reading.{isSplit, visible, seen}
-use Rattle.multiportgraph.specs.Inner.{lift, outer, WireIn}
+use Rattle.multiportgraph.specs.WellFormed.{lift, outer, WireIn}
 use Rattle.multiportgraph.specs.Ends.{EndOf, out-side, outer-apart, seen-block, seen-dead}
-use Rattle.multiportgraph.specs.Frame.{true-not-false}
+use Rattle.multiportgraph.specs.HiddenStays.{true-not-false}
 use Rattle.multiportgraph.specs.Places.{Place, Wire, spot, atSpot, atEnd, touches}
-use Rattle.multiportgraph.specs.PlainLaws.{at-spot-here, at-spot-is}
+use Rattle.multiportgraph.specs.LinkCutLaws.{at-spot-here, at-spot-is}
 use Rattle.multiportgraph.specs.Refusals as kit
 use Rattle.multiportgraph.specs.Refusals.{wiredInput, wiredSeen}
 use Rattle.multiportgraph.specs.SplitLaws.{HasEnd, end-of-wire, wire-of-end}

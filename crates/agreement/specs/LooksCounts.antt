@@ -18,8 +18,8 @@ use Rattle.portgraph.specs.declared.node_entry.NodeMeta.{NodeMeta}
 use Rattle.multiportgraph.specs.Calls.{visibleNodes, visiblePorts, visibleLinks}
 use Rattle.multiportgraph.specs.CountLaws.{visible-nodes}
 use Rattle.multiportgraph.specs.Ends.{count-of}
-use Rattle.multiportgraph.specs.Frame.{true-not-false}
-use Rattle.multiportgraph.specs.Inner.{inner#, BlockIs}
+use Rattle.multiportgraph.specs.HiddenStays.{true-not-false}
+use Rattle.multiportgraph.specs.WellFormed.{inner#, BlockIs}
 use Rattle.theorems.specs.ListingWires.{spot-back}
 use Rattle.multiportgraph.specs.Listing as listing
 use Rattle.multiportgraph.specs.Listing.{member-map, map-member, member-filter, filter-member, filter-all, rising-filter, rising-map, length-map}

@@ -17,8 +17,8 @@ use Rattle.portgraph.specs.declared.direction.Direction.the-variants.{Incoming,
 use Rattle.portgraph.specs.declared.iter.Sides.{Sides}
 use Rattle.portgraph.specs.declared.iter.Sides.the-variants.{One, Both}
 use Rattle.multiportgraph.specs.Ends.{port-of, split-has-subports}
-use Rattle.multiportgraph.specs.Frame.{true-not-false}
-use Rattle.multiportgraph.specs.Inner.{inner#, Seen}
+use Rattle.multiportgraph.specs.HiddenStays.{true-not-false}
+use Rattle.multiportgraph.specs.WellFormed.{inner#, Seen}
 use Rattle.multiportgraph.specs.Places.{Place, Wire, spot, atSpot, touches}
 use Rattle.multiportgraph.specs.Reading.{isSplit, subports, portOf, subport#}
 use Rattle.multiportgraph.specs.WalkRule.{walked-is-wires, walked-once}

@@ -14,8 +14,8 @@ use Rattle.portgraph.specs.GoodSlots.{slot-in-range}
 use Rattle.portgraph.specs.PlaceLaws.{gone-has-no-meta}
 use Rattle.portgraph.specs.declared.direction.Direction.the-variants.{Incoming}
 use Rattle.multiportgraph.specs.Ends.{block-seen, seen-dead}
-use Rattle.multiportgraph.specs.Frame.{true-not-false}
-use Rattle.multiportgraph.specs.Inner.{inner#, Seen}
+use Rattle.multiportgraph.specs.HiddenStays.{true-not-false}
+use Rattle.multiportgraph.specs.WellFormed.{inner#, Seen}
 use Rattle.multiportgraph.specs.Reading.{isHidden, Port, dead, hidden, visible, seen}
 use Rattle.multiportgraph.specs.declared.multiportgraph.MultiPortGraph.{MultiPortGraph}
 use Rattle.theorems.specs.Book as book

@@ -9,8 +9,8 @@ use borrow.Author.Tests.{eqb-true}
 use Rattle.portgraph.specs.Lists.{filter, Member}
 use Rattle.portgraph.specs.declared.direction.Direction.{Direction}
 use Rattle.multiportgraph.specs.Listing.{member-filter}
-use Rattle.multiportgraph.specs.Frame.{true-not-false}
-use Rattle.multiportgraph.specs.PlainLaws.{at-spot-here, at-spot-is}
+use Rattle.multiportgraph.specs.HiddenStays.{true-not-false}
+use Rattle.multiportgraph.specs.LinkCutLaws.{at-spot-here, at-spot-is}
 use Rattle.multiportgraph.specs.Places.{Place, Spot, spot, atSpot}
 use Rattle.theorems.specs.BookLaws.{so-not-false}
 use Rattle.sketches.specs.Plan.{Plan, portAt, spotNamed, subportsAmong, subportsOf, setSubports, withSplits}

@@ -34,14 +34,14 @@ use Rattle.portgraph.specs.declared.slots.AddAnswer.the-variants as lower-add
 use Rattle.portgraph.specs.declared.resize.SetAnswer.{SetAnswer}
 use Rattle.portgraph.specs.declared.resize.SetAnswer.the-variants as lower-set
 use Rattle.multiportgraph.specs.Reading.{isHidden, isSplit, hasLink, portOf, portNumber, copyNode, subports}
-use Rattle.multiportgraph.specs.Inner.{inner#, copyPlace, Fine, Seen, lift, IsEnd}
+use Rattle.multiportgraph.specs.WellFormed.{inner#, copyPlace, Fine, Seen, lift, IsEnd}
 use Rattle.multiportgraph.specs.Graph.{withGraph}
 use Rattle.multiportgraph.specs.Ends.{Hangs, split-has-copy, one-copy, count-of, port-of, linked-is, unlinked-is, lift-place, outer-of-subport, outer-of-block}
 use Rattle.multiportgraph.specs.Needs.{needOf, copyNeed}
 use Rattle.multiportgraph.specs.SplitLaws.{PreparedEnd, split-tables}
 use Rattle.multiportgraph.specs.RecountLaws.{set-recounts, growth#, grown, more-longer}
 use Rattle.multiportgraph.specs.Places.{Place}
-use Rattle.multiportgraph.specs.HiddenNodes.{copyIn, copyOut, ready, split, splitBy, splitUnder, splitPort, lowestFree, enough, grow, growUnder, grownBy, recounted, reuse, reuseUnder, prepare, prepareUnder}
+use Rattle.multiportgraph.specs.HiddenNodes.{copyIncoming, copyOutgoing, ready, split, splitBy, splitUnder, splitPort, lowestFree, enough, grow, growUnder, grownBy, recounted, reuse, reuseUnder, prepare, prepareUnder}
 use Rattle.multiportgraph.specs.declared.multiportgraph.MultiPortGraph.{MultiPortGraph}
 use Rattle.multiportgraph.specs.declared.lent_needs.Need.the-variants as need
 use Rattle.sketches.specs.Plan.{subportsReady}
@@ -92,7 +92,7 @@ module _ {g : PortGraph} {M : Model} (good : Good M) (holds : Holds g M) (i o : 
       go true false block p q r c first e = absurd (zero-is-not-one (cc))
       go false slot block p q r c first e = absurd (zero-is-not-one (cc))
 
-two-subports : (d : Direction) (k : NodeMeta) → k .incoming ≡ copyIn d → k .outgoing ≡ copyOut d → portsOn k d ≡ 2
+two-subports : (d : Direction) (k : NodeMeta) → k .incoming ≡ copyIncoming d → k .outgoing ≡ copyOutgoing d → portsOn k d ≡ 2
 two-subports Incoming k i o = i
 two-subports Outgoing k i o = o
 
@@ -294,15 +294,15 @@ module _ {m : MultiPortGraph} {M : Model} (f : Fine m M) (x : model.InnerPlace) 
   -- an unsplit port with a link
   split-changes : (y : model.InnerPlace) → isSplit m (slotOf (M .node) x) ≡ false → M .join x ≡ to y → split m (slotOf (M .node) x) (x .side) ≡ ready m′ q o → OneChanged m M x M′ q o
   unfolding splitUnder splitPort
-  split-changes y plain linked e = go (addNode (m .graph) (copyIn (x .side)) (copyOut (x .side)) .answer) refl e
+  split-changes y plain linked e = go (addNode (m .graph) (copyIncoming (x .side)) (copyOutgoing (x .side)) .answer) refl e
     where
-      go : (a : AddAnswer) → addNode (m .graph) (copyIn (x .side)) (copyOut (x .side)) .answer ≡ a → splitBy m (slotOf (M .node) x) (x .side) (addNode (m .graph) (copyIn (x .side)) (copyOut (x .side)) .graph) a ≡ ready m′ q o → OneChanged m M x M′ q o
+      go : (a : AddAnswer) → addNode (m .graph) (copyIncoming (x .side)) (copyOutgoing (x .side)) .answer ≡ a → splitBy m (slotOf (M .node) x) (x .side) (addNode (m .graph) (copyIncoming (x .side)) (copyOutgoing (x .side)) .graph) a ≡ ready m′ q o → OneChanged m M x M′ q o
       go lower-add.TooManyPorts a w = absurd (zero-is-not-one (cc))
       go lower-add.NoRoom a w = absurd (zero-is-not-one (cc))
       go (lower-add.Added c first) a w =
-          let t = node-taken (f .good) (f .holds) (copyIn (x .side)) (copyOut (x .side)) c first a in
-          let g : PortGraph = addNode (m .graph) (copyIn (x .side)) (copyOut (x .side)) .graph in
-          let tables = split-tables f x y sx linked (addNode (m .graph) (copyIn (x .side)) (copyOut (x .side))) refl c first a in
+          let t = node-taken (f .good) (f .holds) (copyIncoming (x .side)) (copyOutgoing (x .side)) c first a in
+          let g : PortGraph = addNode (m .graph) (copyIncoming (x .side)) (copyOutgoing (x .side)) .graph in
+          let tables = split-tables f x y sx linked (addNode (m .graph) (copyIncoming (x .side)) (copyOutgoing (x .side))) refl c first a in
           let e1 : splitPort m (slotOf (M .node) x) (x .side) g (c .0) ≡ m′ = cc in
           let e2 : portOf g (c .0) (x .side) 1 ≡ q = cc in
           let e3 : _≡_ {A = ℕ} 1 o = cc in

@@ -16,9 +16,9 @@ use Rattle.portgraph.specs.declared.direction.Direction.{Direction}
 use Rattle.portgraph.specs.declared.direction.Direction.the-variants.{Incoming, Outgoing}
 use Rattle.portgraph.specs.declared.node_entry.NodeMeta.{NodeMeta}
 use Rattle.multiportgraph.specs.Calls.{dropBlock}
-use Rattle.multiportgraph.specs.Inner.{inner#, copyPlace, Fine, BlockIs, Seen, SameBlocks}
+use Rattle.multiportgraph.specs.WellFormed.{inner#, copyPlace, Fine, BlockIs, Seen, SameBlocks}
 use Rattle.multiportgraph.specs.Ends.{main-seen, split-has-copy}
-use Rattle.multiportgraph.specs.Frame.{plain-frame, frame-fine, hidden-below, split-below, true-not-false}
+use Rattle.multiportgraph.specs.HiddenStays.{plain-frame, frame-fine, hidden-below, split-below, true-not-false}
 use Rattle.multiportgraph.specs.CopyLaws.{copy-goes, unsplit-split, unsplit-whole, removed-holds}
 use Rattle.multiportgraph.specs.Graph.{withGraph}
 use Rattle.multiportgraph.specs.HiddenNodes.{removeCopy, unsplit, unsplitRange}

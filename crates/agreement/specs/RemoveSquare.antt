@@ -15,9 +15,9 @@ use Rattle.portgraph.specs.declared.direction.Direction.{Direction}
 use Rattle.multiportgraph.specs.Calls.{removeBlock, dropBlock}
 use Rattle.multiportgraph.specs.Cases.{removeMeta}
 use Rattle.multiportgraph.specs.CaseLaws.{remove-cases}
-use Rattle.multiportgraph.specs.Inner.{Fine, Seen}
+use Rattle.multiportgraph.specs.WellFormed.{Fine, Seen}
 use Rattle.multiportgraph.specs.Listing.{member-filter, filter-member, rising-filter}
-use Rattle.multiportgraph.specs.PlainLaws.{touched-not-out, touched-not-into, at-spot-is}
+use Rattle.multiportgraph.specs.LinkCutLaws.{touched-not-out, touched-not-into, at-spot-is}
 use Rattle.multiportgraph.specs.Places.{Place, spot, ofNode}
 use Rattle.multiportgraph.specs.declared.multiportgraph.MultiPortGraph.{MultiPortGraph}
 use Rattle.multiportgraph.specs.declared.multiportgraph.NodeRemoved.{NodeRemoved}

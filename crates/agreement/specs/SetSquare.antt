@@ -28,11 +28,11 @@ use Rattle.multiportgraph.specs.Calls.{setCounts, setAs}
 use Rattle.multiportgraph.specs.Cases.{resized, setMeta, setRefused}
 use Rattle.multiportgraph.specs.CaseLaws.{set-cases}
 use Rattle.multiportgraph.specs.Ends.{split-has-copy, ports-walked}
-use Rattle.multiportgraph.specs.Frame.{true-not-false}
+use Rattle.multiportgraph.specs.HiddenStays.{true-not-false}
 use Rattle.multiportgraph.specs.HiddenNodes.{recounted, copiesDropped, removeAll}
-use Rattle.multiportgraph.specs.Inner.{Fine, BlockIs, Seen}
+use Rattle.multiportgraph.specs.WellFormed.{Fine, BlockIs, Seen}
 use Rattle.multiportgraph.specs.Listing.{member-filter, member-map, map-member, rising-map}
-use Rattle.multiportgraph.specs.PlainLaws.{at-spot-is}
+use Rattle.multiportgraph.specs.LinkCutLaws.{at-spot-is}
 use Rattle.multiportgraph.specs.Places.{Place, spot, ofDropped}
 use Rattle.multiportgraph.specs.Reading.{isHidden, isSplit}
 use Rattle.multiportgraph.specs.RecountLaws.{Recount, SomeRecount, set-recounts, count-new, number-cases}

@@ -20,9 +20,9 @@ use Rattle.portgraph.specs.PlaceLaws.{meta-of-node}
 use Rattle.portgraph.specs.declared.direction.Direction.{Direction}
 use Rattle.portgraph.specs.declared.direction.Direction.the-variants.{Incoming, Outgoing}
 use Rattle.portgraph.specs.declared.node_entry.NodeMeta.{NodeMeta}
-use Rattle.multiportgraph.specs.Inner.{inner#, BlockIs, Seen, WireIn}
+use Rattle.multiportgraph.specs.WellFormed.{inner#, BlockIs, Seen, WireIn}
 use Rattle.multiportgraph.specs.Ends.{split-has-copy, split-has-subports, one-copy, outer-seen, ends-join-ends, dead-seen}
-use Rattle.multiportgraph.specs.Frame.{true-not-false}
+use Rattle.multiportgraph.specs.HiddenStays.{true-not-false}
 use Rattle.multiportgraph.specs.Places.{Place, Wire}
 use Rattle.multiportgraph.specs.Reading.{isSplit, subports}
 use Rattle.theorems.specs.Book.{readBy}

@@ -18,15 +18,15 @@ use Rattle.portgraph.specs.declared.direction.Direction.{Direction}
 use Rattle.portgraph.specs.declared.portgraph.PortGraph.{PortGraph}
 use Rattle.multiportgraph.specs.CopyLaws.{CopyGone, copy-goes}
 use Rattle.multiportgraph.specs.Ends.{Hangs, hangs, split-has-copy, one-copy, ends-join-ends, end-side, unsplit-is-end, unlinked-is, linked-is, far-of}
-use Rattle.multiportgraph.specs.Frame.{copy-side-is, true-not-false}
+use Rattle.multiportgraph.specs.HiddenStays.{copy-side-is, true-not-false}
 use Rattle.multiportgraph.specs.Graph.{withGraph}
 use Rattle.multiportgraph.specs.HiddenNodes.{recounted, removeCopy, unsplit, enough}
-use Rattle.multiportgraph.specs.Inner.{inner#, copyPlace, Fine, Seen, IsEnd}
-use Rattle.multiportgraph.specs.PlainLaws.{join-ends, to-same}
+use Rattle.multiportgraph.specs.WellFormed.{inner#, copyPlace, Fine, Seen, IsEnd}
+use Rattle.multiportgraph.specs.LinkCutLaws.{join-ends, to-same}
 use Rattle.multiportgraph.specs.Reading.{isHidden, isSplit, copySide, copyNode, subports, subportAt, farPort, hasLink}
 use Rattle.multiportgraph.specs.RecountLaws.{set-recounts}
 use Rattle.multiportgraph.specs.SetLaws.{SameSplit}
-use Rattle.multiportgraph.specs.Tidy.{linkedUpTo, subportsLeft, leftIn, leftOut, dropSubports, linkDirectly, tidied}
+use Rattle.multiportgraph.specs.Tidy.{linkedUpTo, subportsLeft, leftIncoming, leftOutgoing, dropSubports, linkDirectly, tidied}
 use Rattle.multiportgraph.specs.TidyLaws.{LastLinked, last-linked, empty-above, ShorterDone, drop-done, drop-within, drop-set, within-is, bare-is}
 use Rattle.multiportgraph.specs.declared.multiportgraph.MultiPortGraph.{MultiPortGraph}
 use Rattle.theorems.specs.BookLaws.{so-not-false}
@@ -50,7 +50,7 @@ module _ {m : MultiPortGraph} {M : Model} (f : Fine m M) (x : model.InnerPlace) 
   unfolding isHidden dropSubports recounted
   flags-same e = refl
 
-  graph-is : shorter# .graph ≡ setNumPorts (m .graph) (h .copy) (leftIn (x .side) r) (leftOut (x .side) r) enough .graph
+  graph-is : shorter# .graph ≡ setNumPorts (m .graph) (h .copy) (leftIncoming (x .side) r) (leftOutgoing (x .side) r) enough .graph
   unfolding dropSubports recounted
   graph-is = within-is (drop-within f x h r several few empty)
 
@@ -58,7 +58,7 @@ module _ {m : MultiPortGraph} {M : Model} (f : Fine m M) (x : model.InnerPlace) 
   nodes-other : (e : ℕ) → (e ≡ h .copy → ⊥) → drops .model .node e ≡ M .node e
   nodes-other e other =
       let set = drop-set f x h r several few empty in
-      let s = set-recounts (f .good) (f .holds) (h .copy) (leftIn (x .side) r) (leftOut (x .side) r) enough (set .0) (set .1) in
+      let s = set-recounts (f .good) (f .holds) (h .copy) (leftIncoming (x .side) r) (leftOutgoing (x .side) r) enough (set .0) (set .1) in
       sym (drops .is .fine .holds .nodes e) ∙ (ap (λ (g : PortGraph). slotsAt (g .«node_meta») e) graph-is ∙ (s .is .holds .nodes e ∙ s .is .others e other))
 
   drop-others : (y : model.InnerPlace) → Seen m M y → (y ≡ x → ⊥) → SameSplit m M shorter# (drops .model) y

@@ -16,9 +16,9 @@ use Rattle.multiportgraph.specs.Calls.{tidyPort}
 use Rattle.multiportgraph.specs.Cases.{tidySeen}
 use Rattle.multiportgraph.specs.CaseLaws.{tidy-cases}
 use Rattle.multiportgraph.specs.Ends.{Hangs, one-copy, outer-of-block, outer-of-subport, lift-place, ends-join-ends, end-side}
-use Rattle.multiportgraph.specs.Frame.{true-not-false}
-use Rattle.multiportgraph.specs.Inner.{inner#, Fine, Seen, lift, outer, IsEnd}
-use Rattle.multiportgraph.specs.PlainLaws.{nowhere-not-to, at-spot-is, end-is-here, end-is-same}
+use Rattle.multiportgraph.specs.HiddenStays.{true-not-false}
+use Rattle.multiportgraph.specs.WellFormed.{inner#, Fine, Seen, lift, outer, IsEnd}
+use Rattle.multiportgraph.specs.LinkCutLaws.{nowhere-not-to, at-spot-is, end-is-here, end-is-same}
 use Rattle.multiportgraph.specs.Places.{Place, Wire, Spot, spot, atSpot, atEnd, touches}
 use Rattle.multiportgraph.specs.Reading.{isHidden, isSplit, copySide}
 use Rattle.multiportgraph.specs.Tidy as kit

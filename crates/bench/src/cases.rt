@@ -1,6 +1,6 @@
 // The cases A to K. A request is a code with its arguments, an answer 0 or the refusal with its values.
 use crate::state::State;
-ghost use Rattle.multiportgraph.specs.Inner.{MultiWf};
+ghost use Rattle.multiportgraph.specs.WellFormed.{MultiWf};
 
 const ADD: u32 = 1;
 

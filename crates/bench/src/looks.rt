@@ -6,7 +6,7 @@ use multiportgraph::multiportgraph::MultiPortGraph;
 use multiportgraph::multiportgraph::SubportIndex;
 use portgraph::index::NodeIndex;
 use portgraph::iter::Sides;
-ghost use Rattle.multiportgraph.specs.Inner.{MultiWf};
+ghost use Rattle.multiportgraph.specs.WellFormed.{MultiWf};
 
 // Whether a subport is this port with this offset.
 fn is_subport(subport: SubportIndex, port: u32, offset: u32) -> bool {

@@ -9,7 +9,7 @@ use records::answers::Answer5;
 use records::ask::ask;
 use records::ask::empty;
 use records::ask::resize;
-ghost use Rattle.multiportgraph.specs.Inner.{MultiWf};
+ghost use Rattle.multiportgraph.specs.WellFormed.{MultiWf};
 
 // `good` as long as every answer was the one expected.
 pub struct State {

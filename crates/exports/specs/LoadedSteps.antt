@@ -11,7 +11,7 @@ use borrow.Author.Tests.{le-leb, lt-leb}
 use Rattle.portgraph.specs.Limits.{nodeSlots, portSlots}
 use Rattle.portgraph.specs.ResizeSteps.{sets-append}
 use Rattle.multiportgraph.specs.Answers.{refusalNumbers}
-use Rattle.multiportgraph.specs.Frame.{true-not-false}
+use Rattle.multiportgraph.specs.HiddenStays.{true-not-false}
 use Rattle.multiportgraph.specs.Listed.{listAfter}
 use Rattle.multiportgraph.specs.ListScans.{Writing}
 use Rattle.multiportgraph.specs.declared.multiportgraph.Refusal.{Refusal}

@@ -1,4 +1,6 @@
-// What the tablet's Rust calls on files, over bytes alone.
+// What the tablet's Rust or C calls on files, views and times, over lists of numbers alone.
 pub mod loaded;
 pub mod merged;
 pub mod saved;
+pub mod timed;
+pub mod viewed;

@@ -15,7 +15,7 @@ ghost use Rattle.exports.specs.Exports.{recordsReturn, recordsWritten};
 ghost use Rattle.exports.specs.LoadedSteps.{pairRequests};
 
 // Lays a word's four bytes from a byte position on.
-fn put_word(bytes: &mut [u8], i: usize, word: u32)
+pub(crate) fn put_word(bytes: &mut [u8], i: usize, word: u32)
     requires { ⌜ i + 4 ≤ length (now bytes) ⌝ }
     ensures { λ _. ⌜ now (bytes .exit) ≡ sets (now (bytes .entry)) i (bytesOf (word ∷ [])) ⌝ }
 {

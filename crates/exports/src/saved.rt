@@ -1,7 +1,7 @@
 // A list of requests in, the file of what it leaves out.
 use files::save::SaveAnswer;
-use files::save::save_in;
-use multiportgraph::lent::no_held;
+use files::save::save_lent;
+use multiportgraph::lent::no_totals;
 use multiportgraph::multiportgraph::Release;
 use portgraph::index::FREE_LISTS;
 use portgraph::index::NODE_SLOTS;
@@ -37,15 +37,24 @@ pub extern "C" fn save_records(requests: &[u8], file: &mut [u8]) -> u64
     let mut heads = [0u32; FREE_LISTS];
     let mut marks = [false; PORT_SLOTS];
     let mut flags = [false; NODE_SLOTS];
-    let held = run_tables(
+    let totals = run_tables(
         &mut nodes,
         &mut links,
         &mut owners,
         &mut heads,
         &mut marks,
         &mut flags,
-        no_held(Release::One),
+        no_totals(Release::One),
         requests,
     );
-    save_told(save_in(&nodes, &links, &owners, &heads, &marks, &flags, held, file))
+    save_told(save_lent(
+        &nodes,
+        &links,
+        &owners,
+        &heads,
+        &marks,
+        &flags,
+        totals,
+        file,
+    ))
 }

@@ -15,10 +15,10 @@ use Rattle.portgraph.specs.GoodLaws.{emptyModel}
 use Rattle.portgraph.specs.declared.direction.Direction.the-variants.{Incoming, Outgoing}
 use Rattle.multiportgraph.specs.Calls.{addBlock, linkPair}
 use Rattle.multiportgraph.specs.Graph.{emptyGraph}
-use Rattle.multiportgraph.specs.Inner.{inner#}
+use Rattle.multiportgraph.specs.WellFormed.{inner#}
 use Rattle.multiportgraph.specs.Listing.{member-left, member-right}
 use Rattle.multiportgraph.specs.Places.{Wire}
-use Rattle.multiportgraph.specs.PlainLaws.{fine-empty}
+use Rattle.multiportgraph.specs.LinkCutLaws.{fine-empty}
 use Rattle.multiportgraph.specs.Space.{roomOf, overflows, linkWorks}
 use Rattle.multiportgraph.specs.SpaceLaws.{link-space}
 use Rattle.multiportgraph.specs.declared.multiportgraph.MultiPortGraph.{MultiPortGraph}

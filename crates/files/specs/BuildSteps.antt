@@ -15,13 +15,13 @@ use Rattle.portgraph.specs.Lent.{nodeWords}
 use Rattle.portgraph.specs.Model.{Model}
 use Rattle.multiportgraph.specs.Calls.{addBlock, linkPair, visibleNodes}
 use Rattle.multiportgraph.specs.CountLaws.{visible-nodes}
-use Rattle.multiportgraph.specs.Frame.{true-not-false}
+use Rattle.multiportgraph.specs.HiddenStays.{true-not-false}
 use Rattle.multiportgraph.specs.Graph.{emptyGraph}
-use Rattle.multiportgraph.specs.Inner.{MultiWf}
+use Rattle.multiportgraph.specs.WellFormed.{MultiWf}
 use Rattle.multiportgraph.specs.LentLaws.{empty-in}
 use Rattle.multiportgraph.specs.Listing.{length-map}
-use Rattle.multiportgraph.specs.MultiLent.{multiIn, noHeld}
-use Rattle.multiportgraph.specs.declared.lent.Held.{Held}
+use Rattle.multiportgraph.specs.MultiLent.{multiIn, noTotals}
+use Rattle.multiportgraph.specs.declared.lent.Totals.{Totals}
 use Rattle.multiportgraph.specs.declared.multiportgraph.MultiPortGraph.{MultiPortGraph}
 use Rattle.multiportgraph.specs.declared.multiportgraph.Release.{Release}
 use Rattle.multiportgraph.specs.declared.multiportgraph.AddAnswer.{AddAnswer}
@@ -209,13 +209,13 @@ module _ {bytes : List ℕ} {blocks : ℕ} {table : List ℕ} {next i : ℕ} (re
         long = length-set table i next ∙ f .long;
         nextIs = omega arith;
         nextSmall = omega arith;
-        each = λ r j. held r (λ (x : ℕ). x ≡ firstPort (unbytes bytes .blocks) r) j (λ w. f .each r w) (λ w. f .nextIs ∙ ap (firstPort (unbytes bytes .blocks)) (sym w));
-        small = λ r j. held r (λ (x : ℕ). x ≤ 131070 * r) j (λ w. f .small r w) (λ w. omega arith);
+        each = λ r j. totals r (λ (x : ℕ). x ≡ firstPort (unbytes bytes .blocks) r) j (λ w. f .each r w) (λ w. f .nextIs ∙ ap (firstPort (unbytes bytes .blocks)) (sym w));
+        small = λ r j. totals r (λ (x : ℕ). x ≤ 131070 * r) j (λ w. f .small r w) (λ w. omega arith);
       }
     where
       -- what the table holds: the entries before, and the new one
-      held : (r : ℕ) (P : ℕ → Type 0) → r < i + 1 → (r < i → P (getD table r 0)) → (r ≡ i → P next) → P (getD (set table i next) r 0)
-      held r P j old new = go (eqb r i) refl
+      totals : (r : ℕ) (P : ℕ → Type 0) → r < i + 1 → (r < i → P (getD table r 0)) → (r ≡ i → P next) → P (getD (set table i next) r 0)
+      totals r P j old new = go (eqb r i) refl
         where
           go : (t : Bool) → eqb r i ≡ t → P (getD (set table i next) r 0)
           go true e =
@@ -307,9 +307,9 @@ blocks-short (suc n) r = let h = r .there n (omega arith) in omega arith
 -- The whole build.
 
 -- tables without anything are the empty graph
-pub tables-empty : (release : Release) (held : Held) → held ≡ noHeld release →
-    multiIn (replicate nodeWords 0) (replicate portSlots 0) (replicate portSlots 0) (replicate freeLists 0) (replicate portSlots false) (replicate nodeSlots false) held ≡ emptyGraph release
-tables-empty release held e =
+pub tables-empty : (release : Release) (totals : Totals) → totals ≡ noTotals release →
+    multiIn (replicate nodeWords 0) (replicate portSlots 0) (replicate portSlots 0) (replicate freeLists 0) (replicate portSlots false) (replicate nodeSlots false) totals ≡ emptyGraph release
+tables-empty release totals e =
     ap (multiIn (replicate nodeWords 0) (replicate portSlots 0) (replicate portSlots 0) (replicate freeLists 0) (replicate portSlots false) (replicate nodeSlots false)) e
     ∙ empty-in release
 

@@ -11,7 +11,7 @@ use lib.Seq.{drop-cons, drop-drop, getD-take, getD-drop, take-all}
 use borrow.Author.Tests.{eqb-true, eqb-false, eq-eqb, ne-eqb, leb-true, leb-false, le-leb, lt-leb}
 use Rattle.portgraph.specs.Model.{total}
 use Rattle.portgraph.specs.Sums.{total-same}
-use Rattle.multiportgraph.specs.Frame.{true-not-false}
+use Rattle.multiportgraph.specs.HiddenStays.{true-not-false}
 use Rattle.multiportgraph.specs.Listing.{length-map}
 use Rattle.files.specs.View.{BlockPorts, RankWire, View}
 use Rattle.files.specs.Layout.{Record, unitRecords, fieldAt, wordAt, sumOf, blockOf, wireOf, recordAt, recordsAt, recordsOf, withRecords, withUnit, readUnits, unbytes}

@@ -12,7 +12,7 @@ use Rattle.portgraph.specs.Model.{Model}
 use Rattle.portgraph.specs.GoodSlots.{zero-is-not-one, slots-apart}
 use Rattle.portgraph.specs.declared.direction.Direction.the-variants.{Incoming, Outgoing}
 use Rattle.multiportgraph.specs.Calls.{linkPair}
-use Rattle.multiportgraph.specs.Inner.{Fine, inner#, lift, outer, WireIn}
+use Rattle.multiportgraph.specs.WellFormed.{Fine, inner#, lift, outer, WireIn}
 use Rattle.multiportgraph.specs.Ends.{into-side}
 use Rattle.multiportgraph.specs.Places.{Place, Wire, flag}
 use Rattle.multiportgraph.specs.declared.multiportgraph.MultiPortGraph.{MultiPortGraph}

@@ -11,7 +11,7 @@ use lib.Seq.{sets, length-sets, sets-eq, drop-cons}
 use borrow.Author.Tests.{le-leb, lt-leb}
 use Rattle.portgraph.specs.Limits.{nodeSlots, portSlots}
 use Rattle.portgraph.specs.ResizeSteps.{sets-append}
-use Rattle.multiportgraph.specs.Frame.{true-not-false}
+use Rattle.multiportgraph.specs.HiddenStays.{true-not-false}
 use Rattle.multiportgraph.specs.Graph.{emptyGraph}
 use Rattle.multiportgraph.specs.Listed.{listAfter}
 use Rattle.multiportgraph.specs.Listing.{length-map}

@@ -9,7 +9,7 @@ use Rattle.portgraph.specs.Limits.{nodePorts}
 use Rattle.portgraph.specs.Lists.{Member}
 use Rattle.portgraph.specs.Model.{Model, Slots, live, gone, countOf}
 use Rattle.portgraph.specs.declared.direction.Direction.the-variants.{Incoming, Outgoing}
-use Rattle.multiportgraph.specs.Inner.{Fine}
+use Rattle.multiportgraph.specs.WellFormed.{Fine}
 use Rattle.multiportgraph.specs.Ends.{count-of}
 use Rattle.multiportgraph.specs.Listing.{member-map, member-right}
 use Rattle.multiportgraph.specs.Wires.{blocks}

@@ -23,8 +23,8 @@ use Rattle.portgraph.specs.declared.slots.NodeAdded as lower-added
 use Rattle.multiportgraph.specs.Calls.{addedAs, addBlock}
 use Rattle.multiportgraph.specs.CaseLaws.{add-cases}
 use Rattle.multiportgraph.specs.Graph.{emptyGraph}
-use Rattle.multiportgraph.specs.Inner.{Fine, MultiWf}
-use Rattle.multiportgraph.specs.PlainLaws.{fine-empty}
+use Rattle.multiportgraph.specs.WellFormed.{Fine, MultiWf}
+use Rattle.multiportgraph.specs.LinkCutLaws.{fine-empty}
 use Rattle.multiportgraph.specs.Space.{Room, roomOf, overflows, addWorks}
 use Rattle.multiportgraph.specs.SpaceLaws.{Spaced, room-is, room-added, add-space}
 use Rattle.multiportgraph.specs.declared.multiportgraph.MultiPortGraph.{MultiPortGraph}

@@ -18,7 +18,7 @@ use Rattle.portgraph.specs.ResizeSteps.{sets-append}
 use Rattle.portgraph.specs.declared.direction.Direction.the-variants.{Incoming, Outgoing}
 use Rattle.multiportgraph.specs.Places.{Wire}
 use Rattle.multiportgraph.specs.Calls.{visibleNodes, visibleLinks}
-use Rattle.multiportgraph.specs.Inner.{Fine, MultiWf}
+use Rattle.multiportgraph.specs.WellFormed.{Fine, MultiWf}
 use Rattle.multiportgraph.specs.Wires.{blocks, allWires, wiresWalked, wirePlaces, placeOf}
 use Rattle.multiportgraph.specs.Listed.{endNumbers, wireNumbers, wiresListed, blockNumbers, blocksListed, listAfter}
 use Rattle.multiportgraph.specs.ListReads.{wires-length, blocks-length}
@@ -231,11 +231,11 @@ module _ (m : MultiPortGraph) where
   unfolding wireNumbers endNumbers
   wire-eight w = refl
 
-  pub blocks-in : blocksIn (blocksListed m) ≡ length (blocks m)
-  blocks-in = let e = blocks-length m in omega arith
+  pub blocks-lent : blocksIn (blocksListed m) ≡ length (blocks m)
+  blocks-lent = let e = blocks-length m in omega arith
 
-  pub wires-in : wiresIn (wiresListed m) ≡ length (allWires m)
-  wires-in = let e = wires-length m in omega arith
+  pub wires-lent : wiresIn (wiresListed m) ≡ length (allWires m)
+  wires-lent = let e = wires-length m in omega arith
 
   block-read : (j : ℕ) → j < 4 → (i n : ℕ) → At (blocks m) i n → getD (blocksListed m) (4 * i + j) 0 ≡ getD (blockNumbers m n) j 0
   unfolding blocksListed
@@ -268,26 +268,26 @@ module _ (m : MultiPortGraph) where
   pub nodes-are : nodesOf (blocksListed m) ≡ blocks m
   unfolding nodesOf
   nodes-are =
-      ap (λ (n : ℕ). map (nodeListed (blocksListed m)) (range 0 n)) blocks-in
+      ap (λ (n : ℕ). map (nodeListed (blocksListed m)) (range 0 n)) blocks-lent
       ∙ (listed-map (nodeListed (blocksListed m)) (λ (n : ℕ). n) (blocks m) 0 (λ i n h. let z : 0 + i ≡ i = omega arith in rw z (node-read i n h)) ∙ map-self (blocks m))
 
   pub blocks-are : blocksOf (blocksListed m) ≡ map (blockPorts m) (blocks m)
   unfolding blocksOf
   blocks-are =
-      ap (λ (n : ℕ). map (blockListed (blocksListed m)) (range 0 n)) blocks-in
+      ap (λ (n : ℕ). map (blockListed (blocksListed m)) (range 0 n)) blocks-lent
       ∙ listed-map (blockListed (blocksListed m)) (blockPorts m) (blocks m) 0 (λ i n h. let z : 0 + i ≡ i = omega arith in rw z (ports-read i n h))
 
   wires-are : (rank : ℕ → ℕ) → wiresOf rank (wiresListed m) ≡ map (λ (w : SubportLink). rankWire rank (wirePlaces m w)) (allWires m)
   unfolding wiresOf
   wires-are rank =
-      ap (λ (n : ℕ). map (wireListed rank (wiresListed m)) (range 0 n)) wires-in
+      ap (λ (n : ℕ). map (wireListed rank (wiresListed m)) (range 0 n)) wires-lent
       ∙ listed-map (wireListed rank (wiresListed m)) (λ (w : SubportLink). rankWire rank (wirePlaces m w)) (allWires m) 0 (λ i w h. let z : 0 + i ≡ i = omega arith in rw z (rank-wire-read rank i w h))
 
   module _ {M : Model} (f : Fine m M) where
     pub blocks-fit : BlocksFit (blocksListed m)
     unfolding blockPorts
     blocks-fit i h =
-        let e = blocks-in in
+        let e = blocks-lent in
         let x = at-some (blocks m) i (omega arith) in
         let a = ports-small f (x .0) Incoming in
         let b = ports-small f (x .0) Outgoing in
@@ -296,7 +296,7 @@ module _ (m : MultiPortGraph) where
     -- the wire at a position of the listing
     wire-there : (i : ℕ) → i < wiresIn (wiresListed m) → (w : SubportLink) × At (allWires m) i w × (EndFits m (placeOf m (w .from)) × EndFits m (placeOf m (w .to)))
     wire-there i h =
-        let e = wires-in in
+        let e = wires-lent in
         let x = at-some (allWires m) i (omega arith) in
         let k = subst (λ (l : List Wire). Member (wirePlaces m (x .0)) l) (sym (walked-places f)) (map-member (wirePlaces m) (x .0) (allWires m) (at-member (allWires m) i (x .0) (x .1))) in
         (x .0, x .1, walked-fits f (wirePlaces m (x .0)) k)
@@ -305,7 +305,7 @@ module _ (m : MultiPortGraph) where
     unfolding wireNumbers endNumbers
     listings long =
         record {
-          few = let e = blocks-in in let h = blocks-few f in omega arith;
+          few = let e = blocks-lent in let h = blocks-few f in omega arith;
           apart = subst (Rising Apart) (sym nodes-are) (rising-apart (blocks m) (blocks-rise m));
           inTable = λ n i. let u = node-in-use f n (subst (λ (l : List ℕ). Member n l) nodes-are i) in omega arith;
           source = λ i h.
@@ -392,10 +392,10 @@ module _ {m : MultiPortGraph} {M : Model} (f : Fine m M) (buffer : List ℕ) (si
   -- what the functions for blocks and wires presume, of the parts of the listings that they are lent
   module _ (enough : size ≤ length buffer) (listed ends : List ℕ) (isBlocks : listed ≡ blocksListed m) (isWires : ends ≡ wiresListed m) where
     blocks-counted : blocksIn listed ≡ visibleNodes m
-    blocks-counted = ap blocksIn isBlocks ∙ (blocks-in m ∙ sym (visible-nodes f))
+    blocks-counted = ap blocksIn isBlocks ∙ (blocks-lent m ∙ sym (visible-nodes f))
 
     wires-counted : wiresIn ends ≡ visibleLinks m
-    wires-counted = ap wiresIn isWires ∙ (wires-in m ∙ sym (visible-links f))
+    wires-counted = ap wiresIn isWires ∙ (wires-lent m ∙ sym (visible-links f))
 
     length-split : size ≡ 512 * unitsFor (blocksIn listed) + 512 * unitsFor (wiresIn ends)
     unfolding fileLength

@@ -20,8 +20,8 @@ use Rattle.portgraph.specs.declared.node_entry.NodeMeta.{NodeMeta}
 use Rattle.multiportgraph.specs.Places.{Place, Wire, flag}
 use Rattle.multiportgraph.specs.Wires.{Walked, blocks, allWires, walked, wiresWalked, wirePlaces}
 use Rattle.multiportgraph.specs.Calls.{visibleNodes, visibleLinks}
-use Rattle.multiportgraph.specs.Inner.{Fine, MultiWf, BlockIs, Seen, lift, outer, IsEnd, WireIn}
-use Rattle.multiportgraph.specs.Frame.{true-not-false}
+use Rattle.multiportgraph.specs.WellFormed.{Fine, MultiWf, BlockIs, Seen, lift, outer, IsEnd, WireIn}
+use Rattle.multiportgraph.specs.HiddenStays.{true-not-false}
 use Rattle.multiportgraph.specs.Ends.{OuterOf, count-of, outer-seen, outer-apart, ends-join-ends, wires-by-out, wires-by-into, out-not-into}
 use Rattle.multiportgraph.specs.Listing.{Apart, apart-below, member-map, member-append, length-map, rising-append, rising-map, range-rises, range-member}
 use Rattle.multiportgraph.specs.WalkRule.{walk-is-listing, walked-is-wires, walked-once, listed-is-wire, listed-once}

@@ -12,7 +12,7 @@ use Rattle.portgraph.specs.declared.direction.Direction.{Direction}
 use Rattle.portgraph.specs.declared.direction.Direction.the-variants.{Incoming, Outgoing}
 use Rattle.multiportgraph.specs.Places.{Place, Wire}
 use Rattle.multiportgraph.specs.Wires.{blocks, wiresWalked}
-use Rattle.multiportgraph.specs.Inner.{Fine, outer, IsEnd, WireIn}
+use Rattle.multiportgraph.specs.WellFormed.{Fine, outer, IsEnd, WireIn}
 use Rattle.multiportgraph.specs.Ends.{count-of, outer-seen, ends-join-ends}
 use Rattle.multiportgraph.specs.Listing.{member-map, length-map}
 use Rattle.multiportgraph.specs.WalkRule.{walked-is-wires}

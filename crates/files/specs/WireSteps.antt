@@ -24,9 +24,8 @@ use Rattle.files.specs.CheckSteps.{and-three}
 -- Records where they stand.
 
 pub number-read : (bytes : List ℕ) (at a b c d : ℕ) → a ≡ fieldAt bytes at → b ≡ fieldAt bytes (at + 2) → c ≡ fieldAt bytes (at + 4) → d ≡ fieldAt bytes (at + 6) →
-    281474976710656 * a + 4294967296 * b + 65536 * c + d ≡ numberOf (recordIn bytes at)
-unfolding numberOf
-number-read bytes at a b c d e f g h = λ j. 281474976710656 * e j + 4294967296 * f j + 65536 * g j + h j
+    numberOf (record { a = a; b = b; c = c; d = d }) ≡ numberOf (recordIn bytes at)
+number-read bytes at a b c d e f g h = λ j. numberOf (record { a = e j; b = f j; c = g j; d = h j })
 
 record-there : (bytes : List ℕ) (at : ℕ) → recordAt (drop at bytes) ≡ recordIn bytes at
 unfolding recordAt fieldAt

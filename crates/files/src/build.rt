@@ -2,9 +2,9 @@
 use crate::bytes::field_at;
 use crate::load::LoadAnswer;
 use crate::wires::place;
-use multiportgraph::lent::Held;
-use multiportgraph::lent::add_in;
-use multiportgraph::lent_links::link_in;
+use multiportgraph::lent::Totals;
+use multiportgraph::lent::add_lent;
+use multiportgraph::lent_links::link_lent;
 use multiportgraph::multiportgraph::AddAnswer;
 use multiportgraph::multiportgraph::LinkAnswer;
 use portgraph::index::FREE_LISTS;
@@ -18,7 +18,7 @@ ghost use mathlib.Core.List.{map};
 ghost use Prim.Native.Nat.{_+_, _≤_};
 ghost use lib.ListN.{length};
 ghost use Rattle.portgraph.specs.Limits.{nodeSlots};
-ghost use Rattle.multiportgraph.specs.Inner.{MultiWf};
+ghost use Rattle.multiportgraph.specs.WellFormed.{MultiWf};
 ghost use Rattle.multiportgraph.specs.MultiLent.{multiIn};
 ghost use Rattle.files.specs.Layout.{blockOf, wireOf, unbytes};
 ghost use Rattle.files.specs.Loading.{viewRight, addOf, linkOf, outPort, inPort};
@@ -26,7 +26,7 @@ ghost use Rattle.files.specs.LoadForms.{recordIn, BlocksRead, WiresRead,
 
 // What stands outside the tables afterwards, and the answer.
 pub(crate) struct BuiltIn {
-    pub held: Held,
+    pub totals: Totals,
     pub answer: LoadAnswer,
 }
 
@@ -69,30 +69,30 @@ fn add_block(
     heads: &mut [u32; FREE_LISTS],
     marks: &mut [bool; PORT_SLOTS],
     flags: &mut [bool; NODE_SLOTS],
-    held: Held,
+    totals: Totals,
     file: &[u8],
     at: usize,
 ) -> BuiltIn
-    requires { ⌜ MultiWf (multiIn (now nodes) (now links) (now owners) (now heads) (now marks) (now flags) held) × (at + 8 ≤ length (now file)) ⌝ }
-    ensures { λ r. ⌜ StepIs (multiIn (now (nodes .entry)) (now (links .entry)) (now (owners .entry)) (now (heads .entry)) (now (marks .entry)) (now (flags .entry)) held) (addOf (blockOf (recordIn (now (file .entry)) at))) (multiIn (now (nodes .exit)) (now (links .exit)) (now (owners .exit)) (now (heads .exit)) (now (marks .exit)) (now (flags .exit)) (r .held)) (r .answer) ⌝ }
+    requires { ⌜ MultiWf (multiIn (now nodes) (now links) (now owners) (now heads) (now marks) (now flags) totals) × (at + 8 ≤ length (now file)) ⌝ }
+    ensures { λ r. ⌜ StepIs (multiIn (now (nodes .entry)) (now (links .entry)) (now (owners .entry)) (now (heads .entry)) (now (marks .entry)) (now (flags .entry)) totals) (addOf (blockOf (recordIn (now (file .entry)) at))) (multiIn (now (nodes .exit)) (now (links .exit)) (now (owners .exit)) (now (heads .exit)) (now (marks .exit)) (now (flags .exit)) (r .totals)) (r .answer) ⌝ }
 {
     let incoming = field_at(file, at) as usize;
     let outgoing = field_at(file, at + 2) as usize;
-    let added = add_in(
+    let added = add_lent(
         nodes,
         links,
         owners,
         heads,
         marks,
         flags,
-        held,
+        totals,
         incoming,
         outgoing,
     );
-    let after = added.held;
+    let after = added.totals;
     let answer = added.answer;
     BuiltIn {
-        held: after,
+        totals: after,
         answer: add_told(answer),
     }
 }
@@ -105,30 +105,30 @@ pub(crate) fn add_blocks(
     heads: &mut [u32; FREE_LISTS],
     marks: &mut [bool; PORT_SLOTS],
     flags: &mut [bool; NODE_SLOTS],
-    held: Held,
+    totals: Totals,
     file: &[u8],
     blocks: usize,
 ) -> BuiltIn
-    requires { ⌜ MultiWf (multiIn (now nodes) (now links) (now owners) (now heads) (now marks) (now flags) held) × BlocksRead (now file) blocks ⌝ }
-    ensures { λ r. ⌜ Built (multiIn (now (nodes .entry)) (now (links .entry)) (now (owners .entry)) (now (heads .entry)) (now (marks .entry)) (now (flags .entry)) held) (map addOf (unbytes (now (file .entry)) .blocks)) (multiIn (now (nodes .exit)) (now (links .exit)) (now (owners .exit)) (now (heads .exit)) (now (marks .exit)) (now (flags .exit)) (r .held)) (r .answer) ⌝ }
+    requires { ⌜ MultiWf (multiIn (now nodes) (now links) (now owners) (now heads) (now marks) (now flags) totals) × BlocksRead (now file) blocks ⌝ }
+    ensures { λ r. ⌜ Built (multiIn (now (nodes .entry)) (now (links .entry)) (now (owners .entry)) (now (heads .entry)) (now (marks .entry)) (now (flags .entry)) totals) (map addOf (unbytes (now (file .entry)) .blocks)) (multiIn (now (nodes .exit)) (now (links .exit)) (now (owners .exit)) (now (heads .exit)) (now (marks .exit)) (now (flags .exit)) (r .totals)) (r .answer) ⌝ }
 {
-    let mut after = held;
+    let mut after = totals;
     let mut i: usize = 0;
     while i < blocks {
         let at = place(0, i);
         let built = add_block(nodes, links, owners, heads, marks, flags, after, file, at);
         let answer = built.answer;
-        after = built.held;
+        after = built.totals;
         if !accepted(answer) {
             return BuiltIn {
-                held: after,
+                totals: after,
                 answer: answer,
             };
         }
         i += 1;
     }
     BuiltIn {
-        held: after,
+        totals: after,
         answer: LoadAnswer::Loaded,
     }
 }
@@ -188,22 +188,22 @@ fn link_wire<'a>(
     heads: &mut [u32; FREE_LISTS],
     marks: &mut [bool; PORT_SLOTS],
     flags: &mut [bool; NODE_SLOTS],
-    held: Held,
+    totals: Totals,
     firsts: &'a [u32; NODE_SLOTS],
     file: &'a [u8],
     blocks: usize,
     at: usize,
 ) -> BuiltIn
-    requires { ⌜ MultiWf (multiIn (now nodes) (now links) (now owners) (now heads) (now marks) (now flags) held) × Linkable (now firsts) (now file) blocks at ⌝ }
-    ensures { λ r. ⌜ StepIs (multiIn (now (nodes .entry)) (now (links .entry)) (now (owners .entry)) (now (heads .entry)) (now (marks .entry)) (now (flags .entry)) held) (linkOf (unbytes (now (file .entry)) .blocks) (wireOf (recordIn (now (file .entry)) at))) (multiIn (now (nodes .exit)) (now (links .exit)) (now (owners .exit)) (now (heads .exit)) (now (marks .exit)) (now (flags .exit)) (r .held)) (r .answer) ⌝ }
+    requires { ⌜ MultiWf (multiIn (now nodes) (now links) (now owners) (now heads) (now marks) (now flags) totals) × Linkable (now firsts) (now file) blocks at ⌝ }
+    ensures { λ r. ⌜ StepIs (multiIn (now (nodes .entry)) (now (links .entry)) (now (owners .entry)) (now (heads .entry)) (now (marks .entry)) (now (flags .entry)) totals) (linkOf (unbytes (now (file .entry)) .blocks) (wireOf (recordIn (now (file .entry)) at))) (multiIn (now (nodes .exit)) (now (links .exit)) (now (owners .exit)) (now (heads .exit)) (now (marks .exit)) (now (flags .exit)) (r .totals)) (r .answer) ⌝ }
 {
     let a = out_port(firsts, file, blocks, at);
     let b = in_port(firsts, file, blocks, at);
-    let linked = link_in(nodes, links, owners, heads, marks, flags, held, a, b);
-    let after = linked.held;
+    let linked = link_lent(nodes, links, owners, heads, marks, flags, totals, a, b);
+    let after = linked.totals;
     let answer = linked.answer;
     BuiltIn {
-        held: after,
+        totals: after,
         answer: link_told(answer),
     }
 }
@@ -216,18 +216,18 @@ pub(crate) fn link_wires<'a>(
     heads: &mut [u32; FREE_LISTS],
     marks: &mut [bool; PORT_SLOTS],
     flags: &mut [bool; NODE_SLOTS],
-    held: Held,
+    totals: Totals,
     firsts: &'a [u32; NODE_SLOTS],
     file: &'a [u8],
     blocks: usize,
     unit: usize,
     wires: usize,
 ) -> BuiltIn
-    requires { ⌜ MultiWf (multiIn (now nodes) (now links) (now owners) (now heads) (now marks) (now flags) held)
+    requires { ⌜ MultiWf (multiIn (now nodes) (now links) (now owners) (now heads) (now marks) (now flags) totals)
         × Firsts (now firsts) (now file) blocks × BlocksRead (now file) blocks × WiresRead (now file) unit wires × (viewRight (unbytes (now file)) ≡ true) × (blocks ≤ nodeSlots) ⌝ }
-    ensures { λ r. ⌜ Built (multiIn (now (nodes .entry)) (now (links .entry)) (now (owners .entry)) (now (heads .entry)) (now (marks .entry)) (now (flags .entry)) held) (map (linkOf (unbytes (now (file .entry)) .blocks)) (unbytes (now (file .entry)) .wires)) (multiIn (now (nodes .exit)) (now (links .exit)) (now (owners .exit)) (now (heads .exit)) (now (marks .exit)) (now (flags .exit)) (r .held)) (r .answer) ⌝ }
+    ensures { λ r. ⌜ Built (multiIn (now (nodes .entry)) (now (links .entry)) (now (owners .entry)) (now (heads .entry)) (now (marks .entry)) (now (flags .entry)) totals) (map (linkOf (unbytes (now (file .entry)) .blocks)) (unbytes (now (file .entry)) .wires)) (multiIn (now (nodes .exit)) (now (links .exit)) (now (owners .exit)) (now (heads .exit)) (now (marks .exit)) (now (flags .exit)) (r .totals)) (r .answer) ⌝ }
 {
-    let mut after = held;
+    let mut after = totals;
     let mut i: usize = 0;
     while i < wires {
         let at = place(unit, i);
@@ -245,17 +245,17 @@ pub(crate) fn link_wires<'a>(
             at,
         );
         let answer = built.answer;
-        after = built.held;
+        after = built.totals;
         if !accepted(answer) {
             return BuiltIn {
-                held: after,
+                totals: after,
                 answer: answer,
             };
         }
         i += 1;
     }
     BuiltIn {
-        held: after,
+        totals: after,
         answer: LoadAnswer::Loaded,
     }
 }

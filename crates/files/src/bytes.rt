@@ -4,7 +4,8 @@ ghost use Prim.Native.Nat.{_+_, _≤_, _<_};
 ghost use lib.ListN.{length};
 ghost use lib.Seq.{sets};
 ghost use Rattle.files.specs.Layout.{fieldBytes, wordBytes, fieldAt, wordAt, recordBytes};
-ghost use Rattle.files.specs.Forms.{recordOf};
+ghost use Rattle.files.specs.LayoutLaws.{FieldsFit};
+ghost use Rattle.files.specs.Forms.{numberOf, recordOf};
 
 // The field at a byte position.
 pub(crate) fn field_at(bytes: &[u8], i: usize) -> u64
@@ -51,4 +52,12 @@ pub(crate) fn put_record(bytes: &mut [u8], i: usize, number: u64)
     put_field(bytes, i + 2, number / 4294967296 % 65536);
     put_field(bytes, i + 4, number / 65536 % 65536);
     put_field(bytes, i + 6, number % 65536);
+}
+
+// Four fields as one number, the first the most significant.
+pub(crate) fn number_of(a: u64, b: u64, c: u64, d: u64) -> u64
+    requires { ⌜ FieldsFit (record { a = a; b = b; c = c; d = d }) ⌝ }
+    ensures { λ r. ⌜ r ≡ numberOf (record { a = a; b = b; c = c; d = d }) ⌝ }
+{
+    281474976710656 * a + 4294967296 * b + 65536 * c + d
 }

@@ -8,7 +8,7 @@ use crate::check::Shape;
 use crate::check::is_whole;
 use crate::check::shape_of;
 use crate::wires::wires_right;
-use multiportgraph::lent::no_held;
+use multiportgraph::lent::no_totals;
 use multiportgraph::lent_graph::graph_of_tables;
 use multiportgraph::multiportgraph::MultiPortGraph;
 use multiportgraph::multiportgraph::Refusal;
@@ -22,8 +22,8 @@ ghost use mathlib.Core.Bool.{true};
 ghost use Prim.Native.Nat.{_%_};
 ghost use lib.ListN.{length};
 ghost use Rattle.multiportgraph.specs.Graph.{emptyGraph};
-ghost use Rattle.multiportgraph.specs.Inner.{MultiWf};
-ghost use Rattle.multiportgraph.specs.MultiLent.{multiIn, noHeld};
+ghost use Rattle.multiportgraph.specs.WellFormed.{MultiWf};
+ghost use Rattle.multiportgraph.specs.MultiLent.{multiIn, noTotals};
 ghost use Rattle.files.specs.Layout.{unbytes};
 ghost use Rattle.files.specs.Loading.{buildOf, firstRefusal, loadAnswer, loadGraph};
 ghost use Rattle.files.specs.LoadForms.{Built, Laid, BuildIs};
@@ -87,8 +87,8 @@ fn build_over(
     blocks: usize,
     wires: usize,
 ) -> BuiltIn
-    requires { ⌜ (multiIn (now nodes) (now links) (now owners) (now heads) (now marks) (now flags) (noHeld release) ≡ emptyGraph release) × Laid (now file) true blocks wires ⌝ }
-    ensures { λ r. ⌜ Built (emptyGraph release) (buildOf (unbytes (now (file .entry)))) (multiIn (now (nodes .exit)) (now (links .exit)) (now (owners .exit)) (now (heads .exit)) (now (marks .exit)) (now (flags .exit)) (r .held)) (r .answer) ⌝ }
+    requires { ⌜ (multiIn (now nodes) (now links) (now owners) (now heads) (now marks) (now flags) (noTotals release) ≡ emptyGraph release) × Laid (now file) true blocks wires ⌝ }
+    ensures { λ r. ⌜ Built (emptyGraph release) (buildOf (unbytes (now (file .entry)))) (multiIn (now (nodes .exit)) (now (links .exit)) (now (owners .exit)) (now (heads .exit)) (now (marks .exit)) (now (flags .exit)) (r .totals)) (r .answer) ⌝ }
 {
     let added = add_blocks(
         nodes,
@@ -97,7 +97,7 @@ fn build_over(
         heads,
         marks,
         flags,
-        no_held(release),
+        no_totals(release),
         file,
         blocks,
     );
@@ -114,7 +114,7 @@ fn build_over(
         heads,
         marks,
         flags,
-        added.held,
+        added.totals,
         &firsts,
         file,
         blocks,
@@ -176,8 +176,8 @@ fn build(release: Release, file: &[u8], blocks: usize, wires: usize) -> FileLoad
     if !accepted(answer) {
         return refused(release, answer);
     }
-    let held = built.held;
-    let graph = graph_of_tables(&nodes, &links, &owners, &heads, &marks, &flags, held);
+    let totals = built.totals;
+    let graph = graph_of_tables(&nodes, &links, &owners, &heads, &marks, &flags, totals);
     FileLoaded {
         graph: graph,
         answer: LoadAnswer::Loaded,

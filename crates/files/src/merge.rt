@@ -1,6 +1,7 @@
 // Two files as one: both are held against their layout, then they and the result are built; then the result is written.
 use crate::build::accepted;
 use crate::bytes::field_at;
+use crate::bytes::number_of;
 use crate::check::is_whole;
 use crate::load::LoadAnswer;
 use crate::load::build_answer;
@@ -13,7 +14,6 @@ use multiportgraph::multiportgraph::Release;
 use portgraph::index::NODE_SLOTS;
 use portgraph::index::PORT_SLOTS;
 ghost use mathlib.Core.Path.{_≡_};
-ghost use mathlib.Core.Bool.{true};
 ghost use mathlib.Core.List.{_++_, map};
 ghost use Prim.Native.Nat.{_+_, _*_, _≤_, _<_};
 ghost use lib.ListN.{length};
@@ -22,8 +22,8 @@ ghost use Rattle.multiportgraph.specs.declared.multiportgraph.Release.the-varia
 ghost use Rattle.files.specs.Layout.{blockOf, blockRecord, wireOf, wireRecord, unitsFor, unitsOf, fileLength, unbytes};
 ghost use Rattle.files.specs.Loading.{loadAnswer};
 ghost use Rattle.files.specs.Forms.{numberOf, turns};
-ghost use Rattle.files.specs.LoadForms.{recordIn, BlocksRead, WiresRead, Laid};
-ghost use Rattle.files.specs.Merging.{raised, mergedFile, unlessRefused, resultAnswer, mergeAnswer, bufferIf, mergeBuffer};
+ghost use Rattle.files.specs.LoadForms.{recordIn, BlocksRead, WiresRead};
+ghost use Rattle.files.specs.Merging.{raised, mergedFile, resultAnswer, mergeAnswer, bufferIf, mergeBuffer};
 ghost use Rattle.files.specs.MergeForms.{blockReadTurn, wireReadTurn, RaisedAt, RaisedFit, BothLaid, BothFew, firstOf};
 
 // So many wires have two files that load, at most; they have fewer blocks.
@@ -78,7 +78,7 @@ fn raised_number(file: &[u8], at: usize, raise: u64) -> u64
     let output = field_at(file, at + 2);
     let target = raise + field_at(file, at + 4);
     let input = field_at(file, at + 6);
-    281474976710656 * source + 4294967296 * output + 65536 * target + input
+    number_of(source, output, target, input)
 }
 
 // The records of the wires of a file, their ranks raised, as numbers, in a list from a place on.

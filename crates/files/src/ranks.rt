@@ -1,4 +1,5 @@
 // Records of blocks and wires as numbers, read off the listings of a graph; wires by the ranks of their blocks.
+use crate::bytes::number_of;
 ghost use mathlib.Core.Path.{_≡_};
 ghost use Prim.Native.Nat.{_≤_, _<_};
 ghost use lib.ListN.{length, getD, set};
@@ -11,7 +12,7 @@ fn record_number(a: u32, b: u32, c: u32, d: u32) -> u64
     requires { ⌜ FieldsFit (record { a = a; b = b; c = c; d = d }) ⌝ }
     ensures { λ r. ⌜ r ≡ numberOf (record { a = a; b = b; c = c; d = d }) ⌝ }
 {
-    281474976710656 * (a as u64) + 4294967296 * (b as u64) + 65536 * (c as u64) + d as u64
+    number_of(a as u64, b as u64, c as u64, d as u64)
 }
 
 // Stores a number in a table; outside nothing changes.

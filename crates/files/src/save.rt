@@ -4,12 +4,12 @@ use crate::ranks::fill_ranks;
 use crate::ranks::wire_numbers;
 use crate::sort::sort_numbers;
 use crate::units::put_units;
-use multiportgraph::lent::Held;
-use multiportgraph::lent::link_count_in;
-use multiportgraph::lent::node_count_in;
+use multiportgraph::lent::Totals;
+use multiportgraph::lent::link_count_lent;
+use multiportgraph::lent::node_count_lent;
 use multiportgraph::lent_graph::tables_of_graph;
-use multiportgraph::list_blocks::blocks_in;
-use multiportgraph::list_wires::wires_in;
+use multiportgraph::list_blocks::blocks_lent;
+use multiportgraph::list_wires::wires_lent;
 use multiportgraph::multiportgraph::MultiPortGraph;
 use portgraph::index::FREE_LISTS;
 use portgraph::index::NODE_SLOTS;
@@ -23,7 +23,7 @@ ghost use lib.ListN.{length};
 ghost use lib.Seq.{sets};
 ghost use Rattle.portgraph.specs.Limits.{portSlots};
 ghost use Rattle.multiportgraph.specs.Calls.{visibleNodes, visibleLinks};
-ghost use Rattle.multiportgraph.specs.Inner.{MultiWf};
+ghost use Rattle.multiportgraph.specs.WellFormed.{MultiWf};
 ghost use Rattle.multiportgraph.specs.MultiLent.{multiIn};
 ghost use Rattle.files.specs.View.{rankAmong, sorted};
 ghost use Rattle.files.specs.Layout.{blockRecord, wireRecord, unitsFor, unitsOf, fileLength};
@@ -103,26 +103,26 @@ fn write_in<'a>(
     heads: &'a [u32; FREE_LISTS],
     marks: &'a [bool; PORT_SLOTS],
     flags: &'a [bool; NODE_SLOTS],
-    held: Held,
+    totals: Totals,
     listed: &mut [u32],
     ends: &mut [u32],
     ranks: &mut [u32],
     numbers: &mut [u64],
     buffer: &mut [u8],
 )
-    requires { ⌜ MultiWf (multiIn (now nodes) (now links) (now owners) (now heads) (now marks) (now flags) held)
-        × (4 * visibleNodes (multiIn (now nodes) (now links) (now owners) (now heads) (now marks) (now flags) held) ≤ length (now listed))
-        × (8 * visibleLinks (multiIn (now nodes) (now links) (now owners) (now heads) (now marks) (now flags) held) ≤ length (now ends))
-        × (held .counts .«node_len» ≤ length (now ranks))
-        × (visibleNodes (multiIn (now nodes) (now links) (now owners) (now heads) (now marks) (now flags) held) ≤ length (now numbers))
-        × (visibleLinks (multiIn (now nodes) (now links) (now owners) (now heads) (now marks) (now flags) held) ≤ length (now numbers))
-        × (fileLength (visibleNodes (multiIn (now nodes) (now links) (now owners) (now heads) (now marks) (now flags) held)) (visibleLinks (multiIn (now nodes) (now links) (now owners) (now heads) (now marks) (now flags) held)) ≤ length (now buffer)) ⌝ }
-    ensures { λ _. ⌜ now (buffer .exit) ≡ saveBuffer (multiIn (now (nodes .entry)) (now (links .entry)) (now (owners .entry)) (now (heads .entry)) (now (marks .entry)) (now (flags .entry)) held) (now (buffer .entry)) ⌝ }
+    requires { ⌜ MultiWf (multiIn (now nodes) (now links) (now owners) (now heads) (now marks) (now flags) totals)
+        × (4 * visibleNodes (multiIn (now nodes) (now links) (now owners) (now heads) (now marks) (now flags) totals) ≤ length (now listed))
+        × (8 * visibleLinks (multiIn (now nodes) (now links) (now owners) (now heads) (now marks) (now flags) totals) ≤ length (now ends))
+        × (totals .counts .«node_len» ≤ length (now ranks))
+        × (visibleNodes (multiIn (now nodes) (now links) (now owners) (now heads) (now marks) (now flags) totals) ≤ length (now numbers))
+        × (visibleLinks (multiIn (now nodes) (now links) (now owners) (now heads) (now marks) (now flags) totals) ≤ length (now numbers))
+        × (fileLength (visibleNodes (multiIn (now nodes) (now links) (now owners) (now heads) (now marks) (now flags) totals)) (visibleLinks (multiIn (now nodes) (now links) (now owners) (now heads) (now marks) (now flags) totals)) ≤ length (now buffer)) ⌝ }
+    ensures { λ _. ⌜ now (buffer .exit) ≡ saveBuffer (multiIn (now (nodes .entry)) (now (links .entry)) (now (owners .entry)) (now (heads .entry)) (now (marks .entry)) (now (flags .entry)) totals) (now (buffer .entry)) ⌝ }
 {
-    let blocks = node_count_in(held);
-    let wires = link_count_in(held);
-    blocks_in(nodes, links, owners, heads, marks, flags, held, listed);
-    wires_in(nodes, links, owners, heads, marks, flags, held, ends);
+    let blocks = node_count_lent(totals);
+    let wires = link_count_lent(totals);
+    blocks_lent(nodes, links, owners, heads, marks, flags, totals, listed);
+    wires_lent(nodes, links, owners, heads, marks, flags, totals, ends);
     let block_end = 4 * blocks;
     let wire_end = 8 * wires;
     let next = put_blocks(&listed[..block_end], numbers, buffer);
@@ -144,14 +144,14 @@ fn write_few<'a>(
     heads: &'a [u32; FREE_LISTS],
     marks: &'a [bool; PORT_SLOTS],
     flags: &'a [bool; NODE_SLOTS],
-    held: Held,
+    totals: Totals,
     buffer: &mut [u8],
 )
-    requires { ⌜ MultiWf (multiIn (now nodes) (now links) (now owners) (now heads) (now marks) (now flags) held)
-        × (visibleNodes (multiIn (now nodes) (now links) (now owners) (now heads) (now marks) (now flags) held) ≤ 63)
-        × (visibleLinks (multiIn (now nodes) (now links) (now owners) (now heads) (now marks) (now flags) held) ≤ 63)
-        × (fileLength (visibleNodes (multiIn (now nodes) (now links) (now owners) (now heads) (now marks) (now flags) held)) (visibleLinks (multiIn (now nodes) (now links) (now owners) (now heads) (now marks) (now flags) held)) ≤ length (now buffer)) ⌝ }
-    ensures { λ _. ⌜ now (buffer .exit) ≡ saveBuffer (multiIn (now (nodes .entry)) (now (links .entry)) (now (owners .entry)) (now (heads .entry)) (now (marks .entry)) (now (flags .entry)) held) (now (buffer .entry)) ⌝ }
+    requires { ⌜ MultiWf (multiIn (now nodes) (now links) (now owners) (now heads) (now marks) (now flags) totals)
+        × (visibleNodes (multiIn (now nodes) (now links) (now owners) (now heads) (now marks) (now flags) totals) ≤ 63)
+        × (visibleLinks (multiIn (now nodes) (now links) (now owners) (now heads) (now marks) (now flags) totals) ≤ 63)
+        × (fileLength (visibleNodes (multiIn (now nodes) (now links) (now owners) (now heads) (now marks) (now flags) totals)) (visibleLinks (multiIn (now nodes) (now links) (now owners) (now heads) (now marks) (now flags) totals)) ≤ length (now buffer)) ⌝ }
+    ensures { λ _. ⌜ now (buffer .exit) ≡ saveBuffer (multiIn (now (nodes .entry)) (now (links .entry)) (now (owners .entry)) (now (heads .entry)) (now (marks .entry)) (now (flags .entry)) totals) (now (buffer .entry)) ⌝ }
 {
     let mut listed = [0u32; 4 * FEW];
     let mut ends = [0u32; 8 * FEW];
@@ -164,7 +164,7 @@ fn write_few<'a>(
         heads,
         marks,
         flags,
-        held,
+        totals,
         &mut listed,
         &mut ends,
         &mut ranks,
@@ -181,14 +181,14 @@ fn write_some<'a>(
     heads: &'a [u32; FREE_LISTS],
     marks: &'a [bool; PORT_SLOTS],
     flags: &'a [bool; NODE_SLOTS],
-    held: Held,
+    totals: Totals,
     buffer: &mut [u8],
 )
-    requires { ⌜ MultiWf (multiIn (now nodes) (now links) (now owners) (now heads) (now marks) (now flags) held)
-        × (visibleNodes (multiIn (now nodes) (now links) (now owners) (now heads) (now marks) (now flags) held) ≤ 126)
-        × (visibleLinks (multiIn (now nodes) (now links) (now owners) (now heads) (now marks) (now flags) held) ≤ 126)
-        × (fileLength (visibleNodes (multiIn (now nodes) (now links) (now owners) (now heads) (now marks) (now flags) held)) (visibleLinks (multiIn (now nodes) (now links) (now owners) (now heads) (now marks) (now flags) held)) ≤ length (now buffer)) ⌝ }
-    ensures { λ _. ⌜ now (buffer .exit) ≡ saveBuffer (multiIn (now (nodes .entry)) (now (links .entry)) (now (owners .entry)) (now (heads .entry)) (now (marks .entry)) (now (flags .entry)) held) (now (buffer .entry)) ⌝ }
+    requires { ⌜ MultiWf (multiIn (now nodes) (now links) (now owners) (now heads) (now marks) (now flags) totals)
+        × (visibleNodes (multiIn (now nodes) (now links) (now owners) (now heads) (now marks) (now flags) totals) ≤ 126)
+        × (visibleLinks (multiIn (now nodes) (now links) (now owners) (now heads) (now marks) (now flags) totals) ≤ 126)
+        × (fileLength (visibleNodes (multiIn (now nodes) (now links) (now owners) (now heads) (now marks) (now flags) totals)) (visibleLinks (multiIn (now nodes) (now links) (now owners) (now heads) (now marks) (now flags) totals)) ≤ length (now buffer)) ⌝ }
+    ensures { λ _. ⌜ now (buffer .exit) ≡ saveBuffer (multiIn (now (nodes .entry)) (now (links .entry)) (now (owners .entry)) (now (heads .entry)) (now (marks .entry)) (now (flags .entry)) totals) (now (buffer .entry)) ⌝ }
 {
     let mut listed = [0u32; 4 * SOME];
     let mut ends = [0u32; 8 * SOME];
@@ -201,7 +201,7 @@ fn write_some<'a>(
         heads,
         marks,
         flags,
-        held,
+        totals,
         &mut listed,
         &mut ends,
         &mut ranks,
@@ -218,12 +218,12 @@ fn write_all<'a>(
     heads: &'a [u32; FREE_LISTS],
     marks: &'a [bool; PORT_SLOTS],
     flags: &'a [bool; NODE_SLOTS],
-    held: Held,
+    totals: Totals,
     buffer: &mut [u8],
 )
-    requires { ⌜ MultiWf (multiIn (now nodes) (now links) (now owners) (now heads) (now marks) (now flags) held)
-        × (fileLength (visibleNodes (multiIn (now nodes) (now links) (now owners) (now heads) (now marks) (now flags) held)) (visibleLinks (multiIn (now nodes) (now links) (now owners) (now heads) (now marks) (now flags) held)) ≤ length (now buffer)) ⌝ }
-    ensures { λ _. ⌜ now (buffer .exit) ≡ saveBuffer (multiIn (now (nodes .entry)) (now (links .entry)) (now (owners .entry)) (now (heads .entry)) (now (marks .entry)) (now (flags .entry)) held) (now (buffer .entry)) ⌝ }
+    requires { ⌜ MultiWf (multiIn (now nodes) (now links) (now owners) (now heads) (now marks) (now flags) totals)
+        × (fileLength (visibleNodes (multiIn (now nodes) (now links) (now owners) (now heads) (now marks) (now flags) totals)) (visibleLinks (multiIn (now nodes) (now links) (now owners) (now heads) (now marks) (now flags) totals)) ≤ length (now buffer)) ⌝ }
+    ensures { λ _. ⌜ now (buffer .exit) ≡ saveBuffer (multiIn (now (nodes .entry)) (now (links .entry)) (now (owners .entry)) (now (heads .entry)) (now (marks .entry)) (now (flags .entry)) totals) (now (buffer .entry)) ⌝ }
 {
     let mut listed = [0u32; 4 * NODE_SLOTS];
     let mut ends = [0u32; 8 * MOST_WIRES];
@@ -236,7 +236,7 @@ fn write_all<'a>(
         heads,
         marks,
         flags,
-        held,
+        totals,
         &mut listed,
         &mut ends,
         &mut ranks,
@@ -246,36 +246,36 @@ fn write_all<'a>(
 }
 
 // Writes lent tables to a lent buffer and answers the file's length; bytes past it keep their contents, and so does a buffer that is too short.
-pub fn save_in<'a>(
+pub fn save_lent<'a>(
     nodes: &'a [u32; NODE_WORDS],
     links: &'a [u32; PORT_SLOTS],
     owners: &'a [u32; PORT_SLOTS],
     heads: &'a [u32; FREE_LISTS],
     marks: &'a [bool; PORT_SLOTS],
     flags: &'a [bool; NODE_SLOTS],
-    held: Held,
+    totals: Totals,
     buffer: &mut [u8],
 ) -> SaveAnswer
-    requires { ⌜ MultiWf (multiIn (now nodes) (now links) (now owners) (now heads) (now marks) (now flags) held) ⌝ }
-    ensures { λ r. ⌜ (r ≡ saveAnswer (multiIn (now (nodes .entry)) (now (links .entry)) (now (owners .entry)) (now (heads .entry)) (now (marks .entry)) (now (flags .entry)) held) (now (buffer .entry)))
-        × (now (buffer .exit) ≡ saveBuffer (multiIn (now (nodes .entry)) (now (links .entry)) (now (owners .entry)) (now (heads .entry)) (now (marks .entry)) (now (flags .entry)) held) (now (buffer .entry))) ⌝ }
+    requires { ⌜ MultiWf (multiIn (now nodes) (now links) (now owners) (now heads) (now marks) (now flags) totals) ⌝ }
+    ensures { λ r. ⌜ (r ≡ saveAnswer (multiIn (now (nodes .entry)) (now (links .entry)) (now (owners .entry)) (now (heads .entry)) (now (marks .entry)) (now (flags .entry)) totals) (now (buffer .entry)))
+        × (now (buffer .exit) ≡ saveBuffer (multiIn (now (nodes .entry)) (now (links .entry)) (now (owners .entry)) (now (heads .entry)) (now (marks .entry)) (now (flags .entry)) totals) (now (buffer .entry))) ⌝ }
 {
-    let blocks = node_count_in(held);
-    let wires = link_count_in(held);
+    let blocks = node_count_lent(totals);
+    let wires = link_count_lent(totals);
     let size = file_length(blocks, wires);
     if buffer.len() < size {
         return SaveAnswer::BufferShort;
     }
     let most = larger(blocks, wires);
     if most <= FEW {
-        write_few(nodes, links, owners, heads, marks, flags, held, buffer);
+        write_few(nodes, links, owners, heads, marks, flags, totals, buffer);
         return SaveAnswer::Saved(size);
     }
     if most <= SOME {
-        write_some(nodes, links, owners, heads, marks, flags, held, buffer);
+        write_some(nodes, links, owners, heads, marks, flags, totals, buffer);
         return SaveAnswer::Saved(size);
     }
-    write_all(nodes, links, owners, heads, marks, flags, held, buffer);
+    write_all(nodes, links, owners, heads, marks, flags, totals, buffer);
     SaveAnswer::Saved(size)
 }
 
@@ -290,7 +290,7 @@ pub fn save(graph: MultiPortGraph, buffer: &mut [u8]) -> SaveAnswer
     let mut heads = [0u32; FREE_LISTS];
     let mut marks = [false; PORT_SLOTS];
     let mut flags = [false; NODE_SLOTS];
-    let held = tables_of_graph(
+    let totals = tables_of_graph(
         graph,
         &mut nodes,
         &mut links,
@@ -299,14 +299,14 @@ pub fn save(graph: MultiPortGraph, buffer: &mut [u8]) -> SaveAnswer
         &mut marks,
         &mut flags,
     );
-    save_in(
+    save_lent(
         &nodes,
         &links,
         &owners,
         &heads,
         &marks,
         &flags,
-        held,
+        totals,
         buffer,
     )
 }

@@ -11,7 +11,7 @@ ghost use lib.ListN.{length, getD, take, drop};
 ghost use lib.Seq.{sets};
 ghost use Rattle.portgraph.specs.Lists.{range};
 ghost use Rattle.portgraph.specs.Model.{total};
-ghost use Rattle.files.specs.Layout.{wordAt, recordBytes, unitRecords, unit, unitsFor, unitsOf};
+ghost use Rattle.files.specs.Layout.{wordAt, unitRecords, unit, unitsFor, unitsOf};
 ghost use Rattle.files.specs.Forms.{recordOf, slotBytes};
 
 // The most records of a unit.

@@ -1,5 +1,6 @@
 // Holding the wires of a file against its blocks. Records are read where they stand, by their number.
 use crate::bytes::field_at;
+use crate::bytes::number_of;
 ghost use mathlib.Core.Path.{_≡_};
 ghost use Prim.Native.Nat.{_+_, _≤_, _<_};
 ghost use lib.ListN.{length};
@@ -25,7 +26,7 @@ fn number_at(file: &[u8], at: usize) -> u64
     let b = field_at(file, at + 2);
     let c = field_at(file, at + 4);
     let d = field_at(file, at + 6);
-    281474976710656 * a + 4294967296 * b + 65536 * c + d
+    number_of(a, b, c, d)
 }
 
 // The wire at a byte position goes from an output of a block of the file to an input of one.

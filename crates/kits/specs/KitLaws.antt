@@ -18,7 +18,7 @@ use Rattle.portgraph.specs.declared.port_entry.PortEntry.the-variants as port-v
 use Rattle.multiportgraph.specs.Answers.{refusalNumbers}
 use Rattle.multiportgraph.specs.Graph.{emptyGraph}
 use Rattle.multiportgraph.specs.Reading.{isHidden, isSplit}
-use Rattle.multiportgraph.specs.Inner.{Fine, MultiWf, Marked, copy-port, main-port, copyPlace}
+use Rattle.multiportgraph.specs.WellFormed.{Fine, MultiWf, Marked, copy-port, main-port, copyPlace}
 use Rattle.multiportgraph.specs.declared.multiportgraph.MultiPortGraph.{MultiPortGraph}
 use Rattle.multiportgraph.specs.declared.multiportgraph.Release.{Release}
 use Rattle.multiportgraph.specs.declared.multiportgraph.Refusal.{Refusal}

@@ -28,10 +28,10 @@ use Rattle.portgraph.specs.declared.resize.SetAnswer.the-variants as lower-set
 use Rattle.portgraph.specs.declared.resize.PortsSet as lower-set-done
 use Rattle.multiportgraph.specs.Reading.{hasLink, isHidden, isSplit, Port, dead, hidden, visible, seen, sideOf, copyNode, subports, subportAt, portOf, farPort, subport#, asRead, standing}
 use Rattle.multiportgraph.specs.Graph.{withGraph}
-use Rattle.multiportgraph.specs.HiddenNodes.{removeCopy, unsplit, unsplitRange, recounted, copiesDropped, removeLone, removeAll, Prepared, ready, full, copyIn, copyOut, splitGraph, splitPort, splitBy, splitUnder, moreIn, moreOut, enough, grownBy, growUnder, lowestFree, reuseUnder, prepareUnder}
+use Rattle.multiportgraph.specs.HiddenNodes.{removeCopy, unsplit, unsplitRange, recounted, copiesDropped, removeLone, removeAll, Prepared, ready, full, copyIncoming, copyOutgoing, splitGraph, splitPort, splitBy, splitUnder, moreIncoming, moreOutgoing, enough, grownBy, growUnder, lowestFree, reuseUnder, prepareUnder}
 use Rattle.multiportgraph.specs.Refusals.{Line, checked, inputTaken, joining, endOf, preparedGraph, preparedPort, firstEnd, secondEnd, addRefusals, removeRefusals, setRefusals, linkRefusals, linkCleanRefusals, linkSubRefusals, cutRefusals, subportRefusals}
 use Rattle.multiportgraph.specs.Calls.{addedAs, addBlockUnder, setAs, setCountsUnder, dropBlock, dropMeta, removeBlock, resizedMeta, bothLinked, linkPairIf, linkPairUnder, linkCleanIf, joined, linkSubIf, cutPlain, cutPort, cutSub, tidyPort}
-use Rattle.multiportgraph.specs.Tidy.{subportsLeft, leftIn, leftOut, withinBlock, resizedWithin, dropSubports, linkDirectly, tidied}
+use Rattle.multiportgraph.specs.Tidy.{subportsLeft, leftIncoming, leftOutgoing, withinBlock, resizedWithin, dropSubports, linkDirectly, tidied}
 use Rattle.multiportgraph.specs.Cases.{setRefused, resized, setMetaUnder, linkRefused, linkPrepared, linkSecond, linkLiveUnder, linkFirst, linkSeenUnder, pairSeen, linkCleanBy}
 use Rattle.multiportgraph.specs.CaseLaws.{add-cases, set-cases, link-cases, link-taken, link-clean-cases, link-clean-taken}
 use Rattle.multiportgraph.specs.declared.named.NamedPair.{NamedPair}
@@ -133,17 +133,17 @@ unfolding tidied dropSubports recounted
 tidied-same m p d = go (ltb 1 (subportsLeft m p d))
   where
     go : (b : Bool) → Same (m .graph) (cond b (dropSubports m (copyNode m p) d (subportsLeft m p d)) (linkDirectly m p d) .graph)
-    go true = within-same (m .graph) (copyNode m p) (leftIn d (subportsLeft m p d)) (leftOut d (subportsLeft m p d))
+    go true = within-same (m .graph) (copyNode m p) (leftIncoming d (subportsLeft m p d)) (leftOutgoing d (subportsLeft m p d))
     go false = direct-same m p d
 
 -- Preparing an end.
 
 -- the end is prepared in a graph for which this holds
-abbrev PreparedIn : (PortGraph → Type 0) → Prepared → Type 0
-PreparedIn P (ready m x o) = P (m .graph)
-PreparedIn P full = Unit {0}
+abbrev PreparedLent : (PortGraph → Type 0) → Prepared → Type 0
+PreparedLent P (ready m x o) = P (m .graph)
+PreparedLent P full = Unit {0}
 
-prepared-map : {P Q : PortGraph → Type 0} → ((g : PortGraph) → P g → Q g) → (v : Prepared) → PreparedIn P v → PreparedIn Q v
+prepared-map : {P Q : PortGraph → Type 0} → ((g : PortGraph) → P g → Q g) → (v : Prepared) → PreparedLent P v → PreparedLent Q v
 prepared-map h (ready m x o) p = h (m .graph) p
 prepared-map h full p = tt
 
@@ -152,14 +152,14 @@ abbrev ByLengths : (PortGraph → Type 0) → Type 0
 ByLengths P = (g h : PortGraph) → Same g h → P g → P h
 
 split-by-in : (m : MultiPortGraph) (p : ℕ) (d : Direction) (P : PortGraph → Type 0) → ByLengths P → (g : PortGraph) → P g → (a : lower-add-answer.AddAnswer) →
-    PreparedIn P (splitBy m p d g a)
+    PreparedLent P (splitBy m p d g a)
 unfolding splitPort
 split-by-in m p d P by g h (lower-add.Added c first) = by g (splitGraph g p d (c .0)) (split-graph-same g p d (c .0)) h
 split-by-in m p d P by g h lower-add.TooManyPorts = tt
 split-by-in m p d P by g h lower-add.NoRoom = tt
 
 grown-by-in : (m : MultiPortGraph) (c : ℕ) (d : Direction) (P : PortGraph → Type 0) (g : PortGraph) → P g → (a : lower-set-answer.SetAnswer) →
-    PreparedIn P (grownBy m c d g a)
+    PreparedLent P (grownBy m c d g a)
 unfolding recounted
 grown-by-in m c d P g h (lower-set.Set e) = h
 grown-by-in m c d P g h lower-set.TooManyPorts = tt
@@ -184,26 +184,26 @@ checked-in P graph refused e (l ∷ lines) done h p = go (checked-in P graph ref
 -- What used lengths alone decide, and what a node more and other counts of a node keep, every call keeps.
 module _ (K : Limits) (P : PortGraph → Type 0) (by : ByLengths P) (more : (g : PortGraph) (i o : ℕ) → P g → P (addNodeUnder K g i o .graph))
     (other : (g : PortGraph) (n i o room : ℕ) → P g → P (setNumPortsUnder K g n i o room .graph)) where
-  pub prepare-keeps : (m : MultiPortGraph) (p : ℕ) (d : Direction) → P (m .graph) → PreparedIn P (prepareUnder K m p d)
+  pub prepare-keeps : (m : MultiPortGraph) (p : ℕ) (d : Direction) → P (m .graph) → PreparedLent P (prepareUnder K m p d)
   unfolding prepareUnder reuseUnder splitUnder growUnder
   prepare-keeps m p d here =
       go (isSplit m p) (hasLink (m .graph) p)
       (ltb (lowestFree (m .graph) (copyNode m p) d 0 (subports m p d)) (numPorts (m .graph) (copyNode m p) d))
       (ready m (portOf (m .graph) (copyNode m p) d (lowestFree (m .graph) (copyNode m p) d 0 (subports m p d))) (lowestFree (m .graph) (copyNode m p) d 0 (subports m p d))) (ready m p 0)
       (growUnder K m (copyNode m p) d) (splitUnder K m p d) here here
-      (grown-by-in m (copyNode m p) d P (setNumPortsUnder K (m .graph) (copyNode m p) (moreIn (m .graph) (copyNode m p) d) (moreOut (m .graph) (copyNode m p) d) enough .graph)
-      (other (m .graph) (copyNode m p) (moreIn (m .graph) (copyNode m p) d) (moreOut (m .graph) (copyNode m p) d) enough here)
-      (setNumPortsUnder K (m .graph) (copyNode m p) (moreIn (m .graph) (copyNode m p) d) (moreOut (m .graph) (copyNode m p) d) enough .answer))
-      (split-by-in m p d P by (addNodeUnder K (m .graph) (copyIn d) (copyOut d) .graph) (more (m .graph) (copyIn d) (copyOut d) here)
-      (addNodeUnder K (m .graph) (copyIn d) (copyOut d) .answer))
+      (grown-by-in m (copyNode m p) d P (setNumPortsUnder K (m .graph) (copyNode m p) (moreIncoming (m .graph) (copyNode m p) d) (moreOutgoing (m .graph) (copyNode m p) d) enough .graph)
+      (other (m .graph) (copyNode m p) (moreIncoming (m .graph) (copyNode m p) d) (moreOutgoing (m .graph) (copyNode m p) d) enough here)
+      (setNumPortsUnder K (m .graph) (copyNode m p) (moreIncoming (m .graph) (copyNode m p) d) (moreOutgoing (m .graph) (copyNode m p) d) enough .answer))
+      (split-by-in m p d P by (addNodeUnder K (m .graph) (copyIncoming d) (copyOutgoing d) .graph) (more (m .graph) (copyIncoming d) (copyOutgoing d) here)
+      (addNodeUnder K (m .graph) (copyIncoming d) (copyOutgoing d) .answer))
     where
-      go : (a b c : Bool) (x y v s : Prepared) → PreparedIn P x → PreparedIn P y → PreparedIn P v → PreparedIn P s → PreparedIn P (cond a (cond c x v) (cond b s y))
+      go : (a b c : Bool) (x y v s : Prepared) → PreparedLent P x → PreparedLent P y → PreparedLent P v → PreparedLent P s → PreparedLent P (cond a (cond c x v) (cond b s y))
       go true b true x y v s h i j k = h
       go true b false x y v s h i j k = j
       go false true c x y v s h i j k = k
       go false false c x y v s h i j k = i
 
-  prepared-keeps : (m : MultiPortGraph) (v : Prepared) → P (m .graph) → PreparedIn P v → P (preparedGraph m v .graph)
+  prepared-keeps : (m : MultiPortGraph) (v : Prepared) → P (m .graph) → PreparedLent P v → P (preparedGraph m v .graph)
   prepared-keeps m full here h = here
   prepared-keeps m (ready m₁ x o) here h = h
 
@@ -276,7 +276,7 @@ module _ (K : Limits) (P : PortGraph → Type 0) (by : ByLengths P) (more : (g :
 longer-by-lengths : (g : PortGraph) → ByLengths (Longer g)
 longer-by-lengths g h k s l = longer-still l (same-longer s)
 
-prepare-longer : (K : Limits) (m : MultiPortGraph) (p : ℕ) (d : Direction) → PreparedIn (Longer (m .graph)) (prepareUnder K m p d)
+prepare-longer : (K : Limits) (m : MultiPortGraph) (p : ℕ) (d : Direction) → PreparedLent (Longer (m .graph)) (prepareUnder K m p d)
 prepare-longer K m p d =
     prepare-keeps K (Longer (m .graph)) (longer-by-lengths (m .graph)) (λ g i o l. longer-still l (add-longer K g i o)) (λ g n i o room l. longer-still l (set-longer K g n i o room))
     m p d (same-length (m .graph))
@@ -305,11 +305,11 @@ link-prepared-same n a d x o b e y r = pass (sameSide d e)
 module _ {L K : Limits} (low : Lower L K) where
   -- an end: alike, or it finds no room and is past the lower limits under the higher ones
   abbrev EndExact : Prepared → Prepared → Type 0
-  EndExact v w = (v ≡ w) ⊎ ((v ≡ full) × PreparedIn (Past L) w)
+  EndExact v w = (v ≡ w) ⊎ ((v ≡ full) × PreparedLent (Past L) w)
 
   split-exact : (m : MultiPortGraph) (p : ℕ) (d : Direction) → EndExact (splitUnder L m p d) (splitUnder K m p d)
   unfolding splitUnder
-  split-exact m p d = go (addNodeUnder L (m .graph) (copyIn d) (copyOut d)) (addNodeUnder K (m .graph) (copyIn d) (copyOut d)) (add-exact low (m .graph) (copyIn d) (copyOut d))
+  split-exact m p d = go (addNodeUnder L (m .graph) (copyIncoming d) (copyOutgoing d)) (addNodeUnder K (m .graph) (copyIncoming d) (copyOutgoing d)) (add-exact low (m .graph) (copyIncoming d) (copyOutgoing d))
     where
       done : lower-added.NodeAdded → Prepared
       done v = splitBy m p d (v .graph) (v .answer)
@@ -321,8 +321,8 @@ module _ {L K : Limits} (low : Lower L K) where
   grow-exact : (m : MultiPortGraph) (c : ℕ) (d : Direction) → EndExact (growUnder L m c d) (growUnder K m c d)
   unfolding growUnder
   grow-exact m c d =
-      go (setNumPortsUnder L (m .graph) c (moreIn (m .graph) c d) (moreOut (m .graph) c d) enough) (setNumPortsUnder K (m .graph) c (moreIn (m .graph) c d) (moreOut (m .graph) c d) enough)
-      (set-exact low (m .graph) c (moreIn (m .graph) c d) (moreOut (m .graph) c d) enough)
+      go (setNumPortsUnder L (m .graph) c (moreIncoming (m .graph) c d) (moreOutgoing (m .graph) c d) enough) (setNumPortsUnder K (m .graph) c (moreIncoming (m .graph) c d) (moreOutgoing (m .graph) c d) enough)
+      (set-exact low (m .graph) c (moreIncoming (m .graph) c d) (moreOutgoing (m .graph) c d) enough)
     where
       done : lower-set-done.PortsSet → Prepared
       done v = grownBy m c d (v .graph) (v .answer)
@@ -422,7 +422,7 @@ module _ {L K : Limits} (low : Lower L K) where
             pass false q = zero-is-not-one (cc)
 
         -- the second end, where it is prepared past the limits; v is refused
-        past-second : (d e : Direction) (x o : ℕ) (v : PortsLinked) → v ≡ linkRefused m NoRoom → (w : Prepared) → PreparedIn (Past L) w → LinkExact v (linkSecond m a d x o b e w)
+        past-second : (d e : Direction) (x o : ℕ) (v : PortsLinked) → v ≡ linkRefused m NoRoom → (w : Prepared) → PreparedLent (Past L) w → LinkExact v (linkSecond m a d x o b e w)
         past-second d e x o v q full p = inl q
         past-second d e x o v q (ready n y r) p = inr (q, not-ten n d x o e y r, past-longer (same-longer (link-prepared-same n a d x o b e y r)) p)
 
@@ -434,7 +434,7 @@ module _ {L K : Limits} (low : Lower L K) where
         both d e full = inl refl
         both d e (ready n x o) = second d e x o (prepareUnder L n b e) (prepareUnder K n b e) (prepare-exact n b e)
 
-        past-first : (d e : Direction) (v : PortsLinked) → v ≡ linkRefused m NoRoom → (w : Prepared) → PreparedIn (Past L) w → LinkExact v (linkLiveUnder K m a d b e w)
+        past-first : (d e : Direction) (v : PortsLinked) → v ≡ linkRefused m NoRoom → (w : Prepared) → PreparedLent (Past L) w → LinkExact v (linkLiveUnder K m a d b e w)
         past-first d e v q full p = inl q
         past-first d e v q (ready n x o) p =
             past-second d e x o v q (prepareUnder K n b e) (prepared-map (λ g l. past-longer l p) (prepareUnder K n b e) (prepare-longer K n b e))
@@ -443,7 +443,7 @@ module _ {L K : Limits} (low : Lower L K) where
         first d e v w (inl q) = subst (λ (u : Prepared). LinkExact (linkLiveUnder L m a d b e v) (linkLiveUnder K m a d b e u)) q (both d e v)
         first d e v w (inr q) = past-first d e (linkLiveUnder L m a d b e v) (ap (linkLiveUnder L m a d b e) (q .0)) w (q .1)
 
-        past-alone : (v : PortsLinked) → v ≡ linkRefused m NoRoom → (w : Prepared) → PreparedIn (Past L) w → LinkExact v (linkFirst m b w)
+        past-alone : (v : PortsLinked) → v ≡ linkRefused m NoRoom → (w : Prepared) → PreparedLent (Past L) w → LinkExact v (linkFirst m b w)
         past-alone v q full p = inl q
         past-alone v q (ready n x o) p = inr (q, (λ u. zero-is-not-one (cc)), p)
 

@@ -9,6 +9,10 @@ pub mod text;
 pub mod listening;
 pub mod reading;
 
+// What a line asks for, and what can be wrong with it.
+pub mod orders;
+mod wrong;
+
 // A line of output.
 pub mod show;
 

@@ -2,20 +2,15 @@
 use crate::reading::Found;
 use crate::reading::Reader;
 use crate::show::write_bytes;
-use crate::text::Span;
 use crate::text::byte_at;
+use crate::text::line_of;
 use crate::text::next_word;
 use crate::text::part;
-use crate::text::without_return;
+use crate::wrong::TOO_LONG;
+use crate::wrong::show_bad;
 
-pub enum Heard {
-    // No line has come to its end, or it is skipped.
-    Nothing,
-    // A line, which stands where the reader says.
-    Line,
-    // The end of a line that is too long.
-    TooLong,
-}
+// The longest line, and its newline.
+pub const ROOM: usize = 65537;
 
 pub struct Listener {
     pub reader: Reader,
@@ -26,7 +21,8 @@ pub struct Listener {
     pub too_long: bool,
     // Whether no line is read any more.
     pub ended: bool,
-    pub heard: Heard,
+    // Whether a line was heard, which stands where the reader says.
+    pub heard: bool,
 }
 
 // Whether a line has no word, or is a comment.
@@ -44,17 +40,16 @@ fn show_line(text: &[u8]) {
     write_bytes(b"\n");
 }
 
-// A line without its newline.
-fn hear_line(text: &[u8], echo: bool) -> Heard {
-    let len = without_return(text);
-    let words = &text[0..len];
+// A line without its newline: whether it is heard.
+fn hear_line(text: &[u8], echo: bool) -> bool {
+    let words = line_of(text);
     if is_skipped(words) {
-        return Heard::Nothing;
+        return false;
     }
     if echo {
         show_line(words);
     }
-    Heard::Line
+    true
 }
 
 // The number of the line after this one.
@@ -70,11 +65,11 @@ impl Listener {
             line: 0,
             too_long: false,
             ended: false,
-            heard: Heard::Nothing,
+            heard: false,
         }
     }
 
-    fn told(self, heard: Heard, line: u64, too_long: bool, ended: bool) -> Self {
+    fn told(self, heard: bool, line: u64, too_long: bool, ended: bool) -> Self {
         let reader = self.reader;
         Listener {
             reader: reader,
@@ -93,14 +88,15 @@ impl Listener {
                 show_line(text);
             }
         }
-        self.told(Heard::Nothing, self.line, true, false)
+        self.told(false, self.line, true, false)
     }
 
     // The line in hand ends with this text.
     fn end_line(self, text: &[u8], last: bool) -> Self {
         let line = after(self.line);
         if self.too_long {
-            return self.told(Heard::TooLong, line, false, last);
+            show_bad(line, TOO_LONG, b"at most 65536 bytes");
+            return self.told(false, line, false, last);
         }
         self.told(hear_line(text, self.echo), line, false, last)
     }
@@ -108,13 +104,13 @@ impl Listener {
     // What was found in the input, with its text.
     fn hear(self, found: Found, text: &[u8]) -> Self {
         match found {
-            Found::Nothing => self.told(Heard::Nothing, self.line, self.too_long, false),
+            Found::Nothing => self.told(false, self.line, self.too_long, false),
             Found::Line => self.end_line(text, false),
             Found::Part => self.pass(text),
             Found::Last => self.end_line(text, true),
             Found::Failed => {
                 write_bytes(b"cannot read the input\n");
-                self.told(Heard::Nothing, self.line, self.too_long, true)
+                self.told(false, self.line, self.too_long, true)
             }
         }
     }

@@ -3,6 +3,8 @@ use crate::text::Span;
 use crate::text::byte_at;
 use crate::text::line_end;
 use libc::STDIN_FILENO;
+ghost use mathlib.Core.Path.{_≡_};
+ghost use lib.ListN.{set};
 
 // What a step finds.
 pub enum Found {
@@ -29,7 +31,9 @@ pub struct Reader {
 }
 
 // Stores a byte; outside nothing changes.
-pub fn put_byte(buffer: &mut [u8], at: usize, byte: u8) {
+pub fn put_byte(buffer: &mut [u8], at: usize, byte: u8)
+    ensures { λ _. ⌜ now (buffer .exit) ≡ set (now (buffer .entry)) at byte ⌝ }
+{
     if at < buffer.len() {
         buffer[at] = byte;
     }

@@ -1,6 +1,10 @@
 // Lines, words and numbers in a text. Blanks, tabs and newlines stand between words.
-ghost use Prim.Native.Nat.{_≤_};
-ghost use lib.ListN.{length};
+ghost use mathlib.Core.Path.{_≡_};
+ghost use Prim.Native.Nat.{_-_};
+ghost use lib.Dec.{leb};
+ghost use lib.ListN.{getD};
+ghost use Rattle.lines.specs.Text.{isBlank, bytesOf, partOf, withoutReturn, lineOf, passOver, nextWord, LineEnd, sameBytes, numberSaid, numberOrZero};
+ghost use Rattle.lines.specs.TextSteps.{withDigit};
 
 // A part of a text: a word up to the blank after it, or a line up to its newline.
 pub struct Span {
@@ -12,12 +16,16 @@ pub struct Span {
 pub const NO_VALUE: u64 = 4294967296;
 
 // The byte at a place; 0 outside.
-pub fn byte_at(text: &[u8], at: usize) -> u8 {
+pub fn byte_at(text: &[u8], at: usize) -> u8
+    ensures { λ r. ⌜ r ≡ getD (now (text .entry)) at 0 ⌝ }
+{
     if at < text.len() { text[at] } else { 0 }
 }
 
 // A part of a text; an empty one where there is no such part.
-pub fn part(text: &[u8], span: Span) -> &[u8] {
+pub fn part(text: &[u8], span: Span) -> &[u8]
+    ensures { λ r. ⌜ now r ≡ partOf (now (text .entry)) span ⌝ }
+{
     let from = span.from;
     let to = span.to;
     if from <= to {
@@ -29,8 +37,8 @@ pub fn part(text: &[u8], span: Span) -> &[u8] {
 }
 
 // The length of a line without a carriage return at its end.
-pub fn without_return(text: &[u8]) -> usize
-    ensures { λ r. ⌜ r ≤ length (now (text .entry)) ⌝ }
+fn without_return(text: &[u8]) -> usize
+    ensures { λ r. ⌜ r ≡ withoutReturn (now (text .entry)) ⌝ }
 {
     let len = text.len();
     if 0 < len {
@@ -41,15 +49,25 @@ pub fn without_return(text: &[u8]) -> usize
     len
 }
 
-// A line of a text, without a carriage return at its end.
-pub fn line_part(text: &[u8], span: Span) -> &[u8] {
-    let line = part(text, span);
-    let len = without_return(line);
-    &line[0..len]
+// A line without a carriage return at its end.
+pub fn line_of(text: &[u8]) -> &[u8]
+    ensures { λ r. ⌜ now r ≡ lineOf (now (text .entry)) ⌝ }
+{
+    let len = without_return(text);
+    &text[0..len]
+}
+
+// The same of a part of a text.
+pub fn line_part(text: &[u8], span: Span) -> &[u8]
+    ensures { λ r. ⌜ now r ≡ lineOf (partOf (now (text .entry)) span) ⌝ }
+{
+    line_of(part(text, span))
 }
 
 // The first newline between two places, or the second of them.
-pub fn line_end(text: &[u8], from: usize, to: usize) -> usize {
+pub fn line_end(text: &[u8], from: usize, to: usize) -> usize
+    ensures { λ r. ⌜ LineEnd (now (text .entry)) from to r ⌝ }
+{
     let mut at = from;
     while at < to {
         if byte_at(text, at) == b'\n' {
@@ -60,7 +78,9 @@ pub fn line_end(text: &[u8], from: usize, to: usize) -> usize {
     to
 }
 
-fn is_blank(byte: u8) -> bool {
+fn is_blank(byte: u8) -> bool
+    ensures { λ r. ⌜ r ≡ isBlank byte ⌝ }
+{
     match byte {
         b' ' | b'\t' | b'\n' => true,
         _ => false,
@@ -68,7 +88,9 @@ fn is_blank(byte: u8) -> bool {
 }
 
 // The end of the blanks from a place on, or of what is no blank.
-fn pass_over(text: &[u8], from: usize, blanks: bool) -> usize {
+fn pass_over(text: &[u8], from: usize, blanks: bool) -> usize
+    ensures { λ r. ⌜ r ≡ passOver (now (text .entry)) from blanks ⌝ }
+{
     let mut at = from;
     while at < text.len() {
         if is_blank(text[at]) != blanks {
@@ -80,7 +102,9 @@ fn pass_over(text: &[u8], from: usize, blanks: bool) -> usize {
 }
 
 // The next word from a place on; empty where no word is left.
-pub fn next_word(text: &[u8], from: usize) -> Span {
+pub fn next_word(text: &[u8], from: usize) -> Span
+    ensures { λ r. ⌜ r ≡ nextWord (now (text .entry)) from ⌝ }
+{
     let start = pass_over(text, from, true);
     Span {
         from: start,
@@ -89,11 +113,15 @@ pub fn next_word(text: &[u8], from: usize) -> Span {
 }
 
 impl Span {
-    pub fn is_empty(self) -> bool {
+    pub fn is_empty(self) -> bool
+        ensures { λ r. ⌜ r ≡ leb (self .to) (self .from) ⌝ }
+    {
         self.to <= self.from
     }
 
-    pub fn len(self) -> usize {
+    pub fn len(self) -> usize
+        ensures { λ r. ⌜ r ≡ self .to - self .from ⌝ }
+    {
         if self.to <= self.from {
             return 0;
         }
@@ -102,7 +130,9 @@ impl Span {
 }
 
 // Whether a word of one text is a word of another.
-pub fn same_word(text: &[u8], word: Span, other: &[u8], name: Span) -> bool {
+pub fn same_word(text: &[u8], word: Span, other: &[u8], name: Span) -> bool
+    ensures { λ r. ⌜ r ≡ sameBytes (bytesOf (now (text .entry)) word) (bytesOf (now (other .entry)) name) ⌝ }
+{
     let to = word.to;
     let end = name.to;
     let mut at = word.from;
@@ -121,12 +151,16 @@ pub fn same_word(text: &[u8], word: Span, other: &[u8], name: Span) -> bool {
 }
 
 // Whether a word of a text is this one.
-pub fn is_word(text: &[u8], word: Span, name: &[u8]) -> bool {
+pub fn is_word(text: &[u8], word: Span, name: &[u8]) -> bool
+    ensures { λ r. ⌜ r ≡ sameBytes (bytesOf (now (text .entry)) word) (bytesOf (now (name .entry)) (nextWord (now (name .entry)) 0)) ⌝ }
+{
     same_word(text, word, name, next_word(name, 0))
 }
 
 // One digit more, as long as the number is at most 4,294,967,295.
-fn with_digit(value: u64, byte: u8) -> u64 {
+fn with_digit(value: u64, byte: u8) -> u64
+    ensures { λ r. ⌜ r ≡ withDigit value byte ⌝ }
+{
     if NO_VALUE <= value {
         return NO_VALUE;
     }
@@ -144,7 +178,9 @@ fn with_digit(value: u64, byte: u8) -> u64 {
 }
 
 // The number that a word says in decimal digits.
-pub fn number_of(text: &[u8], word: Span) -> u64 {
+pub fn number_of(text: &[u8], word: Span) -> u64
+    ensures { λ r. ⌜ r ≡ numberSaid (bytesOf (now (text .entry)) word) ⌝ }
+{
     let to = word.to;
     let mut value: u64 = 0;
     let mut at = word.from;
@@ -153,4 +189,15 @@ pub fn number_of(text: &[u8], word: Span) -> u64 {
         at += 1;
     }
     value
+}
+
+// The same; 0 where it says none.
+pub fn number_or_zero(text: &[u8], word: Span) -> u32
+    ensures { λ r. ⌜ r ≡ numberOrZero (bytesOf (now (text .entry)) word) ⌝ }
+{
+    let value = number_of(text, word);
+    if NO_VALUE <= value {
+        return 0;
+    }
+    value as u32
 }

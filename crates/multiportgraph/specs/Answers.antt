@@ -1,6 +1,7 @@
 -- 01's numbers and values of each answer.
 use mathlib.Core.List.{List, [], _∷_}
 use Prim.Native.Nat.{ℕ}
+use lib.ListN.{take}
 use Rattle.portgraph.specs.Entries.{sideNumber}
 use Rattle.multiportgraph.specs.declared.multiportgraph.Refusal.{Refusal}
 use Rattle.multiportgraph.specs.declared.multiportgraph.Refusal.the-variants.{BadOffset, TooManyPorts, UnknownNode, HiddenNode, MovesTooShort, UnknownPort, HiddenPort, UnknownOffset, NoRoom, UnknownSecondPort, IncompatibleDirections, AlreadyLinked, InputWired}
@@ -59,6 +60,10 @@ abbrev pub cutNumbers : CutAnswer → List ℕ
 cutNumbers (cutting.Found s x) = 0 ∷ 1 ∷ s .port .0 ∷ s .«subport_offset» ∷ placeNumbers x
 cutNumbers cutting.Nothing = 0 ∷ 0 ∷ 0 ∷ 0 ∷ []
 cutNumbers (cutting.Refused r) = refusalNumbers r
+
+-- the numbers of such an answer without the place, which stands after the fourth
+abbrev pub beforePlace : List ℕ → List ℕ
+beforePlace numbers = take 4 numbers
 
 -- an accepted tidy answers no value
 abbrev pub tidyNumbers : TidyAnswer → List ℕ

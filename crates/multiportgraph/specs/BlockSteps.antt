@@ -30,9 +30,9 @@ use Rattle.portgraph.specs.declared.resize.SetAnswer.the-variants as lower-vari
 use Rattle.portgraph.specs.declared.portgraph.PortGraph.{PortGraph}
 use Rattle.multiportgraph.specs.Reading.{portOf, isHidden, isSplit, copyNode, copySide}
 use Rattle.multiportgraph.specs.Calls.{dropBlock, removeBlock, setAs, setCounts, toldMeta, movesTold, movesToldUnder, setCountsUnder}
-use Rattle.multiportgraph.specs.Inner.{MultiWf}
-use Rattle.multiportgraph.specs.Forms.{flagAt}
-use Rattle.multiportgraph.specs.FormSteps.{flag-inside}
+use Rattle.multiportgraph.specs.WellFormed.{MultiWf}
+use Rattle.multiportgraph.specs.CodeForms.{flagAt}
+use Rattle.multiportgraph.specs.CodeFormSteps.{flag-inside}
 use Rattle.multiportgraph.specs.CopySteps.{unsplit-plain}
 use Rattle.multiportgraph.specs.declared.multiportgraph.Refusal.the-variants.{TooManyPorts, UnknownNode, HiddenNode}
 use Rattle.multiportgraph.specs.declared.multiportgraph.RemoveAnswer.the-variants as remove

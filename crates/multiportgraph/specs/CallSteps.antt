@@ -17,8 +17,8 @@ use Rattle.portgraph.specs.declared.slots.NodeAdded as lower-added
 use Rattle.portgraph.specs.declared.slots.AddAnswer as lower-add
 use Rattle.multiportgraph.specs.Reading.{Port, dead, hidden, visible, seen, End, inner, lacking, isSplit, subport#, standing}
 use Rattle.multiportgraph.specs.Calls.{addedAs, addBlock, cutPlain, cutPort, addBlockUnder}
-use Rattle.multiportgraph.specs.Forms.{seenAs, endAs}
-use Rattle.multiportgraph.specs.Inner.{MultiWf}
+use Rattle.multiportgraph.specs.CodeForms.{seenAs, endAs}
+use Rattle.multiportgraph.specs.WellFormed.{MultiWf}
 use Rattle.multiportgraph.specs.declared.multiportgraph.MultiPortGraph.{MultiPortGraph}
 use Rattle.multiportgraph.specs.declared.multiportgraph.Release.{Release}
 use Rattle.multiportgraph.specs.declared.multiportgraph.NodeAdded.{NodeAdded}

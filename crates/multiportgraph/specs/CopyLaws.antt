@@ -29,10 +29,10 @@ use Rattle.portgraph.specs.declared.portgraph.PortLink.{PortLink}
 use Rattle.portgraph.specs.declared.portgraph.PortLink.the-variants as lower-cut
 use Rattle.multiportgraph.specs.Reading.{isHidden, isSplit, copySide, copyNode, portOf, Port, dead, hidden, visible, seen, subport#, standing}
 use Rattle.multiportgraph.specs.Calls.{cutPort, cutPlain}
-use Rattle.multiportgraph.specs.Inner.{copyPlace, Fine, Seen, outer, lift, IsEnd, WireIn, SameBlocks, Wiring, subportsOfSlot}
+use Rattle.multiportgraph.specs.WellFormed.{copyPlace, Fine, Seen, outer, lift, IsEnd, WireIn, SameBlocks, Wiring, subportsOfSlot}
 use Rattle.multiportgraph.specs.Ends.{BlockPort, Hangs, port-of, count-of, copy-valid, main-seen, main-back, outer-of-subport, outer-of-block, one-copy, unsplit-no-copy, split-has-copy, block-seen, ends-join-ends, outer-of-unsplit}
-use Rattle.multiportgraph.specs.Frame.{same-wire, outer-kept, true-or-false, true-not-false, AtCopyLink, Frame, frame-fine, Alike, kept-end, wire-kept, kept-wire}
-use Rattle.multiportgraph.specs.PlainLaws.{to-same, end-is-here, CutDone, CutSays, CutSaid, cut-end, endIs, touches-neither, touched-not-out, touched-not-into, at-spot-here, at-spot-is}
+use Rattle.multiportgraph.specs.HiddenStays.{same-wire, outer-kept, true-or-false, true-not-false, AtCopyLink, Frame, frame-fine, Alike, kept-end, wire-kept, kept-wire}
+use Rattle.multiportgraph.specs.LinkCutLaws.{to-same, end-is-here, CutDone, CutSays, CutSaid, cut-end, endIs, touches-neither, touched-not-out, touched-not-into, at-spot-here, at-spot-is}
 use Rattle.multiportgraph.specs.declared.multiportgraph.MultiPortGraph.{MultiPortGraph}
 use Rattle.multiportgraph.specs.declared.multiportgraph.CutAnswer.the-variants as cutting
 use Rattle.multiportgraph.specs.Places.{Place, Wire, touches, atSpot, atEnd, spot, flag}

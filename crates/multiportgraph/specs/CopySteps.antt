@@ -16,8 +16,8 @@ use Rattle.portgraph.specs.declared.portgraph.PortGraph.{PortGraph}
 use Rattle.portgraph.specs.declared.slots.NodeRemoved.{NodeRemoved}
 use Rattle.multiportgraph.specs.Graph.{multi}
 use Rattle.multiportgraph.specs.Reading.{portOf, isSplit, copyNode, copySide}
-use Rattle.multiportgraph.specs.Forms.{putFlag}
-use Rattle.multiportgraph.specs.FormSteps.{put-flag-is}
+use Rattle.multiportgraph.specs.CodeForms.{putFlag}
+use Rattle.multiportgraph.specs.CodeFormSteps.{put-flag-is}
 use Rattle.multiportgraph.specs.declared.multiportgraph.MultiPortGraph.{MultiPortGraph}
 use Rattle.multiportgraph.specs.HiddenNodes.{removeCopy, unsplit, recounted, marksMoved, layMarks}
 

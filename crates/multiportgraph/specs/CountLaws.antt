@@ -23,7 +23,7 @@ use Rattle.multiportgraph.specs.Reading.{portOf, isHidden, isSplit, copy
 use Rattle.multiportgraph.specs.Calls.{visibleNodes, visiblePorts, visibleLinks}
 use Rattle.multiportgraph.specs.Wires.{isBlock, blocks, portsOfSide, allWires, wirePlaces}
 use Rattle.multiportgraph.specs.Walks.{portsByBlock}
-use Rattle.multiportgraph.specs.Inner.{copyPlace, Fine, Seen, outer, IsEnd, WireIn, subportsOfSlot}
+use Rattle.multiportgraph.specs.WellFormed.{copyPlace, Fine, Seen, outer, IsEnd, WireIn, subportsOfSlot}
 use Rattle.multiportgraph.specs.Ends.{split-has-copy, one-copy, unsplit-no-copy, copy-or-end, outer-seen, outer-apart, ends-join-ends, main-seen, main-side, main-back, count-of, wires-by-out}
 use Rattle.multiportgraph.specs.Listing.{Apart, member-left, member-right, member-append, member-filter, filter-member, member-flatMap, flatMap-member, member-map, map-member, length-map, range-member, in-wires, wire-member, filter-all, rising-append, rising-filter, rising-flatMap, rising-map, range-rises}
 use Rattle.multiportgraph.specs.WalkRule.{listed-is-wire, wire-is-listed, listed-once}

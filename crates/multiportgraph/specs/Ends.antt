@@ -22,7 +22,7 @@ use Rattle.portgraph.specs.declared.node_entry.NodeMeta.{NodeMeta}
 use Rattle.portgraph.specs.declared.port_entry.PortEntry.{PortEntry}
 use Rattle.multiportgraph.specs.Reading.{sideOf, linkNumber, isLinked, farPort, hasLink, nodeNumber, ownerOf, portNumber, portOf, positionNumber, positionOf, isHidden, isSplit, dead, hidden, visible, seenEntry, seen, copyNode, subports, subportAt, inner, lacking, endAt, subport#, copySide, mainPort, subportOf}
 use Rattle.multiportgraph.specs.Wires.{portsOfSide, subportsOfPort, subportsOfSide, placeOf, isFirst, portsWalked}
-use Rattle.multiportgraph.specs.Inner.{inner#, copyPlace, Marked, copy-port, main-port, Fine, BlockIs, Seen, lift, outer, IsEnd, WireIn, SameBlocks}
+use Rattle.multiportgraph.specs.WellFormed.{inner#, copyPlace, Marked, copy-port, main-port, Fine, BlockIs, Seen, lift, outer, IsEnd, WireIn, SameBlocks}
 use Rattle.multiportgraph.specs.declared.multiportgraph.MultiPortGraph.{MultiPortGraph}
 use Rattle.multiportgraph.specs.declared.multiportgraph.SubportIndex.{SubportIndex}
 use Rattle.multiportgraph.specs.Places.{Place, Wire, wireOfSides}

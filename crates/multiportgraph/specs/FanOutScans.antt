@@ -8,8 +8,8 @@ use Rattle.portgraph.specs.Lists.{range}
 use Rattle.portgraph.specs.Tables.{at}
 use Rattle.portgraph.specs.declared.direction.Direction.{Direction}
 use Rattle.portgraph.specs.declared.direction.Direction.the-variants.{Incoming, Outgoing}
-use Rattle.multiportgraph.specs.Forms.{flagAt}
-use Rattle.multiportgraph.specs.Reads.{farIn, countBeside}
+use Rattle.multiportgraph.specs.CodeForms.{flagAt}
+use Rattle.multiportgraph.specs.TableReads.{farIn, countBeside}
 use Rattle.multiportgraph.specs.Walks.{sumOf}
 
 -- 1 for a slot that is linked, else 0

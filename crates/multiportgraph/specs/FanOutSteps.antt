@@ -17,10 +17,10 @@ use Rattle.portgraph.specs.declared.direction.Direction.the-variants.{Incoming,
 use Rattle.portgraph.specs.declared.iter.Sides.the-variants.{One}
 use Rattle.portgraph.specs.declared.node_entry.NodeMeta.{NodeMeta}
 use Rattle.multiportgraph.specs.Reading.{isHidden, isSplit, visible, seen, subport#}
-use Rattle.multiportgraph.specs.Inner.{MultiWf}
-use Rattle.multiportgraph.specs.Forms.{flagAt, blockFound}
-use Rattle.multiportgraph.specs.Reads.{farIn, runUp, runDown, countBeside, firstBeside, subportsIn, wireIn}
-use Rattle.multiportgraph.specs.ReadSteps.{up-bound, down-bound}
+use Rattle.multiportgraph.specs.WellFormed.{MultiWf}
+use Rattle.multiportgraph.specs.CodeForms.{flagAt, blockFound}
+use Rattle.multiportgraph.specs.TableReads.{farIn, runUp, runDown, countBeside, firstBeside, subportsIn, wireIn}
+use Rattle.multiportgraph.specs.TableReadSteps.{up-bound, down-bound}
 use Rattle.multiportgraph.specs.Wires.{wireTo, portsOfSide}
 use Rattle.multiportgraph.specs.Walks.{fanOut, sumOf, blockFanOut, portLinks, portsOfNode}
 use Rattle.multiportgraph.specs.Lookups.{counted, portFanOut, nodeFanOut}

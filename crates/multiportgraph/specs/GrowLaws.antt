@@ -20,13 +20,13 @@ use Rattle.portgraph.specs.declared.portgraph.PortGraph.{PortGraph}
 use Rattle.portgraph.specs.declared.resize.SetAnswer.the-variants as lower-set
 use Rattle.portgraph.specs.declared.resize.PortsSet.{PortsSet}
 use Rattle.multiportgraph.specs.Reading.{isHidden, isSplit, copySide, copyNode, portOf}
-use Rattle.multiportgraph.specs.Inner.{inner#, copyPlace, Fine, Marked, copy-port, main-port, Seen}
+use Rattle.multiportgraph.specs.WellFormed.{inner#, copyPlace, Fine, Marked, copy-port, main-port, Seen}
 use Rattle.multiportgraph.specs.Ends.{Hangs, hangs, copy-valid, copy-count, count-of, one-copy, main-seen, block-seen, split-has-copy}
 use Rattle.multiportgraph.specs.RecountLaws.{Recount, WasMarked, number-cases, marked-place, marks-long, other-slot, other-count, recount-marks, marked-was, set-recounts, copy-place-same, grown, growth#, valid-kept, joins-same, ends-same, hidden-same, grown-fine, fresh, fresh-valid, fresh-slot, more-longer}
-use Rattle.multiportgraph.specs.Reads.{farIn, firstIn, lastBeside, grownIn, grownOut}
-use Rattle.multiportgraph.specs.ReadLaws.{first-there, far-is}
+use Rattle.multiportgraph.specs.TableReads.{farIn, firstIn, lastBeside, grownIncoming, grownOutgoing}
+use Rattle.multiportgraph.specs.TableReadLaws.{first-there, far-is}
 use Rattle.multiportgraph.specs.declared.multiportgraph.MultiPortGraph.{MultiPortGraph}
-use Rattle.multiportgraph.specs.HiddenNodes.{recounted, moreIn, moreOut, enough}
+use Rattle.multiportgraph.specs.HiddenNodes.{recounted, moreIncoming, moreOutgoing, enough}
 use Rattle.multiportgraph.specs.Presumed.{SplitPort}
 
 -- a marked port of a hidden node is its copy port
@@ -234,7 +234,7 @@ grow-tables {m} {p} {d} b e t =
 
 -- the counts that the code passes
 pub grown-counts : {m : MultiPortGraph} {p : ℕ} {d : Direction} → SplitPort m p d → (n : ℕ) → n ≡ numPorts (m .graph) (copyNode m p) d →
-    (grownIn d n ≡ moreIn (m .graph) (copyNode m p) d) × (grownOut d n ≡ moreOut (m .graph) (copyNode m p) d)
+    (grownIncoming d n ≡ moreIncoming (m .graph) (copyNode m p) d) × (grownOutgoing d n ≡ moreOutgoing (m .graph) (copyNode m p) d)
 grown-counts {m} {p} {d} b n e =
     let f = b .block .wf .fine in
     let q = block-seen f p (b .block .node) d (b .block .is) in
@@ -246,7 +246,7 @@ grown-counts {m} {p} {d} b n e =
     go d (copySide m (copyNode m p)) side e one
   where
     go : (d s : Direction) → d ≡ reversed s → n ≡ numPorts (m .graph) (copyNode m p) d → numPorts (m .graph) (copyNode m p) s ≡ 1 →
-        (grownIn d n ≡ moreIn (m .graph) (copyNode m p) d) × (grownOut d n ≡ moreOut (m .graph) (copyNode m p) d)
+        (grownIncoming d n ≡ moreIncoming (m .graph) (copyNode m p) d) × (grownOutgoing d n ≡ moreOutgoing (m .graph) (copyNode m p) d)
     go Incoming Outgoing k e one = (ap (λ (z : ℕ). z + 1) e, sym one)
     go Outgoing Incoming k e one = (sym one, ap (λ (z : ℕ). z + 1) e)
     go Incoming Incoming k e one = absurd (zero-is-not-one (cc))

@@ -97,13 +97,13 @@ pub data Prepared : Type 0 where
   -- a table would grow past its limit
   full : Prepared
 
-abbrev pub copyIn : Direction → ℕ
-copyIn Incoming = 2
-copyIn Outgoing = 1
+abbrev pub copyIncoming : Direction → ℕ
+copyIncoming Incoming = 2
+copyIncoming Outgoing = 1
 
-abbrev pub copyOut : Direction → ℕ
-copyOut Incoming = 1
-copyOut Outgoing = 2
+abbrev pub copyOutgoing : Direction → ℕ
+copyOutgoing Incoming = 1
+copyOutgoing Outgoing = 2
 
 -- the graph after node c was added for port p: p is linked with the copy port, and the old link moves to offset 0
 unfoldable pub splitGraph : PortGraph → ℕ → Direction → ℕ → PortGraph
@@ -126,7 +126,7 @@ splitBy m p d g lower-add.NoRoom = full
 -- unsplit and linked: a hidden node with 2 subports is made, the old link moves to offset 0, and offset 1 is given
 unfoldable pub splitUnder : Limits → MultiPortGraph → ℕ → Direction → Prepared
 splitUnder L m p d =
-    splitBy m p d (addNodeUnder L (m .graph) (copyIn d) (copyOut d) .graph) (addNodeUnder L (m .graph) (copyIn d) (copyOut d) .answer)
+    splitBy m p d (addNodeUnder L (m .graph) (copyIncoming d) (copyOutgoing d) .graph) (addNodeUnder L (m .graph) (copyIncoming d) (copyOutgoing d) .answer)
 
 abbrev pub split : MultiPortGraph → ℕ → Direction → Prepared
 split = splitUnder present
@@ -137,13 +137,13 @@ lowestFree g c d o zero = o
 lowestFree g c d o (suc n) = cond (hasLink g (portOf g c d o)) (lowestFree g c d (suc o) n) o
 
 -- one port more on a side
-abbrev pub moreIn : PortGraph → ℕ → Direction → ℕ
-moreIn g c Incoming = numPorts g c Incoming + 1
-moreIn g c Outgoing = numPorts g c Incoming
+abbrev pub moreIncoming : PortGraph → ℕ → Direction → ℕ
+moreIncoming g c Incoming = numPorts g c Incoming + 1
+moreIncoming g c Outgoing = numPorts g c Incoming
 
-abbrev pub moreOut : PortGraph → ℕ → Direction → ℕ
-moreOut g c Incoming = numPorts g c Outgoing
-moreOut g c Outgoing = numPorts g c Outgoing + 1
+abbrev pub moreOutgoing : PortGraph → ℕ → Direction → ℕ
+moreOutgoing g c Incoming = numPorts g c Outgoing
+moreOutgoing g c Outgoing = numPorts g c Outgoing + 1
 
 -- a move list long enough for every node
 abbrev pub enough : ℕ
@@ -162,8 +162,8 @@ grownBy m c d g lower-set.NoRoom = full
 -- one more subport at the end
 unfoldable pub growUnder : Limits → MultiPortGraph → ℕ → Direction → Prepared
 growUnder L m c d =
-    grownBy m c d (setNumPortsUnder L (m .graph) c (moreIn (m .graph) c d) (moreOut (m .graph) c d) enough .graph)
-    (setNumPortsUnder L (m .graph) c (moreIn (m .graph) c d) (moreOut (m .graph) c d) enough .answer)
+    grownBy m c d (setNumPortsUnder L (m .graph) c (moreIncoming (m .graph) c d) (moreOutgoing (m .graph) c d) enough .graph)
+    (setNumPortsUnder L (m .graph) c (moreIncoming (m .graph) c d) (moreOutgoing (m .graph) c d) enough .answer)
 
 abbrev pub grow : MultiPortGraph → ℕ → Direction → Prepared
 grow = growUnder present

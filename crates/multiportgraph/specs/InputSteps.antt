@@ -9,12 +9,12 @@ use Rattle.portgraph.specs.Limits.{present}
 use Rattle.portgraph.specs.declared.direction.Direction.{Direction}
 use Rattle.portgraph.specs.declared.direction.Direction.the-variants.{Incoming, Outgoing}
 use Rattle.multiportgraph.specs.Reading.{Port, dead, hidden, visible, seen, End, inner, lacking, endAt}
-use Rattle.multiportgraph.specs.Reads.{seenIn, endIn}
-use Rattle.multiportgraph.specs.Inner.{MultiWf}
+use Rattle.multiportgraph.specs.TableReads.{seenIn, endIn}
+use Rattle.multiportgraph.specs.WellFormed.{MultiWf}
 use Rattle.multiportgraph.specs.Walks.{fanOut}
 use Rattle.multiportgraph.specs.FanOutScans.{wiresAtIn}
 use Rattle.multiportgraph.specs.FanOutSteps.{wires-told}
-use Rattle.multiportgraph.specs.ReadLaws.{seen-read, end-read-off}
+use Rattle.multiportgraph.specs.TableReadLaws.{seen-read, end-read-off}
 use Rattle.multiportgraph.specs.CallSteps.{bad-offset}
 use Rattle.multiportgraph.specs.Refusals.{goodOffset, wiredSide, wiredSeen, wiredInput, takenUnder, inputTaken}
 use Rattle.multiportgraph.specs.Calls.{linkPairIf, linkCleanIf, linkSubIf, linkPair, linkClean, linkSub}

@@ -6,7 +6,7 @@ use lib.Dec.{eqb}
 use Rattle.portgraph.specs.declared.direction.Direction.{Direction}
 use Rattle.portgraph.specs.declared.direction.Direction.the-variants.{Incoming, Outgoing}
 use Rattle.multiportgraph.specs.Reading.{Port, dead, hidden, visible}
-use Rattle.multiportgraph.specs.Reads.{seenIn, endIn}
+use Rattle.multiportgraph.specs.TableReads.{seenIn, endIn}
 use Rattle.multiportgraph.specs.FanOutScans.{wiresAtIn}
 use Rattle.multiportgraph.specs.Refusals.{goodOffset, takenUnder}
 use Rattle.multiportgraph.specs.Cases.{takenSeen, takenEnds}

@@ -25,15 +25,15 @@ use Rattle.portgraph.specs.declared.resize.SetAnswer as lower-set
 use Rattle.portgraph.specs.declared.resize.SetAnswer.the-variants as lower-set-variants
 use Rattle.multiportgraph.specs.Reading.{subport#, seen, visible, copyNode}
 use Rattle.multiportgraph.specs.HiddenNodes as hiding
-use Rattle.multiportgraph.specs.Forms.{putFlag, preparedAs, seenAs}
-use Rattle.multiportgraph.specs.Inner.{MultiWf}
+use Rattle.multiportgraph.specs.CodeForms.{putFlag, preparedAs, seenAs}
+use Rattle.multiportgraph.specs.WellFormed.{MultiWf}
 use Rattle.multiportgraph.specs.PrepareSteps.{lower-wf}
 use Rattle.multiportgraph.specs.GrowLaws.{GrowTables, by-copy}
 use Rattle.multiportgraph.specs.TableSteps.{Growing, grow-full, grow-told, grow-done}
 use Rattle.multiportgraph.specs.LinkSteps.{is-ready, is-full, others-stay, still-wf, first-ready, first-full, seen-told}
 use Rattle.multiportgraph.specs.NamedLaws.{both-joined}
-use Rattle.multiportgraph.specs.Reads.{farIn, lastBeside, grownIn, grownOut}
-use Rattle.multiportgraph.specs.MultiLent.{multiIn, heldCounts, heldLinks, preparedIn}
+use Rattle.multiportgraph.specs.TableReads.{farIn, lastBeside, grownIncoming, grownOutgoing}
+use Rattle.multiportgraph.specs.MultiLent.{multiIn, totalsCounts, totalsLinks, preparedIn}
 use Rattle.multiportgraph.specs.LentSteps.{set-kept, link-parts}
 use Rattle.multiportgraph.specs.Needs.{needOf, takesOf, roomFor}
 use Rattle.multiportgraph.specs.NeedLaws.{again-ready, need-stays, first-finds-room, second-still, second-finds-room, room-lacks}
@@ -45,8 +45,8 @@ use Rattle.multiportgraph.specs.declared.multiportgraph.PortsLinked.{Por
 use Rattle.multiportgraph.specs.declared.ends.SeenPort.{SeenPort}
 use Rattle.multiportgraph.specs.declared.ends.SeenPort.the-variants as seen-port
 use Rattle.multiportgraph.specs.declared.prepare.Prepared.{Prepared}
-use Rattle.multiportgraph.specs.declared.lent.Held.{Held}
-use Rattle.multiportgraph.specs.declared.lent_prepare.PreparedIn.{PreparedIn}
+use Rattle.multiportgraph.specs.declared.lent.Totals.{Totals}
+use Rattle.multiportgraph.specs.declared.lent_prepare.PreparedLent.{PreparedLent}
 use Rattle.multiportgraph.specs.declared.lent_needs.Need.{Need}
 use Rattle.multiportgraph.specs.declared.lent_needs.Takes.{Takes}
 use Rattle.multiportgraph.specs.Graph.{withGraph}
@@ -70,13 +70,13 @@ grow-few {m} {p} {d} {c} {k} b =
     go Incoming l = omega arith
     go Outgoing l = omega arith
 
-module _ (nodes links owners heads : List ℕ) (marks flags : List Bool) (held : Held)
-    {p : ℕ} {d : Direction} {c : ℕ} {k : NodeMeta} (b : GrowPort (multiIn nodes links owners heads marks flags held) p d c k) {copy count w i o : ℕ} (nodes₁ : List ℕ) {links₁ owners₁ heads₁ : List ℕ} {counts₁ : Counts} {a : lower-set.SetAnswer}
-    (e₁ : w ≡ p) (e₂ : copy ≡ farIn links w) (e₃ : count ≡ portsOn k d) (f₁ : i ≡ grownIn d count) (f₂ : o ≡ grownOut d count)
-    (f₄ : graphIn nodes₁ links₁ owners₁ heads₁ counts₁ ≡ setNumPorts (graphIn nodes links owners heads (held .counts)) c i o (3 * nodePorts) .graph)
-    (f₅ : a ≡ setNumPorts (graphIn nodes links owners heads (held .counts)) c i o (3 * nodePorts) .answer) where
+module _ (nodes links owners heads : List ℕ) (marks flags : List Bool) (totals : Totals)
+    {p : ℕ} {d : Direction} {c : ℕ} {k : NodeMeta} (b : GrowPort (multiIn nodes links owners heads marks flags totals) p d c k) {copy count w i o : ℕ} (nodes₁ : List ℕ) {links₁ owners₁ heads₁ : List ℕ} {counts₁ : Counts} {a : lower-set.SetAnswer}
+    (e₁ : w ≡ p) (e₂ : copy ≡ farIn links w) (e₃ : count ≡ portsOn k d) (f₁ : i ≡ grownIncoming d count) (f₂ : o ≡ grownOutgoing d count)
+    (f₄ : graphIn nodes₁ links₁ owners₁ heads₁ counts₁ ≡ setNumPorts (graphIn nodes links owners heads (totals .counts)) c i o (3 * nodePorts) .graph)
+    (f₅ : a ≡ setNumPorts (graphIn nodes links owners heads (totals .counts)) c i o (3 * nodePorts) .answer) where
   abbrev whole : MultiPortGraph
-  whole = multiIn nodes links owners heads marks flags held
+  whole = multiIn nodes links owners heads marks flags totals
 
   growing : Growing whole p d copy c count
   growing =
@@ -87,12 +87,12 @@ module _ (nodes links owners heads : List ℕ) (marks flags : List Bool) (held :
         countIs = e₃ ∙ sym (ap (λ (v : ℕ). countIn (metaAt (whole .graph) v) d) (b .copy) ∙ ap (λ (v : MaybeNodeMeta). countIn v d) (b .meta));
       }
 
-  pub grow-full-in : (tag : lower-set.SetAnswer → ℕ) → ((q : ℕ) → tag (lower-set-variants.Set q) ≡ 0) → (tag a ≡ 1) ⊎ ((tag a ≡ 2) ⊎ ((tag a ≡ 3) ⊎ (tag a ≡ 4))) → {held′ : Held} → held′ ≡ heldCounts held counts₁ →
-      _≡_ {A = Prepared} (record { graph = multiIn nodes₁ links₁ owners₁ heads₁ marks flags held′; port = 0; offset = 0; ready = false }) (preparedAs whole (grow whole c d))
-  grow-full-in tag zeroth t {held′} h =
-      let same : multiIn nodes₁ links₁ owners₁ heads₁ marks flags held′ ≡ whole =
+  pub grow-full-in : (tag : lower-set.SetAnswer → ℕ) → ((q : ℕ) → tag (lower-set-variants.Set q) ≡ 0) → (tag a ≡ 1) ⊎ ((tag a ≡ 2) ⊎ ((tag a ≡ 3) ⊎ (tag a ≡ 4))) → {totals′ : Totals} → totals′ ≡ totalsCounts totals counts₁ →
+      _≡_ {A = Prepared} (record { graph = multiIn nodes₁ links₁ owners₁ heads₁ marks flags totals′; port = 0; offset = 0; ready = false }) (preparedAs whole (grow whole c d))
+  grow-full-in tag zeroth t {totals′} h =
+      let same : multiIn nodes₁ links₁ owners₁ heads₁ marks flags totals′ ≡ whole =
       ap (multiIn nodes₁ links₁ owners₁ heads₁ marks flags) h
-      ∙ ap (withGraph whole) (f₄ ∙ set-kept (graphIn nodes links owners heads (held .counts)) c i o (3 * nodePorts) tag zeroth f₅ t) in
+      ∙ ap (withGraph whole) (f₄ ∙ set-kept (graphIn nodes links owners heads (totals .counts)) c i o (3 * nodePorts) tag zeroth f₅ t) in
       ap (λ (v : MultiPortGraph). record { graph = v; port = 0; offset = 0; ready = false }) same
       ∙ (grow-full growing {r = record { graph = graphIn nodes₁ links₁ owners₁ heads₁ counts₁; answer = a }} f₁ f₂ refl (λ v. record { graph = f₄ v; answer = f₅ v }) tag zeroth t
       ∙ ap (λ (v : ℕ). preparedAs whole (grow whole v d)) (b .copy))
@@ -113,7 +113,7 @@ module _ (nodes links owners heads : List ℕ) (marks flags : List Bool) (held :
         w₃ ≡ far →
         t₂ ≡ putFlag t₁ portSlots w₃ true →
         new ≡ lastBeside d far count →
-        _≡_ {A = Prepared} (record { graph = multiIn nodes₁ links₁ owners₁ heads₁ t₂ flags (record { counts = counts₁; copies = held .copies; subs = held .subs + 1; release = held .release }); port = new; offset = count; ready = true })
+        _≡_ {A = Prepared} (record { graph = multiIn nodes₁ links₁ owners₁ heads₁ t₂ flags (record { counts = counts₁; copies = totals .copies; subs = totals .subs + 1; release = totals .release }); port = new; offset = count; ready = true })
         (preparedAs whole (grow whole c d))
     grow-done-in k₁ k₂ k₃ k₄ k₅ k₆ k₇ =
         grow-done growing {r = record { graph = graphIn nodes₁ links₁ owners₁ heads₁ counts₁; answer = a }} f₁ f₂ refl (λ v. record { graph = f₄ v; answer = f₅ v }) t k₁ k₂ k₃ k₄ k₅ k₆
@@ -123,11 +123,11 @@ module _ (nodes links owners heads : List ℕ) (marks flags : List Bool) (held :
 -- Linking.
 
 -- an end that is not prepared leaves the graph
-unchanged : (m : MultiPortGraph) (p : hiding.Prepared) {g : MultiPortGraph} (r : PreparedIn) → preparedIn g r ≡ preparedAs m p → r .ready ≡ false → g ≡ m
+unchanged : (m : MultiPortGraph) (p : hiding.Prepared) {g : MultiPortGraph} (r : PreparedLent) → preparedIn g r ≡ preparedAs m p → r .ready ≡ false → g ≡ m
 unchanged m (hiding.ready k q o) {g} r e t = absurd (zero-is-not-one (let h : r .ready ≡ true = ap (λ (s : Prepared). s .ready) e in cc))
 unchanged m hiding.full r e t = ap (λ (s : Prepared). s .graph) e
 
-module _ (m : MultiPortGraph) (a : ℕ) (d : Direction) {g : MultiPortGraph} (r : PreparedIn) (e : preparedIn g r ≡ preparedAs m (prepare m a d)) where
+module _ (m : MultiPortGraph) (a : ℕ) (d : Direction) {g : MultiPortGraph} (r : PreparedLent) (e : preparedIn g r ≡ preparedAs m (prepare m a d)) where
   -- the second port is not live
   pub first-parts : (b : ℕ) → r .ready ≡ true → (g ≡ linkFirst m b (prepare m a d) .graph) × (link.Refused (UnknownSecondPort (port# b)) ≡ linkFirst m b (prepare m a d) .answer)
   first-parts b t = link-parts (first-ready m a d b (preparedIn g r) e t refl)
@@ -155,7 +155,7 @@ module _ (m : MultiPortGraph) (a : ℕ) (d : Direction) {g : MultiPortGraph} (r 
       link-parts (ap (λ (x : MultiPortGraph). linkRefused x NoRoom) (unchanged m (prepare m a d) r e t) ∙ sym (ap (linkLive m a d a d) (is-full m (prepare m a d) (preparedIn g r) e t)))
 
 -- the first end is ready
-module _ {m : MultiPortGraph} {a : ℕ} {d : Direction} {x o b : ℕ} {e : Direction} (w : FirstReady m a d x o b e) {k : MultiPortGraph} (s : PreparedIn) (j : preparedIn k s ≡ preparedAs m (prepare m b e)) where
+module _ {m : MultiPortGraph} {a : ℕ} {d : Direction} {x o b : ℕ} {e : Direction} (w : FirstReady m a d x o b e) {k : MultiPortGraph} (s : PreparedLent) (j : preparedIn k s ≡ preparedAs m (prepare m b e)) where
   by-second : (p : hiding.Prepared) → prepare m b e ≡ p → linkLive m a d b e (prepare m a d) ≡ linkSecond m a d x o b e p
   by-second p q = ap (linkLive m a d b e) (w .is) ∙ ap (linkSecond m a d x o b e) q
 
@@ -185,33 +185,33 @@ module _ {m : MultiPortGraph} {a : ℕ} {d : Direction} {x o b : ℕ} {e : Direc
         link-parts (both-joined (w .both) {r = record { graph = m; port = x; offset = o; ready = true }} {s = preparedIn k s} (ap (preparedAs m) (sym (w .is))) refl j t c q)
 
 -- the same over lent tables
-pub second-linked-in : {m : MultiPortGraph} {a : ℕ} {d : Direction} {x o b : ℕ} {e : Direction} (w : FirstReady m a d x o b e) (nodes₁ : List ℕ) {links₁ owners₁ heads₁ : List ℕ} {marks₁ flags₁ : List Bool} (s : PreparedIn) →
-    preparedIn (multiIn nodes₁ links₁ owners₁ heads₁ marks₁ flags₁ (s .held)) s ≡ preparedAs m (prepare m b e) → s .ready ≡ true → sameSide d e ≡ false →
-    {l : List ℕ} {held′ : Held} → l ≡ tables.linkBoth links₁ x (s .port) → held′ ≡ heldLinks (s .held) (s .held .counts .«link_count» + 1) →
-    (multiIn nodes₁ l owners₁ heads₁ marks₁ flags₁ held′ ≡ linkLive m a d b e (prepare m a d) .graph)
+pub second-linked-in : {m : MultiPortGraph} {a : ℕ} {d : Direction} {x o b : ℕ} {e : Direction} (w : FirstReady m a d x o b e) (nodes₁ : List ℕ) {links₁ owners₁ heads₁ : List ℕ} {marks₁ flags₁ : List Bool} (s : PreparedLent) →
+    preparedIn (multiIn nodes₁ links₁ owners₁ heads₁ marks₁ flags₁ (s .totals)) s ≡ preparedAs m (prepare m b e) → s .ready ≡ true → sameSide d e ≡ false →
+    {l : List ℕ} {totals′ : Totals} → l ≡ tables.linkBoth links₁ x (s .port) → totals′ ≡ totalsLinks (s .totals) (s .totals .counts .«link_count» + 1) →
+    (multiIn nodes₁ l owners₁ heads₁ marks₁ flags₁ totals′ ≡ linkLive m a d b e (prepare m a d) .graph)
     × (link.Linked (subport# a o) (subport# b (s .offset)) ≡ linkLive m a d b e (prepare m a d) .answer)
 second-linked-in w nodes₁ {links₁} {owners₁} {heads₁} {marks₁} {flags₁} s j t c {l} q h =
-    let z = second-linked w {k = multiIn nodes₁ links₁ owners₁ heads₁ marks₁ flags₁ (s .held)} s j t c q in
+    let z = second-linked w {k = multiIn nodes₁ links₁ owners₁ heads₁ marks₁ flags₁ (s .totals)} s j t c q in
     (ap (multiIn nodes₁ l owners₁ heads₁ marks₁ flags₁) h ∙ z .0, z .1)
 
 -- two ports: the first end is prepared, and there is room for both
-module _ (nodes links owners heads : List ℕ) (marks flags : List Bool) (held : Held) {a : ℕ} {d : Direction} {b : ℕ} {e : Direction}
-    (w : BothOnBlock (multiIn nodes links owners heads marks flags held) a d b e) (apart : a ≡ b → ⊥) {u v : Need} {t₁ t₂ : Takes} {c : Bool}
-    (eu : u ≡ needOf (multiIn nodes links owners heads marks flags held) a d) (ev : v ≡ needOf (multiIn nodes links owners heads marks flags held) b e)
-    (h₁ : t₁ ≡ takesOf u) (h₂ : t₂ ≡ takesOf v) (ec : c ≡ roomFor nodes links heads (held .counts) t₁ t₂) where
+module _ (nodes links owners heads : List ℕ) (marks flags : List Bool) (totals : Totals) {a : ℕ} {d : Direction} {b : ℕ} {e : Direction}
+    (w : BothOnBlock (multiIn nodes links owners heads marks flags totals) a d b e) (apart : a ≡ b → ⊥) {u v : Need} {t₁ t₂ : Takes} {c : Bool}
+    (eu : u ≡ needOf (multiIn nodes links owners heads marks flags totals) a d) (ev : v ≡ needOf (multiIn nodes links owners heads marks flags totals) b e)
+    (h₁ : t₁ ≡ takesOf u) (h₂ : t₂ ≡ takesOf v) (ec : c ≡ roomFor nodes links heads (totals .counts) t₁ t₂) where
   abbrev m : MultiPortGraph
-  m = multiIn nodes links owners heads marks flags held
+  m = multiIn nodes links owners heads marks flags totals
 
-  room : (z : Bool) → c ≡ z → roomFor nodes links heads (held .counts) (takesOf (needOf m a d)) (takesOf (needOf m b e)) ≡ z
-  room z q = sym (ec ∙ (λ i. roomFor nodes links heads (held .counts) ((h₁ ∙ ap takesOf eu) i) ((h₂ ∙ ap takesOf ev) i))) ∙ q
+  room : (z : Bool) → c ≡ z → roomFor nodes links heads (totals .counts) (takesOf (needOf m a d)) (takesOf (needOf m b e)) ≡ z
+  room z q = sym (ec ∙ (λ i. roomFor nodes links heads (totals .counts) ((h₁ ∙ ap takesOf eu) i) ((h₂ ∙ ap takesOf ev) i))) ∙ q
 
   pub both-lack : c ≡ false → (m ≡ linkLive m a d b e (prepare m a d) .graph) × (link.Refused NoRoom ≡ linkLive m a d b e (prepare m a d) .answer)
-  both-lack q = link-parts (sym (room-lacks nodes links owners heads marks flags held w apart (room false q)))
+  both-lack q = link-parts (sym (room-lacks nodes links owners heads marks flags totals w apart (room false q)))
 
-  module _ (q : c ≡ true) {g : MultiPortGraph} (r : PreparedIn) (h : preparedIn g r ≡ preparedAs m (prepare m a d)) where
+  module _ (q : c ≡ true) {g : MultiPortGraph} (r : PreparedLent) (h : preparedIn g r ≡ preparedAs m (prepare m a d)) where
     prepared : (z : Bool) → r .ready ≡ z → r .ready ≡ true
     prepared true t = t
-    prepared false t = absurd (first-finds-room nodes links owners heads marks flags held w apart (room true q) (is-full m (prepare m a d) (preparedIn g r) h t))
+    prepared false t = absurd (first-finds-room nodes links owners heads marks flags totals w apart (room true q) (is-full m (prepare m a d) (preparedIn g r) h t))
 
     is : prepare m a d ≡ hiding.ready g (r .port) (r .offset)
     is = is-ready m (prepare m a d) (preparedIn g r) h (prepared (r .ready) refl)
@@ -219,7 +219,7 @@ module _ (nodes links owners heads : List ℕ) (marks flags : List Bool) (held :
     pub both-first : FirstReady g a d (r .port) (r .offset) b e
     both-first =
         record {
-          both = record { first = others-stay (w .first) (preparedIn g r) h (prepared (r .ready) refl) a d (w .first); second = second-still nodes links owners heads marks flags held w apart g (r .port) (r .offset) is };
+          both = record { first = others-stay (w .first) (preparedIn g r) h (prepared (r .ready) refl) a d (w .first); second = second-still nodes links owners heads marks flags totals w apart g (r .port) (r .offset) is };
           is = again-ready (w .first) g (r .port) (r .offset) is;
         }
 
@@ -227,7 +227,7 @@ module _ (nodes links owners heads : List ℕ) (marks flags : List Bool) (held :
     both-need = ev ∙ sym (need-stays (w .first) g (r .port) (r .offset) is (w .second) apart)
 
     both-same : (p : hiding.Prepared) → prepare g b e ≡ p → linkLive g a d b e (prepare g a d) ≡ linkLive m a d b e (prepare m a d)
-    both-same hiding.full k = absurd (second-finds-room nodes links owners heads marks flags held w apart g (r .port) (r .offset) is (room true q) k)
+    both-same hiding.full k = absurd (second-finds-room nodes links owners heads marks flags totals w apart g (r .port) (r .offset) is (room true q) k)
     both-same (hiding.ready m₂ y z) k =
         ap (linkLive g a d b e) (both-first .is)
         ∙ (ap (linkSecond g a d (r .port) (r .offset) b e) k

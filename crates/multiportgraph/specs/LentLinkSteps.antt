@@ -36,22 +36,22 @@ use Rattle.portgraph.specs.declared.resize.SetAnswer.the-variants as lower-set-
 use Rattle.portgraph.specs.declared.resize.PortsSet as lower-sized
 use Rattle.multiportgraph.specs.Reading.{seen}
 use Rattle.multiportgraph.specs.Calls.{setAs, setCounts, movesTold}
-use Rattle.multiportgraph.specs.Forms.{putFlag, preparedAs}
+use Rattle.multiportgraph.specs.CodeForms.{putFlag, preparedAs}
 use Rattle.multiportgraph.specs.MarkLaws.{length-layMarks}
 use Rattle.multiportgraph.specs.BlockSteps.{loose-removed, set-answered, block-in, copies-dropped-few}
 use Rattle.multiportgraph.specs.PrepareSteps.{lower-wf, split-full}
 use Rattle.multiportgraph.specs.SplitLaws.{SplitTables}
 use Rattle.multiportgraph.specs.TableSteps.{split-told, split-done}
-use Rattle.multiportgraph.specs.Reads.{hangOn, copyAt, subportsAt}
-use Rattle.multiportgraph.specs.MultiLent.{multiIn, heldCounts, heldLinks, Sound, FitsIf, Resizes}
+use Rattle.multiportgraph.specs.TableReads.{hangOn, copyAt, subportsAt}
+use Rattle.multiportgraph.specs.MultiLent.{multiIn, totalsCounts, totalsLinks, Sound, FitsIf, Resizes}
 use Rattle.multiportgraph.specs.LentSteps.{set-kept, set-parts, found-fits}
 use Rattle.multiportgraph.specs.declared.multiportgraph.MultiPortGraph.{MultiPortGraph}
 use Rattle.multiportgraph.specs.declared.multiportgraph.Refusal.the-variants.{NoRoom}
 use Rattle.multiportgraph.specs.declared.multiportgraph.SetAnswer.{SetAnswer}
 use Rattle.multiportgraph.specs.declared.prepare.Prepared.{Prepared}
-use Rattle.multiportgraph.specs.declared.lent.Held.{Held}
+use Rattle.multiportgraph.specs.declared.lent.Totals.{Totals}
 use Rattle.multiportgraph.specs.Graph.{withGraph}
-use Rattle.multiportgraph.specs.HiddenNodes.{copiesDropped, recounted, marksMoved, removeAll, copyIn, copyOut, split}
+use Rattle.multiportgraph.specs.HiddenNodes.{copiesDropped, recounted, marksMoved, removeAll, copyIncoming, copyOutgoing, split}
 use Rattle.multiportgraph.specs.Cases.{resized}
 use Rattle.multiportgraph.specs.Presumed.{LinkedPort}
 
@@ -81,31 +81,31 @@ add-kept g i o tag zeroth {a} e t = go (leb (i + o) nodePorts) (findSlot (g .«n
     go true (found.At n) found.NoRoom h = refl
     go true (found.At n) (found.At f) h = absurd (done _ _ h)
 
-module _ (nodes links owners heads : List ℕ) (marks flags : List Bool) (held : Held) where
-  module _ (p : ℕ) (d : Direction) {i o : ℕ} (nodes₁ : List ℕ) {links₁ owners₁ heads₁ : List ℕ} {counts₁ : Counts} {a : lower-add.AddAnswer} (e₁ : i ≡ copyIn d) (e₂ : o ≡ copyOut d)
-      (e₃ : graphIn nodes₁ links₁ owners₁ heads₁ counts₁ ≡ addNode (graphIn nodes links owners heads (held .counts)) i o .graph)
-      (e₄ : a ≡ addNode (graphIn nodes links owners heads (held .counts)) i o .answer) where
-    pub split-full-in : (tag : lower-add.AddAnswer → ℕ) → ((n : NodeIndex) (f : PortIndex) → tag (lower-add-variants.Added n f) ≡ 0) → (tag a ≡ 1) ⊎ (tag a ≡ 2) → {held′ : Held} → held′ ≡ heldCounts held counts₁ →
-        _≡_ {A = Prepared} (record { graph = multiIn nodes₁ links₁ owners₁ heads₁ marks flags held′; port = 0; offset = 0; ready = false })
-        (preparedAs (multiIn nodes links owners heads marks flags held) (split (multiIn nodes links owners heads marks flags held) p d))
-    split-full-in tag zeroth t {held′} h =
-        let m = multiIn nodes links owners heads marks flags held in
-        let same : multiIn nodes₁ links₁ owners₁ heads₁ marks flags held′ ≡ m =
+module _ (nodes links owners heads : List ℕ) (marks flags : List Bool) (totals : Totals) where
+  module _ (p : ℕ) (d : Direction) {i o : ℕ} (nodes₁ : List ℕ) {links₁ owners₁ heads₁ : List ℕ} {counts₁ : Counts} {a : lower-add.AddAnswer} (e₁ : i ≡ copyIncoming d) (e₂ : o ≡ copyOutgoing d)
+      (e₃ : graphIn nodes₁ links₁ owners₁ heads₁ counts₁ ≡ addNode (graphIn nodes links owners heads (totals .counts)) i o .graph)
+      (e₄ : a ≡ addNode (graphIn nodes links owners heads (totals .counts)) i o .answer) where
+    pub split-full-in : (tag : lower-add.AddAnswer → ℕ) → ((n : NodeIndex) (f : PortIndex) → tag (lower-add-variants.Added n f) ≡ 0) → (tag a ≡ 1) ⊎ (tag a ≡ 2) → {totals′ : Totals} → totals′ ≡ totalsCounts totals counts₁ →
+        _≡_ {A = Prepared} (record { graph = multiIn nodes₁ links₁ owners₁ heads₁ marks flags totals′; port = 0; offset = 0; ready = false })
+        (preparedAs (multiIn nodes links owners heads marks flags totals) (split (multiIn nodes links owners heads marks flags totals) p d))
+    split-full-in tag zeroth t {totals′} h =
+        let m = multiIn nodes links owners heads marks flags totals in
+        let same : multiIn nodes₁ links₁ owners₁ heads₁ marks flags totals′ ≡ m =
         ap (multiIn nodes₁ links₁ owners₁ heads₁ marks flags) h
-        ∙ ap (withGraph m) (e₃ ∙ add-kept (graphIn nodes links owners heads (held .counts)) i o tag zeroth e₄ t) in
+        ∙ ap (withGraph m) (e₃ ∙ add-kept (graphIn nodes links owners heads (totals .counts)) i o tag zeroth e₄ t) in
         ap (λ (x : MultiPortGraph). record { graph = x; port = 0; offset = 0; ready = false }) same
         ∙ split-full m p d {r = record { graph = graphIn nodes₁ links₁ owners₁ heads₁ counts₁; answer = a }} e₁ e₂ (λ v. record { graph = e₃ v; answer = e₄ v }) tag zeroth t
 
-    module _ (b : LinkedPort (multiIn nodes links owners heads marks flags held) p d) where
+    module _ (b : LinkedPort (multiIn nodes links owners heads marks flags totals) p d) where
       pub node-wf : Wf (graphIn nodes₁ links₁ owners₁ heads₁ counts₁)
-      node-wf = subst Wf (sym e₃) (wf-add (graphIn nodes links owners heads (held .counts)) i o (lower-wf (multiIn nodes links owners heads marks flags held) (b .block .wf)))
+      node-wf = subst Wf (sym e₃) (wf-add (graphIn nodes links owners heads (totals .counts)) i o (lower-wf (multiIn nodes links owners heads marks flags totals) (b .block .wf)))
 
       module _ {n : NodeIndex} {f : PortIndex} (t : a ≡ lower-add-variants.Added n f) where
         pub split-told-in : SplitTables p d (graphIn nodes₁ links₁ owners₁ heads₁ counts₁) (n .0) (f .0)
         split-told-in = split-told b {r = record { graph = graphIn nodes₁ links₁ owners₁ heads₁ counts₁; answer = a }} e₁ e₂ (λ v. record { graph = e₃ v; answer = e₄ v }) t
 
         pub split-done-in :
-            {ca copy sa old was left w₁ w₂ w₃ : ℕ} {links₂ : List ℕ} {t₁ t₂ t₃ : List Bool} {held′ : Held} →
+            {ca copy sa old was left w₁ w₂ w₃ : ℕ} {links₂ : List ℕ} {t₁ t₂ t₃ : List Bool} {totals′ : Totals} →
             ca ≡ copyAt d →
             copy ≡ f .0 + ca →
             sa ≡ subportsAt d →
@@ -119,9 +119,9 @@ module _ (nodes links owners heads : List ℕ) (marks flags : List Bool) (held :
             t₂ ≡ putFlag t₁ portSlots w₂ true →
             w₃ ≡ n .0 →
             t₃ ≡ putFlag flags nodeSlots w₃ true →
-            held′ ≡ heldLinks (record { counts = counts₁; copies = held .copies + 1; subs = held .subs + 2; release = held .release }) (left + 2) →
-            _≡_ {A = Prepared} (record { graph = multiIn nodes₁ links₂ owners₁ heads₁ t₂ t₃ held′; port = old + 1; offset = 1; ready = true })
-            (preparedAs (multiIn nodes links owners heads marks flags held) (split (multiIn nodes links owners heads marks flags held) p d))
+            totals′ ≡ totalsLinks (record { counts = counts₁; copies = totals .copies + 1; subs = totals .subs + 2; release = totals .release }) (left + 2) →
+            _≡_ {A = Prepared} (record { graph = multiIn nodes₁ links₂ owners₁ heads₁ t₂ t₃ totals′; port = old + 1; offset = 1; ready = true })
+            (preparedAs (multiIn nodes links owners heads marks flags totals) (split (multiIn nodes links owners heads marks flags totals) p d))
         split-done-in {old = old} {links₂ = links₂} {t₂ = t₂} {t₃ = t₃} c₁ c₂ c₃ c₄ c₅ c₆ c₇ k₁ k₂ k₃ k₄ k₅ k₆ h =
-            ap (λ (x : Held). record { graph = multiIn nodes₁ links₂ owners₁ heads₁ t₂ t₃ x; port = old + 1; offset = 1; ready = true }) h
+            ap (λ (x : Totals). record { graph = multiIn nodes₁ links₂ owners₁ heads₁ t₂ t₃ x; port = old + 1; offset = 1; ready = true }) h
             ∙ split-done b {r = record { graph = graphIn nodes₁ links₁ owners₁ heads₁ counts₁; answer = a }} e₁ e₂ (λ v. record { graph = e₃ v; answer = e₄ v }) t c₁ c₂ c₃ c₄ c₅ c₆ c₇ k₁ k₂ k₃ k₄ k₅ k₆

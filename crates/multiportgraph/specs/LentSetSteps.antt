@@ -27,12 +27,12 @@ use Rattle.multiportgraph.specs.Calls.{setAs, setCounts, movesTold, move
 use Rattle.multiportgraph.specs.MarkLaws.{length-layMarks}
 use Rattle.multiportgraph.specs.BlockSteps.{set-block, block-in, copies-dropped-most, copies-dropped-few, list-taken}
 use Rattle.multiportgraph.specs.PrepareSteps.{lower-wf}
-use Rattle.multiportgraph.specs.MultiLent.{multiIn, heldCounts, Sound, FitsIf, Resizes, marksFollow, settled}
+use Rattle.multiportgraph.specs.MultiLent.{multiIn, totalsCounts, Sound, FitsIf, Resizes, marksFollow, settled}
 use Rattle.multiportgraph.specs.LentSteps.{found-fits}
 use Rattle.multiportgraph.specs.declared.multiportgraph.MultiPortGraph.{MultiPortGraph}
 use Rattle.multiportgraph.specs.declared.multiportgraph.SetAnswer.{SetAnswer}
 use Rattle.multiportgraph.specs.declared.multiportgraph.PortsSet.{PortsSet}
-use Rattle.multiportgraph.specs.declared.lent.Held.{Held}
+use Rattle.multiportgraph.specs.declared.lent.Totals.{Totals}
 use Rattle.multiportgraph.specs.Graph.{withGraph, withMarks}
 use Rattle.multiportgraph.specs.HiddenNodes.{copiesDropped, recounted, marksMoved, removeAll}
 use Rattle.multiportgraph.specs.Cases.{resized}
@@ -53,15 +53,15 @@ settled-refused m n k l tag zeroth lower-set-variants.UnknownNode t = refl
 settled-refused m n k l tag zeroth lower-set-variants.MovesTooShort t = refl
 settled-refused m n k l tag zeroth lower-set-variants.NoRoom t = refl
 
-module _ (nodes links owners heads : List ℕ) (marks flags : List Bool) (held : Held) (s : Sound (multiIn nodes links owners heads marks flags held)) (n : ℕ) {x : MaybeNodeMeta} (g : x ≡ metaIn nodes n) where
-  here : x ≡ metaAt (graphIn nodes links owners heads (held .counts)) n
-  here = g ∙ meta-read nodes links owners heads (held .counts) n (s .wf .holds .nodesLong)
+module _ (nodes links owners heads : List ℕ) (marks flags : List Bool) (totals : Totals) (s : Sound (multiIn nodes links owners heads marks flags totals)) (n : ℕ) {x : MaybeNodeMeta} (g : x ≡ metaIn nodes n) where
+  here : x ≡ metaAt (graphIn nodes links owners heads (totals .counts)) n
+  here = g ∙ meta-read nodes links owners heads (totals .counts) n (s .wf .holds .nodesLong)
 
   pub present-fits : FitsIf x
-  present-fits = found-fits (graphIn nodes links owners heads (held .counts)) (s .wf) n x here
+  present-fits = found-fits (graphIn nodes links owners heads (totals .counts)) (s .wf) n x here
 
   module _ (k : NodeMeta) {marks′ : List Bool} (h : marks′ ≡ marksMoved marks (maybe-meta.Some k) x) where
-    pub follow-sound : Sound (multiIn nodes links owners heads marks′ flags held)
+    pub follow-sound : Sound (multiIn nodes links owners heads marks′ flags totals)
     follow-sound =
         record {
           wf = s .wf;
@@ -69,11 +69,11 @@ module _ (nodes links owners heads : List ℕ) (marks flags : List Bool) (held :
           flagsLong = s .flagsLong;
         }
 
-    pub settled-done : (l : List ℕ) {after : MultiPortGraph} {a : lower-set.SetAnswer} {q : ℕ} → a ≡ lower-set-variants.Set q → after ≡ removeAll (multiIn nodes links owners heads marks′ flags held) l →
-        after ≡ settled (multiIn nodes links owners heads marks flags held) n k l a
+    pub settled-done : (l : List ℕ) {after : MultiPortGraph} {a : lower-set.SetAnswer} {q : ℕ} → a ≡ lower-set-variants.Set q → after ≡ removeAll (multiIn nodes links owners heads marks′ flags totals) l →
+        after ≡ settled (multiIn nodes links owners heads marks flags totals) n k l a
     settled-done l {after} {a} {q} t p =
-        let e = ap (λ (u : List Bool). multiIn nodes links owners heads u flags held) (h ∙ ap (marksMoved marks (maybe-meta.Some k)) here) in
-        p ∙ (ap (λ (m : MultiPortGraph). removeAll m l) e ∙ ap (settled (multiIn nodes links owners heads marks flags held) n k l) (sym t))
+        let e = ap (λ (u : List Bool). multiIn nodes links owners heads u flags totals) (h ∙ ap (marksMoved marks (maybe-meta.Some k)) here) in
+        p ∙ (ap (λ (m : MultiPortGraph). removeAll m l) e ∙ ap (settled (multiIn nodes links owners heads marks flags totals) n k l) (sym t))
 
 -- a refused change leaves the single-link graph
 lower-kept : (g : PortGraph) (n i o room : ℕ) (a : lower-set.SetAnswer) → a ≡ setNumPorts g n i o room .answer → ((e : ℕ) → a ≡ lower-set-variants.Set e → ⊥) → setNumPorts g n i o room .graph ≡ g
@@ -98,13 +98,13 @@ settled-is m n k i o g lower-set-variants.MovesTooShort is kept = ap (withGraph 
 settled-is m n k i o g lower-set-variants.NoRoom is kept = ap (withGraph m) (kept (λ e q. let z : _≡_ {A = ℕ} 0 1 = cc in omega arith))
 
 -- Resizing a block.
-module _ (nodes links owners heads : List ℕ) (marks flags : List Bool) (held : Held) (n : ℕ) (k : NodeMeta) (i o : ℕ) (r : Resizes (multiIn nodes links owners heads marks flags held) n k i o) where
+module _ (nodes links owners heads : List ℕ) (marks flags : List Bool) (totals : Totals) (n : ℕ) (k : NodeMeta) (i o : ℕ) (r : Resizes (multiIn nodes links owners heads marks flags totals) n k i o) where
   abbrev m : MultiPortGraph
-  m = multiIn nodes links owners heads marks flags held
+  m = multiIn nodes links owners heads marks flags totals
 
   -- what the single-link graph asks
-  pub lower-resizes : lower.Resizes (graphIn nodes links owners heads (held .counts)) n k i o
-  lower-resizes = resizes (graphIn nodes links owners heads (held .counts)) (lower-wf m (r .wf)) n k i o (entry-of-some _ k (r .meta)) (r .few)
+  pub lower-resizes : lower.Resizes (graphIn nodes links owners heads (totals .counts)) n k i o
+  lower-resizes = resizes (graphIn nodes links owners heads (totals .counts)) (lower-wf m (r .wf)) n k i o (entry-of-some _ k (r .meta)) (r .few)
 
   -- the list of the hidden nodes of dropped ports
   module _ (list : List ℕ) {list′ : List ℕ} {c : ℕ} (u : c ≡ length (copiesDropped m k i o)) (v : list′ ≡ sets list 0 (copiesDropped m k i o)) (long : length (copiesDropped m k i o) ≤ length list) where
@@ -124,27 +124,27 @@ module _ (nodes links owners heads : List ℕ) (marks flags : List Bool) (held :
   many-listed = copies-dropped-few m k i o (block-in m n k (r .wf) (r .meta))
 
   module _ (room : ℕ) (nodes′ : List ℕ) {links′ owners′ heads′ : List ℕ} {counts : Counts} {a : lower-set.SetAnswer}
-      (e : graphIn nodes′ links′ owners′ heads′ counts ≡ setNumPorts (graphIn nodes links owners heads (held .counts)) n i o room .graph)
-      (f : a ≡ setNumPorts (graphIn nodes links owners heads (held .counts)) n i o room .answer)
-      {held′ : Held} (h : held′ ≡ heldCounts held counts) where
-    pub sized-sound : Sound (multiIn nodes′ links′ owners′ heads′ marks flags held′)
+      (e : graphIn nodes′ links′ owners′ heads′ counts ≡ setNumPorts (graphIn nodes links owners heads (totals .counts)) n i o room .graph)
+      (f : a ≡ setNumPorts (graphIn nodes links owners heads (totals .counts)) n i o room .answer)
+      {totals′ : Totals} (h : totals′ ≡ totalsCounts totals counts) where
+    pub sized-sound : Sound (multiIn nodes′ links′ owners′ heads′ marks flags totals′)
     sized-sound =
         record {
-          wf = subst (λ (v : Held). Wf (graphIn nodes′ links′ owners′ heads′ (v .counts))) (sym h) (subst Wf (sym e) (wf-set (graphIn nodes links owners heads (held .counts)) n i o room (lower-wf m (r .wf))));
+          wf = subst (λ (v : Totals). Wf (graphIn nodes′ links′ owners′ heads′ (v .counts))) (sym h) (subst Wf (sym e) (wf-set (graphIn nodes links owners heads (totals .counts)) n i o room (lower-wf m (r .wf))));
           marksLong = r .wf .fine .marksLong;
           flagsLong = r .wf .fine .flagsLong;
         }
 
-    pub resize-settled : (list : List ℕ) {after : MultiPortGraph} {y : SetAnswer} → list ≡ copiesDropped m k i o → after ≡ settled (multiIn nodes′ links′ owners′ heads′ marks flags held′) n k list a → y ≡ setAs a →
+    pub resize-settled : (list : List ℕ) {after : MultiPortGraph} {y : SetAnswer} → list ≡ copiesDropped m k i o → after ≡ settled (multiIn nodes′ links′ owners′ heads′ marks flags totals′) n k list a → y ≡ setAs a →
         (after ≡ setCounts m n i o room .graph) × (y ≡ setCounts m n i o room .answer)
     resize-settled list {after} {y} u p q =
         let g = graphIn nodes′ links′ owners′ heads′ counts in
         let kept : ((x : ℕ) → a ≡ lower-set-variants.Set x → ⊥) → g ≡ m .graph = λ none. e ∙ lower-kept (m .graph) n i o room a f none in
-        let same : multiIn nodes′ links′ owners′ heads′ marks flags held′ ≡ withGraph m g = ap (multiIn nodes′ links′ owners′ heads′ marks flags) h in
+        let same : multiIn nodes′ links′ owners′ heads′ marks flags totals′ ≡ withGraph m g = ap (multiIn nodes′ links′ owners′ heads′ marks flags) h in
         let done : after ≡ resized m n k i o g a = p ∙ ((λ j. settled (same j) n k (u j) a) ∙ settled-is m n k i o g a (r .meta) kept) in
         let z = set-block m n i o room (r .few) k (r .meta) (record { graph = g; answer = a }) a after (r .seen) (λ j. record { graph = e j; answer = f j }) refl done in
         (ap (λ (x : PortsSet). x .graph) z, q ∙ ap (λ (x : PortsSet). x .answer) z)
 
-  pub moves-told : (b b′ : List ℕ) → b′ ≡ movesAfter (graphIn nodes links owners heads (held .counts)) n i o b → b′ ≡ movesTold m n i o b
+  pub moves-told : (b b′ : List ℕ) → b′ ≡ movesAfter (graphIn nodes links owners heads (totals .counts)) n i o b → b′ ≡ movesTold m n i o b
   unfolding movesToldUnder
   moves-told b b′ j = rw (r .seen) j

@@ -17,10 +17,11 @@
 --   MultiLent     the same graph as tables apart: multiIn puts them together
 --
 -- What is proved, and need not be believed: everything else. A contract presumes of its graph only that it came from these calls
--- (MultiWf, in Inner over the lower crate's Model). What that says nobody has to believe: the empty graph has it and every call keeps
+-- (MultiWf, in WellFormed over the lower crate's Model). What that says nobody has to believe: the empty graph has it and every call keeps
 -- it, so it holds of every graph of the calls (`run-kept` of `theorems`). These laws a reviewer looks for, of every such graph:
 --   visible-nodes, visible-ports, visible-links, split-one-copy, copy-one-split, no-wire-at-hidden (CountLaws)
 --   the work of a call is what it takes and gives back, and 10 is given exactly if a table would grow past its limit (SpaceLaws)
+--   words-of-graph, tables-fixed (LentGraph): the graph fixes each number of lent tables
 -- They speak in the words of Model (a node is live, a port stands at a place) and, for 10, of Space (the work of a call).
 pub mod Places
 pub mod Reading
@@ -38,9 +39,9 @@ pub mod Listed
 pub mod MultiLent
 -- the code's own forms of these: the calls by cases, what inner functions give and presume, what is read off lent tables
 pub mod Cases
-pub mod Forms
+pub mod CodeForms
 pub mod Presumed
-pub mod Reads
+pub mod TableReads
 pub mod Named
 pub mod Needs
 pub mod Scans
@@ -49,7 +50,7 @@ pub mod ListScans
 pub mod FanOutScans
 pub mod Inputs
 -- what MultiWf says, and the room behind 10
-pub mod Inner
+pub mod WellFormed
 pub mod Space
 -- laws: calls by cases; ends and listings; each change of a graph; readings off tables; room
 pub mod CaseLaws
@@ -58,8 +59,8 @@ pub mod Listing
 pub mod WalkRule
 pub mod CountLaws
 pub mod ScanLaws
-pub mod Frame
-pub mod PlainLaws
+pub mod HiddenStays
+pub mod LinkCutLaws
 pub mod CopyLaws
 pub mod SplitLaws
 pub mod MarkLaws
@@ -69,21 +70,22 @@ pub mod SetLaws
 pub mod PrepareLaws
 pub mod GrowLaws
 pub mod TidyLaws
-pub mod ReadLaws
+pub mod TableReadLaws
 pub mod NamedLaws
 pub mod NeedStays
 pub mod NeedLaws
 pub mod SpaceLaws
 pub mod LentLaws
 -- steps that the functions' proofs cite
-pub mod FormSteps
-pub mod ReadSteps
+pub mod CodeFormSteps
+pub mod TableReadSteps
 pub mod CopySteps
 pub mod PrepareSteps
 pub mod CallSteps
 pub mod TidySteps
 pub mod LinkSteps
 pub mod TableSteps
+pub mod LowerSteps
 pub mod NamedSteps
 pub mod NeedSteps
 pub mod BlockSteps

@@ -15,8 +15,8 @@ use Rattle.portgraph.specs.declared.node_entry.MaybeNodeMeta.the-variants as ma
 use Rattle.portgraph.specs.declared.portgraph.PortsLinked as lower
 use Rattle.multiportgraph.specs.Reading.{Port, dead, hidden, visible, seen, isSplit, copyNode, subport#}
 use Rattle.multiportgraph.specs.HiddenNodes as hiding
-use Rattle.multiportgraph.specs.Forms.{seenAs, preparedAs}
-use Rattle.multiportgraph.specs.Inner.{MultiWf}
+use Rattle.multiportgraph.specs.CodeForms.{seenAs, preparedAs}
+use Rattle.multiportgraph.specs.WellFormed.{MultiWf}
 use Rattle.multiportgraph.specs.Ends.{block-seen, seen-block}
 use Rattle.multiportgraph.specs.PrepareLaws.{prepare-law}
 use Rattle.multiportgraph.specs.declared.multiportgraph.MultiPortGraph.{MultiPortGraph}

@@ -16,10 +16,10 @@ use Rattle.portgraph.specs.declared.iter.Sides.{Sides}
 use Rattle.portgraph.specs.declared.iter.Sides.the-variants.{One}
 use Rattle.portgraph.specs.declared.node_entry.NodeMeta.{NodeMeta}
 use Rattle.multiportgraph.specs.Reading.{ownerOf, Port, dead, hidden, visible, seen, subport#}
-use Rattle.multiportgraph.specs.Forms.{seenAs, blockFound}
-use Rattle.multiportgraph.specs.Inner.{MultiWf}
-use Rattle.multiportgraph.specs.Reads.{ownerIn, seenIn, wireIn}
-use Rattle.multiportgraph.specs.ReadLaws.{seen-read}
+use Rattle.multiportgraph.specs.CodeForms.{seenAs, blockFound}
+use Rattle.multiportgraph.specs.WellFormed.{MultiWf}
+use Rattle.multiportgraph.specs.TableReads.{ownerIn, seenIn, wireIn}
+use Rattle.multiportgraph.specs.TableReadLaws.{seen-read}
 use Rattle.multiportgraph.specs.Wires.{isBlock, wireTo, sideLinks}
 use Rattle.multiportgraph.specs.Walks.{bothSeen, between, bySides, portLinksSeen, portLinks, linksLeft, stepFront, stepBack, linkBeyond, nodeLinks, stepLinks, isOwnOutput, notIgnored, neighbourLinks, neighboursItem, stepNeighbours, connections, connectionsItem, linksItem, stepConnections}
 use Rattle.multiportgraph.specs.Listing.{filter-same}

@@ -33,13 +33,13 @@ use Rattle.multiportgraph.specs.Reading.{ownerOf, positionOf, isHidden, 
 use Rattle.multiportgraph.specs.Calls.{visibleNodes, visibleLinks}
 use Rattle.multiportgraph.specs.Wires.{isBlock, blocks, wireTo, wireOf, sideLinks, allWires, placeOf}
 use Rattle.multiportgraph.specs.Walks.{portLinks}
-use Rattle.multiportgraph.specs.Forms.{flagAt}
-use Rattle.multiportgraph.specs.FormSteps.{flag-is}
-use Rattle.multiportgraph.specs.Inner.{inner#, copyPlace, MultiWf, IsEnd}
+use Rattle.multiportgraph.specs.CodeForms.{flagAt}
+use Rattle.multiportgraph.specs.CodeFormSteps.{flag-is}
+use Rattle.multiportgraph.specs.WellFormed.{inner#, copyPlace, MultiWf, IsEnd}
 use Rattle.multiportgraph.specs.Ends.{Hangs, EndOf, BlockPort, block-seen, split-has-copy, owner-of, position-of, end-side, end-read, ends-join-ends, other-side, main-seen, main-side, subport-of-hidden, subport-of-block, map-range}
 use Rattle.multiportgraph.specs.Listing.{member-range}
-use Rattle.multiportgraph.specs.Reads.{farIn, ownerIn}
-use Rattle.multiportgraph.specs.ReadLaws.{far-is, owner-read, mark-told}
+use Rattle.multiportgraph.specs.TableReads.{farIn, ownerIn}
+use Rattle.multiportgraph.specs.TableReadLaws.{far-is, owner-read, mark-told}
 use Rattle.multiportgraph.specs.ScanLaws.{linksFromTo, portsAcross, range-append, flatMap-append, flatMap-same, flatMap-map, flatMap-flatMap, port-seen-there, side-in-row, links-in-row, links-of-split, links-of-plain}
 use Rattle.multiportgraph.specs.CallSteps.{lower-wf}
 use Rattle.multiportgraph.specs.CountLaws.{visible-nodes, visible-links}
@@ -50,7 +50,7 @@ use Rattle.multiportgraph.specs.declared.multiportgraph.MultiPortGraph.{
 use Rattle.multiportgraph.specs.declared.multiportgraph.SubportIndex.{SubportIndex}
 use Rattle.multiportgraph.specs.declared.multiportgraph.PortPlace.{PortPlace}
 use Rattle.multiportgraph.specs.declared.multiportgraph.SubportLink.{SubportLink}
-use Rattle.multiportgraph.specs.declared.lent.Held.{Held}
+use Rattle.multiportgraph.specs.declared.lent.Totals.{Totals}
 
 -- Lists.
 
@@ -116,15 +116,15 @@ flatMap-shift f s c =
     ap (flatMap f) (ap (λ (k : ℕ). range k c) (sym q) ∙ sym (map-range (λ i. s + i) s 0 c (λ j l. refl)))
     ∙ flatMap-map f (λ i. s + i) (range 0 c)
 
-module _ (nodes links owners heads : List ℕ) (marks flags : List Bool) (held : Held) (w : MultiWf (multiIn nodes links owners heads marks flags held)) where
+module _ (nodes links owners heads : List ℕ) (marks flags : List Bool) (totals : Totals) (w : MultiWf (multiIn nodes links owners heads marks flags totals)) where
   abbrev graph : MultiPortGraph
-  graph = multiIn nodes links owners heads marks flags held
+  graph = multiIn nodes links owners heads marks flags totals
 
   abbrev M : Model
   M = w .model
 
   meta-there : (n : ℕ) → metaIn nodes n ≡ metaAt (graph .graph) n
-  meta-there n = meta-read nodes links owners heads (held .counts) n (w .fine .holds .nodesLong)
+  meta-there n = meta-read nodes links owners heads (totals .counts) n (w .fine .holds .nodesLong)
 
   meta-live : (n : ℕ) (k : NodeMeta) → M .node n ≡ live k → metaIn nodes n ≡ maybe-meta.Some k
   meta-live n k e = meta-there n ∙ meta-of-node (w .fine .good) (w .fine .holds) n k e
@@ -330,7 +330,7 @@ module _ (nodes links owners heads : List ℕ) (marks flags : List Bool) (held :
       ∙ ap (flatMap (wireNumbers graph)) (ap (λ (x : ℕ). flatMap (portLinks graph) (range (k .«first_port» .0 + k .incoming) x)) c ∙ sym (links-in-row w n k h e (One Outgoing)))))
 
   -- beyond the used part of the node table there is no node
-  no-node : (n : ℕ) → held .counts .«node_len» ≤ n → metaIn nodes n ≡ maybe-meta.None
+  no-node : (n : ℕ) → totals .counts .«node_len» ≤ n → metaIn nodes n ≡ maybe-meta.None
   no-node n l = go (metaIn nodes n) refl
     where
       go : (x : MaybeNodeMeta) → metaIn nodes n ≡ x → x ≡ maybe-meta.None
@@ -340,14 +340,14 @@ module _ (nodes links owners heads : List ℕ) (marks flags : List Bool) (held :
           let b = w .fine .holds .nodeLen in
           absurd (omega arith)
 
-  pub len-fits : held .counts .«node_len» ≤ nodeSlots
+  pub len-fits : totals .counts .«node_len» ≤ nodeSlots
   len-fits = node-len-fits (graph .graph) (lower-wf graph w)
 
   -- what is gathered over the used node slots is gathered over all
-  flatMap-used : (f : ℕ → List ℕ) → ((n : ℕ) → metaIn nodes n ≡ maybe-meta.None → f n ≡ []) → flatMap f (range 0 (held .counts .«node_len»)) ≡ flatMap f (range 0 nodeSlots)
+  flatMap-used : (f : ℕ → List ℕ) → ((n : ℕ) → metaIn nodes n ≡ maybe-meta.None → f n ≡ []) → flatMap f (range 0 (totals .counts .«node_len»)) ≡ flatMap f (range 0 nodeSlots)
   flatMap-used f h =
       let u = len-fits in
-      let len = held .counts .«node_len» in
+      let len = totals .counts .«node_len» in
       sym (ap (flatMap f) (range-append 0 len (nodeSlots - len) nodeSlots (omega arith))
       ∙ (flatMap-append f (range 0 len) (range (0 + len) (nodeSlots - len))
       ∙ (ap (λ (r : List ℕ). flatMap f (range 0 len) ++ r) (flatMap-none f (range (0 + len) (nodeSlots - len)) (λ n i. let r = member-range n (0 + len) (nodeSlots - len) i in h n (no-node n (omega arith))))
@@ -365,7 +365,7 @@ module _ (nodes links owners heads : List ℕ) (marks flags : List Bool) (held :
         go false h maybe-meta.None e = refl
         go false h (maybe-meta.Some k) e = same n k h e
 
-    blocks-give : flatMap (λ n. ofBlock (f n) (flagAt flags nodeSlots n) (metaIn nodes n)) (range 0 (held .counts .«node_len»)) ≡ flatMap g (blocks graph)
+    blocks-give : flatMap (λ n. ofBlock (f n) (flagAt flags nodeSlots n) (metaIn nodes n)) (range 0 (totals .counts .«node_len»)) ≡ flatMap g (blocks graph)
     unfolding blocks
     blocks-give =
         flatMap-used (λ n. ofBlock (f n) (flagAt flags nodeSlots n) (metaIn nodes n)) (λ n e. ap (ofBlock (f n) (flagAt flags nodeSlots n)) e)
@@ -373,7 +373,7 @@ module _ (nodes links owners heads : List ℕ) (marks flags : List Bool) (held :
         ∙ sym (flatMap-filter g (isBlock graph) (range 0 nodeSlots)))
 
   -- all wires
-  pub wires-listed : tableWires nodes links owners marks flags (held .counts .«node_len») ≡ wiresListed graph
+  pub wires-listed : tableWires nodes links owners marks flags (totals .counts .«node_len») ≡ wiresListed graph
   unfolding tableWires nodeWires wiresListed allWires
   wires-listed =
       blocks-give (sideWires nodes links owners marks flags) (λ n. flatMap (wireNumbers graph) (sideLinks graph Outgoing n)) side-wires-are
@@ -389,11 +389,11 @@ module _ (nodes links owners heads : List ℕ) (marks flags : List Bool) (held :
       record { ends = omega arith; ports = w .fine .good .portsInBlock n k l; small = w .fine .good .blockSmall n k l }
 
   -- the number of wires, and that of their numbers
-  pub wires-counted : (count : ℕ) → count ≡ held .counts .«link_count» - held .copies → count ≡ length (allWires graph)
+  pub wires-counted : (count : ℕ) → count ≡ totals .counts .«link_count» - totals .copies → count ≡ length (allWires graph)
   unfolding visibleLinks
   wires-counted count e = e ∙ visible-links (w .fine)
 
-  pub few-wires : held .counts .«link_count» - held .copies ≤ nodeSlots * nodePorts
+  pub few-wires : totals .counts .«link_count» - totals .copies ≤ nodeSlots * nodePorts
   few-wires = let h = link-count-fits (graph .graph) (lower-wf graph w) in omega arith
 
   -- Blocks.
@@ -414,14 +414,14 @@ module _ (nodes links owners heads : List ℕ) (marks flags : List Bool) (held :
       λ i. n ∷ countIn (sym e i) Incoming ∷ countIn (sym e i) Outgoing ∷ f i ∷ []
 
   -- all blocks
-  pub blocks-listed : tableBlocks nodes flags (held .counts .«node_len») ≡ blocksListed graph
+  pub blocks-listed : tableBlocks nodes flags (totals .counts .«node_len») ≡ blocksListed graph
   unfolding tableBlocks nodeBlock blocksListed
   blocks-listed = blocks-give blockWords (blockNumbers graph) block-words-are
 
   -- their number, and that of their numbers
-  pub blocks-counted : (count : ℕ) → count ≡ held .counts .«node_count» - held .copies → count ≡ length (blocks graph)
+  pub blocks-counted : (count : ℕ) → count ≡ totals .counts .«node_count» - totals .copies → count ≡ length (blocks graph)
   unfolding visibleNodes
   blocks-counted count e = e ∙ visible-nodes (w .fine)
 
-  pub few-blocks : held .counts .«node_count» - held .copies ≤ nodeSlots
+  pub few-blocks : totals .counts .«node_count» - totals .copies ≤ nodeSlots
   few-blocks = let h = node-count-fits (graph .graph) (lower-wf graph w) in omega arith

@@ -15,8 +15,8 @@ use Rattle.portgraph.specs.Lent.{metaIn}
 use Rattle.portgraph.specs.declared.node_entry.NodeMeta.{NodeMeta}
 use Rattle.portgraph.specs.declared.node_entry.MaybeNodeMeta.{MaybeNodeMeta}
 use Rattle.portgraph.specs.declared.node_entry.MaybeNodeMeta.the-variants as maybe-meta
-use Rattle.multiportgraph.specs.Forms.{flagAt}
-use Rattle.multiportgraph.specs.Reads.{farIn, ownerIn}
+use Rattle.multiportgraph.specs.CodeForms.{flagAt}
+use Rattle.multiportgraph.specs.TableReads.{farIn, ownerIn}
 use Rattle.multiportgraph.specs.Listed.{listAfter, listAnswer}
 use Rattle.multiportgraph.specs.ListScans.{endWords, firstOfMeta, inEnd, subportEnd, farEnd, slotWire, copyWires, subportWire, splitWires, outEnd, portWires, placeWires, sideWires, ofBlock, portOfMeta, Writing}
 use Rattle.multiportgraph.specs.declared.multiportgraph.MultiPortGraph.{MultiPortGraph}

@@ -22,7 +22,7 @@ use Rattle.multiportgraph.specs.declared.lookups.BlockFound.{BlockFound}
 use Rattle.multiportgraph.specs.declared.lookups.BlockFound.the-variants as found
 use Rattle.multiportgraph.specs.declared.lookups.OffsetAnswer.the-variants as offset-of
 use Rattle.multiportgraph.specs.declared.lookups.CountAnswer.the-variants as count-of
-use Rattle.multiportgraph.specs.Forms.{blockIn, blockFound}
+use Rattle.multiportgraph.specs.CodeForms.{blockIn, blockFound}
 
 -- Nodes.
 

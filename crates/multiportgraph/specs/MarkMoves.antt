@@ -14,8 +14,8 @@ use Rattle.portgraph.specs.Model.{Within}
 use Rattle.portgraph.specs.Tables.{fill}
 use Rattle.portgraph.specs.TableLaws.{length-fill}
 use Rattle.portgraph.specs.declared.node_entry.NodeMeta.{NodeMeta}
-use Rattle.multiportgraph.specs.Forms.{layKept, unmarkNew, beforeEnd, unmarkOld}
-use Rattle.multiportgraph.specs.FormSteps.{lay-turn}
+use Rattle.multiportgraph.specs.CodeForms.{layKept, unmarkNew, beforeEnd, unmarkOld}
+use Rattle.multiportgraph.specs.CodeFormSteps.{lay-turn}
 use Rattle.multiportgraph.specs.MarkLaws.{getD-fill-in, getD-fill-out, length-layRange, getD-layRange-out, getD-layRange-in, length-layMarks, lay-kept-in, lay-kept-out, lay-new, lay-old, lay-else}
 use Rattle.multiportgraph.specs.HiddenNodes.{layRange, layMarks}
 

@@ -25,32 +25,32 @@ use Rattle.multiportgraph.specs.Graph.{multi, withMarks}
 use Rattle.portgraph.specs.declared.resize.SetAnswer as lower-set
 use Rattle.portgraph.specs.declared.resize.SetAnswer.the-variants as lower-set-variants
 use Rattle.multiportgraph.specs.Reading.{portNumber, isHidden}
-use Rattle.multiportgraph.specs.Inner.{MultiWf}
-use Rattle.multiportgraph.specs.Forms.{flagAt}
-use Rattle.multiportgraph.specs.Reads.{farIn, ownerIn}
+use Rattle.multiportgraph.specs.WellFormed.{MultiWf}
+use Rattle.multiportgraph.specs.CodeForms.{flagAt}
+use Rattle.multiportgraph.specs.TableReads.{farIn, ownerIn}
 use Rattle.multiportgraph.specs.declared.multiportgraph.MultiPortGraph.{MultiPortGraph}
 use Rattle.multiportgraph.specs.declared.multiportgraph.Release.{Release}
 use Rattle.multiportgraph.specs.declared.prepare.Prepared.{Prepared}
-use Rattle.multiportgraph.specs.declared.lent.Held.{Held}
-use Rattle.multiportgraph.specs.declared.lent_prepare.PreparedIn.{PreparedIn}
+use Rattle.multiportgraph.specs.declared.lent.Totals.{Totals}
+use Rattle.multiportgraph.specs.declared.lent_prepare.PreparedLent.{PreparedLent}
 use Rattle.multiportgraph.specs.HiddenNodes.{marksMoved, removeAll}
 
 -- the graph that lent tables and numbers are
-abbrev pub multiIn : List ℕ → List ℕ → List ℕ → List ℕ → List Bool → List Bool → Held → MultiPortGraph
-multiIn nodes links owners heads marks flags held =
-    multi (graphIn nodes links owners heads (held .counts)) marks flags (held .copies) (held .subs) (held .release)
+abbrev pub multiIn : List ℕ → List ℕ → List ℕ → List ℕ → List Bool → List Bool → Totals → MultiPortGraph
+multiIn nodes links owners heads marks flags totals =
+    multi (graphIn nodes links owners heads (totals .counts)) marks flags (totals .copies) (totals .subs) (totals .release)
 
 -- the numbers of the empty graph that is made for a release
-abbrev pub noHeld : Release → Held
-noHeld release = record { counts = noCounts; copies = 0; subs = 0; release = release }
+abbrev pub noTotals : Release → Totals
+noTotals release = record { counts = noCounts; copies = 0; subs = 0; release = release }
 
 -- the numbers with other counts of the single-link graph
-abbrev pub heldCounts : Held → Counts → Held
-heldCounts held counts = record { counts = counts; copies = held .copies; subs = held .subs; release = held .release }
+abbrev pub totalsCounts : Totals → Counts → Totals
+totalsCounts totals counts = record { counts = counts; copies = totals .copies; subs = totals .subs; release = totals .release }
 
 -- the numbers with another number of links
-abbrev pub heldLinks : Held → ℕ → Held
-heldLinks held links = heldCounts held (countLinks (held .counts) links)
+abbrev pub totalsLinks : Totals → ℕ → Totals
+totalsLinks totals links = totalsCounts totals (countLinks (totals .counts) links)
 
 -- What is read off the tables.
 
@@ -111,5 +111,5 @@ settled m n k l lower-set-variants.MovesTooShort = m
 settled m n k l lower-set-variants.NoRoom = m
 
 -- a prepared end with its graph
-abbrev pub preparedIn : MultiPortGraph → PreparedIn → Prepared
+abbrev pub preparedIn : MultiPortGraph → PreparedLent → Prepared
 preparedIn m r = record { graph = m; port = r .port; offset = r .offset; ready = r .ready }

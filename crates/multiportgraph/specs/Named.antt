@@ -12,8 +12,8 @@ use Rattle.portgraph.specs.declared.direction.Direction.{Direction}
 use Rattle.multiportgraph.specs.Reading.{Port, dead, hidden, visible, copyNode, End, inner, lacking, subport#}
 use Rattle.multiportgraph.specs.HiddenNodes as hiding
 use Rattle.multiportgraph.specs.Cases as cases
-use Rattle.multiportgraph.specs.Forms.{flagAt, lowestUnlinked}
-use Rattle.multiportgraph.specs.Reads.{seenIn, endIn, wireIn, subportsIn, firstIn}
+use Rattle.multiportgraph.specs.CodeForms.{flagAt, lowestUnlinked}
+use Rattle.multiportgraph.specs.TableReads.{seenIn, endIn, wireIn, subportsIn, firstIn}
 use Rattle.multiportgraph.specs.declared.multiportgraph.MultiPortGraph.{MultiPortGraph}
 use Rattle.multiportgraph.specs.declared.multiportgraph.SubportIndex.{SubportIndex}
 use Rattle.multiportgraph.specs.declared.multiportgraph.Refusal.the-variants.{BadOffset, UnknownPort, HiddenPort, UnknownOffset, UnknownSecondPort, IncompatibleDirections, AlreadyLinked}
@@ -109,8 +109,8 @@ reuseIn links owners p d =
     (reuseAt (firstIn links owners p d) (subportsIn links owners p d) (lowestUnlinked links (firstIn links owners p d) 0 (subportsIn links owners p d)))
     need.Grow
 
-unfoldable pub needIn : List Bool → List ℕ → List ℕ → ℕ → Direction → EndNeed
-needIn marks links owners p d =
+unfoldable pub endNeedIn : List Bool → List ℕ → List ℕ → ℕ → Direction → EndNeed
+endNeedIn marks links owners p d =
     cond (flagAt marks portSlots p) (reuseIn links owners p d) (cond (eqb (at links p) 0) (need.Ready p 0) need.Split)
 
 -- Linking two ports: the refusal, or both ends where they are ready; else which ends have to be prepared.
@@ -135,10 +135,10 @@ firstReady b d need.Grow = needs.First d
 firstReady b d need.Split = needs.First d
 
 unfoldable pub firstNeed : List Bool → List ℕ → List ℕ → ℕ → Direction → ℕ → LinkNeed
-firstNeed marks links owners a d b = firstReady b d (needIn marks links owners a d)
+firstNeed marks links owners a d b = firstReady b d (endNeedIn marks links owners a d)
 
 unfoldable pub bothNeed : List Bool → List ℕ → List ℕ → ℕ → Direction → ℕ → Direction → LinkNeed
-bothNeed marks links owners a d b e = bothReady d e (needIn marks links owners a d) (needIn marks links owners b e)
+bothNeed marks links owners a d b e = bothReady d e (endNeedIn marks links owners a d) (endNeedIn marks links owners b e)
 
 module _ (marks : List Bool) (links owners : List ℕ) (flags : List Bool) where
   abbrev pub linkSeen : ℕ → ℕ → Port → Port → LinkNeed

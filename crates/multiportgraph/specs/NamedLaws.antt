@@ -33,8 +33,8 @@ use Rattle.multiportgraph.specs.Reading.{isLinked, hasLink, isSplit, Por
 use Rattle.multiportgraph.specs.HiddenNodes as hiding
 use Rattle.multiportgraph.specs.Cases as cases
 use Rattle.multiportgraph.specs.Calls.{subportLink, cutSub, cutPlain, cutPort, linkSubIf, linkPairIf, linkCleanIf}
-use Rattle.multiportgraph.specs.Forms.{preparedAs, seenAs, flagAt, putFlag, lowestUnlinked}
-use Rattle.multiportgraph.specs.Inner.{Fine, MultiWf}
+use Rattle.multiportgraph.specs.CodeForms.{preparedAs, seenAs, flagAt, putFlag, lowestUnlinked}
+use Rattle.multiportgraph.specs.WellFormed.{Fine, MultiWf}
 use Rattle.multiportgraph.specs.Ends.{BlockPort, block-seen, port-of, count-of}
 use Rattle.multiportgraph.specs.CallSteps.{cut-port-plain}
 use Rattle.multiportgraph.specs.CopySteps.{copy-removed, unsplit-split}
@@ -42,9 +42,9 @@ use Rattle.multiportgraph.specs.SplitLaws.{PreparedEnd}
 use Rattle.multiportgraph.specs.PrepareLaws.{prepare-law}
 use Rattle.multiportgraph.specs.PrepareSteps.{lower-wf, first-fits, lowest-same}
 use Rattle.multiportgraph.specs.LinkSteps.{is-ready, others-stay, both-linked}
-use Rattle.multiportgraph.specs.Reads.{farIn, ownerIn, seenIn, wireIn, plainIn, subportsIn, firstIn}
-use Rattle.multiportgraph.specs.ReadLaws.{mark-told, seen-read, owner-read, copy-read, side-read, subports-read, first-read, end-read-off, wire-read, plain-read, end-is-port}
-use Rattle.multiportgraph.specs.Named.{endOr, endSeen, endNamed, freeEnds, secondOr, secondSeen, secondEnd, firstOr, firstEnd, bothSeen, linkNamed, readIn, reuseAt, reuseIn, needIn, secondReady, bothReady, firstReady, firstNeed, bothNeed, linkSeen, linkNeed, pairNamed, joinedAt, cutAt, readNamed, cutNamed, linkBy, preparedBy, linkedBy}
+use Rattle.multiportgraph.specs.TableReads.{farIn, ownerIn, seenIn, wireIn, plainIn, subportsIn, firstIn}
+use Rattle.multiportgraph.specs.TableReadLaws.{mark-told, seen-read, owner-read, copy-read, side-read, subports-read, first-read, end-read-off, wire-read, plain-read, end-is-port}
+use Rattle.multiportgraph.specs.Named.{endOr, endSeen, endNamed, freeEnds, secondOr, secondSeen, secondEnd, firstOr, firstEnd, bothSeen, linkNamed, readIn, reuseAt, reuseIn, endNeedIn, secondReady, bothReady, firstReady, firstNeed, bothNeed, linkSeen, linkNeed, pairNamed, joinedAt, cutAt, readNamed, cutNamed, linkBy, preparedBy, linkedBy}
 use Rattle.multiportgraph.specs.declared.multiportgraph.MultiPortGraph.{MultiPortGraph}
 use Rattle.multiportgraph.specs.declared.multiportgraph.SubportIndex.{SubportIndex}
 use Rattle.multiportgraph.specs.declared.multiportgraph.Refusal.{Refusal}
@@ -222,7 +222,7 @@ pub record ReadyEnd (m : MultiPortGraph) (d : Direction) (x : ℕ) : Type 0 wher
   pub free : at (m .graph .«port_link») x ≡ 0
 
 -- two such ends of opposite sides are linked
-ready-joined : {m : MultiPortGraph} (d e : Direction) (x y : ℕ) → ReadyEnd m d x → ReadyEnd m e y → sameSide d e ≡ false → {t : List ℕ} → t ≡ linkBoth (m .graph .«port_link») x y →
+pub ready-joined : {m : MultiPortGraph} (d e : Direction) (x y : ℕ) → ReadyEnd m d x → ReadyEnd m e y → sameSide d e ≡ false → {t : List ℕ} → t ≡ linkBoth (m .graph .«port_link») x y →
     _≡_ {A = lower-linked.PortsLinked} (record { graph = withLinks (m .graph) t (m .graph .«link_count» + 1); answer = lower-link.Linked (port# x) (port# y) }) (linkPorts (m .graph) x y)
 ready-joined {m} d e x y u v h k =
     link-made (m .graph) x y (u .meta) (v .meta) (sym (u .live)) (sym (v .live)) _ ((λ i. sameSide (u .side i) (v .side i)) ∙ h) (u .free) (v .free) k
@@ -280,8 +280,8 @@ module _ {m : MultiPortGraph} (w : MultiWf m) where
             ap (λ (x : ℕ). hiding.ready m x o) (omega arith)
         go o false e = refl
 
-    pub need-law : prepare m p d ≡ preparedBy m p d (needIn (m .multiport) (m .graph .«port_link») (m .graph .«port_meta») p d)
-    unfolding prepareUnder needIn
+    pub need-law : prepare m p d ≡ preparedBy m p d (endNeedIn (m .multiport) (m .graph .«port_link») (m .graph .«port_meta») p d)
+    unfolding prepareUnder endNeedIn
     need-law = go (isSplit m p) refl
       where
         plain : (b : Bool) → cond (cond b false true) (hiding.split m p d) (hiding.ready m p 0) ≡ preparedBy m p d (cond b (need.Ready p 0) need.Split)
@@ -330,8 +330,8 @@ module _ {m : MultiPortGraph} (w : MultiWf m) where
     call-by dead v e h = refl
     call-by hidden v e h = refl
     call-by (visible n d) hidden e h = refl
-    call-by (visible n d) dead e h = first-law n d e (needIn (m .multiport) (m .graph .«port_link») (m .graph .«port_meta») a d) (need-law a n d e)
-    call-by (visible n d) (visible k c) e h = both-law n d e k c h (needIn (m .multiport) (m .graph .«port_link») (m .graph .«port_meta») a d) (needIn (m .multiport) (m .graph .«port_link») (m .graph .«port_meta») b c) (need-law a n d e) (need-law b k c h)
+    call-by (visible n d) dead e h = first-law n d e (endNeedIn (m .multiport) (m .graph .«port_link») (m .graph .«port_meta») a d) (need-law a n d e)
+    call-by (visible n d) (visible k c) e h = both-law n d e k c h (endNeedIn (m .multiport) (m .graph .«port_link») (m .graph .«port_meta») a d) (endNeedIn (m .multiport) (m .graph .«port_link») (m .graph .«port_meta») b c) (need-law a n d e) (need-law b k c h)
 
     pub call-of-need : linkPairIf false present m a b ≡ linkedBy m a b (linkNeed (m .multiport) (m .graph .«port_link») (m .graph .«port_meta») (m .«copy_node») a b)
     unfolding linkNeed
@@ -382,9 +382,9 @@ module _ {m : MultiPortGraph} (w : MultiWf m) where
     on-first hidden v i e h z = absurd (zero-is-not-one (cc))
     on-first (visible n d) hidden i e h z = absurd (zero-is-not-one (cc))
     on-first (visible n d) dead i e h z =
-        record { wf = w; node = n; is = e ∙ ap (visible n) (first-side d (needIn (m .multiport) (m .graph .«port_link») (m .graph .«port_meta») a d) i z) }
+        record { wf = w; node = n; is = e ∙ ap (visible n) (first-side d (endNeedIn (m .multiport) (m .graph .«port_link») (m .graph .«port_meta») a d) i z) }
     on-first (visible n d) (visible k c) i e h z =
-        absurd (both-not-first d c (needIn (m .multiport) (m .graph .«port_link») (m .graph .«port_meta») a d) (needIn (m .multiport) (m .graph .«port_link») (m .graph .«port_meta») b c) i z)
+        absurd (both-not-first d c (endNeedIn (m .multiport) (m .graph .«port_link») (m .graph .«port_meta») a d) (endNeedIn (m .multiport) (m .graph .«port_link») (m .graph .«port_meta») b c) i z)
 
     pub first-on-block : (i : Direction) → linkNeed (m .multiport) (m .graph .«port_link») (m .graph .«port_meta») (m .«copy_node») a b ≡ needs.First i → OnBlock m a i
     unfolding linkNeed
@@ -397,9 +397,9 @@ module _ {m : MultiPortGraph} (w : MultiWf m) where
     on-blocks dead v i j e h z = absurd (zero-is-not-one (cc))
     on-blocks hidden v i j e h z = absurd (zero-is-not-one (cc))
     on-blocks (visible n d) hidden i j e h z = absurd (zero-is-not-one (cc))
-    on-blocks (visible n d) dead i j e h z = absurd (first-not-both d (needIn (m .multiport) (m .graph .«port_link») (m .graph .«port_meta») a d) i j z)
+    on-blocks (visible n d) dead i j e h z = absurd (first-not-both d (endNeedIn (m .multiport) (m .graph .«port_link») (m .graph .«port_meta») a d) i j z)
     on-blocks (visible n d) (visible k c) i j e h z =
-        let r = both-sides d c (needIn (m .multiport) (m .graph .«port_link») (m .graph .«port_meta») a d) (needIn (m .multiport) (m .graph .«port_link») (m .graph .«port_meta») b c) i j z in
+        let r = both-sides d c (endNeedIn (m .multiport) (m .graph .«port_link») (m .graph .«port_meta») a d) (endNeedIn (m .multiport) (m .graph .«port_link») (m .graph .«port_meta») b c) i j z in
         record {
           first = record { wf = w; node = n; is = e ∙ ap (visible n) (r .0) };
           second = record { wf = w; node = k; is = h ∙ ap (visible k) (r .1) };
@@ -526,13 +526,13 @@ seen-as w p e = e ∙ ap seenAs (seen-read (w .fine) p)
 -- Preparing an end.
 
 pub prepared-by : {m : MultiPortGraph} {p : ℕ} {d : Direction} (b : OnBlock m p d) {v u : EndNeed} {r : prepare-forms.Prepared} →
-    v ≡ needIn (m .multiport) (m .graph .«port_link») (m .graph .«port_meta») p d → v ≡ u → r ≡ preparedAs m (preparedBy m p d u) → r ≡ preparedAs m (prepare m p d)
+    v ≡ endNeedIn (m .multiport) (m .graph .«port_link») (m .graph .«port_meta») p d → v ≡ u → r ≡ preparedAs m (preparedBy m p d u) → r ≡ preparedAs m (prepare m p d)
 prepared-by {m} {p} {d} b e f h = h ∙ (ap (λ (u : EndNeed). preparedAs m (preparedBy m p d u)) (sym f ∙ e) ∙ ap (preparedAs m) (sym (need-law (b .wf) p (b .node) d (b .is))))
 
 -- why an end is not ready
 module _ {m : MultiPortGraph} {p : ℕ} {d : Direction} (b : OnBlock m p d) where
-  pub grow-needs : needIn (m .multiport) (m .graph .«port_link») (m .graph .«port_meta») p d ≡ need.Grow → SplitPort m p d
-  unfolding needIn
+  pub grow-needs : endNeedIn (m .multiport) (m .graph .«port_link») (m .graph .«port_meta») p d ≡ need.Grow → SplitPort m p d
+  unfolding endNeedIn
   grow-needs e = record { block = b; split = sym (mark-told (b .wf .fine) p) ∙ go (flagAt (m .multiport) portSlots p) (eqb (at (m .graph .«port_link») p) 0) e }
     where
       go : (s t : Bool) → cond s (reuseIn (m .graph .«port_link») (m .graph .«port_meta») p d) (cond t (need.Ready p 0) need.Split) ≡ need.Grow → s ≡ true
@@ -550,8 +550,8 @@ module _ {m : MultiPortGraph} {p : ℕ} {d : Direction} (b : OnBlock m p d) wher
       go true false x o h = zero-is-not-one (cc)
       go false t x o h = zero-is-not-one (cc)
 
-  pub split-needs : needIn (m .multiport) (m .graph .«port_link») (m .graph .«port_meta») p d ≡ need.Split → LinkedPort m p d
-  unfolding needIn
+  pub split-needs : endNeedIn (m .multiport) (m .graph .«port_link») (m .graph .«port_meta») p d ≡ need.Split → LinkedPort m p d
+  unfolding endNeedIn
   split-needs e =
       let r = go (flagAt (m .multiport) portSlots p) (eqb (at (m .graph .«port_link») p) 0) refl e in
       record { block = b; plain = sym (mark-told (b .wf .fine) p) ∙ r .0; linked = eqb-false _ _ (r .1) }

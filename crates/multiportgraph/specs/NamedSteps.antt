@@ -18,9 +18,9 @@ use Rattle.portgraph.specs.declared.port_entry.PortEntry.{PortEntry}
 use Rattle.portgraph.specs.declared.port_entry.PortEntry.the-variants as port-variants
 use Rattle.multiportgraph.specs.Reading.{nodeNumber, Port, visible, End, inner, subport#}
 use Rattle.multiportgraph.specs.CallSteps.{bad-offset}
-use Rattle.multiportgraph.specs.Forms.{flagAt, lowestUnlinked}
-use Rattle.multiportgraph.specs.Reads.{ownerIn, seenIn, endIn, subportsIn, firstIn}
-use Rattle.multiportgraph.specs.Named.{endOr, endSeen, endNamed, freeEnds, secondOr, secondSeen, secondEnd, firstOr, firstEnd, bothSeen, linkNamed, readIn, reuseAt, reuseIn, needIn, secondReady, bothReady, firstReady, firstNeed, bothNeed, linkSeen, linkNeed, pairNamed}
+use Rattle.multiportgraph.specs.CodeForms.{flagAt, lowestUnlinked}
+use Rattle.multiportgraph.specs.TableReads.{ownerIn, seenIn, endIn, subportsIn, firstIn}
+use Rattle.multiportgraph.specs.Named.{endOr, endSeen, endNamed, freeEnds, secondOr, secondSeen, secondEnd, firstOr, firstEnd, bothSeen, linkNamed, readIn, reuseAt, reuseIn, endNeedIn, secondReady, bothReady, firstReady, firstNeed, bothNeed, linkSeen, linkNeed, pairNamed}
 use Rattle.multiportgraph.specs.declared.multiportgraph.Refusal.the-variants.{BadOffset, IncompatibleDirections, AlreadyLinked}
 use Rattle.multiportgraph.specs.declared.named.NamedEnd.the-variants as end
 use Rattle.multiportgraph.specs.declared.named.NamedLink.{NamedLink}
@@ -186,28 +186,28 @@ module _ (marks : List Bool) (links owners : List ℕ) (p : ℕ) (d : Direction)
   mark-is : flagAt marks portSlots p ≡ b
   mark-is = ap (flagAt marks portSlots) (sym e) ∙ sym f
 
-  pub need-reuse : {r : EndNeed} → b ≡ true → r ≡ reuseIn links owners p d → r ≡ needIn marks links owners p d
-  unfolding needIn
+  pub need-reuse : {r : EndNeed} → b ≡ true → r ≡ reuseIn links owners p d → r ≡ endNeedIn marks links owners p d
+  unfolding endNeedIn
   need-reuse g h = rw (mark-is ∙ g) h
 
   module _ (g : b ≡ false) {v a : ℕ} (h : v ≡ p) (i : a ≡ at links v) where
     link-is : at links p ≡ a
     link-is = ap (at links) (sym h) ∙ sym i
 
-    pub need-nothing : a ≡ 0 → need.Ready p 0 ≡ needIn marks links owners p d
-    unfolding needIn
+    pub need-nothing : a ≡ 0 → need.Ready p 0 ≡ endNeedIn marks links owners p d
+    unfolding endNeedIn
     need-nothing z = rw (mark-is ∙ g, eq-eqb (at links p) 0 (link-is ∙ z))
 
-    pub need-split : (a ≡ 0 → ⊥) → need.Split ≡ needIn marks links owners p d
-    unfolding needIn
+    pub need-split : (a ≡ 0 → ⊥) → need.Split ≡ endNeedIn marks links owners p d
+    unfolding endNeedIn
     need-split z = rw (mark-is ∙ g, ne-eqb (at links p) 0 (λ k. z (sym link-is ∙ k)))
 
 module _ (marks : List Bool) (links owners : List ℕ) where
-  pub first-by : (a : ℕ) (d : Direction) (b : ℕ) (v : EndNeed) {r : EndNeed} → r ≡ needIn marks links owners a d → r ≡ v → firstReady b d v ≡ firstNeed marks links owners a d b
+  pub first-by : (a : ℕ) (d : Direction) (b : ℕ) (v : EndNeed) {r : EndNeed} → r ≡ endNeedIn marks links owners a d → r ≡ v → firstReady b d v ≡ firstNeed marks links owners a d b
   unfolding firstNeed
   first-by a d b v e f = ap (firstReady b d) (sym f ∙ e)
 
-  module _ (a : ℕ) (d : Direction) (b : ℕ) (e : Direction) {r : EndNeed} (f : r ≡ needIn marks links owners a d) where
+  module _ (a : ℕ) (d : Direction) (b : ℕ) (e : Direction) {r : EndNeed} (f : r ≡ endNeedIn marks links owners a d) where
     -- an end that is not ready
     unready : (tag : EndNeed → ℕ) → ((x o : ℕ) → tag (need.Ready x o) ≡ 0) → (v : EndNeed) → (tag v ≡ 1) ⊎ (tag v ≡ 2) → (P : EndNeed → LinkNeed)
         → P need.Grow ≡ needs.Both d e → P need.Split ≡ needs.Both d e → needs.Both d e ≡ P v
@@ -219,15 +219,15 @@ module _ (marks : List Bool) (links owners : List ℕ) where
     pub first-unready : (tag : EndNeed → ℕ) → ((x o : ℕ) → tag (need.Ready x o) ≡ 0) → (tag r ≡ 1) ⊎ (tag r ≡ 2) → needs.Both d e ≡ bothNeed marks links owners a d b e
     unfolding bothNeed
     first-unready tag zeroth t =
-        unready tag zeroth r t (λ (v : EndNeed). bothReady d e v (needIn marks links owners b e)) refl refl
-        ∙ ap (λ (v : EndNeed). bothReady d e v (needIn marks links owners b e)) f
+        unready tag zeroth r t (λ (v : EndNeed). bothReady d e v (endNeedIn marks links owners b e)) refl refl
+        ∙ ap (λ (v : EndNeed). bothReady d e v (endNeedIn marks links owners b e)) f
 
-    module _ (x o : ℕ) (g : r ≡ need.Ready x o) {s : EndNeed} (h : s ≡ needIn marks links owners b e) where
+    module _ (x o : ℕ) (g : r ≡ need.Ready x o) {s : EndNeed} (h : s ≡ endNeedIn marks links owners b e) where
       by-second : (v : EndNeed) → s ≡ v → secondReady d e x o v ≡ bothNeed marks links owners a d b e
       unfolding bothNeed
       by-second v i =
           ap (secondReady d e x o) (sym i ∙ h)
-          ∙ ap (λ (u : EndNeed). bothReady d e u (needIn marks links owners b e)) (sym g ∙ f)
+          ∙ ap (λ (u : EndNeed). bothReady d e u (endNeedIn marks links owners b e)) (sym g ∙ f)
 
       pub second-unready : (tag : EndNeed → ℕ) → ((x o : ℕ) → tag (need.Ready x o) ≡ 0) → (tag s ≡ 1) ⊎ (tag s ≡ 2) → needs.Both d e ≡ bothNeed marks links owners a d b e
       second-unready tag zeroth t = unready tag zeroth s t (secondReady d e x o) refl refl ∙ by-second s refl

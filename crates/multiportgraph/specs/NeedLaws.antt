@@ -31,22 +31,22 @@ use Rattle.portgraph.specs.declared.node_entry.MaybeNodeMeta.the-variants as ma
 use Rattle.portgraph.specs.declared.lent.Counts.{Counts}
 use Rattle.multiportgraph.specs.Reading.{hasLink, isSplit, copyNode, subports, portOf}
 use Rattle.multiportgraph.specs.HiddenNodes as hiding
-use Rattle.multiportgraph.specs.Forms.{flagAt, lowestUnlinked, preparedAs}
+use Rattle.multiportgraph.specs.CodeForms.{flagAt, lowestUnlinked, preparedAs}
 use Rattle.multiportgraph.specs.Space.{Room, roomOf, Work, giveBlock, blockTaken, afterWork, afterWorks, overflows, moveWorks, splitWorks, growWorks, reuseWorks, prepareWorks}
 use Rattle.multiportgraph.specs.SpaceLaws.{overfull, overflows-at-end, after-append, overflows-append, room-is, PreparedSpace, prepare-seen-space}
 use Rattle.multiportgraph.specs.Ends.{BlockPort, block-seen, split-has-copy}
 use Rattle.multiportgraph.specs.PrepareLaws.{prepare-law, prepare-again}
 use Rattle.multiportgraph.specs.PrepareSteps.{lower-wf, lowest-same}
 use Rattle.multiportgraph.specs.LinkSteps.{others-stay}
-use Rattle.multiportgraph.specs.Reads.{farIn, ownerIn}
-use Rattle.multiportgraph.specs.ReadLaws.{mark-told, owner-read}
+use Rattle.multiportgraph.specs.TableReads.{farIn, ownerIn}
+use Rattle.multiportgraph.specs.TableReadLaws.{mark-told, owner-read}
 use Rattle.multiportgraph.specs.NamedLaws.{has-link}
 use Rattle.multiportgraph.specs.MultiLent.{multiIn}
 use Rattle.multiportgraph.specs.Needs.{copyNeed, needOf, preparedFor, sideSlot, copyNeedIn, needIn, GrowsFew, takesNothing, takesOf, nextFree, nodesLeft, headLeft, portsLeft, roomFor}
 use Rattle.multiportgraph.specs.declared.multiportgraph.MultiPortGraph.{MultiPortGraph}
 use Rattle.multiportgraph.specs.declared.multiportgraph.Refusal.the-variants.{NoRoom}
 use Rattle.multiportgraph.specs.declared.prepare.Prepared.{Prepared}
-use Rattle.multiportgraph.specs.declared.lent.Held.{Held}
+use Rattle.multiportgraph.specs.declared.lent.Totals.{Totals}
 use Rattle.multiportgraph.specs.declared.lent_needs.Need.{Need}
 use Rattle.multiportgraph.specs.declared.lent_needs.Need.the-variants as need
 use Rattle.multiportgraph.specs.declared.lent_needs.Takes.{Takes}
@@ -213,9 +213,9 @@ takes-small u f e = let s = go u f in let q = ap (λ (v : Takes). v .take) e in 
     go need.Split f = omega arith
 
 -- over lent tables
-module _ (nodes links owners heads : List ℕ) (marks flags : List Bool) (held : Held) {p : ℕ} {d : Direction} (b : OnBlock (multiIn nodes links owners heads marks flags held) p d) where
+module _ (nodes links owners heads : List ℕ) (marks flags : List Bool) (totals : Totals) {p : ℕ} {d : Direction} (b : OnBlock (multiIn nodes links owners heads marks flags totals) p d) where
   abbrev whole : MultiPortGraph
-  whole = multiIn nodes links owners heads marks flags held
+  whole = multiIn nodes links owners heads marks flags totals
 
   long : Wf (whole .graph)
   long = lower-wf whole (b .wf)
@@ -233,7 +233,7 @@ module _ (nodes links owners heads : List ℕ) (marks flags : List Bool) (held :
           ≡ cond (isSplit whole p) (copyNeed whole d (copyNode whole p) (metaAt (whole .graph) (copyNode whole p))) (cond (hasLink (whole .graph) p) need.Split (need.Ready p 0))
       go true t =
           let c = owner-read (b .wf .fine) p (b .node) d (b .is) t in
-          rw (mark-told (b .wf .fine) p, t, c) (copy-read b t (metaIn nodes (copyNode whole p)) (meta-read nodes links owners heads (held .counts) (copyNode whole p) (long .holds .nodesLong)))
+          rw (mark-told (b .wf .fine) p, t, c) (copy-read b t (metaIn nodes (copyNode whole p)) (meta-read nodes links owners heads (totals .counts) (copyNode whole p) (long .holds .nodesLong)))
       go false t = rw (mark-told (b .wf .fine) p, t, has-link (b .wf) p (b .node) d (b .is)) (plain (eqb (at links p) 0))
 
 -- What a preparation leaves.
@@ -507,19 +507,19 @@ overfull-stays r v e = go (ltb nodeSlots (r .nodeLen)) refl (ltb portSlots (r .p
     go false p false q h = absurd (zero-is-not-one (cc))
 
 -- Both ends of a link, on two ports.
-module _ (nodes links owners heads : List ℕ) (marks flags : List Bool) (held : Held) {a : ℕ} {d : Direction} {b : ℕ} {e : Direction}
-    (w : BothOnBlock (multiIn nodes links owners heads marks flags held) a d b e) (apart : a ≡ b → ⊥) where
+module _ (nodes links owners heads : List ℕ) (marks flags : List Bool) (totals : Totals) {a : ℕ} {d : Direction} {b : ℕ} {e : Direction}
+    (w : BothOnBlock (multiIn nodes links owners heads marks flags totals) a d b e) (apart : a ≡ b → ⊥) where
   abbrev m : MultiPortGraph
-  m = multiIn nodes links owners heads marks flags held
+  m = multiIn nodes links owners heads marks flags totals
 
   abbrev M : Model
   M = w .first .wf .model
 
   abbrev room : Bool
-  room = roomFor nodes links heads (held .counts) (takesOf (needOf m a d)) (takesOf (needOf m b e))
+  room = roomFor nodes links heads (totals .counts) (takesOf (needOf m a d)) (takesOf (needOf m b e))
 
   room-works : room ≡ not (overflows (roomOf M) (needWorks (needOf m a d) ++ needWorks (needOf m b e)))
-  room-works = room-said nodes links owners heads (held .counts) (w .first .wf .fine .holds) (needOf m a d) (needOf m b e)
+  room-works = room-said nodes links owners heads (totals .counts) (w .first .wf .fine .holds) (needOf m a d) (needOf m b e)
 
   first-space : (p : hiding.Prepared) → prepare m a d ≡ p → PreparedSpace M (needWorks (needOf m a d)) p
   first-space p q =

@@ -13,7 +13,7 @@ use Rattle.portgraph.specs.declared.node_entry.NodeMeta.{NodeMeta}
 use Rattle.portgraph.specs.declared.node_entry.MaybeNodeMeta.{MaybeNodeMeta}
 use Rattle.portgraph.specs.declared.node_entry.MaybeNodeMeta.the-variants as maybe-meta
 use Rattle.multiportgraph.specs.Reading.{hasLink, isHidden, isSplit, copyNode, portOf, portNumber}
-use Rattle.multiportgraph.specs.Inner.{inner#, copyPlace, Fine, Seen}
+use Rattle.multiportgraph.specs.WellFormed.{inner#, copyPlace, Fine, Seen}
 use Rattle.multiportgraph.specs.Ends.{Hangs, hangs, split-has-copy, one-copy, port-of, linked-is, unlinked-is}
 use Rattle.multiportgraph.specs.Needs.{copyNeed, needOf}
 use Rattle.multiportgraph.specs.declared.multiportgraph.MultiPortGraph.{MultiPortGraph}

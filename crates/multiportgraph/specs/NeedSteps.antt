@@ -19,8 +19,8 @@ use Rattle.portgraph.specs.declared.node_entry.NodeMeta.{NodeMeta}
 use Rattle.portgraph.specs.declared.node_entry.MaybeNodeMeta.{MaybeNodeMeta}
 use Rattle.portgraph.specs.declared.node_entry.MaybeNodeMeta.the-variants as maybe-meta
 use Rattle.portgraph.specs.declared.lent.Counts.{Counts}
-use Rattle.multiportgraph.specs.Forms.{flagAt, lowestUnlinked}
-use Rattle.multiportgraph.specs.Reads.{farIn, ownerIn}
+use Rattle.multiportgraph.specs.CodeForms.{flagAt, lowestUnlinked}
+use Rattle.multiportgraph.specs.TableReads.{farIn, ownerIn}
 use Rattle.multiportgraph.specs.Needs.{sideSlot, copyNeedIn, needIn, GrowsFew, takesNothing, takesOf, nextFree, nodesLeft, headLeft, portsLeft, roomFor}
 use Rattle.multiportgraph.specs.declared.lent_needs.Need.{Need}
 use Rattle.multiportgraph.specs.declared.lent_needs.Need.the-variants as need

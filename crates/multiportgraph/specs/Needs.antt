@@ -18,8 +18,8 @@ use Rattle.portgraph.specs.declared.node_entry.MaybeNodeMeta.the-variants as ma
 use Rattle.portgraph.specs.declared.lent.Counts.{Counts}
 use Rattle.multiportgraph.specs.Reading.{hasLink, isSplit, copyNode, portOf}
 use Rattle.multiportgraph.specs.HiddenNodes as hiding
-use Rattle.multiportgraph.specs.Forms.{flagAt, lowestUnlinked}
-use Rattle.multiportgraph.specs.Reads.{farIn, ownerIn}
+use Rattle.multiportgraph.specs.CodeForms.{flagAt, lowestUnlinked}
+use Rattle.multiportgraph.specs.TableReads.{farIn, ownerIn}
 use Rattle.multiportgraph.specs.declared.multiportgraph.MultiPortGraph.{MultiPortGraph}
 use Rattle.multiportgraph.specs.declared.lent_needs.Need.{Need}
 use Rattle.multiportgraph.specs.declared.lent_needs.Need.the-variants as need

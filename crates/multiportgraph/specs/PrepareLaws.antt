@@ -24,17 +24,17 @@ use Rattle.portgraph.specs.Model.{Model, Far, nowhere, to, Slots, live, Valid, 
 use Rattle.portgraph.specs.declared.direction.Direction.{Direction}
 use Rattle.portgraph.specs.declared.direction.Direction.the-variants.{Incoming, Outgoing}
 use Rattle.multiportgraph.specs.Reading.{isHidden, isSplit, hasLink, portOf, copyNode, subports}
-use Rattle.multiportgraph.specs.Inner.{inner#, copyPlace, Fine, Seen, lift, outer, IsEnd, WireIn}
+use Rattle.multiportgraph.specs.WellFormed.{inner#, copyPlace, Fine, Seen, lift, outer, IsEnd, WireIn}
 use Rattle.multiportgraph.specs.Ends.{Hangs, split-has-copy, one-copy, unsplit-no-copy, lift-place, port-of, count-of, linked-is, unlinked-is, outer-apart, outer-of-unsplit, outer-of-subport, outer-of-block}
 use Rattle.multiportgraph.specs.SplitLaws.{HasEnd, PreparedEnd, AllLinked, NoSpace, no-subport, PreparedSays, end-of-wire, wire-of-end, split-says}
 use Rattle.multiportgraph.specs.RecountLaws.{grow-law}
 use Rattle.multiportgraph.specs.declared.multiportgraph.MultiPortGraph.{MultiPortGraph}
 use Rattle.multiportgraph.specs.Places.{Place, Wire}
-use Rattle.multiportgraph.specs.HiddenNodes.{Prepared, ready, full, split, lowestFree, moreIn, moreOut, enough, grownBy, grow, reuse, prepare, prepareUnder, reuseUnder, growUnder}
+use Rattle.multiportgraph.specs.HiddenNodes.{Prepared, ready, full, split, lowestFree, moreIncoming, moreOutgoing, enough, grownBy, grow, reuse, prepare, prepareUnder, reuseUnder, growUnder}
 
 -- Where a hidden node cannot grow.
 
-more-ports : (k : NodeMeta) (g : PortGraph) (c : ℕ) (d : Direction) → ((e : Direction) → numPorts g c e ≡ portsOn k e) → moreIn g c d + moreOut g c d ≡ suc (k .incoming + k .outgoing)
+more-ports : (k : NodeMeta) (g : PortGraph) (c : ℕ) (d : Direction) → ((e : Direction) → numPorts g c e ≡ portsOn k e) → moreIncoming g c d + moreOutgoing g c d ≡ suc (k .incoming + k .outgoing)
 more-ports k g c Incoming n = let a = n Incoming in let b = n Outgoing in omega arith
 more-ports k g c Outgoing n = let a = n Incoming in let b = n Outgoing in omega arith
 
@@ -51,10 +51,10 @@ module _ {m : MultiPortGraph} {M : Model} (f : Fine m M) (x : model.InnerPlace) 
       (set-law (f .good) (f .holds) (h .copy) i# o# enough ∙ ap (λ v. setBy (m .graph) (h .copy) i# o# (planWhere M i# o# enough (leb (i# + o#) nodePorts) v)) (r .here))) ∙ e)
     where
       i# : ℕ
-      i# = moreIn (m .graph) (h .copy) (x .side)
+      i# = moreIncoming (m .graph) (h .copy) (x .side)
 
       o# : ℕ
-      o# = moreOut (m .graph) (h .copy) (x .side)
+      o# = moreOutgoing (m .graph) (h .copy) (x .side)
 
       Answered : Plan → Type 0
       Answered p = grownBy m (h .copy) (x .side) (setBy (m .graph) (h .copy) i# o# p .graph) (setBy (m .graph) (h .copy) i# o# p .answer) ≡ full

@@ -28,12 +28,12 @@ use Rattle.portgraph.specs.declared.slots.AddAnswer.{AddAnswer}
 use Rattle.portgraph.specs.declared.slots.AddAnswer.the-variants as lower-add
 use Rattle.portgraph.specs.declared.slots.NodeAdded.{NodeAdded}
 use Rattle.multiportgraph.specs.Reading.{hasLink, portNumber, portOf, isHidden}
-use Rattle.multiportgraph.specs.Inner.{inner#, MultiWf, subportsOfSlot}
+use Rattle.multiportgraph.specs.WellFormed.{inner#, MultiWf, subportsOfSlot}
 use Rattle.multiportgraph.specs.Ends.{port-of, count-of, linked-is, unlinked-is}
-use Rattle.multiportgraph.specs.Forms.{lowestUnlinked, preparedAs}
+use Rattle.multiportgraph.specs.CodeForms.{lowestUnlinked, preparedAs}
 use Rattle.multiportgraph.specs.declared.multiportgraph.MultiPortGraph.{MultiPortGraph}
 use Rattle.multiportgraph.specs.declared.prepare.Prepared.{Prepared}
-use Rattle.multiportgraph.specs.HiddenNodes.{copyIn, copyOut, splitBy, split, lowestFree, splitUnder}
+use Rattle.multiportgraph.specs.HiddenNodes.{copyIncoming, copyOutgoing, splitBy, split, lowestFree, splitUnder}
 use Rattle.multiportgraph.specs.Places.{flag}
 
 -- What a graph of the calls keeps small.
@@ -127,8 +127,8 @@ module _ (m : MultiPortGraph) (w : MultiWf m) (c : ℕ) (d : Direction) where
       0 (numPorts (m .graph) c d) (omega arith)
 
 -- Splitting.
-module _ (m : MultiPortGraph) (p : ℕ) (d : Direction) {i o : ℕ} {r : NodeAdded} (e₁ : i ≡ copyIn d) (e₂ : o ≡ copyOut d) (e₃ : r ≡ addNode (m .graph) i o) where
-  added-is : r ≡ addNode (m .graph) (copyIn d) (copyOut d)
+module _ (m : MultiPortGraph) (p : ℕ) (d : Direction) {i o : ℕ} {r : NodeAdded} (e₁ : i ≡ copyIncoming d) (e₂ : o ≡ copyOutgoing d) (e₃ : r ≡ addNode (m .graph) i o) where
+  added-is : r ≡ addNode (m .graph) (copyIncoming d) (copyOutgoing d)
   added-is = rw (e₃, e₁, e₂)
 
   pub split-full : (tag : AddAnswer → ℕ) → ((n : NodeIndex) (f : PortIndex) → tag (lower-add.Added n f) ≡ 0) → (tag (r .answer) ≡ 1) ⊎ (tag (r .answer) ≡ 2) →

@@ -10,7 +10,7 @@ use Rattle.portgraph.specs.declared.node_entry.MaybeNodeMeta.the-variants as ma
 use Rattle.multiportgraph.specs.Reading.{visible, seen, isSplit, copyNode, subports}
 use Rattle.multiportgraph.specs.HiddenNodes.{ready, prepare}
 use Rattle.multiportgraph.specs.Tidy.{subportsLeft}
-use Rattle.multiportgraph.specs.Inner.{MultiWf}
+use Rattle.multiportgraph.specs.WellFormed.{MultiWf}
 use Rattle.multiportgraph.specs.declared.multiportgraph.MultiPortGraph.{MultiPortGraph}
 
 -- a port of a block on this side, in a graph of the calls

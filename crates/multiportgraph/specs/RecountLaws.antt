@@ -35,16 +35,16 @@ use Rattle.portgraph.specs.declared.resize.PortsSet.{PortsSet}
 use Rattle.multiportgraph.specs.Reading.{isHidden, isSplit, copySide, portNumber, portOf}
 use Rattle.multiportgraph.specs.MarkLaws.{length-layMarks, lay-kept-in, lay-kept-out, lay-new, lay-old, lay-else}
 use Rattle.multiportgraph.specs.MarkMoves.{within-cases}
-use Rattle.multiportgraph.specs.Inner.{inner#, copyPlace, Fine, Marked, copy-port, main-port, lift, outer, IsEnd, WireIn, Seen, SameBlocks, none, SameWires, subportsOfSlot}
+use Rattle.multiportgraph.specs.WellFormed.{inner#, copyPlace, Fine, Marked, copy-port, main-port, lift, outer, IsEnd, WireIn, Seen, SameBlocks, none, SameWires, subportsOfSlot}
 use Rattle.multiportgraph.specs.Needs.{needOf}
 use Rattle.multiportgraph.specs.NeedStays.{alike-same, need-alike}
 use Rattle.multiportgraph.specs.Ends.{Hangs, other-side, side-cases, count-of, copy-valid, end-side, ends-join-ends, outer-apart}
-use Rattle.multiportgraph.specs.Frame.{copy-side-is, true-not-false}
+use Rattle.multiportgraph.specs.HiddenStays.{copy-side-is, true-not-false}
 use Rattle.multiportgraph.specs.SplitLaws.{HasEnd, KeptEnd, PreparedEnd}
 use Rattle.multiportgraph.specs.declared.multiportgraph.MultiPortGraph.{MultiPortGraph}
 use Rattle.multiportgraph.specs.Places.{Place, Wire, flag}
 use Rattle.multiportgraph.specs.Graph.{withSubports}
-use Rattle.multiportgraph.specs.HiddenNodes.{recounted, layMarks, ready, moreIn, moreOut, enough, more, grownBy, grow, growUnder}
+use Rattle.multiportgraph.specs.HiddenNodes.{recounted, layMarks, ready, moreIncoming, moreOutgoing, enough, more, grownBy, grow, growUnder}
 
 -- What the lower resize does to the model: node n has other counts and maybe another block, links of dropped places go.
 
@@ -192,11 +192,11 @@ module _ {g : PortGraph} {M : Model} (good : Good M) (holds : Holds g M) (n i o 
 
 -- Slots of a node's places.
 
-abbrev pub slotIn : Slots → Direction → ℕ → ℕ
-slotIn s d i = firstOf s + (sideStart s d + i)
+abbrev pub slotOnSide : Slots → Direction → ℕ → ℕ
+slotOnSide s d i = firstOf s + (sideStart s d + i)
 
 -- a place's slot lies among its node's ports
-pub slot-among : (k : NodeMeta) (d : Direction) (i : ℕ) → i < portsOn k d → Within (k .«first_port» .0) (k .incoming + k .outgoing) (slotIn (live k) d i)
+pub slot-among : (k : NodeMeta) (d : Direction) (i : ℕ) → i < portsOn k d → Within (k .«first_port» .0) (k .incoming + k .outgoing) (slotOnSide (live k) d i)
 slot-among k Incoming i h = ((omega arith), (omega arith))
 slot-among k Outgoing i h = ((omega arith), (omega arith))
 
@@ -204,7 +204,7 @@ pub record PlaceAt (k : NodeMeta) (s : ℕ) : Type 0 where
   pub side : Direction
   pub pos : ℕ
   pub below : pos < portsOn k side
-  pub slot : slotIn (live k) side pos ≡ s
+  pub slot : slotOnSide (live k) side pos ≡ s
 
 pub place-among : (k : NodeMeta) (s : ℕ) → Within (k .«first_port» .0) (k .incoming + k .outgoing) s → PlaceAt k s
 place-among k s h = go (ltb s (k .«first_port» .0 + k .incoming)) refl
@@ -271,7 +271,7 @@ module _ {m : MultiPortGraph} {M : Model} (f : Fine m M) {g′ : PortGraph} {M�
   mark-is s = ap (λ (l : List Bool). getD l s false) marks-moved
 
   -- a kept port of the node itself
-  kept-here : (d : Direction) (j : ℕ) → j < portsOn a d → j < portsOn b d → isSplit (recounted m n g′) (slotIn (live b) d j) ≡ isSplit m (slotIn (live a) d j)
+  kept-here : (d : Direction) (j : ℕ) → j < portsOn a d → j < portsOn b d → isSplit (recounted m n g′) (slotOnSide (live b) d j) ≡ isSplit m (slotOnSide (live a) d j)
   unfolding isSplit
   kept-here Incoming j h k =
       let p : b .«first_port» .0 + (0 + j) ≡ b .«first_port» .0 + j = omega arith in
@@ -283,7 +283,7 @@ module _ {m : MultiPortGraph} {M : Model} (f : Fine m M) {g′ : PortGraph} {M�
       mark-is _ ∙ (rw (p, q) (lay-kept-out (m .multiport) a b j (omega (arith, new-fits)) (omega arith)))
 
   -- a new port of the node itself
-  new-here : (d : Direction) (j : ℕ) → portsOn a d ≤ j → j < portsOn b d → isSplit (recounted m n g′) (slotIn (live b) d j) ≡ false
+  new-here : (d : Direction) (j : ℕ) → portsOn a d ≤ j → j < portsOn b d → isSplit (recounted m n g′) (slotOnSide (live b) d j) ≡ false
   new-here Incoming j h k = mark-is _ ∙ lay-new (m .multiport) a b _ (omega (arith, new-fits)) (omega arith) (omega arith) (λ p q. omega arith) (λ p q. omega arith)
   new-here Outgoing j h k = mark-is _ ∙ lay-new (m .multiport) a b _ (omega (arith, new-fits)) (omega arith) (omega arith) (λ p q. omega arith) (λ p q. omega arith)
 
@@ -299,16 +299,16 @@ module _ {m : MultiPortGraph} {M : Model} (f : Fine m M) {g′ : PortGraph} {M�
 
   -- places of other nodes have their slots
   pub other-slot : (x : model.InnerPlace) → (x .node ≡ n → ⊥) → slotOf (M′ .node) x ≡ slotOf (M .node) x
-  other-slot x h = ap (λ (s : Slots). slotIn s (x .side) (x .pos)) (r .others (x .node) h)
+  other-slot x h = ap (λ (s : Slots). slotOnSide s (x .side) (x .pos)) (r .others (x .node) h)
 
   pub other-count : (k : ℕ) (d : Direction) → (k ≡ n → ⊥) → countOf (M′ .node k) d ≡ countOf (M .node k) d
   other-count k d h = ap (λ (s : Slots). countOf s d) (r .others k h)
 
-  pub slot-before : (x : model.InnerPlace) → x .node ≡ n → slotOf (M .node) x ≡ slotIn (live a) (x .side) (x .pos)
-  slot-before x h = ap (λ (s : Slots). slotIn s (x .side) (x .pos)) (ap (M .node) h ∙ r .here)
+  pub slot-before : (x : model.InnerPlace) → x .node ≡ n → slotOf (M .node) x ≡ slotOnSide (live a) (x .side) (x .pos)
+  slot-before x h = ap (λ (s : Slots). slotOnSide s (x .side) (x .pos)) (ap (M .node) h ∙ r .here)
 
-  pub slot-after : (x : model.InnerPlace) → x .node ≡ n → slotOf (M′ .node) x ≡ slotIn (live b) (x .side) (x .pos)
-  slot-after x h = ap (λ (s : Slots). slotIn s (x .side) (x .pos)) (ap (M′ .node) h ∙ r .there)
+  pub slot-after : (x : model.InnerPlace) → x .node ≡ n → slotOf (M′ .node) x ≡ slotOnSide (live b) (x .side) (x .pos)
+  slot-after x h = ap (λ (s : Slots). slotOnSide s (x .side) (x .pos)) (ap (M′ .node) h ∙ r .there)
 
   pub count-before : (x : model.InnerPlace) → x .node ≡ n → countOf (M .node (x .node)) (x .side) ≡ portsOn a (x .side)
   count-before x h = ap (λ (s : Slots). countOf s (x .side)) (ap (M .node) h ∙ r .here)
@@ -325,7 +325,7 @@ module _ {m : MultiPortGraph} {M : Model} (f : Fine m M) {g′ : PortGraph} {M�
       go gone d = let z : countOf (N .node (x .node)) (x .side) ≡ 0 = ap (λ (s : Slots). countOf s (x .side)) d in omega arith
       go (live l) d =
           let c : countOf (N .node (x .node)) (x .side) ≡ portsOn l (x .side) = ap (λ (s : Slots). countOf s (x .side)) d in
-          let t : slotOf (N .node) x ≡ slotIn (live l) (x .side) (x .pos) = ap (λ (s : Slots). slotIn s (x .side) (x .pos)) d in
+          let t : slotOf (N .node) x ≡ slotOnSide (live l) (x .side) (x .pos) = ap (λ (s : Slots). slotOnSide s (x .side) (x .pos)) d in
           let w = slot-among l (x .side) (x .pos) (omega arith) in
           let w0 = w .0 in
           let w1 = w .1 in
@@ -851,14 +851,14 @@ module _ {m : MultiPortGraph} {M : Model} (f : Fine m M) (x : model.InnerPlace) 
 
 -- The call.
 
-pub more-longer : (a b : NodeMeta) (g : PortGraph) (c : ℕ) (d : Direction) → ((e : Direction) → numPorts g c e ≡ portsOn a e) → b .incoming ≡ moreIn g c d → b .outgoing ≡ moreOut g c d
+pub more-longer : (a b : NodeMeta) (g : PortGraph) (c : ℕ) (d : Direction) → ((e : Direction) → numPorts g c e ≡ portsOn a e) → b .incoming ≡ moreIncoming g c d → b .outgoing ≡ moreOutgoing g c d
     → (portsOn b d ≡ portsOn a d + 1) × (portsOn b (reversed d) ≡ portsOn a (reversed d))
 more-longer a b g c Incoming n p q = (p ∙ ap (λ (k : ℕ). k + 1) (n Incoming), q ∙ n Outgoing)
 more-longer a b g c Outgoing n p q = (q ∙ ap (λ (k : ℕ). k + 1) (n Outgoing), p ∙ n Incoming)
 
 -- the lower resize that a hidden node grows by
 abbrev pub growth# : MultiPortGraph → ℕ → Direction → PortsSet
-growth# m c d = setNumPorts (m .graph) c (moreIn (m .graph) c d) (moreOut (m .graph) c d) enough
+growth# m c d = setNumPorts (m .graph) c (moreIncoming (m .graph) c d) (moreOutgoing (m .graph) c d) enough
 
 module _ {m : MultiPortGraph} {M : Model} (f : Fine m M) (x : model.InnerPlace) (h : Hangs m M x)
     (linked : (j : ℕ) → j < countOf (M .node (h .copy)) (x .side) → (y : model.InnerPlace) × (M .join (inner# (h .copy) (x .side) j) ≡ to y)) where
@@ -867,7 +867,7 @@ module _ {m : MultiPortGraph} {M : Model} (f : Fine m M) (x : model.InnerPlace) 
   unfolding growUnder
   grow-law m′ q o = go (growth# m (h .copy) (x .side) .answer) refl
     where
-      done : SomeRecount (growth# m (h .copy) (x .side) .graph) M (h .copy) (moreIn (m .graph) (h .copy) (x .side)) (moreOut (m .graph) (h .copy) (x .side))
+      done : SomeRecount (growth# m (h .copy) (x .side) .graph) M (h .copy) (moreIncoming (m .graph) (h .copy) (x .side)) (moreOutgoing (m .graph) (h .copy) (x .side))
           → ready (grown m (h .copy) (growth# m (h .copy) (x .side) .graph)) (portOf (growth# m (h .copy) (x .side) .graph) (h .copy) (x .side) (numPorts (m .graph) (h .copy) (x .side)))
           (numPorts (m .graph) (h .copy) (x .side)) ≡ ready m′ q o
           → (M′ : Model) × PreparedEnd m M x m′ M′ q o

@@ -27,7 +27,7 @@ use Rattle.portgraph.specs.declared.node_entry.MaybeNodeMeta.the-variants as ma
 use Rattle.multiportgraph.specs.Reading.{portNumber, portOf, isHidden, isSplit, Port, dead, hidden, visible, seen, subports, endAt, subport#, linkOfEnd}
 use Rattle.multiportgraph.specs.Wires.{isBlock, portsOfSide, subportsOfPort, subportsOfSide, wireTo, wireOf, sideLinks, isBeyond}
 use Rattle.multiportgraph.specs.Walks.{between, bySides, portsOfNode, subportsOf, subportBeyond, portLinksSeen, portLinks, linkBeyond}
-use Rattle.multiportgraph.specs.Inner.{inner#, MultiWf}
+use Rattle.multiportgraph.specs.WellFormed.{inner#, MultiWf}
 use Rattle.multiportgraph.specs.Ends.{map-range, seen-block}
 use Rattle.multiportgraph.specs.Listing.{member-map, member-flatMap, member-range, filter-all, filter-none, filter-append, filter-same, filter-flatMap, flatMap-beyond, range-rises, range-member}
 use Rattle.multiportgraph.specs.declared.multiportgraph.MultiPortGraph.{MultiPortGraph}

@@ -28,12 +28,12 @@ use Rattle.portgraph.specs.declared.node_entry.MaybeNodeMeta.the-variants as ma
 use Rattle.portgraph.specs.declared.port_entry.PortMeta.{PortMeta}
 use Rattle.portgraph.specs.declared.port_entry.PortEntry.the-variants as port-variants
 use Rattle.multiportgraph.specs.Reading.{isHidden, isSplit, Port, dead, hidden, visible, seen, subports, subportAt, End, inner, lacking, endAt, subport#, linkOfEnd}
-use Rattle.multiportgraph.specs.Forms.{flagAt}
-use Rattle.multiportgraph.specs.FormSteps.{flag-is}
-use Rattle.multiportgraph.specs.Inner.{MultiWf}
+use Rattle.multiportgraph.specs.CodeForms.{flagAt}
+use Rattle.multiportgraph.specs.CodeFormSteps.{flag-is}
+use Rattle.multiportgraph.specs.WellFormed.{MultiWf}
 use Rattle.multiportgraph.specs.Ends.{block-seen}
-use Rattle.multiportgraph.specs.Reads.{farIn, countBeside, firstBeside, endBeside, firstIn, endIn, wireIn}
-use Rattle.multiportgraph.specs.ReadLaws.{seen-read, subports-read, end-read-off, wire-read, end-is-port}
+use Rattle.multiportgraph.specs.TableReads.{farIn, countBeside, firstBeside, endBeside, firstIn, endIn, wireIn}
+use Rattle.multiportgraph.specs.TableReadLaws.{seen-read, subports-read, end-read-off, wire-read, end-is-port}
 use Rattle.multiportgraph.specs.Wires.{isBlock, blocks, wireTo, wireOf, sideLinks, allWires, isBeyond, wiresBeyond}
 use Rattle.multiportgraph.specs.Walks.{bySides, portLinksSeen, portLinks, linkBeyond}
 use Rattle.multiportgraph.specs.Listing.{member-range, member-filter, filter-append}

@@ -27,9 +27,9 @@ use Rattle.portgraph.specs.LookupSteps.{port-read}
 use Rattle.portgraph.specs.Meaning.{sameSide}
 use Rattle.portgraph.specs.declared.index.NodeIndex.{NodeIndex}
 use Rattle.multiportgraph.specs.Reading.{nodeNumber, Port, visible, subport#}
-use Rattle.multiportgraph.specs.Forms.{flagAt, seenAs}
-use Rattle.multiportgraph.specs.Reads.{ownerIn, farIn, seenIn, ownsUp, ownsDown, runUp, runDown, countBeside, subportsIn, firstIn, subportIn, placeIn, farPlaceIn, wireIn, wireEndIn}
-use Rattle.multiportgraph.specs.ReadSteps.{run-bound}
+use Rattle.multiportgraph.specs.CodeForms.{flagAt, seenAs}
+use Rattle.multiportgraph.specs.TableReads.{ownerIn, farIn, seenIn, ownsUp, ownsDown, runUp, runDown, countBeside, subportsIn, firstIn, subportIn, placeIn, farPlaceIn, wireIn, wireEndIn}
+use Rattle.multiportgraph.specs.TableReadSteps.{run-bound}
 use Rattle.multiportgraph.specs.Wires.{wireTo}
 use Rattle.multiportgraph.specs.Listing.{filter-append}
 use Rattle.multiportgraph.specs.Scans.{firstFound, linkPort, spanFirst, spanCount, notOwnOutput, passesIn, linksIn, portLinksBy, portLinksIn, linksRest, beyondIn, blockLinksIn, wiresIn}

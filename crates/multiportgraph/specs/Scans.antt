@@ -17,8 +17,8 @@ use Rattle.portgraph.specs.declared.node_entry.NodeEntry.{NodeEntry}
 use Rattle.portgraph.specs.declared.node_entry.NodeEntry.the-variants as node-variants
 use Rattle.portgraph.specs.declared.node_entry.NodeSlot.{NodeSlot}
 use Rattle.multiportgraph.specs.Reading.{Port, dead, hidden, visible, subport#}
-use Rattle.multiportgraph.specs.Forms.{flagAt, seenAs}
-use Rattle.multiportgraph.specs.Reads.{ownerIn, seenIn, subportsIn, firstIn, wireIn}
+use Rattle.multiportgraph.specs.CodeForms.{flagAt, seenAs}
+use Rattle.multiportgraph.specs.TableReads.{ownerIn, seenIn, subportsIn, firstIn, wireIn}
 use Rattle.multiportgraph.specs.Wires.{wireTo}
 use Rattle.multiportgraph.specs.declared.multiportgraph.SubportLink.{SubportLink}
 use Rattle.multiportgraph.specs.declared.ends.SeenPort.{SeenPort}

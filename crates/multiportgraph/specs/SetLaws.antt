@@ -35,10 +35,10 @@ use Rattle.portgraph.specs.declared.resize.SetAnswer as lower-set-answer
 use Rattle.portgraph.specs.declared.resize.SetAnswer.the-variants as lower-set
 use Rattle.multiportgraph.specs.Reading.{isHidden, isSplit, copySide, copyNode, portNumber, portOf, subports}
 use Rattle.multiportgraph.specs.Calls.{setAs, setCounts, setCountsUnder}
-use Rattle.multiportgraph.specs.Inner.{inner#, copyPlace, Fine, Marked, copy-port, main-port, BlockIs, Seen, outer, IsEnd, Wiring, subportsOfSlot}
+use Rattle.multiportgraph.specs.WellFormed.{inner#, copyPlace, Fine, Marked, copy-port, main-port, BlockIs, Seen, outer, IsEnd, Wiring, subportsOfSlot}
 use Rattle.multiportgraph.specs.Ends.{Hangs, hangs, one-copy, split-has-copy, copy-valid, main-seen, outer-of-subport, outer-of-block}
-use Rattle.multiportgraph.specs.Frame.{copy-side-is, true-not-false}
-use Rattle.multiportgraph.specs.RecountLaws.{Recount, SomeRecount, set-recounts, below-stays, stays-below, count-new, slotIn, PlaceAt, place-among, number-cases, WasMarked, Shape, recount-marks, marked-was, marks-long, other-count, count-after, both-sides}
+use Rattle.multiportgraph.specs.HiddenStays.{copy-side-is, true-not-false}
+use Rattle.multiportgraph.specs.RecountLaws.{Recount, SomeRecount, set-recounts, below-stays, stays-below, count-new, slotOnSide, PlaceAt, place-among, number-cases, WasMarked, Shape, recount-marks, marked-was, marks-long, other-count, count-after, both-sides}
 use Rattle.multiportgraph.specs.declared.multiportgraph.MultiPortGraph.{MultiPortGraph}
 use Rattle.multiportgraph.specs.declared.multiportgraph.PortsSet.{PortsSet}
 use Rattle.multiportgraph.specs.declared.multiportgraph.Refusal.{Refusal}
@@ -152,7 +152,7 @@ module _ {m : MultiPortGraph} {M : Model} (f : Fine m M) (n : ℕ) (a : NodeMeta
   hung-at t p e =
       let x = inner# n (p .side) (p .pos) in
       let v : Valid (M .node) x = subst (λ (s : Slots). p .pos < countOf s (p .side)) (sym here) (p .below) in
-      let q : slotOf (M .node) x ≡ t = ap (λ (s : Slots). slotIn s (p .side) (p .pos)) here ∙ p .slot in
+      let q : slotOf (M .node) x ≡ t = ap (λ (s : Slots). slotOnSide s (p .side) (p .pos)) here ∙ p .slot in
       let h = split-has-copy f x (v, shown) (ap (isSplit m) q ∙ e) in
       let k : h .copy ≡ copyNode m t = sym (h .copyIs) ∙ ap (copyNode m) q in
       (ap (isHidden m) (sym k) ∙ h .isCopy, ap (λ (c : ℕ). M .join (copyPlace m c)) (sym k) ∙ h .from)
@@ -166,14 +166,14 @@ module _ {m : MultiPortGraph} {M : Model} (f : Fine m M) (n : ℕ) (a : NodeMeta
       let k = hung-at t r d .1 in
       let w : M .join (copyPlace m (copyNode m s)) ≡ M .join (copyPlace m (copyNode m t)) = ap (λ (c : ℕ). M .join (copyPlace m c)) q in
       let same : inner# n (p .side) (p .pos) ≡ inner# n (r .side) (r .pos) = cc in
-      sym (p .slot) ∙ ap (λ (y : model.InnerPlace). slotIn (live a) (y .side) (y .pos)) same ∙ r .slot
+      sym (p .slot) ∙ ap (λ (y : model.InnerPlace). slotOnSide (live a) (y .side) (y .pos)) same ∙ r .slot
 
   module _ (i o : ℕ) where
     dropped-has : (c : ℕ) → Member c (copiesDropped m a i o) → DroppedMain m M n i o c
     unfolding copiesDropped
     dropped-has c h = ⊎-elim ins outs (in-append c (droppedIns m a i) (droppedOuts m a o) h)
       where
-        found : (d : Direction) (j t : ℕ) → j < portsOn a d → slotIn (live a) d j ≡ t → newCount i o d ≤ j → isSplit m t ≡ true → copyNode m t ≡ c → DroppedMain m M n i o c
+        found : (d : Direction) (j t : ℕ) → j < portsOn a d → slotOnSide (live a) d j ≡ t → newCount i o d ≤ j → isSplit m t ≡ true → copyNode m t ≡ c → DroppedMain m M n i o c
         found d j t l q b e k =
             let u = hung-at t (record { side = d; pos = j; below = l; slot = q }) e in
             record {
@@ -211,9 +211,9 @@ module _ {m : MultiPortGraph} {M : Model} (f : Fine m M) (n : ℕ) (a : NodeMeta
         beyond-by : (d : Direction) → t .main .side ≡ d → newCount i o d ≤ t .main .pos
         beyond-by d e = subst (λ (k : Direction). newCount i o k ≤ t .main .pos) e (t .dropped)
 
-        slot-by : (d : Direction) → t .main .side ≡ d → slotOf (M .node) (t .main) ≡ slotIn (live a) d (t .main .pos)
+        slot-by : (d : Direction) → t .main .side ≡ d → slotOf (M .node) (t .main) ≡ slotOnSide (live a) d (t .main .pos)
         slot-by d e =
-            ap (λ (s : Slots). slotIn s (t .main .side) (t .main .pos)) (ap (M .node) (t .node) ∙ here) ∙ ap (λ (k : Direction). slotIn (live a) k (t .main .pos)) e
+            ap (λ (s : Slots). slotOnSide s (t .main .side) (t .main .pos)) (ap (M .node) (t .node) ∙ here) ∙ ap (λ (k : Direction). slotOnSide (live a) k (t .main .pos)) e
 
         marked : isSplit m (slotOf (M .node) (t .main)) ≡ true
         marked = f .mainMarked c (t .main) (t .isCopy) (t .joined)
@@ -338,7 +338,7 @@ module _ {m : MultiPortGraph} {M : Model} (c : ℕ) (cs : List ℕ) (l : Loose m
   lone-other k h = upd-other (M .node) c gone k h
 
   lone-slot : (x : model.InnerPlace) → (x .node ≡ c → ⊥) → slotOf (lone .node) x ≡ slotOf (M .node) x
-  lone-slot x h = ap (λ (s : Slots). slotIn s (x .side) (x .pos)) (lone-other (x .node) h)
+  lone-slot x h = ap (λ (s : Slots). slotOnSide s (x .side) (x .pos)) (lone-other (x .node) h)
 
   -- hidden nodes
   lone-hidden : (k : ℕ) → (k ≡ c → ⊥) → isHidden (removeLone m c) k ≡ isHidden m k

@@ -50,14 +50,14 @@ use Rattle.portgraph.specs.declared.resize.SetAnswer.the-variants as lower-set
 use Rattle.portgraph.specs.declared.slots.AddAnswer as lower-add-answer
 use Rattle.portgraph.specs.declared.slots.AddAnswer.the-variants as lower-add
 use Rattle.multiportgraph.specs.Calls.{dropBlock, removeBlock, addedAs, addBlock, setAs, setCounts, cutPlain, cutPort, cutSub, linkSub, linkSubIf, setCountsUnder, addBlockUnder, linkPair, linkPairIf, linkClean, linkCleanIf, tidyPort}
-use Rattle.multiportgraph.specs.Inner.{inner#, copyPlace, Fine, Seen, BlockIs, SameBlocks}
+use Rattle.multiportgraph.specs.WellFormed.{inner#, copyPlace, Fine, Seen, BlockIs, SameBlocks}
 use Rattle.multiportgraph.specs.Reading.{ownerOf, copySide, hasLink, portOf, isHidden, isSplit, Port, dead, hidden, visible, seen, copyNode, subports, subport#, End, inner, lacking, endAt, asRead, standing, farSubport, farPort, subportAt}
 use Rattle.multiportgraph.specs.Ends.{Hangs, split-has-copy, block-seen, seen-block, copy-valid, port-of, far-of, owner-of, BlockPort, seen-still}
 use Rattle.multiportgraph.specs.CopyLaws.{copy-goes, unsplit-split, unsplit-whole}
 use Rattle.multiportgraph.specs.PrepareLaws.{prepare-law}
-use Rattle.multiportgraph.specs.Tidy.{subportsLeft, leftIn, leftOut, dropSubports, linkDirectly, tidied}
+use Rattle.multiportgraph.specs.Tidy.{subportsLeft, leftIncoming, leftOutgoing, dropSubports, linkDirectly, tidied}
 use Rattle.multiportgraph.specs.TidyLaws.{DropWithin, no-change, in-block, left-within}
-use Rattle.multiportgraph.specs.RecountLaws.{Recount, SomeRecount, set-recounts, slotIn, place-among}
+use Rattle.multiportgraph.specs.RecountLaws.{Recount, SomeRecount, set-recounts, slotOnSide, place-among}
 use Rattle.multiportgraph.specs.SetLaws.{resize-loosens}
 use Rattle.multiportgraph.specs.Space.{Room, roomOf, Work, tidyWorks, tidySeenWorks, takeNode, takeBlock, giveNode, giveBlock, blockTaken, afterWork, afterWorks, onTheWay, nodesPast, portsPast, nodesShort, portsShort, overflows, addWorks, goneWorks, splitWorks, moveWorks, recountWorks, growWorks, reuseWorks, prepareWorks, secondWorks, linkSeenWorks, linkWorks, linkCleanSeenWorks, linkCleanWorks, copiesGone, setMetaWorks, setWorks, cutWorks, cutSeenWorks, removeWorks, removeMetaWorks, toldWorks}
 use Rattle.multiportgraph.specs.declared.multiportgraph.MultiPortGraph.{MultiPortGraph}
@@ -78,7 +78,7 @@ use Rattle.multiportgraph.specs.declared.multiportgraph.LinkAnswer.the-v
 use Rattle.multiportgraph.specs.declared.named.NamedPair.{NamedPair}
 use Rattle.multiportgraph.specs.declared.named.NamedPair.the-variants as pair
 use Rattle.multiportgraph.specs.declared.multiportgraph.AddAnswer.the-variants as add
-use Rattle.multiportgraph.specs.HiddenNodes.{unsplitRange, copiesIn, recounted, Prepared, ready, full, copyIn, copyOut, split, splitBy, splitPort, splitGraph, lowestFree, moreIn, moreOut, enough, grow, grownBy, reuse, prepare, removeCopy, removeLone, removeAll, copiesDropped, unsplit, splitUnder, growUnder, prepareUnder, reuseUnder}
+use Rattle.multiportgraph.specs.HiddenNodes.{unsplitRange, copiesIn, recounted, Prepared, ready, full, copyIncoming, copyOutgoing, split, splitBy, splitPort, splitGraph, lowestFree, moreIncoming, moreOutgoing, enough, grow, grownBy, reuse, prepare, removeCopy, removeLone, removeAll, copiesDropped, unsplit, splitUnder, growUnder, prepareUnder, reuseUnder}
 use Rattle.multiportgraph.specs.Cases.{removeRefused, removeMeta, linkFirst, linkSecond, linkSeen, linkRefused, setRefused, resized, setMeta, cutSeen, cutRefused, cutEnd, cutSubSeen, linkInner, linkSecondEnd, linkFirstEnd, linkSubSeen, linkLive, pairSeen, linkCleanBy, takenSeen, takenSecond, takenFirst, takenSubSeen, tidySeen}
 use Rattle.multiportgraph.specs.Graph.{withGraph}
 use Rattle.multiportgraph.specs.Refusals.{goodOffset, inputTaken}
@@ -340,17 +340,17 @@ pub split-space : {m : MultiPortGraph} {M : Model} → Fine m M → (p : ℕ) (d
 unfolding splitUnder splitPort splitGraph
 split-space {m} {M} f p d =
     subst (λ (l : List Work). PreparedSpace M l (split m p d)) (three d)
-    (go (addNode (m .graph) (copyIn d) (copyOut d) .graph) (addNode (m .graph) (copyIn d) (copyOut d) .answer) (add-node-space (f .good) (f .holds) (copyIn d) (copyOut d) (small d)))
+    (go (addNode (m .graph) (copyIncoming d) (copyOutgoing d) .graph) (addNode (m .graph) (copyIncoming d) (copyOutgoing d) .answer) (add-node-space (f .good) (f .holds) (copyIncoming d) (copyOutgoing d) (small d)))
   where
-    three : (d : Direction) → addWorks (copyIn d) (copyOut d) ≡ splitWorks
+    three : (d : Direction) → addWorks (copyIncoming d) (copyOutgoing d) ≡ splitWorks
     three Incoming = refl
     three Outgoing = refl
 
-    small : (d : Direction) → copyIn d + copyOut d ≤ nodePorts
+    small : (d : Direction) → copyIncoming d + copyOutgoing d ≤ nodePorts
     small Incoming = omega arith
     small Outgoing = omega arith
 
-    go : (g : PortGraph) (a : lower-add-answer.AddAnswer) → AddSpace (m .graph) g M (addWorks (copyIn d) (copyOut d)) a → PreparedSpace M (addWorks (copyIn d) (copyOut d)) (splitBy m p d g a)
+    go : (g : PortGraph) (a : lower-add-answer.AddAnswer) → AddSpace (m .graph) g M (addWorks (copyIncoming d) (copyOutgoing d)) a → PreparedSpace M (addWorks (copyIncoming d) (copyOutgoing d)) (splitBy m p d g a)
     go g (lower-add.Added c first) s = (s .0, link-keeps-room (link-keeps-room (unlink-keeps-room (s .1) p) p _) _ _)
     go g lower-add.TooManyPorts s = absurd s
     go g lower-add.NoRoom s = s .0
@@ -447,12 +447,12 @@ module _ {m : MultiPortGraph} {M : Model} (f : Fine m M) where
   unfolding growUnder recounted
   grow-space c k d here x valid apart =
       subst (λ (v : MaybeNodeMeta). PreparedSpace M (growWorks v) (grow m c d)) (sym meta-is)
-      (few (leb (moreIn (m .graph) c d + moreOut (m .graph) c d) nodePorts) refl)
+      (few (leb (moreIncoming (m .graph) c d + moreOutgoing (m .graph) c d) nodePorts) refl)
     where
       meta-is : metaAt (m .graph) c ≡ maybe-meta.Some k
       meta-is = meta-of-node (f .good) (f .holds) c k here
 
-      one-more : (d : Direction) → moreIn (m .graph) c d + moreOut (m .graph) c d ≡ k .incoming + k .outgoing + 1
+      one-more : (d : Direction) → moreIncoming (m .graph) c d + moreOutgoing (m .graph) c d ≡ k .incoming + k .outgoing + 1
       one-more Incoming = rw meta-is (omega arith)
       one-more Outgoing = rw meta-is (omega arith)
 
@@ -463,21 +463,21 @@ module _ {m : MultiPortGraph} {M : Model} (f : Fine m M) where
       said g lower-set.MovesTooShort s = absurd s
       said g lower-set.NoRoom s = s
 
-      few : (b : Bool) → leb (moreIn (m .graph) c d + moreOut (m .graph) c d) nodePorts ≡ b → PreparedSpace M (growWorks (maybe-meta.Some k)) (grow m c d)
+      few : (b : Bool) → leb (moreIncoming (m .graph) c d + moreOutgoing (m .graph) c d) nodePorts ≡ b → PreparedSpace M (growWorks (maybe-meta.Some k)) (grow m c d)
       few true e =
           let one = one-more d in
-          let short = leb-true (moreIn (m .graph) c d + moreOut (m .graph) c d) nodePorts e in
+          let short = leb-true (moreIncoming (m .graph) c d + moreOutgoing (m .graph) c d) nodePorts e in
           let told : 3 * (k .incoming + k .outgoing) ≤ enough = omega arith in
-          said (setNumPorts (m .graph) c (moreIn (m .graph) c d) (moreOut (m .graph) c d) enough .graph)
-          (setNumPorts (m .graph) c (moreIn (m .graph) c d) (moreOut (m .graph) c d) enough .answer)
-          (subst (λ (l : List Work). SetSpace (setNumPorts (m .graph) c (moreIn (m .graph) c d) (moreOut (m .graph) c d) enough .graph) M l
-          (setNumPorts (m .graph) c (moreIn (m .graph) c d) (moreOut (m .graph) c d) enough .answer)) (grow-works k (moreIn (m .graph) c d) (moreOut (m .graph) c d) one)
-          (set-space (f .good) (f .holds) c k here (moreIn (m .graph) c d) (moreOut (m .graph) c d) enough short told))
+          said (setNumPorts (m .graph) c (moreIncoming (m .graph) c d) (moreOutgoing (m .graph) c d) enough .graph)
+          (setNumPorts (m .graph) c (moreIncoming (m .graph) c d) (moreOutgoing (m .graph) c d) enough .answer)
+          (subst (λ (l : List Work). SetSpace (setNumPorts (m .graph) c (moreIncoming (m .graph) c d) (moreOutgoing (m .graph) c d) enough .graph) M l
+          (setNumPorts (m .graph) c (moreIncoming (m .graph) c d) (moreOutgoing (m .graph) c d) enough .answer)) (grow-works k (moreIncoming (m .graph) c d) (moreOutgoing (m .graph) c d) one)
+          (set-space (f .good) (f .holds) c k here (moreIncoming (m .graph) c d) (moreOutgoing (m .graph) c d) enough short told))
       few false e =
           let one = one-more d in
-          let long : nodePorts < moreIn (m .graph) c d + moreOut (m .graph) c d = leb-false (moreIn (m .graph) c d + moreOut (m .graph) c d) nodePorts e in
+          let long : nodePorts < moreIncoming (m .graph) c d + moreOutgoing (m .graph) c d = leb-false (moreIncoming (m .graph) c d + moreOutgoing (m .graph) c d) nodePorts e in
           subst (λ (v : lower-set-done.PortsSet). PreparedSpace M (growWorks (maybe-meta.Some k)) (grownBy m c d (v .graph) (v .answer)))
-          (sym (set-too-many (f .good) (f .holds) c (moreIn (m .graph) c d) (moreOut (m .graph) c d) enough long))
+          (sym (set-too-many (f .good) (f .holds) c (moreIncoming (m .graph) c d) (moreOutgoing (m .graph) c d) enough long))
           (grown-beyond (f .good) c k here x valid apart (omega arith))
 
   nothing-taken : (q o : ℕ) → PreparedSpace M [] (ready m q o)
@@ -807,16 +807,16 @@ module _ {m : MultiPortGraph} {M : Model} (f : Fine m M) where
       offset false = no-work f (λ e. zero-is-not-one (cc)) (own-room f)
 
   -- tidying takes nothing: a node that is left with fewer subports keeps its block
-  drop-keeps-room : (c : ℕ) (k : NodeMeta) → M .node c ≡ live k → (d : Direction) (n : ℕ) → DropWithin (m .graph) c k (leftIn d n) (leftOut d n) → HasRoom (dropSubports m c d n .graph) (roomOf M)
+  drop-keeps-room : (c : ℕ) (k : NodeMeta) → M .node c ≡ live k → (d : Direction) (n : ℕ) → DropWithin (m .graph) c k (leftIncoming d n) (leftOutgoing d n) → HasRoom (dropSubports m c d n .graph) (roomOf M)
   unfolding dropSubports recounted
   drop-keeps-room c k here d n (no-change e w) =
       subst (λ (v : PortGraph). HasRoom v (roomOf M)) (sym w) (record { model = M; good = f .good; holds = f .holds; is = refl })
   drop-keeps-room c k here d n (in-block some few e w) =
       subst (λ (v : PortGraph). HasRoom v (roomOf M)) (sym w)
       (record {
-        model = resizeModel M c k (leftIn d n) (leftOut d n);
-        good = good-resize (f .good) c k here (leftIn d n) (leftOut d n) (omega arith);
-        holds = inside-holds (f .good) (f .holds) c k here (leftIn d n) (leftOut d n) (omega arith);
+        model = resizeModel M c k (leftIncoming d n) (leftOutgoing d n);
+        good = good-resize (f .good) c k here (leftIncoming d n) (leftOutgoing d n) (omega arith);
+        holds = inside-holds (f .good) (f .holds) c k here (leftIncoming d n) (leftOutgoing d n) (omega arith);
         is = refl;
       })
 
@@ -999,7 +999,7 @@ module _ {m : MultiPortGraph} {M : Model} (f : Fine m M) (n : ℕ) (k : NodeMeta
         inner# n (a .side) (a .pos),
         refl,
         (subst (λ (v : Slots). a .pos < countOf v (a .side)) (sym (block .1)) (a .below), block .0),
-        ap (λ (v : Slots). slotIn v (a .side) (a .pos)) (block .1) ∙ a .slot,
+        ap (λ (v : Slots). slotOnSide v (a .side) (a .pos)) (block .1) ∙ a .slot,
       )
 
   module _ (x : model.InnerPlace) (at-n : x .node ≡ n) (sx : Seen m M x) (h : Hangs m M x) where
@@ -1041,8 +1041,8 @@ module _ {m : MultiPortGraph} {M : Model} (f : Fine m M) (n : ℕ) (k : NodeMeta
       copy-after y sy apart,
     )
 
-  copy-out : (p : ℕ) → Within (k .«first_port» .0) (k .incoming + k .outgoing) p → isSplit m p ≡ true → CopyOut m n k p (removeCopy m p (copyNode m p))
-  copy-out p w e =
+  copy-outgoing : (p : ℕ) → Within (k .«first_port» .0) (k .incoming + k .outgoing) p → isSplit m p ≡ true → CopyOut m n k p (removeCopy m p (copyNode m p))
+  copy-outgoing p w e =
       let a = place-here p w in
       let x = a .0 in
       let h = split-has-copy f x (a .2) (ap (isSplit m) (a .3) ∙ e) in
@@ -1121,7 +1121,7 @@ range-step j ih m M f n k block p low high r h = go (isSplit m p) refl
         subst (λ (v : MultiPortGraph). RangeSays v n k (copiesGone m (copiesIn m p (suc j))) r)
         (ap (λ (v : MultiPortGraph). unsplitRange v (suc p) j) (sym (unsplit-split m p e)) ∙ sym (range-next m p j))
         (subst (λ (l : List Work). RangeSays (unsplitRange (removeCopy m p (copyNode m p)) (suc p) j) n k l r) (sym (copies-with m p j e))
-        (range-split j ih m (removeCopy m p (copyNode m p)) n k p low high (copy-out f n k block p (low, omega arith) e) r
+        (range-split j ih m (removeCopy m p (copyNode m p)) n k p low high (copy-outgoing f n k block p (low, omega arith) e) r
         (goneWorks (copyNode m p) (metaAt (m .graph) (copyNode m p))) (copy-gone-room m p (copyNode m p) h)))
     go false e =
         subst (λ (v : MultiPortGraph). RangeSays v n k (copiesGone m (copiesIn m p (suc j))) r)

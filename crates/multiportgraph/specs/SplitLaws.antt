@@ -38,13 +38,13 @@ use Rattle.portgraph.specs.declared.direction.Direction.the-variants.{Incoming,
 use Rattle.multiportgraph.specs.Reading.{isHidden, isSplit, copySide, portOf, portNumber, farPort, linkNumber}
 use Rattle.multiportgraph.specs.Needs.{needOf}
 use Rattle.multiportgraph.specs.NeedStays.{Alike, alike-same, alike-linked, need-alike}
-use Rattle.multiportgraph.specs.Reads.{farIn, hangOn, copyAt, subportsAt}
-use Rattle.multiportgraph.specs.Inner.{inner#, copyPlace, Copy, Marked, copy-port, main-port, Fine, Seen, lift, liftFar, outer, IsEnd, WireIn, SameBlocks, none, SameWires, subportsOfSlot}
+use Rattle.multiportgraph.specs.TableReads.{farIn, hangOn, copyAt, subportsAt}
+use Rattle.multiportgraph.specs.WellFormed.{inner#, copyPlace, Copy, Marked, copy-port, main-port, Fine, Seen, lift, liftFar, outer, IsEnd, WireIn, SameBlocks, none, SameWires, subportsOfSlot}
 use Rattle.multiportgraph.specs.Ends.{ends-join-ends, unsplit-no-copy, outer-of-subport, outer-of-block}
-use Rattle.multiportgraph.specs.Frame.{same-wire}
+use Rattle.multiportgraph.specs.HiddenStays.{same-wire}
 use Rattle.multiportgraph.specs.declared.multiportgraph.MultiPortGraph.{MultiPortGraph}
 use Rattle.multiportgraph.specs.Places.{Place, Wire, flag}
-use Rattle.multiportgraph.specs.HiddenNodes.{copyIn, copyOut, Prepared, ready, full, split, splitBy, splitPort, splitGraph, splitUnder}
+use Rattle.multiportgraph.specs.HiddenNodes.{copyIncoming, copyOutgoing, Prepared, ready, full, split, splitBy, splitPort, splitGraph, splitUnder}
 
 -- a wire has an end at a place
 abbrev pub HasEnd : Wire → Place → Type 0
@@ -171,8 +171,8 @@ record Divided (m : MultiPortGraph) (M : Model) (x y : model.InnerPlace) (m′ :
   below : c < nodeSlots
   k : NodeMeta
   here : M′ .node c ≡ live k
-  ins : k .incoming ≡ copyIn (x .side)
-  outs : k .outgoing ≡ copyOut (x .side)
+  ins : k .incoming ≡ copyIncoming (x .side)
+  outs : k .outgoing ≡ copyOutgoing (x .side)
   node : (n : ℕ) → (n ≡ c → ⊥) → M′ .node n ≡ M .node n
   atPort : M′ .join x ≡ to (inner# c (reversed (x .side)) 0)
   atCopy : M′ .join (inner# c (reversed (x .side)) 0) ≡ to x
@@ -188,11 +188,11 @@ record Divided (m : MultiPortGraph) (M : Model) (x y : model.InnerPlace) (m′ :
   copies : m′ .«copy_node_count» ≡ m .«copy_node_count» + 1
   subs : m′ .«subport_count» ≡ m .«subport_count» + 2
 
-two-subports : (d : Direction) (k : NodeMeta) → k .incoming ≡ copyIn d → k .outgoing ≡ copyOut d → portsOn k d ≡ 2
+two-subports : (d : Direction) (k : NodeMeta) → k .incoming ≡ copyIncoming d → k .outgoing ≡ copyOutgoing d → portsOn k d ≡ 2
 two-subports Incoming k i o = i
 two-subports Outgoing k i o = o
 
-one-copy-port : (d : Direction) (k : NodeMeta) → k .incoming ≡ copyIn d → k .outgoing ≡ copyOut d → portsOn k (reversed d) ≡ 1
+one-copy-port : (d : Direction) (k : NodeMeta) → k .incoming ≡ copyIncoming d → k .outgoing ≡ copyOutgoing d → portsOn k (reversed d) ≡ 1
 one-copy-port Incoming k i o = o
 one-copy-port Outgoing k i o = i
 
@@ -200,11 +200,11 @@ twice-reversed : (d : Direction) → reversed (reversed d) ≡ d
 twice-reversed Incoming = refl
 twice-reversed Outgoing = refl
 
-copy-side-apart : (d : Direction) (mark : Bool) → sideBy (copyIn d) (copyOut d) mark ≡ reversed d
+copy-side-apart : (d : Direction) (mark : Bool) → sideBy (copyIncoming d) (copyOutgoing d) mark ≡ reversed d
 copy-side-apart Incoming mark = refl
 copy-side-apart Outgoing mark = refl
 
-three-ports : (d : Direction) → copyIn d + copyOut d ≡ 3
+three-ports : (d : Direction) → copyIncoming d + copyOutgoing d ≡ 3
 three-ports Incoming = refl
 three-ports Outgoing = refl
 
@@ -652,7 +652,9 @@ pub record SplitTables (p : ℕ) (d : Direction) (g : PortGraph) (c first : ℕ)
   pub graph : splitGraph g p d c
       ≡ withLinks g (hangOn (g .«port_link») p (first + copyAt d) (first + subportsAt d)) (g .«link_count» - linkCount (at (g .«port_link») p) + 2)
   pub copy : portOf g c (reversed d) 0 ≡ first + copyAt d
+  pub old : portOf g c d 0 ≡ first + subportsAt d
   pub new : portOf g c d 1 ≡ first + subportsAt d + 1
+  pub far : farPort g p ≡ farIn (g .«port_link») p
   pub fits : first + 3 ≤ portSlots
 
 -- The lower graph's steps.
@@ -676,20 +678,20 @@ abbrev linked-to : ℕ → ℕ → PortGraph → PortGraph
 linked-to a b g = withLinks g (linkBoth (g .«port_link») a b) (g .«link_count» + 1)
 
 module _ {m : MultiPortGraph} {M : Model} (f : Fine m M) (x y : model.InnerPlace) (sx : Seen m M x) (linked : M .join x ≡ to y)
-    (small : copyIn (x .side) + copyOut (x .side) ≤ nodePorts)
+    (small : copyIncoming (x .side) + copyOutgoing (x .side) ≤ nodePorts)
     (nodeRoom : M .nodeLen + growth 1 (M .freeNodes) ≤ nodeSlots)
-    (portRoom : M .portLen + growth (copyIn (x .side) + copyOut (x .side)) (M .freeBlocks (copyIn (x .side) + copyOut (x .side))) ≤ portSlots) where
+    (portRoom : M .portLen + growth (copyIncoming (x .side) + copyOutgoing (x .side)) (M .freeBlocks (copyIncoming (x .side) + copyOutgoing (x .side))) ≤ portSlots) where
   abbrev c# : ℕ
   c# = nextSlot M
 
   abbrev new# : NodeMeta
-  new# = metaOf (nextBlock M (copyIn (x .side) + copyOut (x .side))) (copyIn (x .side)) (copyOut (x .side)) (copyIn (x .side) + copyOut (x .side))
+  new# = metaOf (nextBlock M (copyIncoming (x .side) + copyOutgoing (x .side))) (copyIncoming (x .side)) (copyOutgoing (x .side)) (copyIncoming (x .side) + copyOutgoing (x .side))
 
   abbrev g₁ : PortGraph
-  g₁ = placeNode (m .graph) c# (nextBlock M (copyIn (x .side) + copyOut (x .side))) (copyIn (x .side)) (copyOut (x .side))
+  g₁ = placeNode (m .graph) c# (nextBlock M (copyIncoming (x .side) + copyOutgoing (x .side))) (copyIncoming (x .side)) (copyOutgoing (x .side))
 
   abbrev M₁ : Model
-  M₁ = addModel M (copyIn (x .side)) (copyOut (x .side))
+  M₁ = addModel M (copyIncoming (x .side)) (copyOutgoing (x .side))
 
   abbrev cp : model.InnerPlace
   cp = inner# c# (reversed (x .side)) 0
@@ -707,10 +709,10 @@ module _ {m : MultiPortGraph} {M : Model} (f : Fine m M) (x y : model.InnerPlace
   M₄ = linkModel M₃ (sp 0) y
 
   good₁ : Good M₁
-  good₁ = good-add (f .good) (copyIn (x .side)) (copyOut (x .side)) small nodeRoom portRoom
+  good₁ = good-add (f .good) (copyIncoming (x .side)) (copyOutgoing (x .side)) small nodeRoom portRoom
 
   holds₁ : Holds g₁ M₁
-  holds₁ = place-holds (f .good) (f .holds) (copyIn (x .side)) (copyOut (x .side)) small nodeRoom portRoom
+  holds₁ = place-holds (f .good) (f .holds) (copyIncoming (x .side)) (copyOutgoing (x .side)) small nodeRoom portRoom
 
   was-gone : M .node c# ≡ gone
   was-gone = next-slot-gone (f .good)
@@ -796,17 +798,17 @@ module _ {m : MultiPortGraph} {M : Model} (f : Fine m M) (x y : model.InnerPlace
       (link-step good₃ holds₃ (sp 0) y (valid-sp 0 (omega arith)) valid-y first-free y-free (f .good .joinSides x y linked))
 
   -- the same by the tables
-  copy-at : slotOf (M₁ .node) cp ≡ nextBlock M (copyIn (x .side) + copyOut (x .side)) + copyAt (x .side)
+  copy-at : slotOf (M₁ .node) cp ≡ nextBlock M (copyIncoming (x .side) + copyOutgoing (x .side)) + copyAt (x .side)
   copy-at = ap (λ w. firstOf w + (sideStart w (reversed (x .side)) + 0)) is-new ∙ go (x .side)
     where
-      go : (d : Direction) → firstOf (live new#) + (sideStart (live (metaOf (firstOf (live new#)) (copyIn d) (copyOut d) (copyIn d + copyOut d))) (reversed d) + 0) ≡ firstOf (live new#) + copyAt d
+      go : (d : Direction) → firstOf (live new#) + (sideStart (live (metaOf (firstOf (live new#)) (copyIncoming d) (copyOutgoing d) (copyIncoming d + copyOutgoing d))) (reversed d) + 0) ≡ firstOf (live new#) + copyAt d
       go Incoming = omega arith
       go Outgoing = omega arith
 
-  subport-at : (i : ℕ) → slotOf (M₁ .node) (sp i) ≡ nextBlock M (copyIn (x .side) + copyOut (x .side)) + subportsAt (x .side) + i
+  subport-at : (i : ℕ) → slotOf (M₁ .node) (sp i) ≡ nextBlock M (copyIncoming (x .side) + copyOutgoing (x .side)) + subportsAt (x .side) + i
   subport-at i = ap (λ w. firstOf w + (sideStart w (x .side) + i)) is-new ∙ go (x .side)
     where
-      go : (d : Direction) → firstOf (live new#) + (sideStart (live (metaOf (firstOf (live new#)) (copyIn d) (copyOut d) (copyIn d + copyOut d))) d + i) ≡ firstOf (live new#) + subportsAt d + i
+      go : (d : Direction) → firstOf (live new#) + (sideStart (live (metaOf (firstOf (live new#)) (copyIncoming d) (copyOutgoing d) (copyIncoming d + copyOutgoing d))) d + i) ≡ firstOf (live new#) + subportsAt d + i
       go Incoming = omega arith
       go Outgoing = omega arith
 
@@ -816,7 +818,7 @@ module _ {m : MultiPortGraph} {M : Model} (f : Fine m M) (x y : model.InnerPlace
 
   links₄ : splitGraph g₁ (slotOf (M .node) x) (x .side) c#
       ≡ withLinks g₁
-      (hangOn (g₁ .«port_link») (slotOf (M .node) x) (nextBlock M (copyIn (x .side) + copyOut (x .side)) + copyAt (x .side)) (nextBlock M (copyIn (x .side) + copyOut (x .side)) + subportsAt (x .side)))
+      (hangOn (g₁ .«port_link») (slotOf (M .node) x) (nextBlock M (copyIncoming (x .side) + copyOutgoing (x .side)) + copyAt (x .side)) (nextBlock M (copyIncoming (x .side) + copyOutgoing (x .side)) + subportsAt (x .side)))
       (g₁ .«link_count» - linkCount (at (g₁ .«port_link») (slotOf (M .node) x)) + 2)
   unfolding splitGraph hangOn
   links₄ =
@@ -828,7 +830,7 @@ module _ {m : MultiPortGraph} {M : Model} (f : Fine m M) (x y : model.InnerPlace
       (link-done (good-unlink good₁ x) (cut-step good₁ holds₁ x y linked) x cp valid-x valid-cp (λ q. not-reversed (x .side) (sym q)) x-cut (new-free cp refl)) in
       let link₂ = ap (λ (r : lower-linked.PortsLinked). r .graph)
       (link-done good₃ holds₃ (sp 0) y (valid-sp 0 (omega arith)) valid-y (f .good .joinSides x y linked) first-free y-free) in
-      let first : slotOf (M₁ .node) (sp 0) ≡ nextBlock M (copyIn (x .side) + copyOut (x .side)) + subportsAt (x .side) = subport-at 0 ∙ omega arith in
+      let first : slotOf (M₁ .node) (sp 0) ≡ nextBlock M (copyIncoming (x .side) + copyOutgoing (x .side)) + subportsAt (x .side) = subport-at 0 ∙ omega arith in
       let count : (n : ℕ) → n + 1 + 1 ≡ n + 2 = λ n. omega arith in
       (λ i. linkPorts (linkPorts (unlinkPort g₁ (sym slot-of-x i) .graph) (sym slot-of-x i) (a i) .graph) (b i) (e i) .graph)
       ∙ (link₂
@@ -836,12 +838,14 @@ module _ {m : MultiPortGraph} {M : Model} (f : Fine m M) (x y : model.InnerPlace
       ∙ (λ i. withLinks g₁ (linkBoth (linkBoth (cut (g₁ .«port_link») (slot-of-x i)) (slot-of-x i) (copy-at i)) (first i) (sym far-in i))
       (count (g₁ .«link_count» - linkCount (at (g₁ .«port_link») (slot-of-x i))) i))))
 
-  tables₄ : SplitTables (slotOf (M .node) x) (x .side) g₁ c# (nextBlock M (copyIn (x .side) + copyOut (x .side)))
+  tables₄ : SplitTables (slotOf (M .node) x) (x .side) g₁ c# (nextBlock M (copyIncoming (x .side) + copyOutgoing (x .side)))
   tables₄ =
       record {
         graph = links₄;
         copy = port-at good₁ holds₁ cp valid-cp ∙ copy-at;
+        old = port-at good₁ holds₁ (sp 0) (valid-sp 0 (omega arith)) ∙ (subport-at 0 ∙ omega arith);
         new = port-at good₁ holds₁ (sp 1) (valid-sp 1 (omega arith)) ∙ subport-at 1;
+        far = ap (farPort g₁) (sym slot-of-x) ∙ (far-at good₁ holds₁ x y linked ∙ sym far-in);
         fits = let e = good₁ .blockEnds c# new# is-new in let l = good₁ .portsFit in let t = three-ports (x .side) in omega arith;
       }
 
@@ -947,46 +951,46 @@ pub split-says : {m : MultiPortGraph} {M : Model} → Fine m M → (x y : model.
     PreparedSays m M x (split m (slotOf (M .node) x) (x .side))
 unfolding splitUnder
 split-says {m} {M} f x y sx plain linked =
-    rw (add-law (f .good) (f .holds) (copyIn (x .side)) (copyOut (x .side)))
-    (go (leb (copyIn (x .side) + copyOut (x .side)) nodePorts) (slotRoom M) (blockRoom M (copyIn (x .side) + copyOut (x .side))) refl refl refl)
+    rw (add-law (f .good) (f .holds) (copyIncoming (x .side)) (copyOutgoing (x .side)))
+    (go (leb (copyIncoming (x .side) + copyOutgoing (x .side)) nodePorts) (slotRoom M) (blockRoom M (copyIncoming (x .side) + copyOutgoing (x .side))) refl refl refl)
   where
-    go : (few slot block : Bool) → leb (copyIn (x .side) + copyOut (x .side)) nodePorts ≡ few → slotRoom M ≡ slot → blockRoom M (copyIn (x .side) + copyOut (x .side)) ≡ block →
+    go : (few slot block : Bool) → leb (copyIncoming (x .side) + copyOutgoing (x .side)) nodePorts ≡ few → slotRoom M ≡ slot → blockRoom M (copyIncoming (x .side) + copyOutgoing (x .side)) ≡ block →
         PreparedSays m M x
-        (splitBy m (slotOf (M .node) x) (x .side) (addWhere (m .graph) M (copyIn (x .side)) (copyOut (x .side)) few slot block .graph)
-        (addWhere (m .graph) M (copyIn (x .side)) (copyOut (x .side)) few slot block .answer))
+        (splitBy m (slotOf (M .node) x) (x .side) (addWhere (m .graph) M (copyIncoming (x .side)) (copyOutgoing (x .side)) few slot block .graph)
+        (addWhere (m .graph) M (copyIncoming (x .side)) (copyOutgoing (x .side)) few slot block .answer))
     go true true true p q r =
-        let small = leb-true (copyIn (x .side) + copyOut (x .side)) nodePorts p in
+        let small = leb-true (copyIncoming (x .side) + copyOutgoing (x .side)) nodePorts p in
         let nodeRoom = leb-true (M .nodeLen + growth 1 (M .freeNodes)) nodeSlots q in
-        let portRoom = leb-true (M .portLen + growth (copyIn (x .side) + copyOut (x .side)) (M .freeBlocks (copyIn (x .side) + copyOut (x .side)))) portSlots r in
+        let portRoom = leb-true (M .portLen + growth (copyIncoming (x .side) + copyOutgoing (x .side)) (M .freeBlocks (copyIncoming (x .side) + copyOutgoing (x .side)))) portSlots r in
         (M₄ f x y sx linked small nodeRoom portRoom, split-ready f x y sx linked small nodeRoom portRoom plain)
     go true true false p q r =
         no-block y plain linked
         (subst (λ n. portSlots < M .portLen + growth n (M .freeBlocks n)) (three-ports (x .side))
-        (leb-false (M .portLen + growth (copyIn (x .side) + copyOut (x .side)) (M .freeBlocks (copyIn (x .side) + copyOut (x .side)))) portSlots r))
+        (leb-false (M .portLen + growth (copyIncoming (x .side) + copyOutgoing (x .side)) (M .freeBlocks (copyIncoming (x .side) + copyOutgoing (x .side)))) portSlots r))
     go true false block p q r = no-slot y plain linked (leb-false (M .nodeLen + growth 1 (M .freeNodes)) nodeSlots q)
     go false slot block p q r =
         absurd
-        (let a = leb-false (copyIn (x .side) + copyOut (x .side)) nodePorts p in
+        (let a = leb-false (copyIncoming (x .side) + copyOutgoing (x .side)) nodePorts p in
         let b = three-ports (x .side) in
         omega arith)
 
 -- the tables after a split
 pub split-tables : {m : MultiPortGraph} {M : Model} → Fine m M → (x y : model.InnerPlace) → Seen m M x → M .join x ≡ to y →
-    (r : NodeAdded) → r ≡ addNode (m .graph) (copyIn (x .side)) (copyOut (x .side)) → (n : NodeIndex) (p : PortIndex) → r .answer ≡ lower-add.Added n p →
+    (r : NodeAdded) → r ≡ addNode (m .graph) (copyIncoming (x .side)) (copyOutgoing (x .side)) → (n : NodeIndex) (p : PortIndex) → r .answer ≡ lower-add.Added n p →
     SplitTables (slotOf (M .node) x) (x .side) (r .graph) (n .0) (p .0)
 split-tables {m} {M} f x y sx linked r e n p h =
-    go (leb (copyIn (x .side) + copyOut (x .side)) nodePorts) (slotRoom M) (blockRoom M (copyIn (x .side) + copyOut (x .side))) refl refl refl
-    (e ∙ add-law (f .good) (f .holds) (copyIn (x .side)) (copyOut (x .side)))
+    go (leb (copyIncoming (x .side) + copyOutgoing (x .side)) nodePorts) (slotRoom M) (blockRoom M (copyIncoming (x .side) + copyOutgoing (x .side))) refl refl refl
+    (e ∙ add-law (f .good) (f .holds) (copyIncoming (x .side)) (copyOutgoing (x .side)))
   where
-    go : (few slot block : Bool) → leb (copyIn (x .side) + copyOut (x .side)) nodePorts ≡ few → slotRoom M ≡ slot → blockRoom M (copyIn (x .side) + copyOut (x .side)) ≡ block →
-        r ≡ addWhere (m .graph) M (copyIn (x .side)) (copyOut (x .side)) few slot block → SplitTables (slotOf (M .node) x) (x .side) (r .graph) (n .0) (p .0)
+    go : (few slot block : Bool) → leb (copyIncoming (x .side) + copyOutgoing (x .side)) nodePorts ≡ few → slotRoom M ≡ slot → blockRoom M (copyIncoming (x .side) + copyOutgoing (x .side)) ≡ block →
+        r ≡ addWhere (m .graph) M (copyIncoming (x .side)) (copyOutgoing (x .side)) few slot block → SplitTables (slotOf (M .node) x) (x .side) (r .graph) (n .0) (p .0)
     go true true true a b c k =
-        let small = leb-true (copyIn (x .side) + copyOut (x .side)) nodePorts a in
+        let small = leb-true (copyIncoming (x .side) + copyOutgoing (x .side)) nodePorts a in
         let nodeRoom = leb-true (M .nodeLen + growth 1 (M .freeNodes)) nodeSlots b in
-        let portRoom = leb-true (M .portLen + growth (copyIn (x .side) + copyOut (x .side)) (M .freeBlocks (copyIn (x .side) + copyOut (x .side)))) portSlots c in
-        let is : r .answer ≡ lower-add.Added (node# (nextSlot M)) (port# (nextBlock M (copyIn (x .side) + copyOut (x .side)))) = ap (λ (z : NodeAdded). z .answer) k in
+        let portRoom = leb-true (M .portLen + growth (copyIncoming (x .side) + copyOutgoing (x .side)) (M .freeBlocks (copyIncoming (x .side) + copyOutgoing (x .side)))) portSlots c in
+        let is : r .answer ≡ lower-add.Added (node# (nextSlot M)) (port# (nextBlock M (copyIncoming (x .side) + copyOutgoing (x .side)))) = ap (λ (z : NodeAdded). z .answer) k in
         let same : node# (nextSlot M) ≡ n = cc in
-        let at₁ : port# (nextBlock M (copyIn (x .side) + copyOut (x .side))) ≡ p = cc in
+        let at₁ : port# (nextBlock M (copyIncoming (x .side) + copyOutgoing (x .side))) ≡ p = cc in
         transport (λ i. SplitTables (slotOf (M .node) x) (x .side) (sym k i .graph) (same i .0) (at₁ i .0)) (tables₄ f x y sx linked small nodeRoom portRoom)
     go true true false a b c k = absurd (zero-is-not-one (let z = ap (λ (u : NodeAdded). u .answer) k in cc))
     go true false block a b c k = absurd (zero-is-not-one (let z = ap (λ (u : NodeAdded). u .answer) k in cc))

@@ -8,8 +8,8 @@ use Rattle.portgraph.specs.Lookups.{containsNode, portAt}
 use Rattle.portgraph.specs.declared.port_entry.PortEntry.{PortEntry}
 use Rattle.portgraph.specs.declared.port_entry.PortEntry.the-variants as port-variants
 use Rattle.multiportgraph.specs.Reading.{isHidden, Port, hidden, visible, seenEntry, seen}
-use Rattle.multiportgraph.specs.FormSteps.{flag-is}
-use Rattle.multiportgraph.specs.Reads.{seenOwner, seenIn}
+use Rattle.multiportgraph.specs.CodeFormSteps.{flag-is}
+use Rattle.multiportgraph.specs.TableReads.{seenOwner, seenIn}
 use Rattle.multiportgraph.specs.Walks.{Start, started, refused, startAtNode, startBetween, startSeen, startAtPort}
 use Rattle.multiportgraph.specs.declared.multiportgraph.MultiPortGraph.{MultiPortGraph}
 use Rattle.multiportgraph.specs.declared.multiportgraph.Refusal.the-variants.{UnknownNode, HiddenNode}

@@ -18,9 +18,9 @@ use Rattle.portgraph.specs.declared.iter.Sides.the-variants.{One}
 use Rattle.portgraph.specs.declared.node_entry.NodeMeta.{NodeMeta}
 use Rattle.portgraph.specs.declared.node_entry.MaybeNodeMeta.the-variants as maybe-meta
 use Rattle.multiportgraph.specs.Reading.{isHidden, isSplit, Port, dead, hidden, visible, seen, subports, subport#}
-use Rattle.multiportgraph.specs.Inner.{MultiWf}
-use Rattle.multiportgraph.specs.Reads.{seenIn}
-use Rattle.multiportgraph.specs.ReadLaws.{seen-read}
+use Rattle.multiportgraph.specs.WellFormed.{MultiWf}
+use Rattle.multiportgraph.specs.TableReads.{seenIn}
+use Rattle.multiportgraph.specs.TableReadLaws.{seen-read}
 use Rattle.multiportgraph.specs.Wires.{portsOfSide}
 use Rattle.multiportgraph.specs.Walks.{bothSeen, portsOfNode, subportsOf, subportBeyond, stepSubports}
 use Rattle.multiportgraph.specs.Listing.{member-range}
@@ -38,7 +38,7 @@ use Rattle.multiportgraph.specs.declared.iter.NodeSubportsStep.{NodeSubp
 use Rattle.multiportgraph.specs.declared.iter.NodeSubportsStep.the-variants as subports-step
 use Rattle.multiportgraph.specs.declared.subports.SubportFound.{SubportFound}
 use Rattle.multiportgraph.specs.declared.subports.SubportFound.the-variants as subport-found
-use Rattle.multiportgraph.specs.Forms.{blockFound}
+use Rattle.multiportgraph.specs.CodeForms.{blockFound}
 
 -- The first of two lists, one after the other.
 

@@ -10,32 +10,35 @@ use Rattle.portgraph.specs.Limits.{nodeSlots, portSlots}
 use Rattle.portgraph.specs.Entries.{reversed}
 use Rattle.portgraph.specs.Tables.{at, cut, linkBoth, linkCount}
 use Rattle.portgraph.specs.Lookups.{numPorts}
-use Rattle.portgraph.specs.Calls.{addNode, withLinks}
+use Rattle.portgraph.specs.Calls.{addNode, linkPorts, unlinkPort, withLinks}
 use Rattle.portgraph.specs.Resize.{setNumPorts}
 use Rattle.portgraph.specs.Model.{Far, nowhere, to}
 use Rattle.portgraph.specs.PlaceLaws.{link-none}
 use Rattle.portgraph.specs.declared.direction.Direction.{Direction}
 use Rattle.portgraph.specs.declared.index.NodeIndex.{NodeIndex}
 use Rattle.portgraph.specs.declared.index.PortIndex.{PortIndex}
+use Rattle.portgraph.specs.declared.portgraph.PortGraph.{PortGraph}
+use Rattle.portgraph.specs.declared.portgraph.PortUnlinked.{PortUnlinked}
+use Rattle.portgraph.specs.declared.portgraph.PortsLinked.{PortsLinked}
 use Rattle.portgraph.specs.declared.slots.AddAnswer.the-variants as lower-add
 use Rattle.portgraph.specs.declared.slots.NodeAdded.{NodeAdded}
 use Rattle.portgraph.specs.declared.resize.SetAnswer.{SetAnswer}
 use Rattle.portgraph.specs.declared.resize.SetAnswer.the-variants as lower-set
 use Rattle.portgraph.specs.declared.resize.PortsSet.{PortsSet}
 use Rattle.multiportgraph.specs.Graph.{multi}
-use Rattle.multiportgraph.specs.Reading.{portOf, copyNode, subports}
+use Rattle.multiportgraph.specs.Reading.{farPort, portOf, copyNode, subports}
 use Rattle.multiportgraph.specs.Ends.{block-seen}
-use Rattle.multiportgraph.specs.Forms.{putFlag, preparedAs}
-use Rattle.multiportgraph.specs.FormSteps.{put-flag-is}
+use Rattle.multiportgraph.specs.CodeForms.{putFlag, preparedAs}
+use Rattle.multiportgraph.specs.CodeFormSteps.{put-flag-is}
 use Rattle.multiportgraph.specs.CopySteps.{two-puts}
 use Rattle.multiportgraph.specs.SplitLaws.{SplitTables, split-tables}
 use Rattle.multiportgraph.specs.RecountLaws.{growth#}
-use Rattle.multiportgraph.specs.Reads.{farIn, ownerIn, subportsIn, hangOn, copyAt, subportsAt, grownIn, grownOut}
-use Rattle.multiportgraph.specs.ReadLaws.{owner-read, subports-read}
+use Rattle.multiportgraph.specs.TableReads.{farIn, ownerIn, subportsIn, hangOn, copyAt, subportsAt, grownIncoming, grownOutgoing}
+use Rattle.multiportgraph.specs.TableReadLaws.{owner-read, subports-read}
 use Rattle.multiportgraph.specs.GrowLaws.{GrowTables, grow-tables, grown-counts}
 use Rattle.multiportgraph.specs.declared.multiportgraph.MultiPortGraph.{MultiPortGraph}
 use Rattle.multiportgraph.specs.declared.prepare.Prepared.{Prepared}
-use Rattle.multiportgraph.specs.HiddenNodes.{copyIn, copyOut, splitGraph, splitPort, splitBy, split, recounted, more, enough, grownBy, grow, splitUnder, growUnder}
+use Rattle.multiportgraph.specs.HiddenNodes.{copyIncoming, copyOutgoing, splitGraph, splitPort, splitBy, split, recounted, more, enough, grownBy, grow, splitUnder, growUnder}
 use Rattle.multiportgraph.specs.Presumed.{LinkedPort, SplitPort}
 
 -- The links of a split.
@@ -44,9 +47,9 @@ unfolding hangOn
 hung t t₁ t₂ t₃ p copy first far w v e₁ e₂ e₃ e₄ e₅ e₆ = rw (e₆, e₅, e₄, e₃, e₂, e₁)
 
 -- A split.
-module _ {m : MultiPortGraph} {p : ℕ} {d : Direction} (b : LinkedPort m p d) {i o : ℕ} {r : NodeAdded} (e₁ : i ≡ copyIn d) (e₂ : o ≡ copyOut d) (e₃ : r ≡ addNode (m .graph) i o)
+module _ {m : MultiPortGraph} {p : ℕ} {d : Direction} (b : LinkedPort m p d) {i o : ℕ} {r : NodeAdded} (e₁ : i ≡ copyIncoming d) (e₂ : o ≡ copyOutgoing d) (e₃ : r ≡ addNode (m .graph) i o)
     {n : NodeIndex} {f : PortIndex} (a : r .answer ≡ lower-add.Added n f) where
-  added-is : r ≡ addNode (m .graph) (copyIn d) (copyOut d)
+  added-is : r ≡ addNode (m .graph) (copyIncoming d) (copyOutgoing d)
   added-is = rw (e₃, e₁, e₂)
 
   pub split-told : SplitTables p d (r .graph) (n .0) (f .0)
@@ -65,45 +68,89 @@ module _ {m : MultiPortGraph} {p : ℕ} {d : Direction} (b : LinkedPort m p d) {
           let w = b .block .wf .fine in
           let x = block-seen w p (b .block .node) d (b .block .is) in
           transport (λ k. SplitTables (x .slot k) (x .side k) (r .graph) (n .0) (f .0))
-          (split-tables w (x .place) y (x .isSeen) j r (added-is ∙ (λ k. addNode (m .graph) (copyIn (sym (x .side) k)) (copyOut (sym (x .side) k)))) n f a)
+          (split-tables w (x .place) y (x .isSeen) j r (added-is ∙ (λ k. addNode (m .graph) (copyIncoming (sym (x .side) k)) (copyOutgoing (sym (x .side) k)))) n f a)
 
-  pub split-done :
-      {ca copy sa old held left w₁ w₂ w₃ : ℕ} {t : List ℕ} {t₁ t₂ t₃ : List Bool} →
-      ca ≡ copyAt d →
-      copy ≡ f .0 + ca →
-      sa ≡ subportsAt d →
-      old ≡ f .0 + sa →
-      held ≡ at (r .graph .«port_link») p →
-      t ≡ hangOn (r .graph .«port_link») p copy old →
-      left ≡ r .graph .«link_count» - linkCount held →
-      w₁ ≡ copy →
-      t₁ ≡ putFlag (m .multiport) portSlots w₁ true →
-      w₂ ≡ p →
-      t₂ ≡ putFlag t₁ portSlots w₂ true →
-      w₃ ≡ n .0 →
-      t₃ ≡ putFlag (m .«copy_node») nodeSlots w₃ true →
-      _≡_ {A = Prepared} (record {
-        graph = multi (withLinks (r .graph) t (left + 2)) t₂ t₃ (m .«copy_node_count» + 1) (m .«subport_count» + 2) (m .release);
-        port = old + 1;
-        offset = 1;
-        ready = true;
-      }) (preparedAs m (split m p d))
-  unfolding splitUnder splitPort
-  split-done {ca} {copy} {sa} {old} {held} {left} {w₁} {w₂} {w₃} {t} {t₁} {t₂} {t₃} c₁ c₂ c₃ c₄ c₅ c₆ c₇ k₁ k₂ k₃ k₄ k₅ k₆ =
-      let w = b .block .wf .fine in
-      let s = split-told in
-      let copy-is : copy ≡ portOf (r .graph) (n .0) (reversed d) 0 = rw (c₂, c₁) (sym (s .copy)) in
-      let graph-is : withLinks (r .graph) t (left + 2) ≡ splitGraph (r .graph) p d (n .0) = rw (c₆, c₇, c₅, c₂, c₁, c₄, c₃) (sym (s .graph)) in
-      let new-is : old + 1 ≡ portOf (r .graph) (n .0) d 1 = rw (c₄, c₃) (sym (s .new)) in
-      let marks-is : t₂ ≡ set (set (m .multiport) (portOf (r .graph) (n .0) (reversed d) 0) true) p true = rw (k₄, k₂, k₃, k₁, copy-is) (two-puts (m .multiport) portSlots _ p true true (w .marksLong)) in
-      let flags-is : t₃ ≡ set (m .«copy_node») (n .0) true = rw (k₆, k₅) (put-flag-is (m .«copy_node») nodeSlots (n .0) true (w .flagsLong)) in
-      (λ j. record {
-        graph = multi (graph-is j) (marks-is j) (flags-is j) (m .«copy_node_count» + 1) (m .«subport_count» + 2) (m .release);
-        port = new-is j;
-        offset = 1;
-        ready = true;
-      })
-      ∙ ((λ j. preparedAs m (splitBy m p d (r .graph) (sym a j))) ∙ (λ j. preparedAs m (splitBy m p d (added-is j .graph) (added-is j .answer))))
+  module _ {ca copy sa old : ℕ} (c₁ : ca ≡ copyAt d) (c₂ : copy ≡ f .0 + ca) (c₃ : sa ≡ subportsAt d) (c₄ : old ≡ f .0 + sa) where
+    copy-is : copy ≡ portOf (r .graph) (n .0) (reversed d) 0
+    copy-is = rw (c₂, c₁) (sym (split-told .copy))
+
+    -- the lower graph of the split, and the marks and flags beside it
+    split-made :
+        {g : PortGraph} {w₁ w₂ w₃ : ℕ} {t₁ t₂ t₃ : List Bool} →
+        g ≡ splitGraph (r .graph) p d (n .0) →
+        w₁ ≡ copy →
+        t₁ ≡ putFlag (m .multiport) portSlots w₁ true →
+        w₂ ≡ p →
+        t₂ ≡ putFlag t₁ portSlots w₂ true →
+        w₃ ≡ n .0 →
+        t₃ ≡ putFlag (m .«copy_node») nodeSlots w₃ true →
+        _≡_ {A = Prepared} (record {
+          graph = multi g t₂ t₃ (m .«copy_node_count» + 1) (m .«subport_count» + 2) (m .release);
+          port = old + 1;
+          offset = 1;
+          ready = true;
+        }) (preparedAs m (split m p d))
+    unfolding splitUnder splitPort
+    split-made {g} {w₁} {w₂} {w₃} {t₁} {t₂} {t₃} graph-is k₁ k₂ k₃ k₄ k₅ k₆ =
+        let w = b .block .wf .fine in
+        let new-is : old + 1 ≡ portOf (r .graph) (n .0) d 1 = rw (c₄, c₃) (sym (split-told .new)) in
+        let marks-is : t₂ ≡ set (set (m .multiport) (portOf (r .graph) (n .0) (reversed d) 0) true) p true = rw (k₄, k₂, k₃, k₁, copy-is) (two-puts (m .multiport) portSlots _ p true true (w .marksLong)) in
+        let flags-is : t₃ ≡ set (m .«copy_node») (n .0) true = rw (k₆, k₅) (put-flag-is (m .«copy_node») nodeSlots (n .0) true (w .flagsLong)) in
+        (λ j. record {
+          graph = multi (graph-is j) (marks-is j) (flags-is j) (m .«copy_node_count» + 1) (m .«subport_count» + 2) (m .release);
+          port = new-is j;
+          offset = 1;
+          ready = true;
+        })
+        ∙ ((λ j. preparedAs m (splitBy m p d (r .graph) (sym a j))) ∙ (λ j. preparedAs m (splitBy m p d (added-is j .graph) (added-is j .answer))))
+
+    -- by the lower graph's calls
+    pub split-called :
+        {w₀ far w₁ w₂ w₃ : ℕ} {t₁ t₂ t₃ : List Bool} {u : PortUnlinked} {l₁ l₂ : PortsLinked} →
+        w₀ ≡ p →
+        far ≡ farIn (r .graph .«port_link») w₀ →
+        u ≡ unlinkPort (r .graph) p →
+        l₁ ≡ linkPorts (u .graph) p copy →
+        l₂ ≡ linkPorts (l₁ .graph) old far →
+        w₁ ≡ copy →
+        t₁ ≡ putFlag (m .multiport) portSlots w₁ true →
+        w₂ ≡ p →
+        t₂ ≡ putFlag t₁ portSlots w₂ true →
+        w₃ ≡ n .0 →
+        t₃ ≡ putFlag (m .«copy_node») nodeSlots w₃ true →
+        _≡_ {A = Prepared} (record {
+          graph = multi (l₂ .graph) t₂ t₃ (m .«copy_node_count» + 1) (m .«subport_count» + 2) (m .release);
+          port = old + 1;
+          offset = 1;
+          ready = true;
+        }) (preparedAs m (split m p d))
+    unfolding splitGraph
+    split-called {u = u} {l₁ = l₁} {l₂ = l₂} e₄ e₅ e₆ e₇ e₈ =
+        let old-is : old ≡ portOf (r .graph) (n .0) d 0 = rw (c₄, c₃) (sym (split-told .old)) in
+        let far-is : _ ≡ farPort (r .graph) p = e₅ ∙ (ap (farIn (r .graph .«port_link»)) e₄ ∙ sym (split-told .far)) in
+        let hung : l₁ ≡ linkPorts (unlinkPort (r .graph) p .graph) p (portOf (r .graph) (n .0) (reversed d) 0) = e₇ ∙ (λ j. linkPorts (e₆ j .graph) p (copy-is j)) in
+        split-made (λ j. (e₈ ∙ (λ k. linkPorts (hung k .graph) (old-is k) (far-is k))) j .graph)
+
+    -- in the tables
+    pub split-done :
+        {held left w₁ w₂ w₃ : ℕ} {t : List ℕ} {t₁ t₂ t₃ : List Bool} →
+        held ≡ at (r .graph .«port_link») p →
+        t ≡ hangOn (r .graph .«port_link») p copy old →
+        left ≡ r .graph .«link_count» - linkCount held →
+        w₁ ≡ copy →
+        t₁ ≡ putFlag (m .multiport) portSlots w₁ true →
+        w₂ ≡ p →
+        t₂ ≡ putFlag t₁ portSlots w₂ true →
+        w₃ ≡ n .0 →
+        t₃ ≡ putFlag (m .«copy_node») nodeSlots w₃ true →
+        _≡_ {A = Prepared} (record {
+          graph = multi (withLinks (r .graph) t (left + 2)) t₂ t₃ (m .«copy_node_count» + 1) (m .«subport_count» + 2) (m .release);
+          port = old + 1;
+          offset = 1;
+          ready = true;
+        }) (preparedAs m (split m p d))
+    split-done {held} {left} {t = t} c₅ c₆ c₇ =
+        split-made (rw (c₆, c₇, c₅, c₂, c₁, c₄, c₃) (sym (split-told .graph)))
 
 -- One more subport.
 
@@ -129,7 +176,7 @@ growing-read {m} {p} {d} b e₁ e₂ e₃ e₄ =
     }
 
 module _ {m : MultiPortGraph} {p : ℕ} {d : Direction} {copy node count : ℕ} (s : Growing m p d copy node count) where
-  module _ {i o len : ℕ} {r : PortsSet} (f₁ : i ≡ grownIn d count) (f₂ : o ≡ grownOut d count) (f₃ : len ≡ enough) (f₄ : r ≡ setNumPorts (m .graph) node i o len) where
+  module _ {i o len : ℕ} {r : PortsSet} (f₁ : i ≡ grownIncoming d count) (f₂ : o ≡ grownOutgoing d count) (f₃ : len ≡ enough) (f₄ : r ≡ setNumPorts (m .graph) node i o len) where
     set-is : r ≡ growth# m (copyNode m p) d
     set-is =
         let g = grown-counts (s .port) count (s .countIs) in

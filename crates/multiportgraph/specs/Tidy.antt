@@ -26,13 +26,13 @@ unfoldable pub subportsLeft : MultiPortGraph → ℕ → Direction → ℕ
 subportsLeft m p d = linkedUpTo (m .graph) (copyNode m p) d (subports m p d)
 
 -- the counts of a hidden node with so many subports on a side
-abbrev pub leftIn : Direction → ℕ → ℕ
-leftIn Incoming n = n
-leftIn Outgoing n = 1
+abbrev pub leftIncoming : Direction → ℕ → ℕ
+leftIncoming Incoming n = n
+leftIncoming Outgoing n = 1
 
-abbrev pub leftOut : Direction → ℕ → ℕ
-leftOut Incoming n = 1
-leftOut Outgoing n = n
+abbrev pub leftOutgoing : Direction → ℕ → ℕ
+leftOutgoing Incoming n = 1
+leftOutgoing Outgoing n = n
 
 -- a node with other counts, by a resize within its block; equal counts change nothing
 abbrev pub withinBlock : PortGraph → ℕ → ℕ → ℕ → MaybeNodeMeta → PortGraph
@@ -45,7 +45,7 @@ resizedWithin g n incoming outgoing = withinBlock g n incoming outgoing (metaAt 
 -- a hidden node is left with its first n subports: it is resized within its block, and the mark of its copy port moves with it
 unfoldable pub dropSubports : MultiPortGraph → ℕ → Direction → ℕ → MultiPortGraph
 dropSubports m c d n =
-    withSubports (recounted m c (resizedWithin (m .graph) c (leftIn d n) (leftOut d n)))
+    withSubports (recounted m c (resizedWithin (m .graph) c (leftIncoming d n) (leftOutgoing d n)))
     (m .«subport_count» - (numPorts (m .graph) c d - n))
 
 -- the hidden node of a split port goes, and what its first subport was linked with is linked to the port

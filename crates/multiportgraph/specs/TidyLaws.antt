@@ -16,10 +16,8 @@ use Rattle.portgraph.specs.Model as model
 use Rattle.portgraph.specs.Model.{Model, Far, nowhere, to, Slots, live, Valid, slotOf, portsOf, countOf}
 use Rattle.portgraph.specs.Meaning.{atNode, linkModel, removeModel, metaOf}
 use Rattle.portgraph.specs.Sums.{total-has, drop-there, upd-same}
-use Rattle.portgraph.specs.Tables.{linkBoth}
-use Rattle.portgraph.specs.Calls.{linkPorts, withLinks}
-use Rattle.portgraph.specs.LinkHolds.{link-done}
-use Rattle.portgraph.specs.Resize.{setNumPorts, sameCounts, resizeInside, dropped, keptOut}
+use Rattle.portgraph.specs.Calls.{linkPorts}
+use Rattle.portgraph.specs.Resize.{setNumPorts, sameCounts, resizeInside, dropped, keptOutgoing}
 use Rattle.portgraph.specs.ResizeLaws.{set-same, set-inside}
 use Rattle.portgraph.specs.PlaceLaws.{meta-of-node}
 use Rattle.portgraph.specs.InsideHolds.{inside-holds}
@@ -30,15 +28,14 @@ use Rattle.portgraph.specs.declared.direction.Direction.the-variants.{Incoming,
 use Rattle.portgraph.specs.declared.node_entry.NodeMeta.{NodeMeta}
 use Rattle.portgraph.specs.declared.node_entry.MaybeNodeMeta.the-variants as maybe-meta
 use Rattle.portgraph.specs.declared.portgraph.PortGraph.{PortGraph}
-use Rattle.portgraph.specs.declared.portgraph.PortsLinked.{PortsLinked}
 use Rattle.portgraph.specs.declared.resize.SetAnswer.the-variants as lower-set
 use Rattle.portgraph.specs.declared.resize.PortsSet.{PortsSet}
 use Rattle.multiportgraph.specs.Reading.{farPort, hasLink, portOf, isHidden, isSplit, copySide, copyNode, subports, subportAt, Port, dead, hidden, visible, seen}
-use Rattle.multiportgraph.specs.Inner.{inner#, copyPlace, Fine, Seen, lift, outer, IsEnd, WireIn, SameBlocks, SameWires, subportsOfSlot}
+use Rattle.multiportgraph.specs.WellFormed.{inner#, copyPlace, Fine, Seen, lift, outer, IsEnd, WireIn, SameBlocks, SameWires, subportsOfSlot}
 use Rattle.multiportgraph.specs.Ends.{BlockPort, Hangs, side-cases, port-of, count-of, linked-is, unlinked-is, far-of, block-seen, seen-block, seen-still, end-side, ends-join-ends, hangs, one-copy, split-has-copy, unsplit-is-end, outer-of-block, wire-at}
-use Rattle.multiportgraph.specs.Frame.{same-wire, true-not-false, end-kept, outer-kept, slot-alike, split-below}
+use Rattle.multiportgraph.specs.HiddenStays.{same-wire, true-not-false, end-kept, outer-kept, slot-alike, split-below}
 use Rattle.multiportgraph.specs.MarkLaws.{lay-same}
-use Rattle.multiportgraph.specs.PlainLaws.{Joined, join-ends, to-same, nowhere-not-to, touches-neither}
+use Rattle.multiportgraph.specs.LinkCutLaws.{Joined, join-ends, to-same, nowhere-not-to, touches-neither}
 use Rattle.multiportgraph.specs.CopyLaws.{portAt, CopyGone, copy-goes, copy-frame, copy-alike, hidden-other, end-elsewhere, unsplit-split}
 use Rattle.multiportgraph.specs.RecountLaws.{SomeRecount, Recount, set-recounts, number-cases, counted, copy-place-same, same-wires, recount-ends, recount-fine, recount-blocks}
 use Rattle.multiportgraph.specs.declared.multiportgraph.MultiPortGraph.{MultiPortGraph}
@@ -51,10 +48,10 @@ use Rattle.multiportgraph.specs.HiddenNodes.{enough, recounted, removeCo
 use Rattle.multiportgraph.specs.Calls.{tidyPort}
 use Rattle.multiportgraph.specs.Cases.{tidySeen}
 use Rattle.multiportgraph.specs.CaseLaws.{tidy-cases}
-use Rattle.multiportgraph.specs.Reads.{farIn}
-use Rattle.multiportgraph.specs.ReadLaws.{far-is}
+use Rattle.multiportgraph.specs.TableReads.{farIn}
+use Rattle.multiportgraph.specs.TableReadLaws.{far-is}
 use Rattle.multiportgraph.specs.GrowLaws.{slot-x, mark-moves}
-use Rattle.multiportgraph.specs.Tidy.{linkedUpTo, subportsLeft, leftIn, leftOut, resizedWithin, dropSubports, linkDirectly, tidied}
+use Rattle.multiportgraph.specs.Tidy.{linkedUpTo, subportsLeft, leftIncoming, leftOutgoing, resizedWithin, dropSubports, linkDirectly, tidied}
 
 -- What is left.
 
@@ -137,7 +134,7 @@ pub data DropWithin (g : PortGraph) (n : ℕ) (k : NodeMeta) (incoming outgoing 
       DropWithin g n k incoming outgoing
   in-block : 3 ≤ incoming + outgoing → incoming + outgoing < k .capacity →
       setNumPorts g n incoming outgoing enough
-      ≡ record { graph = resizeInside g n k incoming outgoing; answer = lower-set.Set (dropped k incoming outgoing + keptOut k outgoing) } →
+      ≡ record { graph = resizeInside g n k incoming outgoing; answer = lower-set.Set (dropped k incoming outgoing + keptOutgoing k outgoing) } →
       resizedWithin g n incoming outgoing ≡ resizeInside g n k incoming outgoing → DropWithin g n k incoming outgoing
 
 -- so dropping within the block is the resize as of any node, which is not refused
@@ -176,15 +173,15 @@ pub record ShorterDone (m : MultiPortGraph) (M : Model) (x : model.InnerPlace) (
 shorter-done : {m : MultiPortGraph} {M : Model} {x : model.InnerPlace} {c n : ℕ} {m′ : MultiPortGraph} → ShorterDone m M x c n m′ → TidyDone m M m′
 shorter-done s = record { model = s .model; fine = s .is .fine; blocks = s .is .blocks; wires = s .is .wires }
 
-left-counts : (d : Direction) (n : ℕ) → leftIn d n + leftOut d n ≡ n + 1
+left-counts : (d : Direction) (n : ℕ) → leftIncoming d n + leftOutgoing d n ≡ n + 1
 left-counts Incoming n = omega arith
 left-counts Outgoing n = omega arith
 
-left-on : (b : NodeMeta) (d : Direction) (n : ℕ) → b .incoming ≡ leftIn d n → b .outgoing ≡ leftOut d n → (portsOn b d ≡ n) × (portsOn b (reversed d) ≡ 1)
+left-on : (b : NodeMeta) (d : Direction) (n : ℕ) → b .incoming ≡ leftIncoming d n → b .outgoing ≡ leftOutgoing d n → (portsOn b d ≡ n) × (portsOn b (reversed d) ≡ 1)
 left-on b Incoming n p q = (p, q)
 left-on b Outgoing n p q = (q, p)
 
-left-of : (b : NodeMeta) (d : Direction) → portsOn b (reversed d) ≡ 1 → (leftIn d (portsOn b d) ≡ b .incoming) × (leftOut d (portsOn b d) ≡ b .outgoing)
+left-of : (b : NodeMeta) (d : Direction) → portsOn b (reversed d) ≡ 1 → (leftIncoming d (portsOn b d) ≡ b .incoming) × (leftOutgoing d (portsOn b d) ≡ b .outgoing)
 left-of b Incoming e = (refl, sym e)
 left-of b Outgoing e = (sym e, refl)
 
@@ -213,10 +210,10 @@ module _ {m : MultiPortGraph} {M : Model} (f : Fine m M) (x : model.InnerPlace) 
   count = ap (λ (s : Slots). countOf s (x .side)) here
 
   abbrev sized : PortsSet
-  sized = setNumPorts (m .graph) (h .copy) (leftIn (x .side) n) (leftOut (x .side) n) enough
+  sized = setNumPorts (m .graph) (h .copy) (leftIncoming (x .side) n) (leftOutgoing (x .side) n) enough
 
   -- the new total is from 3 to capacity - 1, so that the node keeps its block and nothing is taken; or no count changes
-  pub drop-within : DropWithin (m .graph) (h .copy) k (leftIn (x .side) n) (leftOut (x .side) n)
+  pub drop-within : DropWithin (m .graph) (h .copy) k (leftIncoming (x .side) n) (leftOutgoing (x .side) n)
   drop-within =
       let a = f .good .portsInBlock (h .copy) k here in
       let b = f .good .blockSmall (h .copy) k here in
@@ -226,12 +223,12 @@ module _ {m : MultiPortGraph} {M : Model} (f : Fine m M) (x : model.InnerPlace) 
       let v = count in
       go (number-cases n (portsOn k (x .side))) (omega arith) (omega arith) (omega arith)
     where
-      go : (n ≡ portsOn k (x .side)) ⊎ (n ≡ portsOn k (x .side) → ⊥) → leftIn (x .side) n + leftOut (x .side) n ≤ nodePorts → 3 * (k .incoming + k .outgoing) ≤ enough
-          → ((n ≡ portsOn k (x .side) → ⊥) → leftIn (x .side) n + leftOut (x .side) n < k .capacity) → DropWithin (m .graph) (h .copy) k (leftIn (x .side) n) (leftOut (x .side) n)
+      go : (n ≡ portsOn k (x .side)) ⊎ (n ≡ portsOn k (x .side) → ⊥) → leftIncoming (x .side) n + leftOutgoing (x .side) n ≤ nodePorts → 3 * (k .incoming + k .outgoing) ≤ enough
+          → ((n ≡ portsOn k (x .side) → ⊥) → leftIncoming (x .side) n + leftOutgoing (x .side) n < k .capacity) → DropWithin (m .graph) (h .copy) k (leftIncoming (x .side) n) (leftOutgoing (x .side) n)
       go (inl q) a b c =
           let l = left-of k (x .side) one in
-          let i = ap (leftIn (x .side)) q ∙ l .0 in
-          let o = ap (leftOut (x .side)) q ∙ l .1 in
+          let i = ap (leftIncoming (x .side)) q ∙ l .0 in
+          let o = ap (leftOutgoing (x .side)) q ∙ l .1 in
           no-change (set-same (f .good) (f .holds) (h .copy) _ _ enough a k here b i o) (same-within (m .graph) (h .copy) _ _ k (meta-of-node (f .good) (f .holds) (h .copy) k here) i o)
       go (inr q) a b c =
           let t = left-counts (x .side) n in
@@ -260,7 +257,7 @@ module _ {m : MultiPortGraph} {M : Model} (f : Fine m M) (x : model.InnerPlace) 
       omega arith
 
   -- the graph afterwards, by what the lower resize made of the model
-  shorter : (s : SomeRecount (sized .graph) M (h .copy) (leftIn (x .side) n) (leftOut (x .side) n)) → Shorter m M x (h .copy) n (counted m (h .copy) (sized .graph) subsLeft) (s .model′)
+  shorter : (s : SomeRecount (sized .graph) M (h .copy) (leftIncoming (x .side) n) (leftOutgoing (x .side) n)) → Shorter m M x (h .copy) n (counted m (h .copy) (sized .graph) subsLeft) (s .model′)
   shorter s =
       let r = s .is in
       let l = left-on (s .new) (x .side) n (r .ins) (r .outs) in
@@ -288,16 +285,16 @@ module _ {m : MultiPortGraph} {M : Model} (f : Fine m M) (x : model.InnerPlace) 
   pub drop-done : ShorterDone m M x (h .copy) n (dropSubports m (h .copy) (x .side) n)
   unfolding dropSubports
   drop-done =
-      let s = set-recounts (f .good) (f .holds) (h .copy) (leftIn (x .side) n) (leftOut (x .side) n) enough (drop-set .0) (drop-set .1) in
+      let s = set-recounts (f .good) (f .holds) (h .copy) (leftIncoming (x .side) n) (leftOutgoing (x .side) n) enough (drop-set .0) (drop-set .1) in
       subst (λ (g : PortGraph). ShorterDone m M x (h .copy) n (counted m (h .copy) g subsLeft)) (sym (within-is drop-within)) (record { model = s .model′; is = shorter s })
 
   -- what it does to the marks: the copy port's moves with it
   pub drop-marks : Seen m M x → recounted m (h .copy) (sized .graph) .multiport
       ≡ set (set (m .multiport) (farIn (m .graph .«port_link») (slotOf (M .node) x)) false) (farIn (sized .graph .«port_link») (slotOf (M .node) x)) true
   unfolding recounted
-  drop-marks sx = go (set-recounts (f .good) (f .holds) (h .copy) (leftIn (x .side) n) (leftOut (x .side) n) enough (drop-set .0) (drop-set .1))
+  drop-marks sx = go (set-recounts (f .good) (f .holds) (h .copy) (leftIncoming (x .side) n) (leftOutgoing (x .side) n) enough (drop-set .0) (drop-set .1))
     where
-      go : SomeRecount (sized .graph) M (h .copy) (leftIn (x .side) n) (leftOut (x .side) n) → recounted m (h .copy) (sized .graph) .multiport
+      go : SomeRecount (sized .graph) M (h .copy) (leftIncoming (x .side) n) (leftOutgoing (x .side) n) → recounted m (h .copy) (sized .graph) .multiport
           ≡ set (set (m .multiport) (farIn (m .graph .«port_link») (slotOf (M .node) x)) false) (farIn (sized .graph .«port_link») (slotOf (M .node) x)) true
       go s =
           let r = s .is in
@@ -315,12 +312,12 @@ module _ {m : MultiPortGraph} {M : Model} (f : Fine m M) (x : model.InnerPlace) 
   unfolding dropSubports recounted
   drop-block = subst (λ (g : PortGraph). SameBlock (m .graph) g (h .copy)) (sym (within-is drop-within)) (go drop-within)
     where
-      go : DropWithin (m .graph) (h .copy) k (leftIn (x .side) n) (leftOut (x .side) n) → SameBlock (m .graph) (sized .graph) (h .copy)
+      go : DropWithin (m .graph) (h .copy) k (leftIncoming (x .side) n) (leftOutgoing (x .side) n) → SameBlock (m .graph) (sized .graph) (h .copy)
       go (no-change e w) =
           record { before = k; after = k; was = meta-of-node (f .good) (f .holds) (h .copy) k here; is = ap (λ (r : PortsSet). metaAt (r .graph) (h .copy)) e ∙ meta-of-node (f .good) (f .holds) (h .copy) k here; first = refl; capacity = refl }
       go (in-block some less e w) =
-          let i = leftIn (x .side) n in
-          let o = leftOut (x .side) n in
+          let i = leftIncoming (x .side) n in
+          let o = leftOutgoing (x .side) n in
           record {
             before = k;
             after = metaOf (k .«first_port» .0) i o (k .capacity);
@@ -396,14 +393,6 @@ module _ {m : MultiPortGraph} {M : Model} (f : Fine m M) (x : model.InnerPlace) 
         (subst (λ (q : ℕ). Joined bare bareModel (withGraph bare (linkPorts (bare .graph) (slotOf (M .node) x) q .graph)) (linkModel bareModel x y) (wireOfSides (x .side) (outer bare bareModel x) (outer bare bareModel y) ∷ [])) far-slot
         (subst (λ (p : ℕ). Joined bare bareModel (withGraph bare (linkPorts (bare .graph) p (slotOf (bareModel .node) y) .graph)) (linkModel bareModel x y) (wireOfSides (x .side) (outer bare bareModel x) (outer bare bareModel y) ∷ [])) (went .slot)
         (join-ends (went .fine) x y near-end′ far-end′ (went .free) far-free (f .good .joinSides first y linked))))
-
-    -- what linking does to the tables
-    pub direct-links : linkPorts (bare .graph) (slotOf (M .node) x) (slotOf (M .node) y) .graph
-        ≡ withLinks (bare .graph) (linkBoth (bare .graph .«port_link») (slotOf (M .node) x) (slotOf (M .node) y)) (bare .graph .«link_count» + 1)
-    direct-links =
-        transport
-        (λ i. linkPorts (bare .graph) (went .slot i) (far-slot i) .graph ≡ withLinks (bare .graph) (linkBoth (bare .graph .«port_link») (went .slot i) (far-slot i)) (bare .graph .«link_count» + 1))
-        (ap (λ (r : PortsLinked). r .graph) (link-done (went .fine .good) (went .fine .holds) x y (near-end′ .valid) (far-end′ .valid) (f .good .joinSides first y linked) (went .free) far-free))
 
   -- by the definition
   first-port : subportAt m (slotOf (M .node) x) (x .side) 0 ≡ slotOf (M .node) first
@@ -548,9 +537,9 @@ module _ {m : MultiPortGraph} {M : Model} (f : Fine m M) where
       let c : countOf (M .node (h .copy)) (x .side) ≡ portsOn (k .meta) (x .side) = ap (λ (s : Slots). countOf s (x .side)) (k .here) in
       let one : portsOn (k .meta) (reversed (x .side)) ≡ 1 = ap (portsOn (k .meta)) (twice-reversed (x .side) (copySide m (h .copy)) (h .side)) ∙ k .single in
       let l = left-of (k .meta) (x .side) one in
-      let i : leftIn (x .side) (countOf (M .node (h .copy)) (x .side)) ≡ k .meta .incoming = ap (leftIn (x .side)) c ∙ l .0 in
-      let o : leftOut (x .side) (countOf (M .node (h .copy)) (x .side)) ≡ k .meta .outgoing = ap (leftOut (x .side)) c ∙ l .1 in
-      let g : resizedWithin (m .graph) (h .copy) (leftIn (x .side) (countOf (M .node (h .copy)) (x .side))) (leftOut (x .side) (countOf (M .node (h .copy)) (x .side))) ≡ m .graph =
+      let i : leftIncoming (x .side) (countOf (M .node (h .copy)) (x .side)) ≡ k .meta .incoming = ap (leftIncoming (x .side)) c ∙ l .0 in
+      let o : leftOutgoing (x .side) (countOf (M .node (h .copy)) (x .side)) ≡ k .meta .outgoing = ap (leftOutgoing (x .side)) c ∙ l .1 in
+      let g : resizedWithin (m .graph) (h .copy) (leftIncoming (x .side) (countOf (M .node (h .copy)) (x .side))) (leftOutgoing (x .side) (countOf (M .node (h .copy)) (x .side))) ≡ m .graph =
       same-within (m .graph) (h .copy) _ _ (k .meta) (meta-of-node (f .good) (f .holds) (h .copy) (k .meta) (k .here)) i o in
       let z : m .«subport_count» - (countOf (M .node (h .copy)) (x .side) - countOf (M .node (h .copy)) (x .side)) ≡ m .«subport_count» = omega arith in
       rw (g, count-of f (h .copy) (x .side), z) (ap (λ (u : MultiPortGraph). withSubports u (m .«subport_count»)) (same-recount (h .copy) (k .meta) (k .here)))
@@ -638,7 +627,7 @@ module _ {m : MultiPortGraph} {M : Model} (f : Fine m M) where
 
     -- a port that stays split is left with what a resize within the block gives
     pub left-within : (h : Hangs m M x) → 1 < subportsLeft m p (x .side) →
-        DropWithin (m .graph) (h .copy) (f .copy (h .copy) (h .isCopy) .meta) (leftIn (x .side) (subportsLeft m p (x .side))) (leftOut (x .side) (subportsLeft m p (x .side)))
+        DropWithin (m .graph) (h .copy) (f .copy (h .copy) (h .isCopy) .meta) (leftIncoming (x .side) (subportsLeft m p (x .side))) (leftOutgoing (x .side) (subportsLeft m p (x .side)))
     unfolding subportsLeft
     left-within h more =
         let l = last-linked f (h .copy) (x .side) (countOf (M .node (h .copy)) (x .side)) (omega arith) in

@@ -8,31 +8,31 @@ use native.Mathlib.Omega.{arith}
 use lib.Dec.{eqb, ltb}
 use lib.ListN.{set}
 use borrow.Author.Tests.{eq-eqb, ne-eqb, lt-ltb, le-ltb}
-use Rattle.portgraph.specs.Limits.{nodeSlots, nodePorts, portSlots}
-use Rattle.portgraph.specs.Tables.{at, linkBoth}
+use Rattle.portgraph.specs.Limits.{portSlots}
+use Rattle.portgraph.specs.Tables.{at}
 use Rattle.portgraph.specs.Lookups.{numPorts, port#}
-use Rattle.portgraph.specs.Calls.{linkPorts, withLinks}
+use Rattle.portgraph.specs.Calls.{linkPorts}
 use Rattle.portgraph.specs.Resize.{setNumPorts}
 use Rattle.portgraph.specs.Model as model
-use Rattle.portgraph.specs.Model.{Model, Far, nowhere, to, Slots, Valid, slotOf, countOf, firstOf, sideStart}
+use Rattle.portgraph.specs.Model.{Model, Wf, Far, nowhere, to, Slots, Valid, slotOf, countOf, firstOf, sideStart}
 use Rattle.portgraph.specs.GoodSlots.{slot-in-range}
 use Rattle.portgraph.specs.PlaceLaws.{link-none, link-to}
-use Rattle.portgraph.specs.WfFacts.{link-count-fits}
 use Rattle.portgraph.specs.declared.direction.Direction.{Direction}
 use Rattle.portgraph.specs.declared.direction.Direction.the-variants.{Incoming, Outgoing}
 use Rattle.portgraph.specs.declared.portgraph.PortGraph.{PortGraph}
+use Rattle.portgraph.specs.declared.portgraph.PortsLinked.{PortsLinked}
 use Rattle.portgraph.specs.declared.resize.PortsSet.{PortsSet}
 use Rattle.multiportgraph.specs.Reading.{farPort, hasLink, portOf, isSplit, copyNode, subports, subportAt, Port, dead, hidden, visible, seen}
-use Rattle.multiportgraph.specs.Inner.{inner#, Fine, Seen, MultiWf}
+use Rattle.multiportgraph.specs.WellFormed.{inner#, Fine, Seen, MultiWf}
 use Rattle.multiportgraph.specs.Ends.{BlockPort, Hangs, block-seen, split-has-copy, port-of, linked-is, unlinked-is, far-of}
 use Rattle.multiportgraph.specs.Graph.{multi, withGraph, withSubports}
-use Rattle.multiportgraph.specs.Forms.{putFlag, linkedFrom}
+use Rattle.multiportgraph.specs.CodeForms.{putFlag, linkedFrom}
 use Rattle.multiportgraph.specs.CopySteps.{two-puts}
-use Rattle.multiportgraph.specs.Reads.{farIn, ownerIn, subportsIn, firstIn}
-use Rattle.multiportgraph.specs.ReadLaws.{owner-read, subports-read, first-read, far-is}
-use Rattle.multiportgraph.specs.HiddenNodes.{enough, recounted, removeCopy, unsplit}
-use Rattle.multiportgraph.specs.Tidy.{linkedUpTo, subportsLeft, leftIn, leftOut, resizedWithin, dropSubports, linkDirectly, tidied}
-use Rattle.multiportgraph.specs.TidyLaws.{LastLinked, last-linked, empty-above, within-is, drop-within, drop-marks, went, direct-links, bare-is, unchanged}
+use Rattle.multiportgraph.specs.TableReads.{farIn, ownerIn, subportsIn, firstIn}
+use Rattle.multiportgraph.specs.TableReadLaws.{owner-read, subports-read, first-read, far-is}
+use Rattle.multiportgraph.specs.HiddenNodes.{enough, recounted, unsplit}
+use Rattle.multiportgraph.specs.Tidy.{linkedUpTo, subportsLeft, leftIncoming, leftOutgoing, resizedWithin, dropSubports, linkDirectly, tidied}
+use Rattle.multiportgraph.specs.TidyLaws.{LastLinked, last-linked, empty-above, within-is, drop-within, drop-marks, went, bare-is, unchanged}
 use Rattle.multiportgraph.specs.Calls.{tidyPort}
 use Rattle.multiportgraph.specs.Cases.{tidySeen}
 use Rattle.multiportgraph.specs.CaseLaws.{tidy-cases}
@@ -162,13 +162,12 @@ module _ {m : MultiPortGraph} {p : ℕ} {d : Direction} (b : SplitPort m p d) wh
   bare# : unsplit m p ≡ unsplit m (slotOf (M .node) x)
   bare# = ap (unsplit m) (sym (block .slot))
 
-  -- without the hidden node its links are still counted
-  pub bare-links : {r : MultiPortGraph} → r ≡ unsplit m p → r .graph .«link_count» ≤ nodeSlots * nodePorts
-  bare-links {r} e =
+  -- without the hidden node the lower graph is still one of the calls
+  pub bare-wf : {r : MultiPortGraph} → r ≡ unsplit m p → Wf (r .graph)
+  bare-wf {r} e =
       let w = went f x (block .isSeen) h in
-      let is : r ≡ removeCopy m (slotOf (M .node) x) (h .copy) = e ∙ (bare# ∙ bare-is f x (block .isSeen) h split-here) in
-      subst (λ (u : MultiPortGraph). u .graph .«link_count» ≤ nodeSlots * nodePorts) (sym is)
-      (link-count-fits _ (record { model = _; good = w .fine .good; holds = w .fine .holds }))
+      subst (λ (u : MultiPortGraph). Wf (u .graph)) (sym (e ∙ (bare# ∙ bare-is f x (block .isSeen) h split-here)))
+      (record { model = _; good = w .fine .good; holds = w .fine .holds })
 
   pub direct-none : {first held : ℕ} {r : MultiPortGraph} → first ≡ firstIn (m .graph .«port_link») (m .graph .«port_meta») p d → held ≡ at (m .graph .«port_link») first → r ≡ unsplit m p →
       held ≡ 0 → r ≡ linkDirectly m p d
@@ -183,36 +182,29 @@ module _ {m : MultiPortGraph} {p : ℕ} {d : Direction} (b : SplitPort m p d) wh
       go nowhere j = rw (at-first, unlinked-is f first# valid-first j) refl
       go (to y) j = let l = link-to (f .good) (f .holds) first# y valid-first j in let z = none in absurd (omega arith)
 
-  pub direct-one : {first held far : ℕ} {r : MultiPortGraph} {t : List ℕ} → first ≡ firstIn (m .graph .«port_link») (m .graph .«port_meta») p d → held ≡ at (m .graph .«port_link») first →
-      far ≡ farIn (m .graph .«port_link») first → r ≡ unsplit m p → (held ≡ 0 → ⊥) → t ≡ linkBoth (r .graph .«port_link») p far →
-      withGraph r (withLinks (r .graph) t (r .graph .«link_count» + 1)) ≡ linkDirectly m p d
+  pub direct-one : {first held far : ℕ} {r : MultiPortGraph} {l : PortsLinked} → first ≡ firstIn (m .graph .«port_link») (m .graph .«port_meta») p d → held ≡ at (m .graph .«port_link») first →
+      far ≡ farIn (m .graph .«port_link») first → r ≡ unsplit m p → (held ≡ 0 → ⊥) → l ≡ linkPorts (r .graph) p far → withGraph r (l .graph) ≡ linkDirectly m p d
   unfolding linkDirectly
-  direct-one {first} {held} {far} {r} {t} e₁ e₂ e₃ e₄ e₅ e₆ = go (M .join first#) refl
+  direct-one {first} {held} {far} {r} {l} e₁ e₂ e₃ e₄ e₅ e₆ = go (M .join first#) refl
     where
       first-here : first ≡ slotOf (M .node) first#
       first-here = e₁ ∙ first-is
 
-      go : (w : Far) → M .join first# ≡ w → withGraph r (withLinks (r .graph) t (r .graph .«link_count» + 1))
+      go : (w : Far) → M .join first# ≡ w → withGraph r (l .graph)
           ≡ cond (hasLink (m .graph) (subportAt m p d 0)) (withGraph (unsplit m p) (linkPorts (unsplit m p .graph) p (farPort (m .graph) (subportAt m p d 0)) .graph)) (unsplit m p)
       go nowhere j =
           absurd (e₅ (e₂ ∙ (ap (at (m .graph .«port_link»)) first-here ∙ link-none (f .good) (f .holds) first# valid-first j)))
       go (to y) j =
           let far-here : far ≡ slotOf (M .node) y = e₃ ∙ (ap (farIn (m .graph .«port_link»)) first-here ∙ far-is f first# y j) in
-          let is : unsplit m (slotOf (M .node) x) ≡ _ = bare-is f x (block .isSeen) h split-here in
-          let both : r ≡ unsplit m (slotOf (M .node) x) = e₄ ∙ bare# in
-          let l = direct-links f x (block .isSeen) h y j in
-          let k : linkPorts (r .graph) p far .graph ≡ withLinks (r .graph) (linkBoth (r .graph .«port_link») p far) (r .graph .«link_count» + 1) =
-          transport (λ i. linkPorts (sym (both ∙ is) i .graph) (block .slot i) (sym far-here i) .graph
-          ≡ withLinks (sym (both ∙ is) i .graph) (linkBoth (sym (both ∙ is) i .graph .«port_link») (block .slot i) (sym far-here i)) (sym (both ∙ is) i .graph .«link_count» + 1)) l in
           let z : farPort (m .graph) (subportAt m p d 0) ≡ far = ap (farPort (m .graph)) at-first ∙ (far-of f first# y j ∙ sym far-here) in
           rw (z, at-first, linked-is f first# y j)
-          (ap (withGraph r) (ap (λ (u : List ℕ). withLinks (r .graph) u (r .graph .«link_count» + 1)) e₆ ∙ sym k) ∙ ap (λ (u : MultiPortGraph). withGraph u (linkPorts (u .graph) p far .graph)) e₄)
+          (ap (λ (u : PortsLinked). withGraph r (u .graph)) e₆ ∙ ap (λ (u : MultiPortGraph). withGraph u (linkPorts (u .graph) p far .graph)) e₄)
 
 -- a hidden node that is left with some of its subports: the resize, and its marks
 left-sized : {m : MultiPortGraph} {p : ℕ} {d : Direction} {count left : ℕ} (b : LeftPort m p d count left) →
-    (resizedWithin (m .graph) (copyNode m p) (leftIn d left) (leftOut d left) ≡ setNumPorts (m .graph) (copyNode m p) (leftIn d left) (leftOut d left) enough .graph)
-    × (recounted m (copyNode m p) (setNumPorts (m .graph) (copyNode m p) (leftIn d left) (leftOut d left) enough .graph) .multiport
-    ≡ set (set (m .multiport) (farIn (m .graph .«port_link») p) false) (farIn (setNumPorts (m .graph) (copyNode m p) (leftIn d left) (leftOut d left) enough .graph .«port_link») p) true)
+    (resizedWithin (m .graph) (copyNode m p) (leftIncoming d left) (leftOutgoing d left) ≡ setNumPorts (m .graph) (copyNode m p) (leftIncoming d left) (leftOutgoing d left) enough .graph)
+    × (recounted m (copyNode m p) (setNumPorts (m .graph) (copyNode m p) (leftIncoming d left) (leftOutgoing d left) enough .graph) .multiport
+    ≡ set (set (m .multiport) (farIn (m .graph .«port_link») p) false) (farIn (setNumPorts (m .graph) (copyNode m p) (leftIncoming d left) (leftOutgoing d left) enough .graph .«port_link») p) true)
 left-sized {m} {p} {d} {count} {left} b =
     let s = b .port in
     let g = s .block .wf .fine in
@@ -225,10 +217,10 @@ left-sized {m} {p} {d} {count} {left} b =
     let r : LastLinked (s .block .wf .model) (k .copy) (y .place .side) (countOf n (y .place .side)) left = subst (LastLinked (s .block .wf .model) (k .copy) (y .place .side) (countOf n (y .place .side))) (sym e) l in
     let none = empty-above g (k .copy) (y .place .side) left r in
     transport
-    (λ i. (resizedWithin (m .graph) (c i) (leftIn (y .side i) left) (leftOut (y .side i) left) ≡ setNumPorts (m .graph) (c i) (leftIn (y .side i) left) (leftOut (y .side i) left) enough .graph)
-    × (recounted m (c i) (setNumPorts (m .graph) (c i) (leftIn (y .side i) left) (leftOut (y .side i) left) enough .graph) .multiport
+    (λ i. (resizedWithin (m .graph) (c i) (leftIncoming (y .side i) left) (leftOutgoing (y .side i) left) ≡ setNumPorts (m .graph) (c i) (leftIncoming (y .side i) left) (leftOutgoing (y .side i) left) enough .graph)
+    × (recounted m (c i) (setNumPorts (m .graph) (c i) (leftIncoming (y .side i) left) (leftOutgoing (y .side i) left) enough .graph) .multiport
     ≡ set (set (m .multiport) (farIn (m .graph .«port_link») (y .slot i)) false)
-    (farIn (setNumPorts (m .graph) (c i) (leftIn (y .side i) left) (leftOut (y .side i) left) enough .graph .«port_link») (y .slot i)) true))
+    (farIn (setNumPorts (m .graph) (c i) (leftIncoming (y .side i) left) (leftOutgoing (y .side i) left) enough .graph .«port_link») (y .slot i)) true))
     (within-is (drop-within g (y .place) k left (b .more) (r .most) none), drop-marks g (y .place) k left (b .more) (r .most) none (y .isSeen))
 
 -- A hidden node that is left with some of its subports.
@@ -238,8 +230,8 @@ module _ {m : MultiPortGraph} {p : ℕ} {d : Direction} {count left : ℕ} (b : 
       w₁ ≡ p →
       copy ≡ farIn (m .graph .«port_link») w₁ →
       node ≡ ownerIn (m .graph .«port_meta») copy →
-      i ≡ leftIn d left →
-      o ≡ leftOut d left →
+      i ≡ leftIncoming d left →
+      o ≡ leftOutgoing d left →
       len ≡ enough →
       r ≡ setNumPorts (m .graph) node i o len →
       w₂ ≡ p →
@@ -257,7 +249,7 @@ module _ {m : MultiPortGraph} {p : ℕ} {d : Direction} {count left : ℕ} (b : 
       let g = s .block .wf .fine in
       let copy-is : copy ≡ farIn (m .graph .«port_link») p = k₂ ∙ ap (farIn (m .graph .«port_link»)) k₁ in
       let node-is : node ≡ copyNode m p = k₃ ∙ (ap (ownerIn (m .graph .«port_meta»)) copy-is ∙ owner-read g p (s .block .node) d (s .block .is) (s .split)) in
-      let set-is : r ≡ setNumPorts (m .graph) (copyNode m p) (leftIn d left) (leftOut d left) enough = k₇ ∙ (λ j. setNumPorts (m .graph) (node-is j) (k₄ j) (k₅ j) (k₆ j)) in
+      let set-is : r ≡ setNumPorts (m .graph) (copyNode m p) (leftIncoming d left) (leftOutgoing d left) enough = k₇ ∙ (λ j. setNumPorts (m .graph) (node-is j) (k₄ j) (k₅ j) (k₆ j)) in
       let far-is′ : far ≡ farIn (r .graph .«port_link») p = k₉ ∙ ap (farIn (r .graph .«port_link»)) k₈ in
       let marks-is : t₂ ≡ set (set (m .multiport) (farIn (m .graph .«port_link») p) false) (farIn (r .graph .«port_link») p) true =
       rw (l₄, l₂, l₃, l₁, far-is′, copy-is) (two-puts (m .multiport) portSlots _ _ false true (g .marksLong)) in
@@ -265,9 +257,9 @@ module _ {m : MultiPortGraph} {p : ℕ} {d : Direction} {count left : ℕ} (b : 
       (λ j. multi (set-is j .graph) (marks-told set-is marks-is j) (m .«copy_node») (m .«copy_node_count») (subs-is j) (m .release))
       ∙ ap (λ (u : PortGraph). withSubports (recounted m (copyNode m p) u) (m .«subport_count» - (numPorts (m .graph) (copyNode m p) d - left))) (sym (left-sized b .0))
     where
-      marks-told : r ≡ setNumPorts (m .graph) (copyNode m p) (leftIn d left) (leftOut d left) enough →
+      marks-told : r ≡ setNumPorts (m .graph) (copyNode m p) (leftIncoming d left) (leftOutgoing d left) enough →
           t₂ ≡ set (set (m .multiport) (farIn (m .graph .«port_link») p) false) (farIn (r .graph .«port_link») p) true →
-          t₂ ≡ recounted m (copyNode m p) (setNumPorts (m .graph) (copyNode m p) (leftIn d left) (leftOut d left) enough .graph) .multiport
+          t₂ ≡ recounted m (copyNode m p) (setNumPorts (m .graph) (copyNode m p) (leftIncoming d left) (leftOutgoing d left) enough .graph) .multiport
       marks-told e q = q ∙ (ap (λ (u : PortsSet). set (set (m .multiport) (farIn (m .graph .«port_link») p) false) (farIn (u .graph .«port_link») p) true) e ∙ sym (left-sized b .1))
 
 -- where all subports are left nothing changes

@@ -11,7 +11,7 @@ use Rattle.portgraph.specs.declared.index.NodeIndex.{NodeIndex}
 use Rattle.portgraph.specs.declared.iter.Sides.{Sides}
 use Rattle.portgraph.specs.declared.node_entry.NodeEntry.{NodeEntry}
 use Rattle.multiportgraph.specs.Reading.{Port, dead, hidden, visible, subport#}
-use Rattle.multiportgraph.specs.Reads.{seenIn}
+use Rattle.multiportgraph.specs.TableReads.{seenIn}
 use Rattle.multiportgraph.specs.Wires.{sideLinks}
 use Rattle.multiportgraph.specs.Walks.{isSeen, bothSeen, bySides, linkBeyond}
 use Rattle.multiportgraph.specs.Scans.{spanFirst, spanCount, passesIn, linksIn, endBefore}

@@ -14,14 +14,15 @@ use Rattle.portgraph.specs.Entries.{freshSlot, isNode}
 use Rattle.portgraph.specs.Lookups.{node#, port#, metaOfEntry, entryAt, isSome}
 use Rattle.portgraph.specs.Walks.{portsFrom, portsTo}
 use Rattle.portgraph.specs.declared.node_entry.NodeMeta.{NodeMeta}
+use Rattle.portgraph.specs.declared.node_entry.NodeSlot.{NodeSlot}
 use Rattle.portgraph.specs.declared.node_entry.NodeEntry.{NodeEntry}
 use Rattle.portgraph.specs.declared.node_entry.NodeEntry.the-variants as node-variants
 use Rattle.multiportgraph.specs.Reading.{isHidden, Port, seen}
-use Rattle.multiportgraph.specs.Forms.{flagAt, blockFound}
-use Rattle.multiportgraph.specs.FormSteps.{flag-is}
-use Rattle.multiportgraph.specs.Inner.{MultiWf}
-use Rattle.multiportgraph.specs.Reads.{seenIn}
-use Rattle.multiportgraph.specs.ReadLaws.{seen-read}
+use Rattle.multiportgraph.specs.CodeForms.{flagAt, blockFound}
+use Rattle.multiportgraph.specs.CodeFormSteps.{flag-is}
+use Rattle.multiportgraph.specs.WellFormed.{MultiWf}
+use Rattle.multiportgraph.specs.TableReads.{seenIn}
+use Rattle.multiportgraph.specs.TableReadLaws.{seen-read}
 use Rattle.multiportgraph.specs.Wires.{isBlock, blocks}
 use Rattle.multiportgraph.specs.Walks.{isSeen, heldSeen, bothSeen, between, nodeHeld, blocksLeft, stepNodes, stepNodesBack, allPorts, portsLeft, stepAllPorts, stepAllPortsBack, portsOfNode, stepNodePorts}
 use Rattle.multiportgraph.specs.Listing.{member-filter, member-range, filter-append, filter-same}
@@ -158,11 +159,11 @@ module _ (m : MultiPortGraph) where
   node-held-some held r h e = rw (ne-eqb held 0 h) e
 
   -- a slot that is read holds a block
-  pub block-told : (n : ℕ) (b r : Bool) → length (m .«copy_node») ≡ nodeSlots → b ≡ flagAt (m .«copy_node») nodeSlots n
-      → r ≡ blockSlot (getD (m .graph .«node_meta») n freshSlot .entry) b → r ≡ isBlock m n
+  pub block-told : (n : ℕ) (b r : Bool) {slots : List NodeSlot} → slots ≡ m .graph .«node_meta» → length (m .«copy_node») ≡ nodeSlots → b ≡ flagAt (m .«copy_node») nodeSlots n
+      → r ≡ blockSlot (getD slots n freshSlot .entry) b → r ≡ isBlock m n
   unfolding isBlock isHidden
-  block-told n b r long e f =
-      f ∙ ap (λ (x : Bool). cond x false (isNode (entryAt (m .graph) n))) (e ∙ flag-is (m .«copy_node») nodeSlots n long)
+  block-told n b r s long e f =
+      f ∙ ap (λ (l : List NodeSlot). blockSlot (getD l n freshSlot .entry) b) s ∙ ap (λ (x : Bool). cond x false (isNode (entryAt (m .graph) n))) (e ∙ flag-is (m .«copy_node») nodeSlots n long)
       ∙ ap (cond (getD (m .«copy_node») n false) false) (sym (node-some (entryAt (m .graph) n)))
 
   module _ (c : Nodes) where

@@ -8,7 +8,7 @@ use Rattle.portgraph.specs.Limits.{nodeSlots}
 use Rattle.portgraph.specs.declared.direction.Direction.{Direction}
 use Rattle.multiportgraph.specs.Reading.{Port, visible, seen}
 use Rattle.multiportgraph.specs.Wires.{allWires, firstItem, wiresBeyond, wiresSeen, stepWires}
-use Rattle.multiportgraph.specs.Inner.{MultiWf}
+use Rattle.multiportgraph.specs.WellFormed.{MultiWf}
 use Rattle.multiportgraph.specs.Scans.{firstFound, wiresIn}
 use Rattle.multiportgraph.specs.ScanReads.{wires-read, wires-beyond-read}
 use Rattle.multiportgraph.specs.WalkScans.{wiresFound}

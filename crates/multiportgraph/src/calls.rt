@@ -23,7 +23,6 @@ use crate::reads::place_in;
 use crate::reads::plain_in;
 use crate::reads::seen_in;
 use crate::reads::wire_in;
-use portgraph::direction::Direction;
 use portgraph::index::NODE_SLOTS;
 use portgraph::index::PORT_SLOTS;
 use portgraph::index::PortIndex;
@@ -31,15 +30,10 @@ use portgraph::numbers::less;
 use portgraph::numbers::wide;
 use portgraph::portgraph::PortGraph;
 use portgraph::slots::AddAnswer as LowerAdd;
-use portgraph::tables::cut;
-use portgraph::tables::link_both as join;
-use portgraph::tables::without_link;
 ghost use mathlib.Core.Path.{_≡_};
 ghost use Prim.Native.Nat.{_-_};
-ghost use Rattle.portgraph.specs.Meaning.{sameSide};
-ghost use Rattle.portgraph.specs.Tables.{linkCount};
 ghost use Rattle.multiportgraph.specs.Calls.{addBlock, linkSub, cutPort, cutSub, subportLink, visibleNodes, visiblePorts, visibleLinks};
-ghost use Rattle.multiportgraph.specs.Inner.{MultiWf};
+ghost use Rattle.multiportgraph.specs.WellFormed.{MultiWf};
 ghost use Rattle.multiportgraph.specs.Graph.{emptyGraph};
 ghost use Rattle.multiportgraph.specs.Answers.{addNumbers, linkNumbers, cutNumbers, unplaced, unplacedNumbers};
 
@@ -109,15 +103,17 @@ impl MultiPortGraph {
     pub fn node_count(self) -> usize
         ensures { λ r. ⌜ r ≡ visibleNodes self ⌝ }
     {
-        less(self.graph.node_count, self.copy_node_count)
+        let graph = self.graph;
+        less(graph.node_count(), self.copy_node_count)
     }
 
     // The number of ports of blocks.
     pub fn port_count(self) -> usize
         ensures { λ r. ⌜ r ≡ visiblePorts self ⌝ }
     {
+        let graph = self.graph;
         less(
-            less(self.graph.port_count, self.subport_count),
+            less(graph.port_count(), self.subport_count),
             self.copy_node_count,
         )
     }
@@ -126,7 +122,8 @@ impl MultiPortGraph {
     pub fn link_count(self) -> usize
         ensures { λ r. ⌜ r ≡ visibleLinks self ⌝ }
     {
-        less(self.graph.link_count, self.copy_node_count)
+        let graph = self.graph;
+        less(graph.link_count(), self.copy_node_count)
     }
 
     // What a subport is linked with, and where that stands.
@@ -172,8 +169,10 @@ impl MultiPortGraph {
                     &self.copy_node,
                     inner,
                 );
-                let far = cut(&mut self.graph.port_link, wide(inner));
-                self.graph.link_count = without_link(self.graph.link_count, far);
+                let graph = self.graph;
+                let unlinked = graph.unlink_port(PortIndex(inner));
+                let after = unlinked.graph;
+                self.graph = after;
                 PortUnlinked {
                     graph: self,
                     answer: answer,
@@ -222,8 +221,10 @@ impl MultiPortGraph {
                     &self.copy_node,
                     port.0,
                 );
-                let far = cut(&mut self.graph.port_link, wide(port.0));
-                self.graph.link_count = without_link(self.graph.link_count, far);
+                let graph = self.graph;
+                let unlinked = graph.unlink_port(port);
+                let after = unlinked.graph;
+                self.graph = after;
                 PortUnlinked {
                     graph: self,
                     answer: answer,
@@ -274,8 +275,10 @@ impl MultiPortGraph {
             NamedLink::Ends(x, y) => {
                 let first = read_in(&self.multiport, from);
                 let second = read_in(&self.multiport, to);
-                join(&mut self.graph.port_link, x, y);
-                self.graph.link_count = self.graph.link_count + 1;
+                let graph = self.graph;
+                let linked = graph.link_ports(PortIndex(x), PortIndex(y));
+                let after = linked.graph;
+                self.graph = after;
                 PortsLinked {
                     graph: self,
                     answer: LinkAnswer::Linked(first, second),

@@ -10,7 +10,6 @@ use crate::reads::owner_in;
 use crate::reads::subports_in;
 use portgraph::direction::Direction;
 use portgraph::index::NodeIndex;
-use portgraph::index::PortIndex;
 use portgraph::node_entry::MaybeNodeMeta;
 use portgraph::numbers::less;
 use portgraph::numbers::wide;

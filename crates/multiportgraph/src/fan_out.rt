@@ -22,9 +22,9 @@ use portgraph::tables::at;
 ghost use mathlib.Core.Path.{_≡_};
 ghost use Prim.Native.Nat.{_-_, _≤_, min};
 ghost use Rattle.portgraph.specs.Limits.{portSlots};
-ghost use Rattle.multiportgraph.specs.Inner.{MultiWf};
+ghost use Rattle.multiportgraph.specs.WellFormed.{MultiWf};
 ghost use Rattle.multiportgraph.specs.Lookups.{portFanOut, nodeFanOut, countNumbers};
-ghost use Rattle.multiportgraph.specs.Reads.{runUp, runDown};
+ghost use Rattle.multiportgraph.specs.TableReads.{runUp, runDown};
 ghost use Rattle.multiportgraph.specs.FanOutScans.{linkedAt, linkedUp, linkedDown, linkedBeside, wiresAtIn, fanOutIn};
 
 // 1 for a slot that is linked, else 0.

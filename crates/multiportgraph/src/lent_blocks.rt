@@ -1,13 +1,13 @@
 // Blocks over lent tables: every wire at a port is cut, a block goes, and its counts change.
 use crate::ends::SeenPort;
-use crate::lent::CutIn;
-use crate::lent::Held;
+use crate::lent::CutLent;
+use crate::lent::Totals;
 use crate::lent::with_counts;
 use crate::lent::with_links;
 use crate::lent_copies::copy_node_in;
-use crate::lent_copies::remove_all_in;
-use crate::lent_copies::unsplit_in;
-use crate::lent_copies::unsplit_range_in;
+use crate::lent_copies::remove_all_lent;
+use crate::lent_copies::unsplit_lent;
+use crate::lent_copies::unsplit_range_lent;
 use crate::marks::flagged;
 use crate::marks::lay_marks;
 use crate::marks::marked;
@@ -25,9 +25,9 @@ use portgraph::index::PORT_SLOTS;
 use portgraph::index::PortIndex;
 use portgraph::lent::NODE_WORDS;
 use portgraph::lent::meta_in;
-use portgraph::lent_resize::resize_quiet_in;
-use portgraph::lent_resize::set_num_ports_in;
-use portgraph::lent_slots::remove_node_in;
+use portgraph::lent_resize::resize_quiet_lent;
+use portgraph::lent_resize::set_num_ports_lent;
+use portgraph::lent_slots::remove_node_lent;
 use portgraph::node_entry::MaybeNodeMeta;
 use portgraph::node_entry::NodeMeta;
 use portgraph::numbers::less;
@@ -39,56 +39,59 @@ use portgraph::tables::cut;
 use portgraph::tables::store;
 use portgraph::tables::without_link;
 ghost use mathlib.Core.Path.{_≡_};
-ghost use Prim.Native.Nat.{_+_, _-_, _≤_, min};
+ghost use Prim.Native.Nat.{_+_, _-_, _≤_};
 ghost use lib.ListN.{length, take};
 ghost use lib.Seq.{sets};
 ghost use Rattle.portgraph.specs.Limits.{portSlots, nodePorts};
+ghost use Rattle.portgraph.specs.Lent.{StaysCanonical};
 ghost use Rattle.portgraph.specs.Resize.{BlockFits};
 ghost use Rattle.multiportgraph.specs.Calls.{cutPort, removeBlock, setAs, setCounts, movesTold};
-ghost use Rattle.multiportgraph.specs.Answers.{unplaced};
-ghost use Rattle.multiportgraph.specs.Inner.{MultiWf};
+ghost use Rattle.multiportgraph.specs.Answers.{removeNumbers, setNumbers, cutNumbers, beforePlace, unplaced, unplacedNumbers};
+ghost use Rattle.multiportgraph.specs.WellFormed.{MultiWf};
 ghost use Rattle.multiportgraph.specs.MultiLent.{multiIn, FitsIf, Sound, Resizes, settled};
 ghost use Rattle.multiportgraph.specs.HiddenNodes.{marksMoved, copiesIn, copiesDropped, enough};
 
-pub struct RemovedIn {
-    pub held: Held,
+pub struct RemovedLent {
+    pub totals: Totals,
     pub answer: RemoveAnswer,
 }
 
-pub struct SetIn {
-    pub held: Held,
+pub struct SetLent {
+    pub totals: Totals,
     pub answer: SetAnswer,
 }
 
 // MultiPortGraph::unlink_port over lent tables, without the place.
-pub fn cut_port_in(
+pub fn cut_port_lent(
     nodes: &mut [u32; NODE_WORDS],
     links: &mut [u32; PORT_SLOTS],
     owners: &mut [u32; PORT_SLOTS],
     heads: &mut [u32; FREE_LISTS],
     marks: &mut [bool; PORT_SLOTS],
     flags: &mut [bool; NODE_SLOTS],
-    held: Held,
+    totals: Totals,
     port: PortIndex,
-) -> CutIn
-    requires { ⌜ MultiWf (multiIn (now nodes) (now links) (now owners) (now heads) (now marks) (now flags) held) ⌝ }
-    ensures { λ r. ⌜ (multiIn (now (nodes .exit)) (now (links .exit)) (now (owners .exit)) (now (heads .exit)) (now (marks .exit)) (now (flags .exit)) (r .held) ≡ cutPort (multiIn (now (nodes .entry)) (now (links .entry)) (now (owners .entry)) (now (heads .entry)) (now (marks .entry)) (now (flags .entry)) held) (port .0) .graph)
-        × (r .answer ≡ unplaced (cutPort (multiIn (now (nodes .entry)) (now (links .entry)) (now (owners .entry)) (now (heads .entry)) (now (marks .entry)) (now (flags .entry)) held) (port .0) .answer)) ⌝ }
+) -> CutLent
+    requires { ⌜ MultiWf (multiIn (now nodes) (now links) (now owners) (now heads) (now marks) (now flags) totals) ⌝ }
+    ensures { λ r. ⌜ (multiIn (now (nodes .exit)) (now (links .exit)) (now (owners .exit)) (now (heads .exit)) (now (marks .exit)) (now (flags .exit)) (r .totals) ≡ cutPort (multiIn (now (nodes .entry)) (now (links .entry)) (now (owners .entry)) (now (heads .entry)) (now (marks .entry)) (now (flags .entry)) totals) (port .0) .graph)
+        × (r .answer ≡ unplaced (cutPort (multiIn (now (nodes .entry)) (now (links .entry)) (now (owners .entry)) (now (heads .entry)) (now (marks .entry)) (now (flags .entry)) totals) (port .0) .answer))
+        × StaysCanonical (now (nodes .entry)) (now (nodes .exit))
+        × (unplacedNumbers (r .answer) ≡ beforePlace (cutNumbers (cutPort (multiIn (now (nodes .entry)) (now (links .entry)) (now (owners .entry)) (now (heads .entry)) (now (marks .entry)) (now (flags .entry)) totals) (port .0) .answer))) ⌝ }
 {
     match seen_in(owners, flags, port.0) {
-        SeenPort::Dead => CutIn {
-            held: held,
+        SeenPort::Dead => CutLent {
+            totals: totals,
             answer: EndAnswer::Refused(Refusal::UnknownPort(port)),
         },
-        SeenPort::Hidden => CutIn {
-            held: held,
+        SeenPort::Hidden => CutLent {
+            totals: totals,
             answer: EndAnswer::Refused(Refusal::HiddenPort(port)),
         },
         SeenPort::Visible(_, _) => {
             if marked(marks, wide(port.0)) {
-                let after = unsplit_in(nodes, links, owners, heads, marks, flags, held, port.0);
-                return CutIn {
-                    held: after,
+                let after = unsplit_lent(nodes, links, owners, heads, marks, flags, totals, port.0);
+                return CutLent {
+                    totals: after,
                     answer: EndAnswer::Found(SubportIndex {
                         port: port,
                         subport_offset: 0,
@@ -96,15 +99,15 @@ pub fn cut_port_in(
                 };
             }
             let far = cut(links, wide(port.0));
-            let left = with_links(held, without_link(held.counts.link_count, far));
+            let left = with_links(totals, without_link(totals.counts.link_count, far));
             if far == 0 {
-                return CutIn {
-                    held: left,
+                return CutLent {
+                    totals: left,
                     answer: EndAnswer::Nothing,
                 };
             }
-            CutIn {
-                held: left,
+            CutLent {
+                totals: left,
                 answer: EndAnswer::Found(SubportIndex {
                     port: PortIndex(far - 1),
                     subport_offset: 0,
@@ -115,48 +118,50 @@ pub fn cut_port_in(
 }
 
 // MultiPortGraph::remove_node over lent tables.
-pub fn remove_in(
+pub fn remove_lent(
     nodes: &mut [u32; NODE_WORDS],
     links: &mut [u32; PORT_SLOTS],
     owners: &mut [u32; PORT_SLOTS],
     heads: &mut [u32; FREE_LISTS],
     marks: &mut [bool; PORT_SLOTS],
     flags: &mut [bool; NODE_SLOTS],
-    held: Held,
+    totals: Totals,
     node: NodeIndex,
-) -> RemovedIn
-    requires { ⌜ MultiWf (multiIn (now nodes) (now links) (now owners) (now heads) (now marks) (now flags) held) ⌝ }
-    ensures { λ r. ⌜ (multiIn (now (nodes .exit)) (now (links .exit)) (now (owners .exit)) (now (heads .exit)) (now (marks .exit)) (now (flags .exit)) (r .held) ≡ removeBlock (multiIn (now (nodes .entry)) (now (links .entry)) (now (owners .entry)) (now (heads .entry)) (now (marks .entry)) (now (flags .entry)) held) (node .0) .graph)
-        × (r .answer ≡ removeBlock (multiIn (now (nodes .entry)) (now (links .entry)) (now (owners .entry)) (now (heads .entry)) (now (marks .entry)) (now (flags .entry)) held) (node .0) .answer) ⌝ }
+) -> RemovedLent
+    requires { ⌜ MultiWf (multiIn (now nodes) (now links) (now owners) (now heads) (now marks) (now flags) totals) ⌝ }
+    ensures { λ r. ⌜ (multiIn (now (nodes .exit)) (now (links .exit)) (now (owners .exit)) (now (heads .exit)) (now (marks .exit)) (now (flags .exit)) (r .totals) ≡ removeBlock (multiIn (now (nodes .entry)) (now (links .entry)) (now (owners .entry)) (now (heads .entry)) (now (marks .entry)) (now (flags .entry)) totals) (node .0) .graph)
+        × (r .answer ≡ removeBlock (multiIn (now (nodes .entry)) (now (links .entry)) (now (owners .entry)) (now (heads .entry)) (now (marks .entry)) (now (flags .entry)) totals) (node .0) .answer)
+        × StaysCanonical (now (nodes .entry)) (now (nodes .exit))
+        × (removeNumbers (r .answer) ≡ removeNumbers (removeBlock (multiIn (now (nodes .entry)) (now (links .entry)) (now (owners .entry)) (now (heads .entry)) (now (marks .entry)) (now (flags .entry)) totals) (node .0) .answer)) ⌝ }
 {
     let MaybeNodeMeta::Some(meta) = meta_in(nodes, node.0) else {
-        return RemovedIn {
-            held: held,
+        return RemovedLent {
+            totals: totals,
             answer: RemoveAnswer::Refused(Refusal::UnknownNode),
         };
     };
     if flagged(flags, wide(node.0)) {
-        return RemovedIn {
-            held: held,
+        return RemovedLent {
+            totals: totals,
             answer: RemoveAnswer::Refused(Refusal::HiddenNode),
         };
     }
-    let bare = unsplit_range_in(
+    let bare = unsplit_range_lent(
         nodes,
         links,
         owners,
         heads,
         marks,
         flags,
-        held,
+        totals,
         meta.first_port.0,
         meta.port_count(),
     );
     let counts = bare.counts;
-    let removed = remove_node_in(nodes, links, owners, heads, counts, node);
+    let removed = remove_node_lent(nodes, links, owners, heads, counts, node);
     let after = removed.counts;
-    RemovedIn {
-        held: with_counts(bare, after),
+    RemovedLent {
+        totals: with_counts(bare, after),
         answer: RemoveAnswer::Removed,
     }
 }
@@ -183,14 +188,14 @@ fn list_copies<'a>(
     heads: &'a [u32; FREE_LISTS],
     marks: &'a [bool; PORT_SLOTS],
     flags: &'a [bool; NODE_SLOTS],
-    held: Held,
+    totals: Totals,
     list: &mut [u32],
     at: usize,
     first: usize,
     count: usize,
 ) -> usize
-    requires { ⌜ Sound (multiIn (now nodes) (now links) (now owners) (now heads) (now marks) (now flags) held) × (first + count ≤ portSlots) × (at + count ≤ nodePorts) ⌝ }
-    ensures { λ r. ⌜ (r ≡ at + length (copiesIn (multiIn (now (nodes .entry)) (now (links .entry)) (now (owners .entry)) (now (heads .entry)) (now (marks .entry)) (now (flags .entry)) held) first count)) × (now (list .exit) ≡ sets (now (list .entry)) at (copiesIn (multiIn (now (nodes .entry)) (now (links .entry)) (now (owners .entry)) (now (heads .entry)) (now (marks .entry)) (now (flags .entry)) held) first count)) ⌝ }
+    requires { ⌜ Sound (multiIn (now nodes) (now links) (now owners) (now heads) (now marks) (now flags) totals) × (first + count ≤ portSlots) × (at + count ≤ nodePorts) ⌝ }
+    ensures { λ r. ⌜ (r ≡ at + length (copiesIn (multiIn (now (nodes .entry)) (now (links .entry)) (now (owners .entry)) (now (heads .entry)) (now (marks .entry)) (now (flags .entry)) totals) first count)) × (now (list .exit) ≡ sets (now (list .entry)) at (copiesIn (multiIn (now (nodes .entry)) (now (links .entry)) (now (owners .entry)) (now (heads .entry)) (now (marks .entry)) (now (flags .entry)) totals) first count)) ⌝ }
 {
     let mut place = at;
     let mut k: usize = 0;
@@ -213,14 +218,14 @@ fn list_dropped<'a>(
     heads: &'a [u32; FREE_LISTS],
     marks: &'a [bool; PORT_SLOTS],
     flags: &'a [bool; NODE_SLOTS],
-    held: Held,
+    totals: Totals,
     list: &mut [u32],
     meta: NodeMeta,
     incoming: usize,
     outgoing: usize,
 ) -> usize
-    requires { ⌜ Sound (multiIn (now nodes) (now links) (now owners) (now heads) (now marks) (now flags) held) × BlockFits meta ⌝ }
-    ensures { λ r. ⌜ (r ≡ length (copiesDropped (multiIn (now (nodes .entry)) (now (links .entry)) (now (owners .entry)) (now (heads .entry)) (now (marks .entry)) (now (flags .entry)) held) meta incoming outgoing)) × (now (list .exit) ≡ sets (now (list .entry)) 0 (copiesDropped (multiIn (now (nodes .entry)) (now (links .entry)) (now (owners .entry)) (now (heads .entry)) (now (marks .entry)) (now (flags .entry)) held) meta incoming outgoing)) ⌝ }
+    requires { ⌜ Sound (multiIn (now nodes) (now links) (now owners) (now heads) (now marks) (now flags) totals) × BlockFits meta ⌝ }
+    ensures { λ r. ⌜ (r ≡ length (copiesDropped (multiIn (now (nodes .entry)) (now (links .entry)) (now (owners .entry)) (now (heads .entry)) (now (marks .entry)) (now (flags .entry)) totals) meta incoming outgoing)) × (now (list .exit) ≡ sets (now (list .entry)) 0 (copiesDropped (multiIn (now (nodes .entry)) (now (links .entry)) (now (owners .entry)) (now (heads .entry)) (now (marks .entry)) (now (flags .entry)) totals) meta incoming outgoing)) ⌝ }
 {
     let first = wide(meta.first_port.0);
     let old_in = wide16(meta.incoming);
@@ -234,7 +239,7 @@ fn list_dropped<'a>(
         heads,
         marks,
         flags,
-        held,
+        totals,
         list,
         0,
         first + kept_in,
@@ -247,7 +252,7 @@ fn list_dropped<'a>(
         heads,
         marks,
         flags,
-        held,
+        totals,
         list,
         middle,
         first + old_in + kept_out,
@@ -269,33 +274,44 @@ fn set_as(answer: LowerSet) -> SetAnswer
 
 // The single-link graph has other counts for a node, or refused them: where it has them the marks move with the ports, and the first
 // `count` hidden nodes of the list go. `meta` is what the node was before.
-fn finish_in(
+fn finish_lent(
     nodes: &mut [u32; NODE_WORDS],
     links: &mut [u32; PORT_SLOTS],
     owners: &mut [u32; PORT_SLOTS],
     heads: &mut [u32; FREE_LISTS],
     marks: &mut [bool; PORT_SLOTS],
     flags: &mut [bool; NODE_SLOTS],
-    held: Held,
+    totals: Totals,
     node: NodeIndex,
     meta: NodeMeta,
     answer: LowerSet,
     list: &[u32],
     count: usize,
-) -> SetIn
-    requires { ⌜ Sound (multiIn (now nodes) (now links) (now owners) (now heads) (now marks) (now flags) held) × BlockFits meta × (count ≤ length (now list)) ⌝ }
-    ensures { λ r. ⌜ (multiIn (now (nodes .exit)) (now (links .exit)) (now (owners .exit)) (now (heads .exit)) (now (marks .exit)) (now (flags .exit)) (r .held) ≡ settled (multiIn (now (nodes .entry)) (now (links .entry)) (now (owners .entry)) (now (heads .entry)) (now (marks .entry)) (now (flags .entry)) held) (node .0) meta (take count (now (list .entry))) answer)
-        × (r .answer ≡ setAs answer) ⌝ }
+) -> SetLent
+    requires { ⌜ Sound (multiIn (now nodes) (now links) (now owners) (now heads) (now marks) (now flags) totals) × BlockFits meta × (count ≤ length (now list)) ⌝ }
+    ensures { λ r. ⌜ (multiIn (now (nodes .exit)) (now (links .exit)) (now (owners .exit)) (now (heads .exit)) (now (marks .exit)) (now (flags .exit)) (r .totals) ≡ settled (multiIn (now (nodes .entry)) (now (links .entry)) (now (owners .entry)) (now (heads .entry)) (now (marks .entry)) (now (flags .entry)) totals) (node .0) meta (take count (now (list .entry))) answer)
+        × (r .answer ≡ setAs answer)
+        × StaysCanonical (now (nodes .entry)) (now (nodes .exit)) ⌝ }
 {
     let LowerSet::Set(_) = answer else {
-        return SetIn {
-            held: held,
+        return SetLent {
+            totals: totals,
             answer: set_as(answer),
         };
     };
     recount(marks, MaybeNodeMeta::Some(meta), meta_in(nodes, node.0));
-    SetIn {
-        held: remove_all_in(nodes, links, owners, heads, marks, flags, held, list, count),
+    SetLent {
+        totals: remove_all_lent(
+            nodes,
+            links,
+            owners,
+            heads,
+            marks,
+            flags,
+            totals,
+            list,
+            count,
+        ),
         answer: set_as(answer),
     }
 }
@@ -311,25 +327,26 @@ fn dropped(meta: NodeMeta, incoming: usize, outgoing: usize) -> usize
 }
 
 // The block is there and not hidden: its counts change, and the hidden nodes of dropped ports go, which the list has room for.
-fn resize_in(
+fn resize_lent(
     nodes: &mut [u32; NODE_WORDS],
     links: &mut [u32; PORT_SLOTS],
     owners: &mut [u32; PORT_SLOTS],
     heads: &mut [u32; FREE_LISTS],
     marks: &mut [bool; PORT_SLOTS],
     flags: &mut [bool; NODE_SLOTS],
-    held: Held,
+    totals: Totals,
     node: NodeIndex,
     meta: NodeMeta,
     incoming: usize,
     outgoing: usize,
     moves: &mut [u32],
     list: &mut [u32],
-) -> SetIn
-    requires { ⌜ Resizes (multiIn (now nodes) (now links) (now owners) (now heads) (now marks) (now flags) held) (node .0) meta incoming outgoing × (length (copiesDropped (multiIn (now nodes) (now links) (now owners) (now heads) (now marks) (now flags) held) meta incoming outgoing) ≤ length (now list)) ⌝ }
-    ensures { λ r. ⌜ (multiIn (now (nodes .exit)) (now (links .exit)) (now (owners .exit)) (now (heads .exit)) (now (marks .exit)) (now (flags .exit)) (r .held) ≡ setCounts (multiIn (now (nodes .entry)) (now (links .entry)) (now (owners .entry)) (now (heads .entry)) (now (marks .entry)) (now (flags .entry)) held) (node .0) incoming outgoing (length (now (moves .entry))) .graph)
-        × (r .answer ≡ setCounts (multiIn (now (nodes .entry)) (now (links .entry)) (now (owners .entry)) (now (heads .entry)) (now (marks .entry)) (now (flags .entry)) held) (node .0) incoming outgoing (length (now (moves .entry))) .answer)
-        × (now (moves .exit) ≡ movesTold (multiIn (now (nodes .entry)) (now (links .entry)) (now (owners .entry)) (now (heads .entry)) (now (marks .entry)) (now (flags .entry)) held) (node .0) incoming outgoing (now (moves .entry))) ⌝ }
+) -> SetLent
+    requires { ⌜ Resizes (multiIn (now nodes) (now links) (now owners) (now heads) (now marks) (now flags) totals) (node .0) meta incoming outgoing × (length (copiesDropped (multiIn (now nodes) (now links) (now owners) (now heads) (now marks) (now flags) totals) meta incoming outgoing) ≤ length (now list)) ⌝ }
+    ensures { λ r. ⌜ (multiIn (now (nodes .exit)) (now (links .exit)) (now (owners .exit)) (now (heads .exit)) (now (marks .exit)) (now (flags .exit)) (r .totals) ≡ setCounts (multiIn (now (nodes .entry)) (now (links .entry)) (now (owners .entry)) (now (heads .entry)) (now (marks .entry)) (now (flags .entry)) totals) (node .0) incoming outgoing (length (now (moves .entry))) .graph)
+        × (r .answer ≡ setCounts (multiIn (now (nodes .entry)) (now (links .entry)) (now (owners .entry)) (now (heads .entry)) (now (marks .entry)) (now (flags .entry)) totals) (node .0) incoming outgoing (length (now (moves .entry))) .answer)
+        × (now (moves .exit) ≡ movesTold (multiIn (now (nodes .entry)) (now (links .entry)) (now (owners .entry)) (now (heads .entry)) (now (marks .entry)) (now (flags .entry)) totals) (node .0) incoming outgoing (now (moves .entry)))
+        × StaysCanonical (now (nodes .entry)) (now (nodes .exit)) ⌝ }
 {
     let count = list_dropped(
         nodes,
@@ -338,14 +355,14 @@ fn resize_in(
         heads,
         marks,
         flags,
-        held,
+        totals,
         list,
         meta,
         incoming,
         outgoing,
     );
-    let counts = held.counts;
-    let sized = set_num_ports_in(
+    let counts = totals.counts;
+    let sized = set_num_ports_lent(
         nodes,
         links,
         owners,
@@ -358,14 +375,14 @@ fn resize_in(
     );
     let after = sized.counts;
     let answer = sized.answer;
-    finish_in(
+    finish_lent(
         nodes,
         links,
         owners,
         heads,
         marks,
         flags,
-        with_counts(held, after),
+        with_counts(totals, after),
         node,
         meta,
         answer,
@@ -375,35 +392,36 @@ fn resize_in(
 }
 
 // The same with a list of its own.
-fn resize_listing_in(
+fn resize_listing_lent(
     nodes: &mut [u32; NODE_WORDS],
     links: &mut [u32; PORT_SLOTS],
     owners: &mut [u32; PORT_SLOTS],
     heads: &mut [u32; FREE_LISTS],
     marks: &mut [bool; PORT_SLOTS],
     flags: &mut [bool; NODE_SLOTS],
-    held: Held,
+    totals: Totals,
     node: NodeIndex,
     meta: NodeMeta,
     incoming: usize,
     outgoing: usize,
     moves: &mut [u32],
-) -> SetIn
-    requires { ⌜ Resizes (multiIn (now nodes) (now links) (now owners) (now heads) (now marks) (now flags) held) (node .0) meta incoming outgoing ⌝ }
-    ensures { λ r. ⌜ (multiIn (now (nodes .exit)) (now (links .exit)) (now (owners .exit)) (now (heads .exit)) (now (marks .exit)) (now (flags .exit)) (r .held) ≡ setCounts (multiIn (now (nodes .entry)) (now (links .entry)) (now (owners .entry)) (now (heads .entry)) (now (marks .entry)) (now (flags .entry)) held) (node .0) incoming outgoing (length (now (moves .entry))) .graph)
-        × (r .answer ≡ setCounts (multiIn (now (nodes .entry)) (now (links .entry)) (now (owners .entry)) (now (heads .entry)) (now (marks .entry)) (now (flags .entry)) held) (node .0) incoming outgoing (length (now (moves .entry))) .answer)
-        × (now (moves .exit) ≡ movesTold (multiIn (now (nodes .entry)) (now (links .entry)) (now (owners .entry)) (now (heads .entry)) (now (marks .entry)) (now (flags .entry)) held) (node .0) incoming outgoing (now (moves .entry))) ⌝ }
+) -> SetLent
+    requires { ⌜ Resizes (multiIn (now nodes) (now links) (now owners) (now heads) (now marks) (now flags) totals) (node .0) meta incoming outgoing ⌝ }
+    ensures { λ r. ⌜ (multiIn (now (nodes .exit)) (now (links .exit)) (now (owners .exit)) (now (heads .exit)) (now (marks .exit)) (now (flags .exit)) (r .totals) ≡ setCounts (multiIn (now (nodes .entry)) (now (links .entry)) (now (owners .entry)) (now (heads .entry)) (now (marks .entry)) (now (flags .entry)) totals) (node .0) incoming outgoing (length (now (moves .entry))) .graph)
+        × (r .answer ≡ setCounts (multiIn (now (nodes .entry)) (now (links .entry)) (now (owners .entry)) (now (heads .entry)) (now (marks .entry)) (now (flags .entry)) totals) (node .0) incoming outgoing (length (now (moves .entry))) .answer)
+        × (now (moves .exit) ≡ movesTold (multiIn (now (nodes .entry)) (now (links .entry)) (now (owners .entry)) (now (heads .entry)) (now (marks .entry)) (now (flags .entry)) totals) (node .0) incoming outgoing (now (moves .entry)))
+        × StaysCanonical (now (nodes .entry)) (now (nodes .exit)) ⌝ }
 {
     if dropped(meta, incoming, outgoing) <= FEW {
         let mut few = [0u32; FEW];
-        return resize_in(
+        return resize_lent(
             nodes,
             links,
             owners,
             heads,
             marks,
             flags,
-            held,
+            totals,
             node,
             meta,
             incoming,
@@ -413,14 +431,14 @@ fn resize_listing_in(
         );
     }
     let mut list = [0u32; NODE_PORTS];
-    resize_in(
+    resize_lent(
         nodes,
         links,
         owners,
         heads,
         marks,
         flags,
-        held,
+        totals,
         node,
         meta,
         incoming,
@@ -431,23 +449,24 @@ fn resize_listing_in(
 }
 
 // The same without a move list, as if there were one that is long enough.
-fn resize_untold_in(
+fn resize_untold_lent(
     nodes: &mut [u32; NODE_WORDS],
     links: &mut [u32; PORT_SLOTS],
     owners: &mut [u32; PORT_SLOTS],
     heads: &mut [u32; FREE_LISTS],
     marks: &mut [bool; PORT_SLOTS],
     flags: &mut [bool; NODE_SLOTS],
-    held: Held,
+    totals: Totals,
     node: NodeIndex,
     meta: NodeMeta,
     incoming: usize,
     outgoing: usize,
     list: &mut [u32],
-) -> SetIn
-    requires { ⌜ Resizes (multiIn (now nodes) (now links) (now owners) (now heads) (now marks) (now flags) held) (node .0) meta incoming outgoing × (length (copiesDropped (multiIn (now nodes) (now links) (now owners) (now heads) (now marks) (now flags) held) meta incoming outgoing) ≤ length (now list)) ⌝ }
-    ensures { λ r. ⌜ (multiIn (now (nodes .exit)) (now (links .exit)) (now (owners .exit)) (now (heads .exit)) (now (marks .exit)) (now (flags .exit)) (r .held) ≡ setCounts (multiIn (now (nodes .entry)) (now (links .entry)) (now (owners .entry)) (now (heads .entry)) (now (marks .entry)) (now (flags .entry)) held) (node .0) incoming outgoing enough .graph)
-        × (r .answer ≡ setCounts (multiIn (now (nodes .entry)) (now (links .entry)) (now (owners .entry)) (now (heads .entry)) (now (marks .entry)) (now (flags .entry)) held) (node .0) incoming outgoing enough .answer) ⌝ }
+) -> SetLent
+    requires { ⌜ Resizes (multiIn (now nodes) (now links) (now owners) (now heads) (now marks) (now flags) totals) (node .0) meta incoming outgoing × (length (copiesDropped (multiIn (now nodes) (now links) (now owners) (now heads) (now marks) (now flags) totals) meta incoming outgoing) ≤ length (now list)) ⌝ }
+    ensures { λ r. ⌜ (multiIn (now (nodes .exit)) (now (links .exit)) (now (owners .exit)) (now (heads .exit)) (now (marks .exit)) (now (flags .exit)) (r .totals) ≡ setCounts (multiIn (now (nodes .entry)) (now (links .entry)) (now (owners .entry)) (now (heads .entry)) (now (marks .entry)) (now (flags .entry)) totals) (node .0) incoming outgoing enough .graph)
+        × (r .answer ≡ setCounts (multiIn (now (nodes .entry)) (now (links .entry)) (now (owners .entry)) (now (heads .entry)) (now (marks .entry)) (now (flags .entry)) totals) (node .0) incoming outgoing enough .answer)
+        × StaysCanonical (now (nodes .entry)) (now (nodes .exit)) ⌝ }
 {
     let count = list_dropped(
         nodes,
@@ -456,14 +475,14 @@ fn resize_untold_in(
         heads,
         marks,
         flags,
-        held,
+        totals,
         list,
         meta,
         incoming,
         outgoing,
     );
-    let counts = held.counts;
-    let sized = resize_quiet_in(
+    let counts = totals.counts;
+    let sized = resize_quiet_lent(
         nodes,
         links,
         owners,
@@ -476,14 +495,14 @@ fn resize_untold_in(
     );
     let after = sized.counts;
     let answer = sized.answer;
-    finish_in(
+    finish_lent(
         nodes,
         links,
         owners,
         heads,
         marks,
         flags,
-        with_counts(held, after),
+        with_counts(totals, after),
         node,
         meta,
         answer,
@@ -493,33 +512,34 @@ fn resize_untold_in(
 }
 
 // The same with a list of its own.
-fn resize_untold_listing_in(
+fn resize_untold_listing_lent(
     nodes: &mut [u32; NODE_WORDS],
     links: &mut [u32; PORT_SLOTS],
     owners: &mut [u32; PORT_SLOTS],
     heads: &mut [u32; FREE_LISTS],
     marks: &mut [bool; PORT_SLOTS],
     flags: &mut [bool; NODE_SLOTS],
-    held: Held,
+    totals: Totals,
     node: NodeIndex,
     meta: NodeMeta,
     incoming: usize,
     outgoing: usize,
-) -> SetIn
-    requires { ⌜ Resizes (multiIn (now nodes) (now links) (now owners) (now heads) (now marks) (now flags) held) (node .0) meta incoming outgoing ⌝ }
-    ensures { λ r. ⌜ (multiIn (now (nodes .exit)) (now (links .exit)) (now (owners .exit)) (now (heads .exit)) (now (marks .exit)) (now (flags .exit)) (r .held) ≡ setCounts (multiIn (now (nodes .entry)) (now (links .entry)) (now (owners .entry)) (now (heads .entry)) (now (marks .entry)) (now (flags .entry)) held) (node .0) incoming outgoing enough .graph)
-        × (r .answer ≡ setCounts (multiIn (now (nodes .entry)) (now (links .entry)) (now (owners .entry)) (now (heads .entry)) (now (marks .entry)) (now (flags .entry)) held) (node .0) incoming outgoing enough .answer) ⌝ }
+) -> SetLent
+    requires { ⌜ Resizes (multiIn (now nodes) (now links) (now owners) (now heads) (now marks) (now flags) totals) (node .0) meta incoming outgoing ⌝ }
+    ensures { λ r. ⌜ (multiIn (now (nodes .exit)) (now (links .exit)) (now (owners .exit)) (now (heads .exit)) (now (marks .exit)) (now (flags .exit)) (r .totals) ≡ setCounts (multiIn (now (nodes .entry)) (now (links .entry)) (now (owners .entry)) (now (heads .entry)) (now (marks .entry)) (now (flags .entry)) totals) (node .0) incoming outgoing enough .graph)
+        × (r .answer ≡ setCounts (multiIn (now (nodes .entry)) (now (links .entry)) (now (owners .entry)) (now (heads .entry)) (now (marks .entry)) (now (flags .entry)) totals) (node .0) incoming outgoing enough .answer)
+        × StaysCanonical (now (nodes .entry)) (now (nodes .exit)) ⌝ }
 {
     if dropped(meta, incoming, outgoing) <= FEW {
         let mut few = [0u32; FEW];
-        return resize_untold_in(
+        return resize_untold_lent(
             nodes,
             links,
             owners,
             heads,
             marks,
             flags,
-            held,
+            totals,
             node,
             meta,
             incoming,
@@ -528,14 +548,14 @@ fn resize_untold_listing_in(
         );
     }
     let mut list = [0u32; NODE_PORTS];
-    resize_untold_in(
+    resize_untold_lent(
         nodes,
         links,
         owners,
         heads,
         marks,
         flags,
-        held,
+        totals,
         node,
         meta,
         incoming,
@@ -545,56 +565,58 @@ fn resize_untold_listing_in(
 }
 
 // MultiPortGraph::set_num_ports over lent tables.
-pub fn set_in(
+pub fn set_lent(
     nodes: &mut [u32; NODE_WORDS],
     links: &mut [u32; PORT_SLOTS],
     owners: &mut [u32; PORT_SLOTS],
     heads: &mut [u32; FREE_LISTS],
     marks: &mut [bool; PORT_SLOTS],
     flags: &mut [bool; NODE_SLOTS],
-    held: Held,
+    totals: Totals,
     node: NodeIndex,
     incoming: usize,
     outgoing: usize,
     moves: &mut [u32],
-) -> SetIn
-    requires { ⌜ MultiWf (multiIn (now nodes) (now links) (now owners) (now heads) (now marks) (now flags) held) ⌝ }
-    ensures { λ r. ⌜ (multiIn (now (nodes .exit)) (now (links .exit)) (now (owners .exit)) (now (heads .exit)) (now (marks .exit)) (now (flags .exit)) (r .held) ≡ setCounts (multiIn (now (nodes .entry)) (now (links .entry)) (now (owners .entry)) (now (heads .entry)) (now (marks .entry)) (now (flags .entry)) held) (node .0) incoming outgoing (length (now (moves .entry))) .graph)
-        × (r .answer ≡ setCounts (multiIn (now (nodes .entry)) (now (links .entry)) (now (owners .entry)) (now (heads .entry)) (now (marks .entry)) (now (flags .entry)) held) (node .0) incoming outgoing (length (now (moves .entry))) .answer)
-        × (now (moves .exit) ≡ movesTold (multiIn (now (nodes .entry)) (now (links .entry)) (now (owners .entry)) (now (heads .entry)) (now (marks .entry)) (now (flags .entry)) held) (node .0) incoming outgoing (now (moves .entry))) ⌝ }
+) -> SetLent
+    requires { ⌜ MultiWf (multiIn (now nodes) (now links) (now owners) (now heads) (now marks) (now flags) totals) ⌝ }
+    ensures { λ r. ⌜ (multiIn (now (nodes .exit)) (now (links .exit)) (now (owners .exit)) (now (heads .exit)) (now (marks .exit)) (now (flags .exit)) (r .totals) ≡ setCounts (multiIn (now (nodes .entry)) (now (links .entry)) (now (owners .entry)) (now (heads .entry)) (now (marks .entry)) (now (flags .entry)) totals) (node .0) incoming outgoing (length (now (moves .entry))) .graph)
+        × (r .answer ≡ setCounts (multiIn (now (nodes .entry)) (now (links .entry)) (now (owners .entry)) (now (heads .entry)) (now (marks .entry)) (now (flags .entry)) totals) (node .0) incoming outgoing (length (now (moves .entry))) .answer)
+        × (now (moves .exit) ≡ movesTold (multiIn (now (nodes .entry)) (now (links .entry)) (now (owners .entry)) (now (heads .entry)) (now (marks .entry)) (now (flags .entry)) totals) (node .0) incoming outgoing (now (moves .entry)))
+        × StaysCanonical (now (nodes .entry)) (now (nodes .exit))
+        × (setNumbers (r .answer) ≡ setNumbers (setCounts (multiIn (now (nodes .entry)) (now (links .entry)) (now (owners .entry)) (now (heads .entry)) (now (marks .entry)) (now (flags .entry)) totals) (node .0) incoming outgoing (length (now (moves .entry))) .answer)) ⌝ }
 {
     if NODE_PORTS < incoming {
-        return SetIn {
-            held: held,
+        return SetLent {
+            totals: totals,
             answer: SetAnswer::Refused(Refusal::TooManyPorts),
         };
     }
     if NODE_PORTS - incoming < outgoing {
-        return SetIn {
-            held: held,
+        return SetLent {
+            totals: totals,
             answer: SetAnswer::Refused(Refusal::TooManyPorts),
         };
     }
     let MaybeNodeMeta::Some(meta) = meta_in(nodes, node.0) else {
-        return SetIn {
-            held: held,
+        return SetLent {
+            totals: totals,
             answer: SetAnswer::Refused(Refusal::UnknownNode),
         };
     };
     if flagged(flags, wide(node.0)) {
-        return SetIn {
-            held: held,
+        return SetLent {
+            totals: totals,
             answer: SetAnswer::Refused(Refusal::HiddenNode),
         };
     }
-    resize_listing_in(
+    resize_listing_lent(
         nodes,
         links,
         owners,
         heads,
         marks,
         flags,
-        held,
+        totals,
         node,
         meta,
         incoming,
@@ -604,54 +626,56 @@ pub fn set_in(
 }
 
 // The same for a caller who reads no move list: what it gives for one that is long enough.
-pub fn set_quiet_in(
+pub fn set_quiet_lent(
     nodes: &mut [u32; NODE_WORDS],
     links: &mut [u32; PORT_SLOTS],
     owners: &mut [u32; PORT_SLOTS],
     heads: &mut [u32; FREE_LISTS],
     marks: &mut [bool; PORT_SLOTS],
     flags: &mut [bool; NODE_SLOTS],
-    held: Held,
+    totals: Totals,
     node: NodeIndex,
     incoming: usize,
     outgoing: usize,
-) -> SetIn
-    requires { ⌜ MultiWf (multiIn (now nodes) (now links) (now owners) (now heads) (now marks) (now flags) held) ⌝ }
-    ensures { λ r. ⌜ (multiIn (now (nodes .exit)) (now (links .exit)) (now (owners .exit)) (now (heads .exit)) (now (marks .exit)) (now (flags .exit)) (r .held) ≡ setCounts (multiIn (now (nodes .entry)) (now (links .entry)) (now (owners .entry)) (now (heads .entry)) (now (marks .entry)) (now (flags .entry)) held) (node .0) incoming outgoing enough .graph)
-        × (r .answer ≡ setCounts (multiIn (now (nodes .entry)) (now (links .entry)) (now (owners .entry)) (now (heads .entry)) (now (marks .entry)) (now (flags .entry)) held) (node .0) incoming outgoing enough .answer) ⌝ }
+) -> SetLent
+    requires { ⌜ MultiWf (multiIn (now nodes) (now links) (now owners) (now heads) (now marks) (now flags) totals) ⌝ }
+    ensures { λ r. ⌜ (multiIn (now (nodes .exit)) (now (links .exit)) (now (owners .exit)) (now (heads .exit)) (now (marks .exit)) (now (flags .exit)) (r .totals) ≡ setCounts (multiIn (now (nodes .entry)) (now (links .entry)) (now (owners .entry)) (now (heads .entry)) (now (marks .entry)) (now (flags .entry)) totals) (node .0) incoming outgoing enough .graph)
+        × (r .answer ≡ setCounts (multiIn (now (nodes .entry)) (now (links .entry)) (now (owners .entry)) (now (heads .entry)) (now (marks .entry)) (now (flags .entry)) totals) (node .0) incoming outgoing enough .answer)
+        × StaysCanonical (now (nodes .entry)) (now (nodes .exit))
+        × (setNumbers (r .answer) ≡ setNumbers (setCounts (multiIn (now (nodes .entry)) (now (links .entry)) (now (owners .entry)) (now (heads .entry)) (now (marks .entry)) (now (flags .entry)) totals) (node .0) incoming outgoing enough .answer)) ⌝ }
 {
     if NODE_PORTS < incoming {
-        return SetIn {
-            held: held,
+        return SetLent {
+            totals: totals,
             answer: SetAnswer::Refused(Refusal::TooManyPorts),
         };
     }
     if NODE_PORTS - incoming < outgoing {
-        return SetIn {
-            held: held,
+        return SetLent {
+            totals: totals,
             answer: SetAnswer::Refused(Refusal::TooManyPorts),
         };
     }
     let MaybeNodeMeta::Some(meta) = meta_in(nodes, node.0) else {
-        return SetIn {
-            held: held,
+        return SetLent {
+            totals: totals,
             answer: SetAnswer::Refused(Refusal::UnknownNode),
         };
     };
     if flagged(flags, wide(node.0)) {
-        return SetIn {
-            held: held,
+        return SetLent {
+            totals: totals,
             answer: SetAnswer::Refused(Refusal::HiddenNode),
         };
     }
-    resize_untold_listing_in(
+    resize_untold_listing_lent(
         nodes,
         links,
         owners,
         heads,
         marks,
         flags,
-        held,
+        totals,
         node,
         meta,
         incoming,

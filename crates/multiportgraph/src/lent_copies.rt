@@ -1,5 +1,5 @@
 // Hidden nodes over lent tables: what is read of them, and how they go.
-use crate::lent::Held;
+use crate::lent::Totals;
 use crate::marks::marked;
 use crate::marks::put_flag;
 use crate::marks::put_mark;
@@ -11,12 +11,11 @@ use portgraph::index::MaybePortIndex;
 use portgraph::index::NODE_SLOTS;
 use portgraph::index::NodeIndex;
 use portgraph::index::PORT_SLOTS;
-use portgraph::index::PortIndex;
 use portgraph::index::PortOffset;
 use portgraph::lent::NODE_WORDS;
 use portgraph::lent_reads::num_ports_in;
 use portgraph::lent_reads::port_index_in;
-use portgraph::lent_slots::remove_node_in;
+use portgraph::lent_slots::remove_node_lent;
 use portgraph::numbers::less;
 use portgraph::numbers::wide;
 use portgraph::port_entry::PortEntry;
@@ -25,6 +24,7 @@ ghost use mathlib.Core.Path.{_≡_};
 ghost use Prim.Native.Nat.{_+_, _≤_};
 ghost use lib.ListN.{length, take};
 ghost use Rattle.portgraph.specs.Limits.{portSlots};
+ghost use Rattle.portgraph.specs.Lent.{StaysCanonical};
 ghost use Rattle.multiportgraph.specs.MultiLent.{multiIn, portOfIn, copySideIn, farPortIn, copyNodeIn, Sound};
 ghost use Rattle.multiportgraph.specs.HiddenNodes.{removeCopy, removeLone, removeAll, unsplit, unsplitRange};
 
@@ -89,78 +89,91 @@ pub(crate) fn copy_node_in<'a>(
 }
 
 // The hidden node of a split port goes, with every link at it.
-fn remove_copy_in(
+fn remove_copy_lent(
     nodes: &mut [u32; NODE_WORDS],
     links: &mut [u32; PORT_SLOTS],
     owners: &mut [u32; PORT_SLOTS],
     heads: &mut [u32; FREE_LISTS],
     marks: &mut [bool; PORT_SLOTS],
     flags: &mut [bool; NODE_SLOTS],
-    held: Held,
+    totals: Totals,
     port: u32,
     node: u32,
-) -> Held
-    requires { ⌜ Sound (multiIn (now nodes) (now links) (now owners) (now heads) (now marks) (now flags) held) ⌝ }
-    ensures { λ r. ⌜ multiIn (now (nodes .exit)) (now (links .exit)) (now (owners .exit)) (now (heads .exit)) (now (marks .exit)) (now (flags .exit)) r ≡ removeCopy (multiIn (now (nodes .entry)) (now (links .entry)) (now (owners .entry)) (now (heads .entry)) (now (marks .entry)) (now (flags .entry)) held) port node ⌝ }
+) -> Totals
+    requires { ⌜ Sound (multiIn (now nodes) (now links) (now owners) (now heads) (now marks) (now flags) totals) ⌝ }
+    ensures { λ r. ⌜ (multiIn (now (nodes .exit)) (now (links .exit)) (now (owners .exit)) (now (heads .exit)) (now (marks .exit)) (now (flags .exit)) r ≡ removeCopy (multiIn (now (nodes .entry)) (now (links .entry)) (now (owners .entry)) (now (heads .entry)) (now (marks .entry)) (now (flags .entry)) totals) port node)
+        × StaysCanonical (now (nodes .entry)) (now (nodes .exit)) ⌝ }
 {
     let side = copy_side_in(nodes, marks, node);
     let copy = port_of_in(nodes, node, side, 0);
     let count = num_ports_in(nodes, node, side.reverse());
-    let counts = held.counts;
-    let removed = remove_node_in(nodes, links, owners, heads, counts, NodeIndex(node));
+    let counts = totals.counts;
+    let removed = remove_node_lent(nodes, links, owners, heads, counts, NodeIndex(node));
     let after = removed.counts;
     put_mark(marks, wide(copy), false);
     put_mark(marks, wide(port), false);
     put_flag(flags, wide(node), false);
-    let release = held.release;
-    Held {
+    let release = totals.release;
+    Totals {
         counts: after,
-        copies: less(held.copies, 1),
-        subs: less(held.subs, count),
+        copies: less(totals.copies, 1),
+        subs: less(totals.subs, count),
         release: release,
     }
 }
 
 // A port of a block loses its hidden node, if it has one.
-pub(crate) fn unsplit_in(
+pub(crate) fn unsplit_lent(
     nodes: &mut [u32; NODE_WORDS],
     links: &mut [u32; PORT_SLOTS],
     owners: &mut [u32; PORT_SLOTS],
     heads: &mut [u32; FREE_LISTS],
     marks: &mut [bool; PORT_SLOTS],
     flags: &mut [bool; NODE_SLOTS],
-    held: Held,
+    totals: Totals,
     port: u32,
-) -> Held
-    requires { ⌜ Sound (multiIn (now nodes) (now links) (now owners) (now heads) (now marks) (now flags) held) ⌝ }
-    ensures { λ r. ⌜ multiIn (now (nodes .exit)) (now (links .exit)) (now (owners .exit)) (now (heads .exit)) (now (marks .exit)) (now (flags .exit)) r ≡ unsplit (multiIn (now (nodes .entry)) (now (links .entry)) (now (owners .entry)) (now (heads .entry)) (now (marks .entry)) (now (flags .entry)) held) port ⌝ }
+) -> Totals
+    requires { ⌜ Sound (multiIn (now nodes) (now links) (now owners) (now heads) (now marks) (now flags) totals) ⌝ }
+    ensures { λ r. ⌜ (multiIn (now (nodes .exit)) (now (links .exit)) (now (owners .exit)) (now (heads .exit)) (now (marks .exit)) (now (flags .exit)) r ≡ unsplit (multiIn (now (nodes .entry)) (now (links .entry)) (now (owners .entry)) (now (heads .entry)) (now (marks .entry)) (now (flags .entry)) totals) port)
+        × StaysCanonical (now (nodes .entry)) (now (nodes .exit)) ⌝ }
 {
     if marked(marks, wide(port)) {
         let node = copy_node_in(links, owners, port);
-        return remove_copy_in(nodes, links, owners, heads, marks, flags, held, port, node);
+        return remove_copy_lent(
+            nodes,
+            links,
+            owners,
+            heads,
+            marks,
+            flags,
+            totals,
+            port,
+            node,
+        );
     }
-    held
+    totals
 }
 
 // `count` ports from `first` on lose their hidden nodes, the first one first.
-pub(crate) fn unsplit_range_in(
+pub(crate) fn unsplit_range_lent(
     nodes: &mut [u32; NODE_WORDS],
     links: &mut [u32; PORT_SLOTS],
     owners: &mut [u32; PORT_SLOTS],
     heads: &mut [u32; FREE_LISTS],
     marks: &mut [bool; PORT_SLOTS],
     flags: &mut [bool; NODE_SLOTS],
-    held: Held,
+    totals: Totals,
     first: u32,
     count: usize,
-) -> Held
-    requires { ⌜ Sound (multiIn (now nodes) (now links) (now owners) (now heads) (now marks) (now flags) held) × (first + count ≤ portSlots) ⌝ }
-    ensures { λ r. ⌜ multiIn (now (nodes .exit)) (now (links .exit)) (now (owners .exit)) (now (heads .exit)) (now (marks .exit)) (now (flags .exit)) r ≡ unsplitRange (multiIn (now (nodes .entry)) (now (links .entry)) (now (owners .entry)) (now (heads .entry)) (now (marks .entry)) (now (flags .entry)) held) first count ⌝ }
+) -> Totals
+    requires { ⌜ Sound (multiIn (now nodes) (now links) (now owners) (now heads) (now marks) (now flags) totals) × (first + count ≤ portSlots) ⌝ }
+    ensures { λ r. ⌜ (multiIn (now (nodes .exit)) (now (links .exit)) (now (owners .exit)) (now (heads .exit)) (now (marks .exit)) (now (flags .exit)) r ≡ unsplitRange (multiIn (now (nodes .entry)) (now (links .entry)) (now (owners .entry)) (now (heads .entry)) (now (marks .entry)) (now (flags .entry)) totals) first count)
+        × StaysCanonical (now (nodes .entry)) (now (nodes .exit)) ⌝ }
 {
-    let mut left = held;
+    let mut left = totals;
     let mut k: usize = 0;
     while k < count {
-        left = unsplit_in(
+        left = unsplit_lent(
             nodes,
             links,
             owners,
@@ -176,43 +189,55 @@ pub(crate) fn unsplit_range_in(
 }
 
 // A hidden node whose split port is gone already.
-fn remove_lone_in(
+fn remove_lone_lent(
     nodes: &mut [u32; NODE_WORDS],
     links: &mut [u32; PORT_SLOTS],
     owners: &mut [u32; PORT_SLOTS],
     heads: &mut [u32; FREE_LISTS],
     marks: &mut [bool; PORT_SLOTS],
     flags: &mut [bool; NODE_SLOTS],
-    held: Held,
+    totals: Totals,
     node: u32,
-) -> Held
-    requires { ⌜ Sound (multiIn (now nodes) (now links) (now owners) (now heads) (now marks) (now flags) held) ⌝ }
-    ensures { λ r. ⌜ multiIn (now (nodes .exit)) (now (links .exit)) (now (owners .exit)) (now (heads .exit)) (now (marks .exit)) (now (flags .exit)) r ≡ removeLone (multiIn (now (nodes .entry)) (now (links .entry)) (now (owners .entry)) (now (heads .entry)) (now (marks .entry)) (now (flags .entry)) held) node ⌝ }
+) -> Totals
+    requires { ⌜ Sound (multiIn (now nodes) (now links) (now owners) (now heads) (now marks) (now flags) totals) ⌝ }
+    ensures { λ r. ⌜ (multiIn (now (nodes .exit)) (now (links .exit)) (now (owners .exit)) (now (heads .exit)) (now (marks .exit)) (now (flags .exit)) r ≡ removeLone (multiIn (now (nodes .entry)) (now (links .entry)) (now (owners .entry)) (now (heads .entry)) (now (marks .entry)) (now (flags .entry)) totals) node)
+        × StaysCanonical (now (nodes .entry)) (now (nodes .exit)) ⌝ }
 {
     let side = copy_side_in(nodes, marks, node);
     let copy = port_of_in(nodes, node, side, 0);
-    remove_copy_in(nodes, links, owners, heads, marks, flags, held, copy, node)
+    remove_copy_lent(
+        nodes,
+        links,
+        owners,
+        heads,
+        marks,
+        flags,
+        totals,
+        copy,
+        node,
+    )
 }
 
 // The first `count` hidden nodes of a list go, in order; the ports that they hung on are gone already.
-pub(crate) fn remove_all_in(
+pub(crate) fn remove_all_lent(
     nodes: &mut [u32; NODE_WORDS],
     links: &mut [u32; PORT_SLOTS],
     owners: &mut [u32; PORT_SLOTS],
     heads: &mut [u32; FREE_LISTS],
     marks: &mut [bool; PORT_SLOTS],
     flags: &mut [bool; NODE_SLOTS],
-    held: Held,
+    totals: Totals,
     list: &[u32],
     count: usize,
-) -> Held
-    requires { ⌜ Sound (multiIn (now nodes) (now links) (now owners) (now heads) (now marks) (now flags) held) × (count ≤ length (now list)) ⌝ }
-    ensures { λ r. ⌜ multiIn (now (nodes .exit)) (now (links .exit)) (now (owners .exit)) (now (heads .exit)) (now (marks .exit)) (now (flags .exit)) r ≡ removeAll (multiIn (now (nodes .entry)) (now (links .entry)) (now (owners .entry)) (now (heads .entry)) (now (marks .entry)) (now (flags .entry)) held) (take count (now (list .entry))) ⌝ }
+) -> Totals
+    requires { ⌜ Sound (multiIn (now nodes) (now links) (now owners) (now heads) (now marks) (now flags) totals) × (count ≤ length (now list)) ⌝ }
+    ensures { λ r. ⌜ (multiIn (now (nodes .exit)) (now (links .exit)) (now (owners .exit)) (now (heads .exit)) (now (marks .exit)) (now (flags .exit)) r ≡ removeAll (multiIn (now (nodes .entry)) (now (links .entry)) (now (owners .entry)) (now (heads .entry)) (now (marks .entry)) (now (flags .entry)) totals) (take count (now (list .entry))))
+        × StaysCanonical (now (nodes .entry)) (now (nodes .exit)) ⌝ }
 {
-    let mut left = held;
+    let mut left = totals;
     let mut k: usize = 0;
     while k < count {
-        left = remove_lone_in(nodes, links, owners, heads, marks, flags, left, list[k]);
+        left = remove_lone_lent(nodes, links, owners, heads, marks, flags, left, list[k]);
         k += 1;
     }
     left

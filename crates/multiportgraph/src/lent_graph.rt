@@ -1,5 +1,5 @@
 // The graph by value out of lent tables, and back into them: so another crate builds and reads graphs over lent tables.
-use crate::lent::Held;
+use crate::lent::Totals;
 use crate::multiportgraph::MultiPortGraph;
 use portgraph::index::FREE_LISTS;
 use portgraph::index::NODE_SLOTS;
@@ -8,7 +8,8 @@ use portgraph::lent::NODE_WORDS;
 use portgraph::lent_graph::graph_in;
 use portgraph::lent_graph::put_graph;
 ghost use mathlib.Core.Path.{_≡_};
-ghost use Rattle.multiportgraph.specs.Inner.{MultiWf};
+ghost use Rattle.portgraph.specs.Lent.{Canonical};
+ghost use Rattle.multiportgraph.specs.WellFormed.{MultiWf};
 ghost use Rattle.multiportgraph.specs.MultiLent.{multiIn};
 
 // The graph that lent tables and numbers are.
@@ -19,22 +20,22 @@ pub fn graph_of_tables<'a>(
     heads: &'a [u32; FREE_LISTS],
     marks: &'a [bool; PORT_SLOTS],
     flags: &'a [bool; NODE_SLOTS],
-    held: Held,
+    totals: Totals,
 ) -> MultiPortGraph
-    requires { ⌜ MultiWf (multiIn (now nodes) (now links) (now owners) (now heads) (now marks) (now flags) held) ⌝ }
-    ensures { λ r. ⌜ r ≡ multiIn (now (nodes .entry)) (now (links .entry)) (now (owners .entry)) (now (heads .entry)) (now (marks .entry)) (now (flags .entry)) held ⌝ }
+    requires { ⌜ MultiWf (multiIn (now nodes) (now links) (now owners) (now heads) (now marks) (now flags) totals) ⌝ }
+    ensures { λ r. ⌜ r ≡ multiIn (now (nodes .entry)) (now (links .entry)) (now (owners .entry)) (now (heads .entry)) (now (marks .entry)) (now (flags .entry)) totals ⌝ }
 {
-    let counts = held.counts;
+    let counts = totals.counts;
     let graph = graph_in(nodes, links, owners, heads, counts);
     let multiport = *marks;
     let copy_node = *flags;
-    let release = held.release;
+    let release = totals.release;
     MultiPortGraph {
         graph: graph,
         multiport: multiport,
         copy_node: copy_node,
-        copy_node_count: held.copies,
-        subport_count: held.subs,
+        copy_node_count: totals.copies,
+        subport_count: totals.subs,
         release: release,
     }
 }
@@ -48,8 +49,9 @@ pub fn tables_of_graph(
     heads: &mut [u32; FREE_LISTS],
     marks: &mut [bool; PORT_SLOTS],
     flags: &mut [bool; NODE_SLOTS],
-) -> Held
-    ensures { λ r. ⌜ multiIn (now (nodes .exit)) (now (links .exit)) (now (owners .exit)) (now (heads .exit)) (now (marks .exit)) (now (flags .exit)) r ≡ graph ⌝ }
+) -> Totals
+    ensures { λ r. ⌜ (multiIn (now (nodes .exit)) (now (links .exit)) (now (owners .exit)) (now (heads .exit)) (now (marks .exit)) (now (flags .exit)) r ≡ graph)
+        × Canonical (now (nodes .exit)) ⌝ }
 {
     let lower = graph.graph;
     let counts = put_graph(lower, nodes, links, owners, heads);
@@ -58,7 +60,7 @@ pub fn tables_of_graph(
     let copy_node = graph.copy_node;
     *flags = copy_node;
     let release = graph.release;
-    Held {
+    Totals {
         counts: counts,
         copies: graph.copy_node_count,
         subs: graph.subport_count,

@@ -3,14 +3,14 @@
 use crate::ends::SeenPort;
 use crate::inputs::input_taken;
 use crate::inputs::taken_ports;
-use crate::lent::Held;
-use crate::lent::LinkedIn;
+use crate::lent::LinkedLent;
+use crate::lent::Totals;
 use crate::lent::with_links;
 use crate::lent_needs::Need;
 use crate::lent_needs::need_of;
 use crate::lent_needs::room_for;
 use crate::lent_needs::takes_of;
-use crate::lent_prepare::prepare_in;
+use crate::lent_prepare::prepare_lent;
 use crate::multiportgraph::LinkAnswer;
 use crate::multiportgraph::Refusal;
 use crate::multiportgraph::SubportIndex;
@@ -26,69 +26,95 @@ use portgraph::tables::link_both;
 ghost use mathlib.Core.Path.{_≡_};
 ghost use mathlib.Core.Bool.{false};
 ghost use Rattle.portgraph.specs.Limits.{present};
-ghost use Rattle.multiportgraph.specs.Inner.{MultiWf};
+ghost use Rattle.portgraph.specs.Lent.{StaysCanonical};
+ghost use Rattle.multiportgraph.specs.WellFormed.{MultiWf};
 ghost use Rattle.multiportgraph.specs.MultiLent.{multiIn};
 ghost use Rattle.multiportgraph.specs.Needs.{needOf};
 ghost use Rattle.multiportgraph.specs.HiddenNodes.{prepare};
 ghost use Rattle.multiportgraph.specs.Cases.{linkFirst, linkLive};
 ghost use Rattle.multiportgraph.specs.Presumed.{OnBlock, BothOnBlock, FirstReady};
 ghost use Rattle.multiportgraph.specs.Calls.{linkPairIf, linkPair};
+ghost use Rattle.multiportgraph.specs.Answers.{linkNumbers};
 
 // The second port is not live: the preparation of the first stays.
-fn link_first_in(
+fn link_first_lent(
     nodes: &mut [u32; NODE_WORDS],
     links: &mut [u32; PORT_SLOTS],
     owners: &mut [u32; PORT_SLOTS],
     heads: &mut [u32; FREE_LISTS],
     marks: &mut [bool; PORT_SLOTS],
     flags: &mut [bool; NODE_SLOTS],
-    held: Held,
+    totals: Totals,
     a: u32,
     d: Direction,
     b: PortIndex,
-) -> LinkedIn
-    requires { ⌜ OnBlock (multiIn (now nodes) (now links) (now owners) (now heads) (now marks) (now flags) held) a d ⌝ }
-    ensures { λ r. ⌜ (multiIn (now (nodes .exit)) (now (links .exit)) (now (owners .exit)) (now (heads .exit)) (now (marks .exit)) (now (flags .exit)) (r .held) ≡ linkFirst (multiIn (now (nodes .entry)) (now (links .entry)) (now (owners .entry)) (now (heads .entry)) (now (marks .entry)) (now (flags .entry)) held) (b .0) (prepare (multiIn (now (nodes .entry)) (now (links .entry)) (now (owners .entry)) (now (heads .entry)) (now (marks .entry)) (now (flags .entry)) held) a d) .graph)
-        × (r .answer ≡ linkFirst (multiIn (now (nodes .entry)) (now (links .entry)) (now (owners .entry)) (now (heads .entry)) (now (marks .entry)) (now (flags .entry)) held) (b .0) (prepare (multiIn (now (nodes .entry)) (now (links .entry)) (now (owners .entry)) (now (heads .entry)) (now (marks .entry)) (now (flags .entry)) held) a d) .answer) ⌝ }
+) -> LinkedLent
+    requires { ⌜ OnBlock (multiIn (now nodes) (now links) (now owners) (now heads) (now marks) (now flags) totals) a d ⌝ }
+    ensures { λ r. ⌜ (multiIn (now (nodes .exit)) (now (links .exit)) (now (owners .exit)) (now (heads .exit)) (now (marks .exit)) (now (flags .exit)) (r .totals) ≡ linkFirst (multiIn (now (nodes .entry)) (now (links .entry)) (now (owners .entry)) (now (heads .entry)) (now (marks .entry)) (now (flags .entry)) totals) (b .0) (prepare (multiIn (now (nodes .entry)) (now (links .entry)) (now (owners .entry)) (now (heads .entry)) (now (marks .entry)) (now (flags .entry)) totals) a d) .graph)
+        × (r .answer ≡ linkFirst (multiIn (now (nodes .entry)) (now (links .entry)) (now (owners .entry)) (now (heads .entry)) (now (marks .entry)) (now (flags .entry)) totals) (b .0) (prepare (multiIn (now (nodes .entry)) (now (links .entry)) (now (owners .entry)) (now (heads .entry)) (now (marks .entry)) (now (flags .entry)) totals) a d) .answer)
+        × StaysCanonical (now (nodes .entry)) (now (nodes .exit)) ⌝ }
 {
     let need = need_of(nodes, links, owners, marks, a, d);
-    let first = prepare_in(nodes, links, owners, heads, marks, flags, held, a, d, need);
-    let after = first.held;
+    let first = prepare_lent(
+        nodes,
+        links,
+        owners,
+        heads,
+        marks,
+        flags,
+        totals,
+        a,
+        d,
+        need,
+    );
+    let after = first.totals;
     if first.ready {
-        return LinkedIn {
-            held: after,
+        return LinkedLent {
+            totals: after,
             answer: LinkAnswer::Refused(Refusal::UnknownSecondPort(b)),
         };
     }
-    LinkedIn {
-        held: after,
+    LinkedLent {
+        totals: after,
         answer: LinkAnswer::Refused(Refusal::NoRoom),
     }
 }
 
 // A port with itself: the end that is prepared is found again, on the same side.
-fn link_self_in(
+fn link_self_lent(
     nodes: &mut [u32; NODE_WORDS],
     links: &mut [u32; PORT_SLOTS],
     owners: &mut [u32; PORT_SLOTS],
     heads: &mut [u32; FREE_LISTS],
     marks: &mut [bool; PORT_SLOTS],
     flags: &mut [bool; NODE_SLOTS],
-    held: Held,
+    totals: Totals,
     a: u32,
     d: Direction,
-) -> LinkedIn
-    requires { ⌜ OnBlock (multiIn (now nodes) (now links) (now owners) (now heads) (now marks) (now flags) held) a d ⌝ }
-    ensures { λ r. ⌜ (multiIn (now (nodes .exit)) (now (links .exit)) (now (owners .exit)) (now (heads .exit)) (now (marks .exit)) (now (flags .exit)) (r .held) ≡ linkLive (multiIn (now (nodes .entry)) (now (links .entry)) (now (owners .entry)) (now (heads .entry)) (now (marks .entry)) (now (flags .entry)) held) a d a d (prepare (multiIn (now (nodes .entry)) (now (links .entry)) (now (owners .entry)) (now (heads .entry)) (now (marks .entry)) (now (flags .entry)) held) a d) .graph)
-        × (r .answer ≡ linkLive (multiIn (now (nodes .entry)) (now (links .entry)) (now (owners .entry)) (now (heads .entry)) (now (marks .entry)) (now (flags .entry)) held) a d a d (prepare (multiIn (now (nodes .entry)) (now (links .entry)) (now (owners .entry)) (now (heads .entry)) (now (marks .entry)) (now (flags .entry)) held) a d) .answer) ⌝ }
+) -> LinkedLent
+    requires { ⌜ OnBlock (multiIn (now nodes) (now links) (now owners) (now heads) (now marks) (now flags) totals) a d ⌝ }
+    ensures { λ r. ⌜ (multiIn (now (nodes .exit)) (now (links .exit)) (now (owners .exit)) (now (heads .exit)) (now (marks .exit)) (now (flags .exit)) (r .totals) ≡ linkLive (multiIn (now (nodes .entry)) (now (links .entry)) (now (owners .entry)) (now (heads .entry)) (now (marks .entry)) (now (flags .entry)) totals) a d a d (prepare (multiIn (now (nodes .entry)) (now (links .entry)) (now (owners .entry)) (now (heads .entry)) (now (marks .entry)) (now (flags .entry)) totals) a d) .graph)
+        × (r .answer ≡ linkLive (multiIn (now (nodes .entry)) (now (links .entry)) (now (owners .entry)) (now (heads .entry)) (now (marks .entry)) (now (flags .entry)) totals) a d a d (prepare (multiIn (now (nodes .entry)) (now (links .entry)) (now (owners .entry)) (now (heads .entry)) (now (marks .entry)) (now (flags .entry)) totals) a d) .answer)
+        × StaysCanonical (now (nodes .entry)) (now (nodes .exit)) ⌝ }
 {
     let need = need_of(nodes, links, owners, marks, a, d);
-    let first = prepare_in(nodes, links, owners, heads, marks, flags, held, a, d, need);
-    let after = first.held;
+    let first = prepare_lent(
+        nodes,
+        links,
+        owners,
+        heads,
+        marks,
+        flags,
+        totals,
+        a,
+        d,
+        need,
+    );
+    let after = first.totals;
     if first.ready {
         let x = first.port;
-        return LinkedIn {
-            held: after,
+        return LinkedLent {
+            totals: after,
             answer: LinkAnswer::Refused(Refusal::IncompatibleDirections(
                 PortIndex(x),
                 PortIndex(x),
@@ -96,21 +122,21 @@ fn link_self_in(
             )),
         };
     }
-    LinkedIn {
-        held: after,
+    LinkedLent {
+        totals: after,
         answer: LinkAnswer::Refused(Refusal::NoRoom),
     }
 }
 
 // The first end is ready: the second is prepared, and both are linked.
-fn link_second_in(
+fn link_second_lent(
     nodes: &mut [u32; NODE_WORDS],
     links: &mut [u32; PORT_SLOTS],
     owners: &mut [u32; PORT_SLOTS],
     heads: &mut [u32; FREE_LISTS],
     marks: &mut [bool; PORT_SLOTS],
     flags: &mut [bool; NODE_SLOTS],
-    held: Held,
+    totals: Totals,
     a: u32,
     d: Direction,
     x: u32,
@@ -118,18 +144,30 @@ fn link_second_in(
     b: u32,
     e: Direction,
     need: Need,
-) -> LinkedIn
-    requires { ⌜ FirstReady (multiIn (now nodes) (now links) (now owners) (now heads) (now marks) (now flags) held) a d x o b e × (need ≡ needOf (multiIn (now nodes) (now links) (now owners) (now heads) (now marks) (now flags) held) b e) ⌝ }
-    ensures { λ r. ⌜ (multiIn (now (nodes .exit)) (now (links .exit)) (now (owners .exit)) (now (heads .exit)) (now (marks .exit)) (now (flags .exit)) (r .held) ≡ linkLive (multiIn (now (nodes .entry)) (now (links .entry)) (now (owners .entry)) (now (heads .entry)) (now (marks .entry)) (now (flags .entry)) held) a d b e (prepare (multiIn (now (nodes .entry)) (now (links .entry)) (now (owners .entry)) (now (heads .entry)) (now (marks .entry)) (now (flags .entry)) held) a d) .graph)
-        × (r .answer ≡ linkLive (multiIn (now (nodes .entry)) (now (links .entry)) (now (owners .entry)) (now (heads .entry)) (now (marks .entry)) (now (flags .entry)) held) a d b e (prepare (multiIn (now (nodes .entry)) (now (links .entry)) (now (owners .entry)) (now (heads .entry)) (now (marks .entry)) (now (flags .entry)) held) a d) .answer) ⌝ }
+) -> LinkedLent
+    requires { ⌜ FirstReady (multiIn (now nodes) (now links) (now owners) (now heads) (now marks) (now flags) totals) a d x o b e × (need ≡ needOf (multiIn (now nodes) (now links) (now owners) (now heads) (now marks) (now flags) totals) b e) ⌝ }
+    ensures { λ r. ⌜ (multiIn (now (nodes .exit)) (now (links .exit)) (now (owners .exit)) (now (heads .exit)) (now (marks .exit)) (now (flags .exit)) (r .totals) ≡ linkLive (multiIn (now (nodes .entry)) (now (links .entry)) (now (owners .entry)) (now (heads .entry)) (now (marks .entry)) (now (flags .entry)) totals) a d b e (prepare (multiIn (now (nodes .entry)) (now (links .entry)) (now (owners .entry)) (now (heads .entry)) (now (marks .entry)) (now (flags .entry)) totals) a d) .graph)
+        × (r .answer ≡ linkLive (multiIn (now (nodes .entry)) (now (links .entry)) (now (owners .entry)) (now (heads .entry)) (now (marks .entry)) (now (flags .entry)) totals) a d b e (prepare (multiIn (now (nodes .entry)) (now (links .entry)) (now (owners .entry)) (now (heads .entry)) (now (marks .entry)) (now (flags .entry)) totals) a d) .answer)
+        × StaysCanonical (now (nodes .entry)) (now (nodes .exit)) ⌝ }
 {
-    let second = prepare_in(nodes, links, owners, heads, marks, flags, held, b, e, need);
-    let after = second.held;
+    let second = prepare_lent(
+        nodes,
+        links,
+        owners,
+        heads,
+        marks,
+        flags,
+        totals,
+        b,
+        e,
+        need,
+    );
+    let after = second.totals;
     if second.ready {
         let y = second.port;
         if same_side(d, e) {
-            return LinkedIn {
-                held: after,
+            return LinkedLent {
+                totals: after,
                 answer: LinkAnswer::Refused(Refusal::IncompatibleDirections(
                     PortIndex(x),
                     PortIndex(y),
@@ -138,8 +176,8 @@ fn link_second_in(
             };
         }
         link_both(links, x, y);
-        return LinkedIn {
-            held: with_links(after, after.counts.link_count + 1),
+        return LinkedLent {
+            totals: with_links(after, after.counts.link_count + 1),
             answer: LinkAnswer::Linked(
                 SubportIndex {
                     port: PortIndex(a),
@@ -152,41 +190,42 @@ fn link_second_in(
             ),
         };
     }
-    LinkedIn {
-        held: after,
+    LinkedLent {
+        totals: after,
         answer: LinkAnswer::Refused(Refusal::NoRoom),
     }
 }
 
 // Both ports are live, and two.
-fn link_both_in(
+fn link_pair_lent(
     nodes: &mut [u32; NODE_WORDS],
     links: &mut [u32; PORT_SLOTS],
     owners: &mut [u32; PORT_SLOTS],
     heads: &mut [u32; FREE_LISTS],
     marks: &mut [bool; PORT_SLOTS],
     flags: &mut [bool; NODE_SLOTS],
-    held: Held,
+    totals: Totals,
     a: u32,
     d: Direction,
     b: u32,
     e: Direction,
-) -> LinkedIn
-    requires { ⌜ BothOnBlock (multiIn (now nodes) (now links) (now owners) (now heads) (now marks) (now flags) held) a d b e × (a ≡ b → ⊥) ⌝ }
-    ensures { λ r. ⌜ (multiIn (now (nodes .exit)) (now (links .exit)) (now (owners .exit)) (now (heads .exit)) (now (marks .exit)) (now (flags .exit)) (r .held) ≡ linkLive (multiIn (now (nodes .entry)) (now (links .entry)) (now (owners .entry)) (now (heads .entry)) (now (marks .entry)) (now (flags .entry)) held) a d b e (prepare (multiIn (now (nodes .entry)) (now (links .entry)) (now (owners .entry)) (now (heads .entry)) (now (marks .entry)) (now (flags .entry)) held) a d) .graph)
-        × (r .answer ≡ linkLive (multiIn (now (nodes .entry)) (now (links .entry)) (now (owners .entry)) (now (heads .entry)) (now (marks .entry)) (now (flags .entry)) held) a d b e (prepare (multiIn (now (nodes .entry)) (now (links .entry)) (now (owners .entry)) (now (heads .entry)) (now (marks .entry)) (now (flags .entry)) held) a d) .answer) ⌝ }
+) -> LinkedLent
+    requires { ⌜ BothOnBlock (multiIn (now nodes) (now links) (now owners) (now heads) (now marks) (now flags) totals) a d b e × (a ≡ b → ⊥) ⌝ }
+    ensures { λ r. ⌜ (multiIn (now (nodes .exit)) (now (links .exit)) (now (owners .exit)) (now (heads .exit)) (now (marks .exit)) (now (flags .exit)) (r .totals) ≡ linkLive (multiIn (now (nodes .entry)) (now (links .entry)) (now (owners .entry)) (now (heads .entry)) (now (marks .entry)) (now (flags .entry)) totals) a d b e (prepare (multiIn (now (nodes .entry)) (now (links .entry)) (now (owners .entry)) (now (heads .entry)) (now (marks .entry)) (now (flags .entry)) totals) a d) .graph)
+        × (r .answer ≡ linkLive (multiIn (now (nodes .entry)) (now (links .entry)) (now (owners .entry)) (now (heads .entry)) (now (marks .entry)) (now (flags .entry)) totals) a d b e (prepare (multiIn (now (nodes .entry)) (now (links .entry)) (now (owners .entry)) (now (heads .entry)) (now (marks .entry)) (now (flags .entry)) totals) a d) .answer)
+        × StaysCanonical (now (nodes .entry)) (now (nodes .exit)) ⌝ }
 {
     let one = need_of(nodes, links, owners, marks, a, d);
     let two = need_of(nodes, links, owners, marks, b, e);
     if let Need::Ready(x, o) = one {
-        return link_second_in(
+        return link_second_lent(
             nodes,
             links,
             owners,
             heads,
             marks,
             flags,
-            held,
+            totals,
             a,
             d,
             x,
@@ -196,11 +235,11 @@ fn link_both_in(
             two,
         );
     }
-    let counts = held.counts;
+    let counts = totals.counts;
     if room_for(nodes, links, heads, counts, takes_of(one), takes_of(two)) {
-        let first = prepare_in(nodes, links, owners, heads, marks, flags, held, a, d, one);
-        let middle = first.held;
-        return link_second_in(
+        let first = prepare_lent(nodes, links, owners, heads, marks, flags, totals, a, d, one);
+        let middle = first.totals;
+        return link_second_lent(
             nodes,
             links,
             owners,
@@ -217,47 +256,59 @@ fn link_both_in(
             two,
         );
     }
-    LinkedIn {
-        held: held,
+    LinkedLent {
+        totals: totals,
         answer: LinkAnswer::Refused(Refusal::NoRoom),
     }
 }
 
 // The first port is live, and no input that has a wire is refused: how the second is seen.
-fn link_seen_in(
+fn link_seen_lent(
     nodes: &mut [u32; NODE_WORDS],
     links: &mut [u32; PORT_SLOTS],
     owners: &mut [u32; PORT_SLOTS],
     heads: &mut [u32; FREE_LISTS],
     marks: &mut [bool; PORT_SLOTS],
     flags: &mut [bool; NODE_SLOTS],
-    held: Held,
+    totals: Totals,
     a: u32,
     d: Direction,
     b: PortIndex,
-) -> LinkedIn
-    requires { ⌜ OnBlock (multiIn (now nodes) (now links) (now owners) (now heads) (now marks) (now flags) held) a d ⌝ }
-    ensures { λ r. ⌜ (multiIn (now (nodes .exit)) (now (links .exit)) (now (owners .exit)) (now (heads .exit)) (now (marks .exit)) (now (flags .exit)) (r .held) ≡ linkPairIf false present (multiIn (now (nodes .entry)) (now (links .entry)) (now (owners .entry)) (now (heads .entry)) (now (marks .entry)) (now (flags .entry)) held) a (b .0) .graph)
-        × (r .answer ≡ linkPairIf false present (multiIn (now (nodes .entry)) (now (links .entry)) (now (owners .entry)) (now (heads .entry)) (now (marks .entry)) (now (flags .entry)) held) a (b .0) .answer) ⌝ }
+) -> LinkedLent
+    requires { ⌜ OnBlock (multiIn (now nodes) (now links) (now owners) (now heads) (now marks) (now flags) totals) a d ⌝ }
+    ensures { λ r. ⌜ (multiIn (now (nodes .exit)) (now (links .exit)) (now (owners .exit)) (now (heads .exit)) (now (marks .exit)) (now (flags .exit)) (r .totals) ≡ linkPairIf false present (multiIn (now (nodes .entry)) (now (links .entry)) (now (owners .entry)) (now (heads .entry)) (now (marks .entry)) (now (flags .entry)) totals) a (b .0) .graph)
+        × (r .answer ≡ linkPairIf false present (multiIn (now (nodes .entry)) (now (links .entry)) (now (owners .entry)) (now (heads .entry)) (now (marks .entry)) (now (flags .entry)) totals) a (b .0) .answer)
+        × StaysCanonical (now (nodes .entry)) (now (nodes .exit)) ⌝ }
 {
     match seen_in(owners, flags, b.0) {
-        SeenPort::Dead => link_first_in(nodes, links, owners, heads, marks, flags, held, a, d, b),
-        SeenPort::Hidden => LinkedIn {
-            held: held,
+        SeenPort::Dead => link_first_lent(
+            nodes,
+            links,
+            owners,
+            heads,
+            marks,
+            flags,
+            totals,
+            a,
+            d,
+            b,
+        ),
+        SeenPort::Hidden => LinkedLent {
+            totals: totals,
             answer: LinkAnswer::Refused(Refusal::HiddenPort(b)),
         },
         SeenPort::Visible(_, e) => {
             if a == b.0 {
-                return link_self_in(nodes, links, owners, heads, marks, flags, held, a, d);
+                return link_self_lent(nodes, links, owners, heads, marks, flags, totals, a, d);
             }
-            link_both_in(
+            link_pair_lent(
                 nodes,
                 links,
                 owners,
                 heads,
                 marks,
                 flags,
-                held,
+                totals,
                 a,
                 d,
                 b.0,
@@ -268,45 +319,47 @@ fn link_seen_in(
 }
 
 // MultiPortGraph::link_ports over lent tables.
-pub fn link_in(
+pub fn link_lent(
     nodes: &mut [u32; NODE_WORDS],
     links: &mut [u32; PORT_SLOTS],
     owners: &mut [u32; PORT_SLOTS],
     heads: &mut [u32; FREE_LISTS],
     marks: &mut [bool; PORT_SLOTS],
     flags: &mut [bool; NODE_SLOTS],
-    held: Held,
+    totals: Totals,
     port_a: PortIndex,
     port_b: PortIndex,
-) -> LinkedIn
-    requires { ⌜ MultiWf (multiIn (now nodes) (now links) (now owners) (now heads) (now marks) (now flags) held) ⌝ }
-    ensures { λ r. ⌜ (multiIn (now (nodes .exit)) (now (links .exit)) (now (owners .exit)) (now (heads .exit)) (now (marks .exit)) (now (flags .exit)) (r .held) ≡ linkPair (multiIn (now (nodes .entry)) (now (links .entry)) (now (owners .entry)) (now (heads .entry)) (now (marks .entry)) (now (flags .entry)) held) («port_a» .0) («port_b» .0) .graph)
-        × (r .answer ≡ linkPair (multiIn (now (nodes .entry)) (now (links .entry)) (now (owners .entry)) (now (heads .entry)) (now (marks .entry)) (now (flags .entry)) held) («port_a» .0) («port_b» .0) .answer) ⌝ }
+) -> LinkedLent
+    requires { ⌜ MultiWf (multiIn (now nodes) (now links) (now owners) (now heads) (now marks) (now flags) totals) ⌝ }
+    ensures { λ r. ⌜ (multiIn (now (nodes .exit)) (now (links .exit)) (now (owners .exit)) (now (heads .exit)) (now (marks .exit)) (now (flags .exit)) (r .totals) ≡ linkPair (multiIn (now (nodes .entry)) (now (links .entry)) (now (owners .entry)) (now (heads .entry)) (now (marks .entry)) (now (flags .entry)) totals) («port_a» .0) («port_b» .0) .graph)
+        × (r .answer ≡ linkPair (multiIn (now (nodes .entry)) (now (links .entry)) (now (owners .entry)) (now (heads .entry)) (now (marks .entry)) (now (flags .entry)) totals) («port_a» .0) («port_b» .0) .answer)
+        × StaysCanonical (now (nodes .entry)) (now (nodes .exit))
+        × (linkNumbers (r .answer) ≡ linkNumbers (linkPair (multiIn (now (nodes .entry)) (now (links .entry)) (now (owners .entry)) (now (heads .entry)) (now (marks .entry)) (now (flags .entry)) totals) («port_a» .0) («port_b» .0) .answer)) ⌝ }
 {
-    let release = held.release;
+    let release = totals.release;
     if input_taken(marks, links, owners, flags, release, port_a.0, port_b.0) {
-        return LinkedIn {
-            held: held,
+        return LinkedLent {
+            totals: totals,
             answer: LinkAnswer::Refused(taken_ports(owners, flags, port_a, port_b)),
         };
     }
     match seen_in(owners, flags, port_a.0) {
-        SeenPort::Dead => LinkedIn {
-            held: held,
+        SeenPort::Dead => LinkedLent {
+            totals: totals,
             answer: LinkAnswer::Refused(Refusal::UnknownPort(port_a)),
         },
-        SeenPort::Hidden => LinkedIn {
-            held: held,
+        SeenPort::Hidden => LinkedLent {
+            totals: totals,
             answer: LinkAnswer::Refused(Refusal::HiddenPort(port_a)),
         },
-        SeenPort::Visible(_, d) => link_seen_in(
+        SeenPort::Visible(_, d) => link_seen_lent(
             nodes,
             links,
             owners,
             heads,
             marks,
             flags,
-            held,
+            totals,
             port_a.0,
             d,
             port_b,

@@ -1,15 +1,15 @@
 // Preparing an end of a link over lent tables: by the cases of mark and link.
-use crate::lent::Held;
+use crate::lent::Totals;
 use crate::lent::with_counts;
 use crate::lent::with_links;
 use crate::lent_needs::Need;
 use crate::marks::put_flag;
 use crate::marks::put_mark;
 use crate::prepare::copy_at;
-use crate::prepare::copy_in;
-use crate::prepare::copy_out;
-use crate::prepare::grown_in;
-use crate::prepare::grown_out;
+use crate::prepare::copy_incoming;
+use crate::prepare::copy_outgoing;
+use crate::prepare::grown_incoming;
+use crate::prepare::grown_outgoing;
 use crate::prepare::hang;
 use crate::prepare::subports_at;
 use crate::reads::far_in;
@@ -19,8 +19,8 @@ use portgraph::index::NODE_SLOTS;
 use portgraph::index::NodeIndex;
 use portgraph::index::PORT_SLOTS;
 use portgraph::lent::NODE_WORDS;
-use portgraph::lent_resize::set_num_ports_quiet_in;
-use portgraph::lent_slots::add_node_in;
+use portgraph::lent_resize::set_num_ports_quiet_lent;
+use portgraph::lent_slots::add_node_lent;
 use portgraph::node_entry::NodeMeta;
 use portgraph::numbers::wide;
 use portgraph::resize::SetAnswer as LowerSet;
@@ -29,51 +29,53 @@ use portgraph::tables::without_link;
 ghost use mathlib.Core.Path.{_≡_};
 ghost use Prim.Native.Nat.{_≤_};
 ghost use Rattle.portgraph.specs.Limits.{portSlots};
-ghost use Rattle.multiportgraph.specs.Forms.{preparedAs};
-ghost use Rattle.multiportgraph.specs.Reads.{lastBeside};
+ghost use Rattle.portgraph.specs.Lent.{StaysCanonical};
+ghost use Rattle.multiportgraph.specs.CodeForms.{preparedAs};
+ghost use Rattle.multiportgraph.specs.TableReads.{lastBeside};
 ghost use Rattle.multiportgraph.specs.Needs.{needOf};
 ghost use Rattle.multiportgraph.specs.MultiLent.{multiIn, preparedIn};
 ghost use Rattle.multiportgraph.specs.HiddenNodes.{split, grow, prepare};
 ghost use Rattle.multiportgraph.specs.Presumed.{OnBlock, LinkedPort, GrowPort};
 
 // A prepared end: the numbers, the inner port and its offset; or, where there is no room, the graph as it was.
-pub(crate) struct PreparedIn {
-    pub(crate) held: Held,
+pub(crate) struct PreparedLent {
+    pub(crate) totals: Totals,
     pub(crate) port: u32,
     pub(crate) offset: u16,
     pub(crate) ready: bool,
 }
 
 // Unsplit and linked: a hidden node with 2 subports is made, the old link moves to offset 0, and offset 1 is given.
-fn split_in(
+fn split_lent(
     nodes: &mut [u32; NODE_WORDS],
     links: &mut [u32; PORT_SLOTS],
     owners: &mut [u32; PORT_SLOTS],
     heads: &mut [u32; FREE_LISTS],
     marks: &mut [bool; PORT_SLOTS],
     flags: &mut [bool; NODE_SLOTS],
-    held: Held,
+    totals: Totals,
     port: u32,
     direction: Direction,
-) -> PreparedIn
-    requires { ⌜ LinkedPort (multiIn (now nodes) (now links) (now owners) (now heads) (now marks) (now flags) held) port direction ⌝ }
-    ensures { λ r. ⌜ preparedIn (multiIn (now (nodes .exit)) (now (links .exit)) (now (owners .exit)) (now (heads .exit)) (now (marks .exit)) (now (flags .exit)) (r .held)) r ≡ preparedAs (multiIn (now (nodes .entry)) (now (links .entry)) (now (owners .entry)) (now (heads .entry)) (now (marks .entry)) (now (flags .entry)) held) (split (multiIn (now (nodes .entry)) (now (links .entry)) (now (owners .entry)) (now (heads .entry)) (now (marks .entry)) (now (flags .entry)) held) port direction) ⌝ }
+) -> PreparedLent
+    requires { ⌜ LinkedPort (multiIn (now nodes) (now links) (now owners) (now heads) (now marks) (now flags) totals) port direction ⌝ }
+    ensures { λ r. ⌜ (preparedIn (multiIn (now (nodes .exit)) (now (links .exit)) (now (owners .exit)) (now (heads .exit)) (now (marks .exit)) (now (flags .exit)) (r .totals)) r ≡ preparedAs (multiIn (now (nodes .entry)) (now (links .entry)) (now (owners .entry)) (now (heads .entry)) (now (marks .entry)) (now (flags .entry)) totals) (split (multiIn (now (nodes .entry)) (now (links .entry)) (now (owners .entry)) (now (heads .entry)) (now (marks .entry)) (now (flags .entry)) totals) port direction))
+        × StaysCanonical (now (nodes .entry)) (now (nodes .exit)) ⌝ }
 {
-    let counts = held.counts;
-    let added = add_node_in(
+    let counts = totals.counts;
+    let added = add_node_lent(
         nodes,
         links,
         owners,
         heads,
         counts,
-        copy_in(direction),
-        copy_out(direction),
+        copy_incoming(direction),
+        copy_outgoing(direction),
     );
     let after = added.counts;
     let answer = added.answer;
     let LowerAdd::Added(node, first) = answer else {
-        return PreparedIn {
-            held: with_counts(held, after),
+        return PreparedLent {
+            totals: with_counts(totals, after),
             port: 0,
             offset: 0,
             ready: false,
@@ -85,15 +87,15 @@ fn split_in(
     put_mark(marks, wide(copy), true);
     put_mark(marks, wide(port), true);
     put_flag(flags, wide(node.0), true);
-    let release = held.release;
-    let more = Held {
+    let release = totals.release;
+    let more = Totals {
         counts: after,
-        copies: held.copies + 1,
-        subs: held.subs + 2,
+        copies: totals.copies + 1,
+        subs: totals.subs + 2,
         release: release,
     };
-    PreparedIn {
-        held: with_links(more, without_link(after.link_count, was) + 2),
+    PreparedLent {
+        totals: with_links(more, without_link(after.link_count, was) + 2),
         port: old + 1,
         offset: 1,
         ready: true,
@@ -117,40 +119,41 @@ fn last_beside(direction: Direction, copy: u32, count: usize) -> u32
 }
 
 // One more subport at the end of a split port's hidden node, which has these meta data. The copy port's mark moves with it.
-fn grow_in(
+fn grow_lent(
     nodes: &mut [u32; NODE_WORDS],
     links: &mut [u32; PORT_SLOTS],
     owners: &mut [u32; PORT_SLOTS],
     heads: &mut [u32; FREE_LISTS],
     marks: &mut [bool; PORT_SLOTS],
     flags: &mut [bool; NODE_SLOTS],
-    held: Held,
+    totals: Totals,
     port: u32,
     direction: Direction,
     node: NodeIndex,
     meta: NodeMeta,
-) -> PreparedIn
-    requires { ⌜ GrowPort (multiIn (now nodes) (now links) (now owners) (now heads) (now marks) (now flags) held) port direction (node .0) meta ⌝ }
-    ensures { λ r. ⌜ preparedIn (multiIn (now (nodes .exit)) (now (links .exit)) (now (owners .exit)) (now (heads .exit)) (now (marks .exit)) (now (flags .exit)) (r .held)) r ≡ preparedAs (multiIn (now (nodes .entry)) (now (links .entry)) (now (owners .entry)) (now (heads .entry)) (now (marks .entry)) (now (flags .entry)) held) (grow (multiIn (now (nodes .entry)) (now (links .entry)) (now (owners .entry)) (now (heads .entry)) (now (marks .entry)) (now (flags .entry)) held) (node .0) direction) ⌝ }
+) -> PreparedLent
+    requires { ⌜ GrowPort (multiIn (now nodes) (now links) (now owners) (now heads) (now marks) (now flags) totals) port direction (node .0) meta ⌝ }
+    ensures { λ r. ⌜ (preparedIn (multiIn (now (nodes .exit)) (now (links .exit)) (now (owners .exit)) (now (heads .exit)) (now (marks .exit)) (now (flags .exit)) (r .totals)) r ≡ preparedAs (multiIn (now (nodes .entry)) (now (links .entry)) (now (owners .entry)) (now (heads .entry)) (now (marks .entry)) (now (flags .entry)) totals) (grow (multiIn (now (nodes .entry)) (now (links .entry)) (now (owners .entry)) (now (heads .entry)) (now (marks .entry)) (now (flags .entry)) totals) (node .0) direction))
+        × StaysCanonical (now (nodes .entry)) (now (nodes .exit)) ⌝ }
 {
     let copy = far_in(links, wide(port));
     let count = meta.num_ports(direction);
-    let counts = held.counts;
-    let sized = set_num_ports_quiet_in(
+    let counts = totals.counts;
+    let sized = set_num_ports_quiet_lent(
         nodes,
         links,
         owners,
         heads,
         counts,
         node,
-        grown_in(direction, count),
-        grown_out(direction, count),
+        grown_incoming(direction, count),
+        grown_outgoing(direction, count),
     );
     let after = sized.counts;
     let answer = sized.answer;
     let LowerSet::Set(_) = answer else {
-        return PreparedIn {
-            held: with_counts(held, after),
+        return PreparedLent {
+            totals: with_counts(totals, after),
             port: 0,
             offset: 0,
             ready: false,
@@ -159,12 +162,12 @@ fn grow_in(
     let moved = far_in(links, wide(port));
     put_mark(marks, wide(copy), false);
     put_mark(marks, wide(moved), true);
-    let release = held.release;
-    PreparedIn {
-        held: Held {
+    let release = totals.release;
+    PreparedLent {
+        totals: Totals {
             counts: after,
-            copies: held.copies,
-            subs: held.subs + 1,
+            copies: totals.copies,
+            subs: totals.subs + 1,
             release: release,
         },
         port: last_beside(direction, moved, count),
@@ -174,49 +177,50 @@ fn grow_in(
 }
 
 // The end that a link of this port takes, which needs this.
-pub(crate) fn prepare_in(
+pub(crate) fn prepare_lent(
     nodes: &mut [u32; NODE_WORDS],
     links: &mut [u32; PORT_SLOTS],
     owners: &mut [u32; PORT_SLOTS],
     heads: &mut [u32; FREE_LISTS],
     marks: &mut [bool; PORT_SLOTS],
     flags: &mut [bool; NODE_SLOTS],
-    held: Held,
+    totals: Totals,
     port: u32,
     direction: Direction,
     need: Need,
-) -> PreparedIn
-    requires { ⌜ OnBlock (multiIn (now nodes) (now links) (now owners) (now heads) (now marks) (now flags) held) port direction × (need ≡ needOf (multiIn (now nodes) (now links) (now owners) (now heads) (now marks) (now flags) held) port direction) ⌝ }
-    ensures { λ r. ⌜ preparedIn (multiIn (now (nodes .exit)) (now (links .exit)) (now (owners .exit)) (now (heads .exit)) (now (marks .exit)) (now (flags .exit)) (r .held)) r ≡ preparedAs (multiIn (now (nodes .entry)) (now (links .entry)) (now (owners .entry)) (now (heads .entry)) (now (marks .entry)) (now (flags .entry)) held) (prepare (multiIn (now (nodes .entry)) (now (links .entry)) (now (owners .entry)) (now (heads .entry)) (now (marks .entry)) (now (flags .entry)) held) port direction) ⌝ }
+) -> PreparedLent
+    requires { ⌜ OnBlock (multiIn (now nodes) (now links) (now owners) (now heads) (now marks) (now flags) totals) port direction × (need ≡ needOf (multiIn (now nodes) (now links) (now owners) (now heads) (now marks) (now flags) totals) port direction) ⌝ }
+    ensures { λ r. ⌜ (preparedIn (multiIn (now (nodes .exit)) (now (links .exit)) (now (owners .exit)) (now (heads .exit)) (now (marks .exit)) (now (flags .exit)) (r .totals)) r ≡ preparedAs (multiIn (now (nodes .entry)) (now (links .entry)) (now (owners .entry)) (now (heads .entry)) (now (marks .entry)) (now (flags .entry)) totals) (prepare (multiIn (now (nodes .entry)) (now (links .entry)) (now (owners .entry)) (now (heads .entry)) (now (marks .entry)) (now (flags .entry)) totals) port direction))
+        × StaysCanonical (now (nodes .entry)) (now (nodes .exit)) ⌝ }
 {
     match need {
-        Need::Ready(x, o) => PreparedIn {
-            held: held,
+        Need::Ready(x, o) => PreparedLent {
+            totals: totals,
             port: x,
             offset: o,
             ready: true,
         },
-        Need::Grow(node, meta) => grow_in(
+        Need::Grow(node, meta) => grow_lent(
             nodes,
             links,
             owners,
             heads,
             marks,
             flags,
-            held,
+            totals,
             port,
             direction,
             node,
             meta,
         ),
-        Need::Split => split_in(
+        Need::Split => split_lent(
             nodes,
             links,
             owners,
             heads,
             marks,
             flags,
-            held,
+            totals,
             port,
             direction,
         ),

@@ -22,7 +22,7 @@ ghost use Prim.Native.Nat.{_<_};
 ghost use Rattle.portgraph.specs.Limits.{portSlots};
 ghost use Rattle.multiportgraph.specs.Walks.{stepLinks, stepNeighbours, stepConnections};
 ghost use Rattle.multiportgraph.specs.WalkNumbers.{nodeLinksValues, neighboursValues, nodeConnectionsValues};
-ghost use Rattle.multiportgraph.specs.Inner.{MultiWf};
+ghost use Rattle.multiportgraph.specs.WellFormed.{MultiWf};
 ghost use Rattle.multiportgraph.specs.Scans.{firstFound, linkPort};
 ghost use Rattle.multiportgraph.specs.WalkScans.{blockLeft, selfFilter};
 

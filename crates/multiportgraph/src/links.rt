@@ -16,9 +16,8 @@ use crate::prepare::Prepared;
 use portgraph::direction::Direction;
 use portgraph::index::PortIndex;
 use portgraph::numbers::same_side;
-use portgraph::tables::link_both as join;
 ghost use mathlib.Core.Path.{_≡_};
-ghost use Rattle.multiportgraph.specs.Inner.{MultiWf};
+ghost use Rattle.multiportgraph.specs.WellFormed.{MultiWf};
 ghost use Rattle.multiportgraph.specs.Answers.{linkNumbers};
 ghost use Rattle.multiportgraph.specs.Cases.{linkFirst, linkLive};
 ghost use Rattle.multiportgraph.specs.HiddenNodes.{prepare};
@@ -101,8 +100,10 @@ impl MultiPortGraph {
                         )),
                     };
                 }
-                join(&mut last.graph.port_link, x, y);
-                last.graph.link_count = last.graph.link_count + 1;
+                let graph = last.graph;
+                let linked = graph.link_ports(PortIndex(x), PortIndex(y));
+                let after = linked.graph;
+                last.graph = after;
                 return PortsLinked {
                     graph: last,
                     answer: LinkAnswer::Linked(
@@ -154,8 +155,10 @@ impl MultiPortGraph {
             port_b,
         ) {
             LinkNeed::Ends(x, o, y, r) => {
-                join(&mut self.graph.port_link, x, y);
-                self.graph.link_count = self.graph.link_count + 1;
+                let graph = self.graph;
+                let linked = graph.link_ports(PortIndex(x), PortIndex(y));
+                let after = linked.graph;
+                self.graph = after;
                 PortsLinked {
                     graph: self,
                     answer: LinkAnswer::Linked(

@@ -1,6 +1,6 @@
 // All blocks of lent tables in one pass, by ascending number: number, incoming and outgoing ports, first port.
-use crate::lent::Held;
-use crate::lent::node_count_in;
+use crate::lent::Totals;
+use crate::lent::node_count_lent;
 use crate::list_ends::ListAnswer;
 use crate::list_ends::put_four;
 use crate::marks::flagged;
@@ -17,7 +17,7 @@ ghost use Prim.Native.Nat.{_+_, _≤_};
 ghost use lib.ListN.{length};
 ghost use lib.Seq.{sets};
 ghost use Rattle.portgraph.specs.Limits.{nodeSlots};
-ghost use Rattle.multiportgraph.specs.Inner.{MultiWf};
+ghost use Rattle.multiportgraph.specs.WellFormed.{MultiWf};
 ghost use Rattle.multiportgraph.specs.MultiLent.{multiIn};
 ghost use Rattle.multiportgraph.specs.Wires.{blocks};
 ghost use Rattle.multiportgraph.specs.Listed.{blocksListed, listAfter, listAnswer};
@@ -83,26 +83,26 @@ fn list_slots<'a>(
 }
 
 // MultiPortGraph::list_blocks over lent tables.
-pub fn blocks_in<'a>(
+pub fn blocks_lent<'a>(
     nodes: &'a [u32; NODE_WORDS],
     links: &'a [u32; PORT_SLOTS],
     owners: &'a [u32; PORT_SLOTS],
     heads: &'a [u32; FREE_LISTS],
     marks: &'a [bool; PORT_SLOTS],
     flags: &'a [bool; NODE_SLOTS],
-    held: Held,
+    totals: Totals,
     list: &mut [u32],
 ) -> ListAnswer
-    requires { ⌜ MultiWf (multiIn (now nodes) (now links) (now owners) (now heads) (now marks) (now flags) held) ⌝ }
-    ensures { λ r. ⌜ (r ≡ listAnswer (length (blocks (multiIn (now (nodes .entry)) (now (links .entry)) (now (owners .entry)) (now (heads .entry)) (now (marks .entry)) (now (flags .entry)) held)))
-        (blocksListed (multiIn (now (nodes .entry)) (now (links .entry)) (now (owners .entry)) (now (heads .entry)) (now (marks .entry)) (now (flags .entry)) held)) (now (list .entry)))
-        × (now (list .exit) ≡ listAfter (blocksListed (multiIn (now (nodes .entry)) (now (links .entry)) (now (owners .entry)) (now (heads .entry)) (now (marks .entry)) (now (flags .entry)) held)) (now (list .entry))) ⌝ }
+    requires { ⌜ MultiWf (multiIn (now nodes) (now links) (now owners) (now heads) (now marks) (now flags) totals) ⌝ }
+    ensures { λ r. ⌜ (r ≡ listAnswer (length (blocks (multiIn (now (nodes .entry)) (now (links .entry)) (now (owners .entry)) (now (heads .entry)) (now (marks .entry)) (now (flags .entry)) totals)))
+        (blocksListed (multiIn (now (nodes .entry)) (now (links .entry)) (now (owners .entry)) (now (heads .entry)) (now (marks .entry)) (now (flags .entry)) totals)) (now (list .entry)))
+        × (now (list .exit) ≡ listAfter (blocksListed (multiIn (now (nodes .entry)) (now (links .entry)) (now (owners .entry)) (now (heads .entry)) (now (marks .entry)) (now (flags .entry)) totals)) (now (list .entry))) ⌝ }
 {
-    let count = node_count_in(held);
+    let count = node_count_lent(totals);
     let needed = 4 * count;
     if list.len() < needed {
         return ListAnswer::TooShort(needed);
     }
-    list_slots(nodes, flags, list, held.counts.node_len);
+    list_slots(nodes, flags, list, totals.counts.node_len);
     ListAnswer::Listed(count)
 }

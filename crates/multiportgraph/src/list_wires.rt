@@ -1,6 +1,6 @@
 // All wires of lent tables in one pass: block after block, the wires of its outgoing ports, as many of a split port as it has.
-use crate::lent::Held;
-use crate::lent::link_count_in;
+use crate::lent::Totals;
+use crate::lent::link_count_lent;
 use crate::list_ends::ListAnswer;
 use crate::list_ends::WireEnd;
 use crate::list_ends::far_end;
@@ -25,7 +25,7 @@ ghost use lib.ListN.{length};
 ghost use lib.Seq.{sets};
 ghost use Rattle.portgraph.specs.Limits.{nodeSlots};
 ghost use Rattle.portgraph.specs.Resize.{BlockFits};
-ghost use Rattle.multiportgraph.specs.Inner.{MultiWf};
+ghost use Rattle.multiportgraph.specs.WellFormed.{MultiWf};
 ghost use Rattle.multiportgraph.specs.MultiLent.{multiIn};
 ghost use Rattle.multiportgraph.specs.Wires.{allWires};
 ghost use Rattle.multiportgraph.specs.Listed.{wiresListed, listAfter, listAnswer};
@@ -234,22 +234,22 @@ fn list_nodes<'a>(
 }
 
 // MultiPortGraph::list_wires over lent tables.
-pub fn wires_in<'a>(
+pub fn wires_lent<'a>(
     nodes: &'a [u32; NODE_WORDS],
     links: &'a [u32; PORT_SLOTS],
     owners: &'a [u32; PORT_SLOTS],
     heads: &'a [u32; FREE_LISTS],
     marks: &'a [bool; PORT_SLOTS],
     flags: &'a [bool; NODE_SLOTS],
-    held: Held,
+    totals: Totals,
     list: &mut [u32],
 ) -> ListAnswer
-    requires { ⌜ MultiWf (multiIn (now nodes) (now links) (now owners) (now heads) (now marks) (now flags) held) ⌝ }
-    ensures { λ r. ⌜ (r ≡ listAnswer (length (allWires (multiIn (now (nodes .entry)) (now (links .entry)) (now (owners .entry)) (now (heads .entry)) (now (marks .entry)) (now (flags .entry)) held)))
-        (wiresListed (multiIn (now (nodes .entry)) (now (links .entry)) (now (owners .entry)) (now (heads .entry)) (now (marks .entry)) (now (flags .entry)) held)) (now (list .entry)))
-        × (now (list .exit) ≡ listAfter (wiresListed (multiIn (now (nodes .entry)) (now (links .entry)) (now (owners .entry)) (now (heads .entry)) (now (marks .entry)) (now (flags .entry)) held)) (now (list .entry))) ⌝ }
+    requires { ⌜ MultiWf (multiIn (now nodes) (now links) (now owners) (now heads) (now marks) (now flags) totals) ⌝ }
+    ensures { λ r. ⌜ (r ≡ listAnswer (length (allWires (multiIn (now (nodes .entry)) (now (links .entry)) (now (owners .entry)) (now (heads .entry)) (now (marks .entry)) (now (flags .entry)) totals)))
+        (wiresListed (multiIn (now (nodes .entry)) (now (links .entry)) (now (owners .entry)) (now (heads .entry)) (now (marks .entry)) (now (flags .entry)) totals)) (now (list .entry)))
+        × (now (list .exit) ≡ listAfter (wiresListed (multiIn (now (nodes .entry)) (now (links .entry)) (now (owners .entry)) (now (heads .entry)) (now (marks .entry)) (now (flags .entry)) totals)) (now (list .entry))) ⌝ }
 {
-    let count = link_count_in(held);
+    let count = link_count_lent(totals);
     let needed = 8 * count;
     if list.len() < needed {
         return ListAnswer::TooShort(needed);
@@ -261,7 +261,7 @@ pub fn wires_in<'a>(
         marks,
         flags,
         list,
-        held.counts.node_len,
+        totals.counts.node_len,
     );
     ListAnswer::Listed(count)
 }

@@ -1,15 +1,14 @@
 // All wires, or all blocks, at once into a list that the caller lends: the graph by value, over the passes on lent tables.
-use crate::lent::Held;
-use crate::list_blocks::blocks_in;
+use crate::lent::Totals;
+use crate::list_blocks::blocks_lent;
 use crate::list_ends::ListAnswer;
-use crate::list_wires::wires_in;
+use crate::list_wires::wires_lent;
 use crate::multiportgraph::MultiPortGraph;
-use portgraph::lent::Counts;
 use portgraph::lent::NODE_WORDS;
 use portgraph::lent_graph::put_slots;
 ghost use mathlib.Core.Path.{_≡_};
 ghost use lib.ListN.{length};
-ghost use Rattle.multiportgraph.specs.Inner.{MultiWf};
+ghost use Rattle.multiportgraph.specs.WellFormed.{MultiWf};
 ghost use Rattle.multiportgraph.specs.Wires.{blocks, allWires};
 ghost use Rattle.multiportgraph.specs.Listed.{wiresListed, blocksListed, listAfter, listAnswer};
 
@@ -22,30 +21,25 @@ impl MultiPortGraph {
     {
         let mut nodes: [u32; NODE_WORDS] = [0; NODE_WORDS];
         let lower = self.graph;
-        let slots = lower.node_meta;
+        let slots = lower.node_slots();
         put_slots(&mut nodes, slots);
+        let heads = lower.free_heads();
+        let counts = lower.counts();
         let release = self.release;
-        let held = Held {
-            counts: Counts {
-                node_free: lower.node_free,
-                node_len: lower.node_len,
-                port_len: lower.port_len,
-                node_count: lower.node_count,
-                port_count: lower.port_count,
-                link_count: lower.link_count,
-            },
+        let totals = Totals {
+            counts: counts,
             copies: self.copy_node_count,
             subs: self.subport_count,
             release: release,
         };
-        wires_in(
+        wires_lent(
             &nodes,
             &self.graph.port_link,
             &self.graph.port_meta,
-            &self.graph.port_free,
+            &heads,
             &self.multiport,
             &self.copy_node,
-            held,
+            totals,
             list,
         )
     }
@@ -58,30 +52,25 @@ impl MultiPortGraph {
     {
         let mut nodes: [u32; NODE_WORDS] = [0; NODE_WORDS];
         let lower = self.graph;
-        let slots = lower.node_meta;
+        let slots = lower.node_slots();
         put_slots(&mut nodes, slots);
+        let heads = lower.free_heads();
+        let counts = lower.counts();
         let release = self.release;
-        let held = Held {
-            counts: Counts {
-                node_free: lower.node_free,
-                node_len: lower.node_len,
-                port_len: lower.port_len,
-                node_count: lower.node_count,
-                port_count: lower.port_count,
-                link_count: lower.link_count,
-            },
+        let totals = Totals {
+            counts: counts,
             copies: self.copy_node_count,
             subs: self.subport_count,
             release: release,
         };
-        blocks_in(
+        blocks_lent(
             &nodes,
             &self.graph.port_link,
             &self.graph.port_meta,
-            &self.graph.port_free,
+            &heads,
             &self.multiport,
             &self.copy_node,
-            held,
+            totals,
             list,
         )
     }

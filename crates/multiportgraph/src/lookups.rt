@@ -16,8 +16,8 @@ use portgraph::numbers::wide;
 ghost use mathlib.Core.Path.{_≡_};
 ghost use Rattle.multiportgraph.specs.Wires.{isBlock};
 ghost use Rattle.multiportgraph.specs.Lookups.{directionOf, nodeOf, offsetOf, portIndexOf, numPortsOf, capacityOf, containsPortOf, emptyOf, directionNumbers, nodeNumbers, offsetNumbers, portNumbers, countNumbers};
-ghost use Rattle.multiportgraph.specs.Inner.{MultiWf};
-ghost use Rattle.multiportgraph.specs.Forms.{blockFound};
+ghost use Rattle.multiportgraph.specs.WellFormed.{MultiWf};
+ghost use Rattle.multiportgraph.specs.CodeForms.{blockFound};
 
 pub enum DirectionAnswer {
     Found(Direction),
@@ -177,9 +177,7 @@ impl MultiPortGraph {
     pub fn is_empty(self) -> bool
         ensures { λ r. ⌜ r ≡ emptyOf self ⌝ }
     {
-        if self.graph.node_count == 0 {
-            return self.graph.port_count == 0;
-        }
-        false
+        let graph = self.graph;
+        graph.is_empty()
     }
 }

@@ -8,11 +8,11 @@ use portgraph::numbers::wide;
 use portgraph::numbers::wide16;
 ghost use mathlib.Core.Path.{_≡_};
 ghost use mathlib.Core.Bool.{false};
-ghost use Prim.Native.Nat.{_+_, _≤_, min};
+ghost use Prim.Native.Nat.{_+_, _≤_};
 ghost use Rattle.portgraph.specs.Limits.{nodeSlots, portSlots};
 ghost use Rattle.portgraph.specs.Tables.{fill};
 ghost use Rattle.portgraph.specs.Resize.{BlockFits};
-ghost use Rattle.multiportgraph.specs.Forms.{flagAt, putFlag, layKept, unmarkNew, unmarkOld};
+ghost use Rattle.multiportgraph.specs.CodeForms.{flagAt, putFlag, layKept, unmarkNew, unmarkOld};
 ghost use Rattle.multiportgraph.specs.HiddenNodes.{layRange, layMarks};
 
 // The mark of a port; false outside the table.

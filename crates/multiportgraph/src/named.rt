@@ -20,7 +20,7 @@ ghost use mathlib.Core.Path.{_≡_};
 ghost use Prim.Native.Nat.{_+_};
 ghost use lib.Dec.{leb};
 ghost use Rattle.portgraph.specs.Limits.{portSlots};
-ghost use Rattle.multiportgraph.specs.Named.{endNamed, freeEnds, secondEnd, firstEnd, linkNamed, readIn, reuseIn, needIn, firstNeed, bothNeed, linkNeed, pairNamed};
+ghost use Rattle.multiportgraph.specs.Named.{endNamed, freeEnds, secondEnd, firstEnd, linkNamed, readIn, reuseIn, endNeedIn, firstNeed, bothNeed, linkNeed, pairNamed};
 
 // A subport that a call names.
 pub enum NamedEnd {
@@ -236,7 +236,7 @@ pub(crate) fn need_in<'a>(
     port: u32,
     direction: Direction,
 ) -> EndNeed
-    ensures { λ r. ⌜ r ≡ needIn (now (marks .entry)) (now (links .entry)) (now (owners .entry)) port direction ⌝ }
+    ensures { λ r. ⌜ r ≡ endNeedIn (now (marks .entry)) (now (links .entry)) (now (owners .entry)) port direction ⌝ }
 {
     if marked(marks, wide(port)) {
         return reuse_in(links, owners, port, direction);

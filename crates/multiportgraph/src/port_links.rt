@@ -20,7 +20,7 @@ ghost use Prim.Native.Nat.{_-_, _≤_};
 ghost use Rattle.portgraph.specs.Limits.{portSlots};
 ghost use Rattle.multiportgraph.specs.Walks.{stepFront, stepBack};
 ghost use Rattle.multiportgraph.specs.WalkNumbers.{portLinksValues};
-ghost use Rattle.multiportgraph.specs.Inner.{MultiWf};
+ghost use Rattle.multiportgraph.specs.WellFormed.{MultiWf};
 ghost use Rattle.multiportgraph.specs.Scans.{firstFound, linksIn};
 ghost use Rattle.multiportgraph.specs.WalkScans.{lastFound, leftIn};
 

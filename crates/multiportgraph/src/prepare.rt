@@ -12,20 +12,20 @@ use portgraph::direction::Direction;
 use portgraph::index::NODE_PORTS;
 use portgraph::index::NodeIndex;
 use portgraph::index::PORT_SLOTS;
+use portgraph::index::PortIndex;
 use portgraph::numbers::wide;
 use portgraph::resize::SetAnswer as LowerSet;
 use portgraph::slots::AddAnswer as LowerAdd;
 use portgraph::tables::cut;
 use portgraph::tables::link_both;
-use portgraph::tables::without_link;
 ghost use mathlib.Core.Path.{_≡_};
 ghost use Prim.Native.Nat.{_+_, _≤_};
 ghost use Rattle.portgraph.specs.Limits.{portSlots};
 ghost use Rattle.portgraph.specs.Tables.{at};
 ghost use Rattle.multiportgraph.specs.Reading.{copyNode};
-ghost use Rattle.multiportgraph.specs.Reads.{hangOn, copyAt, subportsAt, grownIn, grownOut};
-ghost use Rattle.multiportgraph.specs.Forms.{preparedAs};
-ghost use Rattle.multiportgraph.specs.HiddenNodes.{split, grow, prepare, copyIn, copyOut};
+ghost use Rattle.multiportgraph.specs.TableReads.{hangOn, copyAt, subportsAt, grownIncoming, grownOutgoing};
+ghost use Rattle.multiportgraph.specs.CodeForms.{preparedAs};
+ghost use Rattle.multiportgraph.specs.HiddenNodes.{split, grow, prepare, copyIncoming, copyOutgoing};
 ghost use Rattle.multiportgraph.specs.Presumed.{OnBlock, LinkedPort, SplitPort};
 
 // A move list that is long enough for every node.
@@ -39,8 +39,8 @@ pub struct Prepared {
     pub ready: bool,
 }
 
-pub(crate) fn copy_in(direction: Direction) -> usize
-    ensures { λ r. ⌜ r ≡ copyIn direction ⌝ }
+pub(crate) fn copy_incoming(direction: Direction) -> usize
+    ensures { λ r. ⌜ r ≡ copyIncoming direction ⌝ }
 {
     match direction {
         Direction::Incoming => 2,
@@ -48,8 +48,8 @@ pub(crate) fn copy_in(direction: Direction) -> usize
     }
 }
 
-pub(crate) fn copy_out(direction: Direction) -> usize
-    ensures { λ r. ⌜ r ≡ copyOut direction ⌝ }
+pub(crate) fn copy_outgoing(direction: Direction) -> usize
+    ensures { λ r. ⌜ r ≡ copyOutgoing direction ⌝ }
 {
     match direction {
         Direction::Incoming => 1,
@@ -89,9 +89,9 @@ pub(crate) fn subports_at(direction: Direction) -> u32
 }
 
 // The counts of a hidden node that has `count` subports on this side, with one more.
-pub(crate) fn grown_in(direction: Direction, count: usize) -> usize
+pub(crate) fn grown_incoming(direction: Direction, count: usize) -> usize
     requires { ⌜ count ≤ portSlots ⌝ }
-    ensures { λ r. ⌜ r ≡ grownIn direction count ⌝ }
+    ensures { λ r. ⌜ r ≡ grownIncoming direction count ⌝ }
 {
     match direction {
         Direction::Incoming => count + 1,
@@ -99,9 +99,9 @@ pub(crate) fn grown_in(direction: Direction, count: usize) -> usize
     }
 }
 
-pub(crate) fn grown_out(direction: Direction, count: usize) -> usize
+pub(crate) fn grown_outgoing(direction: Direction, count: usize) -> usize
     requires { ⌜ count ≤ portSlots ⌝ }
-    ensures { λ r. ⌜ r ≡ grownOut direction count ⌝ }
+    ensures { λ r. ⌜ r ≡ grownOutgoing direction count ⌝ }
 {
     match direction {
         Direction::Incoming => 1,
@@ -116,7 +116,7 @@ impl MultiPortGraph {
         ensures { λ r. ⌜ r ≡ preparedAs self (split self port direction) ⌝ }
     {
         let graph = self.graph;
-        let added = graph.add_node(copy_in(direction), copy_out(direction));
+        let added = graph.add_node(copy_incoming(direction), copy_outgoing(direction));
         let answer = added.answer;
         let LowerAdd::Added(node, first) = answer else {
             return Prepared {
@@ -130,8 +130,15 @@ impl MultiPortGraph {
         self.graph = after;
         let copy = first.0 + copy_at(direction);
         let old = first.0 + subports_at(direction);
-        let held = hang(&mut self.graph.port_link, port, copy, old);
-        self.graph.link_count = without_link(self.graph.link_count, held) + 2;
+        let far = far_in(&self.graph.port_link, wide(port));
+        let whole = self.graph;
+        let unlinked = whole.unlink_port(PortIndex(port));
+        let cut_off = unlinked.graph;
+        let hung = cut_off.link_ports(PortIndex(port), PortIndex(copy));
+        let hanging = hung.graph;
+        let moved = hanging.link_ports(PortIndex(old), PortIndex(far));
+        let linked = moved.graph;
+        self.graph = linked;
         put_mark(&mut self.multiport, wide(copy), true);
         put_mark(&mut self.multiport, wide(port), true);
         put_flag(&mut self.copy_node, wide(node.0), true);
@@ -158,8 +165,8 @@ impl MultiPortGraph {
             port,
             direction,
         );
-        let more_in = grown_in(direction, count);
-        let more_out = grown_out(direction, count);
+        let more_in = grown_incoming(direction, count);
+        let more_out = grown_outgoing(direction, count);
         let mut moves = [0u32; MOVES];
         let graph = self.graph;
         let sized = graph.set_num_ports(NodeIndex(node), more_in, more_out, &mut moves);

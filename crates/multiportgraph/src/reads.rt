@@ -22,8 +22,8 @@ use portgraph::tables::at;
 ghost use mathlib.Core.Path.{_≡_};
 ghost use Prim.Native.Nat.{_+_, _≤_, min};
 ghost use Rattle.portgraph.specs.Limits.{portSlots};
-ghost use Rattle.multiportgraph.specs.Forms.{seenAs, endAs, lowestUnlinked};
-ghost use Rattle.multiportgraph.specs.Reads.{farIn, ownerIn, seenIn, runUp, runDown, countBeside, firstBeside, endBeside, subportsIn, firstIn, endIn, copyBeside, subportIn, noPlace, placeIn, wireIn, wireEndIn, plainIn, leapDown, rowBelow};
+ghost use Rattle.multiportgraph.specs.CodeForms.{seenAs, endAs, lowestUnlinked};
+ghost use Rattle.multiportgraph.specs.TableReads.{farIn, ownerIn, seenIn, runUp, runDown, countBeside, firstBeside, endBeside, subportsIn, firstIn, endIn, copyBeside, subportIn, noPlace, placeIn, wireIn, wireEndIn, plainIn, leapDown, rowBelow};
 
 // So many slots are leapt over at once.
 const LEAP: usize = 32;

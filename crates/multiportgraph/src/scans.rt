@@ -27,7 +27,7 @@ ghost use Prim.Native.Nat.{_+_, _-_, _≤_, _<_, min};
 ghost use Rattle.portgraph.specs.Limits.{portSlots};
 ghost use Rattle.portgraph.specs.Lists.{filter};
 ghost use Rattle.multiportgraph.specs.Reading.{subport#};
-ghost use Rattle.multiportgraph.specs.Reads.{wireIn};
+ghost use Rattle.multiportgraph.specs.TableReads.{wireIn};
 ghost use Rattle.multiportgraph.specs.Wires.{wireTo};
 ghost use Rattle.multiportgraph.specs.Scans.{firstFound, linkPort, spanFirst, spanCount, notOwnOutput, passesIn, linksIn, portLinksIn, linksRest, beyondIn, blockLinksIn};
 

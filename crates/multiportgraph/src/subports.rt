@@ -9,12 +9,9 @@ use crate::reads::seen_in;
 use crate::scans::capped;
 use crate::scans::span_count;
 use crate::walks::held_seen;
-use portgraph::direction::Direction;
 use portgraph::index::NODE_SLOTS;
-use portgraph::index::NodeIndex;
 use portgraph::index::PORT_SLOTS;
 use portgraph::index::PortIndex;
-use portgraph::iter::Sides;
 use portgraph::iter::ports_from;
 use portgraph::iter::ports_to;
 use portgraph::numbers::wide;
@@ -24,7 +21,7 @@ ghost use Prim.Native.Nat.{_-_, _<_, min};
 ghost use Rattle.portgraph.specs.Limits.{portSlots};
 ghost use Rattle.multiportgraph.specs.Walks.{stepSubports};
 ghost use Rattle.multiportgraph.specs.WalkNumbers.{nodeSubportsValues};
-ghost use Rattle.multiportgraph.specs.Inner.{MultiWf};
+ghost use Rattle.multiportgraph.specs.WellFormed.{MultiWf};
 ghost use Rattle.multiportgraph.specs.WalkScans.{firstSubport, subportPort, portSubportsIn, subportsRest, subportsBeyond};
 
 pub enum SubportFound {

@@ -19,16 +19,15 @@ use portgraph::index::PortIndex;
 use portgraph::numbers::less;
 use portgraph::numbers::wide;
 use portgraph::tables::at;
-use portgraph::tables::link_both;
 ghost use mathlib.Core.Path.{_≡_};
 ghost use Prim.Native.Nat.{_+_, _≤_};
 ghost use Rattle.portgraph.specs.Limits.{portSlots};
 ghost use Rattle.multiportgraph.specs.Reading.{copyNode};
-ghost use Rattle.multiportgraph.specs.Forms.{linkedFrom};
-ghost use Rattle.multiportgraph.specs.Tidy.{leftIn, leftOut, dropSubports, linkDirectly};
+ghost use Rattle.multiportgraph.specs.CodeForms.{linkedFrom};
+ghost use Rattle.multiportgraph.specs.Tidy.{leftIncoming, leftOutgoing, dropSubports, linkDirectly};
 ghost use Rattle.multiportgraph.specs.Calls.{tidyPort};
 ghost use Rattle.multiportgraph.specs.Answers.{tidyNumbers};
-ghost use Rattle.multiportgraph.specs.Inner.{MultiWf};
+ghost use Rattle.multiportgraph.specs.WellFormed.{MultiWf};
 ghost use Rattle.multiportgraph.specs.Presumed.{SplitPort, LeftPort};
 
 // How many of `count` ports from `first` on are left without the unlinked ones above the highest linked one.
@@ -47,8 +46,8 @@ pub(crate) fn linked_from(links: &[u32; PORT_SLOTS], first: usize, count: usize)
 }
 
 // The counts of a hidden node with so many subports on this side.
-fn left_in(direction: Direction, left: usize) -> usize
-    ensures { λ r. ⌜ r ≡ leftIn direction left ⌝ }
+fn left_incoming(direction: Direction, left: usize) -> usize
+    ensures { λ r. ⌜ r ≡ leftIncoming direction left ⌝ }
 {
     match direction {
         Direction::Incoming => left,
@@ -56,8 +55,8 @@ fn left_in(direction: Direction, left: usize) -> usize
     }
 }
 
-fn left_out(direction: Direction, left: usize) -> usize
-    ensures { λ r. ⌜ r ≡ leftOut direction left ⌝ }
+fn left_outgoing(direction: Direction, left: usize) -> usize
+    ensures { λ r. ⌜ r ≡ leftOutgoing direction left ⌝ }
 {
     match direction {
         Direction::Incoming => 1,
@@ -79,8 +78,8 @@ impl MultiPortGraph {
     {
         let copy = far_in(&self.graph.port_link, wide(port));
         let node = owner_in(&self.graph.port_meta, copy);
-        let incoming = left_in(direction, left);
-        let outgoing = left_out(direction, left);
+        let incoming = left_incoming(direction, left);
+        let outgoing = left_outgoing(direction, left);
         let mut moves = [0u32; MOVES];
         let graph = self.graph;
         let sized = graph.set_num_ports(NodeIndex(node), incoming, outgoing, &mut moves);
@@ -110,8 +109,10 @@ impl MultiPortGraph {
         if held == 0 {
             return bare;
         }
-        link_both(&mut bare.graph.port_link, port, far);
-        bare.graph.link_count = bare.graph.link_count + 1;
+        let graph = bare.graph;
+        let linked = graph.link_ports(PortIndex(port), PortIndex(far));
+        let after = linked.graph;
+        bare.graph = after;
         bare
     }
 

@@ -24,7 +24,7 @@ ghost use Prim.Native.Nat.{_≤_};
 ghost use Rattle.portgraph.specs.Limits.{portSlots};
 ghost use Rattle.multiportgraph.specs.Walks.{nodeHeld, stepNodes, stepNodesBack, stepAllPorts, stepAllPortsBack, stepNodePorts};
 ghost use Rattle.multiportgraph.specs.WalkNumbers.{nodesValues, portsValues, nodePortsValues};
-ghost use Rattle.multiportgraph.specs.Inner.{MultiWf};
+ghost use Rattle.multiportgraph.specs.WellFormed.{MultiWf};
 ghost use Rattle.multiportgraph.specs.WalkScans.{heldIn, blockSlot, portsIn, firstOr, lastOr};
 ghost use Rattle.multiportgraph.specs.Scans.{endBefore};
 
@@ -89,10 +89,11 @@ impl Nodes {
         if graph.node_held(front) {
             if graph.node_held(back) {
                 let lower = graph.graph;
+                let slots = lower.node_slots();
                 let end = end_before(back, NODE_SLOTS);
                 let mut n = wide(front);
                 while n < end {
-                    let slot = lower.node_meta[n];
+                    let slot = slots[n];
                     if is_block(slot, flagged(&graph.copy_node, n)) {
                         return NodesStep::Item(
                             NodeIndex(n as u32),
@@ -117,11 +118,12 @@ impl Nodes {
         if graph.node_held(front) {
             if graph.node_held(back) {
                 let lower = graph.graph;
+                let slots = lower.node_slots();
                 let from = wide(front);
                 let mut end = end_before(back, NODE_SLOTS);
                 while from < end {
                     let n = end - 1;
-                    let slot = lower.node_meta[n];
+                    let slot = slots[n];
                     if is_block(slot, flagged(&graph.copy_node, n)) {
                         return NodesStep::Item(
                             NodeIndex(n as u32),

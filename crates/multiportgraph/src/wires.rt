@@ -14,7 +14,7 @@ ghost use Prim.Native.Nat.{_-_, _<_};
 ghost use Rattle.portgraph.specs.Limits.{nodeSlots, portSlots};
 ghost use Rattle.multiportgraph.specs.Wires.{stepWires};
 ghost use Rattle.multiportgraph.specs.WalkNumbers.{wiresValues};
-ghost use Rattle.multiportgraph.specs.Inner.{MultiWf};
+ghost use Rattle.multiportgraph.specs.WellFormed.{MultiWf};
 ghost use Rattle.multiportgraph.specs.Scans.{firstFound, linkPort, wiresIn};
 ghost use Rattle.multiportgraph.specs.WalkScans.{wiresFound};
 
@@ -25,11 +25,12 @@ impl MultiPortGraph {
             × (linkPort 0 r < portSlots) ⌝ }
     {
         let lower = self.graph;
+        let slots = lower.node_slots();
         let mut n = node;
         let mut h = held;
         let mut o = offset;
         while n < NODE_SLOTS {
-            let slot = lower.node_meta[n];
+            let slot = slots[n];
             let hidden = flagged(&self.copy_node, n);
             let found = block_links(
                 &self.multiport,

@@ -17,7 +17,7 @@ use Rattle.portgraph.specs.Model.{Model, Far, Slots, live, held, idle, V
 use Rattle.portgraph.specs.Meaning.{upd, sameSide, dropJoin, beyond, newCount, metaOf, rest, growth, nextBlock, giveBlock, handOver, moveModel}
 use Rattle.portgraph.specs.Joins.{upd-elim, upd-same}
 use Rattle.portgraph.specs.Calls.{headAfter}
-use Rattle.portgraph.specs.Resize.{firstSlot, keptIn, keptOut, dropLinks, dropCount, anewLinks, resizeAnew}
+use Rattle.portgraph.specs.Resize.{firstSlot, keptIncoming, keptOutgoing, dropLinks, dropCount, anewLinks, resizeAnew}
 use Rattle.portgraph.specs.LinkLaws.{Rep, Vacant, NoneOf, Moved, sidePlace, not-of-side, transfer-at, rep-fill-vacant, rep-extend, cut-range-none, dropped-holds-none, farNumber-is-farIs}
 use Rattle.portgraph.specs.GoodSlots.{held-not-idle, block-of-one, free-block-apart, slot-in-range, slots-apart, hand-elim, handed-inside, give-elim}
 use Rattle.portgraph.specs.GoodLaws.{good-move}
@@ -112,10 +112,10 @@ module _ {g : PortGraph} {M : Model} (good : Good M) (holds : Holds g M) (n : �
   cleared = fillRange (dropLinks (g .«port_link») m incoming outgoing) first size 0
 
   abbrev halfway : List ℕ
-  halfway = transfer cleared (firstSlot m) first (keptIn m incoming)
+  halfway = transfer cleared (firstSlot m) first (keptIncoming m incoming)
 
   abbrev over : List ℕ
-  over = transfer halfway (firstSlot m + m .incoming) (first + incoming) (keptOut m outgoing)
+  over = transfer halfway (firstSlot m + m .incoming) (first + incoming) (keptOutgoing m outgoing)
 
   -- the slots when the incoming ports have gone over, and the outgoing ones have not
   abbrev mid : InnerPlace → ℕ
@@ -145,38 +145,38 @@ module _ {g : PortGraph} {M : Model} (good : Good M) (holds : Holds g M) (n : �
       rep-fill-vacant (stays-rep good holds n m here incoming outgoing first size (good′ .joinValid)) first size 0
       (λ y v a b. was-outside y (v .0) (a, b))
 
-  go-in : Moved Staying (slotOf (M .node)) mid left first (keptIn m incoming) cleared halfway × ((i : ℕ) → i < keptIn m incoming → at halfway (firstSlot m + i) ≡ 0)
+  go-in : Moved Staying (slotOf (M .node)) mid left first (keptIncoming m incoming) cleared halfway × ((i : ℕ) → i < keptIncoming m incoming → at halfway (firstSlot m + i) ≡ 0)
   go-in =
       let e = new-ends in
-      transfer-at (keptIn m incoming) (sidePlace n Incoming 0) (slotOf (M .node)) mid cleared (firstSlot m) first start
+      transfer-at (keptIncoming m incoming) (sidePlace n Incoming 0) (slotOf (M .node)) mid cleared (firstSlot m) first start
       (record { there = λ i l. (rw here (omega arith), rw there (omega arith)); numbered = λ i l. rw here (omega arith) })
       (omega arith)
       (λ y v a b. was-outside y (v .0) (omega arith, omega arith))
       (record { placed = λ i l. rw there (omega arith); others = λ y v none. same y none (staying y v) })
     where
-      same : (y : InnerPlace) → NoneOf (sidePlace n Incoming 0) (keptIn m incoming) y → Stay n m moved y (slotOf (M .node) y) (slotOf node′ y) → mid y ≡ slotOf (M .node) y
+      same : (y : InnerPlace) → NoneOf (sidePlace n Incoming 0) (keptIncoming m incoming) y → Stay n m moved y (slotOf (M .node) y) (slotOf node′ y) → mid y ≡ slotOf (M .node) y
       same y none (elsewhere o e) = mid-other y e
-      same y none (coming e q h h′ k k′) = absurd (not-of-side n Incoming 0 (keptIn m incoming) y none e q (omega arith) (omega arith))
+      same y none (coming e q h h′ k k′) = absurd (not-of-side n Incoming 0 (keptIncoming m incoming) y none e q (omega arith) (omega arith))
       same y none (going e q h h′ k k′) = mid-out y q
 
-  go-out : Moved Staying mid (slotOf node′) left (first + incoming) (keptOut m outgoing) halfway over × ((i : ℕ) → i < keptOut m outgoing → at over (firstSlot m + m .incoming + i) ≡ 0)
+  go-out : Moved Staying mid (slotOf node′) left (first + incoming) (keptOutgoing m outgoing) halfway over × ((i : ℕ) → i < keptOutgoing m outgoing → at over (firstSlot m + m .incoming + i) ≡ 0)
   go-out =
       let e = new-ends in
-      transfer-at (keptOut m outgoing) (sidePlace n Outgoing 0) mid (slotOf node′) halfway (firstSlot m + m .incoming) (first + incoming) (go-in .0 .rep)
+      transfer-at (keptOutgoing m outgoing) (sidePlace n Outgoing 0) mid (slotOf node′) halfway (firstSlot m + m .incoming) (first + incoming) (go-in .0 .rep)
       (record { there = λ i l. (rw here (omega arith), rw there (omega arith)); numbered = λ i l. rw here (omega arith) })
       (omega arith)
       (λ y v a b. clear y v (staying y v) a b)
       (record { placed = λ i l. rw there (omega arith); others = λ y v none. same y none (staying y v) })
     where
-      clear : (y : InnerPlace) → Staying y → Stay n m moved y (slotOf (M .node) y) (slotOf node′ y) → first + incoming ≤ mid y → mid y < first + incoming + keptOut m outgoing → ⊥
+      clear : (y : InnerPlace) → Staying y → Stay n m moved y (slotOf (M .node) y) (slotOf node′ y) → first + incoming ≤ mid y → mid y < first + incoming + keptOutgoing m outgoing → ⊥
       clear y v (elsewhere o e) a b = let k = mid-other y e in was-outside y (v .0) (omega arith, omega arith)
       clear y v (coming e q h h′ k k′) a b = let f = mid-in y q in omega arith
       clear y v (going e q h h′ k k′) a b = let f = mid-out y q in was-outside y (v .0) (omega arith, omega arith)
 
-      same : (y : InnerPlace) → NoneOf (sidePlace n Outgoing 0) (keptOut m outgoing) y → Stay n m moved y (slotOf (M .node) y) (slotOf node′ y) → slotOf node′ y ≡ mid y
+      same : (y : InnerPlace) → NoneOf (sidePlace n Outgoing 0) (keptOutgoing m outgoing) y → Stay n m moved y (slotOf (M .node) y) (slotOf node′ y) → slotOf node′ y ≡ mid y
       same y none (elsewhere o e) = e ∙ sym (mid-other y e)
       same y none (coming e q h h′ k k′) = sym (mid-in y q)
-      same y none (going e q h h′ k k′) = absurd (not-of-side n Outgoing 0 (keptOut m outgoing) y none e q (omega arith) (omega arith))
+      same y none (going e q h h′ k k′) = absurd (not-of-side n Outgoing 0 (keptOutgoing m outgoing) y none e q (omega arith) (omega arith))
 
   -- a slot halfway is the old one, or an incoming port's new one
   mid-vacant : (s : ℕ) → Vacant Staying (slotOf (M .node)) s → ((p : ℕ) → p < m .incoming → p < incoming → first + p ≡ s → ⊥) → Vacant Staying mid s
@@ -217,13 +217,13 @@ module _ {g : PortGraph} {M : Model} (good : Good M) (holds : Holds g M) (n : �
   -- the old block has no link left
   old-empty : (s : ℕ) → firstSlot m ≤ s → s < firstSlot m + m .capacity → at over s ≡ 0
   old-empty s low high =
-      go (ltb s (firstSlot m + keptIn m incoming)) (ltb s (firstSlot m + m .incoming)) (ltb s (firstSlot m + m .incoming + keptOut m outgoing)) (ltb s (firstSlot m + (m .incoming + m .outgoing))) refl refl refl refl
+      go (ltb s (firstSlot m + keptIncoming m incoming)) (ltb s (firstSlot m + m .incoming)) (ltb s (firstSlot m + m .incoming + keptOutgoing m outgoing)) (ltb s (firstSlot m + (m .incoming + m .outgoing))) refl refl refl refl
     where
       apart : Within first size s → ⊥
       apart w = blocks-apart s w (low, high)
 
       -- the slot of a port that has gone over is vacant
-      gone-over : s < firstSlot m + keptIn m incoming → Vacant Staying mid s
+      gone-over : s < firstSlot m + keptIncoming m incoming → Vacant Staying mid s
       gone-over l y v e = by (staying y v)
         where
           outside : (y .node ≡ n → ⊥) → slotOf (M .node) y ≡ s → ⊥
@@ -245,23 +245,23 @@ module _ {g : PortGraph} {M : Model} (good : Good M) (holds : Holds g M) (n : �
           new Incoming h = h
           new Outgoing h = h
 
-      go : (a b c d : Bool) → ltb s (firstSlot m + keptIn m incoming) ≡ a → ltb s (firstSlot m + m .incoming) ≡ b
-          → ltb s (firstSlot m + m .incoming + keptOut m outgoing) ≡ c → ltb s (firstSlot m + (m .incoming + m .outgoing)) ≡ d → at over s ≡ 0
+      go : (a b c d : Bool) → ltb s (firstSlot m + keptIncoming m incoming) ≡ a → ltb s (firstSlot m + m .incoming) ≡ b
+          → ltb s (firstSlot m + m .incoming + keptOutgoing m outgoing) ≡ c → ltb s (firstSlot m + (m .incoming + m .outgoing)) ≡ d → at over s ≡ 0
       go true b c d t u v w =
-          let l : s < firstSlot m + keptIn m incoming = ltb-true _ _ t in
+          let l : s < firstSlot m + keptIncoming m incoming = ltb-true _ _ t in
           let e : firstSlot m + (s - firstSlot m) ≡ s = omega arith in
           go-out .0 .kept s (gone-over l) (λ x y. apart (omega arith, omega arith)) ∙ subst (λ (i : ℕ). at halfway i ≡ 0) e (go-in .1 (s - firstSlot m) (omega arith))
       go false true c d t u v w =
-          let l : firstSlot m + keptIn m incoming ≤ s = ltb-false _ _ t in
+          let l : firstSlot m + keptIncoming m incoming ≤ s = ltb-false _ _ t in
           let k : s < firstSlot m + m .incoming = ltb-true _ _ u in
           dropped Incoming (s - firstSlot m) (omega arith) (omega arith) (omega arith)
       go false false true d t u v w =
           let l : firstSlot m + m .incoming ≤ s = ltb-false _ _ u in
-          let k : s < firstSlot m + m .incoming + keptOut m outgoing = ltb-true _ _ v in
+          let k : s < firstSlot m + m .incoming + keptOutgoing m outgoing = ltb-true _ _ v in
           let e : firstSlot m + m .incoming + (s - (firstSlot m + m .incoming)) ≡ s = omega arith in
           subst (λ (i : ℕ). at over i ≡ 0) e (go-out .1 (s - (firstSlot m + m .incoming)) (omega arith))
       go false false false true t u v w =
-          let l : firstSlot m + m .incoming + keptOut m outgoing ≤ s = ltb-false _ _ v in
+          let l : firstSlot m + m .incoming + keptOutgoing m outgoing ≤ s = ltb-false _ _ v in
           let k : s < firstSlot m + (m .incoming + m .outgoing) = ltb-true _ _ w in
           dropped Outgoing (s - (firstSlot m + m .incoming)) (omega arith) (omega arith) (omega arith)
       go false false false false t u v w =

@@ -15,7 +15,7 @@ use Rattle.portgraph.specs.Tables.{at, cutCount}
 use Rattle.portgraph.specs.Model.{Model, Far, nowhere, to, Slots, live, Valid, Good, Holds, countOf, firstOf, sideStart, slotOf, slotsAt, NodeChain, isLive, portsOf, outPlace, total, InnerPlace}
 use Rattle.portgraph.specs.Meaning.{upd, sameSide, dropJoin, beyond, newCount, metaOf}
 use Rattle.portgraph.specs.Joins.{drop-joined, drop-twice, zero-is-not-one, upd-same, upd-other}
-use Rattle.portgraph.specs.Resize.{firstSlot, keptIn, keptOut, dropIncoming, dropLinks, dropCount}
+use Rattle.portgraph.specs.Resize.{firstSlot, keptIncoming, keptOutgoing, dropIncoming, dropLinks, dropCount}
 use Rattle.portgraph.specs.LinkLaws.{Rep, Vacant, NoneOf, Cleared, sidePlace, not-of-side, cut-range-at, rep-same, rep-weaken}
 use Rattle.portgraph.specs.GoodSlots.{gone-not-live}
 use Rattle.portgraph.specs.Sums.{allLinks, one-link-less, total-has, links-after-recount}
@@ -132,16 +132,16 @@ module _ {g : PortGraph} {M : Model} (good : Good M) (holds : Holds g M) (n : �
       not-of-side n d j (portsOn m d - j) y none e q (omega arith) (omega arith)
 
   first-drop : Cleared (Valid (M .node)) (slotOf (M .node)) (M .join) (dropJoin (beyondIn n incoming outgoing) (M .join))
-      (firstSlot m + keptIn m incoming) (m .incoming - keptIn m incoming) (g .«port_link») (dropIncoming (g .«port_link») m incoming)
+      (firstSlot m + keptIncoming m incoming) (m .incoming - keptIncoming m incoming) (g .«port_link») (dropIncoming (g .«port_link») m incoming)
   unfolding dropIncoming
   first-drop =
-      cut-range-at (m .incoming - keptIn m incoming) (sidePlace n Incoming (keptIn m incoming)) (beyondIn n incoming outgoing) (M .join) (g .«port_link») (firstSlot m + keptIn m incoming)
+      cut-range-at (m .incoming - keptIncoming m incoming) (sidePlace n Incoming (keptIncoming m incoming)) (beyondIn n incoming outgoing) (M .join) (g .«port_link») (firstSlot m + keptIncoming m incoming)
       (rep-of good holds)
       (record { there = λ i l. rw here (omega arith); numbered = λ i l. rw here (omega arith) })
-      (λ i l. is-beyond n incoming outgoing (sidePlace n Incoming (keptIn m incoming) i) refl (omega arith))
+      (λ i l. is-beyond n incoming outgoing (sidePlace n Incoming (keptIncoming m incoming) i) refl (omega arith))
       out
     where
-      out : (y w : InnerPlace) → M .join y ≡ to w → NoneOf (sidePlace n Incoming (keptIn m incoming)) (m .incoming - keptIn m incoming) y → beyondIn n incoming outgoing y ≡ false
+      out : (y w : InnerPlace) → M .join y ≡ to w → NoneOf (sidePlace n Incoming (keptIncoming m incoming)) (m .incoming - keptIncoming m incoming) y → beyondIn n incoming outgoing y ≡ false
       out y w e none = go (y .side) (eqb (y .node) n) (leb (newCount incoming outgoing (y .side)) (y .pos)) refl refl refl
         where
           go : (d : Direction) (a b : Bool) → y .side ≡ d → eqb (y .node) n ≡ a → leb (newCount incoming outgoing (y .side)) (y .pos) ≡ b → cond (sameSide d Incoming) (cond a b false) false ≡ false
@@ -149,21 +149,21 @@ module _ {g : PortGraph} {M : Model} (good : Good M) (holds : Holds g M) (n : �
           go Incoming false b q p r = refl
           go Incoming true false q p r = refl
           go Incoming true true q p r =
-              absurd (of-the-run Incoming (keptIn m incoming) y refl (good .joinValid y w e) (eqb-true _ _ p) q (leb-true _ _ r) none)
+              absurd (of-the-run Incoming (keptIncoming m incoming) y refl (good .joinValid y w e) (eqb-true _ _ p) q (leb-true _ _ r) none)
 
   second-drop : Cleared (Valid (M .node)) (slotOf (M .node)) (dropJoin (beyondIn n incoming outgoing) (M .join))
       (dropJoin (beyond n incoming outgoing) (dropJoin (beyondIn n incoming outgoing) (M .join)))
-      (firstSlot m + m .incoming + keptOut m outgoing) (m .outgoing - keptOut m outgoing) (dropIncoming (g .«port_link») m incoming) (dropLinks (g .«port_link») m incoming outgoing)
+      (firstSlot m + m .incoming + keptOutgoing m outgoing) (m .outgoing - keptOutgoing m outgoing) (dropIncoming (g .«port_link») m incoming) (dropLinks (g .«port_link») m incoming outgoing)
   unfolding dropLinks
   second-drop =
-      cut-range-at (m .outgoing - keptOut m outgoing) (sidePlace n Outgoing (keptOut m outgoing)) (beyond n incoming outgoing) (dropJoin (beyondIn n incoming outgoing) (M .join))
-      (dropIncoming (g .«port_link») m incoming) (firstSlot m + m .incoming + keptOut m outgoing)
+      cut-range-at (m .outgoing - keptOutgoing m outgoing) (sidePlace n Outgoing (keptOutgoing m outgoing)) (beyond n incoming outgoing) (dropJoin (beyondIn n incoming outgoing) (M .join))
+      (dropIncoming (g .«port_link») m incoming) (firstSlot m + m .incoming + keptOutgoing m outgoing)
       (first-drop .rep)
       (record { there = λ i l. rw here (omega arith); numbered = λ i l. rw here (omega arith) })
-      (λ i l. is-beyond n incoming outgoing (sidePlace n Outgoing (keptOut m outgoing) i) refl (omega arith))
+      (λ i l. is-beyond n incoming outgoing (sidePlace n Outgoing (keptOutgoing m outgoing) i) refl (omega arith))
       out
     where
-      out : (y w : InnerPlace) → dropJoin (beyondIn n incoming outgoing) (M .join) y ≡ to w → NoneOf (sidePlace n Outgoing (keptOut m outgoing)) (m .outgoing - keptOut m outgoing) y → beyond n incoming outgoing y ≡ false
+      out : (y w : InnerPlace) → dropJoin (beyondIn n incoming outgoing) (M .join) y ≡ to w → NoneOf (sidePlace n Outgoing (keptOutgoing m outgoing)) (m .outgoing - keptOutgoing m outgoing) y → beyond n incoming outgoing y ≡ false
       out y w e none = go (y .side) (eqb (y .node) n) (leb (newCount incoming outgoing (y .side)) (y .pos)) refl refl refl (d .1)
         where
           d : (M .join y ≡ to w) × (beyondIn n incoming outgoing y ≡ false) × (beyondIn n incoming outgoing w ≡ false)
@@ -174,14 +174,14 @@ module _ {g : PortGraph} {M : Model} (good : Good M) (holds : Holds g M) (n : �
           go Outgoing false b q p r k = refl
           go Outgoing true false q p r k = refl
           go Outgoing true true q p r k =
-              absurd (of-the-run Outgoing (keptOut m outgoing) y refl (good .joinValid y w (d .0)) (eqb-true _ _ p) q (leb-true _ _ r) none)
+              absurd (of-the-run Outgoing (keptOutgoing m outgoing) y refl (good .joinValid y w (d .0)) (eqb-true _ _ p) q (leb-true _ _ r) none)
 
   pub drops : Dropped M n m incoming outgoing (g .«port_link»)
   unfolding dropCount
   drops =
-      let a : cutCount (g .«port_link») (firstSlot m + keptIn m incoming) (m .incoming - keptIn m incoming) + allLinks (M .node) (dropJoin (beyondIn n incoming outgoing) (M .join)) ≡ allLinks (M .node) (M .join) =
+      let a : cutCount (g .«port_link») (firstSlot m + keptIncoming m incoming) (m .incoming - keptIncoming m incoming) + allLinks (M .node) (dropJoin (beyondIn n incoming outgoing) (M .join)) ≡ allLinks (M .node) (M .join) =
       first-drop .count (allLinks (M .node)) (λ K j x v. one-link-less (M .node) K (node-in-range good holds) j x) in
-      let b : cutCount (dropIncoming (g .«port_link») m incoming) (firstSlot m + m .incoming + keptOut m outgoing) (m .outgoing - keptOut m outgoing) + allLinks (M .node) (dropJoin (beyond n incoming outgoing) (dropJoin (beyondIn n incoming outgoing) (M .join))) ≡ allLinks (M .node) (dropJoin (beyondIn n incoming outgoing) (M .join)) =
+      let b : cutCount (dropIncoming (g .«port_link») m incoming) (firstSlot m + m .incoming + keptOutgoing m outgoing) (m .outgoing - keptOutgoing m outgoing) + allLinks (M .node) (dropJoin (beyond n incoming outgoing) (dropJoin (beyondIn n incoming outgoing) (M .join))) ≡ allLinks (M .node) (dropJoin (beyondIn n incoming outgoing) (M .join)) =
       second-drop .count (allLinks (M .node)) (λ K j x v. one-link-less (M .node) K (node-in-range good holds) j x) in
       let c : allLinks (M .node) (dropJoin (beyond n incoming outgoing) (dropJoin (beyondIn n incoming outgoing) (M .join))) ≡ allLinks (M .node) (dropJoin (beyond n incoming outgoing) (M .join)) =
       ap (allLinks (M .node)) (fun-ext same) in

@@ -14,7 +14,7 @@ use Rattle.portgraph.specs.TableLaws.{length-ownBlock, at-fill-in, at-fi
 use Rattle.portgraph.specs.Model.{Model, Far, Slots, live, Who, Valid, Within, Good, Holds, Chain, slotOf, ownerOfSlots, ownerOfWho, InnerPlace}
 use Rattle.portgraph.specs.Meaning.{upd, dropJoin, beyond, metaOf, resizeModel}
 use Rattle.portgraph.specs.Joins.{upd-elim, upd-same}
-use Rattle.portgraph.specs.Resize.{firstSlot, keptOut, dropLinks, insideLinks, resizeInside}
+use Rattle.portgraph.specs.Resize.{firstSlot, keptOutgoing, dropLinks, insideLinks, resizeInside}
 use Rattle.portgraph.specs.LinkLaws.{Rep, Vacant, NoneOf, Moved, sidePlace, not-of-side, shift-at, rep-fill-vacant, rep-extend, farNumber-is-farIs}
 use Rattle.portgraph.specs.GoodSlots.{block-of-one, free-block-apart, slot-in-range, slots-apart}
 use Rattle.portgraph.specs.GoodLaws.{good-resize}
@@ -58,12 +58,12 @@ module _ {g : PortGraph} {M : Model} (good : Good M) (holds : Holds g M) (n : �
   -- The outgoing ports that stay move.
 
   abbrev movedLinks : List ℕ
-  movedLinks = shift (dropLinks (g .«port_link») m incoming outgoing) (ltb incoming (m .incoming)) (firstSlot m + m .incoming) (firstSlot m + incoming) (keptOut m outgoing)
+  movedLinks = shift (dropLinks (g .«port_link») m incoming outgoing) (ltb incoming (m .incoming)) (firstSlot m + m .incoming) (firstSlot m + incoming) (keptOutgoing m outgoing)
 
-  moves : Moved Staying (slotOf (M .node)) (slotOf node′) left (firstSlot m + incoming) (keptOut m outgoing) (dropLinks (g .«port_link») m incoming outgoing) movedLinks
+  moves : Moved Staying (slotOf (M .node)) (slotOf node′) left (firstSlot m + incoming) (keptOutgoing m outgoing) (dropLinks (g .«port_link») m incoming outgoing) movedLinks
   moves =
       let e = ends in
-      shift-at (ltb incoming (m .incoming)) (keptOut m outgoing) (sidePlace n Outgoing 0) (slotOf (M .node)) (slotOf node′) (dropLinks (g .«port_link») m incoming outgoing)
+      shift-at (ltb incoming (m .incoming)) (keptOutgoing m outgoing) (sidePlace n Outgoing 0) (slotOf (M .node)) (slotOf node′) (dropLinks (g .«port_link») m incoming outgoing)
       (firstSlot m + m .incoming) (firstSlot m + incoming)
       (stays-rep good holds n m here incoming outgoing (firstSlot m) (m .capacity) (good′ .joinValid))
       (record { there = λ i l. (rw here (omega arith), rw (upd-same (M .node) n (live resized)) (omega arith)); numbered = λ i l. rw here (omega arith) })
@@ -73,16 +73,16 @@ module _ {g : PortGraph} {M : Model} (good : Good M) (holds : Holds g M) (n : �
       (λ y v none. clear y v none (staying y v))
       (record { placed = λ i l. rw (upd-same (M .node) n (live resized)) (omega arith); others = λ y v none. same y none (staying y v) })
     where
-      clear : (y : InnerPlace) → Staying y → NoneOf (sidePlace n Outgoing 0) (keptOut m outgoing) y → Stay n m resized y (slotOf (M .node) y) (slotOf node′ y)
-          → firstSlot m + incoming ≤ slotOf (M .node) y → slotOf (M .node) y < firstSlot m + incoming + keptOut m outgoing → ⊥
+      clear : (y : InnerPlace) → Staying y → NoneOf (sidePlace n Outgoing 0) (keptOutgoing m outgoing) y → Stay n m resized y (slotOf (M .node) y) (slotOf node′ y)
+          → firstSlot m + incoming ≤ slotOf (M .node) y → slotOf (M .node) y < firstSlot m + incoming + keptOutgoing m outgoing → ⊥
       clear y v none (elsewhere o e) a b = outside y v o (omega arith, omega arith)
       clear y v none (coming e q h h′ k k′) a b = omega arith
-      clear y v none (going e q h h′ k k′) a b = not-of-side n Outgoing 0 (keptOut m outgoing) y none e q (omega arith) (omega arith)
+      clear y v none (going e q h h′ k k′) a b = not-of-side n Outgoing 0 (keptOutgoing m outgoing) y none e q (omega arith) (omega arith)
 
-      same : (y : InnerPlace) → NoneOf (sidePlace n Outgoing 0) (keptOut m outgoing) y → Stay n m resized y (slotOf (M .node) y) (slotOf node′ y) → slotOf node′ y ≡ slotOf (M .node) y
+      same : (y : InnerPlace) → NoneOf (sidePlace n Outgoing 0) (keptOutgoing m outgoing) y → Stay n m resized y (slotOf (M .node) y) (slotOf node′ y) → slotOf node′ y ≡ slotOf (M .node) y
       same y none (elsewhere o e) = e
       same y none (coming e q h h′ k k′) = k′ ∙ sym k
-      same y none (going e q h h′ k k′) = absurd (not-of-side n Outgoing 0 (keptOut m outgoing) y none e q (omega arith) (omega arith))
+      same y none (going e q h h′ k k′) = absurd (not-of-side n Outgoing 0 (keptOutgoing m outgoing) y none e q (omega arith) (omega arith))
 
   -- Slots of new ports, and slots no longer used, hold no link.
 

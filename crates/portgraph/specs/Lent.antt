@@ -1,7 +1,7 @@
 -- The graph's tables as a run lends them: each an array of its own, the nodes as numbers, and the counts beside them.
 -- A node slot is five numbers: 0, previous and next free entry, 0, 0; or 1, first port, incoming, outgoing, capacity.
 use mathlib.Core.Path.{_≡_}
-use mathlib.Core.List.{List, [], _∷_}
+use mathlib.Core.List.{List, [], _∷_, _++_}
 use Prim.Native.Nat.{ℕ, _+_, _*_, _≤_, _<_}
 use lib.Dec.{eqb, ltb}
 use lib.ListN.{getD, set}
@@ -20,6 +20,7 @@ use Rattle.portgraph.specs.declared.index.MaybePortOffset.{MaybePortOffs
 use Rattle.portgraph.specs.declared.index.MaybePortOffset.the-variants as maybe-offset
 use Rattle.portgraph.specs.declared.node_entry.NodeMeta.{NodeMeta}
 use Rattle.portgraph.specs.declared.node_entry.NodeSlot.{NodeSlot}
+use Rattle.portgraph.specs.declared.node_entry.NodeEntry.{NodeEntry}
 use Rattle.portgraph.specs.declared.node_entry.NodeEntry.the-variants as node-variants
 use Rattle.portgraph.specs.declared.node_entry.MaybeNodeMeta.{MaybeNodeMeta}
 use Rattle.portgraph.specs.declared.port_entry.PortEntry.{PortEntry}
@@ -47,6 +48,28 @@ slotsIn (k ∷ a ∷ []) = []
 slotsIn (k ∷ a ∷ b ∷ []) = []
 slotsIn (k ∷ a ∷ b ∷ c ∷ []) = []
 slotsIn (k ∷ a ∷ b ∷ c ∷ d ∷ words) = slotOfWords k a b c d ∷ slotsIn words
+
+-- the five numbers of a slot
+unfoldable pub wordsOfEntry : NodeEntry → List ℕ
+wordsOfEntry (node-variants.Free f) = 0 ∷ f .prev ∷ f .next ∷ 0 ∷ 0 ∷ []
+wordsOfEntry (node-variants.Node m) = 1 ∷ m .«first_port» .0 ∷ m .incoming ∷ m .outgoing ∷ m .capacity ∷ []
+
+-- five numbers that are a slot's own
+abbrev pub Own : ℕ → ℕ → ℕ → ℕ → ℕ → Type 0
+Own k a b c d = wordsOfEntry (slotOfWords k a b c d .entry) ≡ k ∷ a ∷ b ∷ c ∷ d ∷ []
+
+-- the numbers of a node table
+unfoldable pub wordsOf : List NodeSlot → List ℕ
+wordsOf [] = []
+wordsOf (s ∷ nodes) = wordsOfEntry (s .entry) ++ wordsOf nodes
+
+-- numbers that are those of the table which they stand for (others could stand for it too): the table fixes each of them
+abbrev pub Canonical : List ℕ → Type 0
+Canonical words = words ≡ wordsOf (slotsIn words)
+
+-- what a call does to the numbers: they stay a table's own
+abbrev pub StaysCanonical : List ℕ → List ℕ → Type 0
+StaysCanonical before after = Canonical before → Canonical after
 
 -- one slot; a free one outside the table
 unfoldable pub slotIn : List ℕ → ℕ → NodeSlot
@@ -94,6 +117,18 @@ graphIn nodes links owners heads counts =
       «node_count» = counts .«node_count»;
       «port_count» = counts .«port_count»;
       «link_count» = counts .«link_count»;
+    }
+
+-- what a graph has besides its tables
+abbrev pub countsOf : PortGraph → Counts
+countsOf g =
+    record {
+      «node_free» = g .«node_free»;
+      «node_len» = g .«node_len»;
+      «port_len» = g .«port_len»;
+      «node_count» = g .«node_count»;
+      «port_count» = g .«port_count»;
+      «link_count» = g .«link_count»;
     }
 
 -- the counts with another number of links

@@ -9,7 +9,7 @@ use lib.ListN.{length, getD, set, take, replicate, length-set}
 use lib.Seq.{take-suc, take-suc-set, take-length}
 use Rattle.portgraph.specs.Limits.{nodeSlots}
 use Rattle.portgraph.specs.Entries.{freshSlot}
-use Rattle.portgraph.specs.Lent.{nodeWords, slotsIn, slotIn, putSlot, graphIn}
+use Rattle.portgraph.specs.Lent.{nodeWords, slotsIn, slotIn, putSlot, graphIn, countsOf}
 use Rattle.portgraph.specs.LentSteps.{slot-read, put-inside}
 use Rattle.portgraph.specs.declared.node_entry.NodeSlot.{NodeSlot}
 use Rattle.portgraph.specs.declared.portgraph.PortGraph.{PortGraph}
@@ -78,17 +78,7 @@ withSlots slots links owners heads counts =
 pub graph-made : (nodes links owners heads : List ℕ) (counts : Counts) (slots : List NodeSlot) → slots ≡ slotsIn nodes → withSlots slots links owners heads counts ≡ graphIn nodes links owners heads counts
 graph-made nodes links owners heads counts slots e = ap (λ (s : List NodeSlot). withSlots s links owners heads counts) e
 
-abbrev countsOf : PortGraph → Counts
-countsOf g =
-    record {
-      «node_free» = g .«node_free»;
-      «node_len» = g .«node_len»;
-      «port_len» = g .«port_len»;
-      «node_count» = g .«node_count»;
-      «port_count» = g .«port_count»;
-      «link_count» = g .«link_count»;
-    }
-
 -- the lent tables that a graph is stored in
-pub graph-stored : (g : PortGraph) (nodes : List ℕ) → slotsIn nodes ≡ g .«node_meta» → graphIn nodes (g .«port_link») (g .«port_meta») (g .«port_free») (countsOf g) ≡ g
-graph-stored g nodes e = ap (λ (s : List NodeSlot). withSlots s (g .«port_link») (g .«port_meta») (g .«port_free») (countsOf g)) e
+pub graph-stored : (g : PortGraph) (nodes : List ℕ) {heads : List ℕ} {counts : Counts} → slotsIn nodes ≡ g .«node_meta» → heads ≡ g .«port_free» → counts ≡ countsOf g →
+    graphIn nodes (g .«port_link») (g .«port_meta») heads counts ≡ g
+graph-stored g nodes e h k = λ i. withSlots (e i) (g .«port_link») (g .«port_meta») (h i) (k i)

@@ -14,7 +14,7 @@ use Rattle.portgraph.specs.Tables.{at, fillRange, headAt, putHead, ownBl
 use Rattle.portgraph.specs.Meaning.{metaOf}
 use Rattle.portgraph.specs.Lookups.{entryAt, metaOfEntry, metaAt, startOf, offsetIn, portIn, portIndex, portOffset, node#, port#}
 use Rattle.portgraph.specs.Calls.{newGraph, findSlot, findBlock, restOf, grown, slotAfter, addNode, removeNode, withLinks}
-use Rattle.portgraph.specs.Resize.{BlockFits, Plan, refuse, same, inside, anew, sameCounts, fitsInside, planOf, setBy, toldBy, setNumPorts, movesAfter, roundUp, dropLinks, dropCount, dropped, keptIn, keptOut, firstSlot, insideLinks, anewLinks, setNumPortsUnder, movesAfterUnder}
+use Rattle.portgraph.specs.Resize.{BlockFits, Plan, refuse, same, inside, anew, sameCounts, fitsInside, planOf, setBy, toldBy, setNumPorts, movesAfter, roundUp, dropLinks, dropCount, dropped, keptIncoming, keptOutgoing, firstSlot, insideLinks, anewLinks, setNumPortsUnder, movesAfterUnder}
 use Rattle.portgraph.specs.Lent.{nodeWords, narrow, slotOfWords, slotsIn, slotIn, putSlot, metaIn, portWithin, portIndexIn, offsetOfIn, portOffsetIn, graphIn, countLinks, countPorts, Resizes, noCounts}
 use Rattle.portgraph.specs.Model.{Wf}
 use Rattle.portgraph.specs.WfFacts.{block-fits, node-below, port-len-fits, port-count-fits}
@@ -22,7 +22,7 @@ use Rattle.portgraph.specs.LookupSteps.{side-fits}
 use Rattle.portgraph.specs.SlotSteps.{node-added, node-removed, node-slot-fits}
 use Rattle.portgraph.specs.ResizeSteps.{round-up-positive, rest-after, plan-same, plan-inside, plan-no-room, plan-anew}
 use Rattle.portgraph.specs.ResizeLaws.{anew-in-steps}
-use Rattle.portgraph.specs.Settle.{takeBlock, dropPorts, settleInside, settleAnew, inside-in-steps}
+use Rattle.portgraph.specs.LentResize.{takeBlock, dropPorts, settleInside, settleAnew, inside-in-steps}
 use Rattle.portgraph.specs.declared.direction.Direction.{Direction}
 use Rattle.portgraph.specs.declared.index.PortOffset.{PortOffset}
 use Rattle.portgraph.specs.declared.index.MaybePortIndex.the-variants as maybe-port
@@ -56,7 +56,7 @@ use Rattle.portgraph.specs.declared.lent.Counts.{Counts}
 
 -- Numbers and slots.
 
-next-five : (n : ℕ) → 5 * suc n ≡ suc (suc (suc (suc (suc (5 * n)))))
+pub next-five : (n : ℕ) → 5 * suc n ≡ suc (suc (suc (suc (suc (5 * n)))))
 next-five n = omega arith
 
 -- five stores in a row
@@ -68,7 +68,7 @@ stored-words t n k a b c d =
     let e4 : 5 * n + 4 ≡ suc (suc (suc (suc (5 * n)))) = omega arith in
     rw (e1, e2, e3, e4)
 
-words-written : (t : List ℕ) (n k a b c d : ℕ) → slotsIn (sets t (5 * n) (k ∷ a ∷ b ∷ c ∷ d ∷ [])) ≡ set (slotsIn t) n (slotOfWords k a b c d)
+pub words-written : (t : List ℕ) (n k a b c d : ℕ) → slotsIn (sets t (5 * n) (k ∷ a ∷ b ∷ c ∷ d ∷ [])) ≡ set (slotsIn t) n (slotOfWords k a b c d)
 unfolding slotsIn
 words-written [] n k a b c d = refl
 words-written (x ∷ []) zero k a b c d = refl
@@ -111,7 +111,7 @@ second-written (x ∷ y ∷ z ∷ u ∷ []) (suc n) v = rw (next-five n)
 second-written (x ∷ y ∷ z ∷ u ∷ w ∷ t) zero v = refl
 second-written (x ∷ y ∷ z ∷ u ∷ w ∷ t) (suc n) v = rw (next-five n) (ap (λ (l : List NodeSlot). slotOfWords x y z u w ∷ l) (second-written t n v))
 
-zeros-read : (n : ℕ) → slotsIn (replicate (5 * n) 0) ≡ replicate n freshSlot
+pub zeros-read : (n : ℕ) → slotsIn (replicate (5 * n) 0) ≡ replicate n freshSlot
 unfolding slotsIn slotOfWords narrow
 zeros-read zero = refl
 zeros-read (suc n) = rw (next-five n) (ap (λ (l : List NodeSlot). freshSlot ∷ l) (zeros-read n))
@@ -198,7 +198,7 @@ pub put-inside : (l : List NodeSlot) (n : ℕ) (s : NodeSlot) → n < nodeSlots 
 unfolding putSlot
 put-inside l n s h = rw (lt-ltb n nodeSlots h)
 
-abbrev slotOf : NodeEntry → NodeSlot
+abbrev pub slotOf : NodeEntry → NodeSlot
 slotOf e = record { entry = e }
 
 -- a node's numbers are read back
@@ -216,18 +216,21 @@ pub put-free : (l t : List NodeSlot) (n : ℕ) (s : NodeSlot) (f : FreeNodeEntry
 put-free l t n s f e h i p = p ∙ ap (putSlot l n) (sym (free-of-words 0 (f .prev) (f .next) 0 0 _ _ refl (narrow-small (f .prev) h) (narrow-small (f .next) i)) ∙ ap (λ (x : NodeEntry). slotOf x) (sym e))
 
 -- a slot that is read is the table's
+pub slot-read-inside : (t : List ℕ) (n : ℕ) → n < nodeSlots → n < length (slotsIn t) → slotIn t n ≡ getD (slotsIn t) n freshSlot
+unfolding slotIn
+slot-read-inside t n h i =
+    let e1 : 5 * n + 1 ≡ suc (5 * n) = omega arith in
+    let e2 : 5 * n + 2 ≡ suc (suc (5 * n)) = omega arith in
+    let e3 : 5 * n + 3 ≡ suc (suc (suc (5 * n))) = omega arith in
+    let e4 : 5 * n + 4 ≡ suc (suc (suc (suc (5 * n)))) = omega arith in
+    rw (lt-ltb n nodeSlots h, e1, e2, e3, e4) (words-read t n i)
+
 pub slot-read : (t : List ℕ) (n : ℕ) → length (slotsIn t) ≡ nodeSlots → slotIn t n ≡ getD (slotsIn t) n freshSlot
 unfolding slotIn
 slot-read t n long = go (ltb n nodeSlots) refl
   where
     go : (b : Bool) → ltb n nodeSlots ≡ b → slotIn t n ≡ getD (slotsIn t) n freshSlot
-    go true e =
-        let h = ltb-true n nodeSlots e in
-        let e1 : 5 * n + 1 ≡ suc (5 * n) = omega arith in
-        let e2 : 5 * n + 2 ≡ suc (suc (5 * n)) = omega arith in
-        let e3 : 5 * n + 3 ≡ suc (suc (suc (5 * n))) = omega arith in
-        let e4 : 5 * n + 4 ≡ suc (suc (suc (suc (5 * n)))) = omega arith in
-        rw (e, e1, e2, e3, e4) (words-read t n (omega arith))
+    go true e = let h = ltb-true n nodeSlots e in slot-read-inside t n h (omega arith)
     go false e =
         let h = ltb-false n nodeSlots e in
         rw e (sym (List·getD-eq-default (slotsIn t) freshSlot {n = n} (omega arith)))
@@ -335,8 +338,8 @@ linked-in e = (ap (λ (x : PortsLinked). x .graph) e, ap (λ (x : PortsLinked). 
 pub unlinked-in : {g : PortGraph} {a : PortLink} {r : PortUnlinked} → _≡_ {A = PortUnlinked} (record { graph = g; answer = a }) r → (g ≡ r .graph) × (a ≡ r .answer)
 unlinked-in e = (ap (λ (x : PortUnlinked). x .graph) e, ap (λ (x : PortUnlinked). x .answer) e)
 
-set-in : {g : PortGraph} {a : SetAnswer} {r : PortsSet} → _≡_ {A = PortsSet} (record { graph = g; answer = a }) r → (g ≡ r .graph) × (a ≡ r .answer)
-set-in e = (ap (λ (x : PortsSet). x .graph) e, ap (λ (x : PortsSet). x .answer) e)
+set-lent : {g : PortGraph} {a : SetAnswer} {r : PortsSet} → _≡_ {A = PortsSet} (record { graph = g; answer = a }) r → (g ≡ r .graph) × (a ≡ r .answer)
+set-lent e = (ap (λ (x : PortsSet). x .graph) e, ap (λ (x : PortsSet). x .answer) e)
 
 pub counted-links : (nodes links links′ owners heads : List ℕ) (counts counts′ : Counts) (k : ℕ) → counts′ ≡ countLinks counts k
     → graphIn nodes links′ owners heads counts′ ≡ withLinks (graphIn nodes links owners heads counts) links′ k
@@ -485,17 +488,17 @@ module _ (nodes links owners heads : List ℕ) (counts : Counts) where
 
 -- how many events the code counts
 pub inside-events : (m : NodeMeta) (i o : ℕ) {oi ki ports events : ℕ} → oi ≡ m .incoming → ki ≡ min oi i → ports ≡ m .incoming + m .outgoing → events ≡ ports - ki
-    → set-variants.Set events ≡ set-variants.Set (dropped m i o + keptOut m o)
+    → set-variants.Set events ≡ set-variants.Set (dropped m i o + keptOutgoing m o)
 inside-events m i o e f g h = ap (λ (k : ℕ). set-variants.Set k) (omega arith)
 
-pub anew-events : (m : NodeMeta) (i o : ℕ) {ports : ℕ} → ports ≡ m .incoming + m .outgoing → set-variants.Set ports ≡ set-variants.Set (dropped m i o + (keptIn m i + keptOut m o))
+pub anew-events : (m : NodeMeta) (i o : ℕ) {ports : ℕ} → ports ≡ m .incoming + m .outgoing → set-variants.Set ports ≡ set-variants.Set (dropped m i o + (keptIncoming m i + keptOutgoing m o))
 anew-events m i o e = ap (λ (k : ℕ). set-variants.Set k) (omega arith)
 
 module _ (m : NodeMeta) (i o : ℕ) {oi oo ki ko : ℕ} (ei : oi ≡ m .incoming) (eo : oo ≡ m .outgoing) (eki : ki ≡ min oi i) (eko : ko ≡ min oo o) where
-  pub inside-told-events : set-variants.Set (((oi - ki) + (oo - ko)) + ko) ≡ set-variants.Set (dropped m i o + keptOut m o)
+  pub inside-told-events : set-variants.Set (((oi - ki) + (oo - ko)) + ko) ≡ set-variants.Set (dropped m i o + keptOutgoing m o)
   inside-told-events = rw (eki, eko, ei, eo)
 
-  pub anew-told-events : set-variants.Set (((oi - ki) + (oo - ko)) + (ki + ko)) ≡ set-variants.Set (dropped m i o + (keptIn m i + keptOut m o))
+  pub anew-told-events : set-variants.Set (((oi - ki) + (oo - ko)) + (ki + ko)) ≡ set-variants.Set (dropped m i o + (keptIncoming m i + keptOutgoing m o))
   anew-told-events = rw (eki, eko, ei, eo)
 
 -- the steps together are the change of counts

@@ -20,6 +20,7 @@
 --   model that Meaning gives
 --   slot-found, block-found (SlotHolds, BlockHolds): the slot or block freed last is taken first, else the end
 --   told-length, told-first, moves-kept, kept-link (ResizeLaws): the move list, and that a kept port keeps its link
+--   words-fixed, zeros-canonical (LentWords): a lent node table that is canonical fixes each of its numbers
 --   walk-gives-all-nodes, walk-gives-all-ports, walk-gives-all-offsets (WalkLaws), walk-gives-all-links, walk-gives-all-neighbours,
 --   walk-gives-all-connections, walk-gives-all-live-ports (LinkWalkLaws)
 pub mod Limits
@@ -59,8 +60,9 @@ pub mod TableSteps
 pub mod LookupSteps
 pub mod SlotSteps
 pub mod ResizeSteps
-pub mod Settle
+pub mod LentResize
 pub mod LentSteps
+pub mod LentWords
 pub mod LentGraph
 pub mod WfFacts
 pub mod LinkWalkSteps

@@ -86,33 +86,33 @@ abbrev pub firstSlot : NodeMeta → ℕ
 firstSlot m = m .«first_port» .0
 
 -- the ports that stay on each side
-abbrev pub keptIn : NodeMeta → ℕ → ℕ
-keptIn m incoming = min (m .incoming) incoming
+abbrev pub keptIncoming : NodeMeta → ℕ → ℕ
+keptIncoming m incoming = min (m .incoming) incoming
 
-abbrev pub keptOut : NodeMeta → ℕ → ℕ
-keptOut m outgoing = min (m .outgoing) outgoing
+abbrev pub keptOutgoing : NodeMeta → ℕ → ℕ
+keptOutgoing m outgoing = min (m .outgoing) outgoing
 
 unfoldable pub dropIncoming : List ℕ → NodeMeta → ℕ → List ℕ
-dropIncoming t m incoming = cutRange t (firstSlot m + keptIn m incoming) (m .incoming - keptIn m incoming)
+dropIncoming t m incoming = cutRange t (firstSlot m + keptIncoming m incoming) (m .incoming - keptIncoming m incoming)
 
 unfoldable pub dropLinks : List ℕ → NodeMeta → ℕ → ℕ → List ℕ
 dropLinks t m incoming outgoing =
-    cutRange (dropIncoming t m incoming) (firstSlot m + m .incoming + keptOut m outgoing) (m .outgoing - keptOut m outgoing)
+    cutRange (dropIncoming t m incoming) (firstSlot m + m .incoming + keptOutgoing m outgoing) (m .outgoing - keptOutgoing m outgoing)
 
 -- how many links that cuts
 unfoldable pub dropCount : List ℕ → NodeMeta → ℕ → ℕ → ℕ
 dropCount t m incoming outgoing =
-    cutCount t (firstSlot m + keptIn m incoming) (m .incoming - keptIn m incoming)
-    + cutCount (dropIncoming t m incoming) (firstSlot m + m .incoming + keptOut m outgoing) (m .outgoing - keptOut m outgoing)
+    cutCount t (firstSlot m + keptIncoming m incoming) (m .incoming - keptIncoming m incoming)
+    + cutCount (dropIncoming t m incoming) (firstSlot m + m .incoming + keptOutgoing m outgoing) (m .outgoing - keptOutgoing m outgoing)
 
 unfoldable pub dropTold : List ℕ → NodeMeta → ℕ → ℕ → List ℕ
 dropTold t m incoming outgoing =
-    dropEvents t (firstSlot m + keptIn m incoming) (m .incoming - keptIn m incoming)
-    ++ dropEvents (dropIncoming t m incoming) (firstSlot m + m .incoming + keptOut m outgoing) (m .outgoing - keptOut m outgoing)
+    dropEvents t (firstSlot m + keptIncoming m incoming) (m .incoming - keptIncoming m incoming)
+    ++ dropEvents (dropIncoming t m incoming) (firstSlot m + m .incoming + keptOutgoing m outgoing) (m .outgoing - keptOutgoing m outgoing)
 
 -- how many ports are dropped
 abbrev pub dropped : NodeMeta → ℕ → ℕ → ℕ
-dropped m incoming outgoing = (m .incoming - keptIn m incoming) + (m .outgoing - keptOut m outgoing)
+dropped m incoming outgoing = (m .incoming - keptIncoming m incoming) + (m .outgoing - keptOutgoing m outgoing)
 
 -- Within the block.
 
@@ -122,7 +122,7 @@ insideLinks t m incoming outgoing =
     fillRange
     (fillRange
     (fillRange
-    (shift t (ltb incoming (m .incoming)) (firstSlot m + m .incoming) (firstSlot m + incoming) (keptOut m outgoing))
+    (shift t (ltb incoming (m .incoming)) (firstSlot m + m .incoming) (firstSlot m + incoming) (keptOutgoing m outgoing))
     (firstSlot m + m .incoming) (incoming - m .incoming) 0)
     (firstSlot m + incoming + m .outgoing) (outgoing - m .outgoing) 0)
     (firstSlot m + (incoming + outgoing)) ((m .incoming + m .outgoing) - (incoming + outgoing)) 0
@@ -146,7 +146,7 @@ resizeInside g n m incoming outgoing =
 unfoldable pub insideTold : PortGraph → NodeMeta → ℕ → ℕ → List ℕ
 insideTold g m incoming outgoing =
     dropTold (g .«port_link») m incoming outgoing
-    ++ shiftEvents (ltb incoming (m .incoming)) (firstSlot m + m .incoming) (firstSlot m + incoming) (keptOut m outgoing)
+    ++ shiftEvents (ltb incoming (m .incoming)) (firstSlot m + m .incoming) (firstSlot m + incoming) (keptOutgoing m outgoing)
 
 -- In a new block.
 
@@ -154,8 +154,8 @@ insideTold g m incoming outgoing =
 unfoldable pub anewLinks : List ℕ → NodeMeta → ℕ → ℕ → ℕ → ℕ → List ℕ
 anewLinks t m incoming outgoing first size =
     transfer
-    (transfer (fillRange t first size 0) (firstSlot m) first (keptIn m incoming))
-    (firstSlot m + m .incoming) (first + incoming) (keptOut m outgoing)
+    (transfer (fillRange t first size 0) (firstSlot m) first (keptIncoming m incoming))
+    (firstSlot m + m .incoming) (first + incoming) (keptOutgoing m outgoing)
 
 -- the new block is taken first, and only then the old one is free
 unfoldable pub resizeAnew : PortGraph → ℕ → NodeMeta → ℕ → ℕ → ℕ → ℕ → PortGraph
@@ -183,8 +183,8 @@ resizeAnew g n m incoming outgoing first size =
 unfoldable pub anewTold : PortGraph → NodeMeta → ℕ → ℕ → ℕ → List ℕ
 anewTold g m incoming outgoing first =
     dropTold (g .«port_link») m incoming outgoing
-    ++ (moveUpEvents (firstSlot m) first (keptIn m incoming)
-    ++ moveUpEvents (firstSlot m + m .incoming) (first + incoming) (keptOut m outgoing))
+    ++ (moveUpEvents (firstSlot m) first (keptIncoming m incoming)
+    ++ moveUpEvents (firstSlot m + m .incoming) (first + incoming) (keptOutgoing m outgoing))
 
 -- The call.
 
@@ -194,12 +194,12 @@ setBy g n incoming outgoing same = record { graph = g; answer = set-variants.Set
 setBy g n incoming outgoing (inside m) =
     record {
       graph = resizeInside g n m incoming outgoing;
-      answer = set-variants.Set (dropped m incoming outgoing + keptOut m outgoing);
+      answer = set-variants.Set (dropped m incoming outgoing + keptOutgoing m outgoing);
     }
 setBy g n incoming outgoing (anew m first) =
     record {
       graph = resizeAnew g n m incoming outgoing first (roundUp (incoming + outgoing));
-      answer = set-variants.Set (dropped m incoming outgoing + (keptIn m incoming + keptOut m outgoing));
+      answer = set-variants.Set (dropped m incoming outgoing + (keptIncoming m incoming + keptOutgoing m outgoing));
     }
 
 abbrev pub toldBy : PortGraph → ℕ → ℕ → Plan → List ℕ

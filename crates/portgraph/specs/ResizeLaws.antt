@@ -18,7 +18,7 @@ use Rattle.portgraph.specs.Calls.{findBlock}
 use Rattle.portgraph.specs.Model.{Model, Far, to, Slots, gone, live, Good, Holds, Wf, Valid, Within, slotOf, slotsOfEntry, InnerPlace}
 use Rattle.portgraph.specs.Meaning.{dropJoin, beyond, newCount, growth, nextBlock, resizeModel, moveModel}
 use Rattle.portgraph.specs.Joins.{zero-is-not-one, drop-kept}
-use Rattle.portgraph.specs.Resize.{roundUp, Plan, refuse, same, inside, anew, sameCounts, fitsInside, planBlock, planCounts, planEntry, planOf, firstSlot, keptIn, keptOut, dropped, dropCount, dropTold, resizeInside, insideTold, anewLinks, resizeAnew, anewTold, setBy, toldBy, setNumPorts, movesAfter, setNumPortsUnder, planOfUnder, movesAfterUnder}
+use Rattle.portgraph.specs.Resize.{roundUp, Plan, refuse, same, inside, anew, sameCounts, fitsInside, planBlock, planCounts, planEntry, planOf, firstSlot, keptIncoming, keptOutgoing, dropped, dropCount, dropTold, resizeInside, insideTold, anewLinks, resizeAnew, anewTold, setBy, toldBy, setNumPorts, movesAfter, setNumPortsUnder, planOfUnder, movesAfterUnder}
 use Rattle.portgraph.specs.ResizeSteps.{round-up-reaches, round-up-positive, round-up-fits, round-up-beyond, length-moveUpEvents, length-dropTold}
 use Rattle.portgraph.specs.GoodSlots.{block-of-one, slot-in-block}
 use Rattle.portgraph.specs.GoodLaws.{good-resize, good-move}
@@ -28,7 +28,7 @@ use Rattle.portgraph.specs.BlockHolds.{block-found}
 use Rattle.portgraph.specs.SlotHolds.{blockRoom}
 use Rattle.portgraph.specs.InsideHolds.{inside-holds}
 use Rattle.portgraph.specs.AnewHolds.{nothing-cut, anew-holds}
-use Rattle.portgraph.specs.Settle.{takeBlock, dropPorts, settleAnew}
+use Rattle.portgraph.specs.LentResize.{takeBlock, dropPorts, settleAnew}
 use Rattle.portgraph.specs.declared.node_entry.NodeMeta.{NodeMeta}
 use Rattle.portgraph.specs.declared.node_entry.NodeEntry.{NodeEntry}
 use Rattle.portgraph.specs.declared.node_entry.NodeEntry.the-variants as node-variants
@@ -144,7 +144,7 @@ module _ {g : PortGraph} {M : Model} (good : Good M) (holds : Holds g M) (n inco
         module _ (other : incoming ≡ m .incoming → outgoing ≡ m .outgoing → ⊥) where
           -- a total from 1 to capacity - 1
           pub set-inside : 0 < incoming + outgoing → incoming + outgoing < m .capacity
-              → setNumPorts g n incoming outgoing room ≡ record { graph = resizeInside g n m incoming outgoing; answer = set-variants.Set (dropped m incoming outgoing + keptOut m outgoing) }
+              → setNumPorts g n incoming outgoing room ≡ record { graph = resizeInside g n m incoming outgoing; answer = set-variants.Set (dropped m incoming outgoing + keptOutgoing m outgoing) }
           set-inside h k = set-told false true _ (other-counts m incoming outgoing other) (fits-so m incoming outgoing h k) refl
 
           module _ (away : 0 < incoming + outgoing → incoming + outgoing < m .capacity → ⊥) where
@@ -156,7 +156,7 @@ module _ {g : PortGraph} {M : Model} (good : Good M) (holds : Holds g M) (n inco
                 → setNumPorts g n incoming outgoing room
                 ≡ record {
                   graph = resizeAnew g n m incoming outgoing (nextBlock M (roundUp (incoming + outgoing))) (roundUp (incoming + outgoing));
-                  answer = set-variants.Set (dropped m incoming outgoing + (keptIn m incoming + keptOut m outgoing));
+                  answer = set-variants.Set (dropped m incoming outgoing + (keptIncoming m incoming + keptOutgoing m outgoing));
                 }
             set-anew h = set-told false false true (other-counts m incoming outgoing other) (fits-not m incoming outgoing away) (le-leb _ portSlots h)
 
@@ -294,13 +294,13 @@ module _ (g : PortGraph) (n incoming outgoing room : ℕ) where
       plan-elim (λ p. length (toldBy g incoming outgoing p) ≡ 3 * eventsOf (setBy g n incoming outgoing p .answer)) g n incoming outgoing room refl refl refl refl refl
       (λ m e k f.
       let a = length-dropTold (g .«port_link») m incoming outgoing in
-      let b = length-shiftEvents (ltb incoming (m .incoming)) (firstSlot m + m .incoming) (firstSlot m + incoming) (keptOut m outgoing) in
+      let b = length-shiftEvents (ltb incoming (m .incoming)) (firstSlot m + m .incoming) (firstSlot m + incoming) (keptOutgoing m outgoing) in
       length-append (dropTold (g .«port_link») m incoming outgoing) _ ∙ omega arith)
       (λ m first few e k f.
       let a = length-dropTold (g .«port_link») m incoming outgoing in
-      let b = length-moveUpEvents (firstSlot m) first (keptIn m incoming) in
-      let c = length-moveUpEvents (firstSlot m + m .incoming) (first + incoming) (keptOut m outgoing) in
-      let d = length-append (moveUpEvents (firstSlot m) first (keptIn m incoming)) (moveUpEvents (firstSlot m + m .incoming) (first + incoming) (keptOut m outgoing)) in
+      let b = length-moveUpEvents (firstSlot m) first (keptIncoming m incoming) in
+      let c = length-moveUpEvents (firstSlot m + m .incoming) (first + incoming) (keptOutgoing m outgoing) in
+      let d = length-append (moveUpEvents (firstSlot m) first (keptIncoming m incoming)) (moveUpEvents (firstSlot m + m .incoming) (first + incoming) (keptOutgoing m outgoing)) in
       length-append (dropTold (g .«port_link») m incoming outgoing) _ ∙ omega arith)
 
   -- at most one event for each port that the node had
@@ -309,8 +309,8 @@ module _ (g : PortGraph) (n incoming outgoing room : ℕ) where
   events-few m e =
       plan-elim (λ p. eventsOf (setBy g n incoming outgoing p .answer) ≤ m .incoming + m .outgoing) g n incoming outgoing room
       (omega arith) (omega arith) (omega arith) (omega arith) (omega arith)
-      (λ l d k f. let same : l ≡ m = cc in subst (λ (r : NodeMeta). dropped l incoming outgoing + keptOut l outgoing ≤ r .incoming + r .outgoing) same (omega arith))
-      (λ l first few d k f. let same : l ≡ m = cc in subst (λ (r : NodeMeta). dropped l incoming outgoing + (keptIn l incoming + keptOut l outgoing) ≤ r .incoming + r .outgoing) same (omega arith))
+      (λ l d k f. let same : l ≡ m = cc in subst (λ (r : NodeMeta). dropped l incoming outgoing + keptOutgoing l outgoing ≤ r .incoming + r .outgoing) same (omega arith))
+      (λ l first few d k f. let same : l ≡ m = cc in subst (λ (r : NodeMeta). dropped l incoming outgoing + (keptIncoming l incoming + keptOutgoing l outgoing) ≤ r .incoming + r .outgoing) same (omega arith))
 
   -- the events fit the move list
   pub events-fit : 3 * eventsOf (setNumPorts g n incoming outgoing room .answer) ≤ room

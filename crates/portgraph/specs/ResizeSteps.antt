@@ -19,7 +19,7 @@ use Rattle.portgraph.specs.Meaning.{metaOf}
 use Rattle.portgraph.specs.Model.{Wf}
 use Rattle.portgraph.specs.WfFacts.{head-fits}
 use Rattle.portgraph.specs.Calls.{findBlock, restOf, grown, headAfter, findBlockUnder}
-use Rattle.portgraph.specs.Resize.{Plan, refuse, same, inside, anew, planOf, setBy, toldBy, setNumPorts, movesAfter, setNumbers, doubled, roundUp, sameCounts, fitsInside, dropIncoming, dropLinks, dropCount, dropTold, dropped, keptIn, keptOut, firstSlot, insideLinks, resizeInside, insideTold, anewLinks, resizeAnew, anewTold, setNumPortsUnder, planOfUnder, movesAfterUnder}
+use Rattle.portgraph.specs.Resize.{Plan, refuse, same, inside, anew, planOf, setBy, toldBy, setNumPorts, movesAfter, setNumbers, doubled, roundUp, sameCounts, fitsInside, dropIncoming, dropLinks, dropCount, dropTold, dropped, keptIncoming, keptOutgoing, firstSlot, insideLinks, resizeInside, insideTold, anewLinks, resizeAnew, anewTold, setNumPortsUnder, planOfUnder, movesAfterUnder}
 use Rattle.portgraph.specs.declared.node_entry.NodeMeta.{NodeMeta}
 use Rattle.portgraph.specs.declared.node_entry.FreeNodeEntry.{FreeNodeEntry}
 use Rattle.portgraph.specs.declared.node_entry.NodeSlot.{NodeSlot}
@@ -145,9 +145,9 @@ length-moveUpEvents old new (suc n) = let h = length-moveUpEvents (suc old) (suc
 pub length-dropTold : (t : List ℕ) (m : NodeMeta) (incoming outgoing : ℕ) → length (dropTold t m incoming outgoing) ≡ 3 * dropped m incoming outgoing
 unfolding dropTold
 length-dropTold t m incoming outgoing =
-    let a = length-dropEvents t (firstSlot m + keptIn m incoming) (m .incoming - keptIn m incoming) in
-    let b = length-dropEvents (dropIncoming t m incoming) (firstSlot m + m .incoming + keptOut m outgoing) (m .outgoing - keptOut m outgoing) in
-    let e = length-append (dropEvents t (firstSlot m + keptIn m incoming) (m .incoming - keptIn m incoming)) (dropEvents (dropIncoming t m incoming) (firstSlot m + m .incoming + keptOut m outgoing) (m .outgoing - keptOut m outgoing)) in
+    let a = length-dropEvents t (firstSlot m + keptIncoming m incoming) (m .incoming - keptIncoming m incoming) in
+    let b = length-dropEvents (dropIncoming t m incoming) (firstSlot m + m .incoming + keptOutgoing m outgoing) (m .outgoing - keptOutgoing m outgoing) in
+    let e = length-append (dropEvents t (firstSlot m + keptIncoming m incoming) (m .incoming - keptIncoming m incoming)) (dropEvents (dropIncoming t m incoming) (firstSlot m + m .incoming + keptOutgoing m outgoing) (m .outgoing - keptOutgoing m outgoing)) in
     omega arith
 
 -- Single steps of the code.
@@ -300,7 +300,7 @@ module _ (g : PortGraph) (m : NodeMeta) (n i o f oi oo ki ko : ℕ) (ef : f ≡ 
   unfolding insideTold
   inside-told b b′ b″ e h =
       told-after b b′ b″ (dropped m i o) (dropTold (g .«port_link») m i o)
-      (shiftEvents (ltb i (m .incoming)) (firstSlot m + m .incoming) (firstSlot m + i) (keptOut m o))
+      (shiftEvents (ltb i (m .incoming)) (firstSlot m + m .incoming) (firstSlot m + i) (keptOutgoing m o))
       (length-dropTold (g .«port_link») m i o) e (rw (eki, eko, ef, ei, eo) at h)
 
   pub inside-graph : (place cuts count links : ℕ) (slot : NodeSlot) (t t′ owners : List ℕ)
@@ -336,12 +336,12 @@ module _ (g : PortGraph) (m : NodeMeta) (n i o f oi oo ki ko : ℕ) (ef : f ≡ 
   unfolding anewTold shiftEvents
   anew-told first b b₁ b₂ b₃ e₁ e₂ e₃ =
       let drops = dropTold (g .«port_link») m i o in
-      let ups = moveUpEvents (firstSlot m) first (keptIn m i) in
+      let ups = moveUpEvents (firstSlot m) first (keptIncoming m i) in
       let one = length-dropTold (g .«port_link») m i o in
-      let two = length-moveUpEvents (firstSlot m) first (keptIn m i) in
+      let two = length-moveUpEvents (firstSlot m) first (keptIncoming m i) in
       let all = length-append drops ups in
       rw (← append-assoc)
-      (told-after b b₂ b₃ (dropped m i o + keptIn m i) (drops ++ ups) (moveUpEvents (firstSlot m + m .incoming) (first + i) (keptOut m o)) (omega arith)
+      (told-after b b₂ b₃ (dropped m i o + keptIncoming m i) (drops ++ ups) (moveUpEvents (firstSlot m + m .incoming) (first + i) (keptOutgoing m o)) (omega arith)
       (told-after b b₁ b₂ (dropped m i o) drops ups one e₁ (rw (eki, eko, ef, ei, eo) at e₂))
       (rw (eki, eko, ef, ei, eo) at e₃))
 

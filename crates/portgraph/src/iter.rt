@@ -13,7 +13,6 @@ use crate::numbers::wide;
 use crate::numbers::wide16;
 use crate::portgraph::PortGraph;
 ghost use mathlib.Core.Path.{_≡_};
-ghost use Prim.Native.Nat.{max};
 ghost use Rattle.portgraph.specs.Model.{Wf};
 ghost use Rattle.portgraph.specs.Walks.{nodeHeld, stepNodes, nodesStepNumbers, portsFrom, portsTo, portHeld, stepPorts, portsStepNumbers, startPorts, portsStartNumbers, stepOffsets, offsetsStepNumbers, startOffsets, offsetsStartNumbers};
 

@@ -9,7 +9,7 @@ use crate::node_entry::NodeSlot;
 use crate::numbers::wide;
 ghost use mathlib.Core.Path.{_≡_};
 ghost use Rattle.portgraph.specs.Entries.{nextOf, withPrev};
-ghost use Rattle.portgraph.specs.Lent.{narrow, slotOfWords, slotsIn, slotIn, putSlot, metaIn};
+ghost use Rattle.portgraph.specs.Lent.{narrow, slotOfWords, slotsIn, slotIn, putSlot, metaIn, Own, StaysCanonical};
 
 // The numbers of all node slots.
 pub const NODE_WORDS: usize = 5 * NODE_SLOTS;
@@ -67,7 +67,8 @@ pub fn slot_in(nodes: &[u32; NODE_WORDS], n: usize) -> NodeSlot
 
 // Stores a slot as its five numbers; outside nothing changes.
 fn put_words(nodes: &mut [u32; NODE_WORDS], n: usize, kind: u32, a: u32, b: u32, c: u32, d: u32)
-    ensures { λ _. ⌜ slotsIn (now (nodes .exit)) ≡ putSlot (slotsIn (now (nodes .entry))) n (slotOfWords kind a b c d) ⌝ }
+    ensures { λ _. ⌜ (slotsIn (now (nodes .exit)) ≡ putSlot (slotsIn (now (nodes .entry))) n (slotOfWords kind a b c d))
+        × (Own kind a b c d → StaysCanonical (now (nodes .entry)) (now (nodes .exit))) ⌝ }
 {
     if n < NODE_SLOTS {
         let k = 5 * n;
@@ -81,7 +82,7 @@ fn put_words(nodes: &mut [u32; NODE_WORDS], n: usize, kind: u32, a: u32, b: u32,
 
 // Stores a slot of the node table; outside nothing changes.
 pub(crate) fn put_slot(nodes: &mut [u32; NODE_WORDS], n: usize, slot: NodeSlot)
-    ensures { λ _. ⌜ slotsIn (now (nodes .exit)) ≡ putSlot (slotsIn (now (nodes .entry))) n slot ⌝ }
+    ensures { λ _. ⌜ (slotsIn (now (nodes .exit)) ≡ putSlot (slotsIn (now (nodes .entry))) n slot) × StaysCanonical (now (nodes .entry)) (now (nodes .exit)) ⌝ }
 {
     let entry = slot.entry;
     match entry {
@@ -115,7 +116,7 @@ pub(crate) fn next_in(nodes: &[u32; NODE_WORDS], n: usize) -> u32
 
 // Gives a free entry another neighbour before it; a node stays as it is, and outside nothing changes.
 pub(crate) fn put_prev(nodes: &mut [u32; NODE_WORDS], n: usize, prev: u16)
-    ensures { λ _. ⌜ slotsIn (now (nodes .exit)) ≡ putSlot (slotsIn (now (nodes .entry))) n (withPrev (slotIn (now (nodes .entry)) n) prev) ⌝ }
+    ensures { λ _. ⌜ (slotsIn (now (nodes .exit)) ≡ putSlot (slotsIn (now (nodes .entry))) n (withPrev (slotIn (now (nodes .entry)) n) prev)) × StaysCanonical (now (nodes .entry)) (now (nodes .exit)) ⌝ }
 {
     if n < NODE_SLOTS {
         let k = 5 * n;

@@ -11,7 +11,38 @@ use crate::portgraph::PortGraph;
 ghost use mathlib.Core.Path.{_≡_};
 ghost use lib.ListN.{length};
 ghost use Rattle.portgraph.specs.Limits.{nodeSlots};
-ghost use Rattle.portgraph.specs.Lent.{slotsIn, graphIn};
+ghost use Rattle.portgraph.specs.Lent.{slotsIn, graphIn, countsOf, Canonical};
+
+// What a caller reads of a graph without reaching into it.
+impl PortGraph {
+    // The node table.
+    pub fn node_slots(self) -> [NodeSlot; NODE_SLOTS]
+        ensures { λ r. ⌜ r ≡ self .«node_meta» ⌝ }
+    {
+        self.node_meta
+    }
+
+    // The first free block of each size.
+    pub fn free_heads(self) -> [u32; FREE_LISTS]
+        ensures { λ r. ⌜ r ≡ self .«port_free» ⌝ }
+    {
+        self.port_free
+    }
+
+    // What it has besides its tables.
+    pub fn counts(self) -> Counts
+        ensures { λ r. ⌜ r ≡ countsOf self ⌝ }
+    {
+        Counts {
+            node_free: self.node_free,
+            node_len: self.node_len,
+            port_len: self.port_len,
+            node_count: self.node_count,
+            port_count: self.port_count,
+            link_count: self.link_count,
+        }
+    }
+}
 
 // The node table that lent numbers are.
 fn slots_in(nodes: &[u32; NODE_WORDS]) -> [NodeSlot; NODE_SLOTS]
@@ -29,7 +60,8 @@ fn slots_in(nodes: &[u32; NODE_WORDS]) -> [NodeSlot; NODE_SLOTS]
 
 // Stores a node table as its numbers, whatever they were.
 pub fn put_slots(nodes: &mut [u32; NODE_WORDS], slots: [NodeSlot; NODE_SLOTS])
-    ensures { λ _. ⌜ slotsIn (now (nodes .exit)) ≡ slots ⌝ }
+    ensures { λ _. ⌜ (slotsIn (now (nodes .exit)) ≡ slots)
+        × Canonical (now (nodes .exit)) ⌝ }
 {
     *nodes = [0; NODE_WORDS];
     let mut n: usize = 0;
@@ -77,7 +109,8 @@ pub fn put_graph(
     owners: &mut [u32; PORT_SLOTS],
     heads: &mut [u32; FREE_LISTS],
 ) -> Counts
-    ensures { λ r. ⌜ graphIn (now (nodes .exit)) (now (links .exit)) (now (owners .exit)) (now (heads .exit)) r ≡ graph ⌝ }
+    ensures { λ r. ⌜ (graphIn (now (nodes .exit)) (now (links .exit)) (now (owners .exit)) (now (heads .exit)) r ≡ graph)
+        × Canonical (now (nodes .exit)) ⌝ }
 {
     let slots = graph.node_meta;
     put_slots(nodes, slots);
@@ -87,12 +120,5 @@ pub fn put_graph(
     *owners = port_meta;
     let port_free = graph.port_free;
     *heads = port_free;
-    Counts {
-        node_free: graph.node_free,
-        node_len: graph.node_len,
-        port_len: graph.port_len,
-        node_count: graph.node_count,
-        port_count: graph.port_count,
-        link_count: graph.link_count,
-    }
+    graph.counts()
 }

@@ -43,11 +43,11 @@ ghost use Rattle.portgraph.specs.Limits.{portSlots, nodePorts};
 ghost use Rattle.portgraph.specs.Tables.{at, headAt, putHead};
 ghost use Rattle.portgraph.specs.Model.{Wf};
 ghost use Rattle.portgraph.specs.Calls.{findBlock, restOf, grown};
-ghost use Rattle.portgraph.specs.Resize.{setBy, insideTold, anewTold, inside, anew, roundUp, dropLinks, dropCount, setNumPorts, movesAfter};
-ghost use Rattle.portgraph.specs.Settle.{settleInside, settleAnew};
-ghost use Rattle.portgraph.specs.Lent.{graphIn, countLinks, countPorts, Resizes, Settles};
+ghost use Rattle.portgraph.specs.Resize.{setBy, insideTold, anewTold, inside, anew, roundUp, dropLinks, dropCount, setNumPorts, movesAfter, setNumbers};
+ghost use Rattle.portgraph.specs.LentResize.{settleInside, settleAnew};
+ghost use Rattle.portgraph.specs.Lent.{graphIn, countLinks, countPorts, Resizes, Settles, StaysCanonical};
 
-pub struct PortsSetIn {
+pub struct PortsSetLent {
     pub counts: Counts,
     pub answer: SetAnswer,
 }
@@ -99,7 +99,7 @@ fn take_block(
 }
 
 // The node, and the ports that stay, take their places within the block; dropped ports are cut before.
-fn settle_inside_in(
+fn settle_inside_lent(
     nodes: &mut [u32; NODE_WORDS],
     links: &mut [u32; PORT_SLOTS],
     owners: &mut [u32; PORT_SLOTS],
@@ -111,8 +111,9 @@ fn settle_inside_in(
     outgoing: usize,
 ) -> Counts
     requires { ⌜ Settles meta (node .0) incoming outgoing (meta .capacity) counts ⌝ }
-    ensures { λ r. ⌜ graphIn (now (nodes .exit)) (now (links .exit)) (now (owners .exit)) (now (heads .exit)) r
-        ≡ settleInside (graphIn (now (nodes .entry)) (now (links .entry)) (now (owners .entry)) (now (heads .entry)) counts) (node .0) meta incoming outgoing ⌝ }
+    ensures { λ r. ⌜ (graphIn (now (nodes .exit)) (now (links .exit)) (now (owners .exit)) (now (heads .exit)) r
+        ≡ settleInside (graphIn (now (nodes .entry)) (now (links .entry)) (now (owners .entry)) (now (heads .entry)) counts) (node .0) meta incoming outgoing)
+        × StaysCanonical (now (nodes .entry)) (now (nodes .exit)) ⌝ }
 {
     let first_port = meta.first_port;
     let new_meta = NodeMeta {
@@ -136,7 +137,7 @@ fn settle_inside_in(
 
 // The node, and the ports that stay, take their places in a new block, and the old one is free; the block is taken, and dropped
 // ports are cut before.
-fn settle_anew_in(
+fn settle_anew_lent(
     nodes: &mut [u32; NODE_WORDS],
     links: &mut [u32; PORT_SLOTS],
     owners: &mut [u32; PORT_SLOTS],
@@ -150,8 +151,9 @@ fn settle_anew_in(
     size: usize,
 ) -> Counts
     requires { ⌜ Settles meta (node .0) incoming outgoing size counts × («new_first» + size ≤ portSlots) ⌝ }
-    ensures { λ r. ⌜ graphIn (now (nodes .exit)) (now (links .exit)) (now (owners .exit)) (now (heads .exit)) r
-        ≡ settleAnew (graphIn (now (nodes .entry)) (now (links .entry)) (now (owners .entry)) (now (heads .entry)) counts) (node .0) meta incoming outgoing «new_first» size ⌝ }
+    ensures { λ r. ⌜ (graphIn (now (nodes .exit)) (now (links .exit)) (now (owners .exit)) (now (heads .exit)) r
+        ≡ settleAnew (graphIn (now (nodes .entry)) (now (links .entry)) (now (owners .entry)) (now (heads .entry)) counts) (node .0) meta incoming outgoing «new_first» size)
+        × StaysCanonical (now (nodes .entry)) (now (nodes .exit)) ⌝ }
 {
     let first = wide(meta.first_port.0);
     let capacity = wide16(meta.capacity);
@@ -178,7 +180,7 @@ fn settle_anew_in(
 }
 
 // Gives a node other counts within its block.
-fn resize_inside_in(
+fn resize_inside_lent(
     nodes: &mut [u32; NODE_WORDS],
     links: &mut [u32; PORT_SLOTS],
     owners: &mut [u32; PORT_SLOTS],
@@ -189,12 +191,13 @@ fn resize_inside_in(
     incoming: usize,
     outgoing: usize,
     moves: &mut [u32],
-) -> PortsSetIn
+) -> PortsSetLent
     requires { ⌜ Resizes (graphIn (now nodes) (now links) (now owners) (now heads) counts) (node .0) meta incoming outgoing × (incoming + outgoing ≤ meta .capacity) ⌝ }
     ensures { λ r. ⌜ (graphIn (now (nodes .exit)) (now (links .exit)) (now (owners .exit)) (now (heads .exit)) (r .counts)
         ≡ setBy (graphIn (now (nodes .entry)) (now (links .entry)) (now (owners .entry)) (now (heads .entry)) counts) (node .0) incoming outgoing (inside meta) .graph)
         × (r .answer ≡ setBy (graphIn (now (nodes .entry)) (now (links .entry)) (now (owners .entry)) (now (heads .entry)) counts) (node .0) incoming outgoing (inside meta) .answer)
-        × (now (moves .exit) ≡ sets (now (moves .entry)) 0 (insideTold (graphIn (now (nodes .entry)) (now (links .entry)) (now (owners .entry)) (now (heads .entry)) counts) meta incoming outgoing)) ⌝ }
+        × (now (moves .exit) ≡ sets (now (moves .entry)) 0 (insideTold (graphIn (now (nodes .entry)) (now (links .entry)) (now (owners .entry)) (now (heads .entry)) counts) meta incoming outgoing))
+        × StaysCanonical (now (nodes .entry)) (now (nodes .exit)) ⌝ }
 {
     let first = wide(meta.first_port.0);
     let old_in = wide16(meta.incoming);
@@ -212,7 +215,7 @@ fn resize_inside_in(
         kept_out,
     );
     let left = count_links(counts, less(counts.link_count, cuts));
-    let after = settle_inside_in(
+    let after = settle_inside_lent(
         nodes,
         links,
         owners,
@@ -223,14 +226,14 @@ fn resize_inside_in(
         incoming,
         outgoing,
     );
-    PortsSetIn {
+    PortsSetLent {
         counts: after,
         answer: SetAnswer::Set(events + kept_out),
     }
 }
 
 // Gives a node other counts in a new block; only then its old block is free.
-fn resize_anew_in(
+fn resize_anew_lent(
     nodes: &mut [u32; NODE_WORDS],
     links: &mut [u32; PORT_SLOTS],
     owners: &mut [u32; PORT_SLOTS],
@@ -242,13 +245,14 @@ fn resize_anew_in(
     outgoing: usize,
     new_first: usize,
     moves: &mut [u32],
-) -> PortsSetIn
+) -> PortsSetLent
     requires { ⌜ Resizes (graphIn (now nodes) (now links) (now owners) (now heads) counts) (node .0) meta incoming outgoing
         × (findBlock (now heads) (counts .«port_len») (roundUp (incoming + outgoing)) ≡ Found.At «new_first») ⌝ }
     ensures { λ r. ⌜ (graphIn (now (nodes .exit)) (now (links .exit)) (now (owners .exit)) (now (heads .exit)) (r .counts)
         ≡ setBy (graphIn (now (nodes .entry)) (now (links .entry)) (now (owners .entry)) (now (heads .entry)) counts) (node .0) incoming outgoing (anew meta «new_first») .graph)
         × (r .answer ≡ setBy (graphIn (now (nodes .entry)) (now (links .entry)) (now (owners .entry)) (now (heads .entry)) counts) (node .0) incoming outgoing (anew meta «new_first») .answer)
-        × (now (moves .exit) ≡ sets (now (moves .entry)) 0 (anewTold (graphIn (now (nodes .entry)) (now (links .entry)) (now (owners .entry)) (now (heads .entry)) counts) meta incoming outgoing «new_first»)) ⌝ }
+        × (now (moves .exit) ≡ sets (now (moves .entry)) 0 (anewTold (graphIn (now (nodes .entry)) (now (links .entry)) (now (owners .entry)) (now (heads .entry)) counts) meta incoming outgoing «new_first»))
+        × StaysCanonical (now (nodes .entry)) (now (nodes .exit)) ⌝ }
 {
     let first = wide(meta.first_port.0);
     let old_in = wide16(meta.incoming);
@@ -269,7 +273,7 @@ fn resize_anew_in(
         kept_out,
     );
     let left = count_links(taken, less(taken.link_count, cuts));
-    let after = settle_anew_in(
+    let after = settle_anew_lent(
         nodes,
         links,
         owners,
@@ -282,14 +286,14 @@ fn resize_anew_in(
         new_first,
         size,
     );
-    PortsSetIn {
+    PortsSetLent {
         counts: after,
         answer: SetAnswer::Set(events + (kept_in + kept_out)),
     }
 }
 
 // PortGraph::set_num_ports over lent tables.
-pub fn set_num_ports_in(
+pub fn set_num_ports_lent(
     nodes: &mut [u32; NODE_WORDS],
     links: &mut [u32; PORT_SLOTS],
     owners: &mut [u32; PORT_SLOTS],
@@ -299,45 +303,47 @@ pub fn set_num_ports_in(
     incoming: usize,
     outgoing: usize,
     moves: &mut [u32],
-) -> PortsSetIn
+) -> PortsSetLent
     requires { ⌜ Wf (graphIn (now nodes) (now links) (now owners) (now heads) counts) ⌝ }
     ensures { λ r. ⌜ (graphIn (now (nodes .exit)) (now (links .exit)) (now (owners .exit)) (now (heads .exit)) (r .counts)
         ≡ setNumPorts (graphIn (now (nodes .entry)) (now (links .entry)) (now (owners .entry)) (now (heads .entry)) counts) (node .0) incoming outgoing (length (now (moves .entry))) .graph)
         × (r .answer ≡ setNumPorts (graphIn (now (nodes .entry)) (now (links .entry)) (now (owners .entry)) (now (heads .entry)) counts) (node .0) incoming outgoing (length (now (moves .entry))) .answer)
-        × (now (moves .exit) ≡ movesAfter (graphIn (now (nodes .entry)) (now (links .entry)) (now (owners .entry)) (now (heads .entry)) counts) (node .0) incoming outgoing (now (moves .entry))) ⌝ }
+        × (now (moves .exit) ≡ movesAfter (graphIn (now (nodes .entry)) (now (links .entry)) (now (owners .entry)) (now (heads .entry)) counts) (node .0) incoming outgoing (now (moves .entry)))
+        × StaysCanonical (now (nodes .entry)) (now (nodes .exit))
+        × (setNumbers (r .answer) ≡ setNumbers (setNumPorts (graphIn (now (nodes .entry)) (now (links .entry)) (now (owners .entry)) (now (heads .entry)) counts) (node .0) incoming outgoing (length (now (moves .entry))) .answer)) ⌝ }
 {
     if NODE_PORTS < incoming {
-        return PortsSetIn {
+        return PortsSetLent {
             counts: counts,
             answer: SetAnswer::TooManyPorts,
         };
     }
     if NODE_PORTS - incoming < outgoing {
-        return PortsSetIn {
+        return PortsSetLent {
             counts: counts,
             answer: SetAnswer::TooManyPorts,
         };
     }
     let MaybeNodeMeta::Some(meta) = meta_in(nodes, node.0) else {
-        return PortsSetIn {
+        return PortsSetLent {
             counts: counts,
             answer: SetAnswer::UnknownNode,
         };
     };
     if moves.len() < 3 * meta.port_count() {
-        return PortsSetIn {
+        return PortsSetLent {
             counts: counts,
             answer: SetAnswer::MovesTooShort,
         };
     }
     if same_counts(meta, incoming, outgoing) {
-        return PortsSetIn {
+        return PortsSetLent {
             counts: counts,
             answer: SetAnswer::Set(0),
         };
     }
     if fits_inside(meta, incoming, outgoing) {
-        return resize_inside_in(
+        return resize_inside_lent(
             nodes,
             links,
             owners,
@@ -352,12 +358,12 @@ pub fn set_num_ports_in(
     }
     let size = round_up(incoming + outgoing);
     let Found::At(new_first) = find_block(heads, counts.port_len, size) else {
-        return PortsSetIn {
+        return PortsSetLent {
             counts: counts,
             answer: SetAnswer::NoRoom,
         };
     };
-    resize_anew_in(
+    resize_anew_lent(
         nodes,
         links,
         owners,
@@ -373,7 +379,7 @@ pub fn set_num_ports_in(
 }
 
 // Gives a node with these meta data other counts, and tells nothing.
-pub fn resize_quiet_in(
+pub fn resize_quiet_lent(
     nodes: &mut [u32; NODE_WORDS],
     links: &mut [u32; PORT_SLOTS],
     owners: &mut [u32; PORT_SLOTS],
@@ -383,14 +389,16 @@ pub fn resize_quiet_in(
     meta: NodeMeta,
     incoming: usize,
     outgoing: usize,
-) -> PortsSetIn
+) -> PortsSetLent
     requires { ⌜ Resizes (graphIn (now nodes) (now links) (now owners) (now heads) counts) (node .0) meta incoming outgoing ⌝ }
     ensures { λ r. ⌜ (graphIn (now (nodes .exit)) (now (links .exit)) (now (owners .exit)) (now (heads .exit)) (r .counts)
         ≡ setNumPorts (graphIn (now (nodes .entry)) (now (links .entry)) (now (owners .entry)) (now (heads .entry)) counts) (node .0) incoming outgoing (3 * nodePorts) .graph)
-        × (r .answer ≡ setNumPorts (graphIn (now (nodes .entry)) (now (links .entry)) (now (owners .entry)) (now (heads .entry)) counts) (node .0) incoming outgoing (3 * nodePorts) .answer) ⌝ }
+        × (r .answer ≡ setNumPorts (graphIn (now (nodes .entry)) (now (links .entry)) (now (owners .entry)) (now (heads .entry)) counts) (node .0) incoming outgoing (3 * nodePorts) .answer)
+        × StaysCanonical (now (nodes .entry)) (now (nodes .exit))
+        × (setNumbers (r .answer) ≡ setNumbers (setNumPorts (graphIn (now (nodes .entry)) (now (links .entry)) (now (owners .entry)) (now (heads .entry)) counts) (node .0) incoming outgoing (3 * nodePorts) .answer)) ⌝ }
 {
     if same_counts(meta, incoming, outgoing) {
-        return PortsSetIn {
+        return PortsSetLent {
             counts: counts,
             answer: SetAnswer::Set(0),
         };
@@ -398,7 +406,7 @@ pub fn resize_quiet_in(
     if fits_inside(meta, incoming, outgoing) {
         let kept_in = smaller(wide16(meta.incoming), incoming);
         let left = drop_quiet(links, counts, meta, incoming, outgoing);
-        let after = settle_inside_in(
+        let after = settle_inside_lent(
             nodes,
             links,
             owners,
@@ -409,21 +417,21 @@ pub fn resize_quiet_in(
             incoming,
             outgoing,
         );
-        return PortsSetIn {
+        return PortsSetLent {
             counts: after,
             answer: SetAnswer::Set(less(meta.port_count(), kept_in)),
         };
     }
     let size = round_up(incoming + outgoing);
     let Found::At(new_first) = find_block(heads, counts.port_len, size) else {
-        return PortsSetIn {
+        return PortsSetLent {
             counts: counts,
             answer: SetAnswer::NoRoom,
         };
     };
     let taken = take_block(links, heads, counts, new_first, size);
     let left = drop_quiet(links, taken, meta, incoming, outgoing);
-    let after = settle_anew_in(
+    let after = settle_anew_lent(
         nodes,
         links,
         owners,
@@ -436,14 +444,14 @@ pub fn resize_quiet_in(
         new_first,
         size,
     );
-    PortsSetIn {
+    PortsSetLent {
         counts: after,
         answer: SetAnswer::Set(meta.port_count()),
     }
 }
 
 // PortGraph::set_num_ports over lent tables for a caller who does not read the move list: what it gives for one that is long enough.
-pub fn set_num_ports_quiet_in(
+pub fn set_num_ports_quiet_lent(
     nodes: &mut [u32; NODE_WORDS],
     links: &mut [u32; PORT_SLOTS],
     owners: &mut [u32; PORT_SLOTS],
@@ -452,31 +460,33 @@ pub fn set_num_ports_quiet_in(
     node: NodeIndex,
     incoming: usize,
     outgoing: usize,
-) -> PortsSetIn
+) -> PortsSetLent
     requires { ⌜ Wf (graphIn (now nodes) (now links) (now owners) (now heads) counts) ⌝ }
     ensures { λ r. ⌜ (graphIn (now (nodes .exit)) (now (links .exit)) (now (owners .exit)) (now (heads .exit)) (r .counts)
         ≡ setNumPorts (graphIn (now (nodes .entry)) (now (links .entry)) (now (owners .entry)) (now (heads .entry)) counts) (node .0) incoming outgoing (3 * nodePorts) .graph)
-        × (r .answer ≡ setNumPorts (graphIn (now (nodes .entry)) (now (links .entry)) (now (owners .entry)) (now (heads .entry)) counts) (node .0) incoming outgoing (3 * nodePorts) .answer) ⌝ }
+        × (r .answer ≡ setNumPorts (graphIn (now (nodes .entry)) (now (links .entry)) (now (owners .entry)) (now (heads .entry)) counts) (node .0) incoming outgoing (3 * nodePorts) .answer)
+        × StaysCanonical (now (nodes .entry)) (now (nodes .exit))
+        × (setNumbers (r .answer) ≡ setNumbers (setNumPorts (graphIn (now (nodes .entry)) (now (links .entry)) (now (owners .entry)) (now (heads .entry)) counts) (node .0) incoming outgoing (3 * nodePorts) .answer)) ⌝ }
 {
     if NODE_PORTS < incoming {
-        return PortsSetIn {
+        return PortsSetLent {
             counts: counts,
             answer: SetAnswer::TooManyPorts,
         };
     }
     if NODE_PORTS - incoming < outgoing {
-        return PortsSetIn {
+        return PortsSetLent {
             counts: counts,
             answer: SetAnswer::TooManyPorts,
         };
     }
     let MaybeNodeMeta::Some(meta) = meta_in(nodes, node.0) else {
-        return PortsSetIn {
+        return PortsSetLent {
             counts: counts,
             answer: SetAnswer::UnknownNode,
         };
     };
-    resize_quiet_in(
+    resize_quiet_lent(
         nodes,
         links,
         owners,

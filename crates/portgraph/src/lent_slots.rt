@@ -33,21 +33,21 @@ use crate::tables::own_block;
 use crate::tables::put_head;
 ghost use mathlib.Core.Path.{_≡_};
 ghost use Rattle.portgraph.specs.Model.{Wf};
-ghost use Rattle.portgraph.specs.Calls.{addNode, removeNode};
-ghost use Rattle.portgraph.specs.Lent.{graphIn};
+ghost use Rattle.portgraph.specs.Calls.{addNode, addNumbers, removeNode, removeNumbers};
+ghost use Rattle.portgraph.specs.Lent.{graphIn, StaysCanonical};
 
-pub struct NodeAddedIn {
+pub struct NodeAddedLent {
     pub counts: Counts,
     pub answer: AddAnswer,
 }
 
-pub struct NodeRemovedIn {
+pub struct NodeRemovedLent {
     pub counts: Counts,
     pub answer: RemoveAnswer,
 }
 
 // PortGraph::add_node over lent tables.
-pub fn add_node_in(
+pub fn add_node_lent(
     nodes: &mut [u32; NODE_WORDS],
     links: &mut [u32; PORT_SLOTS],
     owners: &mut [u32; PORT_SLOTS],
@@ -55,33 +55,35 @@ pub fn add_node_in(
     counts: Counts,
     incoming: usize,
     outgoing: usize,
-) -> NodeAddedIn
+) -> NodeAddedLent
     requires { ⌜ Wf (graphIn (now nodes) (now links) (now owners) (now heads) counts) ⌝ }
     ensures { λ r. ⌜ (graphIn (now (nodes .exit)) (now (links .exit)) (now (owners .exit)) (now (heads .exit)) (r .counts)
         ≡ addNode (graphIn (now (nodes .entry)) (now (links .entry)) (now (owners .entry)) (now (heads .entry)) counts) incoming outgoing .graph)
-        × (r .answer ≡ addNode (graphIn (now (nodes .entry)) (now (links .entry)) (now (owners .entry)) (now (heads .entry)) counts) incoming outgoing .answer) ⌝ }
+        × (r .answer ≡ addNode (graphIn (now (nodes .entry)) (now (links .entry)) (now (owners .entry)) (now (heads .entry)) counts) incoming outgoing .answer)
+        × StaysCanonical (now (nodes .entry)) (now (nodes .exit))
+        × (addNumbers (r .answer) ≡ addNumbers (addNode (graphIn (now (nodes .entry)) (now (links .entry)) (now (owners .entry)) (now (heads .entry)) counts) incoming outgoing .answer)) ⌝ }
 {
     if NODE_PORTS < incoming {
-        return NodeAddedIn {
+        return NodeAddedLent {
             counts: counts,
             answer: AddAnswer::TooManyPorts,
         };
     }
     if NODE_PORTS - incoming < outgoing {
-        return NodeAddedIn {
+        return NodeAddedLent {
             counts: counts,
             answer: AddAnswer::TooManyPorts,
         };
     }
     let size = incoming + outgoing;
     let Found::At(node) = find_slot(counts.node_free, counts.node_len) else {
-        return NodeAddedIn {
+        return NodeAddedLent {
             counts: counts,
             answer: AddAnswer::NoRoom,
         };
     };
     let Found::At(first) = find_block(heads, counts.port_len, size) else {
-        return NodeAddedIn {
+        return NodeAddedLent {
             counts: counts,
             answer: AddAnswer::NoRoom,
         };
@@ -101,7 +103,7 @@ pub fn add_node_in(
     put_head(heads, size, rest);
     fill(links, first as u32, size as u16, 0);
     own_block(owners, node as u32, meta);
-    NodeAddedIn {
+    NodeAddedLent {
         counts: Counts {
             node_free: free,
             node_len: grown(counts.node_free, counts.node_len, 1),
@@ -115,21 +117,23 @@ pub fn add_node_in(
 }
 
 // PortGraph::remove_node over lent tables.
-pub fn remove_node_in(
+pub fn remove_node_lent(
     nodes: &mut [u32; NODE_WORDS],
     links: &mut [u32; PORT_SLOTS],
     owners: &mut [u32; PORT_SLOTS],
     heads: &mut [u32; FREE_LISTS],
     counts: Counts,
     node: NodeIndex,
-) -> NodeRemovedIn
+) -> NodeRemovedLent
     requires { ⌜ Wf (graphIn (now nodes) (now links) (now owners) (now heads) counts) ⌝ }
     ensures { λ r. ⌜ (graphIn (now (nodes .exit)) (now (links .exit)) (now (owners .exit)) (now (heads .exit)) (r .counts)
         ≡ removeNode (graphIn (now (nodes .entry)) (now (links .entry)) (now (owners .entry)) (now (heads .entry)) counts) (node .0) .graph)
-        × (r .answer ≡ removeNode (graphIn (now (nodes .entry)) (now (links .entry)) (now (owners .entry)) (now (heads .entry)) counts) (node .0) .answer) ⌝ }
+        × (r .answer ≡ removeNode (graphIn (now (nodes .entry)) (now (links .entry)) (now (owners .entry)) (now (heads .entry)) counts) (node .0) .answer)
+        × StaysCanonical (now (nodes .entry)) (now (nodes .exit))
+        × (removeNumbers (r .answer) ≡ removeNumbers (removeNode (graphIn (now (nodes .entry)) (now (links .entry)) (now (owners .entry)) (now (heads .entry)) counts) (node .0) .answer)) ⌝ }
 {
     let MaybeNodeMeta::Some(meta) = meta_in(nodes, node.0) else {
-        return NodeRemovedIn {
+        return NodeRemovedLent {
             counts: counts,
             answer: RemoveAnswer::UnknownNode,
         };
@@ -145,7 +149,7 @@ pub fn remove_node_in(
     chain_block(links, first, size, head);
     fill(owners, meta.first_port.0, meta.capacity, 0);
     put_head(heads, size, meta.first_port.0 + 1);
-    NodeRemovedIn {
+    NodeRemovedLent {
         counts: Counts {
             node_free: node.0 + 1,
             node_len: counts.node_len,

@@ -12,7 +12,6 @@ use crate::index::PortIndex;
 use crate::index::PortOffset;
 use crate::node_entry::MaybeNodeMeta;
 use crate::node_entry::NodeEntry;
-use crate::node_entry::NodeMeta;
 use crate::node_entry::NodeSlot;
 use crate::numbers::less;
 use crate::numbers::same_side;
@@ -26,7 +25,6 @@ use crate::tables::link_count;
 ghost use mathlib.Core.Path.{_≡_};
 ghost use Prim.Native.Nat.{_-_};
 ghost use Rattle.portgraph.specs.Entries.{portEntryNumbers};
-ghost use Rattle.portgraph.specs.Meaning.{sameSide};
 ghost use Rattle.portgraph.specs.Model.{Wf};
 ghost use Rattle.portgraph.specs.Lookups.{metaAt, metaNumbers, portAt, portDirection, maybeDirectionNumbers, portNode, maybeNodeNumbers, portOffset, maybeOffsetNumbers, portIndex, maybePortNumbers, portLink, portLinkNumbers, numPorts, nodePortCapacity, containsNode, containsPort, isEmpty};
 ghost use Rattle.portgraph.specs.Calls.{newGraph, linkPorts, linkNumbers, unlinkPort};
@@ -34,22 +32,22 @@ ghost use Rattle.portgraph.specs.Calls.{newGraph, linkPorts, linkNumbers
 // A port graph, by value.
 pub struct PortGraph {
     // The nodes; free entries form a list.
-    pub node_meta: [NodeSlot; NODE_SLOTS],
+    pub(crate) node_meta: [NodeSlot; NODE_SLOTS],
     // For each port the port that it is linked with, one higher than its number; 0 for none. The free blocks of each size
     // form a list that runs through the first slots of the blocks.
     pub port_link: [u32; PORT_SLOTS],
     // The owner of each port (port_entry).
     pub port_meta: [u32; PORT_SLOTS],
     // The first free block of each size, one higher than its first slot; 0 for none.
-    pub port_free: [u32; FREE_LISTS],
+    pub(crate) port_free: [u32; FREE_LISTS],
     // The first free node entry, one higher than its number; 0 for none.
-    pub node_free: u32,
+    pub(crate) node_free: u32,
     // How many slots of the node table, and of the port tables, have been used.
-    pub node_len: usize,
-    pub port_len: usize,
-    pub node_count: usize,
-    pub port_count: usize,
-    pub link_count: usize,
+    pub(crate) node_len: usize,
+    pub(crate) port_len: usize,
+    pub(crate) node_count: usize,
+    pub(crate) port_count: usize,
+    pub(crate) link_count: usize,
 }
 
 // What a port is linked with.

@@ -29,13 +29,13 @@ use crate::tables::tell_moves;
 use crate::tables::transfer_ports;
 ghost use mathlib.Core.Path.{_≡_};
 ghost use mathlib.Core.Bool.{true};
-ghost use Prim.Native.Nat.{_+_, _-_, _*_, _≤_, _<_, min};
+ghost use Prim.Native.Nat.{_+_, _-_, _*_, _≤_, _<_};
 ghost use lib.ListN.{length};
 ghost use lib.Seq.{sets};
 ghost use Rattle.portgraph.specs.Limits.{nodeSlots, portSlots, nodePorts};
 ghost use Rattle.portgraph.specs.Model.{Wf};
 ghost use Rattle.portgraph.specs.Calls.{findBlock};
-ghost use Rattle.portgraph.specs.Resize.{setBy, insideTold, anewTold, inside, anew, BlockFits, roundUp, sameCounts, fitsInside, dropLinks, dropCount, dropTold, dropped, insideLinks, anewLinks, setNumPorts, movesAfter, setNumbers};
+ghost use Rattle.portgraph.specs.Resize.{setBy, insideTold, anewTold, inside, anew, BlockFits, roundUp, sameCounts, fitsInside, dropLinks, dropCount, dropTold, insideLinks, anewLinks, setNumPorts, movesAfter, setNumbers};
 
 // What a change of counts comes to.
 pub enum SetAnswer {

@@ -12,8 +12,7 @@ ghost use Prim.Native.Nat.{_+_, _-_, _*_, _≤_};
 ghost use lib.ListN.{set};
 ghost use lib.Seq.{sets};
 ghost use mathlib.Core.List.{[], _∷_};
-ghost use Rattle.portgraph.specs.Limits.{portSlots, nodePorts, noPort};
-ghost use Rattle.portgraph.specs.Entries.{ownerNumber};
+ghost use Rattle.portgraph.specs.Limits.{portSlots};
 ghost use Rattle.portgraph.specs.Tables.{at, put, fillRange, headAt, putHead, ownBlock, linkBoth, cut, cutRange, cutCount, linkCount, movePort, moveUp, moveDown, shift, transfer, chainBlock, toldLink, dropEvents, moveUpEvents, moveDownEvents, shiftEvents};
 
 // What a table holds at a slot; 0 outside.

@@ -27,7 +27,7 @@ use Rattle.portgraph.specs.declared.resize.SetAnswer.the-variants as lower-set
 use Rattle.multiportgraph.specs.Reading.{isHidden}
 use Rattle.multiportgraph.specs.Calls.{setAs, setCounts, visibleNodes, visiblePorts, visibleLinks, setCountsUnder}
 use Rattle.theorems.specs.Book.{addCall, removeCall, setCall, linkCall, linkSubCall, cutCall, cutSubCall}
-use Rattle.multiportgraph.specs.Inner.{MultiWf}
+use Rattle.multiportgraph.specs.WellFormed.{MultiWf}
 use Rattle.multiportgraph.specs.PrepareSteps.{lower-wf}
 use Rattle.multiportgraph.specs.declared.multiportgraph.PortsSet.{PortsSet}
 use Rattle.multiportgraph.specs.declared.multiportgraph.MultiPortGraph.{MultiPortGraph}

@@ -4,7 +4,7 @@ use mathlib.Core.List.{List, [], _∷_}
 use Prim.Native.Nat.{ℕ, _<_}
 use Rattle.multiportgraph.specs.Calls.{setCounts, subportLink, cutPort, cutSub, visibleNodes, visiblePorts, visibleLinks, tidyPort}
 use Rattle.theorems.specs.Book.{setCall, cutCall, cutSubCall, tidyCall}
-use Rattle.multiportgraph.specs.Inner.{MultiWf}
+use Rattle.multiportgraph.specs.WellFormed.{MultiWf}
 use Rattle.theorems.specs.CallLaws.{empty-kept, step-kept}
 use Rattle.multiportgraph.specs.declared.multiportgraph.MultiPortGraph.{MultiPortGraph}
 use Rattle.multiportgraph.specs.declared.multiportgraph.PortsSet.{PortsSet}

@@ -12,7 +12,7 @@ use Rattle.multiportgraph.specs.Calls.{subportLink}
 use Rattle.theorems.specs.Book as book
 use Rattle.theorems.specs.Book.{Call, AnswerOf}
 use Rattle.theorems.specs.History.{step, run, numbersOf}
-use Rattle.multiportgraph.specs.Inner.{Fine}
+use Rattle.multiportgraph.specs.WellFormed.{Fine}
 use Rattle.theorems.specs.CallLaws.{rel-run, refused-under-no-other}
 use Rattle.theorems.specs.Conditions as laws
 use Rattle.multiportgraph.specs.declared.multiportgraph.MultiPortGraph.{MultiPortGraph}

@@ -8,7 +8,7 @@ use lib.ListN.{getD, length, take}
 use Rattle.multiportgraph.specs.Calls.{subportLink, visibleNodes, visiblePorts, visibleLinks}
 use Rattle.theorems.specs.Book.{Call, addCall, removeCall, setCall, linkCall, linkCleanCall, linkSubCall, cutCall, cutSubCall, tidyCall}
 use Rattle.theorems.specs.History.{step, numbersOf}
-use Rattle.multiportgraph.specs.Inner.{MultiWf}
+use Rattle.multiportgraph.specs.WellFormed.{MultiWf}
 use Rattle.multiportgraph.specs.declared.multiportgraph.MultiPortGraph.{MultiPortGraph}
 use Rattle.records.specs.Words.{bytesOf, Request, requestsOf}
 use Rattle.multiportgraph.specs.declared.multiportgraph.Release.the-variants.{One}

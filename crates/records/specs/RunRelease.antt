@@ -7,7 +7,7 @@ use lib.ListN.{getD}
 use Rattle.portgraph.specs.Model.{Model}
 use Rattle.multiportgraph.specs.Answers.{refusalNumbers, cutNumbers}
 use Rattle.multiportgraph.specs.Calls.{subportLink}
-use Rattle.multiportgraph.specs.Inner.{Fine}
+use Rattle.multiportgraph.specs.WellFormed.{Fine}
 use Rattle.multiportgraph.specs.declared.multiportgraph.MultiPortGraph.{MultiPortGraph}
 use Rattle.multiportgraph.specs.declared.multiportgraph.Release.the-variants.{One}
 use Rattle.multiportgraph.specs.declared.multiportgraph.Refusal.{Refusal}

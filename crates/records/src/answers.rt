@@ -14,7 +14,7 @@ ghost use Prim.Native.Nat.{_+_, _≤_};
 ghost use lib.ListN.{length};
 ghost use lib.Seq.{sets};
 ghost use Rattle.portgraph.specs.Entries.{sideNumber};
-ghost use Rattle.multiportgraph.specs.Inner.{MultiWf};
+ghost use Rattle.multiportgraph.specs.WellFormed.{MultiWf};
 ghost use Rattle.records.specs.Words.{bytesOf};
 ghost use Rattle.records.specs.Run.{counts, numbers, five};
 ghost use Rattle.records.specs.Forms.{words5, EventsFit};

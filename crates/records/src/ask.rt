@@ -23,7 +23,7 @@ ghost use mathlib.Core.Path.{_≡_};
 ghost use lib.ListN.{length};
 ghost use Rattle.multiportgraph.specs.Calls.{setCounts, movesTold, cutPort, cutSub, tidyPort};
 ghost use Rattle.theorems.specs.Book.{linkCleanCall, setCall};
-ghost use Rattle.multiportgraph.specs.Inner.{MultiWf};
+ghost use Rattle.multiportgraph.specs.WellFormed.{MultiWf};
 ghost use Rattle.records.specs.Run.{call, askedBy, Answered};
 ghost use Rattle.records.specs.Forms.{meant, words5};
 ghost use Rattle.multiportgraph.specs.Graph.{emptyGraph};

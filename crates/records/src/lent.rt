@@ -9,19 +9,19 @@ use crate::answers::remove_words;
 use crate::answers::set_words;
 use crate::requests::Ask;
 use crate::requests::ask_at;
-use multiportgraph::lent::Held;
-use multiportgraph::lent::add_in;
-use multiportgraph::lent::cut_sub_in;
-use multiportgraph::lent::link_count_in;
-use multiportgraph::lent::link_sub_in;
-use multiportgraph::lent::no_held;
-use multiportgraph::lent::node_count_in;
-use multiportgraph::lent::port_count_in;
-use multiportgraph::lent::subport_link_in;
-use multiportgraph::lent_blocks::cut_port_in;
-use multiportgraph::lent_blocks::remove_in;
-use multiportgraph::lent_blocks::set_quiet_in;
-use multiportgraph::lent_links::link_in;
+use multiportgraph::lent::Totals;
+use multiportgraph::lent::add_lent;
+use multiportgraph::lent::cut_sub_lent;
+use multiportgraph::lent::link_count_lent;
+use multiportgraph::lent::link_sub_lent;
+use multiportgraph::lent::no_totals;
+use multiportgraph::lent::node_count_lent;
+use multiportgraph::lent::port_count_lent;
+use multiportgraph::lent::subport_link_lent;
+use multiportgraph::lent_blocks::cut_port_lent;
+use multiportgraph::lent_blocks::remove_lent;
+use multiportgraph::lent_blocks::set_quiet_lent;
+use multiportgraph::lent_links::link_lent;
 use multiportgraph::multiportgraph::Release;
 use portgraph::index::FREE_LISTS;
 use portgraph::index::NODE_SLOTS;
@@ -30,7 +30,8 @@ use portgraph::lent::NODE_WORDS;
 ghost use mathlib.Core.Path.{_≡_};
 ghost use Prim.Native.Nat.{_%_};
 ghost use lib.ListN.{length};
-ghost use Rattle.multiportgraph.specs.Inner.{MultiWf};
+ghost use Rattle.portgraph.specs.Lent.{StaysCanonical};
+ghost use Rattle.multiportgraph.specs.WellFormed.{MultiWf};
 ghost use Rattle.multiportgraph.specs.MultiLent.{multiIn};
 ghost use Rattle.records.specs.Words.{requestsOf};
 ghost use Rattle.records.specs.Run.{answerBytes, Answered, graphFrom};
@@ -38,7 +39,7 @@ ghost use Rattle.records.specs.Forms.{meant, words5};
 
 // What stands outside the tables afterwards, and the five words of the answer.
 struct Told {
-    held: Held,
+    totals: Totals,
     words: Answer5,
 }
 
@@ -50,115 +51,125 @@ fn one_request(
     heads: &mut [u32; FREE_LISTS],
     marks: &mut [bool; PORT_SLOTS],
     flags: &mut [bool; NODE_SLOTS],
-    held: Held,
+    totals: Totals,
     ask: Ask,
 ) -> Told
-    requires { ⌜ MultiWf (multiIn (now nodes) (now links) (now owners) (now heads) (now marks) (now flags) held) ⌝ }
-    ensures { λ r. ⌜ Answered (multiIn (now (nodes .entry)) (now (links .entry)) (now (owners .entry)) (now (heads .entry)) (now (marks .entry)) (now (flags .entry)) held) (meant ask) (words5 (r .words)) (multiIn (now (nodes .exit)) (now (links .exit)) (now (owners .exit)) (now (heads .exit)) (now (marks .exit)) (now (flags .exit)) (r .held)) ⌝ }
+    requires { ⌜ MultiWf (multiIn (now nodes) (now links) (now owners) (now heads) (now marks) (now flags) totals) ⌝ }
+    ensures { λ r. ⌜ (Answered (multiIn (now (nodes .entry)) (now (links .entry)) (now (owners .entry)) (now (heads .entry)) (now (marks .entry)) (now (flags .entry)) totals) (meant ask) (words5 (r .words)) (multiIn (now (nodes .exit)) (now (links .exit)) (now (owners .exit)) (now (heads .exit)) (now (marks .exit)) (now (flags .exit)) (r .totals)))
+        × StaysCanonical (now (nodes .entry)) (now (nodes .exit)) ⌝ }
 {
     match ask {
         Ask::Add(incoming, outgoing) => {
-            let added = add_in(
+            let added = add_lent(
                 nodes,
                 links,
                 owners,
                 heads,
                 marks,
                 flags,
-                held,
+                totals,
                 incoming as usize,
                 outgoing as usize,
             );
-            let after = added.held;
+            let after = added.totals;
             let answer = added.answer;
             Told {
-                held: after,
+                totals: after,
                 words: add_words(answer),
             }
         }
         Ask::Remove(node) => {
-            let removed = remove_in(nodes, links, owners, heads, marks, flags, held, node);
-            let after = removed.held;
+            let removed = remove_lent(nodes, links, owners, heads, marks, flags, totals, node);
+            let after = removed.totals;
             let answer = removed.answer;
             Told {
-                held: after,
+                totals: after,
                 words: remove_words(answer),
             }
         }
         Ask::Resize(node, incoming, outgoing) => {
-            let sized = set_quiet_in(
+            let sized = set_quiet_lent(
                 nodes,
                 links,
                 owners,
                 heads,
                 marks,
                 flags,
-                held,
+                totals,
                 node,
                 incoming as usize,
                 outgoing as usize,
             );
-            let after = sized.held;
+            let after = sized.totals;
             let answer = sized.answer;
             Told {
-                held: after,
+                totals: after,
                 words: set_words(answer),
             }
         }
         Ask::Link(a, b) => {
-            let linked = link_in(nodes, links, owners, heads, marks, flags, held, a, b);
-            let after = linked.held;
+            let linked = link_lent(nodes, links, owners, heads, marks, flags, totals, a, b);
+            let after = linked.totals;
             let answer = linked.answer;
             Told {
-                held: after,
+                totals: after,
                 words: link_words(answer),
             }
         }
         Ask::Unlink(port) => {
-            let cut = cut_port_in(nodes, links, owners, heads, marks, flags, held, port);
-            let after = cut.held;
+            let cut = cut_port_lent(nodes, links, owners, heads, marks, flags, totals, port);
+            let after = cut.totals;
             let answer = cut.answer;
             Told {
-                held: after,
+                totals: after,
                 words: cut_words(answer),
             }
         }
         Ask::LinkSubports(from, to) => {
-            let linked = link_sub_in(nodes, links, owners, heads, marks, flags, held, from, to);
-            let after = linked.held;
+            let linked = link_sub_lent(nodes, links, owners, heads, marks, flags, totals, from, to);
+            let after = linked.totals;
             let answer = linked.answer;
             Told {
-                held: after,
+                totals: after,
                 words: link_words(answer),
             }
         }
         Ask::UnlinkSubport(subport) => {
-            let cut = cut_sub_in(nodes, links, owners, heads, marks, flags, held, subport);
-            let after = cut.held;
+            let cut = cut_sub_lent(nodes, links, owners, heads, marks, flags, totals, subport);
+            let after = cut.totals;
             let answer = cut.answer;
             Told {
-                held: after,
+                totals: after,
                 words: cut_words(answer),
             }
         }
         Ask::SubportLink(subport) => {
-            let answer = subport_link_in(nodes, links, owners, heads, marks, flags, held, subport);
+            let answer = subport_link_lent(
+                nodes,
+                links,
+                owners,
+                heads,
+                marks,
+                flags,
+                totals,
+                subport,
+            );
             Told {
-                held: held,
+                totals: totals,
                 words: cut_words(answer),
             }
         }
         Ask::Counts => {
-            let blocks = node_count_in(held);
-            let ports = port_count_in(held);
-            let wires = link_count_in(held);
+            let blocks = node_count_lent(totals);
+            let ports = port_count_lent(totals);
+            let wires = link_count_lent(totals);
             Told {
-                held: held,
+                totals: totals,
                 words: five_words(0, blocks as u32, ports as u32, wires as u32, 0),
             }
         }
         Ask::Refused => Told {
-            held: held,
+            totals: totals,
             words: five_words(2, 0, 0, 0, 0),
         },
     }
@@ -175,7 +186,7 @@ pub(crate) fn run_list(requests: &[u8], answers: &mut [u8])
     let mut heads = [0u32; FREE_LISTS];
     let mut marks = [false; PORT_SLOTS];
     let mut flags = [false; NODE_SLOTS];
-    let mut held = no_held(Release::One);
+    let mut totals = no_totals(Release::One);
     let mut at: usize = 0;
     while at < requests.len() {
         let ask = ask_at(requests, at);
@@ -186,11 +197,11 @@ pub(crate) fn run_list(requests: &[u8], answers: &mut [u8])
             &mut heads,
             &mut marks,
             &mut flags,
-            held,
+            totals,
             ask,
         );
         let words = told.words;
-        held = told.held;
+        totals = told.totals;
         put_answer(answers, at, words);
         at += 20;
     }
@@ -205,19 +216,20 @@ pub fn run_tables(
     heads: &mut [u32; FREE_LISTS],
     marks: &mut [bool; PORT_SLOTS],
     flags: &mut [bool; NODE_SLOTS],
-    held: Held,
+    totals: Totals,
     requests: &[u8],
-) -> Held
-    requires { ⌜ MultiWf (multiIn (now nodes) (now links) (now owners) (now heads) (now marks) (now flags) held) ⌝ }
-    ensures { λ r. ⌜ (multiIn (now (nodes .exit)) (now (links .exit)) (now (owners .exit)) (now (heads .exit)) (now (marks .exit)) (now (flags .exit)) r ≡ graphFrom (multiIn (now (nodes .entry)) (now (links .entry)) (now (owners .entry)) (now (heads .entry)) (now (marks .entry)) (now (flags .entry)) held) (requestsOf (now (requests .entry))))
-        × MultiWf (multiIn (now (nodes .exit)) (now (links .exit)) (now (owners .exit)) (now (heads .exit)) (now (marks .exit)) (now (flags .exit)) r) ⌝ }
+) -> Totals
+    requires { ⌜ MultiWf (multiIn (now nodes) (now links) (now owners) (now heads) (now marks) (now flags) totals) ⌝ }
+    ensures { λ r. ⌜ (multiIn (now (nodes .exit)) (now (links .exit)) (now (owners .exit)) (now (heads .exit)) (now (marks .exit)) (now (flags .exit)) r ≡ graphFrom (multiIn (now (nodes .entry)) (now (links .entry)) (now (owners .entry)) (now (heads .entry)) (now (marks .entry)) (now (flags .entry)) totals) (requestsOf (now (requests .entry))))
+        × MultiWf (multiIn (now (nodes .exit)) (now (links .exit)) (now (owners .exit)) (now (heads .exit)) (now (marks .exit)) (now (flags .exit)) r)
+        × StaysCanonical (now (nodes .entry)) (now (nodes .exit)) ⌝ }
 {
-    let mut after = held;
+    let mut after = totals;
     let mut at: usize = 0;
     while 20 <= requests.len() - at {
         let ask = ask_at(requests, at);
         let told = one_request(nodes, links, owners, heads, marks, flags, after, ask);
-        after = told.held;
+        after = told.totals;
         at += 20;
     }
     after

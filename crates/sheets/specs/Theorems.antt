@@ -13,7 +13,7 @@ use Rattle.multiportgraph.specs.Calls.{visibleNodes, visiblePorts, visibleLinks
 use Rattle.multiportgraph.specs.Places.{Spot, Wire}
 use Rattle.multiportgraph.specs.Reading.{isSplit, visible, seen}
 use Rattle.multiportgraph.specs.Wires.{wiresWalked}
-use Rattle.multiportgraph.specs.Inner.{Fine, MultiWf}
+use Rattle.multiportgraph.specs.WellFormed.{Fine, MultiWf}
 use Rattle.multiportgraph.specs.SpaceLaws.{Spaced}
 use Rattle.multiportgraph.specs.declared.multiportgraph.MultiPortGraph.{MultiPortGraph}
 use Rattle.multiportgraph.specs.declared.multiportgraph.Release.{Release}

@@ -5,7 +5,7 @@ use crate::sheet::link_sheet;
 use multiportgraph::multiportgraph::MultiPortGraph;
 use portgraph::numbers::smaller;
 ghost use mathlib.Core.Path.{_≡_};
-ghost use Rattle.multiportgraph.specs.Inner.{MultiWf};
+ghost use Rattle.multiportgraph.specs.WellFormed.{MultiWf};
 ghost use Prim.Native.Nat.{_≤_};
 ghost use Rattle.sheets.specs.Held.{sheetPlaces, linkFirst, linkHeld};
 

@@ -5,7 +5,7 @@ use multiportgraph::multiportgraph::MultiPortGraph;
 use multiportgraph::multiportgraph::Refusal;
 use portgraph::index::PortIndex;
 ghost use mathlib.Core.Path.{_≡_};
-ghost use Rattle.multiportgraph.specs.Inner.{MultiWf};
+ghost use Rattle.multiportgraph.specs.WellFormed.{MultiWf};
 ghost use Rattle.sheets.specs.Sheets.{toBeDone, entryLinked, linkSheet, sheetAfter, sheetNumbers};
 
 // The most entries of a sheet.

@@ -1,14 +1,14 @@
 // Adding, removing and resizing a block.
-use crate::orders::Order;
 use crate::replies::show_done;
 use crate::replies::show_number;
 use crate::replies::show_refused;
-use sketches::blocks::add_in;
-use sketches::blocks::remove_in;
-use sketches::blocks::resize_in;
-use sketches::held::Held;
+use lines::orders::Order;
+use sketches::blocks::add_lent;
+use sketches::blocks::remove_lent;
+use sketches::blocks::resize_lent;
 use sketches::rows::WORDS;
 use sketches::sketch::AddAnswer;
+use sketches::totals::Totals;
 ghost use Rattle.sketches.specs.SketchTables.{SketchWf};
 
 fn show_added(answer: AddAnswer) {
@@ -22,61 +22,61 @@ pub(crate) fn add(
     blocks: &mut [u32; WORDS],
     splits: &mut [u32; WORDS],
     wires: &mut [u32; WORDS],
-    held: Held,
+    totals: Totals,
     order: Order,
-) -> Held
-    requires { ⌜ SketchWf (now blocks) (now splits) (now wires) held ⌝ }
+) -> Totals
+    requires { ⌜ SketchWf (now blocks) (now splits) (now wires) totals ⌝ }
     ensures { λ r. ⌜ SketchWf (now (blocks .exit)) (now (splits .exit)) (now (wires .exit)) r ⌝ }
 {
-    let done = add_in(
+    let done = add_lent(
         blocks,
         splits,
         wires,
-        held,
+        totals,
         order.number(0),
         order.number(1),
     );
     let answer = done.answer;
     show_added(answer);
-    done.held
+    done.totals
 }
 
 pub(crate) fn remove(
     blocks: &mut [u32; WORDS],
     splits: &mut [u32; WORDS],
     wires: &mut [u32; WORDS],
-    held: Held,
+    totals: Totals,
     order: Order,
-) -> Held
-    requires { ⌜ SketchWf (now blocks) (now splits) (now wires) held ⌝ }
+) -> Totals
+    requires { ⌜ SketchWf (now blocks) (now splits) (now wires) totals ⌝ }
     ensures { λ r. ⌜ SketchWf (now (blocks .exit)) (now (splits .exit)) (now (wires .exit)) r ⌝ }
 {
-    let done = remove_in(blocks, splits, wires, held, order.number(0));
+    let done = remove_lent(blocks, splits, wires, totals, order.number(0));
     let answer = done.answer;
     show_done(answer);
-    done.held
+    done.totals
 }
 
 pub(crate) fn resize(
     blocks: &mut [u32; WORDS],
     splits: &mut [u32; WORDS],
     wires: &mut [u32; WORDS],
-    held: Held,
+    totals: Totals,
     order: Order,
-) -> Held
-    requires { ⌜ SketchWf (now blocks) (now splits) (now wires) held ⌝ }
+) -> Totals
+    requires { ⌜ SketchWf (now blocks) (now splits) (now wires) totals ⌝ }
     ensures { λ r. ⌜ SketchWf (now (blocks .exit)) (now (splits .exit)) (now (wires .exit)) r ⌝ }
 {
-    let done = resize_in(
+    let done = resize_lent(
         blocks,
         splits,
         wires,
-        held,
+        totals,
         order.number(0),
         order.number(1),
         order.number(2),
     );
     let answer = done.answer;
     show_done(answer);
-    done.held
+    done.totals
 }

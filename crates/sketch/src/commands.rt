@@ -18,8 +18,6 @@ use crate::orders::LINK;
 use crate::orders::LINKCLEAN;
 use crate::orders::LINKSUB;
 use crate::orders::NEW;
-use crate::orders::NOTHING;
-use crate::orders::Order;
 use crate::orders::QUIT;
 use crate::orders::REMOVE;
 use crate::orders::RESIZE;
@@ -28,17 +26,20 @@ use crate::orders::SUBLINK;
 use crate::orders::TIDY;
 use crate::orders::UNLINK;
 use crate::orders::UNLINKSUB;
+use crate::orders::port_at;
 use crate::replies::show_count;
 use crate::sheet::link_sheet;
+use lines::orders::NOTHING;
+use lines::orders::Order;
 use lines::show::Line;
 use lines::show::write_bytes;
 use multiportgraph::multiportgraph::Release;
-use sketches::counts::block_fan_out_in;
-use sketches::counts::counts_in;
-use sketches::counts::fan_out_in;
-use sketches::held::Held;
-use sketches::held::new_held;
+use sketches::counts::block_fan_out_lent;
+use sketches::counts::counts_lent;
+use sketches::counts::fan_out_lent;
 use sketches::rows::WORDS;
+use sketches::totals::Totals;
+use sketches::totals::new_totals;
 ghost use Rattle.sketches.specs.SketchTables.{SketchWf};
 
 // The release that a number names, 1 or 2.
@@ -54,14 +55,14 @@ fn begin(
     blocks: &mut [u32; WORDS],
     splits: &mut [u32; WORDS],
     wires: &mut [u32; WORDS],
-    held: Held,
+    totals: Totals,
     order: Order,
-) -> Held
-    requires { ⌜ SketchWf (now blocks) (now splits) (now wires) held ⌝ }
+) -> Totals
+    requires { ⌜ SketchWf (now blocks) (now splits) (now wires) totals ⌝ }
     ensures { λ r. ⌜ SketchWf (now (blocks .exit)) (now (splits .exit)) (now (wires .exit)) r ⌝ }
 {
     write_bytes(b"ok\n");
-    new_held(release_of(order.number(0)))
+    new_totals(release_of(order.number(0)))
 }
 
 // A command; the text is that of its line.
@@ -69,28 +70,28 @@ pub(crate) fn run(
     blocks: &mut [u32; WORDS],
     splits: &mut [u32; WORDS],
     wires: &mut [u32; WORDS],
-    held: Held,
+    totals: Totals,
     order: Order,
     text: &[u8],
-) -> Held
-    requires { ⌜ SketchWf (now blocks) (now splits) (now wires) held ⌝ }
+) -> Totals
+    requires { ⌜ SketchWf (now blocks) (now splits) (now wires) totals ⌝ }
     ensures { λ r. ⌜ SketchWf (now (blocks .exit)) (now (splits .exit)) (now (wires .exit)) r ⌝ }
 {
     let command = order.command;
     match command {
-        NOTHING | QUIT => held,
-        NEW => begin(blocks, splits, wires, held, order),
-        ADD => add(blocks, splits, wires, held, order),
-        REMOVE => remove(blocks, splits, wires, held, order),
-        RESIZE => resize(blocks, splits, wires, held, order),
-        LINK | LINKCLEAN | LINKSUB => link(blocks, splits, wires, held, order),
-        SHEET => link_sheet(blocks, splits, wires, held, order, text),
-        UNLINK => unlink(blocks, splits, wires, held, order),
-        UNLINKSUB => unlink_subport(blocks, splits, wires, held, order),
-        TIDY => tidy(blocks, splits, wires, held, order),
+        NOTHING | QUIT => totals,
+        NEW => begin(blocks, splits, wires, totals, order),
+        ADD => add(blocks, splits, wires, totals, order),
+        REMOVE => remove(blocks, splits, wires, totals, order),
+        RESIZE => resize(blocks, splits, wires, totals, order),
+        LINK | LINKCLEAN | LINKSUB => link(blocks, splits, wires, totals, order),
+        SHEET => link_sheet(blocks, splits, wires, totals, order, text),
+        UNLINK => unlink(blocks, splits, wires, totals, order),
+        UNLINKSUB => unlink_subport(blocks, splits, wires, totals, order),
+        TIDY => tidy(blocks, splits, wires, totals, order),
         _ => {
-            look(blocks, splits, wires, held, order);
-            held
+            look(blocks, splits, wires, totals, order);
+            totals
         }
     }
 }
@@ -100,11 +101,11 @@ fn show_counts<'a>(
     blocks: &'a [u32; WORDS],
     splits: &'a [u32; WORDS],
     wires: &'a [u32; WORDS],
-    held: Held,
+    totals: Totals,
 )
-    requires { ⌜ SketchWf (now blocks) (now splits) (now wires) held ⌝ }
+    requires { ⌜ SketchWf (now blocks) (now splits) (now wires) totals ⌝ }
 {
-    let counts = counts_in(blocks, splits, wires, held);
+    let counts = counts_lent(blocks, splits, wires, totals);
     Line::of(b"ok")
         .long(counts.blocks as u64)
         .long(counts.ports as u64)
@@ -117,18 +118,24 @@ fn look<'a>(
     blocks: &'a [u32; WORDS],
     splits: &'a [u32; WORDS],
     wires: &'a [u32; WORDS],
-    held: Held,
+    totals: Totals,
     order: Order,
 )
-    requires { ⌜ SketchWf (now blocks) (now splits) (now wires) held ⌝ }
+    requires { ⌜ SketchWf (now blocks) (now splits) (now wires) totals ⌝ }
 {
     let command = order.command;
     match command {
-        SUBLINK => show_link(blocks, splits, wires, held, order),
-        COUNTS => show_counts(blocks, splits, wires, held),
-        FANOUT => show_count(fan_out_in(blocks, splits, wires, held, order.port(0))),
-        BLOCKFANOUT => show_count(block_fan_out_in(blocks, splits, wires, held, order.number(0))),
+        SUBLINK => show_link(blocks, splits, wires, totals, order),
+        COUNTS => show_counts(blocks, splits, wires, totals),
+        FANOUT => show_count(fan_out_lent(blocks, splits, wires, totals, port_at(order, 0))),
+        BLOCKFANOUT => show_count(block_fan_out_lent(
+            blocks,
+            splits,
+            wires,
+            totals,
+            order.number(0),
+        )),
         HELP => show_help(),
-        _ => list(blocks, splits, wires, held, order),
+        _ => list(blocks, splits, wires, totals, order),
     }
 }

@@ -1,22 +1,20 @@
 // The console: it hears a line, runs it on the sketch in its three tables, and hears the next.
 use crate::commands::run;
 use crate::orders::QUIT;
-use crate::session::order_heard;
+use crate::orders::order_of;
 use lines::listening::Listener;
+use lines::listening::ROOM;
 use lines::text::line_part;
 use multiportgraph::multiportgraph::Release;
-use sketches::held::Held;
-use sketches::held::new_held;
 use sketches::rows::WORDS;
+use sketches::totals::Totals;
+use sketches::totals::new_totals;
 ghost use Rattle.sketches.specs.Rows.{Table};
 ghost use Rattle.sketches.specs.SketchTables.{SketchWf};
 
-// The longest line, and its newline.
-const ROOM: usize = 65537;
-
 // The sketch after a line, besides its tables, and whether no line is heard any more.
 pub struct Turn {
-    pub held: Held,
+    pub totals: Totals,
     pub ended: bool,
 }
 
@@ -25,22 +23,28 @@ fn obey(
     blocks: &mut [u32; WORDS],
     splits: &mut [u32; WORDS],
     wires: &mut [u32; WORDS],
-    held: Held,
+    totals: Totals,
     listener: Listener,
     text: &[u8],
 ) -> Turn
-    requires { ⌜ SketchWf (now blocks) (now splits) (now wires) held ⌝ }
-    ensures { λ r. ⌜ SketchWf (now (blocks .exit)) (now (splits .exit)) (now (wires .exit)) (r .held) ⌝ }
+    requires { ⌜ SketchWf (now blocks) (now splits) (now wires) totals ⌝ }
+    ensures { λ r. ⌜ SketchWf (now (blocks .exit)) (now (splits .exit)) (now (wires .exit)) (r .totals) ⌝ }
 {
-    let order = order_heard(listener, text);
+    if !listener.heard {
+        return Turn {
+            totals: totals,
+            ended: listener.ended,
+        };
+    }
+    let order = order_of(text, listener.line);
     if order.command == QUIT {
         return Turn {
-            held: held,
+            totals: totals,
             ended: true,
         };
     }
     Turn {
-        held: run(blocks, splits, wires, held, order, text),
+        totals: run(blocks, splits, wires, totals, order, text),
         ended: listener.ended,
     }
 }
@@ -55,7 +59,7 @@ fn converse(
 )
     requires { ⌜ Table (now blocks) × (Table (now splits) × Table (now wires)) ⌝ }
 {
-    let mut held = new_held(Release::One);
+    let mut totals = new_totals(Release::One);
     let mut listener = Listener::new(echo);
     let mut turns = u64::MAX;
     while 0 < turns {
@@ -66,11 +70,11 @@ fn converse(
             blocks,
             splits,
             wires,
-            held,
+            totals,
             listener,
             line_part(buffer, span),
         );
-        held = turn.held;
+        totals = turn.totals;
         if turn.ended {
             return;
         }

@@ -1,18 +1,19 @@
 // Cuts, what an end is linked with, and tidying.
-use crate::orders::Order;
+use crate::orders::port_at;
 use crate::replies::show_done;
 use crate::replies::show_refused;
 use crate::replies::with_end;
 use crate::replies::with_port;
+use lines::orders::Order;
 use lines::show::Line;
-use sketches::cuts::cut_in;
-use sketches::cuts::cut_subport_in;
-use sketches::cuts::subport_link_in;
-use sketches::cuts::tidy_in;
-use sketches::held::Held;
+use sketches::cuts::cut_lent;
+use sketches::cuts::cut_subport_lent;
+use sketches::cuts::subport_link_lent;
+use sketches::cuts::tidy_lent;
 use sketches::rows::WORDS;
 use sketches::sketch::EndAnswer;
 use sketches::sketch::PortAnswer;
+use sketches::totals::Totals;
 ghost use Rattle.sketches.specs.SketchTables.{SketchWf};
 
 fn show_port(answer: PortAnswer) {
@@ -36,16 +37,16 @@ pub(crate) fn unlink(
     blocks: &mut [u32; WORDS],
     splits: &mut [u32; WORDS],
     wires: &mut [u32; WORDS],
-    held: Held,
+    totals: Totals,
     order: Order,
-) -> Held
-    requires { ⌜ SketchWf (now blocks) (now splits) (now wires) held ⌝ }
+) -> Totals
+    requires { ⌜ SketchWf (now blocks) (now splits) (now wires) totals ⌝ }
     ensures { λ r. ⌜ SketchWf (now (blocks .exit)) (now (splits .exit)) (now (wires .exit)) r ⌝ }
 {
-    let done = cut_in(blocks, splits, wires, held, order.port(0));
+    let done = cut_lent(blocks, splits, wires, totals, port_at(order, 0));
     let answer = done.answer;
     show_port(answer);
-    done.held
+    done.totals
 }
 
 // Cuts the wire at an end.
@@ -53,32 +54,39 @@ pub(crate) fn unlink_subport(
     blocks: &mut [u32; WORDS],
     splits: &mut [u32; WORDS],
     wires: &mut [u32; WORDS],
-    held: Held,
+    totals: Totals,
     order: Order,
-) -> Held
-    requires { ⌜ SketchWf (now blocks) (now splits) (now wires) held ⌝ }
+) -> Totals
+    requires { ⌜ SketchWf (now blocks) (now splits) (now wires) totals ⌝ }
     ensures { λ r. ⌜ SketchWf (now (blocks .exit)) (now (splits .exit)) (now (wires .exit)) r ⌝ }
 {
-    let done = cut_subport_in(blocks, splits, wires, held, order.port(0), order.offset(3));
+    let done = cut_subport_lent(
+        blocks,
+        splits,
+        wires,
+        totals,
+        port_at(order, 0),
+        order.offset(3),
+    );
     let answer = done.answer;
     show_end(answer);
-    done.held
+    done.totals
 }
 
 pub(crate) fn tidy(
     blocks: &mut [u32; WORDS],
     splits: &mut [u32; WORDS],
     wires: &mut [u32; WORDS],
-    held: Held,
+    totals: Totals,
     order: Order,
-) -> Held
-    requires { ⌜ SketchWf (now blocks) (now splits) (now wires) held ⌝ }
+) -> Totals
+    requires { ⌜ SketchWf (now blocks) (now splits) (now wires) totals ⌝ }
     ensures { λ r. ⌜ SketchWf (now (blocks .exit)) (now (splits .exit)) (now (wires .exit)) r ⌝ }
 {
-    let done = tidy_in(blocks, splits, wires, held, order.port(0));
+    let done = tidy_lent(blocks, splits, wires, totals, port_at(order, 0));
     let answer = done.answer;
     show_done(answer);
-    done.held
+    done.totals
 }
 
 // What an end is linked with.
@@ -86,10 +94,17 @@ pub(crate) fn show_link<'a>(
     blocks: &'a [u32; WORDS],
     splits: &'a [u32; WORDS],
     wires: &'a [u32; WORDS],
-    held: Held,
+    totals: Totals,
     order: Order,
 )
-    requires { ⌜ SketchWf (now blocks) (now splits) (now wires) held ⌝ }
+    requires { ⌜ SketchWf (now blocks) (now splits) (now wires) totals ⌝ }
 {
-    show_end(subport_link_in(blocks, splits, wires, held, order.port(0), order.offset(3)));
+    show_end(subport_link_lent(
+        blocks,
+        splits,
+        wires,
+        totals,
+        port_at(order, 0),
+        order.offset(3),
+    ));
 }

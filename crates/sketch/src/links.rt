@@ -1,17 +1,18 @@
 // Links: of two ports, and of two ends.
 use crate::orders::LINK;
 use crate::orders::LINKCLEAN;
-use crate::orders::Order;
+use crate::orders::port_at;
 use crate::replies::show_refused_on;
 use crate::replies::with_end;
+use lines::orders::Order;
 use lines::show::Line;
-use sketches::held::Held;
-use sketches::held::LinkedIn;
-use sketches::links::link_clean_in;
-use sketches::links::link_in;
+use sketches::links::link_clean_lent;
+use sketches::links::link_lent;
 use sketches::rows::WORDS;
 use sketches::sketch::LinkAnswer;
-use sketches::subport_links::link_subports_in;
+use sketches::subport_links::link_subports_lent;
+use sketches::totals::LinkedLent;
+use sketches::totals::Totals;
 ghost use Rattle.sketches.specs.SketchTables.{SketchWf};
 
 // The answer of a link on a line that begins with what is given.
@@ -29,26 +30,40 @@ fn linked(
     blocks: &mut [u32; WORDS],
     splits: &mut [u32; WORDS],
     wires: &mut [u32; WORDS],
-    held: Held,
+    totals: Totals,
     order: Order,
-) -> LinkedIn
-    requires { ⌜ SketchWf (now blocks) (now splits) (now wires) held ⌝ }
-    ensures { λ r. ⌜ SketchWf (now (blocks .exit)) (now (splits .exit)) (now (wires .exit)) (r .held) ⌝ }
+) -> LinkedLent
+    requires { ⌜ SketchWf (now blocks) (now splits) (now wires) totals ⌝ }
+    ensures { λ r. ⌜ SketchWf (now (blocks .exit)) (now (splits .exit)) (now (wires .exit)) (r .totals) ⌝ }
 {
     if order.command == LINK {
-        return link_in(blocks, splits, wires, held, order.port(0), order.port(3));
+        return link_lent(
+            blocks,
+            splits,
+            wires,
+            totals,
+            port_at(order, 0),
+            port_at(order, 3),
+        );
     }
     if order.command == LINKCLEAN {
-        return link_clean_in(blocks, splits, wires, held, order.port(0), order.port(3));
+        return link_clean_lent(
+            blocks,
+            splits,
+            wires,
+            totals,
+            port_at(order, 0),
+            port_at(order, 3),
+        );
     }
-    link_subports_in(
+    link_subports_lent(
         blocks,
         splits,
         wires,
-        held,
-        order.port(0),
+        totals,
+        port_at(order, 0),
         order.offset(3),
-        order.port(4),
+        port_at(order, 4),
         order.offset(7),
     )
 }
@@ -58,14 +73,14 @@ pub(crate) fn link(
     blocks: &mut [u32; WORDS],
     splits: &mut [u32; WORDS],
     wires: &mut [u32; WORDS],
-    held: Held,
+    totals: Totals,
     order: Order,
-) -> Held
-    requires { ⌜ SketchWf (now blocks) (now splits) (now wires) held ⌝ }
+) -> Totals
+    requires { ⌜ SketchWf (now blocks) (now splits) (now wires) totals ⌝ }
     ensures { λ r. ⌜ SketchWf (now (blocks .exit)) (now (splits .exit)) (now (wires .exit)) r ⌝ }
 {
-    let done = linked(blocks, splits, wires, held, order);
+    let done = linked(blocks, splits, wires, totals, order);
     let answer = done.answer;
     show_linked_on(Line::of(b""), answer);
-    done.held
+    done.totals
 }

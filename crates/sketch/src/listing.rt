@@ -8,17 +8,18 @@ use crate::orders::CONNECTIONS;
 use crate::orders::LINKS;
 use crate::orders::NEIGHBOURS;
 use crate::orders::NODELINKS;
-use crate::orders::Order;
 use crate::orders::SUBPORTS;
 use crate::orders::WIRES;
+use crate::orders::port_at;
 use crate::orders::side_of;
 use crate::replies::show_number;
 use crate::replies::show_refused;
+use lines::orders::Order;
 use portgraph::direction::Direction;
-use sketches::held::Held;
 use sketches::rows::WORDS;
 use sketches::tests::EndTest;
 use sketches::tests::Test;
+use sketches::totals::Totals;
 use sketches::walks::BlockStep;
 use sketches::walks::SubportStep;
 use sketches::walks::Walk;
@@ -41,7 +42,7 @@ const MOST: usize = 4294967295;
 fn test_of(order: Order, side: Direction) -> Test {
     let command = order.command;
     match command {
-        LINKS | BACK => Test::Wire(EndTest::AtPort(order.port(0))),
+        LINKS | BACK => Test::Wire(EndTest::AtPort(port_at(order, 0))),
         NODELINKS => Test::Side(order.number(0), side),
         NEIGHBOURS => Test::Neighbour(order.number(0), side, order.number(2) == 1),
         CONNECTIONS => Test::Between(order.number(0), order.number(1)),
@@ -75,23 +76,27 @@ fn step<'a>(
     blocks: &'a [u32; WORDS],
     splits: &'a [u32; WORDS],
     wires: &'a [u32; WORDS],
-    held: Held,
+    totals: Totals,
     command: u32,
     side: Direction,
     last: Item,
 ) -> Item
-    requires { ⌜ SketchWf (now blocks) (now splits) (now wires) held ⌝ }
+    requires { ⌜ SketchWf (now blocks) (now splits) (now wires) totals ⌝ }
 {
     let walk = last.walk;
     let subports = last.subports;
     match command {
-        BLOCKS => block_after(next_block(blocks, held, walk), last),
-        SUBPORTS => subport_after(next_subport(blocks, splits, wires, held, subports), last),
-        BACK => wire_after(previous_wire(blocks, splits, wires, held, walk), last, side),
+        BLOCKS => block_after(next_block(blocks, totals, walk), last),
+        SUBPORTS => subport_after(next_subport(blocks, splits, wires, totals, subports), last),
+        BACK => wire_after(
+            previous_wire(blocks, splits, wires, totals, walk),
+            last,
+            side,
+        ),
         NEIGHBOURS => {
-            wire_after(next_wire(blocks, splits, wires, held, walk), last, side).far_block()
+            wire_after(next_wire(blocks, splits, wires, totals, walk), last, side).far_block()
         }
-        _ => wire_after(next_wire(blocks, splits, wires, held, walk), last, side),
+        _ => wire_after(next_wire(blocks, splits, wires, totals, walk), last, side),
     }
 }
 
@@ -100,18 +105,18 @@ fn show_side<'a>(
     blocks: &'a [u32; WORDS],
     splits: &'a [u32; WORDS],
     wires: &'a [u32; WORDS],
-    held: Held,
+    totals: Totals,
     order: Order,
     side: Direction,
     walk: Walk,
 ) -> usize
-    requires { ⌜ SketchWf (now blocks) (now splits) (now wires) held ⌝ }
+    requires { ⌜ SketchWf (now blocks) (now splits) (now wires) totals ⌝ }
     ensures { λ r. ⌜ r ≤ 4294967295 ⌝ }
 {
     let mut item = before_first(walk, order.number(0), side);
     let mut count: usize = 0;
     while count < MOST {
-        item = step(blocks, splits, wires, held, order.command, side, item);
+        item = step(blocks, splits, wires, totals, order.command, side, item);
         if item.count == 0 {
             return count;
         }
@@ -135,32 +140,32 @@ fn show_items<'a>(
     blocks: &'a [u32; WORDS],
     splits: &'a [u32; WORDS],
     wires: &'a [u32; WORDS],
-    held: Held,
+    totals: Totals,
     order: Order,
     walk: Walk,
 ) -> usize
-    requires { ⌜ SketchWf (now blocks) (now splits) (now wires) held ⌝ }
+    requires { ⌜ SketchWf (now blocks) (now splits) (now wires) totals ⌝ }
 {
     let side = side_named(order);
     if side < 2 {
-        return show_side(blocks, splits, wires, held, order, side_of(side), walk);
+        return show_side(blocks, splits, wires, totals, order, side_of(side), walk);
     }
     let incoming = show_side(
         blocks,
         splits,
         wires,
-        held,
+        totals,
         order,
         Direction::Incoming,
         walk,
     );
     let test = test_of(order, Direction::Outgoing);
-    let rest = whole_walk(held.wires, test);
+    let rest = whole_walk(totals.wires, test);
     let outgoing = show_side(
         blocks,
         splits,
         wires,
-        held,
+        totals,
         order,
         Direction::Outgoing,
         rest,
@@ -173,15 +178,15 @@ fn start_between<'a>(
     blocks: &'a [u32; WORDS],
     splits: &'a [u32; WORDS],
     wires: &'a [u32; WORDS],
-    held: Held,
+    totals: Totals,
     from: u32,
     to: u32,
     test: Test,
 ) -> WalkStart
-    requires { ⌜ SketchWf (now blocks) (now splits) (now wires) held ⌝ }
+    requires { ⌜ SketchWf (now blocks) (now splits) (now wires) totals ⌝ }
 {
-    match wires_of_block(blocks, splits, wires, held, from, test) {
-        WalkStart::At(_) => wires_of_block(blocks, splits, wires, held, to, test),
+    match wires_of_block(blocks, splits, wires, totals, from, test) {
+        WalkStart::At(_) => wires_of_block(blocks, splits, wires, totals, to, test),
         WalkStart::Refused(reason) => WalkStart::Refused(reason),
     }
 }
@@ -191,20 +196,20 @@ fn start<'a>(
     blocks: &'a [u32; WORDS],
     splits: &'a [u32; WORDS],
     wires: &'a [u32; WORDS],
-    held: Held,
+    totals: Totals,
     order: Order,
 ) -> WalkStart
-    requires { ⌜ SketchWf (now blocks) (now splits) (now wires) held ⌝ }
+    requires { ⌜ SketchWf (now blocks) (now splits) (now wires) totals ⌝ }
 {
     let command = order.command;
     let test = test_of(order, first_side(side_named(order)));
     let first = order.number(0);
     match command {
-        BLOCKS => WalkStart::At(whole_walk(held.blocks, test)),
-        WIRES => WalkStart::At(whole_walk(held.wires, test)),
-        LINKS | BACK => links_of_port(blocks, splits, wires, held, order.port(0)),
-        CONNECTIONS => start_between(blocks, splits, wires, held, first, order.number(1), test),
-        _ => wires_of_block(blocks, splits, wires, held, first, test),
+        BLOCKS => WalkStart::At(whole_walk(totals.blocks, test)),
+        WIRES => WalkStart::At(whole_walk(totals.wires, test)),
+        LINKS | BACK => links_of_port(blocks, splits, wires, totals, port_at(order, 0)),
+        CONNECTIONS => start_between(blocks, splits, wires, totals, first, order.number(1), test),
+        _ => wires_of_block(blocks, splits, wires, totals, first, test),
     }
 }
 
@@ -221,14 +226,14 @@ pub(crate) fn list<'a>(
     blocks: &'a [u32; WORDS],
     splits: &'a [u32; WORDS],
     wires: &'a [u32; WORDS],
-    held: Held,
+    totals: Totals,
     order: Order,
 )
-    requires { ⌜ SketchWf (now blocks) (now splits) (now wires) held ⌝ }
+    requires { ⌜ SketchWf (now blocks) (now splits) (now wires) totals ⌝ }
 {
-    match start(blocks, splits, wires, held, order) {
+    match start(blocks, splits, wires, totals, order) {
         WalkStart::At(walk) => {
-            show_number(show_items(blocks, splits, wires, held, order, walk) as u64);
+            show_number(show_items(blocks, splits, wires, totals, order, walk) as u64);
         }
         WalkStart::Refused(reason) => show_refused(reason),
     }

@@ -10,7 +10,6 @@ mod links;
 mod listing;
 mod orders;
 mod replies;
-mod session;
 mod sheet;
 
 use crate::console::read_and_run;

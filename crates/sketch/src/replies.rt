@@ -1,12 +1,4 @@
 // Answers as lines: `ok` with numbers, `refused` and `bad line`. A line that says no ends in its reason, for people.
-use crate::orders::NO_END_SIDE;
-use crate::orders::NO_FLAG;
-use crate::orders::NO_NUMBER;
-use crate::orders::NO_RELEASE;
-use crate::orders::NO_SIDE;
-use crate::orders::TOO_LONG;
-use crate::orders::UNKNOWN_COMMAND;
-use crate::orders::WORD_COUNT;
 use lines::show::Line;
 use portgraph::direction::Direction;
 use sketches::sketch::CountAnswer;
@@ -16,27 +8,6 @@ use sketches::sketch::SketchEnd;
 use sketches::sketch::SketchPort;
 ghost use mathlib.Core.Path.{_≡_};
 ghost use Rattle.sketches.specs.PlanNumbers.{reasonNumber};
-
-// What is wrong with a line, in plain words.
-fn with_wrong(line: Line, wrong: u32) -> Line {
-    match wrong {
-        UNKNOWN_COMMAND => line.with(b"unknown command"),
-        WORD_COUNT => line.with(b"wrong number of words"),
-        NO_NUMBER => line.with(b"no number up to 4294967295"),
-        NO_SIDE => line.with(b"no side (0, 1 or 2)"),
-        NO_END_SIDE => line.with(b"no side of a port (0 or 1)"),
-        NO_FLAG => line.with(b"no flag (0 or 1)"),
-        NO_RELEASE => line.with(b"no release (1 or 2)"),
-        TOO_LONG => line.with(b"too long"),
-        _ => line,
-    }
-}
-
-// A line that is no command; after the reason stands what helps, as how the command is typed.
-pub(crate) fn show_bad(line: u64, wrong: u32, help: &[u8]) {
-    let bad = Line::of(b"bad line").long(line).with(b"  # ");
-    with_wrong(bad, wrong).with(b": ").with(help).write();
-}
 
 // The number of a refusal.
 fn number_of(reason: Reason) -> u32

@@ -1,37 +1,26 @@
 // A whole sheet of links from one line: six numbers, a port and a port, are an entry.
 use crate::links::show_linked_on;
-use crate::orders::Order;
 use crate::orders::side_of;
 use crate::replies::show_number;
+use lines::orders::Order;
 use lines::show::Line;
 use lines::show::write_bytes;
-use lines::text::NO_VALUE;
-use lines::text::Span;
 use lines::text::next_word;
-use lines::text::number_of;
-use sketches::held::Held;
+use lines::text::number_or_zero;
 use sketches::rows::WORDS;
 use sketches::sheet::SHEET_PLACES;
 use sketches::sheet::no_entry;
-use sketches::sheet::sheet_in;
+use sketches::sheet::sheet_lent;
 use sketches::sketch::SheetAnswer;
 use sketches::sketch::SheetEntry;
 use sketches::sketch::SketchPort;
+use sketches::totals::Totals;
 ghost use Rattle.sketches.specs.SketchTables.{SketchWf};
 
 // A port, and where in the line its numbers end.
 pub struct PortRead {
     pub port: SketchPort,
     pub to: usize,
-}
-
-// The number that a word says.
-fn value_of(text: &[u8], word: Span) -> u32 {
-    let value = number_of(text, word);
-    if NO_VALUE <= value {
-        return 0;
-    }
-    value as u32
 }
 
 // The port that the next three numbers of a line name.
@@ -41,9 +30,9 @@ fn read_port(text: &[u8], from: usize) -> PortRead {
     let position = next_word(text, side.to);
     PortRead {
         port: SketchPort {
-            block: value_of(text, block),
-            side: side_of(value_of(text, side)),
-            position: value_of(text, position),
+            block: number_or_zero(text, block),
+            side: side_of(number_or_zero(text, side)),
+            position: number_or_zero(text, position),
         },
         to: position.to,
     }
@@ -91,16 +80,16 @@ pub(crate) fn link_sheet(
     blocks: &mut [u32; WORDS],
     splits: &mut [u32; WORDS],
     wires: &mut [u32; WORDS],
-    held: Held,
+    totals: Totals,
     order: Order,
     text: &[u8],
-) -> Held
-    requires { ⌜ SketchWf (now blocks) (now splits) (now wires) held ⌝ }
+) -> Totals
+    requires { ⌜ SketchWf (now blocks) (now splits) (now wires) totals ⌝ }
     ensures { λ r. ⌜ SketchWf (now (blocks .exit)) (now (splits .exit)) (now (wires .exit)) r ⌝ }
 {
     let count = order.entries;
     let entries = entries_of(text, order.from);
-    let linked = sheet_in(blocks, splits, wires, held, entries, count);
+    let linked = sheet_lent(blocks, splits, wires, totals, entries, count);
     let answer = linked.answer;
     match answer {
         SheetAnswer::Done => {
@@ -112,5 +101,5 @@ pub(crate) fn link_sheet(
             write_bytes(b"refused 14  # a sheet has at most 64 entries\n");
         }
     }
-    linked.held
+    linked.totals
 }

@@ -22,9 +22,9 @@ use Rattle.sketches.specs.Rows.{Table, rowsIn, putRow, blocksIn, splitsI
 use Rattle.sketches.specs.RowSteps.{row-added, length-put}
 use Rattle.sketches.specs.RowReads.{blocks-left, splits-left, wires-left}
 use Rattle.sketches.specs.Offsets.{length-rows}
-use Rattle.sketches.specs.SketchTables.{planIn, heldCounts, SketchWf, Leaves}
+use Rattle.sketches.specs.SketchTables.{planIn, totalsCounts, SketchWf, Leaves}
 use Rattle.sketches.specs.declared.rows.Row.{Row}
-use Rattle.sketches.specs.declared.held.Held.{Held}
+use Rattle.sketches.specs.declared.totals.Totals.{Totals}
 use Rattle.sketches.specs.declared.tests.EndTest.the-variants as ask
 use Rattle.sketches.specs.declared.tests.Test.the-variants as test
 use Rattle.sketches.specs.declared.sketch.Reason.{Reason}
@@ -38,11 +38,11 @@ use Rattle.sketches.specs.declared.sketch.DoneAnswer.the-variants as don
 pub length-blocks : (t : List ℕ) (n : ℕ) → length (blocksIn t n) ≡ n
 length-blocks t n = length-map blockOf (rowsIn t n) ∙ length-rows t n
 
-pub blocks-within : {b s w : List ℕ} {h : Held} → SketchWf b s w h → h .blocks ≤ nodeSlots
+pub blocks-within : {b s w : List ℕ} {h : Totals} → SketchWf b s w h → h .blocks ≤ nodeSlots
 blocks-within {b} {s} {w} {h} wf = let e = length-blocks b (h .blocks) in let k = wf .plan .blocks in omega arith
 
 -- a call by its definition, where that is known
-pub leaves-as : {A : Type 0} {numbers : A → List ℕ} {called : Sketched A} {b s w : List ℕ} {h : Held} {a : A} (K : Plan) (x : A) → called ≡ leaves K x → planIn b s w h ≡ K → a ≡ x → SketchWf b s w h →
+pub leaves-as : {A : Type 0} {numbers : A → List ℕ} {called : Sketched A} {b s w : List ℕ} {h : Totals} {a : A} (K : Plan) (x : A) → called ≡ leaves K x → planIn b s w h ≡ K → a ≡ x → SketchWf b s w h →
     Leaves numbers called b s w h a
 leaves-as {A} {numbers} {called} K x e p q wf =
     record {
@@ -53,7 +53,7 @@ leaves-as {A} {numbers} {called} K x e p q wf =
     }
 
 -- the plan of new tables keeps what holds of plans
-pub tables-wf : {b s w : List ℕ} {h : Held} {K : Plan} → Table b → Table s → Table w → planIn b s w h ≡ K → PlanWf K → SketchWf b s w h
+pub tables-wf : {b s w : List ℕ} {h : Totals} {K : Plan} → Table b → Table s → Table w → planIn b s w h ≡ K → PlanWf K → SketchWf b s w h
 tables-wf x y z e wf = record { blockTable = x; splitTable = y; wireTable = z; plan = subst PlanWf (sym e) wf }
 
 -- Adding.
@@ -83,7 +83,7 @@ add-accepted : (K : Plan) (i o : ℕ) → i + o ≤ nodePorts → noRoom (K .add
 unfolding addBlock
 add-accepted K i o h k = rw (le-leb (i + o) nodePorts h, k)
 
-module _ (b s w : List ℕ) (h : Held) (wf : SketchWf b s w h) (i o : ℕ) where
+module _ (b s w : List ℕ) (h : Totals) (wf : SketchWf b s w h) (i o : ℕ) where
   pub added-too-many : {n : ℕ} → n ≡ i + o → nodePorts < n → Leaves addNumbers (addBlock (planIn b s w h) i o) b s w h (add.Refused TooManyPorts)
   added-too-many e k = leaves-as (planIn b s w h) (add.Refused TooManyPorts) (add-too-many (planIn b s w h) i o (omega arith)) refl refl wf
 
@@ -162,7 +162,7 @@ resize-accepted : (K : Plan) (n i o : ℕ) → i + o ≤ nodePorts → hasBlock 
 unfolding setCounts
 resize-accepted K n i o h k l = rw (le-leb (i + o) nodePorts h, k, le-ltb portSlots (portsInAll (map (recount n i o) (K .blocks))) l)
 
-module _ (b s w : List ℕ) (h : Held) (wf : SketchWf b s w h) (n : ℕ) where
+module _ (b s w : List ℕ) (h : Totals) (wf : SketchWf b s w h) (n : ℕ) where
   pub removed-unknown : hasBlock (blocksIn b (h .blocks)) n ≡ false → Leaves doneNumbers (removeBlock (planIn b s w h) n) b s w h (done.Refused UnknownBlock)
   removed-unknown e = leaves-as (planIn b s w h) (done.Refused UnknownBlock) (remove-unknown (planIn b s w h) n e) refl refl wf
 
@@ -170,7 +170,7 @@ module _ (b s w : List ℕ) (h : Held) (wf : SketchWf b s w h) (n : ℕ) where
       (rowsIn b′ nb ≡ filter (missed (test.Block n)) (rowsIn b (h .blocks))) × Table b′ →
       (rowsIn s′ ns ≡ filter (missed (test.Split (ask.OfBlock n))) (rowsIn s (h .splits))) × Table s′ →
       (rowsIn w′ nw ≡ filter (missed (test.Wire (ask.OfBlock n))) (rowsIn w (h .wires))) × Table w′ →
-      {h′ : Held} → h′ ≡ heldCounts h nb ns nw →
+      {h′ : Totals} → h′ ≡ totalsCounts h nb ns nw →
       Leaves doneNumbers (removeBlock (planIn b s w h) n) b′ s′ w′ h′ done.Done
   removed e b′ s′ w′ nb ns nw p q r {h′} c =
       leaves-as (blockGone (planIn b s w h) n) done.Done (remove-accepted (planIn b s w h) n e) plan refl
@@ -199,7 +199,7 @@ module _ (b s w : List ℕ) (h : Held) (wf : SketchWf b s w h) (n : ℕ) where
         (blocksIn b′ (h .blocks) ≡ map (recount n i o) (blocksIn b (h .blocks))) × Table b′ →
         (rowsIn s′ ns ≡ filter (missed (test.Split (ask.OfDropped n i o))) (rowsIn s (h .splits))) × Table s′ →
         (rowsIn w′ nw ≡ filter (missed (test.Wire (ask.OfDropped n i o))) (rowsIn w (h .wires))) × Table w′ →
-        {h′ : Held} → h′ ≡ heldCounts h (h .blocks) ns nw →
+        {h′ : Totals} → h′ ≡ totalsCounts h (h .blocks) ns nw →
         Leaves doneNumbers (setCounts (planIn b s w h) n i o) b′ s′ w′ h′ done.Done
     resized u v e k m l b′ s′ w′ ns nw p q r {h′} c =
         leaves-as (blockResized (planIn b s w h) n i o) done.Done at-once plan refl

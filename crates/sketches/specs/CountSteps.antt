@@ -15,7 +15,7 @@ use Rattle.sketches.specs.Rows.{rowsIn, wireOf, hits}
 use Rattle.sketches.specs.RowReads.{filter-map}
 use Rattle.sketches.specs.SketchTables.{planIn}
 use Rattle.sketches.specs.declared.rows.Row.{Row}
-use Rattle.sketches.specs.declared.held.Held.{Held}
+use Rattle.sketches.specs.declared.totals.Totals.{Totals}
 use Rattle.sketches.specs.declared.counts.SketchCounts.{SketchCounts}
 use Rattle.sketches.specs.declared.tests.EndTest.the-variants as ask
 use Rattle.sketches.specs.declared.tests.Test.the-variants as test
@@ -31,7 +31,7 @@ countsOf K = record { blocks = blockCount K; ports = portCount K; wires = wireCo
 same-number : (g : Wire → Bool) (l : List Row) → length (filter (λ r. g (wireOf r)) l) ≡ length (filter g (map wireOf l))
 same-number g l = sym (length-map wireOf (filter (λ r. g (wireOf r)) l)) ∙ ap length (filter-map wireOf g l)
 
-module _ (b s w : List ℕ) (h : Held) where
+module _ (b s w : List ℕ) (h : Totals) where
   pub fan-unknown : (x : SketchPort) → isThere (planIn b s w h) x ≡ false → count.Refused UnknownPort ≡ portFanOut (planIn b s w h) x
   unfolding portFanOut
   fan-unknown x e = rw e

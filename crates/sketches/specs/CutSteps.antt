@@ -22,9 +22,9 @@ use Rattle.sketches.specs.RowReads.{wires-left}
 use Rattle.sketches.specs.BlockSteps.{leaves-as, tables-wf}
 use Rattle.sketches.specs.SplitSteps.{splitsWith, SplitsRoom, IsPlan, room-for, subports-set}
 use Rattle.sketches.specs.EndSteps.{judgeBy, judgeEnd}
-use Rattle.sketches.specs.SketchTables.{planIn, heldCounts, heldSplits, heldWires, SketchWf, Leaves}
+use Rattle.sketches.specs.SketchTables.{planIn, totalsCounts, heldSplits, heldWires, SketchWf, Leaves}
 use Rattle.sketches.specs.declared.rows.Row.{Row}
-use Rattle.sketches.specs.declared.held.Held.{Held}
+use Rattle.sketches.specs.declared.totals.Totals.{Totals}
 use Rattle.sketches.specs.declared.tests.EndTest.{EndTest}
 use Rattle.sketches.specs.declared.tests.EndTest.the-variants as ask
 use Rattle.sketches.specs.declared.tests.Test.the-variants as test
@@ -124,7 +124,7 @@ far-fits-in g (w ∷ l) h x e = go (g (w .out)) (g (w .into)) e (far-fits-in g l
     go false true p rest = let q : x ≡ w .out = cc in subst (λ (y : Place). y .offset < mostSubports) (sym q) (h w (inl refl) .0)
     go false false p rest = rest p
 
-pub far-fits : (b s w : List ℕ) (h : Held) → SketchWf b s w h → (g : Place → Bool) (x : FarEnd) → farOf x ≡ farFrom g (wiresIn w (h .wires)) → FarFits x
+pub far-fits : (b s w : List ℕ) (h : Totals) → SketchWf b s w h → (g : Place → Bool) (x : FarEnd) → farOf x ≡ farFrom g (wiresIn w (h .wires)) → FarFits x
 far-fits b s w h wf g found.Nothing e = tt
 far-fits b s w h wf g (found.At x) e = far-fits-in g (wiresIn w (h .wires)) (wf .plan .offsets) (placeIn x) e
 
@@ -173,7 +173,7 @@ nothing-found nothing j e = refl
 nothing-found (far x) judged.Fine e = absurd (let z : _≡_ {A = ℕ} 0 1 = cc in omega arith)
 nothing-found (far x) (judged.Refused q) e = absurd (let z : _≡_ {A = ℕ} 0 1 = cc in omega arith)
 
-module _ (b s w : List ℕ) (h : Held) (wf : SketchWf b s w h) (x : SketchPort) (o : ℕ) {a : EndAnswer} (e : a ≡ subportLink (planIn b s w h) x o) where
+module _ (b s w : List ℕ) (h : Totals) (wf : SketchWf b s w h) (x : SketchPort) (o : ℕ) {a : EndAnswer} (e : a ≡ subportLink (planIn b s w h) x o) where
   abbrev cut-plan : Plan
   cut-plan = withWires (planIn b s w h) (without (atEnd (spotNamed x) (offsetRead (planIn b s w h) x o)) (wiresIn w (h .wires)))
 
@@ -191,7 +191,7 @@ module _ (b s w : List ℕ) (h : Held) (wf : SketchWf b s w h) (x : SketchPort) 
       leaves-as cut-plan a (cut-as ∙ ap (λ (y : EndAnswer). leaves (cond (isRefused y) (planIn b s w h) cut-plan) a) f) k refl wf
 
   pub end-cut : {y : SketchEnd} → a ≡ end.Found y → {p : ℕ} → p ≡ offsetRead (planIn b s w h) x o → (w′ : List ℕ) (n : ℕ) → (rowsIn w′ n ≡ filter (missed (test.Wire (ask.AtEnd x p))) (rowsIn w (h .wires))) × Table w′ →
-      {h′ : Held} → h′ ≡ heldWires h n → Leaves foundNumbers (cutSubport (planIn b s w h) x o) b s w′ h′ a
+      {h′ : Totals} → h′ ≡ heldWires h n → Leaves foundNumbers (cutSubport (planIn b s w h) x o) b s w′ h′ a
   end-cut f {p} u w′ n d {h′} c =
       let k : planIn b s w′ h′ ≡ cut-plan =
       ap (planIn b s w′) c ∙ ap (withWires (planIn b s w h)) (ap (map wireOf) (d .0) ∙ wires-left (ask.AtEnd x p) (rowsIn w (h .wires)) ∙ ap (λ (m : ℕ). without (atEnd (spotNamed x) m) (wiresIn w (h .wires))) u) in
@@ -200,7 +200,7 @@ module _ (b s w : List ℕ) (h : Held) (wf : SketchWf b s w h) (x : SketchPort) 
 
 -- Cutting a port.
 
-module _ (b s w : List ℕ) (h : Held) (wf : SketchWf b s w h) (x : SketchPort) where
+module _ (b s w : List ℕ) (h : Totals) (wf : SketchWf b s w h) (x : SketchPort) where
   pub cut-unknown : isThere (planIn b s w h) x ≡ false → Leaves cutNumbers (cutPort (planIn b s w h) x) b s w h (port.Refused UnknownPort)
   unfolding cutPort
   cut-unknown e = leaves-as (planIn b s w h) (port.Refused UnknownPort) (rw e) refl refl wf
@@ -219,11 +219,11 @@ module _ (b s w : List ℕ) (h : Held) (wf : SketchWf b s w h) (x : SketchPort) 
     pub cut-room : SplitsRoom s (h .splits) x 0
     cut-room = room-for b s w′ (heldWires h n) cut-kept x still-there 0 (omega arith)
 
-    module _ {s′ : List ℕ} {m : ℕ} (q : (splitsIn s′ m ≡ splitsWith (splitsIn s (h .splits)) x 0) × Table s′) {h′ : Held} (c : h′ ≡ heldCounts h (h .blocks) m n) where
+    module _ {s′ : List ℕ} {m : ℕ} (q : (splitsIn s′ m ≡ splitsWith (splitsIn s (h .splits)) x 0) × Table s′) {h′ : Totals} (c : h′ ≡ totalsCounts h (h .blocks) m n) where
       plan-cut : IsPlan (setSubports (withWires (planIn b s w h) (without (atSpot (spotNamed x)) (wiresIn w (h .wires)))) x 0) b s′ w′ h′
       plan-cut =
           subst (IsPlan (setSubports (withWires (planIn b s w h) (without (atSpot (spotNamed x)) (wiresIn w (h .wires)))) x 0) b s′ w′) (sym c)
-          (subst (λ (k : Plan). IsPlan (setSubports k x 0) b s′ w′ (heldCounts h (h .blocks) m n)) wires-cut (subports-set b s w′ (heldWires h n) cut-kept x still-there 0 (omega arith) q))
+          (subst (λ (k : Plan). IsPlan (setSubports k x 0) b s′ w′ (totalsCounts h (h .blocks) m n)) wires-cut (subports-set b s w′ (heldWires h n) cut-kept x still-there 0 (omega arith) q))
 
       pub cut-unsplit : {k : ℕ} → k ≡ subportsOf (planIn b s w h) x → k ≡ 0 → (y : FarEnd) {a : PortAnswer} → farOf y ≡ farFrom (atSpot (spotNamed x)) (wiresIn w (h .wires)) → a ≡ portFound (farOf y) →
           Leaves cutNumbers (cutPort (planIn b s w h) x) b s′ w′ h′ a
@@ -246,7 +246,7 @@ left-none n h = rw (le-leb n 1 h)
 pub left-some : (n : ℕ) → 1 < n → n ≡ tidied n
 left-some n h = rw (lt-leb n 1 h)
 
-module _ (b s w : List ℕ) (h : Held) (wf : SketchWf b s w h) (x : SketchPort) where
+module _ (b s w : List ℕ) (h : Totals) (wf : SketchWf b s w h) (x : SketchPort) where
   pub tidy-unknown : isThere (planIn b s w h) x ≡ false → Leaves doneNumbers (tidyPort (planIn b s w h) x) b s w h (done.Refused UnknownPort)
   unfolding tidyPort
   tidy-unknown e = leaves-as (planIn b s w h) (done.Refused UnknownPort) (rw e) refl refl wf
@@ -265,7 +265,7 @@ module _ (b s w : List ℕ) (h : Held) (wf : SketchWf b s w h) (x : SketchPort) 
     pub tidy-room : SplitsRoom s (h .splits) x m
     tidy-room = room-for b s w h wf x there m left-within
 
-    pub tidy-split : {k : ℕ} → k ≡ subportsOf (planIn b s w h) x → (k ≡ 0 → ⊥) → {s′ : List ℕ} {c : ℕ} → (splitsIn s′ c ≡ splitsWith (splitsIn s (h .splits)) x m) × Table s′ → {h′ : Held} → h′ ≡ heldSplits h c →
+    pub tidy-split : {k : ℕ} → k ≡ subportsOf (planIn b s w h) x → (k ≡ 0 → ⊥) → {s′ : List ℕ} {c : ℕ} → (splitsIn s′ c ≡ splitsWith (splitsIn s (h .splits)) x m) × Table s′ → {h′ : Totals} → h′ ≡ heldSplits h c →
         Leaves doneNumbers (tidyPort (planIn b s w h) x) b s′ w h′ done.Done
     unfolding tidyPort
     tidy-split g z {s′} {c} q {h′} p =

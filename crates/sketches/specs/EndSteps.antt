@@ -20,8 +20,8 @@ use Rattle.sketches.specs.BlockSteps.{leaves-as, tables-wf}
 use Rattle.sketches.specs.LinkSteps.{wire-laid, refusedWith, refused-as}
 use Rattle.sketches.specs.SketchTables.{planIn, heldWires, SketchWf, Leaves}
 use Rattle.sketches.specs.declared.rows.Row.{Row}
-use Rattle.sketches.specs.declared.held.Held.{Held}
-use Rattle.sketches.specs.declared.held.LinkedIn.{LinkedIn}
+use Rattle.sketches.specs.declared.totals.Totals.{Totals}
+use Rattle.sketches.specs.declared.totals.LinkedLent.{LinkedLent}
 use Rattle.sketches.specs.declared.sketch.SketchPort.{SketchPort}
 use Rattle.sketches.specs.declared.sketch.Reason.{Reason}
 use Rattle.sketches.specs.declared.sketch.Reason.the-variants.{BadOffset, UnknownPort, UnknownOffset, NoRoom, UnknownSecondPort, SameSide, AlreadyLinked, InputWired}
@@ -203,8 +203,8 @@ fine-means K x o y r p =
     go false true false c₁ true false c₂ false false f₁ false true h₁ p = absurd (not-fine p)
     go false true false c₁ true false c₂ false false f₁ false false h₁ p = record { first = c₁; second = c₂; sides = f₁; room = leb-false mostWires (length (K .wires)) h₁ }
 
-module _ (b s w : List ℕ) (h : Held) (wf : SketchWf b s w h) (x : SketchPort) (o : ℕ) (y : SketchPort) (r : ℕ) where
-  pub ends-refused : {j : Judged} {q : Reason} {a : LinkedIn} → j ≡ judgeEnds (planIn b s w h) x o y r → j ≡ judged.Refused q → a ≡ refusedWith h q → Leaves linkNumbers (linkSubports (planIn b s w h) x o y r) b s w (a .held) (a .answer)
+module _ (b s w : List ℕ) (h : Totals) (wf : SketchWf b s w h) (x : SketchPort) (o : ℕ) (y : SketchPort) (r : ℕ) where
+  pub ends-refused : {j : Judged} {q : Reason} {a : LinkedLent} → j ≡ judgeEnds (planIn b s w h) x o y r → j ≡ judged.Refused q → a ≡ refusedWith h q → Leaves linkNumbers (linkSubports (planIn b s w h) x o y r) b s w (a .totals) (a .answer)
   ends-refused e f p = refused-as wf (link-as-judged (planIn b s w h) x o y r ∙ ap (linkAs (planIn b s w h) x o y r) (sym e ∙ f)) p
 
   module _ {j : Judged} (e : j ≡ judgeEnds (planIn b s w h) x o y r) (f : j ≡ judged.Fine) where
@@ -218,7 +218,7 @@ module _ (b s w : List ℕ) (h : Held) (wf : SketchWf b s w h) (x : SketchPort) 
     ends-room = let k = fine .room in let n = length-wires w (h .wires) in omega arith
 
     pub ends-linked : {p q : ℕ} → p ≡ offsetRead (planIn b s w h) x o → q ≡ offsetRead (planIn b s w h) y r → {row : Row} → wireOf row ≡ wireOfSides (x .side) (placeNamed x p) (placeNamed y q) →
-        {w′ : List ℕ} → w′ ≡ putRow w (h .wires) row → {h′ : Held} → h′ ≡ heldWires h (h .wires + 1) →
+        {w′ : List ℕ} → w′ ≡ putRow w (h .wires) row → {h′ : Totals} → h′ ≡ heldWires h (h .wires + 1) →
         Leaves linkNumbers (linkSubports (planIn b s w h) x o y r) b s w′ h′ (link.Linked (end# x p) (end# y q))
     ends-linked {p} {q} u v {row} c {w′} k {h′} l =
         let t = wire-laid x y p q wf refl ends-room c k l in

@@ -26,8 +26,8 @@ use Rattle.sketches.specs.BlockSteps.{leaves-as, tables-wf}
 use Rattle.sketches.specs.SplitSteps.{IsPlan, wires-within}
 use Rattle.sketches.specs.SketchTables.{planIn, heldWires, SketchWf, Leaves}
 use Rattle.sketches.specs.declared.rows.Row.{Row}
-use Rattle.sketches.specs.declared.held.Held.{Held}
-use Rattle.sketches.specs.declared.held.LinkedIn.{LinkedIn}
+use Rattle.sketches.specs.declared.totals.Totals.{Totals}
+use Rattle.sketches.specs.declared.totals.LinkedLent.{LinkedLent}
 use Rattle.sketches.specs.declared.sketch.SketchPort.{SketchPort}
 use Rattle.sketches.specs.declared.sketch.Reason.{Reason}
 use Rattle.sketches.specs.declared.sketch.Reason.the-variants.{UnknownPort, NoRoom, UnknownSecondPort, SameSide, InputWired}
@@ -46,7 +46,7 @@ pub wired-in : (K : Plan) (x : SketchPort) {d : Direction} → d ≡ Incoming �
 wired-in K x e h = (rw h) ∙ ap (wiredSide K x) (sym e)
 
 -- a port is there, as the table of blocks has it
-pub there-is : (b s w : List ℕ) (h : Held) (x : SketchPort) {r t : Bool} → r ≡ ltb (x .position) (portsOnSide (blocksIn b (h .blocks)) (x .block) (x .side)) → r ≡ t → isThere (planIn b s w h) x ≡ t
+pub there-is : (b s w : List ℕ) (h : Totals) (x : SketchPort) {r t : Bool} → r ≡ ltb (x .position) (portsOnSide (blocksIn b (h .blocks)) (x .block) (x .side)) → r ≡ t → isThere (planIn b s w h) x ≡ t
 unfolding isThere
 there-is b s w h x e p = sym e ∙ p
 
@@ -85,7 +85,7 @@ row-out x y o r e h = go (x .side) (y .side) e h
     go Incoming f p q = absurd (let z : _≡_ {A = ℕ} 0 1 = cc in omega arith)
 
 -- one more wire in the tables of a plan
-pub wire-laid : (x y : SketchPort) (o r : ℕ) {b s w w′ : List ℕ} {h h′ : Held} {K : Plan} {row : Row} → SketchWf b s w h → planIn b s w h ≡ K → h .wires < rowSlots →
+pub wire-laid : (x y : SketchPort) (o r : ℕ) {b s w w′ : List ℕ} {h h′ : Totals} {K : Plan} {row : Row} → SketchWf b s w h → planIn b s w h ≡ K → h .wires < rowSlots →
     wireOf row ≡ wireOfSides (x .side) (placeNamed x o) (placeNamed y r) → w′ ≡ putRow w (h .wires) row → h′ ≡ heldWires h (h .wires + 1) →
     (planIn b s w′ h′ ≡ withWire K x o y r) × Table w′
 wire-laid x y o r {b} {s} {w} {w′} {h} {h′} {K} {row} wf e l c p q = (
@@ -96,28 +96,28 @@ wire-laid x y o r {b} {s} {w} {w′} {h} {h′} {K} {row} wf e l c p q = (
 )
 
 -- the second port is there after the first was made ready
-pub both-there : (b s w : List ℕ) (h : Held) (x y : SketchPort) {b₁ s₁ w₁ : List ℕ} {h₁ : Held} → IsPlan (ready (planIn b s w h) x) b₁ s₁ w₁ h₁ → isThere (planIn b s w h) y ≡ true →
+pub both-there : (b s w : List ℕ) (h : Totals) (x y : SketchPort) {b₁ s₁ w₁ : List ℕ} {h₁ : Totals} → IsPlan (ready (planIn b s w h) x) b₁ s₁ w₁ h₁ → isThere (planIn b s w h) y ≡ true →
     SketchWf b₁ s₁ w₁ h₁ × (isThere (planIn b₁ s₁ w₁ h₁) y ≡ true)
 both-there b s w h x y p e = (p .wf, ap (λ (k : Plan). isThere k y) (p .plan) ∙ ready-there (planIn b s w h) x y ∙ e)
 
 -- Both ports are linked.
 
-pub record Linkable (b s w : List ℕ) (h : Held) (x y : SketchPort) : Type 0 where
+pub record Linkable (b s w : List ℕ) (h : Totals) (x y : SketchPort) : Type 0 where
   pub wf : SketchWf b s w h
   pub first : isThere (planIn b s w h) x ≡ true
   pub second : isThere (planIn b s w h) y ≡ true
   pub sides : sameSide (x .side) (y .side) ≡ false
   pub room : h .wires < rowSlots
 
-module _ (b s w : List ℕ) (h : Held) (x y : SketchPort) (l : Linkable b s w h x y) where
+module _ (b s w : List ℕ) (h : Totals) (x y : SketchPort) (l : Linkable b s w h x y) where
   pub offset-fits : (z : SketchPort) {o : ℕ} → o ≡ offsetReady (planIn b s w h) z → o < rowSlots
   offset-fits z e = let k = offset-within (planIn b s w h) z in let n = length-wires w (h .wires) in let m = l .room in omega arith
 
-  module _ {b₁ s₁ w₁ : List ℕ} {h₁ : Held} (p : IsPlan (ready (planIn b s w h) x) b₁ s₁ w₁ h₁) where
+  module _ {b₁ s₁ w₁ : List ℕ} {h₁ : Totals} (p : IsPlan (ready (planIn b s w h) x) b₁ s₁ w₁ h₁) where
     pub second-there : SketchWf b₁ s₁ w₁ h₁ × (isThere (planIn b₁ s₁ w₁ h₁) y ≡ true)
     second-there = both-there b s w h x y p (l .second)
 
-    module _ {b₂ s₂ w₂ : List ℕ} {h₂ : Held} (q : IsPlan (ready (planIn b₁ s₁ w₁ h₁) y) b₂ s₂ w₂ h₂) where
+    module _ {b₂ s₂ w₂ : List ℕ} {h₂ : Totals} (q : IsPlan (ready (planIn b₁ s₁ w₁ h₁) y) b₂ s₂ w₂ h₂) where
       both : planIn b₂ s₂ w₂ h₂ ≡ ready (ready (planIn b s w h) x) y
       both = q .plan ∙ ap (λ (k : Plan). ready k y) (p .plan)
 
@@ -130,7 +130,7 @@ module _ (b s w : List ℕ) (h : Held) (x y : SketchPort) (l : Linkable b s w h 
           omega arith
 
       pub both-linked : {o r : ℕ} → o ≡ offsetReady (planIn b s w h) x → r ≡ offsetReady (planIn b s w h) y → {row : Row} → wireOf row ≡ wireOfSides (x .side) (placeNamed x o) (placeNamed y r) →
-          {w₃ : List ℕ} → w₃ ≡ putRow w₂ (h₂ .wires) row → {h₃ : Held} → h₃ ≡ heldWires h₂ (h₂ .wires + 1) →
+          {w₃ : List ℕ} → w₃ ≡ putRow w₂ (h₂ .wires) row → {h₃ : Totals} → h₃ ≡ heldWires h₂ (h₂ .wires + 1) →
           Leaves linkNumbers (bothLinked (planIn b s w h) x y) b₂ s₂ w₃ h₃ (link.Linked (end# x o) (end# y r))
       both-linked {o} {r} f g {row} c {w₃} u {h₃} v =
           let t = wire-laid x y o r (q .wf) both still-room c u v in
@@ -143,17 +143,17 @@ module _ (b s w : List ℕ) (h : Held) (x y : SketchPort) (l : Linkable b s w h 
 
 -- The calls, by what they are refused with.
 
-abbrev pub refusedWith : Held → Reason → LinkedIn
-refusedWith h r = record { held = h; answer = link.Refused r }
+abbrev pub refusedWith : Totals → Reason → LinkedLent
+refusedWith h r = record { totals = h; answer = link.Refused r }
 
 -- a refusal that leaves the tables as they were, and one that leaves what was made ready
-pub stub-as : {called : Sketched LinkAnswer} {K : Plan} {b s w : List ℕ} {h : Held} {a : LinkedIn} {r : Reason} → IsPlan K b s w h → called ≡ leaves K (link.Refused r) → a ≡ refusedWith h r →
-    Leaves linkNumbers called b s w (a .held) (a .answer)
+pub stub-as : {called : Sketched LinkAnswer} {K : Plan} {b s w : List ℕ} {h : Totals} {a : LinkedLent} {r : Reason} → IsPlan K b s w h → called ≡ leaves K (link.Refused r) → a ≡ refusedWith h r →
+    Leaves linkNumbers called b s w (a .totals) (a .answer)
 stub-as {called} {K} {b} {s} {w} {h} {a} {r} q e p =
-    subst (λ (z : LinkedIn). Leaves linkNumbers called b s w (z .held) (z .answer)) (sym p) (leaves-as K (link.Refused r) e (q .plan) refl (q .wf))
+    subst (λ (z : LinkedLent). Leaves linkNumbers called b s w (z .totals) (z .answer)) (sym p) (leaves-as K (link.Refused r) e (q .plan) refl (q .wf))
 
-pub refused-as : {called : Sketched LinkAnswer} {b s w : List ℕ} {h : Held} {a : LinkedIn} {r : Reason} → SketchWf b s w h → called ≡ leaves (planIn b s w h) (link.Refused r) → a ≡ refusedWith h r →
-    Leaves linkNumbers called b s w (a .held) (a .answer)
+pub refused-as : {called : Sketched LinkAnswer} {b s w : List ℕ} {h : Totals} {a : LinkedLent} {r : Reason} → SketchWf b s w h → called ≡ leaves (planIn b s w h) (link.Refused r) → a ≡ refusedWith h r →
+    Leaves linkNumbers called b s w (a .totals) (a .answer)
 refused-as wf e p = stub-as (record { plan = refl; wf = wf }) e p
 
 module _ (K : Plan) (x y : SketchPort) where
@@ -207,46 +207,46 @@ module _ (K : Plan) (x y : SketchPort) where
 
 -- Linking over the tables.
 
-module _ (b s w : List ℕ) (h : Held) (wf : SketchWf b s w h) (x y : SketchPort) where
+module _ (b s w : List ℕ) (h : Totals) (wf : SketchWf b s w h) (x y : SketchPort) where
   abbrev K : Plan
   K = planIn b s w h
 
-  pub linked-unknown : {a : LinkedIn} → isThere K x ≡ false → a ≡ refusedWith h UnknownPort → Leaves linkNumbers (linkPorts K x y) b s w (a .held) (a .answer)
+  pub linked-unknown : {a : LinkedLent} → isThere K x ≡ false → a ≡ refusedWith h UnknownPort → Leaves linkNumbers (linkPorts K x y) b s w (a .totals) (a .answer)
   linked-unknown e p = refused-as wf (link-unknown K x y e) p
 
-  pub linked-taken : {a : LinkedIn} → isThere K x ≡ true → inputTaken K x y ≡ true → a ≡ refusedWith h InputWired → Leaves linkNumbers (linkPorts K x y) b s w (a .held) (a .answer)
+  pub linked-taken : {a : LinkedLent} → isThere K x ≡ true → inputTaken K x y ≡ true → a ≡ refusedWith h InputWired → Leaves linkNumbers (linkPorts K x y) b s w (a .totals) (a .answer)
   linked-taken e f p = refused-as wf (link-taken K x y e f) p
 
-  pub linked-second : {a : LinkedIn} → isThere K x ≡ true → inputTaken K x y ≡ false → isThere K y ≡ false → {b′ s′ w′ : List ℕ} {h′ : Held} → IsPlan (ready K x) b′ s′ w′ h′ → a ≡ refusedWith h′ UnknownSecondPort →
-      Leaves linkNumbers (linkPorts K x y) b′ s′ w′ (a .held) (a .answer)
+  pub linked-second : {a : LinkedLent} → isThere K x ≡ true → inputTaken K x y ≡ false → isThere K y ≡ false → {b′ s′ w′ : List ℕ} {h′ : Totals} → IsPlan (ready K x) b′ s′ w′ h′ → a ≡ refusedWith h′ UnknownSecondPort →
+      Leaves linkNumbers (linkPorts K x y) b′ s′ w′ (a .totals) (a .answer)
   linked-second e f g q p = stub-as q (link-second K x y e f g) p
 
-  pub linked-sides : {a : LinkedIn} → isThere K x ≡ true → inputTaken K x y ≡ false → isThere K y ≡ true → sameSide (x .side) (y .side) ≡ true →
-      {b₁ s₁ w₁ : List ℕ} {h₁ : Held} → IsPlan (ready K x) b₁ s₁ w₁ h₁ → {b′ s′ w′ : List ℕ} {h′ : Held} → IsPlan (ready (planIn b₁ s₁ w₁ h₁) y) b′ s′ w′ h′ → a ≡ refusedWith h′ SameSide →
-      Leaves linkNumbers (linkPorts K x y) b′ s′ w′ (a .held) (a .answer)
+  pub linked-sides : {a : LinkedLent} → isThere K x ≡ true → inputTaken K x y ≡ false → isThere K y ≡ true → sameSide (x .side) (y .side) ≡ true →
+      {b₁ s₁ w₁ : List ℕ} {h₁ : Totals} → IsPlan (ready K x) b₁ s₁ w₁ h₁ → {b′ s′ w′ : List ℕ} {h′ : Totals} → IsPlan (ready (planIn b₁ s₁ w₁ h₁) y) b′ s′ w′ h′ → a ≡ refusedWith h′ SameSide →
+      Leaves linkNumbers (linkPorts K x y) b′ s′ w′ (a .totals) (a .answer)
   linked-sides e f g d q r p = stub-as (record { plan = r .plan ∙ ap (λ (k : Plan). ready k y) (q .plan); wf = r .wf }) (link-sides K x y e f g d) p
 
-  pub linked-full : {a : LinkedIn} → isThere K x ≡ true → inputTaken K x y ≡ false → isThere K y ≡ true → sameSide (x .side) (y .side) ≡ false → rowSlots ≤ h .wires → a ≡ refusedWith h NoRoom →
-      Leaves linkNumbers (linkPorts K x y) b s w (a .held) (a .answer)
+  pub linked-full : {a : LinkedLent} → isThere K x ≡ true → inputTaken K x y ≡ false → isThere K y ≡ true → sameSide (x .side) (y .side) ≡ false → rowSlots ≤ h .wires → a ≡ refusedWith h NoRoom →
+      Leaves linkNumbers (linkPorts K x y) b s w (a .totals) (a .answer)
   linked-full e f g d l p = let n = length-wires w (h .wires) in refused-as wf (link-full K x y e f g d (omega arith)) p
 
   pub linkable : isThere K x ≡ true → isThere K y ≡ true → sameSide (x .side) (y .side) ≡ false → h .wires < rowSlots → Linkable b s w h x y
   linkable e g d l = record { wf = wf; first = e; second = g; sides = d; room = l }
 
-  pub linked-made : {a : LinkedIn} {b′ s′ w′ : List ℕ} → isThere K x ≡ true → inputTaken K x y ≡ false → isThere K y ≡ true → sameSide (x .side) (y .side) ≡ false → h .wires < rowSlots →
-      Leaves linkNumbers (bothLinked K x y) b′ s′ w′ (a .held) (a .answer) → Leaves linkNumbers (linkPorts K x y) b′ s′ w′ (a .held) (a .answer)
+  pub linked-made : {a : LinkedLent} {b′ s′ w′ : List ℕ} → isThere K x ≡ true → inputTaken K x y ≡ false → isThere K y ≡ true → sameSide (x .side) (y .side) ≡ false → h .wires < rowSlots →
+      Leaves linkNumbers (bothLinked K x y) b′ s′ w′ (a .totals) (a .answer) → Leaves linkNumbers (linkPorts K x y) b′ s′ w′ (a .totals) (a .answer)
   linked-made {a} {b′} {s′} {w′} e f g d l p =
       let n = length-wires w (h .wires) in
-      subst (λ (c : Sketched LinkAnswer). Leaves linkNumbers c b′ s′ w′ (a .held) (a .answer)) (sym (link-made K x y e f g d (omega arith))) p
+      subst (λ (c : Sketched LinkAnswer). Leaves linkNumbers c b′ s′ w′ (a .totals) (a .answer)) (sym (link-made K x y e f g d (omega arith))) p
 
-  pub clean-refused : {a : LinkedIn} (r : Reason) → linkClean K x y ≡ leaves K (link.Refused r) → a ≡ refusedWith h r → Leaves linkNumbers (linkClean K x y) b s w (a .held) (a .answer)
+  pub clean-refused : {a : LinkedLent} (r : Reason) → linkClean K x y ≡ leaves K (link.Refused r) → a ≡ refusedWith h r → Leaves linkNumbers (linkClean K x y) b s w (a .totals) (a .answer)
   clean-refused r e p = refused-as wf e p
 
-  pub clean-linked : {a : LinkedIn} {b′ s′ w′ : List ℕ} → isThere K x ≡ true → inputTaken K x y ≡ false → isThere K y ≡ true → sameSide (x .side) (y .side) ≡ false → h .wires < rowSlots →
-      Leaves linkNumbers (bothLinked K x y) b′ s′ w′ (a .held) (a .answer) → Leaves linkNumbers (linkClean K x y) b′ s′ w′ (a .held) (a .answer)
+  pub clean-linked : {a : LinkedLent} {b′ s′ w′ : List ℕ} → isThere K x ≡ true → inputTaken K x y ≡ false → isThere K y ≡ true → sameSide (x .side) (y .side) ≡ false → h .wires < rowSlots →
+      Leaves linkNumbers (bothLinked K x y) b′ s′ w′ (a .totals) (a .answer) → Leaves linkNumbers (linkClean K x y) b′ s′ w′ (a .totals) (a .answer)
   clean-linked {a} {b′} {s′} {w′} e f g d l p =
       let n = length-wires w (h .wires) in
-      subst (λ (c : Sketched LinkAnswer). Leaves linkNumbers c b′ s′ w′ (a .held) (a .answer)) (sym (clean-made K x y e f g d (omega arith))) p
+      subst (λ (c : Sketched LinkAnswer). Leaves linkNumbers c b′ s′ w′ (a .totals) (a .answer)) (sym (clean-made K x y e f g d (omega arith))) p
 
   pub no-wire-left : rowSlots ≤ h .wires → mostWires ≤ length (K .wires)
   no-wire-left l = let n = length-wires w (h .wires) in omega arith

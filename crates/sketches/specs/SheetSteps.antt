@@ -15,8 +15,8 @@ use Rattle.sketches.specs.PlanCalls.{Sketched, leaves, linkPorts, sheetE
 use Rattle.sketches.specs.PlanNumbers.{linkNumbers, sheetNumbers}
 use Rattle.sketches.specs.BlockSteps.{leaves-as}
 use Rattle.sketches.specs.SketchTables.{planIn, SketchWf, Leaves}
-use Rattle.sketches.specs.declared.held.Held.{Held}
-use Rattle.sketches.specs.declared.sheet.SheetIn.{SheetIn}
+use Rattle.sketches.specs.declared.totals.Totals.{Totals}
+use Rattle.sketches.specs.declared.sheet.SheetLent.{SheetLent}
 use Rattle.sketches.specs.declared.sketch.SketchPort.{SketchPort}
 use Rattle.sketches.specs.declared.sketch.SheetEntry.{SheetEntry}
 use Rattle.sketches.specs.declared.sketch.Reason.the-variants.{NoRoom}
@@ -47,8 +47,8 @@ abbrev pub entriesOf : List SheetEntry → ℕ → List SheetEntry
 entriesOf es count = entriesFrom es 0 (min count sheetPlaces)
 
 -- what a sheet leaves: the plan, the answer, and in each entry its own answer; a sheet that is too long keeps its entries
-pub record SheetLeaves (K : Plan) (entries : List SheetEntry) (count : ℕ) (b s w : List ℕ) (r : SheetIn) : Type 0 where
-  pub left : Leaves sheetNumbers (sheet K (entriesOf entries count)) b s w (r .held) (r .answer)
+pub record SheetLeaves (K : Plan) (entries : List SheetEntry) (count : ℕ) (b s w : List ℕ) (r : SheetLent) : Type 0 where
+  pub left : Leaves sheetNumbers (sheet K (entriesOf entries count)) b s w (r .totals) (r .answer)
   pub answers : min count sheetPlaces ≤ sheetEntries → take (min count sheetPlaces) (r .entries) ≡ sheetAnswered K (entriesOf entries count)
   pub untouched : sheetEntries < min count sheetPlaces → r .entries ≡ entries
 
@@ -65,8 +65,8 @@ sheet-done : (K : Plan) (l : List SheetEntry) → length l ≤ sheetEntries → 
 unfolding sheet
 sheet-done K l h = rw (le-ltb sheetEntries (length l) h)
 
-pub too-long : (b s w : List ℕ) (h : Held) → SketchWf b s w h → (es : List SheetEntry) (count : ℕ) {n : ℕ} → n ≡ min count sheetPlaces → sheetEntries < n →
-    SheetLeaves (planIn b s w h) es count b s w (record { held = h; answer = sheets.TooManyEntries; entries = es })
+pub too-long : (b s w : List ℕ) (h : Totals) → SketchWf b s w h → (es : List SheetEntry) (count : ℕ) {n : ℕ} → n ≡ min count sheetPlaces → sheetEntries < n →
+    SheetLeaves (planIn b s w h) es count b s w (record { totals = h; answer = sheets.TooManyEntries; entries = es })
 too-long b s w h wf es count e l =
     let k = length-entries es 0 (min count sheetPlaces) in
     record {
@@ -77,14 +77,14 @@ too-long b s w h wf es count e l =
 
 -- The loop.
 
-pub record Sheeting (K : Plan) (es : List SheetEntry) (n : ℕ) (b s w : List ℕ) (h : Held) (done : List SheetEntry) (i : ℕ) : Type 0 where
+pub record Sheeting (K : Plan) (es : List SheetEntry) (n : ℕ) (b s w : List ℕ) (h : Totals) (done : List SheetEntry) (i : ℕ) : Type 0 where
   pub within : i ≤ n
   pub wf : SketchWf b s w h
   pub long : length done ≡ sheetPlaces
   pub plan : sheetPlan (planIn b s w h) (entriesFrom es i (n - i)) ≡ sheetPlan K (entriesFrom es 0 n)
   pub answers : take i done ++ sheetAnswered (planIn b s w h) (entriesFrom es i (n - i)) ≡ sheetAnswered K (entriesFrom es 0 n)
 
-pub sheeting-begins : (b s w : List ℕ) (h : Held) → SketchWf b s w h → (es : List SheetEntry) (n : ℕ) {e : SheetEntry} → Sheeting (planIn b s w h) es n b s w h (replicate sheetPlaces e) 0
+pub sheeting-begins : (b s w : List ℕ) (h : Totals) → SketchWf b s w h → (es : List SheetEntry) (n : ℕ) {e : SheetEntry} → Sheeting (planIn b s w h) es n b s w h (replicate sheetPlaces e) 0
 sheeting-begins b s w h wf es n {e} =
     let z : n - 0 ≡ n = omega arith in
     record { within = omega arith; wf = wf; long = length-replicate {A = SheetEntry} sheetPlaces e; plan = rw z; answers = rw z }
@@ -111,8 +111,8 @@ one-more es i n h = let p : n - i ≡ suc (n - (i + 1)) = omega arith in (ap (en
     go : (m : ℕ) → entriesFrom es i (suc m) ≡ getD es i pastEntry ∷ entriesFrom es (i + 1) m
     go m = first es i m ∙ ap (λ (j : ℕ). getD es i pastEntry ∷ entriesFrom es j m) (sym (add-one i))
 
-pub sheeting-turns : {K : Plan} {es : List SheetEntry} {n : ℕ} {b s w : List ℕ} {h : Held} {done : List SheetEntry} {i : ℕ} → Sheeting K es n b s w h done i → i < n → n ≤ sheetPlaces →
-    {x y : SketchPort} → x ≡ getD es i pastEntry .from → y ≡ getD es i pastEntry .to → {b′ s′ w′ : List ℕ} {h′ : Held} {a : LinkAnswer} →
+pub sheeting-turns : {K : Plan} {es : List SheetEntry} {n : ℕ} {b s w : List ℕ} {h : Totals} {done : List SheetEntry} {i : ℕ} → Sheeting K es n b s w h done i → i < n → n ≤ sheetPlaces →
+    {x y : SketchPort} → x ≡ getD es i pastEntry .from → y ≡ getD es i pastEntry .to → {b′ s′ w′ : List ℕ} {h′ : Totals} {a : LinkAnswer} →
     Leaves linkNumbers (linkPorts (planIn b s w h) x y) b′ s′ w′ h′ a →
     Sheeting K es n b′ s′ w′ h′ (set done i (record { from = x; to = y; answer = a })) (i + 1)
 unfolding sheetPlan sheetAnswered
@@ -138,8 +138,8 @@ sheeting-turns {K} {es} {n} {b} {s} {w} {h} {done} {i} c l m {x} {y} p q {b′} 
           ∙ c .answers;
     }
 
-pub sheeting-ends : (b₀ s₀ w₀ : List ℕ) (h₀ : Held) {es : List SheetEntry} (count : ℕ) {n : ℕ} {b s w : List ℕ} {h : Held} {done : List SheetEntry} {i : ℕ} → n ≡ min count sheetPlaces → n ≤ sheetEntries →
-    Sheeting (planIn b₀ s₀ w₀ h₀) es n b s w h done i → n ≤ i → SheetLeaves (planIn b₀ s₀ w₀ h₀) es count b s w (record { held = h; answer = sheets.Done; entries = done })
+pub sheeting-ends : (b₀ s₀ w₀ : List ℕ) (h₀ : Totals) {es : List SheetEntry} (count : ℕ) {n : ℕ} {b s w : List ℕ} {h : Totals} {done : List SheetEntry} {i : ℕ} → n ≡ min count sheetPlaces → n ≤ sheetEntries →
+    Sheeting (planIn b₀ s₀ w₀ h₀) es n b s w h done i → n ≤ i → SheetLeaves (planIn b₀ s₀ w₀ h₀) es count b s w (record { totals = h; answer = sheets.Done; entries = done })
 sheeting-ends b₀ s₀ w₀ h₀ {es} count {n} {b} {s} {w} {h} {done} {i} e l c k =
     let q = c .within in
     let at : i ≡ n = omega arith in

@@ -8,22 +8,22 @@ use Rattle.sketches.specs.Plan.{Plan, emptyPlan}
 use Rattle.sketches.specs.PlanCalls.{Sketched}
 use Rattle.sketches.specs.PlanWf.{PlanWf, empty-wf}
 use Rattle.sketches.specs.Rows.{Table, rowsIn, blocksIn, splitsIn, wiresIn}
-use Rattle.sketches.specs.declared.held.Held.{Held}
+use Rattle.sketches.specs.declared.totals.Totals.{Totals}
 
-abbrev pub newHeld : Release → Held
+abbrev pub newHeld : Release → Totals
 newHeld r = record { release = r; adds = 0; blocks = 0; splits = 0; wires = 0 }
 
-abbrev pub heldCounts : Held → ℕ → ℕ → ℕ → Held
-heldCounts h b s w = record { release = h .release; adds = h .adds; blocks = b; splits = s; wires = w }
+abbrev pub totalsCounts : Totals → ℕ → ℕ → ℕ → Totals
+totalsCounts h b s w = record { release = h .release; adds = h .adds; blocks = b; splits = s; wires = w }
 
-abbrev pub heldSplits : Held → ℕ → Held
-heldSplits h s = heldCounts h (h .blocks) s (h .wires)
+abbrev pub heldSplits : Totals → ℕ → Totals
+heldSplits h s = totalsCounts h (h .blocks) s (h .wires)
 
-abbrev pub heldWires : Held → ℕ → Held
-heldWires h w = heldCounts h (h .blocks) (h .splits) w
+abbrev pub heldWires : Totals → ℕ → Totals
+heldWires h w = totalsCounts h (h .blocks) (h .splits) w
 
 -- the plan of three tables
-abbrev pub planIn : List ℕ → List ℕ → List ℕ → Held → Plan
+abbrev pub planIn : List ℕ → List ℕ → List ℕ → Totals → Plan
 planIn b s w h =
     record {
       release = h .release;
@@ -33,7 +33,7 @@ planIn b s w h =
       wires = wiresIn w (h .wires);
     }
 
-pub record SketchWf (b s w : List ℕ) (h : Held) : Type 0 where
+pub record SketchWf (b s w : List ℕ) (h : Totals) : Type 0 where
   pub blockTable : Table b
   pub splitTable : Table s
   pub wireTable : Table w
@@ -48,7 +48,7 @@ pub new-wf : (b s w : List ℕ) (r : Release) → Table b → Table s → Table 
 new-wf b s w r x y z = record { blockTable = x; splitTable = y; wireTable = z; plan = subst PlanWf (sym (new-plan b s w r)) (empty-wf r) }
 
 -- what a call leaves: the tables, the numbers beside them and the answer
-pub record Leaves {A : Type 0} (numbers : A → List ℕ) (called : Sketched A) (b s w : List ℕ) (h : Held) (answer : A) : Type 0 where
+pub record Leaves {A : Type 0} (numbers : A → List ℕ) (called : Sketched A) (b s w : List ℕ) (h : Totals) (answer : A) : Type 0 where
   pub plan : planIn b s w h ≡ called .plan
   pub answered : answer ≡ called .answer
   pub numbered : numbers answer ≡ numbers (called .answer)

@@ -18,7 +18,7 @@ use Rattle.sketches.specs.CallsWf.{subports-within}
 use Rattle.sketches.specs.Rows.{rowAt, rowsIn, blocksIn, wiresIn, wireOf, hits, newestHit, oldestHit}
 use Rattle.sketches.specs.SketchTables.{planIn, SketchWf}
 use Rattle.sketches.specs.declared.rows.Row.{Row}
-use Rattle.sketches.specs.declared.held.Held.{Held}
+use Rattle.sketches.specs.declared.totals.Totals.{Totals}
 use Rattle.sketches.specs.declared.tests.Test.{Test}
 use Rattle.sketches.specs.declared.walks.Walk.{Walk}
 use Rattle.sketches.specs.declared.walks.SketchWire.{SketchWire}
@@ -130,7 +130,7 @@ row-among t (suc n) i h = go (eqb i n) refl (row-among t n i)
     go true e rest = inl (ap (rowAt t) (eqb-true i n e))
     go false e rest = let d = eqb-false i n e in inr (rest (omega (arith, d)))
 
-pub row-offsets : {b s w : List ℕ} {h : Held} (i : ℕ) → SketchWf b s w h → i < h .wires → (wireOf (rowAt w i) .out .offset < mostSubports) × (wireOf (rowAt w i) .into .offset < mostSubports)
+pub row-offsets : {b s w : List ℕ} {h : Totals} (i : ℕ) → SketchWf b s w h → i < h .wires → (wireOf (rowAt w i) .out .offset < mostSubports) × (wireOf (rowAt w i) .into .offset < mostSubports)
 row-offsets {b} {s} {w} {h} i wf l = wf .plan .offsets (wireOf (rowAt w i)) (map-member wireOf (rowAt w i) (rowsIn w (h .wires)) (row-among w (h .wires) i l))
 
 module _ (t : List ℕ) (n : ℕ) (w : Walk) {m k : ℕ} (p : m ≡ min (w .high) n) where

@@ -25,7 +25,7 @@ use Rattle.sketches.specs.Offsets.{length-rows, length-wires}
 use Rattle.sketches.specs.BlockSteps.{tables-wf}
 use Rattle.sketches.specs.SketchTables.{planIn, heldSplits, SketchWf}
 use Rattle.sketches.specs.declared.rows.Row.{Row}
-use Rattle.sketches.specs.declared.held.Held.{Held}
+use Rattle.sketches.specs.declared.totals.Totals.{Totals}
 use Rattle.sketches.specs.declared.sketch.SketchPort.{SketchPort}
 use Rattle.sketches.specs.declared.tests.EndTest.the-variants as ask
 use Rattle.sketches.specs.declared.tests.Test.the-variants as test
@@ -99,17 +99,17 @@ pub ready-more : (c o : ℕ) {n m : ℕ} → (c ≡ 0 → ⊥) → n ≡ c → m
 ready-more c o h e p = p ∙ rw (ne-eqb c 0 h, e, add-one o)
 
 -- a plan, in these tables
-pub record IsPlan (K : Plan) (b s w : List ℕ) (h : Held) : Type 0 where
+pub record IsPlan (K : Plan) (b s w : List ℕ) (h : Totals) : Type 0 where
   pub plan : planIn b s w h ≡ K
   pub wf : SketchWf b s w h
 
-pub splits-within : {b s w : List ℕ} {h : Held} → SketchWf b s w h → h .splits ≤ rowSlots
+pub splits-within : {b s w : List ℕ} {h : Totals} → SketchWf b s w h → h .splits ≤ rowSlots
 splits-within {b} {s} {w} {h} wf = let e = length-splits s (h .splits) in let k = splits-fit (planIn b s w h) (wf .plan) in omega arith
 
-pub wires-within : {b s w : List ℕ} {h : Held} → SketchWf b s w h → h .wires ≤ mostWires
+pub wires-within : {b s w : List ℕ} {h : Totals} → SketchWf b s w h → h .wires ≤ mostWires
 wires-within {b} {s} {w} {h} wf = let e = length-wires w (h .wires) in let k = wf .plan .wires in omega arith
 
-module _ (b s w : List ℕ) (h : Held) (wf : SketchWf b s w h) (p : SketchPort) (there : isThere (planIn b s w h) p ≡ true) (c : ℕ) (within : c ≤ mostSubports) where
+module _ (b s w : List ℕ) (h : Totals) (wf : SketchWf b s w h) (p : SketchPort) (there : isThere (planIn b s w h) p ≡ true) (c : ℕ) (within : c ≤ mostSubports) where
   pub room-for : SplitsRoom s (h .splits) p c
   room-for =
       let k : length (setSubports (planIn b s w h) p c .splits) ≤ rowSlots = splits-fit (setSubports (planIn b s w h) p c) (subports-wf (planIn b s w h) p c (wf .plan) there within) in
@@ -121,7 +121,7 @@ module _ (b s w : List ℕ) (h : Held) (wf : SketchWf b s w h) (p : SketchPort) 
       let e : planIn b s′ w (heldSplits h n) ≡ setSubports (planIn b s w h) p c = ap (withSplits (planIn b s w h)) (x .0) ∙ sym (set-is-with (planIn b s w h) p c) in
       record { plan = e; wf = tables-wf (wf .blockTable) (x .1) (wf .wireTable) e (subports-wf (planIn b s w h) p c (wf .plan) there within) }
 
-module _ (b s w : List ℕ) (h : Held) (wf : SketchWf b s w h) (p : SketchPort) where
+module _ (b s w : List ℕ) (h : Totals) (wf : SketchWf b s w h) (p : SketchPort) where
   pub ready-offset : {o : ℕ} → o ≡ offsetReady (planIn b s w h) p → o ≤ mostWires
   ready-offset e = let k = offset-within (planIn b s w h) p in let l = wf .plan .wires in omega arith
 
@@ -138,7 +138,7 @@ module _ (b s w : List ℕ) (h : Held) (wf : SketchWf b s w h) (p : SketchPort) 
     pub ready-room : SplitsRoom s (h .splits) p n
     ready-room = room-for b s w h wf p there n number-within
 
-    pub port-ready : {s′ : List ℕ} {m : ℕ} → (splitsIn s′ m ≡ splitsWith (splitsIn s (h .splits)) p n) × Table s′ → {h′ : Held} → h′ ≡ heldSplits h m → IsPlan (ready (planIn b s w h) p) b s′ w h′
+    pub port-ready : {s′ : List ℕ} {m : ℕ} → (splitsIn s′ m ≡ splitsWith (splitsIn s (h .splits)) p n) × Table s′ → {h′ : Totals} → h′ ≡ heldSplits h m → IsPlan (ready (planIn b s w h) p) b s′ w h′
     unfolding ready
     port-ready {s′} {m} x {h′} q =
         subst (IsPlan (setSubports (planIn b s w h) p (subportsReady (subportsOf (planIn b s w h) p) (offsetReady (planIn b s w h) p))) b s′ w) (sym q)

@@ -21,7 +21,7 @@ use Rattle.sketches.specs.RowReads.{filter-map}
 use Rattle.sketches.specs.SketchTables.{planIn}
 use Rattle.sketches.specs.SketchWalks.{wholeWalk, wireHeld, wireBelow, wireAbove, blockBelow, nextWire, previousWire, nextBlock, newest-high, oldest-high}
 use Rattle.sketches.specs.declared.rows.Row.{Row}
-use Rattle.sketches.specs.declared.held.Held.{Held}
+use Rattle.sketches.specs.declared.totals.Totals.{Totals}
 use Rattle.sketches.specs.declared.tests.EndTest.the-variants as ask
 use Rattle.sketches.specs.declared.tests.Test.{Test}
 use Rattle.sketches.specs.declared.tests.Test.the-variants as test
@@ -208,7 +208,7 @@ filter-twice {A} f g (x ∷ l) = go (f x) (g x) refl (filter-twice f g l)
     go true false p e = rw p e
     go false b p e = e
 
-module _ (b s w : List ℕ) (h : Held) where
+module _ (b s w : List ℕ) (h : Totals) where
   listed : (g : Wire → Bool) (x : Test) → ((r : Row) → hits x r ≡ g (wireOf r)) → wiresLeft w (h .wires) (wholeWalk (h .wires) x) ≡ map wireHeld (filter g (planIn b s w h .wires))
   listed g x e =
       ap (map (λ r. wireHeld (wireOf r))) (whole-left w (h .wires) x ∙ filter-same (hits x) (λ r. g (wireOf r)) (rowsIn w (h .wires)) (λ r i. e r))
@@ -270,7 +270,7 @@ module _ (t : List ℕ) (n : ℕ) (w : Walk) where
       go (suc k) p q = absurd (let z : _≡_ {A = ℕ} 0 1 = cc in omega arith)
 
 -- the names of all blocks, where there are no more rows than a table has
-pub walk-of-blocks : (b s w : List ℕ) (h : Held) → h .blocks ≤ 3072 → namesLeft b (h .blocks) (wholeWalk (h .blocks) test.Every) ≡ blockNames (planIn b s w h)
+pub walk-of-blocks : (b s w : List ℕ) (h : Totals) → h .blocks ≤ 3072 → namesLeft b (h .blocks) (wholeWalk (h .blocks) test.Every) ≡ blockNames (planIn b s w h)
 walk-of-blocks b s w h l =
     let e : min (h .blocks) (min (h .blocks) 3072) ≡ h .blocks = omega arith in
     ap (λ (k : List Row). map (λ r. r .0) (filter (hits test.Every) k)) (ap (rowsBetween b 0) e ∙ all-rows b (h .blocks))

@@ -1,5 +1,4 @@
 // Counts and fan-outs.
-use crate::held::Held;
 use crate::ports::has_block;
 use crate::ports::is_there;
 use crate::rows::WORDS;
@@ -10,6 +9,7 @@ use crate::tables::count_rows;
 use crate::tables::ports_in_all;
 use crate::tests::EndTest;
 use crate::tests::Test;
+use crate::totals::Totals;
 use portgraph::direction::Direction;
 ghost use mathlib.Core.Path.{_≡_};
 ghost use Rattle.sketches.specs.PlanLists.{portFanOut, blockFanOut};
@@ -25,52 +25,52 @@ pub struct SketchCounts {
 }
 
 // The blocks, their ports and the wires.
-pub fn counts_in<'a>(
+pub fn counts_lent<'a>(
     blocks: &'a [u32; WORDS],
     splits: &'a [u32; WORDS],
     wires: &'a [u32; WORDS],
-    held: Held,
+    totals: Totals,
 ) -> SketchCounts
-    requires { ⌜ SketchWf (now blocks) (now splits) (now wires) held ⌝ }
-    ensures { λ r. ⌜ r ≡ countsOf (planIn (now (blocks .entry)) (now (splits .entry)) (now (wires .entry)) held) ⌝ }
+    requires { ⌜ SketchWf (now blocks) (now splits) (now wires) totals ⌝ }
+    ensures { λ r. ⌜ r ≡ countsOf (planIn (now (blocks .entry)) (now (splits .entry)) (now (wires .entry)) totals) ⌝ }
 {
     SketchCounts {
-        blocks: held.blocks,
-        ports: ports_in_all(blocks, held.blocks),
-        wires: held.wires,
+        blocks: totals.blocks,
+        ports: ports_in_all(blocks, totals.blocks),
+        wires: totals.wires,
     }
 }
 
 // The wires at a port.
-pub fn fan_out_in<'a>(
+pub fn fan_out_lent<'a>(
     blocks: &'a [u32; WORDS],
     splits: &'a [u32; WORDS],
     wires: &'a [u32; WORDS],
-    held: Held,
+    totals: Totals,
     port: SketchPort,
 ) -> CountAnswer
-    requires { ⌜ SketchWf (now blocks) (now splits) (now wires) held ⌝ }
-    ensures { λ r. ⌜ Answers countNumbers (portFanOut (planIn (now (blocks .entry)) (now (splits .entry)) (now (wires .entry)) held) port) r ⌝ }
+    requires { ⌜ SketchWf (now blocks) (now splits) (now wires) totals ⌝ }
+    ensures { λ r. ⌜ Answers countNumbers (portFanOut (planIn (now (blocks .entry)) (now (splits .entry)) (now (wires .entry)) totals) port) r ⌝ }
 {
-    if !is_there(blocks, held.blocks, port) {
+    if !is_there(blocks, totals.blocks, port) {
         return CountAnswer::Refused(Reason::UnknownPort);
     }
-    CountAnswer::Count(count_rows(wires, held.wires, Test::Wire(EndTest::AtPort(port))))
+    CountAnswer::Count(count_rows(wires, totals.wires, Test::Wire(EndTest::AtPort(port))))
 }
 
 // The wires that leave a block.
-pub fn block_fan_out_in<'a>(
+pub fn block_fan_out_lent<'a>(
     blocks: &'a [u32; WORDS],
     splits: &'a [u32; WORDS],
     wires: &'a [u32; WORDS],
-    held: Held,
+    totals: Totals,
     name: u32,
 ) -> CountAnswer
-    requires { ⌜ SketchWf (now blocks) (now splits) (now wires) held ⌝ }
-    ensures { λ r. ⌜ Answers countNumbers (blockFanOut (planIn (now (blocks .entry)) (now (splits .entry)) (now (wires .entry)) held) name) r ⌝ }
+    requires { ⌜ SketchWf (now blocks) (now splits) (now wires) totals ⌝ }
+    ensures { λ r. ⌜ Answers countNumbers (blockFanOut (planIn (now (blocks .entry)) (now (splits .entry)) (now (wires .entry)) totals) name) r ⌝ }
 {
-    if !has_block(blocks, held.blocks, name) {
+    if !has_block(blocks, totals.blocks, name) {
         return CountAnswer::Refused(Reason::UnknownBlock);
     }
-    CountAnswer::Count(count_rows(wires, held.wires, Test::Side(name, Direction::Outgoing)))
+    CountAnswer::Count(count_rows(wires, totals.wires, Test::Side(name, Direction::Outgoing)))
 }

@@ -1,11 +1,4 @@
 // Cutting, what an end is linked with, and tidying.
-use crate::held::DoneIn;
-use crate::held::EndCutIn;
-use crate::held::Held;
-use crate::held::PortCutIn;
-use crate::held::with_counts;
-use crate::held::with_splits;
-use crate::held::with_wires;
 use crate::offsets::above_wired;
 use crate::ports::is_there;
 use crate::ports::subports_of;
@@ -29,6 +22,13 @@ use crate::tests::Test;
 use crate::tests::end_hits;
 use crate::tests::in_end;
 use crate::tests::out_end;
+use crate::totals::DoneLent;
+use crate::totals::EndCutLent;
+use crate::totals::PortCutLent;
+use crate::totals::Totals;
+use crate::totals::with_counts;
+use crate::totals::with_splits;
+use crate::totals::with_wires;
 ghost use mathlib.Core.Path.{_≡_};
 ghost use Prim.Native.Nat.{_≤_};
 ghost use Rattle.sketches.specs.Plan.{farFrom};
@@ -95,91 +95,91 @@ fn end_found(far: FarEnd) -> EndAnswer
 }
 
 // Cuts each wire at a port, which is no longer split; it answers itself if it was, else the far port.
-pub fn cut_in(
+pub fn cut_lent(
     blocks: &mut [u32; WORDS],
     splits: &mut [u32; WORDS],
     wires: &mut [u32; WORDS],
-    held: Held,
+    totals: Totals,
     port: SketchPort,
-) -> PortCutIn
-    requires { ⌜ SketchWf (now blocks) (now splits) (now wires) held ⌝ }
-    ensures { λ r. ⌜ Leaves cutNumbers (cutPort (planIn (now (blocks .entry)) (now (splits .entry)) (now (wires .entry)) held) port) (now (blocks .exit)) (now (splits .exit)) (now (wires .exit)) (r .held) (r .answer) ⌝ }
+) -> PortCutLent
+    requires { ⌜ SketchWf (now blocks) (now splits) (now wires) totals ⌝ }
+    ensures { λ r. ⌜ Leaves cutNumbers (cutPort (planIn (now (blocks .entry)) (now (splits .entry)) (now (wires .entry)) totals) port) (now (blocks .exit)) (now (splits .exit)) (now (wires .exit)) (r .totals) (r .answer) ⌝ }
 {
-    if !is_there(blocks, held.blocks, port) {
-        return PortCutIn {
-            held: held,
+    if !is_there(blocks, totals.blocks, port) {
+        return PortCutLent {
+            totals: totals,
             answer: PortAnswer::Refused(Reason::UnknownPort),
         };
     }
-    let subports = subports_of(splits, held.splits, port);
-    let far = far_from(wires, held.wires, EndTest::AtPort(port));
-    let w = drop_rows(wires, held.wires, Test::Wire(EndTest::AtPort(port)));
-    let s = set_subports(splits, held.splits, port, 0);
-    let after = with_counts(held, held.blocks, s, w);
+    let subports = subports_of(splits, totals.splits, port);
+    let far = far_from(wires, totals.wires, EndTest::AtPort(port));
+    let w = drop_rows(wires, totals.wires, Test::Wire(EndTest::AtPort(port)));
+    let s = set_subports(splits, totals.splits, port, 0);
+    let after = with_counts(totals, totals.blocks, s, w);
     if subports == 0 {
-        return PortCutIn {
-            held: after,
+        return PortCutLent {
+            totals: after,
             answer: port_found(far),
         };
     }
-    PortCutIn {
-        held: after,
+    PortCutLent {
+        totals: after,
         answer: PortAnswer::Found(port),
     }
 }
 
 // What an end is linked with.
-pub fn subport_link_in<'a>(
+pub fn subport_link_lent<'a>(
     blocks: &'a [u32; WORDS],
     splits: &'a [u32; WORDS],
     wires: &'a [u32; WORDS],
-    held: Held,
+    totals: Totals,
     port: SketchPort,
     offset: u16,
 ) -> EndAnswer
-    requires { ⌜ SketchWf (now blocks) (now splits) (now wires) held ⌝ }
-    ensures { λ r. ⌜ Answers foundNumbers (subportLink (planIn (now (blocks .entry)) (now (splits .entry)) (now (wires .entry)) held) port offset) r ⌝ }
+    requires { ⌜ SketchWf (now blocks) (now splits) (now wires) totals ⌝ }
+    ensures { λ r. ⌜ Answers foundNumbers (subportLink (planIn (now (blocks .entry)) (now (splits .entry)) (now (wires .entry)) totals) port offset) r ⌝ }
 {
-    match judge_end(blocks, splits, wires, held, port, offset) {
+    match judge_end(blocks, splits, wires, totals, port, offset) {
         Judged::Refused(reason) => EndAnswer::Refused(reason),
         Judged::Fine => {
-            let read = offset_read(blocks, splits, wires, held, port, offset);
-            end_found(far_from(wires, held.wires, EndTest::AtEnd(port, read as u32)))
+            let read = offset_read(blocks, splits, wires, totals, port, offset);
+            end_found(far_from(wires, totals.wires, EndTest::AtEnd(port, read as u32)))
         }
     }
 }
 
 // Cuts the wire at an end, if there is one.
-pub fn cut_subport_in(
+pub fn cut_subport_lent(
     blocks: &mut [u32; WORDS],
     splits: &mut [u32; WORDS],
     wires: &mut [u32; WORDS],
-    held: Held,
+    totals: Totals,
     port: SketchPort,
     offset: u16,
-) -> EndCutIn
-    requires { ⌜ SketchWf (now blocks) (now splits) (now wires) held ⌝ }
-    ensures { λ r. ⌜ Leaves foundNumbers (cutSubport (planIn (now (blocks .entry)) (now (splits .entry)) (now (wires .entry)) held) port offset) (now (blocks .exit)) (now (splits .exit)) (now (wires .exit)) (r .held) (r .answer) ⌝ }
+) -> EndCutLent
+    requires { ⌜ SketchWf (now blocks) (now splits) (now wires) totals ⌝ }
+    ensures { λ r. ⌜ Leaves foundNumbers (cutSubport (planIn (now (blocks .entry)) (now (splits .entry)) (now (wires .entry)) totals) port offset) (now (blocks .exit)) (now (splits .exit)) (now (wires .exit)) (r .totals) (r .answer) ⌝ }
 {
-    let answer = subport_link_in(blocks, splits, wires, held, port, offset);
+    let answer = subport_link_lent(blocks, splits, wires, totals, port, offset);
     match answer {
-        EndAnswer::Refused(_) => EndCutIn {
-            held: held,
+        EndAnswer::Refused(_) => EndCutLent {
+            totals: totals,
             answer: answer,
         },
-        EndAnswer::Nothing => EndCutIn {
-            held: held,
+        EndAnswer::Nothing => EndCutLent {
+            totals: totals,
             answer: answer,
         },
         EndAnswer::Found(_) => {
-            let read = offset_read(blocks, splits, wires, held, port, offset);
+            let read = offset_read(blocks, splits, wires, totals, port, offset);
             let w = drop_rows(
                 wires,
-                held.wires,
+                totals.wires,
                 Test::Wire(EndTest::AtEnd(port, read as u32)),
             );
-            EndCutIn {
-                held: with_wires(held, w),
+            EndCutLent {
+                totals: with_wires(totals, w),
                 answer: answer,
             }
         }
@@ -198,32 +198,32 @@ fn subports_left(above: usize) -> u32
 }
 
 // Drops the empty subports above the highest wired one; an unsplit port is unchanged.
-pub fn tidy_in(
+pub fn tidy_lent(
     blocks: &mut [u32; WORDS],
     splits: &mut [u32; WORDS],
     wires: &mut [u32; WORDS],
-    held: Held,
+    totals: Totals,
     port: SketchPort,
-) -> DoneIn
-    requires { ⌜ SketchWf (now blocks) (now splits) (now wires) held ⌝ }
-    ensures { λ r. ⌜ Leaves doneNumbers (tidyPort (planIn (now (blocks .entry)) (now (splits .entry)) (now (wires .entry)) held) port) (now (blocks .exit)) (now (splits .exit)) (now (wires .exit)) (r .held) (r .answer) ⌝ }
+) -> DoneLent
+    requires { ⌜ SketchWf (now blocks) (now splits) (now wires) totals ⌝ }
+    ensures { λ r. ⌜ Leaves doneNumbers (tidyPort (planIn (now (blocks .entry)) (now (splits .entry)) (now (wires .entry)) totals) port) (now (blocks .exit)) (now (splits .exit)) (now (wires .exit)) (r .totals) (r .answer) ⌝ }
 {
-    if !is_there(blocks, held.blocks, port) {
-        return DoneIn {
-            held: held,
+    if !is_there(blocks, totals.blocks, port) {
+        return DoneLent {
+            totals: totals,
             answer: DoneAnswer::Refused(Reason::UnknownPort),
         };
     }
-    if subports_of(splits, held.splits, port) == 0 {
-        return DoneIn {
-            held: held,
+    if subports_of(splits, totals.splits, port) == 0 {
+        return DoneLent {
+            totals: totals,
             answer: DoneAnswer::Done,
         };
     }
-    let left = subports_left(above_wired(wires, held.wires, port));
-    let s = set_subports(splits, held.splits, port, left);
-    DoneIn {
-        held: with_splits(held, s),
+    let left = subports_left(above_wired(wires, totals.wires, port));
+    let s = set_subports(splits, totals.splits, port, left);
+    DoneLent {
+        totals: with_splits(totals, s),
         answer: DoneAnswer::Done,
     }
 }

@@ -16,7 +16,7 @@ pub mod offsets;
 pub mod ports;
 
 // What a sketch has besides its tables.
-pub mod held;
+pub mod totals;
 
 // The calls.
 pub mod blocks;

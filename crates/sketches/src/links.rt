@@ -1,7 +1,4 @@
 // Linking two ports. Each is made ready, and a wire laid between the two ends.
-use crate::held::Held;
-use crate::held::LinkedIn;
-use crate::held::with_wires;
 use crate::offsets::offset_ready;
 use crate::ports::is_there;
 use crate::ports::is_wired;
@@ -15,6 +12,9 @@ use crate::sketch::SketchEnd;
 use crate::sketch::SketchPort;
 use crate::subports::ready_port;
 use crate::tests::EndTest;
+use crate::totals::LinkedLent;
+use crate::totals::Totals;
+use crate::totals::with_wires;
 use multiportgraph::multiportgraph::Release;
 use portgraph::direction::Direction;
 use portgraph::numbers::same_side;
@@ -35,19 +35,19 @@ fn wired_input<'a>(
     blocks: &'a [u32; WORDS],
     splits: &'a [u32; WORDS],
     wires: &'a [u32; WORDS],
-    held: Held,
+    totals: Totals,
     port: SketchPort,
 ) -> bool
-    requires { ⌜ SketchWf (now blocks) (now splits) (now wires) held ⌝ }
-    ensures { λ r. ⌜ r ≡ wiredSide (planIn (now (blocks .entry)) (now (splits .entry)) (now (wires .entry)) held) port (port .side) ⌝ }
+    requires { ⌜ SketchWf (now blocks) (now splits) (now wires) totals ⌝ }
+    ensures { λ r. ⌜ r ≡ wiredSide (planIn (now (blocks .entry)) (now (splits .entry)) (now (wires .entry)) totals) port (port .side) ⌝ }
 {
     let side = port.side;
     match side {
         Direction::Incoming => {
-            if !is_there(blocks, held.blocks, port) {
+            if !is_there(blocks, totals.blocks, port) {
                 return false;
             }
-            is_wired(wires, held.wires, EndTest::AtPort(port))
+            is_wired(wires, totals.wires, EndTest::AtPort(port))
         }
         Direction::Outgoing => false,
     }
@@ -58,21 +58,21 @@ pub(crate) fn input_taken<'a>(
     blocks: &'a [u32; WORDS],
     splits: &'a [u32; WORDS],
     wires: &'a [u32; WORDS],
-    held: Held,
+    totals: Totals,
     x: SketchPort,
     y: SketchPort,
 ) -> bool
-    requires { ⌜ SketchWf (now blocks) (now splits) (now wires) held ⌝ }
-    ensures { λ r. ⌜ r ≡ inputTaken (planIn (now (blocks .entry)) (now (splits .entry)) (now (wires .entry)) held) x y ⌝ }
+    requires { ⌜ SketchWf (now blocks) (now splits) (now wires) totals ⌝ }
+    ensures { λ r. ⌜ r ≡ inputTaken (planIn (now (blocks .entry)) (now (splits .entry)) (now (wires .entry)) totals) x y ⌝ }
 {
-    let release = held.release;
+    let release = totals.release;
     match release {
         Release::One => false,
         Release::Two => {
-            if wired_input(blocks, splits, wires, held, x) {
+            if wired_input(blocks, splits, wires, totals, x) {
                 return true;
             }
-            wired_input(blocks, splits, wires, held, y)
+            wired_input(blocks, splits, wires, totals, y)
         }
     }
 }
@@ -89,11 +89,11 @@ pub(crate) fn wire_row(x: SketchPort, o: u32, y: SketchPort, r: u32) -> Row
     }
 }
 
-pub(crate) fn refused(held: Held, reason: Reason) -> LinkedIn
-    ensures { λ r. ⌜ r ≡ record { held = held; answer = LinkAnswer.Refused reason } ⌝ }
+pub(crate) fn refused(totals: Totals, reason: Reason) -> LinkedLent
+    ensures { λ r. ⌜ r ≡ record { totals = totals; answer = LinkAnswer.Refused reason } ⌝ }
 {
-    LinkedIn {
-        held: held,
+    LinkedLent {
+        totals: totals,
         answer: LinkAnswer::Refused(reason),
     }
 }
@@ -103,21 +103,21 @@ fn link_both(
     blocks: &mut [u32; WORDS],
     splits: &mut [u32; WORDS],
     wires: &mut [u32; WORDS],
-    held: Held,
+    totals: Totals,
     x: SketchPort,
     y: SketchPort,
-) -> LinkedIn
-    requires { ⌜ Linkable (now blocks) (now splits) (now wires) held x y ⌝ }
-    ensures { λ r. ⌜ Leaves linkNumbers (bothLinked (planIn (now (blocks .entry)) (now (splits .entry)) (now (wires .entry)) held) x y) (now (blocks .exit)) (now (splits .exit)) (now (wires .exit)) (r .held) (r .answer) ⌝ }
+) -> LinkedLent
+    requires { ⌜ Linkable (now blocks) (now splits) (now wires) totals x y ⌝ }
+    ensures { λ r. ⌜ Leaves linkNumbers (bothLinked (planIn (now (blocks .entry)) (now (splits .entry)) (now (wires .entry)) totals) x y) (now (blocks .exit)) (now (splits .exit)) (now (wires .exit)) (r .totals) (r .answer) ⌝ }
 {
-    let o = offset_ready(wires, held.wires, x);
-    let r = offset_ready(wires, held.wires, y);
-    let first = ready_port(blocks, splits, wires, held, x);
+    let o = offset_ready(wires, totals.wires, x);
+    let r = offset_ready(wires, totals.wires, y);
+    let first = ready_port(blocks, splits, wires, totals, x);
     let second = ready_port(blocks, splits, wires, first, y);
     let row = wire_row(x, o as u32, y, r as u32);
     put_row(wires, second.wires, row);
-    LinkedIn {
-        held: with_wires(second, second.wires + 1),
+    LinkedLent {
+        totals: with_wires(second, second.wires + 1),
         answer: LinkAnswer::Linked(
             SketchEnd {
                 port: x,
@@ -132,68 +132,68 @@ fn link_both(
 }
 
 // Links two ports. A refusal of the second port, or of the sides, keeps what was made ready.
-pub fn link_in(
+pub fn link_lent(
     blocks: &mut [u32; WORDS],
     splits: &mut [u32; WORDS],
     wires: &mut [u32; WORDS],
-    held: Held,
+    totals: Totals,
     x: SketchPort,
     y: SketchPort,
-) -> LinkedIn
-    requires { ⌜ SketchWf (now blocks) (now splits) (now wires) held ⌝ }
-    ensures { λ r. ⌜ Leaves linkNumbers (linkPorts (planIn (now (blocks .entry)) (now (splits .entry)) (now (wires .entry)) held) x y) (now (blocks .exit)) (now (splits .exit)) (now (wires .exit)) (r .held) (r .answer) ⌝ }
+) -> LinkedLent
+    requires { ⌜ SketchWf (now blocks) (now splits) (now wires) totals ⌝ }
+    ensures { λ r. ⌜ Leaves linkNumbers (linkPorts (planIn (now (blocks .entry)) (now (splits .entry)) (now (wires .entry)) totals) x y) (now (blocks .exit)) (now (splits .exit)) (now (wires .exit)) (r .totals) (r .answer) ⌝ }
 {
-    if !is_there(blocks, held.blocks, x) {
-        return refused(held, Reason::UnknownPort);
+    if !is_there(blocks, totals.blocks, x) {
+        return refused(totals, Reason::UnknownPort);
     }
-    if input_taken(blocks, splits, wires, held, x, y) {
-        return refused(held, Reason::InputWired);
+    if input_taken(blocks, splits, wires, totals, x, y) {
+        return refused(totals, Reason::InputWired);
     }
-    if !is_there(blocks, held.blocks, y) {
-        let first = ready_port(blocks, splits, wires, held, x);
+    if !is_there(blocks, totals.blocks, y) {
+        let first = ready_port(blocks, splits, wires, totals, x);
         return refused(first, Reason::UnknownSecondPort);
     }
     let a = x.side;
     let b = y.side;
     if same_side(a, b) {
-        let first = ready_port(blocks, splits, wires, held, x);
+        let first = ready_port(blocks, splits, wires, totals, x);
         let second = ready_port(blocks, splits, wires, first, y);
         return refused(second, Reason::SameSide);
     }
-    if ROWS <= held.wires {
-        return refused(held, Reason::NoRoom);
+    if ROWS <= totals.wires {
+        return refused(totals, Reason::NoRoom);
     }
-    link_both(blocks, splits, wires, held, x, y)
+    link_both(blocks, splits, wires, totals, x, y)
 }
 
 // Links two ports. A refusal leaves nothing.
-pub fn link_clean_in(
+pub fn link_clean_lent(
     blocks: &mut [u32; WORDS],
     splits: &mut [u32; WORDS],
     wires: &mut [u32; WORDS],
-    held: Held,
+    totals: Totals,
     x: SketchPort,
     y: SketchPort,
-) -> LinkedIn
-    requires { ⌜ SketchWf (now blocks) (now splits) (now wires) held ⌝ }
-    ensures { λ r. ⌜ Leaves linkNumbers (linkClean (planIn (now (blocks .entry)) (now (splits .entry)) (now (wires .entry)) held) x y) (now (blocks .exit)) (now (splits .exit)) (now (wires .exit)) (r .held) (r .answer) ⌝ }
+) -> LinkedLent
+    requires { ⌜ SketchWf (now blocks) (now splits) (now wires) totals ⌝ }
+    ensures { λ r. ⌜ Leaves linkNumbers (linkClean (planIn (now (blocks .entry)) (now (splits .entry)) (now (wires .entry)) totals) x y) (now (blocks .exit)) (now (splits .exit)) (now (wires .exit)) (r .totals) (r .answer) ⌝ }
 {
-    if !is_there(blocks, held.blocks, x) {
-        return refused(held, Reason::UnknownPort);
+    if !is_there(blocks, totals.blocks, x) {
+        return refused(totals, Reason::UnknownPort);
     }
-    if input_taken(blocks, splits, wires, held, x, y) {
-        return refused(held, Reason::InputWired);
+    if input_taken(blocks, splits, wires, totals, x, y) {
+        return refused(totals, Reason::InputWired);
     }
-    if !is_there(blocks, held.blocks, y) {
-        return refused(held, Reason::UnknownSecondPort);
+    if !is_there(blocks, totals.blocks, y) {
+        return refused(totals, Reason::UnknownSecondPort);
     }
     let a = x.side;
     let b = y.side;
     if same_side(a, b) {
-        return refused(held, Reason::SameSide);
+        return refused(totals, Reason::SameSide);
     }
-    if ROWS <= held.wires {
-        return refused(held, Reason::NoRoom);
+    if ROWS <= totals.wires {
+        return refused(totals, Reason::NoRoom);
     }
-    link_both(blocks, splits, wires, held, x, y)
+    link_both(blocks, splits, wires, totals, x, y)
 }

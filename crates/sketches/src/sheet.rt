@@ -1,12 +1,12 @@
 // A wiring sheet: entries, each two ports and space for the answer of their link. The links are made in order, a refused one included.
-use crate::held::Held;
-use crate::links::link_in;
+use crate::links::link_lent;
 use crate::rows::WORDS;
 use crate::sketch::LinkAnswer;
 use crate::sketch::Reason;
 use crate::sketch::SheetAnswer;
 use crate::sketch::SheetEntry;
 use crate::sketch::SketchPort;
+use crate::totals::Totals;
 use portgraph::direction::Direction;
 use portgraph::numbers::smaller;
 ghost use mathlib.Core.Path.{_≡_};
@@ -19,8 +19,8 @@ pub const SHEET_ENTRIES: usize = 64;
 // One place more, so that a sheet that is too long can be handed in.
 pub const SHEET_PLACES: usize = 65;
 
-pub struct SheetIn {
-    pub held: Held,
+pub struct SheetLent {
+    pub totals: Totals,
     pub answer: SheetAnswer,
     pub entries: [SheetEntry; SHEET_PLACES],
 }
@@ -42,35 +42,35 @@ pub fn no_entry() -> SheetEntry
 }
 
 // Links the ports of the first `count` entries, or of all if `count` is more, and gives each its answer.
-pub fn sheet_in(
+pub fn sheet_lent(
     blocks: &mut [u32; WORDS],
     splits: &mut [u32; WORDS],
     wires: &mut [u32; WORDS],
-    held: Held,
+    totals: Totals,
     entries: [SheetEntry; SHEET_PLACES],
     count: usize,
-) -> SheetIn
-    requires { ⌜ SketchWf (now blocks) (now splits) (now wires) held ⌝ }
-    ensures { λ r. ⌜ SheetLeaves (planIn (now (blocks .entry)) (now (splits .entry)) (now (wires .entry)) held) entries count (now (blocks .exit)) (now (splits .exit)) (now (wires .exit)) r ⌝ }
+) -> SheetLent
+    requires { ⌜ SketchWf (now blocks) (now splits) (now wires) totals ⌝ }
+    ensures { λ r. ⌜ SheetLeaves (planIn (now (blocks .entry)) (now (splits .entry)) (now (wires .entry)) totals) entries count (now (blocks .exit)) (now (splits .exit)) (now (wires .exit)) r ⌝ }
 {
     let n = smaller(count, SHEET_PLACES);
     if SHEET_ENTRIES < n {
-        return SheetIn {
-            held: held,
+        return SheetLent {
+            totals: totals,
             answer: SheetAnswer::TooManyEntries,
             entries: entries,
         };
     }
-    let mut after = held;
+    let mut after = totals;
     let mut done = [no_entry(); SHEET_PLACES];
     let mut i: usize = 0;
     while i < n {
         let entry = entries[i];
         let x = entry.from;
         let y = entry.to;
-        let linked = link_in(blocks, splits, wires, after, x, y);
+        let linked = link_lent(blocks, splits, wires, after, x, y);
         let answer = linked.answer;
-        after = linked.held;
+        after = linked.totals;
         done[i] = SheetEntry {
             from: x,
             to: y,
@@ -78,8 +78,8 @@ pub fn sheet_in(
         };
         i += 1;
     }
-    SheetIn {
-        held: after,
+    SheetLent {
+        totals: after,
         answer: SheetAnswer::Done,
         entries: done,
     }

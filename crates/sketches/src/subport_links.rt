@@ -1,7 +1,4 @@
 // Ends, each a port with an offset: how they are read, and linking two of them.
-use crate::held::Held;
-use crate::held::LinkedIn;
-use crate::held::with_wires;
 use crate::links::input_taken;
 use crate::links::refused;
 use crate::links::wire_row;
@@ -16,6 +13,9 @@ use crate::sketch::Reason;
 use crate::sketch::SketchEnd;
 use crate::sketch::SketchPort;
 use crate::tests::EndTest;
+use crate::totals::LinkedLent;
+use crate::totals::Totals;
+use crate::totals::with_wires;
 use portgraph::numbers::same_side;
 ghost use mathlib.Core.Path.{_≡_};
 ghost use mathlib.Core.Bool.{cond, false, _||_};
@@ -43,14 +43,14 @@ pub(crate) fn offset_read<'a>(
     blocks: &'a [u32; WORDS],
     splits: &'a [u32; WORDS],
     wires: &'a [u32; WORDS],
-    held: Held,
+    totals: Totals,
     port: SketchPort,
     offset: u16,
 ) -> u16
-    requires { ⌜ SketchWf (now blocks) (now splits) (now wires) held ⌝ }
-    ensures { λ r. ⌜ r ≡ offsetRead (planIn (now (blocks .entry)) (now (splits .entry)) (now (wires .entry)) held) port offset ⌝ }
+    requires { ⌜ SketchWf (now blocks) (now splits) (now wires) totals ⌝ }
+    ensures { λ r. ⌜ r ≡ offsetRead (planIn (now (blocks .entry)) (now (splits .entry)) (now (wires .entry)) totals) port offset ⌝ }
 {
-    if subports_of(splits, held.splits, port) == 0 {
+    if subports_of(splits, totals.splits, port) == 0 {
         return 0;
     }
     offset
@@ -61,14 +61,14 @@ fn lacks_offset<'a>(
     blocks: &'a [u32; WORDS],
     splits: &'a [u32; WORDS],
     wires: &'a [u32; WORDS],
-    held: Held,
+    totals: Totals,
     port: SketchPort,
     offset: u16,
 ) -> bool
-    requires { ⌜ SketchWf (now blocks) (now splits) (now wires) held ⌝ }
-    ensures { λ r. ⌜ r ≡ lacksOffset (planIn (now (blocks .entry)) (now (splits .entry)) (now (wires .entry)) held) port offset ⌝ }
+    requires { ⌜ SketchWf (now blocks) (now splits) (now wires) totals ⌝ }
+    ensures { λ r. ⌜ r ≡ lacksOffset (planIn (now (blocks .entry)) (now (splits .entry)) (now (wires .entry)) totals) port offset ⌝ }
 {
-    let subports = subports_of(splits, held.splits, port);
+    let subports = subports_of(splits, totals.splits, port);
     if subports == 0 {
         return false;
     }
@@ -80,20 +80,20 @@ pub(crate) fn judge_end<'a>(
     blocks: &'a [u32; WORDS],
     splits: &'a [u32; WORDS],
     wires: &'a [u32; WORDS],
-    held: Held,
+    totals: Totals,
     port: SketchPort,
     offset: u16,
 ) -> Judged
-    requires { ⌜ SketchWf (now blocks) (now splits) (now wires) held ⌝ }
-    ensures { λ r. ⌜ r ≡ judgeEnd (planIn (now (blocks .entry)) (now (splits .entry)) (now (wires .entry)) held) port offset ⌝ }
+    requires { ⌜ SketchWf (now blocks) (now splits) (now wires) totals ⌝ }
+    ensures { λ r. ⌜ r ≡ judgeEnd (planIn (now (blocks .entry)) (now (splits .entry)) (now (wires .entry)) totals) port offset ⌝ }
 {
     if bad_offset(offset) {
         return Judged::Refused(Reason::BadOffset);
     }
-    if !is_there(blocks, held.blocks, port) {
+    if !is_there(blocks, totals.blocks, port) {
         return Judged::Refused(Reason::UnknownPort);
     }
-    if lacks_offset(blocks, splits, wires, held, port, offset) {
+    if lacks_offset(blocks, splits, wires, totals, port, offset) {
         return Judged::Refused(Reason::UnknownOffset);
     }
     Judged::Fine
@@ -114,22 +114,22 @@ fn lack_offsets<'a>(
     blocks: &'a [u32; WORDS],
     splits: &'a [u32; WORDS],
     wires: &'a [u32; WORDS],
-    held: Held,
+    totals: Totals,
     x: SketchPort,
     o: u16,
     y: SketchPort,
     r: u16,
 ) -> bool
-    requires { ⌜ SketchWf (now blocks) (now splits) (now wires) held ⌝ }
-    ensures { λ b. ⌜ b ≡ (lacksOffset (planIn (now (blocks .entry)) (now (splits .entry)) (now (wires .entry)) held) x o || cond (isThere (planIn (now (blocks .entry)) (now (splits .entry)) (now (wires .entry)) held) y) (lacksOffset (planIn (now (blocks .entry)) (now (splits .entry)) (now (wires .entry)) held) y r) false) ⌝ }
+    requires { ⌜ SketchWf (now blocks) (now splits) (now wires) totals ⌝ }
+    ensures { λ b. ⌜ b ≡ (lacksOffset (planIn (now (blocks .entry)) (now (splits .entry)) (now (wires .entry)) totals) x o || cond (isThere (planIn (now (blocks .entry)) (now (splits .entry)) (now (wires .entry)) totals) y) (lacksOffset (planIn (now (blocks .entry)) (now (splits .entry)) (now (wires .entry)) totals) y r) false) ⌝ }
 {
-    if lacks_offset(blocks, splits, wires, held, x, o) {
+    if lacks_offset(blocks, splits, wires, totals, x, o) {
         return true;
     }
-    if !is_there(blocks, held.blocks, y) {
+    if !is_there(blocks, totals.blocks, y) {
         return false;
     }
-    lacks_offset(blocks, splits, wires, held, y, r)
+    lacks_offset(blocks, splits, wires, totals, y, r)
 }
 
 // Whether an end, as read, has a wire.
@@ -137,34 +137,34 @@ fn end_wired<'a>(
     blocks: &'a [u32; WORDS],
     splits: &'a [u32; WORDS],
     wires: &'a [u32; WORDS],
-    held: Held,
+    totals: Totals,
     port: SketchPort,
     offset: u16,
 ) -> bool
-    requires { ⌜ SketchWf (now blocks) (now splits) (now wires) held ⌝ }
-    ensures { λ r. ⌜ r ≡ isWired (planIn (now (blocks .entry)) (now (splits .entry)) (now (wires .entry)) held) port offset ⌝ }
+    requires { ⌜ SketchWf (now blocks) (now splits) (now wires) totals ⌝ }
+    ensures { λ r. ⌜ r ≡ isWired (planIn (now (blocks .entry)) (now (splits .entry)) (now (wires .entry)) totals) port offset ⌝ }
 {
-    let read = offset_read(blocks, splits, wires, held, port, offset);
-    is_wired(wires, held.wires, EndTest::AtEnd(port, read as u32))
+    let read = offset_read(blocks, splits, wires, totals, port, offset);
+    is_wired(wires, totals.wires, EndTest::AtEnd(port, read as u32))
 }
 
 fn ends_wired<'a>(
     blocks: &'a [u32; WORDS],
     splits: &'a [u32; WORDS],
     wires: &'a [u32; WORDS],
-    held: Held,
+    totals: Totals,
     x: SketchPort,
     o: u16,
     y: SketchPort,
     r: u16,
 ) -> bool
-    requires { ⌜ SketchWf (now blocks) (now splits) (now wires) held ⌝ }
-    ensures { λ b. ⌜ b ≡ (isWired (planIn (now (blocks .entry)) (now (splits .entry)) (now (wires .entry)) held) x o || isWired (planIn (now (blocks .entry)) (now (splits .entry)) (now (wires .entry)) held) y r) ⌝ }
+    requires { ⌜ SketchWf (now blocks) (now splits) (now wires) totals ⌝ }
+    ensures { λ b. ⌜ b ≡ (isWired (planIn (now (blocks .entry)) (now (splits .entry)) (now (wires .entry)) totals) x o || isWired (planIn (now (blocks .entry)) (now (splits .entry)) (now (wires .entry)) totals) y r) ⌝ }
 {
-    if end_wired(blocks, splits, wires, held, x, o) {
+    if end_wired(blocks, splits, wires, totals, x, o) {
         return true;
     }
-    end_wired(blocks, splits, wires, held, y, r)
+    end_wired(blocks, splits, wires, totals, y, r)
 }
 
 // Two ends that are to be linked.
@@ -172,28 +172,28 @@ fn judge_ends<'a>(
     blocks: &'a [u32; WORDS],
     splits: &'a [u32; WORDS],
     wires: &'a [u32; WORDS],
-    held: Held,
+    totals: Totals,
     x: SketchPort,
     o: u16,
     y: SketchPort,
     r: u16,
 ) -> Judged
-    requires { ⌜ SketchWf (now blocks) (now splits) (now wires) held ⌝ }
-    ensures { λ j. ⌜ j ≡ judgeEnds (planIn (now (blocks .entry)) (now (splits .entry)) (now (wires .entry)) held) x o y r ⌝ }
+    requires { ⌜ SketchWf (now blocks) (now splits) (now wires) totals ⌝ }
+    ensures { λ j. ⌜ j ≡ judgeEnds (planIn (now (blocks .entry)) (now (splits .entry)) (now (wires .entry)) totals) x o y r ⌝ }
 {
     if bad_offsets(o, r) {
         return Judged::Refused(Reason::BadOffset);
     }
-    if !is_there(blocks, held.blocks, x) {
+    if !is_there(blocks, totals.blocks, x) {
         return Judged::Refused(Reason::UnknownPort);
     }
-    if lack_offsets(blocks, splits, wires, held, x, o, y, r) {
+    if lack_offsets(blocks, splits, wires, totals, x, o, y, r) {
         return Judged::Refused(Reason::UnknownOffset);
     }
-    if input_taken(blocks, splits, wires, held, x, y) {
+    if input_taken(blocks, splits, wires, totals, x, y) {
         return Judged::Refused(Reason::InputWired);
     }
-    if !is_there(blocks, held.blocks, y) {
+    if !is_there(blocks, totals.blocks, y) {
         return Judged::Refused(Reason::UnknownSecondPort);
     }
     let a = x.side;
@@ -201,37 +201,37 @@ fn judge_ends<'a>(
     if same_side(a, b) {
         return Judged::Refused(Reason::SameSide);
     }
-    if ends_wired(blocks, splits, wires, held, x, o, y, r) {
+    if ends_wired(blocks, splits, wires, totals, x, o, y, r) {
         return Judged::Refused(Reason::AlreadyLinked);
     }
-    if ROWS <= held.wires {
+    if ROWS <= totals.wires {
         return Judged::Refused(Reason::NoRoom);
     }
     Judged::Fine
 }
 
 // Links two ends.
-pub fn link_subports_in(
+pub fn link_subports_lent(
     blocks: &mut [u32; WORDS],
     splits: &mut [u32; WORDS],
     wires: &mut [u32; WORDS],
-    held: Held,
+    totals: Totals,
     x: SketchPort,
     o: u16,
     y: SketchPort,
     r: u16,
-) -> LinkedIn
-    requires { ⌜ SketchWf (now blocks) (now splits) (now wires) held ⌝ }
-    ensures { λ a. ⌜ Leaves linkNumbers (linkSubports (planIn (now (blocks .entry)) (now (splits .entry)) (now (wires .entry)) held) x o y r) (now (blocks .exit)) (now (splits .exit)) (now (wires .exit)) (a .held) (a .answer) ⌝ }
+) -> LinkedLent
+    requires { ⌜ SketchWf (now blocks) (now splits) (now wires) totals ⌝ }
+    ensures { λ a. ⌜ Leaves linkNumbers (linkSubports (planIn (now (blocks .entry)) (now (splits .entry)) (now (wires .entry)) totals) x o y r) (now (blocks .exit)) (now (splits .exit)) (now (wires .exit)) (a .totals) (a .answer) ⌝ }
 {
-    match judge_ends(blocks, splits, wires, held, x, o, y, r) {
-        Judged::Refused(reason) => refused(held, reason),
+    match judge_ends(blocks, splits, wires, totals, x, o, y, r) {
+        Judged::Refused(reason) => refused(totals, reason),
         Judged::Fine => {
-            let p = offset_read(blocks, splits, wires, held, x, o);
-            let q = offset_read(blocks, splits, wires, held, y, r);
-            put_row(wires, held.wires, wire_row(x, p as u32, y, q as u32));
-            LinkedIn {
-                held: with_wires(held, held.wires + 1),
+            let p = offset_read(blocks, splits, wires, totals, x, o);
+            let q = offset_read(blocks, splits, wires, totals, y, r);
+            put_row(wires, totals.wires, wire_row(x, p as u32, y, q as u32));
+            LinkedLent {
+                totals: with_wires(totals, totals.wires + 1),
                 answer: LinkAnswer::Linked(
                     SketchEnd { port: x, offset: p },
                     SketchEnd { port: y, offset: q },

@@ -1,7 +1,5 @@
 // The number of subports of a port, and making an end ready: an unsplit port without a wire is the end itself; with one it becomes two
 // subports; a split port gives its lowest offset without a wire, or one subport more.
-use crate::held::Held;
-use crate::held::with_splits;
 use crate::offsets::offset_ready;
 use crate::ports::subports_of;
 use crate::rows::Row;
@@ -11,15 +9,16 @@ use crate::sketch::SketchPort;
 use crate::tables::drop_rows;
 use crate::tests::EndTest;
 use crate::tests::Test;
+use crate::totals::Totals;
+use crate::totals::with_splits;
 use portgraph::numbers::larger;
 use portgraph::numbers::wide;
 ghost use mathlib.Core.Path.{_≡_};
 ghost use mathlib.Core.Bool.{true};
 ghost use Prim.Native.Nat.{_≤_};
 ghost use Rattle.sketches.specs.Plan.{isThere, subportsReady, ready};
-ghost use Rattle.sketches.specs.PlanWf.{mostSubports};
 ghost use Rattle.sketches.specs.PlanCalls.{mostWires};
-ghost use Rattle.sketches.specs.Rows.{rowSlots, Table, splitsIn};
+ghost use Rattle.sketches.specs.Rows.{Table, splitsIn};
 ghost use Rattle.sketches.specs.SketchTables.{planIn, SketchWf};
 ghost use Rattle.sketches.specs.SplitSteps.{splitsWith, SplitsRoom, splitRow, IsPlan};
 
@@ -71,14 +70,14 @@ pub(crate) fn ready_port(
     blocks: &mut [u32; WORDS],
     splits: &mut [u32; WORDS],
     wires: &mut [u32; WORDS],
-    held: Held,
+    totals: Totals,
     port: SketchPort,
-) -> Held
-    requires { ⌜ SketchWf (now blocks) (now splits) (now wires) held × (isThere (planIn (now blocks) (now splits) (now wires) held) port ≡ true) ⌝ }
-    ensures { λ r. ⌜ IsPlan (ready (planIn (now (blocks .entry)) (now (splits .entry)) (now (wires .entry)) held) port) (now (blocks .exit)) (now (splits .exit)) (now (wires .exit)) r ⌝ }
+) -> Totals
+    requires { ⌜ SketchWf (now blocks) (now splits) (now wires) totals × (isThere (planIn (now blocks) (now splits) (now wires) totals) port ≡ true) ⌝ }
+    ensures { λ r. ⌜ IsPlan (ready (planIn (now (blocks .entry)) (now (splits .entry)) (now (wires .entry)) totals) port) (now (blocks .exit)) (now (splits .exit)) (now (wires .exit)) r ⌝ }
 {
-    let offset = offset_ready(wires, held.wires, port);
-    let subports = subports_ready(subports_of(splits, held.splits, port), offset);
-    let count = set_subports(splits, held.splits, port, subports);
-    with_splits(held, count)
+    let offset = offset_ready(wires, totals.wires, port);
+    let subports = subports_ready(subports_of(splits, totals.splits, port), offset);
+    let count = set_subports(splits, totals.splits, port, subports);
+    with_splits(totals, count)
 }

@@ -1,5 +1,4 @@
 // Walks: over wires from either end, over blocks, and over the subports of a side. A cursor is handed in and comes back moved.
-use crate::held::Held;
 use crate::ports::has_block;
 use crate::ports::is_there;
 use crate::ports::ports_on_side;
@@ -14,6 +13,7 @@ use crate::tables::find_newest;
 use crate::tables::find_oldest;
 use crate::tests::EndTest;
 use crate::tests::Test;
+use crate::totals::Totals;
 use portgraph::direction::Direction;
 use portgraph::numbers::smaller;
 ghost use mathlib.Core.Path.{_≡_};
@@ -78,16 +78,16 @@ pub fn links_of_port<'a>(
     blocks: &'a [u32; WORDS],
     splits: &'a [u32; WORDS],
     wires: &'a [u32; WORDS],
-    held: Held,
+    totals: Totals,
     port: SketchPort,
 ) -> WalkStart
-    requires { ⌜ SketchWf (now blocks) (now splits) (now wires) held ⌝ }
-    ensures { λ r. ⌜ r ≡ startOf (isThere (planIn (now (blocks .entry)) (now (splits .entry)) (now (wires .entry)) held) port) Reason.UnknownPort (wholeWalk (held .wires) (Test.Wire (EndTest.AtPort port))) ⌝ }
+    requires { ⌜ SketchWf (now blocks) (now splits) (now wires) totals ⌝ }
+    ensures { λ r. ⌜ r ≡ startOf (isThere (planIn (now (blocks .entry)) (now (splits .entry)) (now (wires .entry)) totals) port) Reason.UnknownPort (wholeWalk (totals .wires) (Test.Wire (EndTest.AtPort port))) ⌝ }
 {
-    if !is_there(blocks, held.blocks, port) {
+    if !is_there(blocks, totals.blocks, port) {
         return WalkStart::Refused(Reason::UnknownPort);
     }
-    WalkStart::At(whole_walk(held.wires, Test::Wire(EndTest::AtPort(port))))
+    WalkStart::At(whole_walk(totals.wires, Test::Wire(EndTest::AtPort(port))))
 }
 
 // Starts a walk over wires that names a block: those of a side, those with neighbours.
@@ -95,17 +95,17 @@ pub fn wires_of_block<'a>(
     blocks: &'a [u32; WORDS],
     splits: &'a [u32; WORDS],
     wires: &'a [u32; WORDS],
-    held: Held,
+    totals: Totals,
     name: u32,
     test: Test,
 ) -> WalkStart
-    requires { ⌜ SketchWf (now blocks) (now splits) (now wires) held ⌝ }
-    ensures { λ r. ⌜ r ≡ startOf (hasBlock (blocksIn (now (blocks .entry)) (held .blocks)) name) Reason.UnknownBlock (wholeWalk (held .wires) test) ⌝ }
+    requires { ⌜ SketchWf (now blocks) (now splits) (now wires) totals ⌝ }
+    ensures { λ r. ⌜ r ≡ startOf (hasBlock (blocksIn (now (blocks .entry)) (totals .blocks)) name) Reason.UnknownBlock (wholeWalk (totals .wires) test) ⌝ }
 {
-    if !has_block(blocks, held.blocks, name) {
+    if !has_block(blocks, totals.blocks, name) {
         return WalkStart::Refused(Reason::UnknownBlock);
     }
-    WalkStart::At(whole_walk(held.wires, test))
+    WalkStart::At(whole_walk(totals.wires, test))
 }
 
 // The wire of a row.
@@ -113,10 +113,10 @@ fn wire_at<'a>(
     blocks: &'a [u32; WORDS],
     splits: &'a [u32; WORDS],
     wires: &'a [u32; WORDS],
-    held: Held,
+    totals: Totals,
     i: usize,
 ) -> SketchWire
-    requires { ⌜ SketchWf (now blocks) (now splits) (now wires) held × (i < held .wires) ⌝ }
+    requires { ⌜ SketchWf (now blocks) (now splits) (now wires) totals × (i < totals .wires) ⌝ }
     ensures { λ r. ⌜ r ≡ wireHeld (wireOf (rowAt (now (wires .entry)) i)) ⌝ }
 {
     let row = row_at(wires, i);
@@ -145,19 +145,19 @@ pub fn next_wire<'a>(
     blocks: &'a [u32; WORDS],
     splits: &'a [u32; WORDS],
     wires: &'a [u32; WORDS],
-    held: Held,
+    totals: Totals,
     walk: Walk,
 ) -> WireStep
-    requires { ⌜ SketchWf (now blocks) (now splits) (now wires) held ⌝ }
-    ensures { λ r. ⌜ r ≡ nextWire (now (wires .entry)) (held .wires) walk ⌝ }
+    requires { ⌜ SketchWf (now blocks) (now splits) (now wires) totals ⌝ }
+    ensures { λ r. ⌜ r ≡ nextWire (now (wires .entry)) (totals .wires) walk ⌝ }
 {
     let test = walk.test;
-    let past = find_newest(wires, walk.low, smaller(walk.high, held.wires), test);
+    let past = find_newest(wires, walk.low, smaller(walk.high, totals.wires), test);
     if past == 0 {
         return WireStep::End;
     }
     WireStep::Wire(
-        wire_at(blocks, splits, wires, held, past - 1),
+        wire_at(blocks, splits, wires, totals, past - 1),
         Walk {
             low: walk.low,
             high: past - 1,
@@ -171,19 +171,19 @@ pub fn previous_wire<'a>(
     blocks: &'a [u32; WORDS],
     splits: &'a [u32; WORDS],
     wires: &'a [u32; WORDS],
-    held: Held,
+    totals: Totals,
     walk: Walk,
 ) -> WireStep
-    requires { ⌜ SketchWf (now blocks) (now splits) (now wires) held ⌝ }
-    ensures { λ r. ⌜ r ≡ previousWire (now (wires .entry)) (held .wires) walk ⌝ }
+    requires { ⌜ SketchWf (now blocks) (now splits) (now wires) totals ⌝ }
+    ensures { λ r. ⌜ r ≡ previousWire (now (wires .entry)) (totals .wires) walk ⌝ }
 {
     let test = walk.test;
-    let past = find_oldest(wires, walk.low, smaller(walk.high, held.wires), test);
+    let past = find_oldest(wires, walk.low, smaller(walk.high, totals.wires), test);
     if past == 0 {
         return WireStep::End;
     }
     WireStep::Wire(
-        wire_at(blocks, splits, wires, held, past - 1),
+        wire_at(blocks, splits, wires, totals, past - 1),
         Walk {
             low: past,
             high: walk.high,
@@ -193,11 +193,11 @@ pub fn previous_wire<'a>(
 }
 
 // The next block, by its name.
-pub fn next_block(blocks: &[u32; WORDS], held: Held, walk: Walk) -> BlockStep
-    ensures { λ r. ⌜ r ≡ nextBlock (now (blocks .entry)) (held .blocks) walk ⌝ }
+pub fn next_block(blocks: &[u32; WORDS], totals: Totals, walk: Walk) -> BlockStep
+    ensures { λ r. ⌜ r ≡ nextBlock (now (blocks .entry)) (totals .blocks) walk ⌝ }
 {
     let test = walk.test;
-    let count = smaller(held.blocks, ROWS);
+    let count = smaller(totals.blocks, ROWS);
     let past = find_newest(blocks, walk.low, smaller(walk.high, count), test);
     if past == 0 {
         return BlockStep::End;
@@ -218,13 +218,13 @@ fn offsets_of<'a>(
     blocks: &'a [u32; WORDS],
     splits: &'a [u32; WORDS],
     wires: &'a [u32; WORDS],
-    held: Held,
+    totals: Totals,
     port: SketchPort,
 ) -> u32
-    requires { ⌜ SketchWf (now blocks) (now splits) (now wires) held ⌝ }
-    ensures { λ r. ⌜ Knows (planIn (now (blocks .entry)) (now (splits .entry)) (now (wires .entry)) held) port r ⌝ }
+    requires { ⌜ SketchWf (now blocks) (now splits) (now wires) totals ⌝ }
+    ensures { λ r. ⌜ Knows (planIn (now (blocks .entry)) (now (splits .entry)) (now (wires .entry)) totals) port r ⌝ }
 {
-    let subports = subports_of(splits, held.splits, port);
+    let subports = subports_of(splits, totals.splits, port);
     if subports == 0 {
         return 1;
     }
@@ -236,19 +236,19 @@ pub fn next_subport<'a>(
     blocks: &'a [u32; WORDS],
     splits: &'a [u32; WORDS],
     wires: &'a [u32; WORDS],
-    held: Held,
+    totals: Totals,
     walk: SubportWalk,
 ) -> SubportStep
-    requires { ⌜ SketchWf (now blocks) (now splits) (now wires) held ⌝ }
-    ensures { λ r. ⌜ r ≡ nextSubport (planIn (now (blocks .entry)) (now (splits .entry)) (now (wires .entry)) held) walk ⌝ }
+    requires { ⌜ SketchWf (now blocks) (now splits) (now wires) totals ⌝ }
+    ensures { λ r. ⌜ r ≡ nextSubport (planIn (now (blocks .entry)) (now (splits .entry)) (now (wires .entry)) totals) walk ⌝ }
 {
     let port = walk.port;
     let side = port.side;
-    let ports = ports_on_side(blocks, held.blocks, port.block, side);
+    let ports = ports_on_side(blocks, totals.blocks, port.block, side);
     if ports <= port.position {
         return SubportStep::End;
     }
-    if walk.offset < offsets_of(blocks, splits, wires, held, port) {
+    if walk.offset < offsets_of(blocks, splits, wires, totals, port) {
         return SubportStep::Subport(
             SketchEnd {
                 port: port,

@@ -160,9 +160,9 @@ module _ {g : PortGraph} {M : Model} (good : Good M) (holds : Holds g M) where
           let c = member-map (λ f. slotBlock f (r .0) free) b (freeOf g (r .0)) (r .2) in
           subst (λ (x : SlotBlock). Has M (x .first) (x .size) (x .holder)) (sym (c .2)) (subst (Member (c .0)) (free-of (r .0)) (c .1))
 
-  pub blocks-in : (f k : ℕ) (h : Holder) → Has M f k h → Member (slotBlock f k h) (blocksOf g)
+  pub blocks-lent : (f k : ℕ) (h : Holder) → Has M f k h → Member (slotBlock f k h) (blocksOf g)
   unfolding heldBlocks freeBlocks
-  blocks-in f k (byNode n) b =
+  blocks-lent f k (byNode n) b =
       let u = good .nodeUsed n (b .0) (b .1) in
       let l = good .nodesFit in
       let x = b .2 in
@@ -172,7 +172,7 @@ module _ {g : PortGraph} {M : Model} (good : Good M) (holds : Holds g M) where
       rw (meta-of-node good holds n (b .0) (b .1), ne-eqb (b .0 .capacity) 0 (omega arith), x, y) (inl refl) in
       member-left (slotBlock f k (byNode n)) (heldBlocks g) (freeBlocks g)
       (flatMap-member (λ n. nodeHolds n (metaAt g n)) (slotBlock f k (byNode n)) n (range 0 nodeSlots) (range-member n 0 nodeSlots (omega arith) (omega arith)) mine)
-  blocks-in f k free b =
+  blocks-lent f k free b =
       let s = has-some good f k free b in
       let l = has-small good f k free b in
       member-right (slotBlock f k free) (heldBlocks g) (freeBlocks g)
@@ -256,7 +256,7 @@ module _ {g : PortGraph} {M : Model} (good : Good M) (holds : Holds g M) where
   block-lies s l =
       let e = holds .portLen in
       let r = has-lies good s (omega arith) in
-      (slotBlock (r .0) (r .1) (r .2), blocks-in (r .0) (r .1) (r .2) (r .3), r .4)
+      (slotBlock (r .0) (r .1) (r .2), blocks-lent (r .0) (r .1) (r .2) (r .3), r .4)
 
   block-alone : (s : ℕ) (a b : SlotBlock) → Member a (blocksOf g) → Member b (blocksOf g) → InBlock a s → InBlock b s → a ≡ b
   block-alone s a b i j = has-alone good s (a .first) (a .size) (a .holder) (b .first) (b .size) (b .holder) (in-blocks a i) (in-blocks b j)

@@ -30,10 +30,10 @@ use Rattle.multiportgraph.specs.Tidy.{subportsLeft, dropSubports, linkDirectly,
 use Rattle.multiportgraph.specs.TidyLaws.{left-within, within-is}
 use Rattle.multiportgraph.specs.Cases.{tidySeen}
 use Rattle.multiportgraph.specs.CaseLaws.{tidy-cases}
-use Rattle.multiportgraph.specs.Inner.{Fine, Seen}
+use Rattle.multiportgraph.specs.WellFormed.{Fine, Seen}
 use Rattle.multiportgraph.specs.Ends.{BlockPort, Hangs, block-seen, split-has-copy}
 use Rattle.multiportgraph.specs.declared.multiportgraph.PortTidied.{PortTidied}
-use Rattle.multiportgraph.specs.HiddenNodes.{removeCopy, unsplit, unsplitRange, removeLone, removeAll, recounted, copiesDropped, Prepared, ready, full, copyIn, copyOut, splitGraph, splitPort, splitBy, splitUnder, lowestFree, moreIn, moreOut, enough, grownBy, growUnder, reuseUnder, prepareUnder, prepare}
+use Rattle.multiportgraph.specs.HiddenNodes.{removeCopy, unsplit, unsplitRange, removeLone, removeAll, recounted, copiesDropped, Prepared, ready, full, copyIncoming, copyOutgoing, splitGraph, splitPort, splitBy, splitUnder, lowestFree, moreIncoming, moreOutgoing, enough, grownBy, growUnder, reuseUnder, prepareUnder, prepare}
 use Rattle.multiportgraph.specs.Refusals.{Line, checked, addRefusals, removeRefusals, setRefusals, linkRefusals, linkCleanRefusals, linkSubRefusals, cutRefusals, subportRefusals, preparedGraph, preparedPort, firstEnd, secondEnd, inputTaken, endOf, joining}
 use Rattle.multiportgraph.specs.Calls.{addBlockUnder, addedAs, removeBlock, dropBlock, dropMeta, setCountsUnder, resizedMeta, setAs, linkPairIf, linkCleanIf, bothLinked, linkSubIf, joined, cutPort, cutPlain, cutSub, tidyPort}
 use Rattle.multiportgraph.specs.declared.multiportgraph.MultiPortGraph.{MultiPortGraph}
@@ -95,7 +95,7 @@ prepared-leads m (ready m′ q o) p = p
 
 split-leads : (m : MultiPortGraph) (p : ℕ) (d : Direction) → PreparedOn m (splitUnder present m p d)
 unfolding splitUnder splitPort splitGraph
-split-leads m p d = go (addNode (m .graph) (copyIn d) (copyOut d) .graph) (addNode (m .graph) (copyIn d) (copyOut d) .answer) (leads-add (m .graph) (copyIn d) (copyOut d))
+split-leads m p d = go (addNode (m .graph) (copyIncoming d) (copyOutgoing d) .graph) (addNode (m .graph) (copyIncoming d) (copyOutgoing d) .answer) (leads-add (m .graph) (copyIncoming d) (copyOutgoing d))
   where
     go : (g : PortGraph) (a : lower-add-answer.AddAnswer) → LeadsOn (m .graph) g → PreparedOn m (splitBy m p d g a)
     go g (lower-add.Added c first) h = leads-then h (leads-then (leads-unlink g p) (leads-then (leads-link _ p _) (leads-link _ _ _)))
@@ -105,8 +105,8 @@ split-leads m p d = go (addNode (m .graph) (copyIn d) (copyOut d) .graph) (addNo
 grow-leads : (m : MultiPortGraph) (c : ℕ) (d : Direction) → PreparedOn m (growUnder present m c d)
 unfolding growUnder recounted
 grow-leads m c d =
-    go (setNumPorts (m .graph) c (moreIn (m .graph) c d) (moreOut (m .graph) c d) enough .graph) (setNumPorts (m .graph) c (moreIn (m .graph) c d) (moreOut (m .graph) c d) enough .answer)
-    (leads-set (m .graph) c (moreIn (m .graph) c d) (moreOut (m .graph) c d) enough)
+    go (setNumPorts (m .graph) c (moreIncoming (m .graph) c d) (moreOutgoing (m .graph) c d) enough .graph) (setNumPorts (m .graph) c (moreIncoming (m .graph) c d) (moreOutgoing (m .graph) c d) enough .answer)
+    (leads-set (m .graph) c (moreIncoming (m .graph) c d) (moreOutgoing (m .graph) c d) enough)
   where
     go : (g : PortGraph) (a : lower-set-answer.SetAnswer) → LeadsOn (m .graph) g → PreparedOn m (grownBy m c d g a)
     go g (lower-set.Set e) h = h

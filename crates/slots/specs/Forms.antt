@@ -13,8 +13,8 @@ use Rattle.slots.specs.Blocks.{free, SlotBlock, slotBlock, nodeHolds, ch
 abbrev pub listNumbers : ℕ
 listNumbers = 3 * portSlots
 
-unfoldable pub heldIn : List ℕ → List SlotBlock
-heldIn nodes = flatMap (λ n. nodeHolds n (metaIn nodes n)) (range 0 nodeSlots)
+unfoldable pub takenIn : List ℕ → List SlotBlock
+takenIn nodes = flatMap (λ n. nodeHolds n (metaIn nodes n)) (range 0 nodeSlots)
 
 -- the blocks of a free list, from its head on
 unfoldable pub listFrom : List ℕ → ℕ → ℕ → ℕ → List SlotBlock
@@ -26,7 +26,7 @@ freeIn links heads = flatMap (λ k. listFrom links (headAt heads k) k portSlots)
 -- the blocks of lent tables by first slot
 unfoldable pub listIn : List ℕ → List ℕ → List ℕ → List SlotBlock
 listIn nodes links heads =
-    walkBlocks (laid sizeOf (heldIn nodes ++ freeIn links heads) (replicate portSlots 0)) (laid holderOfBlock (heldIn nodes ++ freeIn links heads) (replicate portSlots 0))
+    walkBlocks (laid sizeOf (takenIn nodes ++ freeIn links heads) (replicate portSlots 0)) (laid holderOfBlock (takenIn nodes ++ freeIn links heads) (replicate portSlots 0))
     0 portSlots
 
 -- blocks are laid in both tables

@@ -26,7 +26,7 @@ use Rattle.multiportgraph.specs.HiddenNodes.{copiesIn, copiesDropped, lowestFre
 use Rattle.multiportgraph.specs.Refusals.{inputTaken}
 use Rattle.multiportgraph.specs.Tidy.{subportsLeft}
 use Rattle.multiportgraph.specs.Answers.{refusalNumbers, addNumbers, removeNumbers, setNumbers, linkNumbers, cutNumbers, tidyNumbers}
-use Rattle.multiportgraph.specs.Inner.{Fine}
+use Rattle.multiportgraph.specs.WellFormed.{Fine}
 use Rattle.multiportgraph.specs.Space.{Room, roomOf, Work, takeNode, takeBlock, giveNode, giveBlock, blockTaken, afterWork, afterWorks, nodesShort, portsShort, nodesPast, portsPast, overflows, addWorks, goneWorks, copiesGone, moveWorks, recountWorks, setMetaWorks, setWorks, splitWorks, growWorks, reuseWorks, prepareWorks, secondWorks, linkSeenWorks, linkWorks, linkCleanSeenWorks, linkCleanWorks, removeMetaWorks, removeWorks, cutWorks, toldWorks, cutSeenWorks, tidyWorks, tidySeenWorks}
 use Rattle.multiportgraph.specs.SpaceLaws.{nodes-short-at-end, ports-short-at-end, overflows-at-end, after-append, room-of-graph}
 use Rattle.multiportgraph.specs.declared.multiportgraph.MultiPortGraph.{MultiPortGraph}

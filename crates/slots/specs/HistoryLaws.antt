@@ -21,8 +21,8 @@ use Rattle.portgraph.specs.declared.portgraph.PortLink.{PortLink}
 use Rattle.portgraph.specs.declared.portgraph.PortLink.the-variants.{Linked}
 use Rattle.multiportgraph.specs.Graph.{emptyGraph}
 use Rattle.multiportgraph.specs.Reading.{isHidden, isSplit, portOf, copySide, visible, seen}
-use Rattle.multiportgraph.specs.Inner.{Fine, MultiWf, copyPlace, Seen}
-use Rattle.multiportgraph.specs.PlainLaws.{fine-empty}
+use Rattle.multiportgraph.specs.WellFormed.{Fine, MultiWf, copyPlace, Seen}
+use Rattle.multiportgraph.specs.LinkCutLaws.{fine-empty}
 use Rattle.multiportgraph.specs.Ends.{block-seen, seen-block, split-has-copy, one-copy, copy-valid, port-of, main-seen}
 use Rattle.multiportgraph.specs.Space.{Room}
 use Rattle.multiportgraph.specs.Listing.{member-map, map-member}

@@ -33,7 +33,7 @@ use Rattle.portgraph.specs.declared.slots.NodeRemoved.{NodeRemoved}
 use Rattle.portgraph.specs.declared.resize.PortsSet.{PortsSet}
 use Rattle.portgraph.specs.declared.resize.SetAnswer.the-variants as set-variants
 use Rattle.slots.specs.Blocks.{Holder, byNode, free, SlotBlock, slotBlock, blocksOf}
-use Rattle.slots.specs.BlockLaws.{Has, has-some, in-blocks, blocks-in}
+use Rattle.slots.specs.BlockLaws.{Has, has-some, in-blocks, blocks-lent}
 
 -- The model.
 
@@ -171,7 +171,7 @@ leads-then p q w =
 by-models : {g g′ : PortGraph} {M N : Model} → Good M → Holds g M → Good N → Holds g′ N → Keeps M N → KeepsBlocks g g′
 by-models good holds good′ holds′ keeps b i =
     let r = keeps (b .first) (b .size) (b .holder) (in-blocks good holds b i) in
-    (r .0, blocks-in good′ holds′ (b .first) (b .size) (r .0) (r .1))
+    (r .0, blocks-lent good′ holds′ (b .first) (b .size) (r .0) (r .1))
 
 same-keeps : (g : PortGraph) → KeepsBlocks g g
 same-keeps g b i = (b .holder, i)

@@ -20,12 +20,12 @@ use Rattle.portgraph.specs.declared.lent.Counts.{Counts}
 use Rattle.portgraph.specs.declared.node_entry.NodeMeta.{NodeMeta}
 use Rattle.portgraph.specs.declared.node_entry.MaybeNodeMeta.{MaybeNodeMeta}
 use Rattle.portgraph.specs.declared.node_entry.MaybeNodeMeta.the-variants as maybe-meta
-use Rattle.multiportgraph.specs.Inner.{MultiWf}
+use Rattle.multiportgraph.specs.WellFormed.{MultiWf}
 use Rattle.multiportgraph.specs.MultiLent.{multiIn}
-use Rattle.multiportgraph.specs.declared.lent.Held.{Held}
+use Rattle.multiportgraph.specs.declared.lent.Totals.{Totals}
 use Rattle.multiportgraph.specs.declared.multiportgraph.MultiPortGraph.{MultiPortGraph}
 use Rattle.slots.specs.Blocks.{Holder, byNode, free, SlotBlock, slotBlock, nodeHolds, heldBlocks, chained, freeOf, listedFree, freeBlocks, blocksOf, holderNumber, holderOf, sizeOf, holderOfBlock, laid, sizesLaid, holdersLaid, walkBlocks, slotList, slotNumbers, blockNumbers}
-use Rattle.slots.specs.Forms.{listNumbers, listIn, heldIn, listFrom, freeIn, LaysBoth}
+use Rattle.slots.specs.Forms.{listNumbers, listIn, takenIn, listFrom, freeIn, LaysBoth}
 
 -- Laying.
 
@@ -105,7 +105,7 @@ list-on links head size (suc n) some h =
 
 pub listed-in : (nodes links owners heads : List ℕ) (counts : Counts) → length (slotsIn nodes) ≡ nodeSlots →
     listIn nodes links heads ≡ slotList (graphIn nodes links owners heads counts)
-unfolding listIn slotList sizesLaid holdersLaid heldBlocks freeBlocks heldIn freeIn listFrom freeOf
+unfolding listIn slotList sizesLaid holdersLaid heldBlocks freeBlocks takenIn freeIn listFrom freeOf
 listed-in nodes links owners heads counts long =
     ap (λ (f : ℕ → List SlotBlock).
     walkBlocks (laid sizeOf (flatMap f (range 0 nodeSlots) ++ freeIn links heads) (replicate portSlots 0)) (laid holderOfBlock (flatMap f (range 0 nodeSlots) ++ freeIn links heads) (replicate portSlots 0))
@@ -142,8 +142,8 @@ module _ {whole : List SlotBlock} {s₀ h₀ s h : List ℕ} where
   list-out links next size n x z = left-none (rw (sym (ap (listFrom links next size) z)) x)
 
 -- all that is held, and all that is free, is left at first
-pub held-begun : (nodes s h : List ℕ) → Left (heldIn nodes) (flatMap (λ n. nodeHolds n (metaIn nodes n)) (range 0 (nodeSlots - 0))) s h s h
-unfolding heldIn
+pub held-begun : (nodes s h : List ℕ) → Left (takenIn nodes) (flatMap (λ n. nodeHolds n (metaIn nodes n)) (range 0 (nodeSlots - 0))) s h s h
+unfolding takenIn
 held-begun nodes s h = left-all _ s h
 
 pub free-begun : (links heads s h : List ℕ) → Left (freeIn links heads) (flatMap (λ k. listFrom links (headAt heads k) k portSlots) (range 1 (freeLists - 1))) s h s h
@@ -246,11 +246,11 @@ pub from-head : (links heads : List ℕ) (size head : ℕ) {s h s′ h′ : List
 from-head links heads size head e x = rw e at x
 
 -- Both tables, from nothing laid: what is held and then what is free.
-pub laid-all : (nodes links heads s h : List ℕ) {s′ h′ : List ℕ} → LaysBoth (heldIn nodes) (replicate portSlots 0) (replicate portSlots 0) s h → LaysBoth (freeIn links heads) s h s′ h′ →
+pub laid-all : (nodes links heads s h : List ℕ) {s′ h′ : List ℕ} → LaysBoth (takenIn nodes) (replicate portSlots 0) (replicate portSlots 0) s h → LaysBoth (freeIn links heads) s h s′ h′ →
     (walkBlocks s′ h′ 0 portSlots ≡ listIn nodes links heads)
 unfolding listIn
 laid-all nodes links heads s h x y =
-    let z = lays-then {a = heldIn nodes} {b = freeIn links heads} x y in
+    let z = lays-then {a = takenIn nodes} {b = freeIn links heads} x y in
     λ i. walkBlocks (z .sizesAre i) (z .holdersAre i) 0 portSlots
 
 -- the walk over them lists the blocks of the tables
@@ -259,7 +259,7 @@ pub listed-so : (blocks list : List SlotBlock) (l l′ : List ℕ) (r : ℕ) →
 listed-so blocks list l l′ r e x = (x .0 ∙ ap length e, x .1 ∙ ap (λ (b : List SlotBlock). sets l 0 (flatMap blockNumbers b)) e)
 
 -- and those of the graph that the tables are
-pub listed-of : (m : MultiPortGraph) (nodes links owners heads : List ℕ) (marks flags : List Bool) (held : Held) → multiIn nodes links owners heads marks flags held ≡ m → MultiWf m →
+pub listed-of : (m : MultiPortGraph) (nodes links owners heads : List ℕ) (marks flags : List Bool) (held : Totals) → multiIn nodes links owners heads marks flags held ≡ m → MultiWf m →
     (l l′ : List ℕ) (r : ℕ) → (r ≡ length (listIn nodes links heads)) × (l′ ≡ sets l 0 (flatMap blockNumbers (listIn nodes links heads))) →
     (r ≡ length (slotList (m .graph))) × (l′ ≡ sets l 0 (slotNumbers (m .graph)))
 unfolding slotNumbers

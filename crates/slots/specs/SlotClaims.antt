@@ -14,7 +14,7 @@ use Rattle.portgraph.specs.Lookups.{portLink, port#}
 use Rattle.portgraph.specs.declared.direction.Direction.{Direction}
 use Rattle.portgraph.specs.declared.portgraph.PortLink.the-variants.{Linked}
 use Rattle.multiportgraph.specs.Reading.{isHidden, isSplit, seen, visible, portOf, copySide}
-use Rattle.multiportgraph.specs.Inner.{Fine}
+use Rattle.multiportgraph.specs.WellFormed.{Fine}
 use Rattle.multiportgraph.specs.Space.{Room, roomOf, Work, takeNode, takeBlock, giveNode, giveBlock, afterWork, portsShort}
 use Rattle.multiportgraph.specs.declared.multiportgraph.MultiPortGraph.{MultiPortGraph}
 use Rattle.theorems.specs.Book.{Call, AnswerOf}

@@ -7,7 +7,7 @@ use mathlib.Core.List.{List, [], _∷_, _++_}
 use Prim.Native.Nat.{ℕ}
 use Rattle.portgraph.specs.Lists.{Member}
 use Rattle.multiportgraph.specs.Graph.{emptyGraph}
-use Rattle.multiportgraph.specs.Inner.{MultiWf}
+use Rattle.multiportgraph.specs.WellFormed.{MultiWf}
 use Rattle.multiportgraph.specs.declared.multiportgraph.MultiPortGraph.{MultiPortGraph}
 use Rattle.multiportgraph.specs.declared.multiportgraph.Release.{Release}
 use Rattle.theorems.specs.Book.{Call}

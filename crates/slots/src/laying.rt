@@ -16,7 +16,7 @@ ghost use Rattle.portgraph.specs.Limits.{nodeSlots, portSlots};
 ghost use Rattle.portgraph.specs.Tables.{put};
 ghost use Rattle.portgraph.specs.Lent.{metaIn};
 ghost use Rattle.slots.specs.Blocks.{slotBlock, holderOf, nodeHolds};
-ghost use Rattle.slots.specs.Forms.{heldIn, listFrom, freeIn, LaysBoth};
+ghost use Rattle.slots.specs.Forms.{takenIn, listFrom, freeIn, LaysBoth};
 
 // Stores a number at a slot; outside nothing changes.
 fn put(table: &mut [u32; PORT_SLOTS], slot: usize, value: u32)
@@ -73,7 +73,7 @@ pub(crate) fn lay_nodes(
     holders: &mut [u32; PORT_SLOTS],
     nodes: &[u32; NODE_WORDS],
 )
-    ensures { λ _. ⌜ LaysBoth (heldIn (now (nodes .entry))) (now (sizes .entry)) (now (holders .entry)) (now (sizes .exit)) (now (holders .exit)) ⌝ }
+    ensures { λ _. ⌜ LaysBoth (takenIn (now (nodes .entry))) (now (sizes .entry)) (now (holders .entry)) (now (sizes .exit)) (now (holders .exit)) ⌝ }
 {
     let mut n: usize = 0;
     while n < NODE_SLOTS {

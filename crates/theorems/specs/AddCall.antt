@@ -12,7 +12,7 @@ use Rattle.portgraph.specs.SlotHolds.{slotRoom, blockRoom, addWhere, add-law}
 use Rattle.portgraph.specs.declared.slots.NodeAdded as lower-added
 use Rattle.multiportgraph.specs.Calls.{addedAs, addBlock}
 use Rattle.theorems.specs.Book as book
-use Rattle.multiportgraph.specs.Inner.{Fine}
+use Rattle.multiportgraph.specs.WellFormed.{Fine}
 use Rattle.multiportgraph.specs.declared.multiportgraph.MultiPortGraph.{MultiPortGraph}
 use Rattle.multiportgraph.specs.declared.multiportgraph.Refusal.{Refusal}
 use Rattle.multiportgraph.specs.declared.multiportgraph.Refusal.the-variants.{NoRoom}
@@ -21,7 +21,7 @@ use Rattle.multiportgraph.specs.declared.multiportgraph.AddAnswer.the-variants 
 use Rattle.multiportgraph.specs.declared.multiportgraph.NodeAdded.{NodeAdded}
 use Rattle.multiportgraph.specs.Graph.{withGraph}
 use Rattle.multiportgraph.specs.CaseLaws.{add-cases}
-use Rattle.multiportgraph.specs.PlainLaws.{add-block-law}
+use Rattle.multiportgraph.specs.LinkCutLaws.{add-block-law}
 use Rattle.theorems.specs.WireRule.{after-add}
 use Rattle.multiportgraph.specs.SpaceLaws.{add-call-space}
 use Rattle.theorems.specs.Works.{worksOf}

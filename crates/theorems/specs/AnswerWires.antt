@@ -28,9 +28,9 @@ use Rattle.multiportgraph.specs.Cases.{cutRefused, cutEnd, cutSubSeen, linkOfSe
 use Rattle.multiportgraph.specs.CaseLaws.{cut-cases, cut-sub-cases, subport-link-cases}
 use Rattle.multiportgraph.specs.Places.{Place, Wire, spot, wireOfSides}
 use Rattle.multiportgraph.specs.Wires.{placeOf}
-use Rattle.multiportgraph.specs.Inner.{Fine, Seen, lift, outer, IsEnd, WireIn, SameBlocks}
+use Rattle.multiportgraph.specs.WellFormed.{Fine, Seen, lift, outer, IsEnd, WireIn, SameBlocks}
 use Rattle.multiportgraph.specs.Ends.{BlockPort, EndOf, end-of-unsplit, other-side, block-seen, seen-block, outer-seen, outer-apart, outer-side, ends-join-ends, end-read, place-of-sub, subport-of, subport-is}
-use Rattle.multiportgraph.specs.PlainLaws.{LinkSubDone, LinkSubSays, link-sub-law}
+use Rattle.multiportgraph.specs.LinkCutLaws.{LinkSubDone, LinkSubSays, link-sub-law}
 use Rattle.multiportgraph.specs.SplitLaws.{HasEnd, end-of-wire}
 use Rattle.multiportgraph.specs.declared.multiportgraph.MultiPortGraph.{MultiPortGraph}
 use Rattle.multiportgraph.specs.declared.multiportgraph.SubportIndex.{SubportIndex}

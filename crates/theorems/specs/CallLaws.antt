@@ -8,7 +8,7 @@ use Rattle.portgraph.specs.GoodLaws.{emptyModel}
 use Rattle.theorems.specs.Book as book
 use Rattle.theorems.specs.Book.{Call, AnswerOf, Book, emptyBook}
 use Rattle.multiportgraph.specs.declared.multiportgraph.Release.{Release}
-use Rattle.multiportgraph.specs.Inner.{Fine, MultiWf}
+use Rattle.multiportgraph.specs.WellFormed.{Fine, MultiWf}
 use Rattle.multiportgraph.specs.declared.multiportgraph.MultiPortGraph.{MultiPortGraph}
 use Rattle.multiportgraph.specs.declared.multiportgraph.SubportIndex.{SubportIndex}
 use Rattle.multiportgraph.specs.declared.multiportgraph.PortPlace.{PortPlace}
@@ -23,7 +23,7 @@ use Rattle.multiportgraph.specs.declared.multiportgraph.Refusal.{Refusal}
 use Rattle.multiportgraph.specs.declared.multiportgraph.Refusal.the-variants.{NoRoom}
 use Rattle.multiportgraph.specs.Graph.{emptyGraph}
 use Rattle.theorems.specs.History.{step, entered, State, next, runFrom, runFromUnder, run, runUnder}
-use Rattle.multiportgraph.specs.PlainLaws.{fine-empty}
+use Rattle.multiportgraph.specs.LinkCutLaws.{fine-empty}
 use Rattle.theorems.specs.WireRule.{Rel, rel-start}
 use Rattle.multiportgraph.specs.Space.{roomOf, afterWorks, overflows}
 use Rattle.multiportgraph.specs.SpaceLaws.{Spaced, room-is}

@@ -18,7 +18,7 @@ use Rattle.portgraph.specs.declared.node_entry.NodeMeta.{NodeMeta}
 use Rattle.multiportgraph.specs.Reading.{isHidden}
 use Rattle.theorems.specs.Book as book
 use Rattle.theorems.specs.Book.{Call, AnswerOf}
-use Rattle.multiportgraph.specs.Inner.{copyPlace, BlockIs, Seen, lift, WireIn}
+use Rattle.multiportgraph.specs.WellFormed.{copyPlace, BlockIs, Seen, lift, WireIn}
 use Rattle.multiportgraph.specs.Ends.{EndOf}
 use Rattle.multiportgraph.specs.Places.{Wire}
 use Rattle.multiportgraph.specs.declared.multiportgraph.MultiPortGraph.{MultiPortGraph}

@@ -10,7 +10,7 @@ use Rattle.portgraph.specs.declared.portgraph.PortLink.the-variants as lower-cu
 use Rattle.multiportgraph.specs.Reading.{isSplit, Port, dead, hidden, visible, seen}
 use Rattle.multiportgraph.specs.Calls.{cutPlain, cutPort}
 use Rattle.theorems.specs.Book as book
-use Rattle.multiportgraph.specs.Inner.{Fine}
+use Rattle.multiportgraph.specs.WellFormed.{Fine}
 use Rattle.multiportgraph.specs.declared.multiportgraph.MultiPortGraph.{MultiPortGraph}
 use Rattle.multiportgraph.specs.declared.multiportgraph.Refusal.{Refusal}
 use Rattle.multiportgraph.specs.declared.multiportgraph.CutAnswer.the-variants as cutting

@@ -15,7 +15,7 @@ use Rattle.multiportgraph.specs.Reading.{isSplit, Port, dead, hidden, visible, 
 use Rattle.multiportgraph.specs.Calls.{cutSub, subportLink}
 use Rattle.theorems.specs.Book as book
 use Rattle.theorems.specs.Book.{readBy}
-use Rattle.multiportgraph.specs.Inner.{Fine}
+use Rattle.multiportgraph.specs.WellFormed.{Fine}
 use Rattle.multiportgraph.specs.declared.multiportgraph.MultiPortGraph.{MultiPortGraph}
 use Rattle.multiportgraph.specs.declared.multiportgraph.Refusal.{Refusal}
 use Rattle.multiportgraph.specs.declared.multiportgraph.CutAnswer.the-variants as cutting
@@ -23,7 +23,7 @@ use Rattle.multiportgraph.specs.declared.multiportgraph.PortUnlinked.{PortUnlin
 use Rattle.multiportgraph.specs.Places.{atEnd}
 use Rattle.multiportgraph.specs.Cases.{cutRefused, cutEnd, cutSubSeen, linkOfSeen}
 use Rattle.multiportgraph.specs.CaseLaws.{cut-sub-cases, subport-link-cases}
-use Rattle.multiportgraph.specs.PlainLaws.{endNamed, cut-sub-law}
+use Rattle.multiportgraph.specs.LinkCutLaws.{endNamed, cut-sub-law}
 use Rattle.theorems.specs.WireRule.{after-cut}
 use Rattle.multiportgraph.specs.SpaceLaws.{cut-sub-space}
 use Rattle.theorems.specs.Works.{worksOf}

@@ -10,7 +10,7 @@ use lib.ListN.{length}
 use borrow.Author.Tests.{eq-eqb, eqb-true}
 use Rattle.portgraph.specs.Lists.{Member, Once}
 use Rattle.multiportgraph.specs.declared.multiportgraph.Release.{Release}
-use Rattle.multiportgraph.specs.Inner.{inner#}
+use Rattle.multiportgraph.specs.WellFormed.{inner#}
 use Rattle.portgraph.specs.declared.direction.Direction.{Direction}
 use Rattle.portgraph.specs.declared.direction.Direction.the-variants.{Outgoing}
 use Rattle.multiportgraph.specs.Places.{Wire, spot, atSpot, touches}

@@ -19,7 +19,7 @@ use Rattle.theorems.specs.History.{State, run}
 use Rattle.theorems.specs.BookLaws.{same-count}
 use Rattle.multiportgraph.specs.Listing.{Apart, member-map, map-member, rising-map, length-map}
 use Rattle.multiportgraph.specs.WalkRule.{walk-is-listing, walked-is-wires, walked-once}
-use Rattle.multiportgraph.specs.Inner.{BlockIs}
+use Rattle.multiportgraph.specs.WellFormed.{BlockIs}
 use Rattle.multiportgraph.specs.Ends.{ports-of-side}
 use Rattle.theorems.specs.PortListing.{ListsBlocks, blocks-as-many, blocks-list, bothSides, by-blocks-lists, lists-as-long, ascending-lists, visible-ports-ascending}
 use Rattle.multiportgraph.specs.CountLaws.{visible-nodes, visible-links}

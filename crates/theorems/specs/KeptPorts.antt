@@ -13,7 +13,7 @@ use Rattle.portgraph.specs.Entries.{portsOn}
 use Rattle.portgraph.specs.declared.direction.Direction.{Direction}
 use Rattle.multiportgraph.specs.declared.multiportgraph.Release.{Release}
 use Rattle.multiportgraph.specs.Reading.{isSplit}
-use Rattle.multiportgraph.specs.Inner.{inner#, Fine, Seen}
+use Rattle.multiportgraph.specs.WellFormed.{inner#, Fine, Seen}
 use Rattle.multiportgraph.specs.Ends.{port-of, count-of}
 use Rattle.multiportgraph.specs.RecountLaws.{count-new, number-cases}
 use Rattle.multiportgraph.specs.SetLaws.{SetDone, set-counts-law}

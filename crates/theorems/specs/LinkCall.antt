@@ -16,7 +16,7 @@ use Rattle.portgraph.specs.declared.direction.Direction.the-variants.{Incoming,
 use Rattle.portgraph.specs.declared.index.PortIndex.{PortIndex}
 use Rattle.multiportgraph.specs.Reading.{Port, dead, hidden, visible, seen, subport#}
 use Rattle.theorems.specs.Book as book
-use Rattle.multiportgraph.specs.Inner.{Fine}
+use Rattle.multiportgraph.specs.WellFormed.{Fine}
 use Rattle.multiportgraph.specs.declared.multiportgraph.MultiPortGraph.{MultiPortGraph}
 use Rattle.multiportgraph.specs.declared.multiportgraph.Refusal.{Refusal}
 use Rattle.multiportgraph.specs.declared.multiportgraph.Refusal.the-variants.{NoRoom, UnknownSecondPort, IncompatibleDirections, InputWired}

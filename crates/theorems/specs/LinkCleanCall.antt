@@ -13,7 +13,7 @@ use Rattle.portgraph.specs.GoodSlots.{zero-is-not-one}
 use Rattle.portgraph.specs.GoodLaws.{same-side-is}
 use Rattle.portgraph.specs.declared.direction.Direction.{Direction}
 use Rattle.multiportgraph.specs.Reading.{Port, dead, hidden, visible, seen}
-use Rattle.multiportgraph.specs.Inner.{Fine}
+use Rattle.multiportgraph.specs.WellFormed.{Fine}
 use Rattle.multiportgraph.specs.HiddenNodes.{Prepared, ready, full, prepare}
 use Rattle.multiportgraph.specs.Refusals.{inputTaken}
 use Rattle.multiportgraph.specs.Calls.{linkPair, linkPairIf, linkClean, linkCleanIf}

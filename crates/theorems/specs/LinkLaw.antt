@@ -15,9 +15,9 @@ use Rattle.portgraph.specs.Model.{Model, Good, slotOf, countOf, firstOf, sideSt
 use Rattle.portgraph.specs.declared.direction.Direction.{Direction}
 use Rattle.portgraph.specs.declared.direction.Direction.the-variants.{Incoming, Outgoing}
 use Rattle.multiportgraph.specs.Reading.{Port, dead, hidden, visible, seen, subport#}
-use Rattle.multiportgraph.specs.Inner.{Fine, Seen, lift, WireIn, SameBlocks, Wiring, none, SameWires}
+use Rattle.multiportgraph.specs.WellFormed.{Fine, Seen, lift, WireIn, SameBlocks, Wiring, none, SameWires}
 use Rattle.multiportgraph.specs.Ends.{BlockPort, block-seen}
-use Rattle.multiportgraph.specs.PlainLaws.{Joined, join-ends}
+use Rattle.multiportgraph.specs.LinkCutLaws.{Joined, join-ends}
 use Rattle.multiportgraph.specs.SplitLaws.{HasEnd, KeptEnd, PreparedEnd, PreparedSays}
 use Rattle.multiportgraph.specs.PrepareLaws.{prepare-says}
 use Rattle.multiportgraph.specs.declared.multiportgraph.MultiPortGraph.{MultiPortGraph}

@@ -22,7 +22,7 @@ use Rattle.multiportgraph.specs.Reading.{Port, dead, hidden, visible, seen, End
 use Rattle.multiportgraph.specs.Refusals.{inputTaken}
 use Rattle.multiportgraph.specs.Calls.{linkSub, linkSubIf}
 use Rattle.theorems.specs.Book as book
-use Rattle.multiportgraph.specs.Inner.{Fine}
+use Rattle.multiportgraph.specs.WellFormed.{Fine}
 use Rattle.multiportgraph.specs.Ends.{EndOf}
 use Rattle.multiportgraph.specs.declared.multiportgraph.MultiPortGraph.{MultiPortGraph}
 use Rattle.multiportgraph.specs.declared.multiportgraph.Refusal.{Refusal}
@@ -32,7 +32,7 @@ use Rattle.multiportgraph.specs.declared.multiportgraph.PortsLinked.{PortsLinke
 use Rattle.multiportgraph.specs.Graph.{withGraph}
 use Rattle.multiportgraph.specs.Cases.{linkRefused, linkInner, linkSecondEnd, linkFirstEnd, linkSubSeen, takenFirst, takenSecond, takenSubSeen}
 use Rattle.multiportgraph.specs.CaseLaws.{link-sub-cases, link-sub-taken}
-use Rattle.multiportgraph.specs.PlainLaws.{link-sub-law}
+use Rattle.multiportgraph.specs.LinkCutLaws.{link-sub-law}
 use Rattle.theorems.specs.WireRule.{after-link-sub}
 use Rattle.multiportgraph.specs.SpaceLaws.{link-sub-space}
 use Rattle.theorems.specs.Works.{worksOf}

@@ -22,9 +22,9 @@ use Rattle.multiportgraph.specs.Reading.{isHidden, isSplit, subports, subportAt
 use Rattle.multiportgraph.specs.Places.{Place, Wire, spot, atSpot, touches, wireOfSides}
 use Rattle.multiportgraph.specs.Wires.{subportsOfPort, wireTo, wireOf, placeOf}
 use Rattle.multiportgraph.specs.Walks.{portLinks}
-use Rattle.multiportgraph.specs.Inner.{Fine, Seen, lift, outer, IsEnd, WireIn, copyPlace}
+use Rattle.multiportgraph.specs.WellFormed.{Fine, Seen, lift, outer, IsEnd, WireIn, copyPlace}
 use Rattle.multiportgraph.specs.Ends.{EndOf, lift-place, seen-block, ends-join-ends, out-side, into-side, outer-seen, outer-apart, end-read, place-of-sub, subport-of, other-side, hangs, one-copy, end-side, outer-of-subport, outer-of-block, end-of-split, end-of-unsplit}
-use Rattle.multiportgraph.specs.PlainLaws.{at-spot-is}
+use Rattle.multiportgraph.specs.LinkCutLaws.{at-spot-is}
 use Rattle.multiportgraph.specs.Listing.{member-flatMap, flatMap-member, member-map, map-member, range-member}
 use Rattle.multiportgraph.specs.declared.multiportgraph.MultiPortGraph.{MultiPortGraph}
 use Rattle.multiportgraph.specs.declared.multiportgraph.SubportIndex.{SubportIndex}

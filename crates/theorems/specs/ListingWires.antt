@@ -26,9 +26,9 @@ use Rattle.multiportgraph.specs.Places as places
 use Rattle.multiportgraph.specs.Places.{Place, Wire, Spot, spot, atSpot, touches}
 use Rattle.multiportgraph.specs.Wires.{isBlock, blocks, portsOfSide, subportsOfPort, subportsOfSide, wireOf, sideLinks, placeOf}
 use Rattle.multiportgraph.specs.Walks.{portLinksSeen, portLinks, notSkipped, nodeLinks, notIgnored, neighbourLinks, neighbours, connections}
-use Rattle.multiportgraph.specs.Inner.{inner#, Fine, BlockIs, Seen, lift}
+use Rattle.multiportgraph.specs.WellFormed.{inner#, Fine, BlockIs, Seen, lift}
 use Rattle.multiportgraph.specs.Ends.{seen-block, block-seen, ends-join-ends, outer-seen, place-of-sub, map-append}
-use Rattle.multiportgraph.specs.PlainLaws.{at-spot-here, at-spot-is}
+use Rattle.multiportgraph.specs.LinkCutLaws.{at-spot-here, at-spot-is}
 use Rattle.multiportgraph.specs.Listing.{Apart, member-filter, filter-member, member-flatMap, flatMap-member, member-map, map-member, filter-append, rising-filter, rising-map, rising-once}
 use Rattle.multiportgraph.specs.ScanLaws.{block-not-hidden, block-has-meta}
 use Rattle.multiportgraph.specs.declared.multiportgraph.MultiPortGraph.{MultiPortGraph}

@@ -21,7 +21,7 @@ use Rattle.portgraph.specs.Lookups.{metaAt, metaOfEntry, numPorts, nodePortCapa
 use Rattle.portgraph.specs.Model as model
 use Rattle.portgraph.specs.Model.{Model, Far, nowhere, to, Slots, live, Valid, slotOf, firstOf, sideStart}
 use Rattle.portgraph.specs.Meaning.{metaOf, samePlace, keepFar, dropJoin, nextBlock}
-use Rattle.portgraph.specs.Resize.{roundUp, Plan, refuse, same, inside, anew, sameCounts, fitsInside, planOf, firstSlot, keptIn, keptOut, dropIncoming, dropTold, resizeInside, resizeAnew, insideTold, anewTold, setBy, toldBy, setNumPorts, setNumPortsUnder, movesAfterUnder}
+use Rattle.portgraph.specs.Resize.{roundUp, Plan, refuse, same, inside, anew, sameCounts, fitsInside, planOf, firstSlot, keptIncoming, keptOutgoing, dropIncoming, dropTold, resizeInside, resizeAnew, insideTold, anewTold, setBy, toldBy, setNumPorts, setNumPortsUnder, movesAfterUnder}
 use Rattle.portgraph.specs.ResizeLaws.{planLive, plan-law, eventsOf, told-length, events-fit}
 use Rattle.portgraph.specs.SlotHolds.{blockRoom}
 use Rattle.portgraph.specs.GoodSlots.{zero-is-not-one, joined-is-valid}
@@ -45,7 +45,7 @@ use Rattle.multiportgraph.specs.HiddenNodes.{copiesIn, copiesDropped, recounted
 use Rattle.multiportgraph.specs.Calls.{setAs, setCounts, movesTold, movesToldUnder, toldMeta}
 use Rattle.multiportgraph.specs.Cases.{resized, setMeta}
 use Rattle.multiportgraph.specs.CaseLaws.{set-cases}
-use Rattle.multiportgraph.specs.Inner.{inner#, Fine}
+use Rattle.multiportgraph.specs.WellFormed.{inner#, Fine}
 use Rattle.multiportgraph.specs.Ends.{map-append, filter-append, port-of, far-of, linked-is, unlinked-is}
 use Rattle.multiportgraph.specs.RecountLaws.{Recount, SomeRecount, set-recounts}
 use Rattle.multiportgraph.specs.Space.{Room, roomOf, blockTaken, afterWork, afterWorks, overflows, goneWorks, copiesGone, moveWorks, recountWorks, setMetaWorks, setWorks}
@@ -227,35 +227,35 @@ module _ {m : MultiPortGraph} {M : Model} (f : Fine m M) where
 
     -- the numbers of the dropped places
     dropped-ports : (i o : ℕ) → map (portHere (m .graph) n) (droppedPlaces (k .incoming) (k .outgoing) i o)
-        ≡ range (firstSlot k + keptIn k i) (k .incoming - keptIn k i) ++ range (firstSlot k + k .incoming + keptOut k o) (k .outgoing - keptOut k o)
+        ≡ range (firstSlot k + keptIncoming k i) (k .incoming - keptIncoming k i) ++ range (firstSlot k + k .incoming + keptOutgoing k o) (k .outgoing - keptOutgoing k o)
     unfolding droppedPlaces positions
     dropped-ports i o =
-        let ci : k .incoming - i ≡ k .incoming - keptIn k i = omega arith in
-        let co : k .outgoing - o ≡ k .outgoing - keptOut k o = omega arith in
-        let pi : map (portHere (m .graph) n) (map (onSide Incoming) (range i (k .incoming - i))) ≡ range (firstSlot k + keptIn k i) (k .incoming - keptIn k i) =
-        ports-here (k .incoming - i) (m .graph) n Incoming i (firstSlot k + keptIn k i) (λ x l. port-here Incoming (i + x) (omega arith) ∙ omega arith)
-        ∙ ap (range (firstSlot k + keptIn k i)) ci in
-        let po : map (portHere (m .graph) n) (map (onSide Outgoing) (range o (k .outgoing - o))) ≡ range (firstSlot k + k .incoming + keptOut k o) (k .outgoing - keptOut k o) =
-        ports-here (k .outgoing - o) (m .graph) n Outgoing o (firstSlot k + k .incoming + keptOut k o) (λ x l. port-here Outgoing (o + x) (omega arith) ∙ omega arith)
-        ∙ ap (range (firstSlot k + k .incoming + keptOut k o)) co in
+        let ci : k .incoming - i ≡ k .incoming - keptIncoming k i = omega arith in
+        let co : k .outgoing - o ≡ k .outgoing - keptOutgoing k o = omega arith in
+        let pi : map (portHere (m .graph) n) (map (onSide Incoming) (range i (k .incoming - i))) ≡ range (firstSlot k + keptIncoming k i) (k .incoming - keptIncoming k i) =
+        ports-here (k .incoming - i) (m .graph) n Incoming i (firstSlot k + keptIncoming k i) (λ x l. port-here Incoming (i + x) (omega arith) ∙ omega arith)
+        ∙ ap (range (firstSlot k + keptIncoming k i)) ci in
+        let po : map (portHere (m .graph) n) (map (onSide Outgoing) (range o (k .outgoing - o))) ≡ range (firstSlot k + k .incoming + keptOutgoing k o) (k .outgoing - keptOutgoing k o) =
+        ports-here (k .outgoing - o) (m .graph) n Outgoing o (firstSlot k + k .incoming + keptOutgoing k o) (λ x l. port-here Outgoing (o + x) (omega arith) ∙ omega arith)
+        ∙ ap (range (firstSlot k + k .incoming + keptOutgoing k o)) co in
         map-append (portHere (m .graph) n) (map (onSide Incoming) (range i (k .incoming - i))) (map (onSide Outgoing) (range o (k .outgoing - o)))
         ∙ (λ q. pi q ++ po q)
 
     dropped-told : (i o : ℕ) → dropTold (m .graph .«port_link») k i o ≡ removedEvents (m .graph) [] (map (portHere (m .graph) n) (droppedPlaces (k .incoming) (k .outgoing) i o))
     unfolding dropTold dropIncoming isOneOf
     dropped-told i o =
-        let a = run-told (k .incoming - keptIn k i) (λ x. inner# n Incoming (keptIn k i + x)) (M .join) (m .graph .«port_link») (firstSlot k + keptIn k i) [] cutting-starts none
-        (λ x l. valid-here Incoming (keptIn k i + x) (omega arith)) (λ x l. slot-here Incoming (keptIn k i + x) ∙ omega arith) in
-        let b = run-told (k .outgoing - keptOut k o) (λ x. inner# n Outgoing (keptOut k o + x)) (a .join)
-        (cutRange (m .graph .«port_link») (firstSlot k + keptIn k i) (k .incoming - keptIn k i)) (firstSlot k + k .incoming + keptOut k o)
-        (tell [] (range (firstSlot k + keptIn k i) (k .incoming - keptIn k i))) (a .next)
+        let a = run-told (k .incoming - keptIncoming k i) (λ x. inner# n Incoming (keptIncoming k i + x)) (M .join) (m .graph .«port_link») (firstSlot k + keptIncoming k i) [] cutting-starts none
+        (λ x l. valid-here Incoming (keptIncoming k i + x) (omega arith)) (λ x l. slot-here Incoming (keptIncoming k i + x) ∙ omega arith) in
+        let b = run-told (k .outgoing - keptOutgoing k o) (λ x. inner# n Outgoing (keptOutgoing k o + x)) (a .join)
+        (cutRange (m .graph .«port_link») (firstSlot k + keptIncoming k i) (k .incoming - keptIncoming k i)) (firstSlot k + k .incoming + keptOutgoing k o)
+        (tell [] (range (firstSlot k + keptIncoming k i) (k .incoming - keptIncoming k i))) (a .next)
         (λ q l. a .new q (omega arith))
-        (λ x l. valid-here Outgoing (keptOut k o + x) (omega arith)) (λ x l. slot-here Outgoing (keptOut k o + x) ∙ omega arith) in
+        (λ x l. valid-here Outgoing (keptOutgoing k o + x) (omega arith)) (λ x l. slot-here Outgoing (keptOutgoing k o + x) ∙ omega arith) in
         (λ q. a .events q ++ b .events q)
-        ∙ (sym (removed-append (m .graph) [] (range (firstSlot k + keptIn k i) (k .incoming - keptIn k i)) (range (firstSlot k + k .incoming + keptOut k o) (k .outgoing - keptOut k o)))
+        ∙ (sym (removed-append (m .graph) [] (range (firstSlot k + keptIncoming k i) (k .incoming - keptIncoming k i)) (range (firstSlot k + k .incoming + keptOutgoing k o) (k .outgoing - keptOutgoing k o)))
         ∙ ap (removedEvents (m .graph) []) (sym (dropped-ports i o)))
       where
-        none : (q : ℕ) → firstSlot k + keptIn k i ≤ q → isOneOf q [] ≡ false
+        none : (q : ℕ) → firstSlot k + keptIncoming k i ≤ q → isOneOf q [] ≡ false
         none q l = refl
 
 -- The graph after the call.
@@ -318,7 +318,7 @@ module _ {m : MultiPortGraph} {M : Model} (f : Fine m M) (n : ℕ) (k : NodeMeta
       z : After (graphAfter m n k i o (resizeInside (m .graph) n k i o)) n (metaOf (firstSlot k) i o (k .capacity))
       z = after (resizeInside (m .graph) n k i o) s (metaOf (firstSlot k) i o (k .capacity)) meta-inside
 
-      moved : (c : Bool) → shiftEvents c (firstSlot k + k .incoming) (firstSlot k + i) (keptOut k o)
+      moved : (c : Bool) → shiftEvents c (firstSlot k + k .incoming) (firstSlot k + i) (keptOutgoing k o)
           ≡ movedEvents (m .graph) (graphAfter m n k i o (resizeInside (m .graph) n k i o) .graph) n (cond c (positions Outgoing 0 (min (k .outgoing) o)) (positionsDown Outgoing (min (k .outgoing) o)))
       moved true =
           let all : min (k .outgoing) o - 0 ≡ min (k .outgoing) o = omega arith in
@@ -346,13 +346,13 @@ module _ {m : MultiPortGraph} {M : Model} (f : Fine m M) (n : ℕ) (k : NodeMeta
       z : After (graphAfter m n k i o (resizeAnew (m .graph) n k i o first size)) n (metaOf first i o size)
       z = after (resizeAnew (m .graph) n k i o first size) s (metaOf first i o size) (meta-anew first size)
 
-      come : moveUpEvents (firstSlot k) first (keptIn k i) ≡ movedEvents (m .graph) h n (map (onSide Incoming) (range 0 (min (k .incoming) i)))
+      come : moveUpEvents (firstSlot k) first (keptIncoming k i) ≡ movedEvents (m .graph) h n (map (onSide Incoming) (range 0 (min (k .incoming) i)))
       come =
           moved-up (min (k .incoming) i) (m .graph) h n Incoming 0 (firstSlot k) first
           (λ x l. port-here f n k here Incoming (0 + x) (omega arith) ∙ omega arith)
           (λ x l. port-here (z .fine) n (metaOf first i o size) (z .here) Incoming (0 + x) (omega arith) ∙ omega arith)
 
-      go : moveUpEvents (firstSlot k + k .incoming) (first + i) (keptOut k o) ≡ movedEvents (m .graph) h n (map (onSide Outgoing) (range 0 (min (k .outgoing) o)))
+      go : moveUpEvents (firstSlot k + k .incoming) (first + i) (keptOutgoing k o) ≡ movedEvents (m .graph) h n (map (onSide Outgoing) (range 0 (min (k .outgoing) o)))
       go =
           moved-up (min (k .outgoing) o) (m .graph) h n Outgoing 0 (firstSlot k + k .incoming) (first + i)
           (λ x l. port-here f n k here Outgoing (0 + x) (omega arith) ∙ omega arith)
@@ -524,11 +524,11 @@ copies-are (suc c) m p = go (isSplit m p) (copies-are c m (suc p))
 copies-told : {m : MultiPortGraph} {M : Model} → Fine m M → (n : ℕ) (k : NodeMeta) → M .node n ≡ live k → (i o : ℕ) → copiesDropped m k i o ≡ hiddenTold m n i o
 unfolding copiesDropped hiddenTold
 copies-told {m} f n k here i o =
-    let a : List ℕ = range (firstSlot k + keptIn k i) (k .incoming - keptIn k i) in
-    let b : List ℕ = range (firstSlot k + k .incoming + keptOut k o) (k .outgoing - keptOut k o) in
+    let a : List ℕ = range (firstSlot k + keptIncoming k i) (k .incoming - keptIncoming k i) in
+    let b : List ℕ = range (firstSlot k + k .incoming + keptOutgoing k o) (k .outgoing - keptOutgoing k o) in
     let meta : metaAt (m .graph) n ≡ maybe-meta.Some k = meta-of-node (f .good) (f .holds) n k here in
     let ports : copiesDropped m k i o ≡ map (copyNode m) (filter (isSplit m) a) ++ map (copyNode m) (filter (isSplit m) b) =
-    λ q. copies-are (k .incoming - keptIn k i) m (firstSlot k + keptIn k i) q ++ copies-are (k .outgoing - keptOut k o) m (firstSlot k + k .incoming + keptOut k o) q in
+    λ q. copies-are (k .incoming - keptIncoming k i) m (firstSlot k + keptIncoming k i) q ++ copies-are (k .outgoing - keptOutgoing k o) m (firstSlot k + k .incoming + keptOutgoing k o) q in
     ports
     ∙ (sym (map-append (copyNode m) (filter (isSplit m) a) (filter (isSplit m) b))
     ∙ (ap (map (copyNode m)) (sym (filter-append (isSplit m) a b) ∙ ap (filter (isSplit m)) (sym (dropped-ports f n k here i o)))

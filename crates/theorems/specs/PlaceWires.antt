@@ -23,7 +23,7 @@ use Rattle.multiportgraph.specs.Answers.{unplaced}
 use Rattle.multiportgraph.specs.Places.{Place, spot, portPlace, wireOfSides}
 use Rattle.multiportgraph.specs.Wires.{isBlock, blocks, sideLinks, allWires, placeOf, stepWires, firstItem}
 use Rattle.multiportgraph.specs.Walks.{portLinksSeen, portLinks, notSkipped, nodeLinks, connections, stepLinks, stepConnections}
-use Rattle.multiportgraph.specs.Inner.{inner#}
+use Rattle.multiportgraph.specs.WellFormed.{inner#}
 use Rattle.multiportgraph.specs.Ends.{block-seen}
 use Rattle.multiportgraph.specs.Listing.{member-right, member-filter, member-flatMap}
 use Rattle.multiportgraph.specs.ScanLaws.{block-not-hidden}

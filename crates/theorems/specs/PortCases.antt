@@ -10,7 +10,7 @@ use Rattle.portgraph.specs.GoodSlots.{zero-is-not-one}
 use Rattle.portgraph.specs.PlaceLaws.{slot-cases, dead-port}
 use Rattle.portgraph.specs.LinkHolds.{Dead}
 use Rattle.multiportgraph.specs.Reading.{isHidden, isSplit, dead, hidden, visible, seen, subports, End, inner, lacking, endAt}
-use Rattle.multiportgraph.specs.Inner.{Fine, lift, outer}
+use Rattle.multiportgraph.specs.WellFormed.{Fine, lift, outer}
 use Rattle.multiportgraph.specs.Ends as ends
 use Rattle.multiportgraph.specs.Ends.{EndOf}
 use Rattle.multiportgraph.specs.declared.multiportgraph.MultiPortGraph.{MultiPortGraph}

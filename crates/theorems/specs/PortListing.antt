@@ -21,7 +21,7 @@ use Rattle.multiportgraph.specs.Reading.{portOf, isHidden, Port, dead, hidden, 
 use Rattle.multiportgraph.specs.Calls.{visiblePorts}
 use Rattle.multiportgraph.specs.Wires.{isBlock, blocks, portsOfSide}
 use Rattle.multiportgraph.specs.Walks.{isSeen, allPorts, portsByBlock}
-use Rattle.multiportgraph.specs.Inner.{inner#, Fine, BlockIs, Seen}
+use Rattle.multiportgraph.specs.WellFormed.{inner#, Fine, BlockIs, Seen}
 use Rattle.multiportgraph.specs.Ends as ends
 use Rattle.multiportgraph.specs.Listing.{Apart, member-left, member-right, member-append, member-filter, filter-member, member-flatMap, flatMap-member, member-map, map-member, member-range, range-member, rising-append, rising-filter, rising-flatMap, rising-map, range-rises}
 use Rattle.theorems.specs.WireRule.{seen-live}

@@ -40,8 +40,8 @@ use Rattle.portgraph.specs.declared.resize.SetAnswer as lower-set-answer
 use Rattle.portgraph.specs.declared.resize.SetAnswer.the-variants as lower-set
 use Rattle.multiportgraph.specs.Reading.{isHidden, isSplit, hasLink, farPort, portOf, copyNode, copySide, subportAt, Port, dead, hidden, visible, seen, End, inner, lacking, endAt, asRead}
 use Rattle.multiportgraph.specs.Graph.{withGraph}
-use Rattle.multiportgraph.specs.Inner.{Fine}
-use Rattle.multiportgraph.specs.Frame.{true-not-false}
+use Rattle.multiportgraph.specs.WellFormed.{Fine}
+use Rattle.multiportgraph.specs.HiddenStays.{true-not-false}
 use Rattle.multiportgraph.specs.RecountLaws.{SomeRecount, set-recounts}
 use Rattle.multiportgraph.specs.HiddenNodes.{copiesDropped, recounted, removeAll, removeCopy, removeLone, unsplit, unsplitRange}
 use Rattle.multiportgraph.specs.Refusals.{goodOffset}

@@ -7,9 +7,9 @@ use Rattle.portgraph.specs.Lists.{Member}
 use Rattle.portgraph.specs.declared.direction.Direction.the-variants.{Incoming}
 use Rattle.multiportgraph.specs.Reading.{isSplit, visible, seen}
 use Rattle.multiportgraph.specs.Graph.{emptyGraph}
-use Rattle.multiportgraph.specs.Inner.{MultiWf}
-use Rattle.multiportgraph.specs.Frame.{true-not-false}
-use Rattle.multiportgraph.specs.PlainLaws.{none-hidden}
+use Rattle.multiportgraph.specs.WellFormed.{MultiWf}
+use Rattle.multiportgraph.specs.HiddenStays.{true-not-false}
+use Rattle.multiportgraph.specs.LinkCutLaws.{none-hidden}
 use Rattle.multiportgraph.specs.Places.{Wire}
 use Rattle.multiportgraph.specs.declared.multiportgraph.Release.the-variants.{Two}
 use Rattle.theorems.specs.Book.{Call}

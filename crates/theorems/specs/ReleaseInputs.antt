@@ -32,14 +32,14 @@ use Rattle.portgraph.specs.declared.resize.SetAnswer as lower-set-answer
 use Rattle.portgraph.specs.declared.resize.SetAnswer.the-variants as lower-set
 use Rattle.multiportgraph.specs.Reading.{isHidden, isSplit, hasLink, isLinked, portOf, copyNode, copySide, subports, Port, dead, hidden, visible, seen, endAt, subport#, farSubport}
 use Rattle.multiportgraph.specs.Graph.{withSubports}
-use Rattle.multiportgraph.specs.Inner.{Fine, Seen, IsEnd, outer, WireIn}
+use Rattle.multiportgraph.specs.WellFormed.{Fine, Seen, IsEnd, outer, WireIn}
 use Rattle.multiportgraph.specs.Ends.{BlockPort, Hangs, block-seen, count-of, end-side, ends-join-ends, into-side, linked-is, outer-of-block, outer-side, split-has-copy, subport-count, unlinked-is, unsplit-is-end, wires-by-into}
-use Rattle.multiportgraph.specs.Frame.{true-not-false}
+use Rattle.multiportgraph.specs.HiddenStays.{true-not-false}
 use Rattle.multiportgraph.specs.SplitLaws.{PreparedEnd}
 use Rattle.multiportgraph.specs.PrepareLaws.{prepare-law}
 use Rattle.multiportgraph.specs.RecountLaws.{SomeRecount, set-recounts, growth#, number-cases}
-use Rattle.multiportgraph.specs.HiddenNodes.{enough, full, grow, grownBy, growUnder, lowestFree, more, moreIn, moreOut, Prepared, prepare, prepareUnder, ready, recounted, reuse, reuseUnder, split, splitBy, splitGraph, splitPort, splitUnder}
-use Rattle.multiportgraph.specs.Tidy.{subportsLeft, leftIn, leftOut, resizedWithin, dropSubports, linkDirectly, tidied}
+use Rattle.multiportgraph.specs.HiddenNodes.{enough, full, grow, grownBy, growUnder, lowestFree, more, moreIncoming, moreOutgoing, Prepared, prepare, prepareUnder, ready, recounted, reuse, reuseUnder, split, splitBy, splitGraph, splitPort, splitUnder}
+use Rattle.multiportgraph.specs.Tidy.{subportsLeft, leftIncoming, leftOutgoing, resizedWithin, dropSubports, linkDirectly, tidied}
 use Rattle.multiportgraph.specs.TidyLaws.{DropWithin, within-is, within-set, left-within}
 use Rattle.multiportgraph.specs.Wires.{subportsOfPort, wireOf, wireTo}
 use Rattle.multiportgraph.specs.Walks.{fanOut, portLinks}
@@ -109,7 +109,7 @@ module _ {m : MultiPortGraph} {M : Model} (f : Fine m M) (on : OnOutputs m) wher
       g′ : PortGraph
       g′ = growth# m c Outgoing .graph
 
-      grown : SomeRecount g′ M c (moreIn (m .graph) c Outgoing) (moreOut (m .graph) c Outgoing) → OnOutputs (more (recounted m c g′))
+      grown : SomeRecount g′ M c (moreIncoming (m .graph) c Outgoing) (moreOutgoing (m .graph) c Outgoing) → OnOutputs (more (recounted m c g′))
       grown s k h =
           let r = s .is in
           ⊎-elim
@@ -272,19 +272,19 @@ module _ {m : MultiPortGraph} {M : Model} (f : Fine m M) (on : OnOutputs m) wher
   -- Tidying a port.
 
   -- how many incoming ports a hidden node of an output is left with
-  one-in : (d : Direction) (n : ℕ) → d ≡ Outgoing → leftIn d n ≡ 1
+  one-in : (d : Direction) (n : ℕ) → d ≡ Outgoing → leftIncoming d n ≡ 1
   one-in Outgoing n e = refl
   one-in Incoming n e = absurd (zero-is-not-one (cc))
 
   -- the hidden node of an output is left with some of its subports
-  drop-on : (c : ℕ) (k : NodeMeta) (d : Direction) (n : ℕ) → d ≡ Outgoing → DropWithin (m .graph) c k (leftIn d n) (leftOut d n) → OnOutputs (dropSubports m c d n)
+  drop-on : (c : ℕ) (k : NodeMeta) (d : Direction) (n : ℕ) → d ≡ Outgoing → DropWithin (m .graph) c k (leftIncoming d n) (leftOutgoing d n) → OnOutputs (dropSubports m c d n)
   unfolding dropSubports recounted isHidden
   drop-on c k d n out w =
       let e = within-set w in
-      left (resizedWithin (m .graph) c (leftIn d n) (leftOut d n))
-      (subst (λ (g : PortGraph). SomeRecount g M c (leftIn d n) (leftOut d n)) (sym (within-is w)) (set-recounts (f .good) (f .holds) c (leftIn d n) (leftOut d n) enough (e .0) (e .1)))
+      left (resizedWithin (m .graph) c (leftIncoming d n) (leftOutgoing d n))
+      (subst (λ (g : PortGraph). SomeRecount g M c (leftIncoming d n) (leftOutgoing d n)) (sym (within-is w)) (set-recounts (f .good) (f .holds) c (leftIncoming d n) (leftOutgoing d n) enough (e .0) (e .1)))
     where
-      left : (g : PortGraph) → SomeRecount g M c (leftIn d n) (leftOut d n) → OnOutputs (withSubports (recounted m c g) (m .«subport_count» - (numPorts (m .graph) c d - n)))
+      left : (g : PortGraph) → SomeRecount g M c (leftIncoming d n) (leftOutgoing d n) → OnOutputs (withSubports (recounted m c g) (m .«subport_count» - (numPorts (m .graph) c d - n)))
       left g s i h =
           let r = s .is in
           ⊎-elim (λ e. count-in (r .good) (r .holds) i Incoming ∙ (ap (λ (v : Slots). countOf v Incoming) (ap (s .model′ .node) e ∙ r .there) ∙ (r .ins ∙ one-in d n out)))

@@ -26,10 +26,10 @@ use Rattle.portgraph.specs.declared.node_entry.MaybeNodeMeta.{MaybeNodeMeta}
 use Rattle.portgraph.specs.declared.node_entry.MaybeNodeMeta.the-variants as maybe-meta
 use Rattle.multiportgraph.specs.Reading.{isHidden, isSplit}
 use Rattle.multiportgraph.specs.Calls.{dropBlock, removeBlock}
-use Rattle.multiportgraph.specs.Inner.{copyPlace, Fine, BlockIs, Seen, outer, WireIn, SameBlocks, Wiring}
+use Rattle.multiportgraph.specs.WellFormed.{copyPlace, Fine, BlockIs, Seen, outer, WireIn, SameBlocks, Wiring}
 use Rattle.multiportgraph.specs.Ends.{main-seen, outer-of-subport, outer-of-block}
-use Rattle.multiportgraph.specs.Frame.{true-or-false, true-not-false, same-wire, Frame, plain-frame, frame-fine, outer-kept, Alike, wire-kept, kept-wire, hidden-below, split-below}
-use Rattle.multiportgraph.specs.PlainLaws.{touches-neither, touched-not-out, touched-not-into, at-spot-is}
+use Rattle.multiportgraph.specs.HiddenStays.{true-or-false, true-not-false, same-wire, Frame, plain-frame, frame-fine, outer-kept, Alike, wire-kept, kept-wire, hidden-below, split-below}
+use Rattle.multiportgraph.specs.LinkCutLaws.{touches-neither, touched-not-out, touched-not-into, at-spot-is}
 use Rattle.multiportgraph.specs.CopyLaws.{portAt, removed-holds, CopyGone, unsplit-gone, unsplit-whole}
 use Rattle.multiportgraph.specs.declared.multiportgraph.MultiPortGraph.{MultiPortGraph}
 use Rattle.multiportgraph.specs.declared.multiportgraph.Refusal.the-variants.{HiddenNode}

@@ -24,7 +24,7 @@ use Rattle.portgraph.specs.declared.resize.PortsSet as lower-ports-set
 use Rattle.multiportgraph.specs.Reading.{isHidden}
 use Rattle.multiportgraph.specs.Calls.{setAs, setCounts, toldMeta, movesTold, movesToldUnder, setCountsUnder}
 use Rattle.theorems.specs.Book as book
-use Rattle.multiportgraph.specs.Inner.{Fine, BlockIs}
+use Rattle.multiportgraph.specs.WellFormed.{Fine, BlockIs}
 use Rattle.multiportgraph.specs.declared.multiportgraph.MultiPortGraph.{MultiPortGraph}
 use Rattle.multiportgraph.specs.declared.multiportgraph.Refusal.{Refusal}
 use Rattle.multiportgraph.specs.declared.multiportgraph.Refusal.the-variants.{TooManyPorts, UnknownNode, HiddenNode, MovesTooShort, NoRoom}

@@ -34,7 +34,7 @@ use Rattle.multiportgraph.specs.Calls.{visibleNodes}
 use Rattle.multiportgraph.specs.Wires.{blocks, portsOfSide, sideLinks}
 use Rattle.multiportgraph.specs.Walks.{portLinks, fanOut, sumOf, blockFanOut, Start, started, refused, startAtNode, startBetween, startSeen, startAtPort, isSeen, nodePortsFrom, startNodePorts, subportsFrom, startSubports, portLinksFrom, startPortLinks, linksFrom, startLinks, neighboursFrom, startNeighbours, connectionsFrom, startConnections}
 use Rattle.multiportgraph.specs.Lookups.{directionSeen, directionOf, nodeSeen, nodeOf, offsetSeen, offsetOf, fanOutSeen, portFanOut, containsPortOf, counted, numPortsOf, capacityOf, nodeFanOut, portFound, portIndexOf, emptyOf}
-use Rattle.multiportgraph.specs.Inner.{Fine, BlockIs, Seen}
+use Rattle.multiportgraph.specs.WellFormed.{Fine, BlockIs, Seen}
 use Rattle.multiportgraph.specs.Ends as ends
 use Rattle.multiportgraph.specs.ScanLaws.{side-in-row, side-links-in-row}
 use Rattle.theorems.specs.BookLaws.{total-zeros}

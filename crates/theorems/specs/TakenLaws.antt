@@ -20,8 +20,8 @@ use Rattle.multiportgraph.specs.Refusals.{wiredSide, wiredSeen, wiredInput, tak
 use Rattle.multiportgraph.specs.Walks.{portLinks, fanOut}
 use Rattle.multiportgraph.specs.Places.{Place, Wire, spot, atSpot}
 use Rattle.multiportgraph.specs.Wires.{placeOf}
-use Rattle.multiportgraph.specs.Inner.{Fine, Seen, lift, WireIn}
-use Rattle.multiportgraph.specs.PlainLaws.{at-spot-here}
+use Rattle.multiportgraph.specs.WellFormed.{Fine, Seen, lift, WireIn}
+use Rattle.multiportgraph.specs.LinkCutLaws.{at-spot-here}
 use Rattle.multiportgraph.specs.declared.multiportgraph.MultiPortGraph.{MultiPortGraph}
 use Rattle.multiportgraph.specs.declared.multiportgraph.Release.{Release}
 use Rattle.multiportgraph.specs.declared.multiportgraph.Release.the-variants.{One, Two}

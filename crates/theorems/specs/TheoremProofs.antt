@@ -20,12 +20,12 @@ use Rattle.multiportgraph.specs.Calls.{linkSub, cutSub, linkPair, linkClean}
 use Rattle.multiportgraph.specs.Wires.{wiresWalked}
 use Rattle.theorems.specs.Book.{Call, Block, Book, spotOf, addWire}
 use Rattle.theorems.specs.History.{State, step, entered, next, run}
-use Rattle.multiportgraph.specs.Inner.{Fine, Seen, lift, outer, IsEnd, WireIn, SameBlocks, Wiring, none}
+use Rattle.multiportgraph.specs.WellFormed.{Fine, Seen, lift, outer, IsEnd, WireIn, SameBlocks, Wiring, none}
 use Rattle.theorems.specs.BookLaws.{so-not-false, same-count}
-use Rattle.multiportgraph.specs.Frame.{true-not-false}
+use Rattle.multiportgraph.specs.HiddenStays.{true-not-false}
 use Rattle.multiportgraph.specs.Ends.{seen-block, ends-join-ends}
 use Rattle.multiportgraph.specs.WalkRule.{walk-ends, walked-is-wires, walked-once, same-wires-same-list}
-use Rattle.multiportgraph.specs.PlainLaws.{endNamed, CutDone, CutSays, cut-sub-law, LinkSubSays, link-sub-law}
+use Rattle.multiportgraph.specs.LinkCutLaws.{endNamed, CutDone, CutSays, cut-sub-law, LinkSubSays, link-sub-law}
 use Rattle.multiportgraph.specs.SplitLaws.{HasEnd}
 use Rattle.theorems.specs.LinkLaw.{LinkSays, link-says}
 use Rattle.theorems.specs.LinkCleanCall.{clean-says}

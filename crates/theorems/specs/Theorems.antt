@@ -24,7 +24,7 @@ use Rattle.multiportgraph.specs.Places.{Spot, spot, atSpot, touches}
 use Rattle.multiportgraph.specs.Reading.{seen, visible, isSplit, copyNode}
 use Rattle.multiportgraph.specs.Wires.{wiresWalked, walkWires, stepWires, allWires, sideLinks, isBlock}
 use Rattle.multiportgraph.specs.Walks.{isSeen, portLinks, nodeLinks, neighbours, connections}
-use Rattle.multiportgraph.specs.Inner.{Fine, MultiWf}
+use Rattle.multiportgraph.specs.WellFormed.{Fine, MultiWf}
 use Rattle.multiportgraph.specs.Space.{roomOf}
 use Rattle.multiportgraph.specs.SpaceLaws.{Spaced}
 use Rattle.multiportgraph.specs.TidyLaws.{SameBlock}

@@ -5,7 +5,7 @@ use Rattle.portgraph.specs.Model.{Model}
 use Rattle.multiportgraph.specs.Reading.{Port, dead, hidden, visible, seen}
 use Rattle.multiportgraph.specs.Calls.{tidyPort}
 use Rattle.theorems.specs.Book as book
-use Rattle.multiportgraph.specs.Inner.{Fine}
+use Rattle.multiportgraph.specs.WellFormed.{Fine}
 use Rattle.multiportgraph.specs.declared.multiportgraph.MultiPortGraph.{MultiPortGraph}
 use Rattle.multiportgraph.specs.declared.multiportgraph.Refusal.{Refusal}
 use Rattle.multiportgraph.specs.declared.multiportgraph.TidyAnswer.the-variants as tidying

@@ -29,9 +29,9 @@ use Rattle.multiportgraph.specs.Reading.{isHidden, isSplit, subports, copySide,
 use Rattle.multiportgraph.specs.Calls.{tidyPort, addBlock, addedAs}
 use Rattle.multiportgraph.specs.Cases.{tidySeen}
 use Rattle.multiportgraph.specs.CaseLaws.{add-cases, tidy-cases}
-use Rattle.multiportgraph.specs.Inner.{inner#, Fine, Seen, lift, WireIn, SameBlocks, MultiWf}
+use Rattle.multiportgraph.specs.WellFormed.{inner#, Fine, Seen, lift, WireIn, SameBlocks, MultiWf}
 use Rattle.multiportgraph.specs.Ends.{BlockPort, split-has-copy, unsplit-no-copy, outer-of-subport, outer-of-block, lift-place, block-seen, seen-block, ports-walked, count-of}
-use Rattle.multiportgraph.specs.Frame.{true-not-false, true-or-false}
+use Rattle.multiportgraph.specs.HiddenStays.{true-not-false, true-or-false}
 use Rattle.multiportgraph.specs.WalkRule.{same-wires-same-list}
 use Rattle.multiportgraph.specs.Wires.{wiresWalked, portsWalked}
 use Rattle.multiportgraph.specs.Space.{Room, roomOf, Work, takeNode, takeBlock, giveNode, giveBlock, afterWork, afterWorks, overflows, goneWorks, tidyWorks, tidySeenWorks}

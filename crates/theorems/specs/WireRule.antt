@@ -21,13 +21,13 @@ use Rattle.portgraph.specs.declared.direction.Direction.{Direction}
 use Rattle.portgraph.specs.declared.direction.Direction.the-variants.{Incoming, Outgoing}
 use Rattle.portgraph.specs.declared.node_entry.NodeMeta.{NodeMeta}
 use Rattle.theorems.specs.Book.{emptyBook, readBy, Block, Book, withWires, spotAmong, spotOf, without, nextOffset, addWire, notBlock, bookAdd, bookRemove, bookSet, bookLink, bookLinkSub, bookCut}
-use Rattle.multiportgraph.specs.Inner.{inner#, Fine, BlockIs, Seen, lift, WireIn, SameBlocks, Wiring, none, SameWires}
+use Rattle.multiportgraph.specs.WellFormed.{inner#, Fine, BlockIs, Seen, lift, WireIn, SameBlocks, Wiring, none, SameWires}
 use Rattle.theorems.specs.BookLaws.{so-not-false, not-so-true, or-true, or-right, left-once, wire-stays, stayed-wire, length-range, among-run, beside-run, any-touches, none-touches, next-offset}
 use Rattle.multiportgraph.specs.Listing.{member-filter, filter-member, rising-filter}
-use Rattle.multiportgraph.specs.Frame.{true-not-false}
+use Rattle.multiportgraph.specs.HiddenStays.{true-not-false}
 use Rattle.multiportgraph.specs.Ends.{out-side, into-side, ports-walked}
 use Rattle.multiportgraph.specs.Reading.{isSplit, subport#, asRead}
-use Rattle.multiportgraph.specs.PlainLaws.{end-is-here, end-is-same, fine-empty, empty-has-no-wire, empty-has-no-block, AddSays, LinkSubDone, LinkSubSays, CutDone, CutSays}
+use Rattle.multiportgraph.specs.LinkCutLaws.{end-is-here, end-is-same, fine-empty, empty-has-no-wire, empty-has-no-block, AddSays, LinkSubDone, LinkSubSays, CutDone, CutSays}
 use Rattle.multiportgraph.specs.SplitLaws.{HasEnd}
 use Rattle.theorems.specs.LinkLaw.{LinkDone, LinkSays}
 use Rattle.theorems.specs.RemoveLaws.{RemoveSays}

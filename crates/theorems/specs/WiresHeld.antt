@@ -21,7 +21,7 @@ use Rattle.portgraph.specs.declared.direction.Direction.the-variants.{Outgoing}
 use Rattle.portgraph.specs.declared.node_entry.NodeMeta.{NodeMeta}
 use Rattle.multiportgraph.specs.declared.multiportgraph.Release.{Release}
 use Rattle.multiportgraph.specs.Reading.{Port, dead, hidden, visible, seen, ownerOf, isSplit, subport#, subports, portOf, endAt, linkOfEnd}
-use Rattle.multiportgraph.specs.Inner.{inner#, Fine, Seen}
+use Rattle.multiportgraph.specs.WellFormed.{inner#, Fine, Seen}
 use Rattle.multiportgraph.specs.Ends.{owner-of, port-of, count-of, seen-block, block-seen}
 use Rattle.multiportgraph.specs.Wires.{isBlock, blocks, portsOfSide, subportsOfPort, subportsOfSide, wireTo, wireOf, sideLinks, allWires, isBeyond, firstItem, wiresBeyond, wiresSeen, stepWires, walkBy, walkedOn, walkWires}
 use Rattle.multiportgraph.specs.Walks.{isSeen}

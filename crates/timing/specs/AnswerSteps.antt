@@ -13,8 +13,8 @@ use Rattle.portgraph.specs.Lists.{Member, Rising, range}
 use Rattle.portgraph.specs.Model.{Model}
 use Rattle.multiportgraph.specs.Calls.{visibleNodes, visibleLinks}
 use Rattle.multiportgraph.specs.CountLaws.{visible-nodes}
-use Rattle.multiportgraph.specs.Inner.{Fine}
-use Rattle.multiportgraph.specs.Frame.{true-not-false}
+use Rattle.multiportgraph.specs.WellFormed.{Fine}
+use Rattle.multiportgraph.specs.HiddenStays.{true-not-false}
 use Rattle.multiportgraph.specs.Listing.{Apart}
 use Rattle.multiportgraph.specs.Listed.{wiresListed, blocksListed, listAfter}
 use Rattle.multiportgraph.specs.Lookups.{counted, capacityOf}

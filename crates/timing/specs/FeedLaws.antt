@@ -10,7 +10,7 @@ use Rattle.portgraph.specs.Limits.{nodeSlots}
 use Rattle.portgraph.specs.Lists.{Member, Rising, range}
 use Rattle.portgraph.specs.Model.{Model}
 use Rattle.multiportgraph.specs.Places.{Wire}
-use Rattle.multiportgraph.specs.Inner.{Fine}
+use Rattle.multiportgraph.specs.WellFormed.{Fine}
 use Rattle.multiportgraph.specs.Listed.{endNumbers, wireNumbers, wiresListed}
 use Rattle.multiportgraph.specs.ListReads.{wires-length}
 use Rattle.multiportgraph.specs.Listing.{member-map, rising-map, member-filter, member-range}

@@ -15,6 +15,7 @@
 --   FeedLaws         what the listing of a graph's wires says of its blocks
 --   RunOrderLaws     what the table of places says of an order; orders and cycles
 --   TimingLaws       the answers by cases, and the theorems of one graph
+--   TimingHistory    the theorems over every list of calls
 --   SettleSteps, AnswerSteps     what the proofs of functions cite
 pub mod TimingTheorems
 pub mod TimingClaims
@@ -31,6 +32,7 @@ pub mod StartLaws
 pub mod FeedLaws
 pub mod RunOrderLaws
 pub mod TimingLaws
+pub mod TimingHistory
 -- steps
 pub mod SettleSteps
 pub mod AnswerSteps

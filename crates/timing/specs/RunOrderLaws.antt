@@ -11,7 +11,7 @@ use lib.ListN.{length, getD, set, length-set, List·getD-eq-default}
 use lib.Seq.{getD-set-same, getD-set-other}
 use borrow.Author.Tests.{eqb-true, eqb-false, eq-eqb, ne-eqb, ltb-true, ltb-false, lt-ltb, le-ltb, not-true}
 use Rattle.portgraph.specs.Lists.{Member, Rising, Once, filter}
-use Rattle.multiportgraph.specs.Frame.{true-not-false}
+use Rattle.multiportgraph.specs.HiddenStays.{true-not-false}
 use Rattle.multiportgraph.specs.Listing.{Apart, member-filter, filter-member}
 use Rattle.multiportgraph.specs.CountLaws.{partners}
 use Rattle.files.specs.Loading.{every}

@@ -12,8 +12,8 @@ use borrow.Author.Tests.{eqb-true, eqb-false, eq-eqb, ne-eqb, ltb-true, ltb-fals
 use Rattle.portgraph.specs.Limits.{nodeSlots}
 use Rattle.portgraph.specs.Lists.{Member, Rising, filter}
 use Rattle.portgraph.specs.Model.{Model}
-use Rattle.multiportgraph.specs.Frame.{true-not-false}
-use Rattle.multiportgraph.specs.Inner.{Fine}
+use Rattle.multiportgraph.specs.HiddenStays.{true-not-false}
+use Rattle.multiportgraph.specs.WellFormed.{Fine}
 use Rattle.multiportgraph.specs.Listing.{Apart, member-map, map-member, member-filter, filter-member, rising-filter}
 use Rattle.multiportgraph.specs.Places.{Wire}
 use Rattle.multiportgraph.specs.Walks.{Start, started, refused, startAtNode}

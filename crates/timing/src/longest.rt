@@ -15,7 +15,7 @@ ghost use mathlib.Core.Path.{_≡_};
 ghost use Prim.Native.Nat.{_*_, _<_, _≤_};
 ghost use lib.ListN.{length};
 ghost use Rattle.portgraph.specs.Limits.{nodeSlots, portSlots};
-ghost use Rattle.multiportgraph.specs.Inner.{MultiWf};
+ghost use Rattle.multiportgraph.specs.WellFormed.{MultiWf};
 ghost use Rattle.multiportgraph.specs.Listed.{listAfter};
 ghost use Rattle.timing.specs.Longest.{feedsIn, longestAmong, longestTimed, longestOf, longestNumbers};
 ghost use Rattle.timing.specs.Settling.{feedsListed, pathAmong};

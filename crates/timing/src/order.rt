@@ -11,7 +11,7 @@ ghost use mathlib.Core.Path.{_≡_};
 ghost use Prim.Native.Nat.{_≤_};
 ghost use lib.ListN.{length};
 ghost use Rattle.portgraph.specs.Limits.{nodeSlots};
-ghost use Rattle.multiportgraph.specs.Inner.{MultiWf};
+ghost use Rattle.multiportgraph.specs.WellFormed.{MultiWf};
 ghost use Rattle.files.specs.Forms.{nodesOf};
 ghost use Rattle.timing.specs.RunOrder.{runOrder};
 ghost use Rattle.timing.specs.Naming.{marked, named, allForward};

@@ -5,7 +5,7 @@ use portgraph::numbers::wide;
 use portgraph::tables::store;
 ghost use mathlib.Core.Path.{_≡_};
 ghost use mathlib.Core.List.{[]};
-ghost use Prim.Native.Nat.{_-_, _<_, _≤_};
+ghost use Prim.Native.Nat.{_-_, _<_};
 ghost use lib.ListN.{length, drop};
 ghost use Rattle.portgraph.specs.Limits.{nodeSlots};
 ghost use Rattle.multiportgraph.specs.Listed.{listAfter};

@@ -16,7 +16,6 @@ ghost use lib.Dec.{eqb, leb};
 ghost use lib.ListN.{length, getD, set, take, drop};
 ghost use Rattle.portgraph.specs.Limits.{nodeSlots, portSlots};
 ghost use Rattle.portgraph.specs.Lists.{range};
-ghost use Rattle.timing.specs.Longest.{timeIn};
 ghost use Rattle.timing.specs.Settling.{feedsListed, tablesOf, zeros, waitsOf, firstsOf, pushed, pushReady, wireDone, runDone, blockDone, Bounded, settle, settled};
 
 // Counts the wires into each block.

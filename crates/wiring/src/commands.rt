@@ -17,8 +17,6 @@ use crate::orders::LINKSUB;
 use crate::orders::LOAD;
 use crate::orders::MERGE;
 use crate::orders::NEW;
-use crate::orders::NOTHING;
-use crate::orders::Order;
 use crate::orders::PLACES;
 use crate::orders::QUIT;
 use crate::orders::REMOVE;
@@ -39,6 +37,8 @@ use crate::slot_list::show_slots;
 use crate::store::save_as;
 use crate::tidy::tidy;
 use crate::whole::list_whole;
+use lines::orders::NOTHING;
+use lines::orders::Order;
 use lines::show::write_bytes;
 use multiportgraph::multiportgraph::MultiPortGraph;
 use multiportgraph::multiportgraph::Release;
@@ -47,14 +47,21 @@ use portgraph::index::PortIndex;
 use records::ask::ask;
 use records::ask::empty;
 use records::ask::link_clean;
-ghost use Rattle.multiportgraph.specs.Inner.{MultiWf};
+ghost use Rattle.multiportgraph.specs.WellFormed.{MultiWf};
 
 // A request, and so many values of its answer.
 fn request(graph: MultiPortGraph, order: Order, values: u32) -> MultiPortGraph
     requires { ⌜ MultiWf graph ⌝ }
     ensures { λ r. ⌜ MultiWf r ⌝ }
 {
-    let told = ask(graph, order.command, order.a, order.b, order.c, order.d);
+    let told = ask(
+        graph,
+        order.command,
+        order.number(0),
+        order.number(1),
+        order.number(2),
+        order.number(3),
+    );
     let answer = told.answer;
     show_answer(answer, values);
     told.graph
@@ -64,7 +71,7 @@ fn link_cleanly(graph: MultiPortGraph, order: Order) -> MultiPortGraph
     requires { ⌜ MultiWf graph ⌝ }
     ensures { λ r. ⌜ MultiWf r ⌝ }
 {
-    let told = link_clean(graph, order.a, order.b);
+    let told = link_clean(graph, order.number(0), order.number(1));
     let answer = told.answer;
     show_answer(answer, 4);
     told.graph
@@ -75,7 +82,7 @@ fn begin(order: Order) -> MultiPortGraph
     ensures { λ r. ⌜ MultiWf r ⌝ }
 {
     write_bytes(b"ok\n");
-    if order.a == 1 {
+    if order.number(0) == 1 {
         return empty(Release::One);
     }
     empty(Release::Two)
@@ -114,8 +121,8 @@ fn look(graph: MultiPortGraph, order: Order, text: &[u8])
     let command = order.command;
     match command {
         SUBLINK => show_link(graph, order),
-        FANOUT => show_count(graph.port_fan_out(PortIndex(order.a))),
-        BLOCKFANOUT => show_count(graph.node_fan_out(NodeIndex(order.a))),
+        FANOUT => show_count(graph.port_fan_out(PortIndex(order.number(0)))),
+        BLOCKFANOUT => show_count(graph.node_fan_out(NodeIndex(order.number(0)))),
         SAVE => save_as(graph, order, text),
         MERGE => merge_as(order, text),
         HELP => show_help(),

@@ -1,17 +1,15 @@
 // The console: it hears a line, runs it, and hears the next.
 use crate::orders::QUIT;
-use crate::session::order_heard;
+use crate::orders::order_of;
 use crate::times::run_timed;
 use lines::listening::Listener;
+use lines::listening::ROOM;
 use lines::text::line_part;
 use multiportgraph::multiportgraph::MultiPortGraph;
 use multiportgraph::multiportgraph::Release;
 use portgraph::index::NODE_SLOTS;
 use records::ask::empty;
-ghost use Rattle.multiportgraph.specs.Inner.{MultiWf};
-
-// The longest line, and its newline.
-const ROOM: usize = 65537;
+ghost use Rattle.multiportgraph.specs.WellFormed.{MultiWf};
 
 // The graph after a line, and whether no line is heard any more.
 pub struct Turn {
@@ -29,7 +27,13 @@ fn obey(
     requires { ⌜ MultiWf graph ⌝ }
     ensures { λ r. ⌜ MultiWf (r .graph) ⌝ }
 {
-    let order = order_heard(listener, text);
+    if !listener.heard {
+        return Turn {
+            graph: graph,
+            ended: listener.ended,
+        };
+    }
+    let order = order_of(text, listener.line);
     if order.command == QUIT {
         return Turn {
             graph: graph,

@@ -1,7 +1,7 @@
 // Cuts, and what a subport is linked with: the end that is found, and where it stands.
-use crate::orders::Order;
 use crate::orders::UNLINK;
 use crate::replies::show_refusal;
+use lines::orders::Order;
 use lines::show::Line;
 use multiportgraph::multiportgraph::CutAnswer;
 use multiportgraph::multiportgraph::MultiPortGraph;
@@ -11,7 +11,7 @@ use portgraph::direction::Direction;
 use portgraph::index::PortIndex;
 use records::ask::cut_port;
 use records::ask::cut_subport;
-ghost use Rattle.multiportgraph.specs.Inner.{MultiWf};
+ghost use Rattle.multiportgraph.specs.WellFormed.{MultiWf};
 
 // 0 incoming, 1 outgoing.
 pub(crate) fn side_number(side: Direction) -> u32 {
@@ -19,11 +19,6 @@ pub(crate) fn side_number(side: Direction) -> u32 {
         Direction::Incoming => 0,
         Direction::Outgoing => 1,
     }
-}
-
-// The largest number that an offset can be stands for every larger one: both are refused.
-fn offset_of(number: u32) -> u16 {
-    if number < 65535 { number as u16 } else { 65535 }
 }
 
 fn show_found(answer: CutAnswer) {
@@ -48,9 +43,9 @@ fn unlinked(graph: MultiPortGraph, order: Order) -> PortUnlinked
     ensures { λ r. ⌜ MultiWf (r .graph) ⌝ }
 {
     if order.command == UNLINK {
-        return cut_port(graph, order.a);
+        return cut_port(graph, order.number(0));
     }
-    cut_subport(graph, order.a, offset_of(order.b))
+    cut_subport(graph, order.number(0), order.offset(1))
 }
 
 // A command that cuts all wires at a port, or the wire at a subport.
@@ -69,7 +64,7 @@ pub(crate) fn show_link(graph: MultiPortGraph, order: Order)
     requires { ⌜ MultiWf graph ⌝ }
 {
     show_found(graph.subport_link(SubportIndex {
-        port: PortIndex(order.a),
-        subport_offset: offset_of(order.b),
+        port: PortIndex(order.number(0)),
+        subport_offset: order.offset(1),
     }));
 }

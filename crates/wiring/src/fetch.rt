@@ -1,5 +1,4 @@
 // A file read whole, and the wiring that it holds.
-use crate::orders::Order;
 use crate::replies::show_refusal;
 use crate::replies::show_refusal_number;
 use crate::store::last_error;
@@ -8,12 +7,13 @@ use crate::store::show_failure;
 use files::load::LoadAnswer;
 use files::load::load;
 use libc::EFBIG;
+use lines::orders::Order;
 use lines::show::write_bytes;
 use lines::text::Span;
 use lines::text::next_word;
 use lines::text::part;
 use multiportgraph::multiportgraph::MultiPortGraph;
-ghost use Rattle.multiportgraph.specs.Inner.{MultiWf};
+ghost use Rattle.multiportgraph.specs.WellFormed.{MultiWf};
 
 // The most bytes of a file that is read.
 const FILE_ROOM: usize = 65536;

@@ -6,10 +6,10 @@ use crate::orders::BACK;
 use crate::orders::LINKS;
 use crate::orders::NEIGHBOURS;
 use crate::orders::NODELINKS;
-use crate::orders::Order;
 use crate::orders::SUBPORTS;
 use crate::replies::show_number;
 use crate::replies::show_refusal;
+use lines::orders::Order;
 use lines::show::Line;
 use multiportgraph::iter::Neighbours;
 use multiportgraph::iter::NeighboursStep;
@@ -30,7 +30,7 @@ use portgraph::index::NodeIndex;
 use portgraph::index::PORT_SLOTS;
 use portgraph::index::PortIndex;
 use portgraph::iter::Sides;
-ghost use Rattle.multiportgraph.specs.Inner.{MultiWf};
+ghost use Rattle.multiportgraph.specs.WellFormed.{MultiWf};
 
 // The numbers of an item, so many of them as `count` says, none before the first and after the last: of a link both ends, and node, side
 // and position of the second. Then what the cursors hold: a node, a port or an offset, one higher than its number, an offset, and what
@@ -114,8 +114,8 @@ fn next_subport(graph: MultiPortGraph, order: Order, last: Item) -> Item
     requires { ⌜ MultiWf graph ⌝ }
 {
     let cursor = NodeSubports {
-        node: NodeIndex(order.a),
-        sides: sides_of(order.b),
+        node: NodeIndex(order.number(0)),
+        sides: sides_of(order.number(1)),
         held: last.held,
         offset: last.offset,
     };
@@ -149,7 +149,7 @@ fn next_port_link(graph: MultiPortGraph, order: Order, last: Item) -> Item
     requires { ⌜ MultiWf graph ⌝ }
 {
     let cursor = PortLinks {
-        port: PortIndex(order.a),
+        port: PortIndex(order.number(0)),
         front: last.held,
         back: last.back,
     };
@@ -163,10 +163,10 @@ fn next_node_link(graph: MultiPortGraph, order: Order, last: Item) -> Item
     requires { ⌜ MultiWf graph ⌝ }
 {
     let cursor = NodeLinks {
-        node: NodeIndex(order.a),
-        sides: sides_of(order.b),
-        skip_from: order.c,
-        skip_to: order.d,
+        node: NodeIndex(order.number(0)),
+        sides: sides_of(order.number(1)),
+        skip_from: order.number(2),
+        skip_to: order.number(3),
         held: last.held,
         offset: last.offset,
     };
@@ -180,9 +180,9 @@ fn next_neighbour(graph: MultiPortGraph, order: Order, last: Item) -> Item
     requires { ⌜ MultiWf graph ⌝ }
 {
     let cursor = Neighbours {
-        node: NodeIndex(order.a),
-        sides: sides_of(order.b),
-        ignore_self: order.c == 1,
+        node: NodeIndex(order.number(0)),
+        sides: sides_of(order.number(1)),
+        ignore_self: order.number(2) == 1,
         held: last.held,
         offset: last.offset,
     };
@@ -196,8 +196,8 @@ fn next_connection(graph: MultiPortGraph, order: Order, last: Item) -> Item
     requires { ⌜ MultiWf graph ⌝ }
 {
     let cursor = NodeConnections {
-        node: NodeIndex(order.a),
-        target: NodeIndex(order.b),
+        node: NodeIndex(order.number(0)),
+        target: NodeIndex(order.number(1)),
         held: last.held,
         offset: last.offset,
     };
@@ -276,7 +276,12 @@ fn show_items(graph: MultiPortGraph, order: Order) -> usize
 pub(crate) fn list(graph: MultiPortGraph, order: Order)
     requires { ⌜ MultiWf graph ⌝ }
 {
-    match start(graph, order.command, NodeIndex(order.a), NodeIndex(order.b)) {
+    match start(
+        graph,
+        order.command,
+        NodeIndex(order.number(0)),
+        NodeIndex(order.number(1)),
+    ) {
         CountAnswer::Count(_) => show_number(show_items(graph, order) as u64),
         CountAnswer::Refused(refusal) => show_refusal(refusal),
     }

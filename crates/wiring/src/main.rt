@@ -10,7 +10,6 @@ mod merging;
 mod orders;
 mod replies;
 mod resize;
-mod session;
 mod sheet;
 mod slot_list;
 mod store;

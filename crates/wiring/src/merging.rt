@@ -1,7 +1,6 @@
 // Two files as one, under a third name.
 use crate::fetch::FileRead;
 use crate::fetch::read_file;
-use crate::orders::Order;
 use crate::replies::show_refusal;
 use crate::replies::show_refusal_number;
 use crate::store::show_failure;
@@ -9,6 +8,7 @@ use crate::store::write_wiring;
 use files::merge::MergeAnswer;
 use files::merge::merge;
 use files::save::LONGEST_FILE;
+use lines::orders::Order;
 use lines::text::Span;
 use lines::text::next_word;
 use lines::text::part;

@@ -7,23 +7,10 @@ use multiportgraph::multiportgraph::Refusal;
 use records::answers::Answer5;
 use records::answers::refusal_words;
 
-// The line of the reasons from which refusals are counted; it stands for 12 where both ends are outputs.
-const REFUSALS: u32 = 11;
-
-// The reason stands after two blanks and `#`: what is wrong with a line, or why a call is refused.
+// The reason stands after two blanks and `#`: why a call is refused, a line for each number from 1. The one before them stands for 12 where
+// both ends are outputs.
 fn with_reason(line: Line, number: u32) -> Line {
     let reasons = b"\
-fine
-unknown command
-wrong number of words
-no number up to 4294967295
-no side (0, 1 or 2)
-no flag (0 or 1)
-too long
-no name of at most 4000 bytes
-no release (1 or 2)
-no node slot (0 to 1023)
-no time (0 to 65535 microseconds)
 both ends are outputs
 a list of a wrong length
 an offset is at most 65534
@@ -48,12 +35,6 @@ a cycle can reach this block
 ";
     line.with(b"  # ")
         .with(part(reasons, line_at(reasons, number)))
-}
-
-// A line that is no command; after the reason stands what helps, as how the command is typed.
-pub(crate) fn show_bad(line: u64, wrong: u32, help: &[u8]) {
-    let bad = Line::of(b"bad line").long(line);
-    with_reason(bad, wrong).with(b": ").with(help).write();
 }
 
 // How many values a refusal carries.
@@ -88,13 +69,10 @@ fn reason_of(answer: Answer5) -> u32 {
     let number = answer.a;
     if number == 12 {
         if answer.d == 1 {
-            return REFUSALS;
+            return 0;
         }
     }
-    if number < 64 {
-        return REFUSALS + number;
-    }
-    0
+    number
 }
 
 // A refusal with what it carries, on a line that begins with what is given.

@@ -1,13 +1,13 @@
 // Changing the number of ports of a block, with its move list.
-use crate::orders::Order;
 use crate::replies::show_number;
 use crate::replies::show_refusal;
+use lines::orders::Order;
 use lines::show::Line;
 use multiportgraph::multiportgraph::MultiPortGraph;
 use multiportgraph::multiportgraph::SetAnswer;
 use portgraph::index::NODE_PORTS;
 use records::ask::resize;
-ghost use Rattle.multiportgraph.specs.Inner.{MultiWf};
+ghost use Rattle.multiportgraph.specs.WellFormed.{MultiWf};
 
 // Three numbers for each port that a node can have.
 const MOVES: usize = 3 * NODE_PORTS;
@@ -38,7 +38,13 @@ pub(crate) fn resize_block(graph: MultiPortGraph, order: Order) -> MultiPortGrap
     ensures { λ r. ⌜ MultiWf r ⌝ }
 {
     let mut moves = [0u32; MOVES];
-    let sized = resize(graph, order.a, order.b, order.c, &mut moves);
+    let sized = resize(
+        graph,
+        order.number(0),
+        order.number(1),
+        order.number(2),
+        &mut moves,
+    );
     let answer = sized.answer;
     match answer {
         SetAnswer::Set(events) => {

@@ -1,29 +1,23 @@
 // A whole sheet of links from one line: a pair of ports is an entry.
-use crate::orders::Order;
 use crate::replies::show_item;
 use crate::replies::show_number;
 use crate::replies::show_refusal_number;
-use lines::text::NO_VALUE;
+use lines::orders::Order;
 use lines::text::Span;
 use lines::text::next_word;
-use lines::text::number_of;
+use lines::text::number_or_zero;
 use multiportgraph::multiportgraph::MultiPortGraph;
 use portgraph::index::PortIndex;
-use portgraph::numbers::wide;
 use records::answers::link_words;
 use sheets::held::SHEET_PLACES;
 use sheets::held::link_held;
 use sheets::sheet::SheetAnswer;
 use sheets::sheet::SheetEntry;
-ghost use Rattle.multiportgraph.specs.Inner.{MultiWf};
+ghost use Rattle.multiportgraph.specs.WellFormed.{MultiWf};
 
 // The port that a word names.
 fn port_of(text: &[u8], word: Span) -> PortIndex {
-    let value = number_of(text, word);
-    if NO_VALUE <= value {
-        return PortIndex(0);
-    }
-    PortIndex(value as u32)
+    PortIndex(number_or_zero(text, word))
 }
 
 // The entries of a line from a place on. A line may have more than there are places: the sheet is then too long with those that fit.
@@ -61,7 +55,7 @@ pub(crate) fn link_pairs(graph: MultiPortGraph, order: Order, text: &[u8]) -> Mu
     requires { ⌜ MultiWf graph ⌝ }
     ensures { λ r. ⌜ MultiWf r ⌝ }
 {
-    let count = wide(order.a);
+    let count = order.entries;
     let places = entries_of(text, order.from);
     let linked = link_held(graph, places, count);
     let answer = linked.answer;

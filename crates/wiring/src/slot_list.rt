@@ -4,7 +4,7 @@ use lines::show::Line;
 use multiportgraph::multiportgraph::MultiPortGraph;
 use slots::listing::LIST_NUMBERS;
 use slots::listing::list_slots;
-ghost use Rattle.multiportgraph.specs.Inner.{MultiWf};
+ghost use Rattle.multiportgraph.specs.WellFormed.{MultiWf};
 
 fn number_at(numbers: &[u32; LIST_NUMBERS], at: usize) -> u32 {
     if at < LIST_NUMBERS { numbers[at] } else { 0 }

@@ -1,6 +1,5 @@
 // The wiring as a file: written under a name beside it, synced, and then renamed, so that at any moment the old file or the new one
 // is there.
-use crate::orders::Order;
 use crate::replies::show_number;
 use crate::replies::show_refusal_number;
 use files::save::LONGEST_FILE;
@@ -18,6 +17,7 @@ use libc::ENOTDIR;
 use libc::EPERM;
 use libc::EROFS;
 use libc::PATH_MAX;
+use lines::orders::Order;
 use lines::reading::put_byte;
 use lines::show::write_bytes;
 use lines::text::Span;
@@ -25,7 +25,7 @@ use lines::text::byte_at;
 use lines::text::next_word;
 use lines::text::part;
 use multiportgraph::multiportgraph::MultiPortGraph;
-ghost use Rattle.multiportgraph.specs.Inner.{MultiWf};
+ghost use Rattle.multiportgraph.specs.WellFormed.{MultiWf};
 
 // The length of the name under which a file is made.
 const MADE_NAME: usize = 14;

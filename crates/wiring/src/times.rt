@@ -1,18 +1,17 @@
 // Times of node slots, in microseconds, and what is asked of them: the largest sum along wires, a path that has it, and run orders.
 use crate::commands::run;
 use crate::orders::LONGEST;
-use crate::orders::Order;
 use crate::orders::PATH;
 use crate::orders::RUNORDER;
 use crate::orders::TIME;
 use crate::replies::show_number;
 use crate::replies::show_refusal;
 use crate::replies::show_refusal_number;
+use lines::orders::Order;
 use lines::show::Line;
 use lines::show::write_bytes;
-use lines::text::NO_VALUE;
 use lines::text::next_word;
-use lines::text::number_of;
+use lines::text::number_or_zero;
 use multiportgraph::multiportgraph::MultiPortGraph;
 use portgraph::index::NODE_SLOTS;
 use portgraph::index::NodeIndex;
@@ -21,7 +20,7 @@ use timing::answers::LongestAnswer;
 use timing::longest::longest;
 use timing::longest::path;
 use timing::order::run_order;
-ghost use Rattle.multiportgraph.specs.Inner.{MultiWf};
+ghost use Rattle.multiportgraph.specs.WellFormed.{MultiWf};
 
 // One number more than there are blocks, so that an order that is too long can be lent.
 const NAMED: usize = NODE_SLOTS + 1;
@@ -32,10 +31,11 @@ fn time_at(times: &[u16; NODE_SLOTS], slot: usize) -> u16 {
 
 // The time of a slot, both as the order says.
 fn set_time(times: &mut [u16; NODE_SLOTS], order: Order) {
-    let slot = wide(order.a);
+    let slot = wide(order.number(0));
     if slot < NODE_SLOTS {
-        if order.b <= 65535 {
-            times[slot] = order.b as u16;
+        let time = order.number(1);
+        if time <= 65535 {
+            times[slot] = time as u16;
         }
     }
     write_bytes(b"ok\n");
@@ -72,18 +72,15 @@ fn show_path(graph: MultiPortGraph, order: Order, times: &[u16; NODE_SLOTS])
     requires { ⌜ MultiWf graph ⌝ }
 {
     let mut blocks = [0u32; NODE_SLOTS];
-    let found = path(graph, NodeIndex(order.a), times, &mut blocks);
+    let found = path(graph, NodeIndex(order.number(0)), times, &mut blocks);
     show_blocks(&blocks, times, found.blocks);
     let answer = found.answer;
     show_sum(answer);
 }
 
-// A number of a line, where there is one.
-fn put_number(numbers: &mut [u32; NAMED], i: usize, value: u64) {
+fn put_number(numbers: &mut [u32; NAMED], i: usize, value: u32) {
     if i < NAMED {
-        if value < NO_VALUE {
-            numbers[i] = value as u32;
-        }
+        numbers[i] = value;
     }
 }
 
@@ -92,7 +89,7 @@ fn put_numbers(numbers: &mut [u32; NAMED], text: &[u8], from: usize) {
     let mut word = next_word(text, from);
     let mut k: usize = 0;
     while k < NAMED {
-        put_number(numbers, k, number_of(text, word));
+        put_number(numbers, k, number_or_zero(text, word));
         word = next_word(text, word.to);
         k += 1;
     }
@@ -127,7 +124,7 @@ fn show_run_order(graph: MultiPortGraph, order: Order, text: &[u8])
 {
     let mut numbers = [0u32; NAMED];
     put_numbers(&mut numbers, text, order.from);
-    show_yes(are_run_order(graph, &numbers, wide(order.a)));
+    show_yes(are_run_order(graph, &numbers, order.entries));
 }
 
 // One command: on times, or on the graph.
@@ -147,7 +144,7 @@ pub(crate) fn run_timed(
             graph
         }
         LONGEST => {
-            show_sum(longest(graph, NodeIndex(order.a), times));
+            show_sum(longest(graph, NodeIndex(order.number(0)), times));
             graph
         }
         PATH => {

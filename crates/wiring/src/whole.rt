@@ -7,7 +7,7 @@ use lines::show::write_bytes;
 use multiportgraph::list_ends::ListAnswer;
 use multiportgraph::multiportgraph::MultiPortGraph;
 use portgraph::index::PORT_SLOTS;
-ghost use Rattle.multiportgraph.specs.Inner.{MultiWf};
+ghost use Rattle.multiportgraph.specs.WellFormed.{MultiWf};
 
 // Room for all wires, eight numbers each, since a wire takes two port slots; and for all blocks, four numbers each.
 const ROOM: usize = 4 * PORT_SLOTS;

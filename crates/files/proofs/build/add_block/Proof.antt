@@ -15,14 +15,14 @@ add-field-at c = search needs
 field-at-requires-2 : tie.Need-field-at-requires-2
 field-at-requires-2 c κs = search needs
 
-add-in-requires : tie.Need-add-in-requires
-add-in-requires c κs = search needs
+add-lent-requires : tie.Need-add-lent-requires
+add-lent-requires c κs = search needs
 
 add-told-requires : tie.Need-add-told-requires
 add-told-requires c κs = search needs
 
 returns : tie.Need-returns
-returns c = add-stepped _ _ (blockOf (recordIn (c .before .before .before .before .before .before .before .before .before .before .before .before .args .file .now) (c .before .before .before .before .before .before .before .before .before .before .before .before .args .at))) _ _ _ _ (c .before .before .before .before .before .before .before .before .before .before .before .before .pre .0) (c .before .before .before .before .before .before .before .before .before .before .field-at .ensures .0) (c .before .before .before .before .before .before .before .before .before .field-at2 .ensures .0) (c .before .before .add-in .ensures .0) (c .before .before .add-in .ensures .1) (c .add-told .ensures)
+returns c = add-stepped _ _ (blockOf (recordIn (c .before .before .before .before .before .before .before .before .before .before .before .before .args .file .now) (c .before .before .before .before .before .before .before .before .before .before .before .before .args .at))) _ _ _ _ (c .before .before .before .before .before .before .before .before .before .before .before .before .pre .0) (c .before .before .before .before .before .before .before .before .before .before .field-at .ensures .0) (c .before .before .before .before .before .before .before .before .before .field-at2 .ensures .0) (c .before .before .add-lent .ensures .0) (c .before .before .add-lent .ensures .1) (c .add-told .ensures)
 
 pub add-block-spec : {M : Type 1} → statement M
 add-block-spec =
@@ -31,6 +31,6 @@ add-block-spec =
     field-at-requires
     add-field-at
     field-at-requires-2
-    add-in-requires
+    add-lent-requires
     add-told-requires
     returns)

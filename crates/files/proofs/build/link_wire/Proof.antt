@@ -12,16 +12,16 @@ out-port-requires c κs = search needs
 in-port-requires : tie.Need-in-port-requires
 in-port-requires c κs = search needs
 
-link-in-requires : tie.Need-link-in-requires
-link-in-requires c κs = search needs
+link-lent-requires : tie.Need-link-lent-requires
+link-lent-requires c κs = search needs
 
 link-told-requires : tie.Need-link-told-requires
 link-told-requires c κs = search needs
 
 returns : tie.Need-returns
-returns c = link-stepped _ _ (unbytes (c .before .before .before .before .before .before .before .before .before .before .before .before .args .file .now) .blocks) (wireOf (recordIn (c .before .before .before .before .before .before .before .before .before .before .before .before .args .file .now) (c .before .before .before .before .before .before .before .before .before .before .before .before .args .at))) _ _ _ _ (c .before .before .before .before .before .before .before .before .before .before .before .before .pre .0) (c .before .before .before .before .before .before .before .before .before .before .out-port .ensures) (c .before .before .before .before .before .before .before .before .before .in-port .ensures) (c .before .before .link-in .ensures .0) (c .before .before .link-in .ensures .1) (c .link-told .ensures)
+returns c = link-stepped _ _ (unbytes (c .before .before .before .before .before .before .before .before .before .before .before .before .args .file .now) .blocks) (wireOf (recordIn (c .before .before .before .before .before .before .before .before .before .before .before .before .args .file .now) (c .before .before .before .before .before .before .before .before .before .before .before .before .args .at))) _ _ _ _ (c .before .before .before .before .before .before .before .before .before .before .before .before .pre .0) (c .before .before .before .before .before .before .before .before .before .before .out-port .ensures) (c .before .before .before .before .before .before .before .before .before .in-port .ensures) (c .before .before .link-lent .ensures .0) (c .before .before .link-lent .ensures .1) (c .link-told .ensures)
 
 pub link-wire-spec : {M : Type 1} → statement M
 link-wire-spec =
     tie.close
-    (tie.spec out-port-requires in-port-requires link-in-requires link-told-requires returns)
+    (tie.spec out-port-requires in-port-requires link-lent-requires link-told-requires returns)

@@ -5,7 +5,7 @@ use Prim.Native.Nat.{_≤_}
 use borrow.Author.Tests.{not-true, not-false}
 use Rattle.portgraph.specs.Limits.{nodeSlots}
 use Rattle.multiportgraph.specs.Graph.{emptyGraph}
-use Rattle.multiportgraph.specs.Inner.{MultiWf}
+use Rattle.multiportgraph.specs.WellFormed.{MultiWf}
 use Rattle.multiportgraph.specs.MultiLent.{multiIn}
 use Rattle.theorems.specs.CallLaws.{empty-kept}
 use Rattle.files.specs.Layout.{unitsFor, unbytes}
@@ -15,8 +15,8 @@ use Rattle.files.proofs.load.build_over.Statement.{statement}
 use Rattle.files.proofs.load.build_over.Tie as tie
 
 -- the tables are the empty graph
-begins : (c : tie.After-no-held) → multiIn (c .before .before .before .before .before .before .before .before .args .nodes .now) (c .before .before .before .before .before .before .before .before .args .links .now) (c .before .before .before .before .before .before .before .before .args .owners .now) (c .before .before .before .before .before .before .before .before .args .heads .now) (c .before .before .before .before .before .before .before .before .args .marks .now) (c .before .before .before .before .before .before .before .before .args .flags .now) (c .no-held .result) ≡ emptyGraph (c .before .before .before .before .before .before .before .before .args .release)
-begins c = ap (multiIn (c .before .before .before .before .before .before .before .before .args .nodes .now) (c .before .before .before .before .before .before .before .before .args .links .now) (c .before .before .before .before .before .before .before .before .args .owners .now) (c .before .before .before .before .before .before .before .before .args .heads .now) (c .before .before .before .before .before .before .before .before .args .marks .now) (c .before .before .before .before .before .before .before .before .args .flags .now)) (c .no-held .ensures) ∙ c .before .before .before .before .before .before .before .before .pre .0
+begins : (c : tie.After-no-totals) → multiIn (c .before .before .before .before .before .before .before .before .args .nodes .now) (c .before .before .before .before .before .before .before .before .args .links .now) (c .before .before .before .before .before .before .before .before .args .owners .now) (c .before .before .before .before .before .before .before .before .args .heads .now) (c .before .before .before .before .before .before .before .before .args .marks .now) (c .before .before .before .before .before .before .before .before .args .flags .now) (c .no-totals .result) ≡ emptyGraph (c .before .before .before .before .before .before .before .before .args .release)
+begins c = ap (multiIn (c .before .before .before .before .before .before .before .before .args .nodes .now) (c .before .before .before .before .before .before .before .before .args .links .now) (c .before .before .before .before .before .before .before .before .args .owners .now) (c .before .before .before .before .before .before .before .before .args .heads .now) (c .before .before .before .before .before .before .before .before .args .marks .now) (c .before .before .before .before .before .before .before .before .args .flags .now)) (c .no-totals .ensures) ∙ c .before .before .before .before .before .before .before .before .pre .0
 
 -- the blocks fit the table
 few : (c : tie.Else1) → c .before .before .before .before .before .before .before .before .before .before .before .args .blocks ≤ nodeSlots
@@ -25,8 +25,8 @@ few c =
     let m = c .before .before .before .before .before .before .before .before .before .before .before .pre .1 .blocksAre refl .many in
     omega arith
 
-no-held-requires : tie.Need-no-held-requires
-no-held-requires c κs = search needs
+no-totals-requires : tie.Need-no-totals-requires
+no-totals-requires c κs = search needs
 
 add-blocks-requires : tie.Need-add-blocks-requires
 add-blocks-requires c κs = (subst MultiWf (sym (begins c)) (empty-kept _), c .before .before .before .before .before .before .before .before .pre .1 .blocksAre refl)
@@ -54,7 +54,7 @@ pub build-over-spec : {M : Type 1} → statement M
 build-over-spec =
     tie.close
     (tie.spec
-    no-held-requires
+    no-totals-requires
     add-blocks-requires
     accepted-requires
     returns

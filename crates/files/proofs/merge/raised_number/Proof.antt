@@ -1,7 +1,7 @@
 -- `files::merge::raised_number` meets its contract: four fields make a number.
+use borrow.Author.Needs.{needs}
 use native.Mathlib.Omega.{arith}
 use Rattle.files.specs.Forms.{numberOf}
-use borrow.Author.Needs.{needs}
 use Rattle.files.proofs.merge.raised_number.Statement.{statement}
 use Rattle.files.proofs.merge.raised_number.Tie as tie
 
@@ -32,27 +32,12 @@ add-field-at-3 c = search needs
 field-at-requires-4 : tie.Need-field-at-requires-4
 field-at-requires-4 c κs = search needs
 
-mul-result : tie.Need-mul-result
-mul-result c = search needs
-
-mul-result-2 : tie.Need-mul-result-2
-mul-result-2 c = search needs
-
-add-result : tie.Need-add-result
-add-result c = search needs
-
-mul-result-3 : tie.Need-mul-result-3
-mul-result-3 c = search needs
-
-add-result-2 : tie.Need-add-result-2
-add-result-2 c = search needs
-
-add-result-3 : tie.Need-add-result-3
-add-result-3 c = search needs
+number-of-requires : tie.Need-number-of-requires
+number-of-requires c κs = search needs
 
 returns : tie.Need-returns
 unfolding numberOf
-returns c = omega (arith, c .before .before .before .field-at .ensures .0, c .before .before .field-at2 .ensures .0, c .before .field-at3 .ensures .0, c .field-at4 .ensures .0)
+returns c = omega (arith, c .number-of .ensures, c .before .before .before .before .field-at .ensures .0, c .before .before .before .field-at2 .ensures .0, c .before .before .field-at3 .ensures .0, c .before .field-at4 .ensures .0)
 
 pub raised-number-spec : {M : Type 1} → statement M
 raised-number-spec =
@@ -67,10 +52,5 @@ raised-number-spec =
     add-target
     add-field-at-3
     field-at-requires-4
-    mul-result
-    mul-result-2
-    add-result
-    mul-result-3
-    add-result-2
-    add-result-3
+    number-of-requires
     returns)

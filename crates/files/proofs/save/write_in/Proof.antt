@@ -15,41 +15,41 @@ use Rattle.files.proofs.save.write_in.Tie as tie
 
 -- the graph that the tables are
 abbrev graph : tie.Start → MultiPortGraph
-graph s = multiIn (s .args .nodes .now) (s .args .links .now) (s .args .owners .now) (s .args .heads .now) (s .args .marks .now) (s .args .flags .now) (s .args .held)
+graph s = multiIn (s .args .nodes .now) (s .args .links .now) (s .args .owners .now) (s .args .heads .now) (s .args .marks .now) (s .args .flags .now) (s .args .totals)
 
 -- The listings, and the parts of them that are lent.
 
-blocks-listed : (c : tie.After-slice-known7) → (4 * c .before .before .before .before .before .before .before .before .before .node-count-in .result ≡ length (blocksListed (graph (c .before .before .before .before .before .before .before .before .before .before .before .before .before .before .before)))) × (length (blocksListed (graph (c .before .before .before .before .before .before .before .before .before .before .before .before .before .before .before))) ≤ 4 * nodeSlots) × (length (blocksListed (graph (c .before .before .before .before .before .before .before .before .before .before .before .before .before .before .before))) ≤ length (c .before .before .before .before .before .before .before .before .before .before .before .before .before .before .before .args .listed .now))
+blocks-listed : (c : tie.After-slice-known7) → (4 * c .before .before .before .before .before .before .before .before .before .node-count-lent .result ≡ length (blocksListed (graph (c .before .before .before .before .before .before .before .before .before .before .before .before .before .before .before)))) × (length (blocksListed (graph (c .before .before .before .before .before .before .before .before .before .before .before .before .before .before .before))) ≤ 4 * nodeSlots) × (length (blocksListed (graph (c .before .before .before .before .before .before .before .before .before .before .before .before .before .before .before))) ≤ length (c .before .before .before .before .before .before .before .before .before .before .before .before .before .before .before .args .listed .now))
 unfolding visibleNodes
-blocks-listed c = let n = listed-blocks (c .before .before .before .before .before .before .before .before .before .before .before .before .before .before .before .pre .0 .fine) _ (c .before .before .before .before .before .before .before .before .before .node-count-in .ensures) in (n .0, n .1, omega (arith, n .0, c .before .before .before .before .before .before .before .before .before .node-count-in .ensures, c .before .before .before .before .before .before .before .before .before .before .before .before .before .before .before .pre .1))
+blocks-listed c = let n = listed-blocks (c .before .before .before .before .before .before .before .before .before .before .before .before .before .before .before .pre .0 .fine) _ (c .before .before .before .before .before .before .before .before .before .node-count-lent .ensures) in (n .0, n .1, omega (arith, n .0, c .before .before .before .before .before .before .before .before .before .node-count-lent .ensures, c .before .before .before .before .before .before .before .before .before .before .before .before .before .before .before .pre .1))
 
-wires-listed : (c : tie.After-slice-known7) → (8 * c .before .before .before .before .before .before .before .before .link-count-in .result ≡ length (wiresListed (graph (c .before .before .before .before .before .before .before .before .before .before .before .before .before .before .before)))) × (length (wiresListed (graph (c .before .before .before .before .before .before .before .before .before .before .before .before .before .before .before))) ≤ 4 * portSlots) × (length (wiresListed (graph (c .before .before .before .before .before .before .before .before .before .before .before .before .before .before .before))) ≤ length (c .before .before .before .before .before .before .before .before .before .before .before .before .before .before .before .args .ends .now))
+wires-listed : (c : tie.After-slice-known7) → (8 * c .before .before .before .before .before .before .before .before .link-count-lent .result ≡ length (wiresListed (graph (c .before .before .before .before .before .before .before .before .before .before .before .before .before .before .before)))) × (length (wiresListed (graph (c .before .before .before .before .before .before .before .before .before .before .before .before .before .before .before))) ≤ 4 * portSlots) × (length (wiresListed (graph (c .before .before .before .before .before .before .before .before .before .before .before .before .before .before .before))) ≤ length (c .before .before .before .before .before .before .before .before .before .before .before .before .before .before .before .args .ends .now))
 unfolding visibleLinks
-wires-listed c = let n = listed-wires (c .before .before .before .before .before .before .before .before .before .before .before .before .before .before .before .pre .0 .fine) _ (c .before .before .before .before .before .before .before .before .link-count-in .ensures) in (n .0, n .1, omega (arith, n .0, c .before .before .before .before .before .before .before .before .link-count-in .ensures, c .before .before .before .before .before .before .before .before .before .before .before .before .before .before .before .pre .2))
+wires-listed c = let n = listed-wires (c .before .before .before .before .before .before .before .before .before .before .before .before .before .before .before .pre .0 .fine) _ (c .before .before .before .before .before .before .before .before .link-count-lent .ensures) in (n .0, n .1, omega (arith, n .0, c .before .before .before .before .before .before .before .before .link-count-lent .ensures, c .before .before .before .before .before .before .before .before .before .before .before .before .before .before .before .pre .2))
 
-is-blocks : (c : tie.After-slice-known7) → take (4 * c .before .before .before .before .before .before .before .before .before .node-count-in .result) (c .before .before .before .before .before .before .blocks-in .last .1 .1 .1 .1 .1 .1 .1 .0) ≡ blocksListed (graph (c .before .before .before .before .before .before .before .before .before .before .before .before .before .before .before))
-is-blocks c = let n = blocks-listed c in ap (take (4 * c .before .before .before .before .before .before .before .before .before .node-count-in .result)) (c .before .before .before .before .before .before .blocks-in .ensures .1) ∙ listing-taken (blocksListed (graph (c .before .before .before .before .before .before .before .before .before .before .before .before .before .before .before))) (c .before .before .before .before .before .before .before .before .before .before .before .before .before .before .before .args .listed .now) _ (n .0) (n .2)
+is-blocks : (c : tie.After-slice-known7) → take (4 * c .before .before .before .before .before .before .before .before .before .node-count-lent .result) (c .before .before .before .before .before .before .blocks-lent .last .1 .1 .1 .1 .1 .1 .1 .0) ≡ blocksListed (graph (c .before .before .before .before .before .before .before .before .before .before .before .before .before .before .before))
+is-blocks c = let n = blocks-listed c in ap (take (4 * c .before .before .before .before .before .before .before .before .before .node-count-lent .result)) (c .before .before .before .before .before .before .blocks-lent .ensures .1) ∙ listing-taken (blocksListed (graph (c .before .before .before .before .before .before .before .before .before .before .before .before .before .before .before))) (c .before .before .before .before .before .before .before .before .before .before .before .before .before .before .before .args .listed .now) _ (n .0) (n .2)
 
-is-wires : (c : tie.After-slice-known7) → take (8 * c .before .before .before .before .before .before .before .before .link-count-in .result) (c .before .before .wires-in .last .1 .1 .1 .1 .1 .1 .1 .0) ≡ wiresListed (graph (c .before .before .before .before .before .before .before .before .before .before .before .before .before .before .before))
-is-wires c = let n = wires-listed c in ap (take (8 * c .before .before .before .before .before .before .before .before .link-count-in .result)) (c .before .before .wires-in .ensures .1) ∙ listing-taken (wiresListed (graph (c .before .before .before .before .before .before .before .before .before .before .before .before .before .before .before))) (c .before .before .before .before .before .before .before .before .before .before .before .before .before .before .before .args .ends .now) _ (n .0) (n .2)
+is-wires : (c : tie.After-slice-known7) → take (8 * c .before .before .before .before .before .before .before .before .link-count-lent .result) (c .before .before .wires-lent .last .1 .1 .1 .1 .1 .1 .1 .0) ≡ wiresListed (graph (c .before .before .before .before .before .before .before .before .before .before .before .before .before .before .before))
+is-wires c = let n = wires-listed c in ap (take (8 * c .before .before .before .before .before .before .before .before .link-count-lent .result)) (c .before .before .wires-lent .ensures .1) ∙ listing-taken (wiresListed (graph (c .before .before .before .before .before .before .before .before .before .before .before .before .before .before .before))) (c .before .before .before .before .before .before .before .before .before .before .before .before .before .before .before .args .ends .now) _ (n .0) (n .2)
 
-blocks-lent : (c : tie.After-slice-known7) → length (take (4 * c .before .before .before .before .before .before .before .before .before .node-count-in .result) (c .before .before .before .before .before .before .blocks-in .last .1 .1 .1 .1 .1 .1 .1 .0)) ≡ 4 * c .before .before .before .before .before .before .before .before .before .node-count-in .result
+blocks-lent : (c : tie.After-slice-known7) → length (take (4 * c .before .before .before .before .before .before .before .before .before .node-count-lent .result) (c .before .before .before .before .before .before .blocks-lent .last .1 .1 .1 .1 .1 .1 .1 .0)) ≡ 4 * c .before .before .before .before .before .before .before .before .before .node-count-lent .result
 blocks-lent c = ap length (is-blocks c) ∙ sym (blocks-listed c .0)
 
-wires-lent : (c : tie.After-slice-known7) → length (take (8 * c .before .before .before .before .before .before .before .before .link-count-in .result) (c .before .before .wires-in .last .1 .1 .1 .1 .1 .1 .1 .0)) ≡ 8 * c .before .before .before .before .before .before .before .before .link-count-in .result
+wires-lent : (c : tie.After-slice-known7) → length (take (8 * c .before .before .before .before .before .before .before .before .link-count-lent .result) (c .before .before .wires-lent .last .1 .1 .1 .1 .1 .1 .1 .0)) ≡ 8 * c .before .before .before .before .before .before .before .before .link-count-lent .result
 wires-lent c = ap length (is-wires c) ∙ sym (wires-listed c .0)
 
-node-count-in-requires : tie.Need-node-count-in-requires
-node-count-in-requires c κs = search needs
+node-count-lent-requires : tie.Need-node-count-lent-requires
+node-count-lent-requires c κs = search needs
 
-link-count-in-requires : tie.Need-link-count-in-requires
-link-count-in-requires c κs = search needs
+link-count-lent-requires : tie.Need-link-count-lent-requires
+link-count-lent-requires c κs = search needs
 
-blocks-in-requires : tie.Need-blocks-in-requires
-blocks-in-requires c κs = c .before .before .before .before .before .before .before .before .pre .0
+blocks-lent-requires : tie.Need-blocks-lent-requires
+blocks-lent-requires c κs = c .before .before .before .before .before .before .before .before .pre .0
 
-wires-in-requires : tie.Need-wires-in-requires
-wires-in-requires c κs = c .before .before .before .before .before .before .before .before .before .before .before .before .pre .0
+wires-lent-requires : tie.Need-wires-lent-requires
+wires-lent-requires c κs = c .before .before .before .before .before .before .before .before .before .before .before .before .pre .0
 
 mul-block-end : tie.Need-mul-block-end
 mul-block-end c = omega (arith, blocks-listed c .0, blocks-listed c .1)
@@ -107,10 +107,10 @@ pub write-in-spec : {M : Type 1} → statement M
 write-in-spec =
     tie.close
     (tie.spec
-    node-count-in-requires
-    link-count-in-requires
-    blocks-in-requires
-    wires-in-requires
+    node-count-lent-requires
+    link-count-lent-requires
+    blocks-lent-requires
+    wires-lent-requires
     mul-block-end
     mul-wire-end
     slice-reshare-prefix-put-blocks

@@ -1,6 +1,7 @@
 -- `files::wires::number_at` meets its contract: four fields make a number.
-use Rattle.files.specs.WireSteps.{number-read}
 use borrow.Author.Needs.{needs}
+use mathlib.Core.Path.{_∙_}
+use Rattle.files.specs.WireSteps.{number-read}
 use Rattle.files.proofs.wires.number_at.Statement.{statement}
 use Rattle.files.proofs.wires.number_at.Tie as tie
 
@@ -25,26 +26,11 @@ add-field-at-3 c = search needs
 field-at-requires-4 : tie.Need-field-at-requires-4
 field-at-requires-4 c κs = search needs
 
-mul-result : tie.Need-mul-result
-mul-result c = search needs
-
-mul-result-2 : tie.Need-mul-result-2
-mul-result-2 c = search needs
-
-add-result : tie.Need-add-result
-add-result c = search needs
-
-mul-result-3 : tie.Need-mul-result-3
-mul-result-3 c = search needs
-
-add-result-2 : tie.Need-add-result-2
-add-result-2 c = search needs
-
-add-result-3 : tie.Need-add-result-3
-add-result-3 c = search needs
+number-of-requires : tie.Need-number-of-requires
+number-of-requires c κs = search needs
 
 returns : tie.Need-returns
-returns c = number-read (c .before .before .before .before .before .args .file .now) (c .before .before .before .before .before .args .at) _ _ _ _ (c .before .before .before .field-at .ensures .0) (c .before .before .field-at2 .ensures .0) (c .before .field-at3 .ensures .0) (c .field-at4 .ensures .0)
+returns c = c .number-of .ensures ∙ number-read _ _ _ _ _ _ (c .before .before .before .before .field-at .ensures .0) (c .before .before .before .field-at2 .ensures .0) (c .before .before .field-at3 .ensures .0) (c .before .field-at4 .ensures .0)
 
 pub number-at-spec : {M : Type 1} → statement M
 number-at-spec =
@@ -57,10 +43,5 @@ number-at-spec =
     field-at-requires-3
     add-field-at-3
     field-at-requires-4
-    mul-result
-    mul-result-2
-    add-result
-    mul-result-3
-    add-result-2
-    add-result-3
+    number-of-requires
     returns)

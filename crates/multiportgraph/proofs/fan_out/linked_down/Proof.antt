@@ -5,8 +5,8 @@ use Prim.Native.Nat.{_+_, _-_, _≤_, min}
 use native.Mathlib.Omega.{arith}
 use borrow.Author.Needs.{needs}
 use Rattle.portgraph.specs.Limits.{portSlots}
-use Rattle.multiportgraph.specs.Reads.{run, ownsDown, runDown}
-use Rattle.multiportgraph.specs.ReadSteps.{run-turn, run-stop, run-end, down-start, down-yes, down-no}
+use Rattle.multiportgraph.specs.TableReads.{inRow, ownsDown, runDown}
+use Rattle.multiportgraph.specs.TableReadSteps.{run-turn, run-stop, run-end, down-start, down-yes, down-no}
 use Rattle.multiportgraph.specs.FanOutScans.{linkedDown}
 use Rattle.multiportgraph.specs.FanOutSteps.{down-none, down-next}
 use Rattle.multiportgraph.proofs.fan_out.linked_down.Statement.{statement}
@@ -15,7 +15,7 @@ use Rattle.multiportgraph.proofs.fan_out.linked_down.Tie as tie
 abbrev Inv-loop : tie.InvT-loop
 Inv-loop links owners owner from most linked₀ k₀ linked k =
     (k ≤ most) × (linked ≤ k) × (most ≡ min from portSlots) × (linked ≡ linkedDown links from k)
-    × (runDown owners owner from ≡ k + run (ownsDown owners owner from) k (most - k))
+    × (runDown owners owner from ≡ k + inRow (ownsDown owners owner from) k (most - k))
 
 abbrev μ-loop : tie.MeasureT-loop
 μ-loop links owners owner from most linked₀ k₀ linked k = most - k

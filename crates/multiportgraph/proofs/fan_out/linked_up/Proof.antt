@@ -5,8 +5,8 @@ use Prim.Native.Nat.{_+_, _-_, _≤_}
 use native.Mathlib.Omega.{arith}
 use borrow.Author.Needs.{needs}
 use Rattle.portgraph.specs.Limits.{portSlots}
-use Rattle.multiportgraph.specs.Reads.{run, ownsUp, runUp}
-use Rattle.multiportgraph.specs.ReadSteps.{run-turn, run-stop, run-end, up-start, up-yes, up-no}
+use Rattle.multiportgraph.specs.TableReads.{inRow, ownsUp, runUp}
+use Rattle.multiportgraph.specs.TableReadSteps.{run-turn, run-stop, run-end, up-start, up-yes, up-no}
 use Rattle.multiportgraph.specs.FanOutScans.{linkedUp}
 use Rattle.multiportgraph.specs.FanOutSteps.{up-none, up-next}
 use Rattle.multiportgraph.proofs.fan_out.linked_up.Statement.{statement}
@@ -14,7 +14,7 @@ use Rattle.multiportgraph.proofs.fan_out.linked_up.Tie as tie
 
 abbrev Inv-loop : tie.InvT-loop
 Inv-loop links owners owner from linked₀ k₀ linked k =
-    (k ≤ portSlots) × (linked ≤ k) × (linked ≡ linkedUp links from k) × (runUp owners owner from ≡ k + run (ownsUp owners owner from) k (portSlots - k))
+    (k ≤ portSlots) × (linked ≤ k) × (linked ≡ linkedUp links from k) × (runUp owners owner from ≡ k + inRow (ownsUp owners owner from) k (portSlots - k))
 
 abbrev μ-loop : tie.MeasureT-loop
 μ-loop links owners owner from linked₀ k₀ linked k = portSlots - k

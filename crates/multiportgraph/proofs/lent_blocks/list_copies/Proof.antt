@@ -7,10 +7,10 @@ use lib.ListN.{length}
 use lib.Seq.{sets}
 use borrow.Author.Needs.{needs}
 use Rattle.multiportgraph.specs.LentSteps.{copies-held}
-use Rattle.multiportgraph.specs.MultiLent.{multiIn, noHeld}
+use Rattle.multiportgraph.specs.MultiLent.{multiIn, noTotals}
 use Rattle.multiportgraph.specs.declared.multiportgraph.Release.the-variants.{One}
 use Rattle.multiportgraph.specs.LentLaws.{copy-node-read}
-use Rattle.multiportgraph.specs.FormSteps.{split-told}
+use Rattle.multiportgraph.specs.CodeFormSteps.{split-told}
 use Rattle.multiportgraph.specs.BlockSteps.{copies-begun, copies-turn-split, copies-turn-plain, copies-counted, copies-listed}
 use Rattle.multiportgraph.specs.BlockSteps.{sets-alike}
 use Rattle.multiportgraph.proofs.lent_blocks.list_copies.Statement.{statement}
@@ -20,8 +20,8 @@ use Rattle.multiportgraph.specs.HiddenNodes.{copiesIn}
 abbrev Inv-loop : tie.InvT-loop
 Inv-loop nodes links owners heads marks flags list₀ at first count place₀ k₀ list place k =
     (k ≤ count) × (place ≤ at + k)
-    × (place + length (copiesIn (multiIn nodes links owners heads marks flags (noHeld One)) (first + k) (count - k)) ≡ at + length (copiesIn (multiIn nodes links owners heads marks flags (noHeld One)) first count))
-    × (sets list place (copiesIn (multiIn nodes links owners heads marks flags (noHeld One)) (first + k) (count - k)) ≡ sets list₀ at (copiesIn (multiIn nodes links owners heads marks flags (noHeld One)) first count))
+    × (place + length (copiesIn (multiIn nodes links owners heads marks flags (noTotals One)) (first + k) (count - k)) ≡ at + length (copiesIn (multiIn nodes links owners heads marks flags (noTotals One)) first count))
+    × (sets list place (copiesIn (multiIn nodes links owners heads marks flags (noTotals One)) (first + k) (count - k)) ≡ sets list₀ at (copiesIn (multiIn nodes links owners heads marks flags (noTotals One)) first count))
 
 abbrev μ-loop : tie.MeasureT-loop
 μ-loop nodes links owners heads marks flags list₀ at first count place₀ k₀ list place k = count - k
@@ -65,10 +65,10 @@ loop-again c =
     let s = c .before .before .before .before .before .pre .0 .marksLong in
     ⊎-elim
     (λ w.
-    let x = copies-turn-split (multiIn (a .nodes .now) (a .links .now) (a .owners .now) (a .heads .now) (a .marks .now) (a .flags .now) (noHeld One)) (a .first) (l .k) (a .count) h (l .list) _ (l .place) _ _ (a .at) (split-told (multiIn (a .nodes .now) (a .links .now) (a .owners .now) (a .heads .now) (a .marks .now) (a .flags .now) (noHeld One)) _ _ _ _ s refl (g .ensures) (w .0 .taken)) (w .2 .ensures ∙ copy-node-read (a .nodes .now) (a .links .now) (a .owners .now) (a .heads .now) (a .marks .now) (a .flags .now) (noHeld One) _) (w .6 ∙ w .3 .ensures) (w .7) (l .inv .1) in
+    let x = copies-turn-split (multiIn (a .nodes .now) (a .links .now) (a .owners .now) (a .heads .now) (a .marks .now) (a .flags .now) (noTotals One)) (a .first) (l .k) (a .count) h (l .list) _ (l .place) _ _ (a .at) (split-told (multiIn (a .nodes .now) (a .links .now) (a .owners .now) (a .heads .now) (a .marks .now) (a .flags .now) (noTotals One)) _ _ _ _ s refl (g .ensures) (w .0 .taken)) (w .2 .ensures ∙ copy-node-read (a .nodes .now) (a .links .now) (a .owners .now) (a .heads .now) (a .marks .now) (a .flags .now) (noTotals One) _) (w .6 ∙ w .3 .ensures) (w .7) (l .inv .1) in
     (omega arith, x .0, x .1 ∙ l .inv .2, x .2 ∙ l .inv .3))
     (λ w.
-    let x = copies-turn-plain (multiIn (a .nodes .now) (a .links .now) (a .owners .now) (a .heads .now) (a .marks .now) (a .flags .now) (noHeld One)) (a .first) (l .k) (a .count) h (l .list) _ (l .place) _ (a .at) (split-told (multiIn (a .nodes .now) (a .links .now) (a .owners .now) (a .heads .now) (a .marks .now) (a .flags .now) (noHeld One)) _ _ _ _ s refl (g .ensures) (w .0 .left)) (w .1) (w .2) (l .inv .1) in
+    let x = copies-turn-plain (multiIn (a .nodes .now) (a .links .now) (a .owners .now) (a .heads .now) (a .marks .now) (a .flags .now) (noTotals One)) (a .first) (l .k) (a .count) h (l .list) _ (l .place) _ (a .at) (split-told (multiIn (a .nodes .now) (a .links .now) (a .owners .now) (a .heads .now) (a .marks .now) (a .flags .now) (noTotals One)) _ _ _ _ s refl (g .ensures) (w .0 .left)) (w .1) (w .2) (l .inv .1) in
     (omega arith, x .0, x .1 ∙ l .inv .2, x .2 ∙ l .inv .3))
     (c .if1 .came)
 
@@ -76,14 +76,14 @@ same-length : tie.Need-same-length Inv-loop μ-loop
 same-length c =
     let l = c .before .loop in
     let a = c .before .before .before .args in
-    sets-alike (l .list) (a .list .now) (l .place) (a .at) (copiesIn (multiIn (a .nodes .now) (a .links .now) (a .owners .now) (a .heads .now) (a .marks .now) (a .flags .now) (noHeld One)) (a .first + l .k) (a .count - l .k)) (copiesIn (multiIn (a .nodes .now) (a .links .now) (a .owners .now) (a .heads .now) (a .marks .now) (a .flags .now) (noHeld One)) (a .first) (a .count)) (l .inv .3)
+    sets-alike (l .list) (a .list .now) (l .place) (a .at) (copiesIn (multiIn (a .nodes .now) (a .links .now) (a .owners .now) (a .heads .now) (a .marks .now) (a .flags .now) (noTotals One)) (a .first + l .k) (a .count - l .k)) (copiesIn (multiIn (a .nodes .now) (a .links .now) (a .owners .now) (a .heads .now) (a .marks .now) (a .flags .now) (noTotals One)) (a .first) (a .count)) (l .inv .3)
 
 returns : tie.Need-returns Inv-loop μ-loop
 returns c =
     let l = c .before .loop in
     let a = c .before .before .before .args in
-    let same = copies-held (a .nodes .now) (a .links .now) (a .owners .now) (a .heads .now) (a .marks .now) (a .flags .now) (noHeld One) (a .held) (a .first) (a .count) in
-    (copies-counted (multiIn (a .nodes .now) (a .links .now) (a .owners .now) (a .heads .now) (a .marks .now) (a .flags .now) (noHeld One)) _ _ _ (c .loop-test .left) _ ∙ (l .inv .2 ∙ ap (λ v. a .at + length v) same), copies-listed (multiIn (a .nodes .now) (a .links .now) (a .owners .now) (a .heads .now) (a .marks .now) (a .flags .now) (noHeld One)) _ _ _ (c .loop-test .left) _ _ ∙ (l .inv .3 ∙ ap (sets (a .list .now) (a .at)) same))
+    let same = copies-held (a .nodes .now) (a .links .now) (a .owners .now) (a .heads .now) (a .marks .now) (a .flags .now) (noTotals One) (a .totals) (a .first) (a .count) in
+    (copies-counted (multiIn (a .nodes .now) (a .links .now) (a .owners .now) (a .heads .now) (a .marks .now) (a .flags .now) (noTotals One)) _ _ _ (c .loop-test .left) _ ∙ (l .inv .2 ∙ ap (λ v. a .at + length v) same), copies-listed (multiIn (a .nodes .now) (a .links .now) (a .owners .now) (a .heads .now) (a .marks .now) (a .flags .now) (noTotals One)) _ _ _ (c .loop-test .left) _ _ ∙ (l .inv .3 ∙ ap (sets (a .list .now) (a .at)) same))
 
 pub list-copies-spec : {M : Type 1} → statement M
 list-copies-spec =

@@ -44,7 +44,7 @@ list-copies-requires-2 : tie.Need-list-copies-requires-2
 list-copies-requires-2 c κs =
     let a = c .before .before .before .before .before .before .before .before .before .before .before .args in
     let f = c .before .before .before .before .before .before .before .before .before .before .before .pre .1 in
-    let few = copies-few (multiIn (a .nodes .now) (a .links .now) (a .owners .now) (a .heads .now) (a .marks .now) (a .flags .now) (a .held)) (c .before .before .before .before .before .before .before .before .before .wide .result + c .before .before .before .before .before .before .smaller .result) (c .before .before .before .before .before .before .before .before .wide16 .result - c .before .before .before .before .before .before .smaller .result) in
+    let few = copies-few (multiIn (a .nodes .now) (a .links .now) (a .owners .now) (a .heads .now) (a .marks .now) (a .flags .now) (a .totals)) (c .before .before .before .before .before .before .before .before .before .wide .result + c .before .before .before .before .before .before .smaller .result) (c .before .before .before .before .before .before .before .before .wide16 .result - c .before .before .before .before .before .before .smaller .result) in
     (c .before .before .before .before .before .before .before .before .before .before .before .pre .0, omega (arith, c .before .before .before .before .before .before .before .before .before .wide .ensures, c .before .before .before .before .before .before .before .before .wide16 .ensures, c .before .before .before .before .before .before .before .wide162 .ensures, c .before .before .before .before .before .smaller2 .ensures, f .ends, f .ports, f .small), omega (arith, c .before .before .before .before .before .before .before .before .wide16 .ensures, c .before .before .before .before .before .before .before .wide162 .ensures, c .before .before .before .before .before .before .smaller .ensures, c .before .before .before .before .before .smaller2 .ensures, c .before .before .before .list-copies .ensures .0, few, f .ports, f .small))
 
 same-length : tie.Need-same-length
@@ -52,7 +52,7 @@ same-length c = search needs
 
 returns : tie.Need-returns
 returns c =
-    dropped-listed (multiIn (c .before .before .before .before .before .before .before .before .before .before .before .before .before .before .args .nodes .now) (c .before .before .before .before .before .before .before .before .before .before .before .before .before .before .args .links .now) (c .before .before .before .before .before .before .before .before .before .before .before .before .before .before .args .owners .now) (c .before .before .before .before .before .before .before .before .before .before .before .before .before .before .args .heads .now) (c .before .before .before .before .before .before .before .before .before .before .before .before .before .before .args .marks .now) (c .before .before .before .before .before .before .before .before .before .before .before .before .before .before .args .flags .now) (c .before .before .before .before .before .before .before .before .before .before .before .before .before .before .args .held)) (c .before .before .before .before .before .before .before .before .before .before .before .before .before .before .args .meta) (c .before .before .before .before .before .before .before .before .before .before .before .before .before .before .args .incoming) (c .before .before .before .before .before .before .before .before .before .before .before .before .before .before .args .outgoing) (c .before .before .before .before .before .before .before .before .before .before .before .before .wide .result) (c .before .before .before .before .before .before .before .before .before .before .before .wide16 .result) (c .before .before .before .before .before .before .before .before .before .before .wide162 .result) (c .before .before .before .before .before .before .before .before .before .smaller .result) (c .before .before .before .before .before .before .before .before .smaller2 .result) (c .before .before .before .before .before .before .list-copies .result) (c .before .before .list-copies2 .result) (c .before .before .before .before .before .before .before .before .before .before .before .before .before .before .args .list .now) _ _ (c .before .before .before .before .before .before .before .before .before .before .before .before .wide .ensures) (c .before .before .before .before .before .before .before .before .before .before .before .wide16 .ensures) (c .before .before .before .before .before .before .before .before .before .before .wide162 .ensures) (c .before .before .before .before .before .before .before .before .before .smaller .ensures) (c .before .before .before .before .before .before .before .before .smaller2 .ensures) (c .before .before .before .before .before .before .list-copies .ensures .0) (c .before .before .before .before .before .before .list-copies .ensures .1) (c .before .before .list-copies2 .ensures .0) (c .before .before .list-copies2 .ensures .1)
+    dropped-listed (multiIn (c .before .before .before .before .before .before .before .before .before .before .before .before .before .before .args .nodes .now) (c .before .before .before .before .before .before .before .before .before .before .before .before .before .before .args .links .now) (c .before .before .before .before .before .before .before .before .before .before .before .before .before .before .args .owners .now) (c .before .before .before .before .before .before .before .before .before .before .before .before .before .before .args .heads .now) (c .before .before .before .before .before .before .before .before .before .before .before .before .before .before .args .marks .now) (c .before .before .before .before .before .before .before .before .before .before .before .before .before .before .args .flags .now) (c .before .before .before .before .before .before .before .before .before .before .before .before .before .before .args .totals)) (c .before .before .before .before .before .before .before .before .before .before .before .before .before .before .args .meta) (c .before .before .before .before .before .before .before .before .before .before .before .before .before .before .args .incoming) (c .before .before .before .before .before .before .before .before .before .before .before .before .before .before .args .outgoing) (c .before .before .before .before .before .before .before .before .before .before .before .before .wide .result) (c .before .before .before .before .before .before .before .before .before .before .before .wide16 .result) (c .before .before .before .before .before .before .before .before .before .before .wide162 .result) (c .before .before .before .before .before .before .before .before .before .smaller .result) (c .before .before .before .before .before .before .before .before .smaller2 .result) (c .before .before .before .before .before .before .list-copies .result) (c .before .before .list-copies2 .result) (c .before .before .before .before .before .before .before .before .before .before .before .before .before .before .args .list .now) _ _ (c .before .before .before .before .before .before .before .before .before .before .before .before .wide .ensures) (c .before .before .before .before .before .before .before .before .before .before .before .wide16 .ensures) (c .before .before .before .before .before .before .before .before .before .before .wide162 .ensures) (c .before .before .before .before .before .before .before .before .before .smaller .ensures) (c .before .before .before .before .before .before .before .before .smaller2 .ensures) (c .before .before .before .before .before .before .list-copies .ensures .0) (c .before .before .before .before .before .before .list-copies .ensures .1) (c .before .before .list-copies2 .ensures .0) (c .before .before .list-copies2 .ensures .1)
 
 pub list-dropped-spec : {M : Type 1} → statement M
 list-dropped-spec =

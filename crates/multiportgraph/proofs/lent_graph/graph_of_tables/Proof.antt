@@ -10,7 +10,7 @@ graph-in-requires c κs = search needs
 returns : tie.Need-returns
 returns c =
     let a = c .before .before .before .before .args in
-    multi-made (a .nodes .now) (a .links .now) (a .owners .now) (a .heads .now) (a .marks .now) (a .flags .now) (a .held) (c .before .before .graph-in .result) (c .before .before .graph-in .ensures)
+    multi-made (a .nodes .now) (a .links .now) (a .owners .now) (a .heads .now) (a .marks .now) (a .flags .now) (a .totals) (c .before .before .graph-in .result) (c .before .before .graph-in .ensures)
 
 pub graph-of-tables-spec : {M : Type 1} → statement M
 graph-of-tables-spec = tie.close (tie.spec graph-in-requires returns)

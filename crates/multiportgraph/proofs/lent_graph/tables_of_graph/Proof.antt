@@ -10,7 +10,7 @@ put-graph-requires c κs = search needs
 returns : tie.Need-returns
 returns c =
     let p = c .before .before .put-graph in
-    multi-stored (c .before .before .before .before .before .before .before .before .args .graph) (p .last .1 .0) (p .last .1 .1 .0) (p .last .1 .1 .1 .0) (p .last .1 .1 .1 .1 .0) (p .result) (p .ensures)
+    (multi-stored (c .before .before .before .before .before .before .before .before .args .graph) (p .last .1 .0) (p .last .1 .1 .0) (p .last .1 .1 .1 .0) (p .last .1 .1 .1 .1 .0) (p .result) (p .ensures .0), p .ensures .1)
 
 pub tables-of-graph-spec : {M : Type 1} → statement M
 tables-of-graph-spec = tie.close (tie.spec put-graph-requires returns)

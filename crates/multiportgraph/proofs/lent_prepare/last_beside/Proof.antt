@@ -3,7 +3,7 @@ use mathlib.Core.Path.{_≡_, sym, _∙_, ap}
 use Prim.Native.Nat.{_-_}
 use native.Mathlib.Omega.{arith}
 use borrow.Author.Needs.{needs}
-use Rattle.multiportgraph.specs.Reads.{lastBeside}
+use Rattle.multiportgraph.specs.TableReads.{lastBeside}
 use Rattle.portgraph.specs.declared.direction.Direction.{Direction}
 use Rattle.multiportgraph.proofs.lent_prepare.last_beside.Statement.{statement}
 use Rattle.multiportgraph.proofs.lent_prepare.last_beside.Tie as tie

@@ -1,6 +1,6 @@
 -- `multiportgraph::marks::flagged` meets its contract: inside the table and outside.
 use borrow.Author.Needs.{needs}
-use Rattle.multiportgraph.specs.FormSteps.{flag-inside, flag-outside}
+use Rattle.multiportgraph.specs.CodeFormSteps.{flag-inside, flag-outside}
 use Rattle.multiportgraph.proofs.marks.flagged.Statement.{statement}
 use Rattle.multiportgraph.proofs.marks.flagged.Tie as tie
 

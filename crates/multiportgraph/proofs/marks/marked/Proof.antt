@@ -1,6 +1,6 @@
 -- `multiportgraph::marks::marked` meets its contract: inside the table and outside.
 use borrow.Author.Needs.{needs}
-use Rattle.multiportgraph.specs.FormSteps.{flag-inside, flag-outside}
+use Rattle.multiportgraph.specs.CodeFormSteps.{flag-inside, flag-outside}
 use Rattle.multiportgraph.proofs.marks.marked.Statement.{statement}
 use Rattle.multiportgraph.proofs.marks.marked.Tie as tie
 

@@ -5,7 +5,7 @@ use Prim.Native.Nat.{_+_, _-_, _≤_}
 use native.Mathlib.Nat.{add-zero, sub-zero}
 use native.Mathlib.Omega.{arith}
 use borrow.Author.Needs.{needs}
-use Rattle.multiportgraph.specs.FormSteps.{lay-done}
+use Rattle.multiportgraph.specs.CodeFormSteps.{lay-done}
 use Rattle.multiportgraph.specs.MarkMoves.{Above, up-turn}
 use Rattle.multiportgraph.proofs.marks.move_up.Statement.{statement}
 use Rattle.multiportgraph.proofs.marks.move_up.Tie as tie

@@ -1,6 +1,6 @@
 -- `multiportgraph::marks::put_flag` meets its contract: inside the table and outside.
 use borrow.Author.Needs.{needs}
-use Rattle.multiportgraph.specs.FormSteps.{put-flag-inside, put-flag-outside}
+use Rattle.multiportgraph.specs.CodeFormSteps.{put-flag-inside, put-flag-outside}
 use Rattle.multiportgraph.proofs.marks.put_flag.Statement.{statement}
 use Rattle.multiportgraph.proofs.marks.put_flag.Tie as tie
 

@@ -6,7 +6,7 @@ use native.Mathlib.Omega.{arith}
 use borrow.Author.Needs.{needs}
 use Rattle.portgraph.specs.Tables.{fill}
 use Rattle.portgraph.specs.TableSteps.{fill-none}
-use Rattle.multiportgraph.specs.FormSteps.{unmark-turn, unmark-done}
+use Rattle.multiportgraph.specs.CodeFormSteps.{unmark-turn, unmark-done}
 use Rattle.multiportgraph.proofs.marks.unmark.Statement.{statement}
 use Rattle.multiportgraph.proofs.marks.unmark.Tie as tie
 

@@ -1,7 +1,7 @@
 -- `multiportgraph::reads::copy_beside` meets its contract, by side.
 use native.Mathlib.Omega.{arith}
 use borrow.Author.Needs.{needs}
-use Rattle.multiportgraph.specs.ReadSteps.{up-bound, copy-in, copy-out}
+use Rattle.multiportgraph.specs.TableReadSteps.{up-bound, copy-incoming, copy-outgoing}
 use Rattle.multiportgraph.proofs.reads.copy_beside.Statement.{statement}
 use Rattle.multiportgraph.proofs.reads.copy_beside.Tie as tie
 
@@ -33,10 +33,10 @@ less-requires-2 : tie.Need-less-requires-2
 less-requires-2 c κs = search needs
 
 returns : tie.Need-returns
-returns c = copy-in _ _ _ (c .before .before .before .before .wide .ensures) _ (c .before .before .before .at .ensures) _ _ (c .before .enum-told .given .1) (c .run-up .ensures)
+returns c = copy-incoming _ _ _ (c .before .before .before .before .wide .ensures) _ (c .before .before .before .at .ensures) _ _ (c .before .enum-told .given .1) (c .run-up .ensures)
 
 returns-2 : tie.Need-returns-2
-returns-2 c = copy-out _ _ _ (c .before .before .before .before .before .before .wide .ensures) _ (c .before .before .before .before .before .at .ensures) _ _ _ _ (c .before .before .before .enum-told2 .given .1) (c .before .before .run-down .ensures) (c .before .less .ensures) (c .less2 .ensures)
+returns-2 c = copy-outgoing _ _ _ (c .before .before .before .before .before .before .wide .ensures) _ (c .before .before .before .before .before .at .ensures) _ _ _ _ (c .before .before .before .enum-told2 .given .1) (c .before .before .run-down .ensures) (c .before .less .ensures) (c .less2 .ensures)
 
 pub copy-beside-spec : {M : Type 1} → statement M
 copy-beside-spec =

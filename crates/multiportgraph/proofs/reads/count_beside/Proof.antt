@@ -1,6 +1,6 @@
 -- `multiportgraph::reads::count_beside` meets its contract, by side.
 use borrow.Author.Needs.{needs}
-use Rattle.multiportgraph.specs.ReadSteps.{count-in, count-out}
+use Rattle.multiportgraph.specs.TableReadSteps.{count-in, count-out}
 use Rattle.multiportgraph.proofs.reads.count_beside.Statement.{statement}
 use Rattle.multiportgraph.proofs.reads.count_beside.Tie as tie
 

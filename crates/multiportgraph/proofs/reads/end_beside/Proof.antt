@@ -1,7 +1,7 @@
 -- `multiportgraph::reads::end_beside` meets its contract, by side: an offset that is there and one that is not.
 use native.Mathlib.Omega.{arith}
 use borrow.Author.Needs.{needs}
-use Rattle.multiportgraph.specs.ReadSteps.{count-below, end-in, end-in-lacking, end-out, end-out-lacking, end-out-past}
+use Rattle.multiportgraph.specs.TableReadSteps.{count-below, end-in, end-in-lacking, end-out, end-out-lacking, end-out-past}
 use Rattle.multiportgraph.proofs.reads.end_beside.Statement.{statement}
 use Rattle.multiportgraph.proofs.reads.end_beside.Tie as tie
 

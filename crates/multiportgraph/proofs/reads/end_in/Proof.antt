@@ -1,6 +1,6 @@
 -- `multiportgraph::reads::end_in` meets its contract: a split port and one that is not.
 use borrow.Author.Needs.{needs}
-use Rattle.multiportgraph.specs.ReadSteps.{end-split, end-plain}
+use Rattle.multiportgraph.specs.TableReadSteps.{end-split, end-plain}
 use Rattle.multiportgraph.proofs.reads.end_in.Statement.{statement}
 use Rattle.multiportgraph.proofs.reads.end_in.Tie as tie
 

@@ -1,6 +1,6 @@
 -- `multiportgraph::reads::far_in` meets its contract: a link and none.
 use borrow.Author.Needs.{needs}
-use Rattle.multiportgraph.specs.ReadSteps.{far-found, far-missing}
+use Rattle.multiportgraph.specs.TableReadSteps.{far-found, far-missing}
 use Rattle.multiportgraph.proofs.reads.far_in.Statement.{statement}
 use Rattle.multiportgraph.proofs.reads.far_in.Tie as tie
 

@@ -1,6 +1,6 @@
 -- `multiportgraph::reads::first_beside` meets its contract, by side.
 use borrow.Author.Needs.{needs}
-use Rattle.multiportgraph.specs.ReadSteps.{first-in, first-out}
+use Rattle.multiportgraph.specs.TableReadSteps.{first-in, first-out}
 use Rattle.multiportgraph.proofs.reads.first_beside.Statement.{statement}
 use Rattle.multiportgraph.proofs.reads.first_beside.Tie as tie
 

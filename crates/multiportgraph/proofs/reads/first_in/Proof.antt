@@ -1,6 +1,6 @@
 -- `multiportgraph::reads::first_in` meets its contract.
 use borrow.Author.Needs.{needs}
-use Rattle.multiportgraph.specs.ReadSteps.{first-told}
+use Rattle.multiportgraph.specs.TableReadSteps.{first-told}
 use Rattle.multiportgraph.proofs.reads.first_in.Statement.{statement}
 use Rattle.multiportgraph.proofs.reads.first_in.Tie as tie
 

@@ -4,14 +4,14 @@ use Prim.Native.Nat.{ℕ, _+_, _-_, _/_, _≤_, min}
 use native.Mathlib.Omega.{arith}
 use borrow.Author.Needs.{needs}
 use Rattle.portgraph.specs.Limits.{portSlots}
-use Rattle.multiportgraph.specs.Reads.{run, leapsDown, leapDown}
-use Rattle.multiportgraph.specs.ReadSteps.{run-turn, run-stop, run-end, leap-start, leap-yes, leap-no}
+use Rattle.multiportgraph.specs.TableReads.{inRow, leapsDown, leapDown}
+use Rattle.multiportgraph.specs.TableReadSteps.{run-turn, run-stop, run-end, leap-start, leap-yes, leap-no}
 use Rattle.multiportgraph.proofs.reads.leap_down.Statement.{statement}
 use Rattle.multiportgraph.proofs.reads.leap_down.Tie as tie
 
 abbrev Inv-loop : tie.InvT-loop
 Inv-loop owners owner from most k₀ k =
-    (k ≤ most) × (most ≡ min from portSlots / 32) × (leapDown owners owner from ≡ k + run (leapsDown owners owner from) k (most - k))
+    (k ≤ most) × (most ≡ min from portSlots / 32) × (leapDown owners owner from ≡ k + inRow (leapsDown owners owner from) k (most - k))
 
 abbrev μ-loop : tie.MeasureT-loop
 μ-loop owners owner from most k₀ k = most - k

@@ -5,7 +5,7 @@ use Prim.Native.Nat.{_+_, _-_, _≤_, _<_}
 use native.Mathlib.Omega.{arith}
 use Rattle.portgraph.specs.Limits.{portSlots}
 use Rattle.portgraph.specs.TableSteps.{at-inside}
-use Rattle.multiportgraph.specs.Forms.{lowestUnlinked}
+use Rattle.multiportgraph.specs.CodeForms.{lowestUnlinked}
 use Rattle.multiportgraph.specs.PrepareSteps.{lowest-start, lowest-stop, lowest-turn, lowest-end}
 use Rattle.multiportgraph.proofs.reads.lowest_unlinked.Statement.{statement}
 use Rattle.multiportgraph.proofs.reads.lowest_unlinked.Tie as tie

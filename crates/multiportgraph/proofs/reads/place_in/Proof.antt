@@ -2,7 +2,7 @@
 use mathlib.Core.Path.{sym, _∙_}
 use native.Mathlib.Omega.{arith}
 use borrow.Author.Needs.{needs}
-use Rattle.multiportgraph.specs.ReadSteps.{row-bound, place-nowhere, place-told}
+use Rattle.multiportgraph.specs.TableReadSteps.{row-bound, place-nowhere, place-told}
 use Rattle.multiportgraph.proofs.reads.place_in.Statement.{statement}
 use Rattle.multiportgraph.proofs.reads.place_in.Tie as tie
 

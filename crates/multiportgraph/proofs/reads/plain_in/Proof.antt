@@ -1,6 +1,6 @@
 -- `multiportgraph::reads::plain_in` meets its contract: no link, and the inner far port with the place of its visible end.
 use borrow.Author.Needs.{needs}
-use Rattle.multiportgraph.specs.ReadSteps.{no-plain, one-plain}
+use Rattle.multiportgraph.specs.TableReadSteps.{no-plain, one-plain}
 use Rattle.multiportgraph.proofs.reads.plain_in.Statement.{statement}
 use Rattle.multiportgraph.proofs.reads.plain_in.Tie as tie
 

@@ -3,7 +3,7 @@ use mathlib.Core.Path.{refl}
 use Prim.Native.Nat.{_-_, _*_}
 use native.Mathlib.Omega.{arith}
 use borrow.Author.Needs.{needs}
-use Rattle.multiportgraph.specs.ReadSteps.{leap-bound, down-bound, row-told}
+use Rattle.multiportgraph.specs.TableReadSteps.{leap-bound, down-bound, row-told}
 use Rattle.multiportgraph.proofs.reads.row_below.Statement.{statement}
 use Rattle.multiportgraph.proofs.reads.row_below.Tie as tie
 

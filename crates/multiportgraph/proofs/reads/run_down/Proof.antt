@@ -4,14 +4,14 @@ use Prim.Native.Nat.{_+_, _-_, _≤_, min}
 use native.Mathlib.Omega.{arith}
 use borrow.Author.Needs.{needs}
 use Rattle.portgraph.specs.Limits.{portSlots}
-use Rattle.multiportgraph.specs.Reads.{run, ownsDown, runDown}
-use Rattle.multiportgraph.specs.ReadSteps.{run-turn, run-stop, run-end, down-start, down-yes, down-no}
+use Rattle.multiportgraph.specs.TableReads.{inRow, ownsDown, runDown}
+use Rattle.multiportgraph.specs.TableReadSteps.{run-turn, run-stop, run-end, down-start, down-yes, down-no}
 use Rattle.multiportgraph.proofs.reads.run_down.Statement.{statement}
 use Rattle.multiportgraph.proofs.reads.run_down.Tie as tie
 
 abbrev Inv-loop : tie.InvT-loop
 Inv-loop owners owner from most k₀ k =
-    (k ≤ most) × (most ≡ min from portSlots) × (runDown owners owner from ≡ k + run (ownsDown owners owner from) k (most - k))
+    (k ≤ most) × (most ≡ min from portSlots) × (runDown owners owner from ≡ k + inRow (ownsDown owners owner from) k (most - k))
 
 abbrev μ-loop : tie.MeasureT-loop
 μ-loop owners owner from most k₀ k = most - k

@@ -4,13 +4,13 @@ use Prim.Native.Nat.{_+_, _-_, _≤_}
 use native.Mathlib.Omega.{arith}
 use borrow.Author.Needs.{needs}
 use Rattle.portgraph.specs.Limits.{portSlots}
-use Rattle.multiportgraph.specs.ReadSteps.{run-turn, run-stop, run-end, up-start, up-yes, up-no}
-use Rattle.multiportgraph.specs.Reads.{run, ownsUp, runUp}
+use Rattle.multiportgraph.specs.TableReadSteps.{run-turn, run-stop, run-end, up-start, up-yes, up-no}
+use Rattle.multiportgraph.specs.TableReads.{inRow, ownsUp, runUp}
 use Rattle.multiportgraph.proofs.reads.run_up.Statement.{statement}
 use Rattle.multiportgraph.proofs.reads.run_up.Tie as tie
 
 abbrev Inv-loop : tie.InvT-loop
-Inv-loop owners owner from k₀ k = (k ≤ portSlots) × (runUp owners owner from ≡ k + run (ownsUp owners owner from) k (portSlots - k))
+Inv-loop owners owner from k₀ k = (k ≤ portSlots) × (runUp owners owner from ≡ k + inRow (ownsUp owners owner from) k (portSlots - k))
 
 abbrev μ-loop : tie.MeasureT-loop
 μ-loop owners owner from k₀ k = portSlots - k

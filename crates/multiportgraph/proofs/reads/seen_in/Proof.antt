@@ -1,7 +1,7 @@
 -- `multiportgraph::reads::seen_in` meets its contract: a port that is not live, one of a hidden node and one of a block.
 use mathlib.Core.Path.{sym, _∙_}
 use borrow.Author.Needs.{needs}
-use Rattle.multiportgraph.specs.ReadSteps.{seen-dead, seen-hidden, seen-visible}
+use Rattle.multiportgraph.specs.TableReadSteps.{seen-dead, seen-hidden, seen-visible}
 use Rattle.multiportgraph.proofs.reads.seen_in.Statement.{statement}
 use Rattle.multiportgraph.proofs.reads.seen_in.Tie as tie
 

@@ -2,7 +2,7 @@
 use mathlib.Core.Path.{sym, _∙_}
 use native.Mathlib.Omega.{arith}
 use borrow.Author.Needs.{needs}
-use Rattle.multiportgraph.specs.ReadSteps.{down-bound, unowned, subport-hung, subport-plain}
+use Rattle.multiportgraph.specs.TableReadSteps.{down-bound, unowned, subport-hung, subport-plain}
 use Rattle.multiportgraph.proofs.reads.subport_in.Statement.{statement}
 use Rattle.multiportgraph.proofs.reads.subport_in.Tie as tie
 

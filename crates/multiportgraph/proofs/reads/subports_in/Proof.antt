@@ -1,6 +1,6 @@
 -- `multiportgraph::reads::subports_in` meets its contract.
 use borrow.Author.Needs.{needs}
-use Rattle.multiportgraph.specs.ReadSteps.{subports-told}
+use Rattle.multiportgraph.specs.TableReadSteps.{subports-told}
 use Rattle.multiportgraph.proofs.reads.subports_in.Statement.{statement}
 use Rattle.multiportgraph.proofs.reads.subports_in.Tie as tie
 

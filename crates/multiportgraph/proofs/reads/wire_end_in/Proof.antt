@@ -1,6 +1,6 @@
 -- `multiportgraph::reads::wire_end_in` meets its contract: no link, and the subport at the far end.
 use borrow.Author.Needs.{needs}
-use Rattle.multiportgraph.specs.ReadSteps.{no-wire-end, one-wire-end}
+use Rattle.multiportgraph.specs.TableReadSteps.{no-wire-end, one-wire-end}
 use Rattle.multiportgraph.proofs.reads.wire_end_in.Statement.{statement}
 use Rattle.multiportgraph.proofs.reads.wire_end_in.Tie as tie
 

@@ -1,6 +1,6 @@
 -- `multiportgraph::reads::wire_in` meets its contract: no link, and the far end with its place.
 use borrow.Author.Needs.{needs}
-use Rattle.multiportgraph.specs.ReadSteps.{no-wire, one-wire}
+use Rattle.multiportgraph.specs.TableReadSteps.{no-wire, one-wire}
 use Rattle.multiportgraph.proofs.reads.wire_in.Statement.{statement}
 use Rattle.multiportgraph.proofs.reads.wire_in.Tie as tie
 

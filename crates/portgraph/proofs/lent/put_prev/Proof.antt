@@ -3,6 +3,7 @@ use native.Mathlib.Omega.{arith}
 use borrow.Author.Needs.{needs}
 use Rattle.portgraph.specs.Lent.{slotsIn}
 use Rattle.portgraph.specs.LentSteps.{prev-free, prev-node, put-outside}
+use Rattle.portgraph.specs.LentWords.{prev-canonical}
 use Rattle.portgraph.proofs.lent.put_prev.Statement.{statement}
 use Rattle.portgraph.proofs.lent.put_prev.Tie as tie
 
@@ -25,13 +26,18 @@ element-write-nodes : tie.Need-element-write-nodes
 element-write-nodes c = search needs
 
 returns : tie.Need-returns
-returns c = prev-free (c .before .before .before .args .nodes .now) (c .before .before .before .args .n) (c .before .before .if1 .taken) (c .before .before .before .args .prev) (omega arith) (c .if2 .taken)
+returns c =
+    let a = c .before .before .before .args in
+    let h = c .before .before .if1 .taken in
+    (prev-free (a .nodes .now) (a .n) h (a .prev) (omega arith) (c .if2 .taken), prev-canonical (a .nodes .now) (a .n) (a .prev) h (omega arith) (c .if2 .taken))
 
 returns-2 : tie.Need-returns-2
-returns-2 c = prev-node (c .before .before .before .args .nodes .now) (c .before .before .before .args .n) (c .before .before .if1 .taken) (c .before .before .before .args .prev) (c .if2 .left)
+returns-2 c =
+    let a = c .before .before .before .args in
+    (prev-node (a .nodes .now) (a .n) (c .before .before .if1 .taken) (a .prev) (c .if2 .left), λ h. h)
 
 returns-3 : tie.Need-returns-3
-returns-3 c = put-outside (slotsIn (c .before .args .nodes .now)) (c .before .args .n) _ (c .if1 .left)
+returns-3 c = (put-outside (slotsIn (c .before .args .nodes .now)) (c .before .args .n) _ (c .if1 .left), λ h. h)
 
 pub put-prev-spec : {M : Type 1} → statement M
 put-prev-spec =

@@ -3,6 +3,7 @@ use native.Mathlib.Omega.{arith}
 use borrow.Author.Needs.{needs}
 use Rattle.portgraph.specs.Lent.{slotsIn}
 use Rattle.portgraph.specs.LentSteps.{put-free, put-node}
+use Rattle.portgraph.specs.LentWords.{free-own, node-own}
 use Rattle.portgraph.proofs.lent.put_slot.Statement.{statement}
 use Rattle.portgraph.proofs.lent.put_slot.Tie as tie
 
@@ -34,10 +35,16 @@ put-words-requires-2 : tie.Need-put-words-requires-2
 put-words-requires-2 c κs = search needs
 
 returns : tie.Need-returns
-returns c = put-free (slotsIn (c .before .before .before .before .before .before .before .args .nodes .now)) _ (c .before .before .before .before .before .before .before .args .n) (c .before .before .before .before .before .before .before .args .slot) (c .before .before .before .before .before .entry .given .0 .0) (c .before .before .before .before .before .entry .given .1) (omega arith) (omega arith) (c .put-words .ensures)
+returns c =
+    let a = c .before .before .before .before .before .before .before .args in
+    let e = c .before .before .before .before .before .entry .given in
+    (put-free (slotsIn (a .nodes .now)) _ (a .n) (a .slot) (e .0 .0) (e .1) (omega arith) (omega arith) (c .put-words .ensures .0), c .put-words .ensures .1 (free-own (e .0 .0) (omega arith) (omega arith)))
 
 returns-2 : tie.Need-returns-2
-returns-2 c = put-node (slotsIn (c .before .before .before .before .before .before .before .before .args .nodes .now)) _ (c .before .before .before .before .before .before .before .before .args .n) (c .before .before .before .before .before .before .before .before .args .slot) (c .before .before .before .before .before .before .entry2 .given .0 .0) (c .before .before .before .before .before .before .entry2 .given .1) (omega arith) (omega arith) (omega arith) (c .put-words2 .ensures)
+returns-2 c =
+    let a = c .before .before .before .before .before .before .before .before .args in
+    let e = c .before .before .before .before .before .before .entry2 .given in
+    (put-node (slotsIn (a .nodes .now)) _ (a .n) (a .slot) (e .0 .0) (e .1) (omega arith) (omega arith) (omega arith) (c .put-words2 .ensures .0), c .put-words2 .ensures .1 (node-own (e .0 .0) (omega arith) (omega arith) (omega arith)))
 
 pub put-slot-spec : {M : Type 1} → statement M
 put-slot-spec =

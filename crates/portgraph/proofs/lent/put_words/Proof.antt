@@ -2,6 +2,7 @@
 use borrow.Author.Needs.{needs}
 use Rattle.portgraph.specs.Lent.{slotsIn}
 use Rattle.portgraph.specs.LentSteps.{words-put, put-outside}
+use Rattle.portgraph.specs.LentWords.{words-put-canonical}
 use Rattle.portgraph.proofs.lent.put_words.Statement.{statement}
 use Rattle.portgraph.proofs.lent.put_words.Tie as tie
 
@@ -51,10 +52,12 @@ element-write-nodes-5 : tie.Need-element-write-nodes-5
 element-write-nodes-5 c = search needs
 
 returns : tie.Need-returns
-returns c = words-put (c .before .args .nodes .now) (c .before .args .n) _ _ _ _ _ (c .if1 .taken)
+returns c =
+    let a = c .before .args in
+    (words-put (a .nodes .now) (a .n) _ _ _ _ _ (c .if1 .taken), words-put-canonical (a .nodes .now) (a .n) _ _ _ _ _)
 
 returns-2 : tie.Need-returns-2
-returns-2 c = put-outside (slotsIn (c .before .args .nodes .now)) (c .before .args .n) _ (c .if1 .left)
+returns-2 c = (put-outside (slotsIn (c .before .args .nodes .now)) (c .before .args .n) _ (c .if1 .left), λ o h. h)
 
 pub put-words-spec : {M : Type 1} → statement M
 put-words-spec =

@@ -12,20 +12,20 @@ use Rattle.records.proofs.lent.run_list.Statement.{statement}
 use Rattle.records.proofs.lent.run_list.Tie as tie
 
 abbrev Inv-loop : tie.InvT-loop
-Inv-loop requests answers₀ nodes₀ links₀ owners₀ heads₀ marks₀ flags₀ held₀ at₀ answers nodes links owners heads marks flags held at = Running requests answers (multiIn nodes links owners heads marks flags held) at
+Inv-loop requests answers₀ nodes₀ links₀ owners₀ heads₀ marks₀ flags₀ held₀ at₀ answers nodes links owners heads marks flags totals at = Running requests answers (multiIn nodes links owners heads marks flags totals) at
 
 abbrev μ-loop : tie.MeasureT-loop
-μ-loop requests answers₀ nodes₀ links₀ owners₀ heads₀ marks₀ flags₀ held₀ at₀ answers nodes links owners heads marks flags held at = length requests - at
+μ-loop requests answers₀ nodes₀ links₀ owners₀ heads₀ marks₀ flags₀ held₀ at₀ answers nodes links owners heads marks flags totals at = length requests - at
 
 -- the requests' length is a number of the machine
 long : (c : tie.After-slice-known Inv-loop μ-loop) → length (c .before .before .args .requests .now) < 18446744073709551616
 long c = omega arith
 
-no-held-requires : tie.Need-no-held-requires Inv-loop μ-loop
-no-held-requires c κs = search needs
+no-totals-requires : tie.Need-no-totals-requires Inv-loop μ-loop
+no-totals-requires c κs = search needs
 
 loop-holds : tie.Need-loop-holds Inv-loop μ-loop
-loop-holds c = run-starts (start-in _ _ (c .no-held .ensures)) (c .before .before .before .pre .0) (c .before .before .before .pre .1)
+loop-holds c = run-starts (start-in _ _ (c .no-totals .ensures)) (c .before .before .before .pre .0) (c .before .before .before .pre .1)
 
 ask-at-requires : tie.Need-ask-at-requires Inv-loop μ-loop
 ask-at-requires c κs = run-fits (c .before .loop .inv) (c .loop-test .taken)
@@ -43,7 +43,7 @@ loop-less : tie.Need-loop-less Inv-loop μ-loop
 loop-less c = let h = run-fits (c .before .before .before .before .before .before .before .before .before .before .before .before .before .before .before .loop .inv) (c .before .before .before .before .before .before .before .before .before .before .before .before .before .before .loop-test .taken) in omega arith
 
 loop-again : tie.Need-loop-again Inv-loop μ-loop
-loop-again c = run-turns (c .before .before .before .before .before .before .before .before .before .before .before .before .before .before .before .loop .inv) (c .before .before .before .before .before .before .before .before .before .before .before .before .before .before .loop-test .taken) (c .before .before .before .before .before .before .before .before .before .before .before .before .before .ask-at .ensures) (c .before .before .before .before .before .before .one-request .ensures) (c .before .before .put-answer .ensures)
+loop-again c = run-turns (c .before .before .before .before .before .before .before .before .before .before .before .before .before .before .before .loop .inv) (c .before .before .before .before .before .before .before .before .before .before .before .before .before .before .loop-test .taken) (c .before .before .before .before .before .before .before .before .before .before .before .before .before .ask-at .ensures) (c .before .before .before .before .before .before .one-request .ensures .0) (c .before .before .put-answer .ensures)
 
 same-length : tie.Need-same-length Inv-loop μ-loop
 same-length c = let h = c .before .loop .inv .long in let l = c .before .before .before .before .before .pre .0 in omega arith
@@ -57,7 +57,7 @@ run-list-spec =
     (tie.spec
     Inv-loop
     μ-loop
-    no-held-requires
+    no-totals-requires
     loop-holds
     ask-at-requires
     one-request-requires

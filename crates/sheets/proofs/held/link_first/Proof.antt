@@ -54,7 +54,7 @@ use denote.Triple.Walked.{says, needs, Stays, stay-dropped, walkOf, goes-dropped
 use denote.Exit.{yes}
 use denote.Signature.{plain}
 use denote.Signature.Array.{arrayOf}
-use Rattle.multiportgraph.specs.Inner.{MultiWf}
+use Rattle.multiportgraph.specs.WellFormed.{MultiWf}
 use Rattle.multiportgraph.specs.declared.multiportgraph.MultiPortGraph.{MultiPortGraph}
 use Rattle.multiportgraph.proofs.multiportgraph.MultiPortGraph as G
 use Rattle.multiportgraph.proofs.multiportgraph.MultiPortGraph.Laws as G′

@@ -17,13 +17,13 @@ number-requires c κs = search needs
 release-of-requires : tie.Need-release-of-requires
 release-of-requires c κs = search needs
 
-new-held-requires : tie.Need-new-held-requires
-new-held-requires c κs = search needs
+new-totals-requires : tie.Need-new-totals-requires
+new-totals-requires c κs = search needs
 
 returns : tie.Need-returns
 returns c =
     let start = c .before .before .before .before .before in
-    subst (SketchWf _ _ _) (sym (c .new-held .ensures)) (new-wf _ _ _ _ (start .pre .blockTable) (start .pre .splitTable) (start .pre .wireTable))
+    subst (SketchWf _ _ _) (sym (c .new-totals .ensures)) (new-wf _ _ _ _ (start .pre .blockTable) (start .pre .splitTable) (start .pre .wireTable))
 
 pub begin-spec : {M : Type 1} → statement M
 begin-spec =
@@ -33,5 +33,5 @@ begin-spec =
     write-bytes-requires
     number-requires
     release-of-requires
-    new-held-requires
+    new-totals-requires
     returns)

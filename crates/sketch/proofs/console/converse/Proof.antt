@@ -7,13 +7,13 @@ use Rattle.sketch.proofs.console.converse.Statement.{statement}
 use Rattle.sketch.proofs.console.converse.Tie as tie
 
 abbrev Inv-loop : tie.InvT-loop
-Inv-loop blocks₀ splits₀ wires₀ buffer₀ echo held₀ listener₀ turns₀ blocks splits wires buffer held listener turns = SketchWf blocks splits wires held × (length buffer ≡ length buffer₀)
+Inv-loop blocks₀ splits₀ wires₀ buffer₀ echo held₀ listener₀ turns₀ blocks splits wires buffer totals listener turns = SketchWf blocks splits wires totals × (length buffer ≡ length buffer₀)
 
 abbrev μ-loop : tie.MeasureT-loop
-μ-loop blocks₀ splits₀ wires₀ buffer₀ echo held₀ listener₀ turns₀ blocks splits wires buffer held listener turns = turns
+μ-loop blocks₀ splits₀ wires₀ buffer₀ echo held₀ listener₀ turns₀ blocks splits wires buffer totals listener turns = turns
 
-new-held-requires : tie.Need-new-held-requires Inv-loop μ-loop
-new-held-requires c κs = search needs
+new-totals-requires : tie.Need-new-totals-requires Inv-loop μ-loop
+new-totals-requires c κs = search needs
 
 new-requires : tie.Need-new-requires Inv-loop μ-loop
 new-requires c κs = search needs
@@ -21,7 +21,7 @@ new-requires c κs = search needs
 loop-holds : tie.Need-loop-holds Inv-loop μ-loop
 loop-holds c =
     let start = c .before .before .before in
-    (subst (SketchWf _ _ _) (sym (c .before .new-held .ensures)) (new-wf _ _ _ _ (start .pre .0) (start .pre .1 .0) (start .pre .1 .1)), refl)
+    (subst (SketchWf _ _ _) (sym (c .before .new-totals .ensures)) (new-wf _ _ _ _ (start .pre .0) (start .pre .1 .0) (start .pre .1 .1)), refl)
 
 listen-requires : tie.Need-listen-requires Inv-loop μ-loop
 listen-requires c κs = search needs
@@ -59,7 +59,7 @@ converse-spec =
     (tie.spec
     Inv-loop
     μ-loop
-    new-held-requires
+    new-totals-requires
     new-requires
     loop-holds
     listen-requires

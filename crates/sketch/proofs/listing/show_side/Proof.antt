@@ -5,10 +5,10 @@ use Rattle.sketch.proofs.listing.show_side.Statement.{statement}
 use Rattle.sketch.proofs.listing.show_side.Tie as tie
 
 abbrev Inv-loop : tie.InvT-loop
-Inv-loop blocks splits wires held order side item₀ count₀ item count = count ≤ 4294967295
+Inv-loop blocks splits wires totals order side item₀ count₀ item count = count ≤ 4294967295
 
 abbrev μ-loop : tie.MeasureT-loop
-μ-loop blocks splits wires held order side item₀ count₀ item count = 4294967295 - count
+μ-loop blocks splits wires totals order side item₀ count₀ item count = 4294967295 - count
 
 number-requires : tie.Need-number-requires Inv-loop μ-loop
 number-requires c κs = search needs

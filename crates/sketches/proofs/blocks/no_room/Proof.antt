@@ -14,10 +14,10 @@ use Rattle.sketches.proofs.blocks.no_room.Lts as lts
 use Rattle.sketches.proofs.tables.ports_in_all.Reads as ports-in-all-reads
 
 returns : tie.Need-returns
-returns c = let h = c .if1 .taken in simp (le-leb mostAdds (c .before .before .args .held .adds) (omega arith))
+returns c = let h = c .if1 .taken in simp (le-leb mostAdds (c .before .before .args .totals .adds) (omega arith))
 
 returns-2 : tie.Need-returns-2
-returns-2 c = let h = c .before .before .if1 .left in simp (lt-leb mostAdds (c .before .before .before .before .args .held .adds) (omega arith), le-leb nodeSlots (c .before .before .before .before .args .held .blocks) (c .if2 .taken))
+returns-2 c = let h = c .before .before .if1 .left in simp (lt-leb mostAdds (c .before .before .before .before .args .totals .adds) (omega arith), le-leb nodeSlots (c .before .before .before .before .args .totals .blocks) (c .if2 .taken))
 
 ports-in-all-requires : tie.Need-ports-in-all-requires
 ports-in-all-requires c κs = search needs
@@ -26,7 +26,7 @@ add-result : tie.Need-add-result
 add-result c = let p = c .before .before .before .before .before .pre .1 in let q = c .before .before .before .before .before .pre .2 in let e = c .ports-in-all .ensures in omega arith
 
 returns-3 : tie.Need-returns-3
-returns-3 c = let h = c .before .before .before .if1 .left in simp (lt-leb mostAdds (c .before .before .before .before .before .args .held .adds) (omega arith), lt-leb nodeSlots (c .before .before .before .before .before .args .held .blocks) (c .before .if2 .left)) (ap (λ (n : ℕ). ltb portSlots (n + c .before .before .before .before .before .args .ports)) (c .ports-in-all .ensures))
+returns-3 c = let h = c .before .before .before .if1 .left in simp (lt-leb mostAdds (c .before .before .before .before .before .args .totals .adds) (omega arith), lt-leb nodeSlots (c .before .before .before .before .before .args .totals .blocks) (c .before .if2 .left)) (ap (λ (n : ℕ). ltb portSlots (n + c .before .before .before .before .before .args .ports)) (c .ports-in-all .ensures))
 
 pub no-room-spec : {M : Type 1} → statement M
 no-room-spec = tie.close (tie.spec returns returns-2 ports-in-all-requires add-result returns-3)

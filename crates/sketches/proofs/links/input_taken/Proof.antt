@@ -19,16 +19,16 @@ wired-input-requires : tie.Need-wired-input-requires
 wired-input-requires c κs = c .before .before .pre
 
 returns : tie.Need-returns
-returns c = taken-first (planIn (c .before .before .before .before .args .blocks .now) (c .before .before .before .before .args .splits .now) (c .before .before .before .before .args .wires .now) (c .before .before .before .before .args .held)) (c .before .before .before .before .args .x) (c .before .before .before .before .args .y) (c .before .before .enum-told2 .given .1) (sym (c .before .wired-input .ensures) ∙ c .if1 .taken)
+returns c = taken-first (planIn (c .before .before .before .before .args .blocks .now) (c .before .before .before .before .args .splits .now) (c .before .before .before .before .args .wires .now) (c .before .before .before .before .args .totals)) (c .before .before .before .before .args .x) (c .before .before .before .before .args .y) (c .before .before .enum-told2 .given .1) (sym (c .before .wired-input .ensures) ∙ c .if1 .taken)
 
 wired-input-requires-2 : tie.Need-wired-input-requires-2
 wired-input-requires-2 c κs = c .before .before .before .before .pre
 
 returns-2 : tie.Need-returns-2
-returns-2 c = taken-one (planIn (c .before .before .args .blocks .now) (c .before .before .args .splits .now) (c .before .before .args .wires .now) (c .before .before .args .held)) (c .before .before .args .x) (c .before .before .args .y) (c .enum-told .given .1)
+returns-2 c = taken-one (planIn (c .before .before .args .blocks .now) (c .before .before .args .splits .now) (c .before .before .args .wires .now) (c .before .before .args .totals)) (c .before .before .args .x) (c .before .before .args .y) (c .enum-told .given .1)
 
 returns-3 : tie.Need-returns-3
-returns-3 c = c .wired-input2 .ensures ∙ taken-second (planIn (c .before .before .before .before .before .args .blocks .now) (c .before .before .before .before .before .args .splits .now) (c .before .before .before .before .before .args .wires .now) (c .before .before .before .before .before .args .held)) (c .before .before .before .before .before .args .x) (c .before .before .before .before .before .args .y) (c .before .before .before .enum-told2 .given .1) (sym (c .before .before .wired-input .ensures) ∙ c .before .if1 .left)
+returns-3 c = c .wired-input2 .ensures ∙ taken-second (planIn (c .before .before .before .before .before .args .blocks .now) (c .before .before .before .before .before .args .splits .now) (c .before .before .before .before .before .args .wires .now) (c .before .before .before .before .before .args .totals)) (c .before .before .before .before .before .args .x) (c .before .before .before .before .before .args .y) (c .before .before .before .enum-told2 .given .1) (sym (c .before .before .wired-input .ensures) ∙ c .before .if1 .left)
 
 pub input-taken-spec : {M : Type 1} → statement M
 input-taken-spec =

@@ -7,7 +7,7 @@ use Rattle.sketches.proofs.links.link_both.Statement.{statement}
 use Rattle.sketches.proofs.links.link_both.Tie as tie
 use Rattle.sketches.proofs.links.link_both.Reads as reads
 use Rattle.sketches.proofs.links.link_both.Lts as lts
-use Rattle.sketches.proofs.held.with_wires.Reads as with-wires-reads
+use Rattle.sketches.proofs.totals.with_wires.Reads as with-wires-reads
 use Rattle.sketches.proofs.links.wire_row.Reads as wire-row-reads
 use Rattle.sketches.proofs.offsets.offset_ready.Reads as offset-ready-reads
 use Rattle.sketches.proofs.rows.put_row.Reads as put-row-reads

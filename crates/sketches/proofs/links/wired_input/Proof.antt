@@ -21,7 +21,7 @@ is-there-requires : tie.Need-is-there-requires
 is-there-requires c κs = let l = blocks-within (c .before .before .pre) in omega arith
 
 returns : tie.Need-returns
-returns c = wired-gone (planIn (c .before .before .before .before .args .blocks .now) (c .before .before .before .before .args .splits .now) (c .before .before .before .before .args .wires .now) (c .before .before .before .before .args .held)) (c .before .before .before .before .args .port) (c .before .before .enum-told .given .1) (there-is (c .before .before .before .before .args .blocks .now) (c .before .before .before .before .args .splits .now) (c .before .before .before .before .args .wires .now) (c .before .before .before .before .args .held) (c .before .before .before .before .args .port) (c .before .is-there .ensures) (not-true _ (c .if1 .taken)))
+returns c = wired-gone (planIn (c .before .before .before .before .args .blocks .now) (c .before .before .before .before .args .splits .now) (c .before .before .before .before .args .wires .now) (c .before .before .before .before .args .totals)) (c .before .before .before .before .args .port) (c .before .before .enum-told .given .1) (there-is (c .before .before .before .before .args .blocks .now) (c .before .before .before .before .args .splits .now) (c .before .before .before .before .args .wires .now) (c .before .before .before .before .args .totals) (c .before .before .before .before .args .port) (c .before .is-there .ensures) (not-true _ (c .if1 .taken)))
 
 is-wired-requires : tie.Need-is-wired-requires
 is-wired-requires c κs = wires-within (c .before .before .before .before .pre)
@@ -30,10 +30,10 @@ enum-told-2 : tie.Need-enum-told-2
 enum-told-2 c = search needs
 
 returns-2 : tie.Need-returns-2
-returns-2 c = c .is-wired .ensures ∙ wired-in (planIn (c .before .before .before .before .before .args .blocks .now) (c .before .before .before .before .before .args .splits .now) (c .before .before .before .before .before .args .wires .now) (c .before .before .before .before .before .args .held)) (c .before .before .before .before .before .args .port) (c .before .before .before .enum-told .given .1) (there-is (c .before .before .before .before .before .args .blocks .now) (c .before .before .before .before .before .args .splits .now) (c .before .before .before .before .before .args .wires .now) (c .before .before .before .before .before .args .held) (c .before .before .before .before .before .args .port) (c .before .before .is-there .ensures) (not-false _ (c .before .if1 .left)))
+returns-2 c = c .is-wired .ensures ∙ wired-in (planIn (c .before .before .before .before .before .args .blocks .now) (c .before .before .before .before .before .args .splits .now) (c .before .before .before .before .before .args .wires .now) (c .before .before .before .before .before .args .totals)) (c .before .before .before .before .before .args .port) (c .before .before .before .enum-told .given .1) (there-is (c .before .before .before .before .before .args .blocks .now) (c .before .before .before .before .before .args .splits .now) (c .before .before .before .before .before .args .wires .now) (c .before .before .before .before .before .args .totals) (c .before .before .before .before .before .args .port) (c .before .before .is-there .ensures) (not-false _ (c .before .if1 .left)))
 
 returns-3 : tie.Need-returns-3
-returns-3 c = wired-out (planIn (c .before .before .args .blocks .now) (c .before .before .args .splits .now) (c .before .before .args .wires .now) (c .before .before .args .held)) (c .before .before .args .port) (c .enum-told2 .given .1)
+returns-3 c = wired-out (planIn (c .before .before .args .blocks .now) (c .before .before .args .splits .now) (c .before .before .args .wires .now) (c .before .before .args .totals)) (c .before .before .args .port) (c .enum-told2 .given .1)
 
 pub wired-input-spec : {M : Type 1} → statement M
 wired-input-spec =

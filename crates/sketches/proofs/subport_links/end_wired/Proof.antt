@@ -24,7 +24,7 @@ is-wired-requires : tie.Need-is-wired-requires
 is-wired-requires c κs = wires-within (c .before .pre)
 
 returns : tie.Need-returns
-returns c = c .is-wired .ensures ∙ ap (λ (n : ℕ). anyTouches (atEnd (spotNamed (c .before .before .args .port)) n) (wiresIn (c .before .before .args .wires .now) (c .before .before .args .held .wires))) (c .before .offset-read .ensures)
+returns c = c .is-wired .ensures ∙ ap (λ (n : ℕ). anyTouches (atEnd (spotNamed (c .before .before .args .port)) n) (wiresIn (c .before .before .args .wires .now) (c .before .before .args .totals .wires))) (c .before .offset-read .ensures)
 
 pub end-wired-spec : {M : Type 1} → statement M
 end-wired-spec = tie.close (tie.spec offset-read-requires cast-t8 is-wired-requires returns)

@@ -28,49 +28,49 @@ bad-offsets-requires : tie.Need-bad-offsets-requires
 bad-offsets-requires c κs = search needs
 
 returns : tie.Need-returns
-returns c = ends-bad (planIn (c .before .before .args .blocks .now) (c .before .before .args .splits .now) (c .before .before .args .wires .now) (c .before .before .args .held)) (c .before .before .args .x) (c .before .before .args .o) (c .before .before .args .y) (c .before .before .args .r) (sym (c .before .bad-offsets .ensures) ∙ c .if1 .taken)
+returns c = ends-bad (planIn (c .before .before .args .blocks .now) (c .before .before .args .splits .now) (c .before .before .args .wires .now) (c .before .before .args .totals)) (c .before .before .args .x) (c .before .before .args .o) (c .before .before .args .y) (c .before .before .args .r) (sym (c .before .bad-offsets .ensures) ∙ c .if1 .taken)
 
 is-there-requires : tie.Need-is-there-requires
 is-there-requires c κs = let l = blocks-within (c .before .before .pre) in omega arith
 
 returns-2 : tie.Need-returns-2
-returns-2 c = ends-unknown (planIn (c .before .before .before .before .args .blocks .now) (c .before .before .before .before .args .splits .now) (c .before .before .before .before .args .wires .now) (c .before .before .before .before .args .held)) (c .before .before .before .before .args .x) (c .before .before .before .before .args .o) (c .before .before .before .before .args .y) (c .before .before .before .before .args .r) (sym (c .before .before .before .bad-offsets .ensures) ∙ c .before .before .if1 .left) (there-is (c .before .before .before .before .args .blocks .now) (c .before .before .before .before .args .splits .now) (c .before .before .before .before .args .wires .now) (c .before .before .before .before .args .held) (c .before .before .before .before .args .x) (c .before .is-there .ensures) (not-true _ (c .if2 .taken)))
+returns-2 c = ends-unknown (planIn (c .before .before .before .before .args .blocks .now) (c .before .before .before .before .args .splits .now) (c .before .before .before .before .args .wires .now) (c .before .before .before .before .args .totals)) (c .before .before .before .before .args .x) (c .before .before .before .before .args .o) (c .before .before .before .before .args .y) (c .before .before .before .before .args .r) (sym (c .before .before .before .bad-offsets .ensures) ∙ c .before .before .if1 .left) (there-is (c .before .before .before .before .args .blocks .now) (c .before .before .before .before .args .splits .now) (c .before .before .before .before .args .wires .now) (c .before .before .before .before .args .totals) (c .before .before .before .before .args .x) (c .before .is-there .ensures) (not-true _ (c .if2 .taken)))
 
 lack-offsets-requires : tie.Need-lack-offsets-requires
 lack-offsets-requires c κs = c .before .before .before .before .pre
 
 returns-3 : tie.Need-returns-3
-returns-3 c = ends-lack (planIn (c .before .before .before .before .before .before .args .blocks .now) (c .before .before .before .before .before .before .args .splits .now) (c .before .before .before .before .before .before .args .wires .now) (c .before .before .before .before .before .before .args .held)) (c .before .before .before .before .before .before .args .x) (c .before .before .before .before .before .before .args .o) (c .before .before .before .before .before .before .args .y) (c .before .before .before .before .before .before .args .r) (sym (c .before .before .before .before .before .bad-offsets .ensures) ∙ c .before .before .before .before .if1 .left) (there-is (c .before .before .before .before .before .before .args .blocks .now) (c .before .before .before .before .before .before .args .splits .now) (c .before .before .before .before .before .before .args .wires .now) (c .before .before .before .before .before .before .args .held) (c .before .before .before .before .before .before .args .x) (c .before .before .before .is-there .ensures) (not-false _ (c .before .before .if2 .left))) (sym (c .before .lack-offsets .ensures) ∙ c .if3 .taken)
+returns-3 c = ends-lack (planIn (c .before .before .before .before .before .before .args .blocks .now) (c .before .before .before .before .before .before .args .splits .now) (c .before .before .before .before .before .before .args .wires .now) (c .before .before .before .before .before .before .args .totals)) (c .before .before .before .before .before .before .args .x) (c .before .before .before .before .before .before .args .o) (c .before .before .before .before .before .before .args .y) (c .before .before .before .before .before .before .args .r) (sym (c .before .before .before .before .before .bad-offsets .ensures) ∙ c .before .before .before .before .if1 .left) (there-is (c .before .before .before .before .before .before .args .blocks .now) (c .before .before .before .before .before .before .args .splits .now) (c .before .before .before .before .before .before .args .wires .now) (c .before .before .before .before .before .before .args .totals) (c .before .before .before .before .before .before .args .x) (c .before .before .before .is-there .ensures) (not-false _ (c .before .before .if2 .left))) (sym (c .before .lack-offsets .ensures) ∙ c .if3 .taken)
 
 input-taken-requires : tie.Need-input-taken-requires
 input-taken-requires c κs = c .before .before .before .before .before .before .pre
 
 returns-4 : tie.Need-returns-4
-returns-4 c = ends-taken (planIn (c .before .before .before .before .before .before .before .before .args .blocks .now) (c .before .before .before .before .before .before .before .before .args .splits .now) (c .before .before .before .before .before .before .before .before .args .wires .now) (c .before .before .before .before .before .before .before .before .args .held)) (c .before .before .before .before .before .before .before .before .args .x) (c .before .before .before .before .before .before .before .before .args .o) (c .before .before .before .before .before .before .before .before .args .y) (c .before .before .before .before .before .before .before .before .args .r) (sym (c .before .before .before .before .before .before .before .bad-offsets .ensures) ∙ c .before .before .before .before .before .before .if1 .left) (there-is (c .before .before .before .before .before .before .before .before .args .blocks .now) (c .before .before .before .before .before .before .before .before .args .splits .now) (c .before .before .before .before .before .before .before .before .args .wires .now) (c .before .before .before .before .before .before .before .before .args .held) (c .before .before .before .before .before .before .before .before .args .x) (c .before .before .before .before .before .is-there .ensures) (not-false _ (c .before .before .before .before .if2 .left))) (sym (c .before .before .before .lack-offsets .ensures) ∙ c .before .before .if3 .left) (sym (c .before .input-taken .ensures) ∙ c .if4 .taken)
+returns-4 c = ends-taken (planIn (c .before .before .before .before .before .before .before .before .args .blocks .now) (c .before .before .before .before .before .before .before .before .args .splits .now) (c .before .before .before .before .before .before .before .before .args .wires .now) (c .before .before .before .before .before .before .before .before .args .totals)) (c .before .before .before .before .before .before .before .before .args .x) (c .before .before .before .before .before .before .before .before .args .o) (c .before .before .before .before .before .before .before .before .args .y) (c .before .before .before .before .before .before .before .before .args .r) (sym (c .before .before .before .before .before .before .before .bad-offsets .ensures) ∙ c .before .before .before .before .before .before .if1 .left) (there-is (c .before .before .before .before .before .before .before .before .args .blocks .now) (c .before .before .before .before .before .before .before .before .args .splits .now) (c .before .before .before .before .before .before .before .before .args .wires .now) (c .before .before .before .before .before .before .before .before .args .totals) (c .before .before .before .before .before .before .before .before .args .x) (c .before .before .before .before .before .is-there .ensures) (not-false _ (c .before .before .before .before .if2 .left))) (sym (c .before .before .before .lack-offsets .ensures) ∙ c .before .before .if3 .left) (sym (c .before .input-taken .ensures) ∙ c .if4 .taken)
 
 is-there-requires-2 : tie.Need-is-there-requires-2
 is-there-requires-2 c κs = let l = blocks-within (c .before .before .before .before .before .before .before .before .pre) in omega arith
 
 returns-5 : tie.Need-returns-5
-returns-5 c = ends-second (planIn (c .before .before .before .before .before .before .before .before .before .before .args .blocks .now) (c .before .before .before .before .before .before .before .before .before .before .args .splits .now) (c .before .before .before .before .before .before .before .before .before .before .args .wires .now) (c .before .before .before .before .before .before .before .before .before .before .args .held)) (c .before .before .before .before .before .before .before .before .before .before .args .x) (c .before .before .before .before .before .before .before .before .before .before .args .o) (c .before .before .before .before .before .before .before .before .before .before .args .y) (c .before .before .before .before .before .before .before .before .before .before .args .r) (sym (c .before .before .before .before .before .before .before .before .before .bad-offsets .ensures) ∙ c .before .before .before .before .before .before .before .before .if1 .left) (there-is (c .before .before .before .before .before .before .before .before .before .before .args .blocks .now) (c .before .before .before .before .before .before .before .before .before .before .args .splits .now) (c .before .before .before .before .before .before .before .before .before .before .args .wires .now) (c .before .before .before .before .before .before .before .before .before .before .args .held) (c .before .before .before .before .before .before .before .before .before .before .args .x) (c .before .before .before .before .before .before .before .is-there .ensures) (not-false _ (c .before .before .before .before .before .before .if2 .left))) (sym (c .before .before .before .before .before .lack-offsets .ensures) ∙ c .before .before .before .before .if3 .left) (sym (c .before .before .before .input-taken .ensures) ∙ c .before .before .if4 .left) (there-is (c .before .before .before .before .before .before .before .before .before .before .args .blocks .now) (c .before .before .before .before .before .before .before .before .before .before .args .splits .now) (c .before .before .before .before .before .before .before .before .before .before .args .wires .now) (c .before .before .before .before .before .before .before .before .before .before .args .held) (c .before .before .before .before .before .before .before .before .before .before .args .y) (c .before .is-there2 .ensures) (not-true _ (c .if5 .taken)))
+returns-5 c = ends-second (planIn (c .before .before .before .before .before .before .before .before .before .before .args .blocks .now) (c .before .before .before .before .before .before .before .before .before .before .args .splits .now) (c .before .before .before .before .before .before .before .before .before .before .args .wires .now) (c .before .before .before .before .before .before .before .before .before .before .args .totals)) (c .before .before .before .before .before .before .before .before .before .before .args .x) (c .before .before .before .before .before .before .before .before .before .before .args .o) (c .before .before .before .before .before .before .before .before .before .before .args .y) (c .before .before .before .before .before .before .before .before .before .before .args .r) (sym (c .before .before .before .before .before .before .before .before .before .bad-offsets .ensures) ∙ c .before .before .before .before .before .before .before .before .if1 .left) (there-is (c .before .before .before .before .before .before .before .before .before .before .args .blocks .now) (c .before .before .before .before .before .before .before .before .before .before .args .splits .now) (c .before .before .before .before .before .before .before .before .before .before .args .wires .now) (c .before .before .before .before .before .before .before .before .before .before .args .totals) (c .before .before .before .before .before .before .before .before .before .before .args .x) (c .before .before .before .before .before .before .before .is-there .ensures) (not-false _ (c .before .before .before .before .before .before .if2 .left))) (sym (c .before .before .before .before .before .lack-offsets .ensures) ∙ c .before .before .before .before .if3 .left) (sym (c .before .before .before .input-taken .ensures) ∙ c .before .before .if4 .left) (there-is (c .before .before .before .before .before .before .before .before .before .before .args .blocks .now) (c .before .before .before .before .before .before .before .before .before .before .args .splits .now) (c .before .before .before .before .before .before .before .before .before .before .args .wires .now) (c .before .before .before .before .before .before .before .before .before .before .args .totals) (c .before .before .before .before .before .before .before .before .before .before .args .y) (c .before .is-there2 .ensures) (not-true _ (c .if5 .taken)))
 
 same-side-requires : tie.Need-same-side-requires
 same-side-requires c κs = search needs
 
 returns-6 : tie.Need-returns-6
-returns-6 c = ends-same-side (planIn (c .before .before .before .before .before .before .before .before .before .before .before .before .args .blocks .now) (c .before .before .before .before .before .before .before .before .before .before .before .before .args .splits .now) (c .before .before .before .before .before .before .before .before .before .before .before .before .args .wires .now) (c .before .before .before .before .before .before .before .before .before .before .before .before .args .held)) (c .before .before .before .before .before .before .before .before .before .before .before .before .args .x) (c .before .before .before .before .before .before .before .before .before .before .before .before .args .o) (c .before .before .before .before .before .before .before .before .before .before .before .before .args .y) (c .before .before .before .before .before .before .before .before .before .before .before .before .args .r) (sym (c .before .before .before .before .before .before .before .before .before .before .before .bad-offsets .ensures) ∙ c .before .before .before .before .before .before .before .before .before .before .if1 .left) (there-is (c .before .before .before .before .before .before .before .before .before .before .before .before .args .blocks .now) (c .before .before .before .before .before .before .before .before .before .before .before .before .args .splits .now) (c .before .before .before .before .before .before .before .before .before .before .before .before .args .wires .now) (c .before .before .before .before .before .before .before .before .before .before .before .before .args .held) (c .before .before .before .before .before .before .before .before .before .before .before .before .args .x) (c .before .before .before .before .before .before .before .before .before .is-there .ensures) (not-false _ (c .before .before .before .before .before .before .before .before .if2 .left))) (sym (c .before .before .before .before .before .before .before .lack-offsets .ensures) ∙ c .before .before .before .before .before .before .if3 .left) (sym (c .before .before .before .before .before .input-taken .ensures) ∙ c .before .before .before .before .if4 .left) (there-is (c .before .before .before .before .before .before .before .before .before .before .before .before .args .blocks .now) (c .before .before .before .before .before .before .before .before .before .before .before .before .args .splits .now) (c .before .before .before .before .before .before .before .before .before .before .before .before .args .wires .now) (c .before .before .before .before .before .before .before .before .before .before .before .before .args .held) (c .before .before .before .before .before .before .before .before .before .before .before .before .args .y) (c .before .before .before .is-there2 .ensures) (not-false _ (c .before .before .if5 .left))) (sym (c .before .same-side .ensures) ∙ c .if6 .taken)
+returns-6 c = ends-same-side (planIn (c .before .before .before .before .before .before .before .before .before .before .before .before .args .blocks .now) (c .before .before .before .before .before .before .before .before .before .before .before .before .args .splits .now) (c .before .before .before .before .before .before .before .before .before .before .before .before .args .wires .now) (c .before .before .before .before .before .before .before .before .before .before .before .before .args .totals)) (c .before .before .before .before .before .before .before .before .before .before .before .before .args .x) (c .before .before .before .before .before .before .before .before .before .before .before .before .args .o) (c .before .before .before .before .before .before .before .before .before .before .before .before .args .y) (c .before .before .before .before .before .before .before .before .before .before .before .before .args .r) (sym (c .before .before .before .before .before .before .before .before .before .before .before .bad-offsets .ensures) ∙ c .before .before .before .before .before .before .before .before .before .before .if1 .left) (there-is (c .before .before .before .before .before .before .before .before .before .before .before .before .args .blocks .now) (c .before .before .before .before .before .before .before .before .before .before .before .before .args .splits .now) (c .before .before .before .before .before .before .before .before .before .before .before .before .args .wires .now) (c .before .before .before .before .before .before .before .before .before .before .before .before .args .totals) (c .before .before .before .before .before .before .before .before .before .before .before .before .args .x) (c .before .before .before .before .before .before .before .before .before .is-there .ensures) (not-false _ (c .before .before .before .before .before .before .before .before .if2 .left))) (sym (c .before .before .before .before .before .before .before .lack-offsets .ensures) ∙ c .before .before .before .before .before .before .if3 .left) (sym (c .before .before .before .before .before .input-taken .ensures) ∙ c .before .before .before .before .if4 .left) (there-is (c .before .before .before .before .before .before .before .before .before .before .before .before .args .blocks .now) (c .before .before .before .before .before .before .before .before .before .before .before .before .args .splits .now) (c .before .before .before .before .before .before .before .before .before .before .before .before .args .wires .now) (c .before .before .before .before .before .before .before .before .before .before .before .before .args .totals) (c .before .before .before .before .before .before .before .before .before .before .before .before .args .y) (c .before .before .before .is-there2 .ensures) (not-false _ (c .before .before .if5 .left))) (sym (c .before .same-side .ensures) ∙ c .if6 .taken)
 
 ends-wired-requires : tie.Need-ends-wired-requires
 ends-wired-requires c κs = c .before .before .before .before .before .before .before .before .before .before .before .before .pre
 
 returns-7 : tie.Need-returns-7
-returns-7 c = ends-wired (planIn (c .before .before .before .before .before .before .before .before .before .before .before .before .before .before .args .blocks .now) (c .before .before .before .before .before .before .before .before .before .before .before .before .before .before .args .splits .now) (c .before .before .before .before .before .before .before .before .before .before .before .before .before .before .args .wires .now) (c .before .before .before .before .before .before .before .before .before .before .before .before .before .before .args .held)) (c .before .before .before .before .before .before .before .before .before .before .before .before .before .before .args .x) (c .before .before .before .before .before .before .before .before .before .before .before .before .before .before .args .o) (c .before .before .before .before .before .before .before .before .before .before .before .before .before .before .args .y) (c .before .before .before .before .before .before .before .before .before .before .before .before .before .before .args .r) (sym (c .before .before .before .before .before .before .before .before .before .before .before .before .before .bad-offsets .ensures) ∙ c .before .before .before .before .before .before .before .before .before .before .before .before .if1 .left) (there-is (c .before .before .before .before .before .before .before .before .before .before .before .before .before .before .args .blocks .now) (c .before .before .before .before .before .before .before .before .before .before .before .before .before .before .args .splits .now) (c .before .before .before .before .before .before .before .before .before .before .before .before .before .before .args .wires .now) (c .before .before .before .before .before .before .before .before .before .before .before .before .before .before .args .held) (c .before .before .before .before .before .before .before .before .before .before .before .before .before .before .args .x) (c .before .before .before .before .before .before .before .before .before .before .before .is-there .ensures) (not-false _ (c .before .before .before .before .before .before .before .before .before .before .if2 .left))) (sym (c .before .before .before .before .before .before .before .before .before .lack-offsets .ensures) ∙ c .before .before .before .before .before .before .before .before .if3 .left) (sym (c .before .before .before .before .before .before .before .input-taken .ensures) ∙ c .before .before .before .before .before .before .if4 .left) (there-is (c .before .before .before .before .before .before .before .before .before .before .before .before .before .before .args .blocks .now) (c .before .before .before .before .before .before .before .before .before .before .before .before .before .before .args .splits .now) (c .before .before .before .before .before .before .before .before .before .before .before .before .before .before .args .wires .now) (c .before .before .before .before .before .before .before .before .before .before .before .before .before .before .args .held) (c .before .before .before .before .before .before .before .before .before .before .before .before .before .before .args .y) (c .before .before .before .before .before .is-there2 .ensures) (not-false _ (c .before .before .before .before .if5 .left))) (sym (c .before .before .before .same-side .ensures) ∙ c .before .before .if6 .left) (sym (c .before .ends-wired .ensures) ∙ c .if7 .taken)
+returns-7 c = ends-wired (planIn (c .before .before .before .before .before .before .before .before .before .before .before .before .before .before .args .blocks .now) (c .before .before .before .before .before .before .before .before .before .before .before .before .before .before .args .splits .now) (c .before .before .before .before .before .before .before .before .before .before .before .before .before .before .args .wires .now) (c .before .before .before .before .before .before .before .before .before .before .before .before .before .before .args .totals)) (c .before .before .before .before .before .before .before .before .before .before .before .before .before .before .args .x) (c .before .before .before .before .before .before .before .before .before .before .before .before .before .before .args .o) (c .before .before .before .before .before .before .before .before .before .before .before .before .before .before .args .y) (c .before .before .before .before .before .before .before .before .before .before .before .before .before .before .args .r) (sym (c .before .before .before .before .before .before .before .before .before .before .before .before .before .bad-offsets .ensures) ∙ c .before .before .before .before .before .before .before .before .before .before .before .before .if1 .left) (there-is (c .before .before .before .before .before .before .before .before .before .before .before .before .before .before .args .blocks .now) (c .before .before .before .before .before .before .before .before .before .before .before .before .before .before .args .splits .now) (c .before .before .before .before .before .before .before .before .before .before .before .before .before .before .args .wires .now) (c .before .before .before .before .before .before .before .before .before .before .before .before .before .before .args .totals) (c .before .before .before .before .before .before .before .before .before .before .before .before .before .before .args .x) (c .before .before .before .before .before .before .before .before .before .before .before .is-there .ensures) (not-false _ (c .before .before .before .before .before .before .before .before .before .before .if2 .left))) (sym (c .before .before .before .before .before .before .before .before .before .lack-offsets .ensures) ∙ c .before .before .before .before .before .before .before .before .if3 .left) (sym (c .before .before .before .before .before .before .before .input-taken .ensures) ∙ c .before .before .before .before .before .before .if4 .left) (there-is (c .before .before .before .before .before .before .before .before .before .before .before .before .before .before .args .blocks .now) (c .before .before .before .before .before .before .before .before .before .before .before .before .before .before .args .splits .now) (c .before .before .before .before .before .before .before .before .before .before .before .before .before .before .args .wires .now) (c .before .before .before .before .before .before .before .before .before .before .before .before .before .before .args .totals) (c .before .before .before .before .before .before .before .before .before .before .before .before .before .before .args .y) (c .before .before .before .before .before .is-there2 .ensures) (not-false _ (c .before .before .before .before .if5 .left))) (sym (c .before .before .before .same-side .ensures) ∙ c .before .before .if6 .left) (sym (c .before .ends-wired .ensures) ∙ c .if7 .taken)
 
 returns-8 : tie.Need-returns-8
-returns-8 c = ends-full (planIn (c .before .before .before .before .before .before .before .before .before .before .before .before .before .before .before .before .args .blocks .now) (c .before .before .before .before .before .before .before .before .before .before .before .before .before .before .before .before .args .splits .now) (c .before .before .before .before .before .before .before .before .before .before .before .before .before .before .before .before .args .wires .now) (c .before .before .before .before .before .before .before .before .before .before .before .before .before .before .before .before .args .held)) (c .before .before .before .before .before .before .before .before .before .before .before .before .before .before .before .before .args .x) (c .before .before .before .before .before .before .before .before .before .before .before .before .before .before .before .before .args .o) (c .before .before .before .before .before .before .before .before .before .before .before .before .before .before .before .before .args .y) (c .before .before .before .before .before .before .before .before .before .before .before .before .before .before .before .before .args .r) (sym (c .before .before .before .before .before .before .before .before .before .before .before .before .before .before .before .bad-offsets .ensures) ∙ c .before .before .before .before .before .before .before .before .before .before .before .before .before .before .if1 .left) (there-is (c .before .before .before .before .before .before .before .before .before .before .before .before .before .before .before .before .args .blocks .now) (c .before .before .before .before .before .before .before .before .before .before .before .before .before .before .before .before .args .splits .now) (c .before .before .before .before .before .before .before .before .before .before .before .before .before .before .before .before .args .wires .now) (c .before .before .before .before .before .before .before .before .before .before .before .before .before .before .before .before .args .held) (c .before .before .before .before .before .before .before .before .before .before .before .before .before .before .before .before .args .x) (c .before .before .before .before .before .before .before .before .before .before .before .before .before .is-there .ensures) (not-false _ (c .before .before .before .before .before .before .before .before .before .before .before .before .if2 .left))) (sym (c .before .before .before .before .before .before .before .before .before .before .before .lack-offsets .ensures) ∙ c .before .before .before .before .before .before .before .before .before .before .if3 .left) (sym (c .before .before .before .before .before .before .before .before .before .input-taken .ensures) ∙ c .before .before .before .before .before .before .before .before .if4 .left) (there-is (c .before .before .before .before .before .before .before .before .before .before .before .before .before .before .before .before .args .blocks .now) (c .before .before .before .before .before .before .before .before .before .before .before .before .before .before .before .before .args .splits .now) (c .before .before .before .before .before .before .before .before .before .before .before .before .before .before .before .before .args .wires .now) (c .before .before .before .before .before .before .before .before .before .before .before .before .before .before .before .before .args .held) (c .before .before .before .before .before .before .before .before .before .before .before .before .before .before .before .before .args .y) (c .before .before .before .before .before .before .before .is-there2 .ensures) (not-false _ (c .before .before .before .before .before .before .if5 .left))) (sym (c .before .before .before .before .before .same-side .ensures) ∙ c .before .before .before .before .if6 .left) (sym (c .before .before .before .ends-wired .ensures) ∙ c .before .before .if7 .left) (le-leb mostWires (length (wiresIn (c .before .before .before .before .before .before .before .before .before .before .before .before .before .before .before .before .args .wires .now) (c .before .before .before .before .before .before .before .before .before .before .before .before .before .before .before .before .args .held .wires))) (let n = length-wires (c .before .before .before .before .before .before .before .before .before .before .before .before .before .before .before .before .args .wires .now) (c .before .before .before .before .before .before .before .before .before .before .before .before .before .before .before .before .args .held .wires) in let l = c .if8 .taken in omega arith))
+returns-8 c = ends-full (planIn (c .before .before .before .before .before .before .before .before .before .before .before .before .before .before .before .before .args .blocks .now) (c .before .before .before .before .before .before .before .before .before .before .before .before .before .before .before .before .args .splits .now) (c .before .before .before .before .before .before .before .before .before .before .before .before .before .before .before .before .args .wires .now) (c .before .before .before .before .before .before .before .before .before .before .before .before .before .before .before .before .args .totals)) (c .before .before .before .before .before .before .before .before .before .before .before .before .before .before .before .before .args .x) (c .before .before .before .before .before .before .before .before .before .before .before .before .before .before .before .before .args .o) (c .before .before .before .before .before .before .before .before .before .before .before .before .before .before .before .before .args .y) (c .before .before .before .before .before .before .before .before .before .before .before .before .before .before .before .before .args .r) (sym (c .before .before .before .before .before .before .before .before .before .before .before .before .before .before .before .bad-offsets .ensures) ∙ c .before .before .before .before .before .before .before .before .before .before .before .before .before .before .if1 .left) (there-is (c .before .before .before .before .before .before .before .before .before .before .before .before .before .before .before .before .args .blocks .now) (c .before .before .before .before .before .before .before .before .before .before .before .before .before .before .before .before .args .splits .now) (c .before .before .before .before .before .before .before .before .before .before .before .before .before .before .before .before .args .wires .now) (c .before .before .before .before .before .before .before .before .before .before .before .before .before .before .before .before .args .totals) (c .before .before .before .before .before .before .before .before .before .before .before .before .before .before .before .before .args .x) (c .before .before .before .before .before .before .before .before .before .before .before .before .before .is-there .ensures) (not-false _ (c .before .before .before .before .before .before .before .before .before .before .before .before .if2 .left))) (sym (c .before .before .before .before .before .before .before .before .before .before .before .lack-offsets .ensures) ∙ c .before .before .before .before .before .before .before .before .before .before .if3 .left) (sym (c .before .before .before .before .before .before .before .before .before .input-taken .ensures) ∙ c .before .before .before .before .before .before .before .before .if4 .left) (there-is (c .before .before .before .before .before .before .before .before .before .before .before .before .before .before .before .before .args .blocks .now) (c .before .before .before .before .before .before .before .before .before .before .before .before .before .before .before .before .args .splits .now) (c .before .before .before .before .before .before .before .before .before .before .before .before .before .before .before .before .args .wires .now) (c .before .before .before .before .before .before .before .before .before .before .before .before .before .before .before .before .args .totals) (c .before .before .before .before .before .before .before .before .before .before .before .before .before .before .before .before .args .y) (c .before .before .before .before .before .before .before .is-there2 .ensures) (not-false _ (c .before .before .before .before .before .before .if5 .left))) (sym (c .before .before .before .before .before .same-side .ensures) ∙ c .before .before .before .before .if6 .left) (sym (c .before .before .before .ends-wired .ensures) ∙ c .before .before .if7 .left) (le-leb mostWires (length (wiresIn (c .before .before .before .before .before .before .before .before .before .before .before .before .before .before .before .before .args .wires .now) (c .before .before .before .before .before .before .before .before .before .before .before .before .before .before .before .before .args .totals .wires))) (let n = length-wires (c .before .before .before .before .before .before .before .before .before .before .before .before .before .before .before .before .args .wires .now) (c .before .before .before .before .before .before .before .before .before .before .before .before .before .before .before .before .args .totals .wires) in let l = c .if8 .taken in omega arith))
 
 returns-9 : tie.Need-returns-9
-returns-9 c = ends-fine (planIn (c .before .before .before .before .before .before .before .before .before .before .before .before .before .before .before .before .args .blocks .now) (c .before .before .before .before .before .before .before .before .before .before .before .before .before .before .before .before .args .splits .now) (c .before .before .before .before .before .before .before .before .before .before .before .before .before .before .before .before .args .wires .now) (c .before .before .before .before .before .before .before .before .before .before .before .before .before .before .before .before .args .held)) (c .before .before .before .before .before .before .before .before .before .before .before .before .before .before .before .before .args .x) (c .before .before .before .before .before .before .before .before .before .before .before .before .before .before .before .before .args .o) (c .before .before .before .before .before .before .before .before .before .before .before .before .before .before .before .before .args .y) (c .before .before .before .before .before .before .before .before .before .before .before .before .before .before .before .before .args .r) (sym (c .before .before .before .before .before .before .before .before .before .before .before .before .before .before .before .bad-offsets .ensures) ∙ c .before .before .before .before .before .before .before .before .before .before .before .before .before .before .if1 .left) (there-is (c .before .before .before .before .before .before .before .before .before .before .before .before .before .before .before .before .args .blocks .now) (c .before .before .before .before .before .before .before .before .before .before .before .before .before .before .before .before .args .splits .now) (c .before .before .before .before .before .before .before .before .before .before .before .before .before .before .before .before .args .wires .now) (c .before .before .before .before .before .before .before .before .before .before .before .before .before .before .before .before .args .held) (c .before .before .before .before .before .before .before .before .before .before .before .before .before .before .before .before .args .x) (c .before .before .before .before .before .before .before .before .before .before .before .before .before .is-there .ensures) (not-false _ (c .before .before .before .before .before .before .before .before .before .before .before .before .if2 .left))) (sym (c .before .before .before .before .before .before .before .before .before .before .before .lack-offsets .ensures) ∙ c .before .before .before .before .before .before .before .before .before .before .if3 .left) (sym (c .before .before .before .before .before .before .before .before .before .input-taken .ensures) ∙ c .before .before .before .before .before .before .before .before .if4 .left) (there-is (c .before .before .before .before .before .before .before .before .before .before .before .before .before .before .before .before .args .blocks .now) (c .before .before .before .before .before .before .before .before .before .before .before .before .before .before .before .before .args .splits .now) (c .before .before .before .before .before .before .before .before .before .before .before .before .before .before .before .before .args .wires .now) (c .before .before .before .before .before .before .before .before .before .before .before .before .before .before .before .before .args .held) (c .before .before .before .before .before .before .before .before .before .before .before .before .before .before .before .before .args .y) (c .before .before .before .before .before .before .before .is-there2 .ensures) (not-false _ (c .before .before .before .before .before .before .if5 .left))) (sym (c .before .before .before .before .before .same-side .ensures) ∙ c .before .before .before .before .if6 .left) (sym (c .before .before .before .ends-wired .ensures) ∙ c .before .before .if7 .left) (lt-leb mostWires (length (wiresIn (c .before .before .before .before .before .before .before .before .before .before .before .before .before .before .before .before .args .wires .now) (c .before .before .before .before .before .before .before .before .before .before .before .before .before .before .before .before .args .held .wires))) (let n = length-wires (c .before .before .before .before .before .before .before .before .before .before .before .before .before .before .before .before .args .wires .now) (c .before .before .before .before .before .before .before .before .before .before .before .before .before .before .before .before .args .held .wires) in let l = c .if8 .left in omega arith))
+returns-9 c = ends-fine (planIn (c .before .before .before .before .before .before .before .before .before .before .before .before .before .before .before .before .args .blocks .now) (c .before .before .before .before .before .before .before .before .before .before .before .before .before .before .before .before .args .splits .now) (c .before .before .before .before .before .before .before .before .before .before .before .before .before .before .before .before .args .wires .now) (c .before .before .before .before .before .before .before .before .before .before .before .before .before .before .before .before .args .totals)) (c .before .before .before .before .before .before .before .before .before .before .before .before .before .before .before .before .args .x) (c .before .before .before .before .before .before .before .before .before .before .before .before .before .before .before .before .args .o) (c .before .before .before .before .before .before .before .before .before .before .before .before .before .before .before .before .args .y) (c .before .before .before .before .before .before .before .before .before .before .before .before .before .before .before .before .args .r) (sym (c .before .before .before .before .before .before .before .before .before .before .before .before .before .before .before .bad-offsets .ensures) ∙ c .before .before .before .before .before .before .before .before .before .before .before .before .before .before .if1 .left) (there-is (c .before .before .before .before .before .before .before .before .before .before .before .before .before .before .before .before .args .blocks .now) (c .before .before .before .before .before .before .before .before .before .before .before .before .before .before .before .before .args .splits .now) (c .before .before .before .before .before .before .before .before .before .before .before .before .before .before .before .before .args .wires .now) (c .before .before .before .before .before .before .before .before .before .before .before .before .before .before .before .before .args .totals) (c .before .before .before .before .before .before .before .before .before .before .before .before .before .before .before .before .args .x) (c .before .before .before .before .before .before .before .before .before .before .before .before .before .is-there .ensures) (not-false _ (c .before .before .before .before .before .before .before .before .before .before .before .before .if2 .left))) (sym (c .before .before .before .before .before .before .before .before .before .before .before .lack-offsets .ensures) ∙ c .before .before .before .before .before .before .before .before .before .before .if3 .left) (sym (c .before .before .before .before .before .before .before .before .before .input-taken .ensures) ∙ c .before .before .before .before .before .before .before .before .if4 .left) (there-is (c .before .before .before .before .before .before .before .before .before .before .before .before .before .before .before .before .args .blocks .now) (c .before .before .before .before .before .before .before .before .before .before .before .before .before .before .before .before .args .splits .now) (c .before .before .before .before .before .before .before .before .before .before .before .before .before .before .before .before .args .wires .now) (c .before .before .before .before .before .before .before .before .before .before .before .before .before .before .before .before .args .totals) (c .before .before .before .before .before .before .before .before .before .before .before .before .before .before .before .before .args .y) (c .before .before .before .before .before .before .before .is-there2 .ensures) (not-false _ (c .before .before .before .before .before .before .if5 .left))) (sym (c .before .before .before .before .before .same-side .ensures) ∙ c .before .before .before .before .if6 .left) (sym (c .before .before .before .ends-wired .ensures) ∙ c .before .before .if7 .left) (lt-leb mostWires (length (wiresIn (c .before .before .before .before .before .before .before .before .before .before .before .before .before .before .before .before .args .wires .now) (c .before .before .before .before .before .before .before .before .before .before .before .before .before .before .before .before .args .totals .wires))) (let n = length-wires (c .before .before .before .before .before .before .before .before .before .before .before .before .before .before .before .before .args .wires .now) (c .before .before .before .before .before .before .before .before .before .before .before .before .before .before .before .before .args .totals .wires) in let l = c .if8 .left in omega arith))
 
 pub judge-ends-spec : {M : Type 1} → statement M
 judge-ends-spec =

@@ -25,13 +25,13 @@ is-there-requires : tie.Need-is-there-requires
 is-there-requires c κs = let l = blocks-within (c .before .before .pre) in omega arith
 
 returns-2 : tie.Need-returns-2
-returns-2 c = lack-second-gone (planIn (c .before .before .before .before .args .blocks .now) (c .before .before .before .before .args .splits .now) (c .before .before .before .before .args .wires .now) (c .before .before .before .before .args .held)) (c .before .before .before .before .args .x) (c .before .before .before .before .args .o) (c .before .before .before .before .args .y) (c .before .before .before .before .args .r) (sym (c .before .before .before .lacks-offset .ensures) ∙ c .before .before .if1 .left) (there-is (c .before .before .before .before .args .blocks .now) (c .before .before .before .before .args .splits .now) (c .before .before .before .before .args .wires .now) (c .before .before .before .before .args .held) (c .before .before .before .before .args .y) (c .before .is-there .ensures) (not-true _ (c .if2 .taken)))
+returns-2 c = lack-second-gone (planIn (c .before .before .before .before .args .blocks .now) (c .before .before .before .before .args .splits .now) (c .before .before .before .before .args .wires .now) (c .before .before .before .before .args .totals)) (c .before .before .before .before .args .x) (c .before .before .before .before .args .o) (c .before .before .before .before .args .y) (c .before .before .before .before .args .r) (sym (c .before .before .before .lacks-offset .ensures) ∙ c .before .before .if1 .left) (there-is (c .before .before .before .before .args .blocks .now) (c .before .before .before .before .args .splits .now) (c .before .before .before .before .args .wires .now) (c .before .before .before .before .args .totals) (c .before .before .before .before .args .y) (c .before .is-there .ensures) (not-true _ (c .if2 .taken)))
 
 lacks-offset-requires-2 : tie.Need-lacks-offset-requires-2
 lacks-offset-requires-2 c κs = c .before .before .before .before .pre
 
 returns-3 : tie.Need-returns-3
-returns-3 c = c .lacks-offset2 .ensures ∙ lack-second (planIn (c .before .before .before .before .before .args .blocks .now) (c .before .before .before .before .before .args .splits .now) (c .before .before .before .before .before .args .wires .now) (c .before .before .before .before .before .args .held)) (c .before .before .before .before .before .args .x) (c .before .before .before .before .before .args .o) (c .before .before .before .before .before .args .y) (c .before .before .before .before .before .args .r) (sym (c .before .before .before .before .lacks-offset .ensures) ∙ c .before .before .before .if1 .left) (there-is (c .before .before .before .before .before .args .blocks .now) (c .before .before .before .before .before .args .splits .now) (c .before .before .before .before .before .args .wires .now) (c .before .before .before .before .before .args .held) (c .before .before .before .before .before .args .y) (c .before .before .is-there .ensures) (not-false _ (c .before .if2 .left)))
+returns-3 c = c .lacks-offset2 .ensures ∙ lack-second (planIn (c .before .before .before .before .before .args .blocks .now) (c .before .before .before .before .before .args .splits .now) (c .before .before .before .before .before .args .wires .now) (c .before .before .before .before .before .args .totals)) (c .before .before .before .before .before .args .x) (c .before .before .before .before .before .args .o) (c .before .before .before .before .before .args .y) (c .before .before .before .before .before .args .r) (sym (c .before .before .before .before .lacks-offset .ensures) ∙ c .before .before .before .if1 .left) (there-is (c .before .before .before .before .before .args .blocks .now) (c .before .before .before .before .before .args .splits .now) (c .before .before .before .before .before .args .wires .now) (c .before .before .before .before .before .args .totals) (c .before .before .before .before .before .args .y) (c .before .before .is-there .ensures) (not-false _ (c .before .if2 .left)))
 
 pub lack-offsets-spec : {M : Type 1} → statement M
 lack-offsets-spec =

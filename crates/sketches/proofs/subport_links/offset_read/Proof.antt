@@ -12,10 +12,10 @@ subports-of-requires : tie.Need-subports-of-requires
 subports-of-requires c κs = splits-within (c .pre)
 
 returns : tie.Need-returns
-returns c = read-unsplit (planIn (c .before .before .args .blocks .now) (c .before .before .args .splits .now) (c .before .before .args .wires .now) (c .before .before .args .held)) (c .before .before .args .port) (c .before .before .args .offset) (c .before .subports-of .ensures) (c .if1 .taken)
+returns c = read-unsplit (planIn (c .before .before .args .blocks .now) (c .before .before .args .splits .now) (c .before .before .args .wires .now) (c .before .before .args .totals)) (c .before .before .args .port) (c .before .before .args .offset) (c .before .subports-of .ensures) (c .if1 .taken)
 
 returns-2 : tie.Need-returns-2
-returns-2 c = read-split (planIn (c .before .before .args .blocks .now) (c .before .before .args .splits .now) (c .before .before .args .wires .now) (c .before .before .args .held)) (c .before .before .args .port) (c .before .before .args .offset) (c .before .subports-of .ensures) (c .if1 .left)
+returns-2 c = read-split (planIn (c .before .before .args .blocks .now) (c .before .before .args .splits .now) (c .before .before .args .wires .now) (c .before .before .args .totals)) (c .before .before .args .port) (c .before .before .args .offset) (c .before .subports-of .ensures) (c .if1 .left)
 
 pub offset-read-spec : {M : Type 1} → statement M
 offset-read-spec = tie.close (tie.spec subports-of-requires returns returns-2)

@@ -7,7 +7,7 @@ use Rattle.sketches.proofs.subports.ready_port.Statement.{statement}
 use Rattle.sketches.proofs.subports.ready_port.Tie as tie
 use Rattle.sketches.proofs.subports.ready_port.Reads as reads
 use Rattle.sketches.proofs.subports.ready_port.Lts as lts
-use Rattle.sketches.proofs.held.with_splits.Reads as with-splits-reads
+use Rattle.sketches.proofs.totals.with_splits.Reads as with-splits-reads
 use Rattle.sketches.proofs.offsets.offset_ready.Reads as offset-ready-reads
 use Rattle.sketches.proofs.ports.subports_of.Reads as subports-of-reads
 use Rattle.sketches.proofs.subports.set_subports.Reads as set-subports-reads

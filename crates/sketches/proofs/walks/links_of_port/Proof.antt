@@ -18,13 +18,13 @@ is-there-requires : tie.Need-is-there-requires
 is-there-requires c κs = let l = blocks-within (c .pre) in omega arith
 
 returns : tie.Need-returns
-returns c = not-started _ _ _ (there-is (c .before .before .args .blocks .now) (c .before .before .args .splits .now) (c .before .before .args .wires .now) (c .before .before .args .held) (c .before .before .args .port) (c .before .is-there .ensures) (not-true _ (c .if1 .taken)))
+returns c = not-started _ _ _ (there-is (c .before .before .args .blocks .now) (c .before .before .args .splits .now) (c .before .before .args .wires .now) (c .before .before .args .totals) (c .before .before .args .port) (c .before .is-there .ensures) (not-true _ (c .if1 .taken)))
 
 whole-walk-requires : tie.Need-whole-walk-requires
 whole-walk-requires c κs = search needs
 
 returns-2 : tie.Need-returns-2
-returns-2 c = ap start.At (c .whole-walk .ensures) ∙ started _ _ _ (there-is (c .before .before .before .args .blocks .now) (c .before .before .before .args .splits .now) (c .before .before .before .args .wires .now) (c .before .before .before .args .held) (c .before .before .before .args .port) (c .before .before .is-there .ensures) (not-false _ (c .before .if1 .left)))
+returns-2 c = ap start.At (c .whole-walk .ensures) ∙ started _ _ _ (there-is (c .before .before .before .args .blocks .now) (c .before .before .before .args .splits .now) (c .before .before .before .args .wires .now) (c .before .before .before .args .totals) (c .before .before .before .args .port) (c .before .before .is-there .ensures) (not-false _ (c .before .if1 .left)))
 
 pub links-of-port-spec : {M : Type 1} → statement M
 links-of-port-spec = tie.close (tie.spec is-there-requires returns whole-walk-requires returns-2)

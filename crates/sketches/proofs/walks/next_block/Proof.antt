@@ -20,19 +20,19 @@ find-newest-requires : tie.Need-find-newest-requires
 find-newest-requires c κs = let a = c .before .smaller .ensures in let e = c .smaller2 .ensures in omega arith
 
 returns : tie.Need-returns
-returns c = block-ends (c .before .before .before .before .args .blocks .now) (c .before .before .before .before .args .held .blocks) (c .before .before .before .before .args .walk) (c .before .before .before .smaller .ensures) (c .before .before .smaller2 .ensures) (c .before .find-newest .ensures) (c .if1 .taken)
+returns c = block-ends (c .before .before .before .before .args .blocks .now) (c .before .before .before .before .args .totals .blocks) (c .before .before .before .before .args .walk) (c .before .before .before .smaller .ensures) (c .before .before .smaller2 .ensures) (c .before .find-newest .ensures) (c .if1 .taken)
 
 sub-row-at : tie.Need-sub-row-at
 sub-row-at c = search needs
 
 row-at-requires : tie.Need-row-at-requires
-row-at-requires c κs = block-within (c .before .before .before .before .args .blocks .now) (c .before .before .before .before .args .held .blocks) (c .before .before .before .before .args .walk) (c .before .before .before .smaller .ensures) (c .before .before .smaller2 .ensures) (c .before .find-newest .ensures) (c .if1 .left)
+row-at-requires c κs = block-within (c .before .before .before .before .args .blocks .now) (c .before .before .before .before .args .totals .blocks) (c .before .before .before .before .args .walk) (c .before .before .before .smaller .ensures) (c .before .before .smaller2 .ensures) (c .before .find-newest .ensures) (c .if1 .left)
 
 sub-t8 : tie.Need-sub-t8
 sub-t8 c = search needs
 
 returns-2 : tie.Need-returns-2
-returns-2 c = block-gives (c .before .before .before .before .before .args .blocks .now) (c .before .before .before .before .before .args .held .blocks) (c .before .before .before .before .before .args .walk) (c .before .before .before .before .smaller .ensures) (c .before .before .before .smaller2 .ensures) (c .before .before .find-newest .ensures) (c .before .if1 .left) (c .row-at .ensures)
+returns-2 c = block-gives (c .before .before .before .before .before .args .blocks .now) (c .before .before .before .before .before .args .totals .blocks) (c .before .before .before .before .before .args .walk) (c .before .before .before .before .smaller .ensures) (c .before .before .before .smaller2 .ensures) (c .before .before .find-newest .ensures) (c .before .if1 .left) (c .row-at .ensures)
 
 pub next-block-spec : {M : Type 1} → statement M
 next-block-spec =

@@ -15,7 +15,7 @@ ports-on-side-requires : tie.Need-ports-on-side-requires
 ports-on-side-requires c κs = let l = blocks-within (c .before .pre) in omega arith
 
 returns : tie.Need-returns
-returns c = subports-end (planIn (c .before .before .before .before .args .blocks .now) (c .before .before .before .before .args .splits .now) (c .before .before .before .before .args .wires .now) (c .before .before .before .before .args .held)) (c .before .before .before .before .args .walk) (c .before .before .ports-on-side .ensures) (c .if1 .taken)
+returns c = subports-end (planIn (c .before .before .before .before .args .blocks .now) (c .before .before .before .before .args .splits .now) (c .before .before .before .before .args .wires .now) (c .before .before .before .before .args .totals)) (c .before .before .before .before .args .walk) (c .before .before .ports-on-side .ensures) (c .if1 .taken)
 
 offsets-of-requires : tie.Need-offsets-of-requires
 offsets-of-requires c κs = c .before .before .before .before .pre
@@ -27,19 +27,19 @@ add-t14 : tie.Need-add-t14
 add-t14 c = let l = c .before .before .before .before .offsets-of .ensures .within in let h = c .before .before .if2 .taken in omega arith
 
 returns-2 : tie.Need-returns-2
-returns-2 c = subports-here (planIn (c .before .before .before .before .before .before .before .before .before .args .blocks .now) (c .before .before .before .before .before .before .before .before .before .args .splits .now) (c .before .before .before .before .before .before .before .before .before .args .wires .now) (c .before .before .before .before .before .before .before .before .before .args .held)) (c .before .before .before .before .before .before .before .before .before .args .walk) (c .before .before .before .before .before .before .before .ports-on-side .ensures) (c .before .before .before .before .before .if1 .left) (c .before .before .before .before .offsets-of .ensures) (c .before .before .if2 .taken)
+returns-2 c = subports-here (planIn (c .before .before .before .before .before .before .before .before .before .args .blocks .now) (c .before .before .before .before .before .before .before .before .before .args .splits .now) (c .before .before .before .before .before .before .before .before .before .args .wires .now) (c .before .before .before .before .before .before .before .before .before .args .totals)) (c .before .before .before .before .before .before .before .before .before .args .walk) (c .before .before .before .before .before .before .before .ports-on-side .ensures) (c .before .before .before .before .before .if1 .left) (c .before .before .before .before .offsets-of .ensures) (c .before .before .if2 .taken)
 
 add-if3 : tie.Need-add-if3
 add-if3 c = search needs
 
 returns-3 : tie.Need-returns-3
-returns-3 c = subports-last (planIn (c .before .before .before .before .before .before .before .before .before .args .blocks .now) (c .before .before .before .before .before .before .before .before .before .args .splits .now) (c .before .before .before .before .before .before .before .before .before .args .wires .now) (c .before .before .before .before .before .before .before .before .before .args .held)) (c .before .before .before .before .before .before .before .before .before .args .walk) (c .before .before .before .before .before .before .before .ports-on-side .ensures) (c .before .before .before .before .before .if1 .left) (c .before .before .before .before .offsets-of .ensures) (c .before .before .if2 .left) (c .if3 .taken)
+returns-3 c = subports-last (planIn (c .before .before .before .before .before .before .before .before .before .args .blocks .now) (c .before .before .before .before .before .before .before .before .before .args .splits .now) (c .before .before .before .before .before .before .before .before .before .args .wires .now) (c .before .before .before .before .before .before .before .before .before .args .totals)) (c .before .before .before .before .before .before .before .before .before .args .walk) (c .before .before .before .before .before .before .before .ports-on-side .ensures) (c .before .before .before .before .before .if1 .left) (c .before .before .before .before .offsets-of .ensures) (c .before .before .if2 .left) (c .if3 .taken)
 
 add-t11 : tie.Need-add-t11
 add-t11 c = search needs
 
 returns-4 : tie.Need-returns-4
-returns-4 c = subports-on (planIn (c .before .before .before .before .before .before .before .before .before .before .args .blocks .now) (c .before .before .before .before .before .before .before .before .before .before .args .splits .now) (c .before .before .before .before .before .before .before .before .before .before .args .wires .now) (c .before .before .before .before .before .before .before .before .before .before .args .held)) (c .before .before .before .before .before .before .before .before .before .before .args .walk) (c .before .before .before .before .before .before .before .before .ports-on-side .ensures) (c .before .before .before .before .before .before .if1 .left) (c .before .before .before .before .before .offsets-of .ensures) (c .before .before .before .if2 .left) (c .before .if3 .left)
+returns-4 c = subports-on (planIn (c .before .before .before .before .before .before .before .before .before .before .args .blocks .now) (c .before .before .before .before .before .before .before .before .before .before .args .splits .now) (c .before .before .before .before .before .before .before .before .before .before .args .wires .now) (c .before .before .before .before .before .before .before .before .before .before .args .totals)) (c .before .before .before .before .before .before .before .before .before .before .args .walk) (c .before .before .before .before .before .before .before .before .ports-on-side .ensures) (c .before .before .before .before .before .before .if1 .left) (c .before .before .before .before .before .offsets-of .ensures) (c .before .before .before .if2 .left) (c .before .if3 .left)
 
 pub next-subport-spec : {M : Type 1} → statement M
 next-subport-spec =

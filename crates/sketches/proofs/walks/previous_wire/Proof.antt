@@ -18,16 +18,16 @@ find-oldest-requires : tie.Need-find-oldest-requires
 find-oldest-requires c κs = let l = wires-within (c .before .pre) in let e = c .smaller .ensures in omega arith
 
 returns : tie.Need-returns
-returns c = previous-ends (c .before .before .before .args .wires .now) (c .before .before .before .args .held .wires) (c .before .before .before .args .walk) (c .before .before .smaller .ensures) (c .before .find-oldest .ensures) (c .if1 .taken)
+returns c = previous-ends (c .before .before .before .args .wires .now) (c .before .before .before .args .totals .wires) (c .before .before .before .args .walk) (c .before .before .smaller .ensures) (c .before .find-oldest .ensures) (c .if1 .taken)
 
 sub-wire-at : tie.Need-sub-wire-at
 sub-wire-at c = search needs
 
 wire-at-requires : tie.Need-wire-at-requires
-wire-at-requires c κs = (c .before .before .before .pre, previous-within (c .before .before .before .args .wires .now) (c .before .before .before .args .held .wires) (c .before .before .before .args .walk) (c .before .before .smaller .ensures) (c .before .find-oldest .ensures) (c .if1 .left))
+wire-at-requires c κs = (c .before .before .before .pre, previous-within (c .before .before .before .args .wires .now) (c .before .before .before .args .totals .wires) (c .before .before .before .args .walk) (c .before .before .smaller .ensures) (c .before .find-oldest .ensures) (c .if1 .left))
 
 returns-2 : tie.Need-returns-2
-returns-2 c = previous-gives (c .before .before .before .before .args .wires .now) (c .before .before .before .before .args .held .wires) (c .before .before .before .before .args .walk) (c .before .before .before .smaller .ensures) (c .before .before .find-oldest .ensures) (c .before .if1 .left) (c .wire-at .ensures)
+returns-2 c = previous-gives (c .before .before .before .before .args .wires .now) (c .before .before .before .before .args .totals .wires) (c .before .before .before .before .args .walk) (c .before .before .before .smaller .ensures) (c .before .before .find-oldest .ensures) (c .before .if1 .left) (c .wire-at .ensures)
 
 pub previous-wire-spec : {M : Type 1} → statement M
 previous-wire-spec =

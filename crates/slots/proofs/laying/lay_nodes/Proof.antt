@@ -8,14 +8,14 @@ use Rattle.portgraph.specs.Limits.{nodeSlots}
 use Rattle.portgraph.specs.Lists.{range}
 use Rattle.portgraph.specs.Lent.{metaIn}
 use Rattle.slots.specs.Blocks.{nodeHolds}
-use Rattle.slots.specs.Forms.{heldIn}
+use Rattle.slots.specs.Forms.{takenIn}
 use Rattle.slots.specs.LaySteps.{Left, held-begun, range-turn, range-done}
 use Rattle.slots.proofs.laying.lay_nodes.Statement.{statement}
 use Rattle.slots.proofs.laying.lay_nodes.Tie as tie
 
 abbrev Inv-loop : tie.InvT-loop
 Inv-loop sizes₀ holders₀ nodes n₀ sizes holders n =
-    (n ≤ nodeSlots) × Left (heldIn nodes) (flatMap (λ i. nodeHolds i (metaIn nodes i)) (range n (nodeSlots - n))) sizes₀ holders₀ sizes holders
+    (n ≤ nodeSlots) × Left (takenIn nodes) (flatMap (λ i. nodeHolds i (metaIn nodes i)) (range n (nodeSlots - n))) sizes₀ holders₀ sizes holders
 
 abbrev μ-loop : tie.MeasureT-loop
 μ-loop sizes₀ holders₀ nodes n₀ sizes holders n = nodeSlots - n

@@ -12,7 +12,7 @@ list-in-requires c κs = search needs
 
 returns : tie.Need-returns
 returns c =
-    listed-of _ _ _ _ _ _ _ _ (c .before .before .before .before .before .tables-of-graph .ensures)
+    listed-of _ _ _ _ _ _ _ _ (c .before .before .before .before .before .tables-of-graph .ensures .0)
     (c .before .before .before .before .before .before .before .before .before .before .before .before .pre) _ _ _ (c .list-in .ensures)
 
 pub list-slots-spec : {M : Type 1} → statement M

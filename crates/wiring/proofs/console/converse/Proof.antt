@@ -1,7 +1,7 @@
 -- `wiring::console::converse` meets its contract. The graph is one of the calls, and the buffer keeps its length. The measure is how many turns are left. Assumes nothing.
 use borrow.Author.Needs.{needs}
 use mathlib.Core.Path.{_≡_}
-use Rattle.multiportgraph.specs.Inner.{MultiWf}
+use Rattle.multiportgraph.specs.WellFormed.{MultiWf}
 use lib.ListN.{length}
 use Rattle.wiring.proofs.console.converse.Statement.{statement}
 use Rattle.wiring.proofs.console.converse.Tie as tie

@@ -1,14 +1,11 @@
 -- `wiring::sheet::link_pairs` meets its contract: a sheet keeps what every call presumes of its graph. Assumes nothing.
 use borrow.Author.Needs.{needs}
 use mathlib.Core.Path.{sym, subst}
-use Rattle.multiportgraph.specs.Inner.{MultiWf}
+use Rattle.multiportgraph.specs.WellFormed.{MultiWf}
 use Rattle.sheets.specs.declared.held.HeldLinked.{HeldLinked}
 use Rattle.sheets.specs.SheetLaws.{held-kept}
 use Rattle.wiring.proofs.sheet.link_pairs.Statement.{statement}
 use Rattle.wiring.proofs.sheet.link_pairs.Tie as tie
-
-wide-requires : tie.Need-wide-requires
-wide-requires c κs = search needs
 
 entries-of-requires : tie.Need-entries-of-requires
 entries-of-requires c κs = search needs
@@ -33,15 +30,14 @@ show-refusal-number-requires c κs = search needs
 
 returns : tie.Need-returns
 returns c =
-    let start = c .before .before .before .before .before .before in
+    let start = c .before .before .before .before .before in
     subst (λ (r : HeldLinked). MultiWf (r .graph)) (sym (c .before .before .link-held .ensures))
-    (held-kept (start .args .graph) (c .before .before .before .entries-of .result) (c .before .before .before .before .wide .result) (start .pre))
+    (held-kept (start .args .graph) (c .before .before .before .entries-of .result) (start .args .order .entries) (start .pre))
 
 pub link-pairs-spec : {M : Type 1} → statement M
 link-pairs-spec =
     tie.close
     (tie.spec
-    wide-requires
     entries-of-requires
     link-held-requires
     enum-told

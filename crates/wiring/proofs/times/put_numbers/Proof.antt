@@ -16,8 +16,8 @@ next-word-requires c κs = search needs
 loop-holds : tie.Need-loop-holds Inv-loop μ-loop
 loop-holds c = tt
 
-number-of-requires : tie.Need-number-of-requires Inv-loop μ-loop
-number-of-requires c κs = search needs
+number-or-zero-requires : tie.Need-number-or-zero-requires Inv-loop μ-loop
+number-or-zero-requires c κs = search needs
 
 put-number-requires : tie.Need-put-number-requires Inv-loop μ-loop
 put-number-requires c κs = search needs
@@ -45,7 +45,7 @@ put-numbers-spec =
     μ-loop
     next-word-requires
     loop-holds
-    number-of-requires
+    number-or-zero-requires
     put-number-requires
     next-word-requires-2
     add-k

@@ -13,19 +13,22 @@ use Rattle.multiportgraph.proofs.iter.Nodes.step.Statement.{statement}
 use Rattle.multiportgraph.proofs.iter.Nodes.step.Tie as tie
 
 abbrev Inv-loop : tie.InvT-loop
-Inv-loop = λ graph front back lower end n₀ n. filter (isBlock graph) (range n (end - n)) ≡ filter (isBlock graph) (range front (end - front))
+Inv-loop = λ graph front back slots end n₀ n. filter (isBlock graph) (range n (end - n)) ≡ filter (isBlock graph) (range front (end - front))
 
 abbrev μ-loop : tie.MeasureT-loop
-μ-loop = λ graph front back lower end n₀ n. end - n
+μ-loop = λ graph front back slots end n₀ n. end - n
 
-block-is : (c : tie.After-is-block Inv-loop μ-loop) → isBlock (c .before .before .before .before .before .before .before .before .before .before .before .before .before .before .args .t2) (c .before .before .before .before .before .before .loop .n) ≡ c .is-block .result
-block-is c = sym (block-told (c .before .before .before .before .before .before .before .before .before .before .before .before .before .before .args .t2) (c .before .before .before .before .before .before .loop .n) _ _ (search needs) (c .before .flagged .ensures) (c .is-block .ensures))
+block-is : (c : tie.After-is-block Inv-loop μ-loop) → isBlock (c .before .before .before .before .before .before .before .before .before .before .before .before .before .before .before .args .t2) (c .before .before .before .before .before .before .loop .n) ≡ c .is-block .result
+block-is c = sym (block-told (c .before .before .before .before .before .before .before .before .before .before .before .before .before .before .before .args .t2) (c .before .before .before .before .before .before .loop .n) _ _ (c .before .before .before .before .before .before .before .before .before .node-slots .ensures) (search needs) (c .before .flagged .ensures) (c .is-block .ensures))
 
 node-held-requires : tie.Need-node-held-requires Inv-loop μ-loop
 node-held-requires c κs = search needs
 
 node-held-requires-2 : tie.Need-node-held-requires-2 Inv-loop μ-loop
 node-held-requires-2 c κs = search needs
+
+node-slots-requires : tie.Need-node-slots-requires Inv-loop μ-loop
+node-slots-requires c κs = search needs
 
 end-before-requires : tie.Need-end-before-requires Inv-loop μ-loop
 end-before-requires c κs = search needs
@@ -34,13 +37,13 @@ wide-requires : tie.Need-wide-requires Inv-loop μ-loop
 wide-requires c κs = search needs
 
 loop-holds : tie.Need-loop-holds Inv-loop μ-loop
-loop-holds c = ap (λ x. filter (isBlock (c .before .before .before .before .before .before .before .args .t2)) (range x (c .before .end-before .result - x))) (c .wide .ensures)
+loop-holds c = ap (λ x. filter (isBlock (c .before .before .before .before .before .before .before .before .args .t2)) (range x (c .before .end-before .result - x))) (c .wide .ensures)
 
 mul-slot : tie.Need-mul-slot Inv-loop μ-loop
 mul-slot c = let h = c .before .before .before .end-before .ensures .1 in let l = c .loop-test .taken in omega arith
 
-element-copy-out-slot : tie.Need-element-copy-out-slot Inv-loop μ-loop
-element-copy-out-slot c = search needs
+array-copy-out-slot : tie.Need-array-copy-out-slot Inv-loop μ-loop
+array-copy-out-slot c = search needs
 
 flagged-requires : tie.Need-flagged-requires Inv-loop μ-loop
 flagged-requires c κs = search needs
@@ -48,17 +51,17 @@ flagged-requires c κs = search needs
 is-block-requires : tie.Need-is-block-requires Inv-loop μ-loop
 is-block-requires c κs = search needs
 
-cast-t22 : tie.Need-cast-t22 Inv-loop μ-loop
-cast-t22 c = let h = c .before .before .before .before .before .before .before .before .before .end-before .ensures .1 in let l = c .before .before .before .before .before .before .loop-test .taken in omega arith
+cast-t23 : tie.Need-cast-t23 Inv-loop μ-loop
+cast-t23 c = let h = c .before .before .before .before .before .before .before .before .before .end-before .ensures .1 in let l = c .before .before .before .before .before .before .loop-test .taken in omega arith
 
-cast-t24 : tie.Need-cast-t24 Inv-loop μ-loop
-cast-t24 c = let h = c .before .before .before .before .before .before .before .before .before .end-before .ensures .1 in let l = c .before .before .before .before .before .before .loop-test .taken in omega arith
+cast-t25 : tie.Need-cast-t25 Inv-loop μ-loop
+cast-t25 c = let h = c .before .before .before .before .before .before .before .before .before .end-before .ensures .1 in let l = c .before .before .before .before .before .before .loop-test .taken in omega arith
 
-add-t25 : tie.Need-add-t25 Inv-loop μ-loop
-add-t25 c = let h = c .before .before .before .before .before .before .before .before .before .end-before .ensures .1 in let l = c .before .before .before .before .before .before .loop-test .taken in omega arith
+add-t26 : tie.Need-add-t26 Inv-loop μ-loop
+add-t26 c = let h = c .before .before .before .before .before .before .before .before .before .end-before .ensures .1 in let l = c .before .before .before .before .before .before .loop-test .taken in omega arith
 
 returns : tie.Need-returns Inv-loop μ-loop
-returns c = with-numbers nodesValues (nodes-item (c .before .before .before .before .before .before .before .before .before .before .before .before .before .before .before .args .t2) (c .before .before .before .before .before .before .before .before .before .before .before .before .before .before .before .args .self) (c .before .before .before .before .before .before .before .before .before .before .before .before .before .before .before .args .self .front) (c .before .before .before .before .before .before .before .before .before .end-before .result) (sym (c .before .before .before .before .before .before .before .before .before .before .before .before .before .before .node-held .ensures) ∙ c .before .before .before .before .before .before .before .before .before .before .before .before .before .if1 .taken) (sym (c .before .before .before .before .before .before .before .before .before .before .before .before .node-held2 .ensures) ∙ c .before .before .before .before .before .before .before .before .before .before .before .if2 .taken) refl (c .before .before .before .before .before .before .before .before .before .end-before .ensures .0) (c .before .before .before .before .before .before .before .loop .n) (c .before .before .before .before .before .before .before .loop .inv) (c .before .before .before .before .before .before .loop-test .taken) (block-is (c .before) ∙ c .if3 .taken))
+returns c = with-numbers nodesValues (nodes-item (c .before .before .before .before .before .before .before .before .before .before .before .before .before .before .before .before .args .t2) (c .before .before .before .before .before .before .before .before .before .before .before .before .before .before .before .before .args .self) (c .before .before .before .before .before .before .before .before .before .before .before .before .before .before .before .before .args .self .front) (c .before .before .before .before .before .before .before .before .before .end-before .result) (sym (c .before .before .before .before .before .before .before .before .before .before .before .before .before .before .before .node-held .ensures) ∙ c .before .before .before .before .before .before .before .before .before .before .before .before .before .before .if1 .taken) (sym (c .before .before .before .before .before .before .before .before .before .before .before .before .before .node-held2 .ensures) ∙ c .before .before .before .before .before .before .before .before .before .before .before .before .if2 .taken) refl (c .before .before .before .before .before .before .before .before .before .end-before .ensures .0) (c .before .before .before .before .before .before .before .loop .n) (c .before .before .before .before .before .before .before .loop .inv) (c .before .before .before .before .before .before .loop-test .taken) (block-is (c .before) ∙ c .if3 .taken))
 
 add-n : tie.Need-add-n Inv-loop μ-loop
 add-n c = let h = c .before .before .before .before .before .before .before .before .before .end-before .ensures .1 in let l = c .before .before .before .before .before .before .loop-test .taken in omega arith
@@ -67,10 +70,10 @@ loop-less : tie.Need-loop-less Inv-loop μ-loop
 loop-less c = let l = c .before .before .before .before .before .before .loop-test .taken in omega arith
 
 loop-again : tie.Need-loop-again Inv-loop μ-loop
-loop-again c = search-turn (isBlock (c .before .before .before .before .before .before .before .before .before .before .before .before .before .before .before .args .t2)) (c .before .before .before .before .before .before .before .loop .n) (c .before .before .before .before .before .before .before .before .before .end-before .result) (c .before .before .before .before .before .before .loop-test .taken) (block-is (c .before) ∙ c .if3 .left) ∙ c .before .before .before .before .before .before .before .loop .inv
+loop-again c = search-turn (isBlock (c .before .before .before .before .before .before .before .before .before .before .before .before .before .before .before .before .args .t2)) (c .before .before .before .before .before .before .before .loop .n) (c .before .before .before .before .before .before .before .before .before .end-before .result) (c .before .before .before .before .before .before .loop-test .taken) (block-is (c .before) ∙ c .if3 .left) ∙ c .before .before .before .before .before .before .before .loop .inv
 
 returns-2 : tie.Need-returns-2 Inv-loop μ-loop
-returns-2 c = with-numbers nodesValues (nodes-none (c .before .before .before .before .before .before .before .before .before .args .t2) (c .before .before .before .before .before .before .before .before .before .args .self) (c .before .before .before .before .before .before .before .before .before .args .self .front) (c .before .before .before .end-before .result) (sym (c .before .before .before .before .before .before .before .before .node-held .ensures) ∙ c .before .before .before .before .before .before .before .if1 .taken) (sym (c .before .before .before .before .before .before .node-held2 .ensures) ∙ c .before .before .before .before .before .if2 .taken) refl (c .before .before .before .end-before .ensures .0) (c .before .loop .n) (c .before .loop .inv) (c .loop-test .left))
+returns-2 c = with-numbers nodesValues (nodes-none (c .before .before .before .before .before .before .before .before .before .before .args .t2) (c .before .before .before .before .before .before .before .before .before .before .args .self) (c .before .before .before .before .before .before .before .before .before .before .args .self .front) (c .before .before .before .end-before .result) (sym (c .before .before .before .before .before .before .before .before .before .node-held .ensures) ∙ c .before .before .before .before .before .before .before .before .if1 .taken) (sym (c .before .before .before .before .before .before .before .node-held2 .ensures) ∙ c .before .before .before .before .before .before .if2 .taken) refl (c .before .before .before .end-before .ensures .0) (c .before .loop .n) (c .before .loop .inv) (c .loop-test .left))
 
 returns-3 : tie.Need-returns-3 Inv-loop μ-loop
 returns-3 c = with-numbers nodesValues (nodes-back-gone (c .before .before .before .before .args .t2) (c .before .before .before .before .args .self) (sym (c .before .before .before .node-held .ensures) ∙ c .before .before .if1 .taken) (sym (c .before .node-held2 .ensures) ∙ c .if2 .left))
@@ -86,16 +89,17 @@ step-spec =
     μ-loop
     node-held-requires
     node-held-requires-2
+    node-slots-requires
     end-before-requires
     wide-requires
     loop-holds
     mul-slot
-    element-copy-out-slot
+    array-copy-out-slot
     flagged-requires
     is-block-requires
-    cast-t22
-    cast-t24
-    add-t25
+    cast-t23
+    cast-t25
+    add-t26
     returns
     add-n
     loop-less

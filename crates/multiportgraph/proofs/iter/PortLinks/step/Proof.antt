@@ -3,10 +3,10 @@ use mathlib.Core.Path.{_≡_, refl, sym, ap, _∙_}
 use borrow.Author.Needs.{needs}
 use Rattle.portgraph.specs.LookupSteps.{with-numbers}
 use Rattle.multiportgraph.specs.Reading.{seen, dead, hidden}
-use Rattle.multiportgraph.specs.Forms.{seenAs}
+use Rattle.multiportgraph.specs.CodeForms.{seenAs}
 use Rattle.multiportgraph.specs.WalkNumbers.{portLinksValues}
 use Rattle.multiportgraph.specs.CallSteps.{was-dead, was-hidden, was-visible}
-use Rattle.multiportgraph.specs.ReadLaws.{seen-read}
+use Rattle.multiportgraph.specs.TableReadLaws.{seen-read}
 use Rattle.multiportgraph.specs.LinkWalkSteps.{front-unseen, front-item, front-none}
 use Rattle.multiportgraph.proofs.iter.PortLinks.step.Statement.{statement}
 use Rattle.multiportgraph.proofs.iter.PortLinks.step.Tie as tie

@@ -4,10 +4,10 @@ use borrow.Author.Needs.{needs}
 use Rattle.portgraph.specs.LookupSteps.{with-numbers}
 use Prim.Native.Nat.{_-_}
 use Rattle.multiportgraph.specs.Reading.{seen, dead, hidden}
-use Rattle.multiportgraph.specs.Forms.{seenAs}
+use Rattle.multiportgraph.specs.CodeForms.{seenAs}
 use Rattle.multiportgraph.specs.WalkNumbers.{wiresValues}
 use Rattle.multiportgraph.specs.CallSteps.{was-dead, was-hidden, was-visible}
-use Rattle.multiportgraph.specs.ReadLaws.{seen-read}
+use Rattle.multiportgraph.specs.TableReadLaws.{seen-read}
 use Rattle.multiportgraph.specs.WireSteps.{step-start, step-seen, step-on}
 use Rattle.multiportgraph.proofs.iter.Wires.step.Statement.{statement}
 use Rattle.multiportgraph.proofs.iter.Wires.step.Tie as tie

@@ -2,7 +2,7 @@
 use mathlib.Core.Path.{_≡_, refl, sym, _∙_}
 use borrow.Author.Needs.{needs}
 use Rattle.multiportgraph.specs.Reading.{isHidden}
-use Rattle.multiportgraph.specs.FormSteps.{hidden-told}
+use Rattle.multiportgraph.specs.CodeFormSteps.{hidden-told}
 use Rattle.multiportgraph.specs.LookupSteps.{block-unknown, block-flagged}
 use Rattle.multiportgraph.proofs.multiportgraph.MultiPortGraph.block.Statement.{statement}
 use Rattle.multiportgraph.proofs.multiportgraph.MultiPortGraph.block.Tie as tie

@@ -1,6 +1,6 @@
 -- `multiportgraph::multiportgraph::MultiPortGraph::copy_node_of` meets its contract: the owner of the far port.
 use borrow.Author.Needs.{needs}
-use Rattle.multiportgraph.specs.FormSteps.{copy-node-found}
+use Rattle.multiportgraph.specs.CodeFormSteps.{copy-node-found}
 use Rattle.multiportgraph.proofs.multiportgraph.MultiPortGraph.copy_node_of.Statement.{statement}
 use Rattle.multiportgraph.proofs.multiportgraph.MultiPortGraph.copy_node_of.Tie as tie
 

@@ -15,11 +15,11 @@ far-in-requires c κs = search needs
 owner-in-requires : tie.Need-owner-in-requires
 owner-in-requires c κs = search needs
 
-left-in-requires : tie.Need-left-in-requires
-left-in-requires c κs = search needs
+left-incoming-requires : tie.Need-left-incoming-requires
+left-incoming-requires c κs = search needs
 
-left-out-requires : tie.Need-left-out-requires
-left-out-requires c κs = search needs
+left-outgoing-requires : tie.Need-left-outgoing-requires
+left-outgoing-requires c κs = search needs
 
 slice-aggregate-set-num-ports : tie.Need-slice-aggregate-set-num-ports
 slice-aggregate-set-num-ports c = search needs
@@ -53,7 +53,7 @@ less-requires-2 c κs = search needs
 
 returns : tie.Need-returns
 returns c =
-    drop-step (c .before .before .before .before .before .before .before .before .before .before .before .before .before .before .before .before .before .before .before .before .before .before .before .before .before .before .pre) (c .before .before .before .before .before .before .before .before .before .before .before .before .before .before .before .before .before .before .before .before .before .before .before .wide .ensures) (c .before .before .before .before .before .before .before .before .before .before .before .before .before .before .before .before .before .before .before .before .before .before .far-in .ensures) (c .before .before .before .before .before .before .before .before .before .before .before .before .before .before .before .before .before .before .before .owner-in .ensures) (c .before .before .before .before .before .before .before .before .before .before .before .before .before .before .before .before .before .before .left-in .ensures) (c .before .before .before .before .before .before .before .before .before .before .before .before .before .before .before .before .before .left-out .ensures) refl (c .before .before .before .before .before .before .before .before .before .before .before .before .before .before .set-num-ports .ensures .0)
+    drop-step (c .before .before .before .before .before .before .before .before .before .before .before .before .before .before .before .before .before .before .before .before .before .before .before .before .before .before .pre) (c .before .before .before .before .before .before .before .before .before .before .before .before .before .before .before .before .before .before .before .before .before .before .before .wide .ensures) (c .before .before .before .before .before .before .before .before .before .before .before .before .before .before .before .before .before .before .before .before .before .before .far-in .ensures) (c .before .before .before .before .before .before .before .before .before .before .before .before .before .before .before .before .before .before .before .owner-in .ensures) (c .before .before .before .before .before .before .before .before .before .before .before .before .before .before .before .before .before .before .left-incoming .ensures) (c .before .before .before .before .before .before .before .before .before .before .before .before .before .before .before .before .before .left-outgoing .ensures) refl (c .before .before .before .before .before .before .before .before .before .before .before .before .before .before .set-num-ports .ensures .0)
     (c .before .before .before .before .before .before .before .before .before .wide2 .ensures) (c .before .before .before .before .before .before .before .before .far-in2 .ensures) (c .before .before .before .before .before .before .wide3 .ensures) (c .before .before .before .before .before .put-mark .ensures) (c .before .before .before .wide4 .ensures) (c .before .before .put-mark2 .ensures) (c .before .less .ensures) (c .less2 .ensures)
 
 pub drop-subports-spec : {M : Type 1} → statement M
@@ -63,8 +63,8 @@ drop-subports-spec =
     wide-requires
     far-in-requires
     owner-in-requires
-    left-in-requires
-    left-out-requires
+    left-incoming-requires
+    left-outgoing-requires
     slice-aggregate-set-num-ports
     set-num-ports-requires
     wide-requires-2

@@ -5,7 +5,7 @@ use Rattle.portgraph.specs.LookupSteps.{with-numbers}
 use Rattle.multiportgraph.specs.Reading.{isHidden}
 use Rattle.multiportgraph.specs.Walks.{connectionsFrom}
 use Rattle.multiportgraph.specs.WalkNumbers.{nodeConnectionsStartNumbers}
-use Rattle.multiportgraph.specs.FormSteps.{hidden-told}
+use Rattle.multiportgraph.specs.CodeFormSteps.{hidden-told}
 use Rattle.multiportgraph.specs.StartSteps.{start-between}
 use Rattle.multiportgraph.proofs.multiportgraph.MultiPortGraph.get_connections.Statement.{statement}
 use Rattle.multiportgraph.proofs.multiportgraph.MultiPortGraph.get_connections.Tie as tie

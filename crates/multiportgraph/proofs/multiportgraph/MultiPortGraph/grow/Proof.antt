@@ -5,7 +5,7 @@ use native.Mathlib.Omega.{arith}
 use borrow.Author.Needs.{needs}
 use Rattle.portgraph.proofs.resize.SetAnswer
 use Rattle.portgraph.specs.Limits.{portSlots}
-use Rattle.multiportgraph.specs.ReadSteps.{subports-bound}
+use Rattle.multiportgraph.specs.TableReadSteps.{subports-bound}
 use Rattle.multiportgraph.specs.TableSteps.{growing-read, grow-full, grow-told, grow-done}
 use denote.Enum.Declared
 use Rattle.multiportgraph.specs.GrowLaws.{GrowTables, by-first}
@@ -19,7 +19,7 @@ count-fits c = let h = subports-bound (c .before .before .before .before .before
 
 -- what one more subport does to the tables
 told : (c : tie.After-enum-told) → GrowTables (c .before .before .before .before .before .before .before .before .before .before .before .before .before .before .before .before .before .before .before .args .t1) (c .before .before .before .before .before .before .before .before .before .before .before .before .before .before .before .before .before .before .before .args .port) (c .before .before .before .before .before .before .before .before .before .before .before .before .before .before .before .before .before .before .before .args .direction) (copyNode (c .before .before .before .before .before .before .before .before .before .before .before .before .before .before .before .before .before .before .before .args .t1) (c .before .before .before .before .before .before .before .before .before .before .before .before .before .before .before .before .before .before .before .args .port)) (c .before .before .before .before .before .before .before .before .subports-in .result) (c .before .before .before .set-num-ports .result .graph)
-told c = grow-told (growing-read (c .before .before .before .before .before .before .before .before .before .before .before .before .before .before .before .before .before .before .before .pre) (c .before .before .before .before .before .before .before .before .before .before .before .before .before .before .before .before .wide .ensures) (c .before .before .before .before .before .before .before .before .before .before .before .before .before .before .before .far-in .ensures) (c .before .before .before .before .before .before .before .before .before .before .before .before .owner-in .ensures) (c .before .before .before .before .before .before .before .before .subports-in .ensures)) (c .before .before .before .before .before .before .before .grown-in .ensures) (c .before .before .before .before .before .before .grown-out .ensures) refl (c .before .before .before .set-num-ports .ensures .0) (c .enum-told .given .1)
+told c = grow-told (growing-read (c .before .before .before .before .before .before .before .before .before .before .before .before .before .before .before .before .before .before .before .pre) (c .before .before .before .before .before .before .before .before .before .before .before .before .before .before .before .before .wide .ensures) (c .before .before .before .before .before .before .before .before .before .before .before .before .before .before .before .far-in .ensures) (c .before .before .before .before .before .before .before .before .before .before .before .before .owner-in .ensures) (c .before .before .before .before .before .before .before .before .subports-in .ensures)) (c .before .before .before .before .before .before .before .grown-incoming .ensures) (c .before .before .before .before .before .before .grown-outgoing .ensures) refl (c .before .before .before .set-num-ports .ensures .0) (c .enum-told .given .1)
 
 wide-requires : tie.Need-wide-requires
 wide-requires c κs = search needs
@@ -33,11 +33,11 @@ owner-in-requires c κs = search needs
 subports-in-requires : tie.Need-subports-in-requires
 subports-in-requires c κs = search needs
 
-grown-in-requires : tie.Need-grown-in-requires
-grown-in-requires c κs = count-fits c
+grown-incoming-requires : tie.Need-grown-incoming-requires
+grown-incoming-requires c κs = count-fits c
 
-grown-out-requires : tie.Need-grown-out-requires
-grown-out-requires c κs = count-fits (c .before)
+grown-outgoing-requires : tie.Need-grown-outgoing-requires
+grown-outgoing-requires c κs = count-fits (c .before)
 
 slice-aggregate-set-num-ports : tie.Need-slice-aggregate-set-num-ports
 slice-aggregate-set-num-ports c = search needs
@@ -50,7 +50,7 @@ enum-told c = search needs
 
 returns : tie.Need-returns
 returns c =
-    grow-full (growing-read (c .before .before .before .before .before .before .before .before .before .before .before .before .before .before .before .before .before .before .pre) (c .before .before .before .before .before .before .before .before .before .before .before .before .before .before .before .wide .ensures) (c .before .before .before .before .before .before .before .before .before .before .before .before .before .before .far-in .ensures) (c .before .before .before .before .before .before .before .before .before .before .before .owner-in .ensures) (c .before .before .before .before .before .before .before .subports-in .ensures)) (c .before .before .before .before .before .before .grown-in .ensures) (c .before .before .before .before .before .grown-out .ensures) refl (c .before .before .set-num-ports .ensures .0)
+    grow-full (growing-read (c .before .before .before .before .before .before .before .before .before .before .before .before .before .before .before .before .before .before .pre) (c .before .before .before .before .before .before .before .before .before .before .before .before .before .before .before .wide .ensures) (c .before .before .before .before .before .before .before .before .before .before .before .before .before .before .far-in .ensures) (c .before .before .before .before .before .before .before .before .before .before .before .owner-in .ensures) (c .before .before .before .before .before .before .before .subports-in .ensures)) (c .before .before .before .before .before .before .grown-incoming .ensures) (c .before .before .before .before .before .grown-outgoing .ensures) refl (c .before .before .set-num-ports .ensures .0)
     (Declared.tagOf SetAnswer.the-type) (λ e. refl) (c .match .keys2)
 
 wide-requires-2 : tie.Need-wide-requires-2
@@ -88,7 +88,7 @@ cast-t35 c = let h = count-fits (c .before .before .before .before .before .befo
 
 returns-2 : tie.Need-returns-2
 returns-2 c =
-    grow-done (growing-read (c .before .before .before .before .before .before .before .before .before .before .before .before .before .before .before .before .before .before .before .before .before .before .before .before .before .before .before .before .before .before .before .before .before .before .pre) (c .before .before .before .before .before .before .before .before .before .before .before .before .before .before .before .before .before .before .before .before .before .before .before .before .before .before .before .before .before .before .before .wide .ensures) (c .before .before .before .before .before .before .before .before .before .before .before .before .before .before .before .before .before .before .before .before .before .before .before .before .before .before .before .before .before .before .far-in .ensures) (c .before .before .before .before .before .before .before .before .before .before .before .before .before .before .before .before .before .before .before .before .before .before .before .before .before .before .before .owner-in .ensures) (c .before .before .before .before .before .before .before .before .before .before .before .before .before .before .before .before .before .before .before .before .before .before .before .subports-in .ensures)) (c .before .before .before .before .before .before .before .before .before .before .before .before .before .before .before .before .before .before .before .before .before .before .grown-in .ensures) (c .before .before .before .before .before .before .before .before .before .before .before .before .before .before .before .before .before .before .before .before .before .grown-out .ensures) refl (c .before .before .before .before .before .before .before .before .before .before .before .before .before .before .before .before .before .before .set-num-ports .ensures .0) (c .before .before .before .before .before .before .before .before .before .before .before .before .before .before .before .enum-told .given .1)
+    grow-done (growing-read (c .before .before .before .before .before .before .before .before .before .before .before .before .before .before .before .before .before .before .before .before .before .before .before .before .before .before .before .before .before .before .before .before .before .before .pre) (c .before .before .before .before .before .before .before .before .before .before .before .before .before .before .before .before .before .before .before .before .before .before .before .before .before .before .before .before .before .before .before .wide .ensures) (c .before .before .before .before .before .before .before .before .before .before .before .before .before .before .before .before .before .before .before .before .before .before .before .before .before .before .before .before .before .before .far-in .ensures) (c .before .before .before .before .before .before .before .before .before .before .before .before .before .before .before .before .before .before .before .before .before .before .before .before .before .before .before .owner-in .ensures) (c .before .before .before .before .before .before .before .before .before .before .before .before .before .before .before .before .before .before .before .before .before .before .before .subports-in .ensures)) (c .before .before .before .before .before .before .before .before .before .before .before .before .before .before .before .before .before .before .before .before .before .before .grown-incoming .ensures) (c .before .before .before .before .before .before .before .before .before .before .before .before .before .before .before .before .before .before .before .before .before .grown-outgoing .ensures) refl (c .before .before .before .before .before .before .before .before .before .before .before .before .before .before .before .before .before .before .set-num-ports .ensures .0) (c .before .before .before .before .before .before .before .before .before .before .before .before .before .before .before .enum-told .given .1)
     (c .before .before .before .before .before .before .before .before .before .before .before .wide2 .ensures) (c .before .before .before .before .before .before .before .before .before .before .far-in2 .ensures) (c .before .before .before .before .before .before .before .before .wide3 .ensures) (c .before .before .before .before .before .before .before .put-mark .ensures) (c .before .before .before .before .before .wide4 .ensures) (c .before .before .before .before .put-mark2 .ensures) (by-first (told (c .before .before .before .before .before .before .before .before .before .before .before .before .before .before .before)) (c .first-in .ensures))
 
 pub grow-spec : {M : Type 1} → statement M
@@ -99,8 +99,8 @@ grow-spec =
     far-in-requires
     owner-in-requires
     subports-in-requires
-    grown-in-requires
-    grown-out-requires
+    grown-incoming-requires
+    grown-outgoing-requires
     slice-aggregate-set-num-ports
     set-num-ports-requires
     enum-told

@@ -1,14 +1,12 @@
 -- `multiportgraph::multiportgraph::MultiPortGraph::link_both` meets its contract: both ends are prepared and linked, or the call is refused.
 use mathlib.Core.Path.{_≡_, refl, sym, _∙_}
 use mathlib.Core.Logic.{⊎-elim}
-use native.Mathlib.Omega.{arith}
 use borrow.Author.Needs.{needs}
-use Rattle.portgraph.specs.WfFacts.{link-count-fits}
 use Rattle.multiportgraph.specs.declared.named.EndNeed.the-variants as need
-use Rattle.multiportgraph.specs.NamedLaws.{prepared-by, grow-needs, split-needs, both-joined}
+use Rattle.multiportgraph.specs.NamedLaws.{prepared-by, grow-needs, split-needs}
 use Rattle.multiportgraph.specs.PrepareSteps.{lower-wf}
-use Rattle.multiportgraph.specs.Forms.{preparedAs}
-use Rattle.multiportgraph.specs.LinkSteps.{others-stay, still-wf, both-full, second-full, one-side}
+use Rattle.multiportgraph.specs.CodeForms.{preparedAs}
+use Rattle.multiportgraph.specs.LinkSteps.{others-stay, still-wf, both-full, second-full, one-side, both-linked}
 use Rattle.multiportgraph.proofs.multiportgraph.MultiPortGraph.link_both.Statement.{statement}
 use Rattle.multiportgraph.proofs.multiportgraph.MultiPortGraph.link_both.Tie as tie
 use Rattle.multiportgraph.specs.HiddenNodes.{prepare}
@@ -77,14 +75,11 @@ same-side-requires c κs = search needs
 returns : tie.Need-returns
 returns c = one-side (c .before .before .before .before .before .before .before .before .before .before .before .before .before .before .before .before .before .before .args .t1) (c .before .before .before .before .before .before .before .before .before .before .before .before .before .before .before .before .before .before .args .a) (c .before .before .before .before .before .before .before .before .before .before .before .before .before .before .before .before .before .before .args .d) (c .before .before .before .before .before .before .before .before .before .before .before .before .before .before .before .before .before .before .args .b) (c .before .before .before .before .before .before .before .before .before .before .before .before .before .before .before .before .before .before .args .e) (c .before .before .before .before .before .before .before .before .before .before .before .before .match .first) (first-is (c .before .before .before .before .before .before .before .before .before .before .before .before)) (c .before .before .before .before .before .before .before .before .before .before .before .if1 .taken) (c .before .before .before .before .match2 .second) (second-is (c .before .before .before .before)) (c .before .before .before .if2 .taken) (sym (c .before .same-side .ensures) ∙ c .if3 .taken) refl
 
-link-both-requires : tie.Need-link-both-requires
-link-both-requires c κs = search needs
-
-add-last : tie.Need-add-last
-add-last c = let h = link-count-fits _ (lower-wf (c .before .before .before .before .before .before .match2 .second .graph) (still-wf (second-stays (c .before .before .before .before .before .before .before .before .before .before .before .before)) (c .before .before .before .before .before .before .match2 .second) (second-is (c .before .before .before .before .before .before)) (c .before .before .before .before .before .if2 .taken))) in omega arith
+link-ports-requires : tie.Need-link-ports-requires
+link-ports-requires c κs = lower-wf (c .before .before .before .before .before .match2 .second .graph) (still-wf (second-stays (c .before .before .before .before .before .before .before .before .before .before .before)) (c .before .before .before .before .before .match2 .second) (second-is (c .before .before .before .before .before)) (c .before .before .before .before .if2 .taken))
 
 returns-2 : tie.Need-returns-2
-returns-2 c = both-joined (c .before .before .before .before .before .before .before .before .before .before .before .before .before .before .before .before .before .before .before .before .before .pre) (first-is (c .before .before .before .before .before .before .before .before .before .before .before .before .before .before .before)) (c .before .before .before .before .before .before .before .before .before .before .before .before .before .before .if1 .taken) (second-is (c .before .before .before .before .before .before .before)) (c .before .before .before .before .before .before .if2 .taken) (sym (c .before .before .before .before .same-side .ensures) ∙ c .before .before .before .if3 .left) (c .before .link-both .ensures)
+returns-2 c = both-linked (c .before .before .before .before .before .before .before .before .before .before .before .before .before .before .before .before .before .before .before .before .before .args .t1) (c .before .before .before .before .before .before .before .before .before .before .before .before .before .before .before .before .before .before .before .before .before .args .a) (c .before .before .before .before .before .before .before .before .before .before .before .before .before .before .before .before .before .before .before .before .before .args .d) (c .before .before .before .before .before .before .before .before .before .before .before .before .before .before .before .before .before .before .before .before .before .args .b) (c .before .before .before .before .before .before .before .before .before .before .before .before .before .before .before .before .before .before .before .before .before .args .e) (c .before .before .before .before .before .before .before .before .before .before .before .before .before .before .before .match .first) (first-is (c .before .before .before .before .before .before .before .before .before .before .before .before .before .before .before)) (c .before .before .before .before .before .before .before .before .before .before .before .before .before .before .if1 .taken) (c .before .before .before .before .before .before .before .match2 .second) (second-is (c .before .before .before .before .before .before .before)) (c .before .link-ports .result) (c .before .before .before .before .before .before .if2 .taken) (sym (c .before .before .before .before .same-side .ensures) ∙ c .before .before .before .if3 .left) (c .before .link-ports .ensures .0)
 
 returns-3 : tie.Need-returns-3
 returns-3 c = second-full (c .before .before .before .before .before .before .before .before .before .before .before .before .before .before .before .args .t1) (c .before .before .before .before .before .before .before .before .before .before .before .before .before .before .before .args .a) (c .before .before .before .before .before .before .before .before .before .before .before .before .before .before .before .args .d) (c .before .before .before .before .before .before .before .before .before .before .before .before .before .before .before .args .b) (c .before .before .before .before .before .before .before .before .before .before .before .before .before .before .before .args .e) (c .before .before .before .before .before .before .before .before .before .match .first) (first-is (c .before .before .before .before .before .before .before .before .before)) (c .before .before .before .before .before .before .before .before .if1 .taken) (c .before .match2 .second) (second-is (c .before)) (c .if2 .left) refl
@@ -110,8 +105,7 @@ link-both-spec =
     split-requires-2
     same-side-requires
     returns
-    link-both-requires
-    add-last
+    link-ports-requires
     returns-2
     returns-3
     returns-4)

@@ -1,7 +1,6 @@
 -- `multiportgraph::multiportgraph::MultiPortGraph::link_directly` meets its contract: no wire at offset 0, and one that is linked to the port.
-use native.Mathlib.Omega.{arith}
 use borrow.Author.Needs.{needs}
-use Rattle.multiportgraph.specs.TidySteps.{bare-links, direct-none, direct-one}
+use Rattle.multiportgraph.specs.TidySteps.{bare-wf, direct-none, direct-one}
 use Rattle.multiportgraph.proofs.multiportgraph.MultiPortGraph.link_directly.Statement.{statement}
 use Rattle.multiportgraph.proofs.multiportgraph.MultiPortGraph.link_directly.Tie as tie
 
@@ -20,14 +19,11 @@ drop-copy-requires c κs = search needs
 returns : tie.Need-returns
 returns c = direct-none (c .before .before .before .before .before .before .before .before .before .before .before .before .pre) (c .before .before .before .before .before .before .before .before .first-in .ensures) (c .before .before .before .before .before .at .ensures) (c .before .drop-copy .ensures) (c .if1 .taken)
 
-link-both-requires : tie.Need-link-both-requires
-link-both-requires c κs = search needs
-
-add-bare : tie.Need-add-bare
-add-bare c = let h = bare-links (c .before .before .before .before .before .before .before .before .before .before .before .before .before .before .pre) (c .before .before .before .drop-copy .ensures) in omega arith
+link-ports-requires : tie.Need-link-ports-requires
+link-ports-requires c κs = bare-wf (c .before .before .before .before .before .before .before .before .before .before .before .before .before .pre) (c .before .before .drop-copy .ensures)
 
 returns-2 : tie.Need-returns-2
-returns-2 c = direct-one (c .before .before .before .before .before .before .before .before .before .before .before .before .before .before .before .pre) (c .before .before .before .before .before .before .before .before .before .before .before .first-in .ensures) (c .before .before .before .before .before .before .before .before .at .ensures) (c .before .before .before .before .before .far-in .ensures) (c .before .before .before .before .drop-copy .ensures) (c .before .before .before .if1 .left) (c .before .link-both .ensures)
+returns-2 c = direct-one (c .before .before .before .before .before .before .before .before .before .before .before .before .before .before .before .pre) (c .before .before .before .before .before .before .before .before .before .before .before .first-in .ensures) (c .before .before .before .before .before .before .before .before .at .ensures) (c .before .before .before .before .before .far-in .ensures) (c .before .before .before .before .drop-copy .ensures) (c .before .before .before .if1 .left) (c .before .link-ports .ensures .0)
 
 pub link-directly-spec : {M : Type 1} → statement M
 link-directly-spec =
@@ -38,6 +34,5 @@ link-directly-spec =
     far-in-requires
     drop-copy-requires
     returns
-    link-both-requires
-    add-bare
+    link-ports-requires
     returns-2)

@@ -1,11 +1,10 @@
 -- `multiportgraph::multiportgraph::MultiPortGraph::link_ports` meets its contract: an input that has a wire, two ends that are ready, a refusal, and ends that have to be prepared.
 use mathlib.Core.Bool.{false}
 use mathlib.Core.Path.{_≡_, refl, sym, _∙_}
-use native.Mathlib.Omega.{arith}
 use borrow.Author.Needs.{needs}
-use Rattle.portgraph.specs.WfFacts.{link-count-fits}
 use Rattle.portgraph.specs.LookupSteps.{with-numbers}
-use Rattle.multiportgraph.specs.NamedLaws.{call-done, first-on-block, both-on-blocks, ends-joined}
+use Rattle.multiportgraph.specs.NamedLaws.{call-done, first-on-block, both-on-blocks}
+use Rattle.multiportgraph.specs.LowerSteps.{ports-joined-below}
 use Rattle.multiportgraph.specs.declared.multiportgraph.PortsLinked.{PortsLinked}
 use Rattle.portgraph.specs.Limits.{present}
 use Rattle.multiportgraph.specs.Calls.{linkPairIf, linkPair}
@@ -35,11 +34,8 @@ link-need-requires c κs = search needs
 enum-known-x : tie.Need-enum-known-x
 enum-known-x c = search needs
 
-link-both-requires : tie.Need-link-both-requires
-link-both-requires c κs = search needs
-
-add-self : tie.Need-add-self
-add-self c = let b = link-count-fits (c .before .before .before .before .before .before .before .before .before .before .before .before .before .before .before .before .before .before .args .t1 .graph) (lower-wf (c .before .before .before .before .before .before .before .before .before .before .before .before .before .before .before .before .before .before .args .t1) (c .before .before .before .before .before .before .before .before .before .before .before .before .before .before .before .before .before .before .pre)) in omega arith
+link-ports-requires : tie.Need-link-ports-requires
+link-ports-requires c κs = lower-wf (c .before .before .before .before .before .before .before .before .before .before .before .before .before .before .before .before .before .args .t1) (c .before .before .before .before .before .before .before .before .before .before .before .before .before .before .before .before .before .pre)
 
 enum-known-refusal : tie.Need-enum-known-refusal
 enum-known-refusal c = search needs
@@ -53,11 +49,11 @@ link-first-requires c κs = first-on-block (c .before .before .before .before .b
 enum-known-d-2 : tie.Need-enum-known-d-2
 enum-known-d-2 c = search needs
 
-link-both-requires-2 : tie.Need-link-both-requires-2
-link-both-requires-2 c κs = both-on-blocks (c .before .before .before .before .before .before .before .before .before .before .before .before .before .before .before .before .pre) _ _ _ _ (sym (c .before .before .before .link-need .ensures) ∙ c .before .d2 .given .1)
+link-both-requires : tie.Need-link-both-requires
+link-both-requires c κs = both-on-blocks (c .before .before .before .before .before .before .before .before .before .before .before .before .before .before .before .before .pre) _ _ _ _ (sym (c .before .before .before .link-need .ensures) ∙ c .before .d2 .given .1)
 
 returns-2 : tie.Need-returns-2
-returns-2 c = with-numbers (λ (r : PortsLinked). linkNumbers (r .answer)) (untaken (c .before .before .before .before .before .before .before .before .before .before .before .before) (call-done (c .before .before .before .before .before .before .before .before .before .before .before .before .before .before .before .before .before .before .before .pre) _ _ (c .before .before .before .before .before .before .link-need .ensures) (c .before .before .before .before .x .given .1) (ends-joined (c .before .before .before .before .before .before .before .before .before .before .before .before .before .before .before .before .before .before .before .args .t1) _ _ _ _ _ _ (c .before .link-both .ensures))))
+returns-2 c = with-numbers (λ (r : PortsLinked). linkNumbers (r .answer)) (untaken (c .before .before .before .before .before .before .before .before .before .before .before .before) (ports-joined-below (c .before .before .before .before .before .before .before .before .before .before .before .before .before .before .before .before .before .before .before .pre) _ _ (c .before .before .before .before .before .before .link-need .ensures) (c .before .before .before .before .x .given .1) (c .before .link-ports .ensures .0)))
 
 returns-3 : tie.Need-returns-3
 returns-3 c = with-numbers (λ (r : PortsLinked). linkNumbers (r .answer)) (untaken (c .before .before .before .before .before .before .before .before .before) (call-done (c .before .before .before .before .before .before .before .before .before .before .before .before .before .before .before .before .pre) _ _ (c .before .before .before .link-need .ensures) (c .before .refusal .given .1) refl))
@@ -66,7 +62,7 @@ returns-4 : tie.Need-returns-4
 returns-4 c = with-numbers (λ (r : PortsLinked). linkNumbers (r .answer)) (untaken (c .before .before .before .before .before .before .before .before .before .before) (call-done (c .before .before .before .before .before .before .before .before .before .before .before .before .before .before .before .before .before .pre) _ _ (c .before .before .before .before .link-need .ensures) (c .before .before .d .given .1) (c .link-first .ensures)))
 
 returns-5 : tie.Need-returns-5
-returns-5 c = with-numbers (λ (r : PortsLinked). linkNumbers (r .answer)) (untaken (c .before .before .before .before .before .before .before .before .before .before) (call-done (c .before .before .before .before .before .before .before .before .before .before .before .before .before .before .before .before .before .pre) _ _ (c .before .before .before .before .link-need .ensures) (c .before .before .d2 .given .1) (c .link-both2 .ensures)))
+returns-5 c = with-numbers (λ (r : PortsLinked). linkNumbers (r .answer)) (untaken (c .before .before .before .before .before .before .before .before .before .before) (call-done (c .before .before .before .before .before .before .before .before .before .before .before .before .before .before .before .before .before .pre) _ _ (c .before .before .before .before .link-need .ensures) (c .before .before .d2 .given .1) (c .link-both .ensures)))
 
 pub link-ports-spec : {M : Type 1} → statement M
 link-ports-spec =
@@ -77,13 +73,12 @@ link-ports-spec =
     returns
     link-need-requires
     enum-known-x
-    link-both-requires
-    add-self
+    link-ports-requires
     enum-known-refusal
     enum-known-d
     link-first-requires
     enum-known-d-2
-    link-both-requires-2
+    link-both-requires
     returns-2
     returns-3
     returns-4

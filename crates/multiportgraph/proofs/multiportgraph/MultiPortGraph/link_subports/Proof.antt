@@ -1,13 +1,9 @@
 -- `multiportgraph::multiportgraph::MultiPortGraph::link_subports` meets its contract: two ends that are linked, and a refusal.
-use mathlib.Core.Path.{_≡_, ap}
-use native.Mathlib.Omega.{arith}
 use borrow.Author.Needs.{needs}
-use Rattle.portgraph.specs.WfFacts.{link-count-fits}
 use Rattle.portgraph.specs.LookupSteps.{with-numbers}
-use Rattle.multiportgraph.specs.NamedLaws.{link-done, link-refused, join-made}
+use Rattle.multiportgraph.specs.NamedLaws.{link-refused}
+use Rattle.multiportgraph.specs.LowerSteps.{subs-joined-below}
 use Rattle.multiportgraph.specs.declared.multiportgraph.PortsLinked.{PortsLinked}
-use Rattle.multiportgraph.specs.declared.multiportgraph.MultiPortGraph.{MultiPortGraph}
-use Rattle.multiportgraph.specs.declared.multiportgraph.LinkAnswer.the-variants as link
 use Rattle.multiportgraph.specs.CallSteps.{lower-wf}
 use Rattle.multiportgraph.specs.InputSteps.{sub-taken, sub-untaken}
 use Rattle.multiportgraph.proofs.multiportgraph.MultiPortGraph.link_subports.Statement.{statement}
@@ -35,11 +31,8 @@ read-in-requires c κs = search needs
 read-in-requires-2 : tie.Need-read-in-requires-2
 read-in-requires-2 c κs = search needs
 
-link-both-requires : tie.Need-link-both-requires
-link-both-requires c κs = search needs
-
-add-self : tie.Need-add-self
-add-self c = let b = link-count-fits (c .before .before .before .before .before .before .before .before .before .before .before .before .before .before .before .before .before .before .before .before .before .before .before .before .before .before .args .t1 .graph) (lower-wf (c .before .before .before .before .before .before .before .before .before .before .before .before .before .before .before .before .before .before .before .before .before .before .before .before .before .before .args .t1) (c .before .before .before .before .before .before .before .before .before .before .before .before .before .before .before .before .before .before .before .before .before .before .before .before .before .before .pre)) in omega arith
+link-ports-requires : tie.Need-link-ports-requires
+link-ports-requires c κs = lower-wf (c .before .before .before .before .before .before .before .before .before .before .before .before .before .before .before .before .before .before .before .before .before .before .before .before .before .args .t1) (c .before .before .before .before .before .before .before .before .before .before .before .before .before .before .before .before .before .before .before .before .before .before .before .before .before .pre)
 
 enum-known-refusal : tie.Need-enum-known-refusal
 enum-known-refusal c = search needs
@@ -47,8 +40,8 @@ enum-known-refusal c = search needs
 returns-2 : tie.Need-returns-2
 returns-2 c =
     with-numbers (λ (r : PortsLinked). linkNumbers (r .answer))
-    (sub-untaken (c .before .before .before .before .before .before .before .before .before .before .before .before .before .before .before .before .before .before .before .before .before .before .before .before .before .before .before .pre) _ _ (c .before .before .before .before .before .before .before .before .before .before .before .before .before .before .before .before .before .before .before .input-taken .ensures) (c .before .before .before .before .before .before .before .before .before .before .before .before .before .before .before .before .before .before .if1 .left) _ _ (link-done (c .before .before .before .before .before .before .before .before .before .before .before .before .before .before .before .before .before .before .before .before .before .before .before .before .before .before .before .pre) _ _ _ _ (c .before .before .before .before .before .before .before .before .before .before .before .before .link-named .ensures) (c .before .before .before .before .before .before .before .before .before .before .x .given .1) (c .before .before .before .before .before .before .read-in .ensures) (c .before .before .before .read-in2 .ensures)
-    (ap (λ (g : MultiPortGraph). record { graph = g; answer = link.Linked (c .before .before .before .before .before .before .read-in .result) (c .before .before .before .read-in2 .result) }) (join-made (c .before .before .before .before .before .before .before .before .before .before .before .before .before .before .before .before .before .before .before .before .before .before .before .before .before .before .before .args .t1) _ _ (c .before .link-both .ensures)))))
+    (sub-untaken (c .before .before .before .before .before .before .before .before .before .before .before .before .before .before .before .before .before .before .before .before .before .before .before .before .before .before .before .pre) _ _ (c .before .before .before .before .before .before .before .before .before .before .before .before .before .before .before .before .before .before .before .input-taken .ensures) (c .before .before .before .before .before .before .before .before .before .before .before .before .before .before .before .before .before .before .if1 .left) _ _
+    (subs-joined-below (c .before .before .before .before .before .before .before .before .before .before .before .before .before .before .before .before .before .before .before .before .before .before .before .before .before .before .before .pre) _ _ _ _ (c .before .before .before .before .before .before .before .before .before .before .before .before .link-named .ensures) (c .before .before .before .before .before .before .before .before .before .before .x .given .1) (c .before .before .before .before .before .before .read-in .ensures) (c .before .before .before .read-in2 .ensures) (c .before .link-ports .ensures .0)))
 
 returns-3 : tie.Need-returns-3
 returns-3 c = with-numbers (λ (r : PortsLinked). linkNumbers (r .answer)) (sub-untaken (c .before .before .before .before .before .before .before .before .before .before .before .before .before .before .before .before .before .before .pre) _ _ (c .before .before .before .before .before .before .before .before .before .before .input-taken .ensures) (c .before .before .before .before .before .before .before .before .before .if1 .left) _ _ (link-refused (c .before .before .before .before .before .before .before .before .before .before .before .before .before .before .before .before .before .before .pre) _ _ _ _ _ (c .before .before .before .link-named .ensures) (c .before .refusal .given .1)))
@@ -64,8 +57,7 @@ link-subports-spec =
     enum-known-x
     read-in-requires
     read-in-requires-2
-    link-both-requires
-    add-self
+    link-ports-requires
     enum-known-refusal
     returns-2
     returns-3)

@@ -2,7 +2,7 @@
 use mathlib.Core.Path.{sym, subst}
 use lib.ListN.{length}
 use borrow.Author.Needs.{needs}
-use Rattle.multiportgraph.specs.Inner.{MultiWf}
+use Rattle.multiportgraph.specs.WellFormed.{MultiWf}
 use Rattle.multiportgraph.specs.Wires.{blocks}
 use Rattle.multiportgraph.specs.Listed.{blocksListed}
 use Rattle.multiportgraph.specs.LentGraph.{lent-is}
@@ -13,17 +13,26 @@ use Rattle.multiportgraph.proofs.multiportgraph.MultiPortGraph.list_blo
 }
 use Rattle.multiportgraph.proofs.multiportgraph.MultiPortGraph.list_blocks.Tie as tie
 
+node-slots-requires : tie.Need-node-slots-requires
+node-slots-requires c κs = search needs
+
 put-slots-requires : tie.Need-put-slots-requires
 put-slots-requires c κs = search needs
 
-blocks-in-requires : tie.Need-blocks-in-requires
-blocks-in-requires c κs = subst (λ (m : MultiPortGraph). MultiWf m) (sym (lent-is (c .before .before .before .before .before .before .before .before .before .before .before .before .before .args .t1) _ (c .before .before .before .before .before .before .before .before .put-slots .ensures))) (c .before .before .before .before .before .before .before .before .before .before .before .before .before .pre)
+free-heads-requires : tie.Need-free-heads-requires
+free-heads-requires c κs = search needs
+
+counts-requires : tie.Need-counts-requires
+counts-requires c κs = search needs
+
+blocks-lent-requires : tie.Need-blocks-lent-requires
+blocks-lent-requires c κs = subst (λ (m : MultiPortGraph). MultiWf m) (sym (lent-is (c .before .before .before .before .before .before .before .before .before .before .before .before .before .before .before .args .t1) _ (c .before .before .before .before .before .before .before .before .before .before .put-slots .ensures .0) (c .before .before .before .before .before .before .before .before .before .before .before .before .node-slots .ensures) (c .before .before .before .before .before .before .before .before .before .free-heads .ensures) (c .before .before .before .before .before .before .before .before .counts .ensures))) (c .before .before .before .before .before .before .before .before .before .before .before .before .before .before .before .pre)
 
 same-length : tie.Need-same-length
 same-length c = search needs
 
 returns : tie.Need-returns
-returns c = listed-as (λ m. length (blocks m)) blocksListed (c .before .before .before .before .before .before .before .before .before .before .before .before .before .before .before .before .args .list .now) (lent-is (c .before .before .before .before .before .before .before .before .before .before .before .before .before .before .before .before .args .t1) _ (c .before .before .before .before .before .before .before .before .before .before .before .put-slots .ensures)) (c .before .before .blocks-in .ensures)
+returns c = listed-as (λ m. length (blocks m)) blocksListed (c .before .before .before .before .before .before .before .before .before .before .before .before .before .before .before .before .before .before .args .list .now) (lent-is (c .before .before .before .before .before .before .before .before .before .before .before .before .before .before .before .before .before .before .args .t1) _ (c .before .before .before .before .before .before .before .before .before .before .before .before .before .put-slots .ensures .0) (c .before .before .before .before .before .before .before .before .before .before .before .before .before .before .before .node-slots .ensures) (c .before .before .before .before .before .before .before .before .before .before .before .before .free-heads .ensures) (c .before .before .before .before .before .before .before .before .before .before .before .counts .ensures)) (c .before .before .blocks-lent .ensures)
 
 pub list-blocks-spec : {M : Type 1} → statement M
-list-blocks-spec = tie.close (tie.spec put-slots-requires blocks-in-requires same-length returns)
+list-blocks-spec = tie.close (tie.spec node-slots-requires put-slots-requires free-heads-requires counts-requires blocks-lent-requires same-length returns)

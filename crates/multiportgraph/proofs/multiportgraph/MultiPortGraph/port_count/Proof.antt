@@ -6,6 +6,9 @@ use Rattle.multiportgraph.specs.Calls.{visiblePorts}
 use Rattle.multiportgraph.proofs.multiportgraph.MultiPortGraph.port_count.Statement.{statement}
 use Rattle.multiportgraph.proofs.multiportgraph.MultiPortGraph.port_count.Tie as tie
 
+port-count-requires : tie.Need-port-count-requires
+port-count-requires c κs = search needs
+
 less-requires : tie.Need-less-requires
 less-requires c κs = search needs
 
@@ -14,7 +17,7 @@ less-requires-2 c κs = search needs
 
 returns : tie.Need-returns
 unfolding visiblePorts
-returns c = c .less2 .ensures ∙ ap (λ x. x - c .before .before .args .self .«copy_node_count») (c .before .less .ensures)
+returns c = c .less2 .ensures ∙ ap (λ x. x - c .before .before .before .before .args .self .«copy_node_count») (c .before .less .ensures ∙ ap (λ x. x - c .before .before .before .before .args .self .«subport_count») (c .before .before .port-count .ensures))
 
 pub port-count-spec : {M : Type 1} → statement M
-port-count-spec = tie.close (tie.spec less-requires less-requires-2 returns)
+port-count-spec = tie.close (tie.spec port-count-requires less-requires less-requires-2 returns)

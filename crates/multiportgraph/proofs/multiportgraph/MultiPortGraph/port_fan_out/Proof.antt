@@ -3,11 +3,11 @@ use mathlib.Core.Path.{_≡_, sym, ap, _∙_}
 use borrow.Author.Needs.{needs}
 use Rattle.portgraph.specs.LookupSteps.{with-numbers}
 use Rattle.multiportgraph.specs.Reading.{seen, dead, hidden}
-use Rattle.multiportgraph.specs.Forms.{seenAs}
+use Rattle.multiportgraph.specs.CodeForms.{seenAs}
 use Rattle.multiportgraph.specs.Lookups.{countNumbers}
 use Rattle.multiportgraph.specs.CallSteps.{was-dead, was-hidden, was-visible}
 use Rattle.multiportgraph.specs.LookupSteps.{fan-out-at}
-use Rattle.multiportgraph.specs.ReadLaws.{seen-read}
+use Rattle.multiportgraph.specs.TableReadLaws.{seen-read}
 use Rattle.multiportgraph.specs.FanOutSteps.{fan-out-at-port}
 use Rattle.multiportgraph.proofs.multiportgraph.MultiPortGraph.port_fan_out.Statement.{statement}
 use Rattle.multiportgraph.proofs.multiportgraph.MultiPortGraph.port_fan_out.Tie as tie

@@ -3,7 +3,7 @@ use mathlib.Core.Path.{_≡_, sym, ap, _∙_}
 use borrow.Author.Needs.{needs}
 use Rattle.portgraph.specs.LookupSteps.{with-numbers}
 use Rattle.multiportgraph.specs.Reading.{seen, dead, hidden}
-use Rattle.multiportgraph.specs.Forms.{seenAs}
+use Rattle.multiportgraph.specs.CodeForms.{seenAs}
 use Rattle.multiportgraph.specs.Lookups.{nodeNumbers}
 use Rattle.multiportgraph.specs.CallSteps.{was-dead, was-hidden, was-visible}
 use Rattle.multiportgraph.specs.LookupSteps.{node-at}

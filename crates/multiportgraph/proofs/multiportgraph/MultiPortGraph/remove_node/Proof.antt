@@ -5,7 +5,7 @@ use borrow.Author.Needs.{needs}
 use Rattle.portgraph.specs.Lookups.{metaAt}
 use Rattle.portgraph.specs.declared.node_entry.MaybeNodeMeta.the-variants as maybe-meta
 use Rattle.multiportgraph.specs.Reading.{isHidden}
-use Rattle.multiportgraph.specs.FormSteps.{hidden-told}
+use Rattle.multiportgraph.specs.CodeFormSteps.{hidden-told}
 use Rattle.multiportgraph.specs.BlockSteps.{range-in, wf-range-is, remove-unknown, remove-hidden, remove-removed}
 use Rattle.multiportgraph.proofs.multiportgraph.MultiPortGraph.remove_node.Statement.{statement}
 use Rattle.multiportgraph.proofs.multiportgraph.MultiPortGraph.remove_node.Tie as tie

@@ -9,7 +9,7 @@ use Rattle.portgraph.specs.Lookups.{metaAt}
 use Rattle.portgraph.specs.declared.node_entry.MaybeNodeMeta.the-variants as maybe-meta
 use Rattle.portgraph.specs.declared.resize.SetAnswer.the-variants as lower
 use Rattle.multiportgraph.specs.Reading.{isHidden}
-use Rattle.multiportgraph.specs.FormSteps.{hidden-told}
+use Rattle.multiportgraph.specs.CodeFormSteps.{hidden-told}
 use Rattle.multiportgraph.specs.BlockSteps.{block-in, both-wf, listed-fits, loose-removed, set-too-many, set-unknown, set-hidden, set-answered}
 use Rattle.multiportgraph.proofs.multiportgraph.MultiPortGraph.set_num_ports.Statement.{statement}
 use Rattle.multiportgraph.proofs.multiportgraph.MultiPortGraph.set_num_ports.Tie as tie

@@ -9,7 +9,7 @@ use Rattle.multiportgraph.specs.NamedLaws.{seen-as}
 use Rattle.multiportgraph.specs.Reading.{dead, hidden, visible, seen, isSplit}
 use Rattle.multiportgraph.specs.LinkSteps.{on-block}
 use Rattle.multiportgraph.specs.declared.multiportgraph.PortTidied.{PortTidied}
-use Rattle.multiportgraph.specs.FormSteps.{split-told}
+use Rattle.multiportgraph.specs.CodeFormSteps.{split-told}
 use Rattle.multiportgraph.specs.CallSteps.{was-dead, was-hidden, was-visible}
 use Rattle.multiportgraph.specs.Answers.{tidyNumbers}
 use Rattle.multiportgraph.specs.Presumed.{OnBlock, SplitPort}

@@ -2,12 +2,13 @@
 use mathlib.Core.Path.{_≡_, refl, sym, _∙_}
 use borrow.Author.Needs.{needs}
 use Rattle.portgraph.specs.LookupSteps.{with-numbers}
-use Rattle.multiportgraph.specs.NamedLaws.{seen-as, port-cut}
+use Rattle.multiportgraph.specs.NamedLaws.{seen-as}
+use Rattle.multiportgraph.specs.LowerSteps.{port-cut-below}
 use Rattle.multiportgraph.specs.Reading.{dead, hidden, visible, seen, isSplit}
-use Rattle.multiportgraph.specs.ReadLaws.{place-read}
+use Rattle.multiportgraph.specs.TableReadLaws.{place-read}
 use Rattle.multiportgraph.specs.LinkSteps.{on-block}
 use Rattle.multiportgraph.specs.declared.multiportgraph.PortUnlinked.{PortUnlinked}
-use Rattle.multiportgraph.specs.FormSteps.{split-told}
+use Rattle.multiportgraph.specs.CodeFormSteps.{split-told}
 use Rattle.multiportgraph.specs.CallSteps.{was-dead, was-hidden, was-visible, cut-port-seen, cut-port-split}
 use Rattle.multiportgraph.proofs.multiportgraph.MultiPortGraph.unlink_port.Statement.{statement}
 use Rattle.multiportgraph.proofs.multiportgraph.MultiPortGraph.unlink_port.Tie as tie
@@ -56,14 +57,8 @@ returns c = with-numbers (λ (r : PortUnlinked). cutNumbers (r .answer)) (cut-po
 plain-in-requires : tie.Need-plain-in-requires
 plain-in-requires c κs = search needs
 
-wide-requires-2 : tie.Need-wide-requires-2
-wide-requires-2 c κs = search needs
-
-cut-requires : tie.Need-cut-requires
-cut-requires c κs = search needs
-
-without-link-requires : tie.Need-without-link-requires
-without-link-requires c κs = search needs
+unlink-port-requires : tie.Need-unlink-port-requires
+unlink-port-requires c κs = search needs
 
 returns-2 : tie.Need-returns-2
 returns-2 c = with-numbers (λ (r : PortUnlinked). cutNumbers (r .answer)) (cut-port-seen (c .before .before .before .before .before .before .args .t1) _ dead (was-dead _ (sym (seen-as (c .before .before .before .before .before .before .pre) _ (c .before .before .seen-in .ensures)) ∙ c .enum-told .given .1)))
@@ -72,7 +67,7 @@ returns-3 : tie.Need-returns-3
 returns-3 c = with-numbers (λ (r : PortUnlinked). cutNumbers (r .answer)) (cut-port-seen (c .before .before .before .before .before .before .args .t1) _ hidden (was-hidden _ (sym (seen-as (c .before .before .before .before .before .before .pre) _ (c .before .before .seen-in .ensures)) ∙ c .enum-told2 .given .1)))
 
 returns-4 : tie.Need-returns-4
-returns-4 c = with-numbers (λ (r : PortUnlinked). cutNumbers (r .answer)) (port-cut (on-block-here (c .before .before .before .before .before .before .before .before .before .before .before .before .before .before .before .before)) (split-is (c .before .before .before .before .before .before .before .before .before .before .before) ∙ c .before .before .before .before .before .before .before .before .before .before .if1 .left) (c .before .before .before .wide2 .ensures) (c .before .before .cut .ensures .0) (c .before .before .cut .ensures .1) (c .before .without-link .ensures) (c .before .before .before .before .before .plain-in .ensures))
+returns-4 c = with-numbers (λ (r : PortUnlinked). cutNumbers (r .answer)) (port-cut-below (c .before .before .before .before .before .before .before .before .before .before .before .before .before .before .before .before .before .before .before .before .pre) (on-block-here (c .before .before .before .before .before .before .before .before .before .before .before .before .before .before)) (split-is (c .before .before .before .before .before .before .before .before .before) ∙ c .before .before .before .before .before .before .before .before .if1 .left) (c .before .unlink-port .ensures .0) (c .before .before .before .plain-in .ensures))
 
 pub unlink-port-spec : {M : Type 1} → statement M
 unlink-port-spec =
@@ -88,9 +83,7 @@ unlink-port-spec =
     drop-copy-requires
     returns
     plain-in-requires
-    wide-requires-2
-    cut-requires
-    without-link-requires
+    unlink-port-requires
     returns-2
     returns-3
     returns-4)

@@ -10,8 +10,7 @@ trap 'rm -rf "$work"' EXIT
 made() { # FOLDER, WORDS of rt: what it says is shown only if it fails
   (cd "$1" && rt "${@:2}") >"$work/log" 2>&1 || { tail -n 20 "$work/log"; echo "rt ${*:2} failed"; exit 1; }
 }
-[ -n "${KANHTREV_RECORDS:-}" ] || made .. staticlib records
-[ -n "${KANHTREV_EXPORTS:-}" ] || made .. staticlib exports
+bash library.sh
 if [ -z "${KANHTREV_WALKS:-}" ]; then
   made .. check records timing
   mkdir -p "$work/copy/target"

@@ -1,7 +1,8 @@
 /* How much stack the entries take: each runs on a thread whose stack is painted beforehand, and how much of it was written is
-   printed, the thread's own part included. The run has 20,000 random calls, the file as many blocks and wires as there is room for.
+   printed, the thread's own part included. The run has 20,000 random calls, the file and the view as many blocks and wires as there is room for.
 
-   cc -O1 host/differential/stack.c target/staticlib/librecords.a target/staticlib/libexports.a -lpthread -o target/stack && target/stack */
+   cc -O1 -Ihost/include host/differential/stack.c target/staticlib/libkanhtrev.a -lpthread -o target/stack && target/stack */
+#include <kanhtrev.h>
 #include <pthread.h>
 #include <stdint.h>
 #include <stdio.h>
@@ -9,16 +10,13 @@
 #include <string.h>
 #include <sys/mman.h>
 
-uint32_t run_records(const uint8_t *, size_t, uint8_t *, size_t);
-uint64_t save_records(const uint8_t *, size_t, uint8_t *, size_t);
-uint64_t records_of_file(const uint8_t *, size_t, uint8_t *, size_t);
-uint64_t merge_files(const uint8_t *, size_t, const uint8_t *, size_t, uint8_t *, size_t);
-
 enum { CALLS = 20000, WORDS = 5, STACK = 1 << 20, PAINT = 0xA5, BLOCKS = 1000, LINKS = BLOCKS - 1, FILE_BYTES = 65536 };
 
 static uint32_t requests[CALLS * WORDS], answers[CALLS * WORDS], ring[(BLOCKS + LINKS) * WORDS], loaded[CALLS * WORDS];
-static uint8_t file[FILE_BYTES], merged[FILE_BYTES];
-static uint64_t file_bytes, loaded_bytes, merged_bytes;
+static uint8_t file[FILE_BYTES], merged[FILE_BYTES], view[KANHTREV_LONGEST_VIEW];
+static uint16_t times[KANHTREV_SLOTS];
+static uint32_t path[KANHTREV_SLOTS];
+static uint64_t file_bytes, loaded_bytes, merged_bytes, view_bytes, sum, path_blocks;
 
 static void draw(uint32_t *request) {
     static const uint32_t below[10][5] = {
@@ -41,6 +39,11 @@ static void *save(void *unused) {
     return unused;
 }
 
+static void *look(void *unused) {
+    view_bytes = view_of_records((uint8_t *)ring, sizeof ring, view, sizeof view);
+    return unused;
+}
+
 static void *load(void *unused) {
     loaded_bytes = records_of_file(file, file_bytes, (uint8_t *)loaded, sizeof loaded);
     return unused;
@@ -48,6 +51,16 @@ static void *load(void *unused) {
 
 static void *merge(void *unused) {
     merged_bytes = merge_files(file, file_bytes, file, 0, merged, sizeof merged);
+    return unused;
+}
+
+static void *longest(void *unused) {
+    sum = longest_of_records((uint8_t *)ring, sizeof ring, times, KANHTREV_SLOTS, BLOCKS - 1);
+    return unused;
+}
+
+static void *follow(void *unused) {
+    path_blocks = path_of_records((uint8_t *)ring, sizeof ring, times, KANHTREV_SLOTS, BLOCKS - 1, path, KANHTREV_SLOTS);
     return unused;
 }
 
@@ -87,4 +100,12 @@ int main(void) {
     printf("records_of_file: %llu requests, %zu bytes of stack\n", (unsigned long long)(loaded_bytes / 20), bytes);
     bytes = taken(merge);
     printf("merge_files: a file of %llu bytes, %zu bytes of stack\n", (unsigned long long)merged_bytes, bytes);
+    bytes = taken(look);
+    printf("view_of_records: a view of %llu bytes, %zu bytes of stack\n", (unsigned long long)view_bytes, bytes);
+    for (int slot = 0; slot < KANHTREV_SLOTS; slot++)
+        times[slot] = 65535;
+    bytes = taken(longest);
+    printf("longest_of_records: a sum of %llu, %zu bytes of stack\n", (unsigned long long)sum, bytes);
+    bytes = taken(follow);
+    printf("path_of_records: a path of %llu blocks, %zu bytes of stack\n", (unsigned long long)path_blocks, bytes);
 }

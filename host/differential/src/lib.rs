@@ -6,9 +6,10 @@
 //! - [`console`]: listings, move lists and saved files, through the program `wiring`.
 //! - [`files`]: a second writer and a reader of saved files, from document 02's words.
 //! - [`saves`]: files that lists are saved as, beside that writer.
+//! - [`views`]: what a page is drawn from, beside the original's listings.
 //! - [`loads`], [`broken`]: files that are loaded, whole and damaged, beside that reader and the original.
 //! - [`merges`]: two files as one, beside a merge from document 02's words over that reader, that writer and the original.
-//! - [`timing`]: times along wires, through the program `wiring`.
+//! - [`timing`]: times along wires, through the program `wiring` and by records.
 //! - [`spoil`]: wrong answers put in by hand, to show that they are caught.
 //! - [`lists`], [`plain`], [`plain_files`]: lists that the original answers itself, the original without the driver, and a plain
 //!   writer and reader of files over it, for the benchmark.
@@ -33,4 +34,5 @@ pub mod saves;
 pub mod spoil;
 pub mod tally;
 pub mod timing;
+pub mod views;
 pub mod walks;

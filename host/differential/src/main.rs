@@ -8,7 +8,6 @@ use std::process::ExitCode;
 use differential::compare::{run_records, Entry, Writes};
 use differential::console::{Command, Console};
 use differential::loads::{records_of_file, Entries};
-use differential::merges::merge_files;
 use differential::runs::Plan;
 use differential::saves::save_records;
 use differential::spoil::{spoiled, spoiled_console, spoiled_load, spoiled_save, KINDS};
@@ -76,10 +75,26 @@ fn run(options: &Options, total: &mut Tally) -> Result<(), String> {
     total.add(&loaded);
     lines.iter().for_each(|line| println!("{line}"));
     println!("{loaded}");
-    let (lines, merged) = runs::merges(&merge_files, &options.plan)?;
-    total.add(&merged);
-    lines.iter().for_each(|line| println!("{line}"));
-    println!("{merged}");
+    #[cfg(not(feature = "former"))]
+    {
+        let (lines, merged) = runs::merges(&differential::merges::merge_files, &options.plan)?;
+        total.add(&merged);
+        lines.iter().for_each(|line| println!("{line}"));
+        println!("{merged}");
+        let (lines, views) = runs::views(&differential::views::view_of_records, &options.plan)?;
+        total.add(&views);
+        lines.iter().for_each(|line| println!("{line}"));
+        println!("{views}");
+        let mut timed = Tally::default();
+        timing::run(&timing::by_entries, false, options.plan.timed_seeds(), &mut timed)?;
+        let small = timing::run_small(&timing::by_entries, false, &mut timed)?;
+        println!(
+            "times along wires, by records: {} random wirings and all {small} of three blocks",
+            options.plan.timed
+        );
+        println!("{timed}");
+        total.add(&timed);
+    }
     if let Some(program) = wiring {
         let mut scripts = Tally::default();
         let seeds = options.plan.script_seeds();
@@ -97,8 +112,8 @@ fn run(options: &Options, total: &mut Tally) -> Result<(), String> {
             options.plan.entries
         );
         let timed: &timing::Answers = &|script| timing::written(&program, script);
-        timing::run(timed, options.plan.timed_seeds(), &mut scripts)?;
-        let small = timing::run_small(timed, &mut scripts)?;
+        timing::run(timed, true, options.plan.timed_seeds(), &mut scripts)?;
+        let small = timing::run_small(timed, true, &mut scripts)?;
         if let Some(kind) = timing::TIMED.into_iter().find(|kind| !scripts.lists(kind)) {
             return Err(format!("no question came up: {kind}"));
         }
@@ -135,7 +150,8 @@ fn main() -> ExitCode {
     }
     let (compared, expected, listings, files) = (total.compared(), total.expected(), total.listings(), total.files());
     println!("{compared} calls compared with the Rust, {expected} expected by 01");
-    println!("{listings} listings compared, {files} files saved, loaded or merged");
-    println!("{} passed, {failed} failed", compared + expected + listings + files);
+    let views = total.views();
+    println!("{listings} listings compared, {files} files saved, loaded or merged, {views} views");
+    println!("{} passed, {failed} failed", compared + expected + listings + files + views);
     ExitCode::from(u8::from(failed > 0))
 }

@@ -39,7 +39,7 @@ const REFUSED: [(usize, u32, &str); 9] = [
 /// The kinds of merges that a whole run must bring up.
 pub fn kinds() -> impl Iterator<Item = &'static str> {
     let results = [MERGED, SHORT, NOTHING, GROUPED, UNGROUPED, TWO_REFUSED];
-    results.into_iter().chain(REFUSED.map(|(_, _, name)| name))
+    results.into_iter().chain(REFUSED.map(|(_, _, name)| name)).filter(|_| !cfg!(feature = "former"))
 }
 
 /// The number by which loading a wiring for release 1 is refused.

@@ -9,7 +9,7 @@ use crate::history::History;
 use crate::loads::Entries;
 use crate::merges::Merges;
 use crate::tally::Tally;
-use crate::{damage, exhaustive, loads, merges, saves};
+use crate::{damage, exhaustive, loads, merges, saves, views};
 
 /// How much is run.
 #[derive(Clone, Copy, Debug)]
@@ -43,6 +43,8 @@ pub struct Plan {
     /// Pairs of files that are merged, and three files in both groupings.
     pub pairs: u64,
     pub triples: u64,
+    /// So many views of random lists are compared, or more.
+    pub views: u64,
 }
 
 impl Plan {
@@ -65,6 +67,7 @@ impl Plan {
         damaged: 1_000_000,
         pairs: 60_000,
         triples: 15_000,
+        views: 200_000,
     };
     /// A run of seconds.
     pub const SHORT: Plan = Plan {
@@ -85,6 +88,7 @@ impl Plan {
         damaged: 20_000,
         pairs: 2_000,
         triples: 400,
+        views: 2_000,
     };
 
     /// The seeds of the altered lists, and of the scripts.
@@ -168,6 +172,19 @@ pub fn merges(merge: &Merges, plan: &Plan) -> Result<(Vec<String>, Tally), Strin
         merges::limits(merge, &mut tally)?,
         merges::pairs(merge, plan.seed, plan.pairs, &mut tally)?,
         merges::triples(merge, plan.seed, plan.triples, &mut tally)?,
+    ];
+    Ok((lines, tally))
+}
+
+/// Views by records: of random lists, of sizes up to full wirings, of lists with altered bytes, and by buffers and lists of every
+/// length. Gives what was run, and the tally.
+pub fn views(view: &Writes, plan: &Plan) -> Result<(Vec<String>, Tally), String> {
+    let mut tally = Tally::default();
+    let lines = vec![
+        views::lengths(view, plan.lengths, &mut tally)?,
+        views::sizes(view, plan.seed..plan.seed + plan.full, &mut tally)?,
+        views::altered(view, plan.altered_seeds(), &mut tally)?,
+        views::random(view, plan.seed, plan.views, &mut tally)?,
     ];
     Ok((lines, tally))
 }

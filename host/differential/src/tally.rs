@@ -7,7 +7,7 @@ use driver::Release;
 
 use crate::console::{LOADS, SHEETS};
 use crate::history::{By, Step, LINK_CLEAN};
-use crate::{loads, merges, saves};
+use crate::{loads, merges, saves, views};
 
 /// The calls by code; 0 stands for unknown codes.
 pub const CALLS: [&str; LINK_CLEAN + 1] = [
@@ -41,6 +41,9 @@ pub struct Tally {
     /// Pairs of files merged, and merges refused, with the buffer untouched.
     pub merged: u64,
     pub merges_refused: u64,
+    /// Views written by records, and views refused, with the buffer untouched.
+    pub viewed: u64,
+    pub views_refused: u64,
     /// Lists refused as a whole (refusal 1).
     pub lists_refused: u64,
     /// Items of listings and move lists, in the console's answers.
@@ -101,7 +104,16 @@ impl Tally {
         }
     }
 
-    /// Counts a kind that a file has besides.
+    /// Counts a view, or a refused one, by its kind.
+    pub fn view(&mut self, kind: &'static str, viewed: bool) {
+        self.file(kind);
+        match viewed {
+            true => self.viewed += 1,
+            false => self.views_refused += 1,
+        }
+    }
+
+    /// Counts a kind that a file or a view has besides.
     pub fn file(&mut self, kind: &'static str) {
         *self.files.entry(kind).or_default() += 1;
     }
@@ -117,6 +129,8 @@ impl Tally {
         self.loads_refused += other.loads_refused;
         self.merged += other.merged;
         self.merges_refused += other.merges_refused;
+        self.viewed += other.viewed;
+        self.views_refused += other.views_refused;
         self.lists_refused += other.lists_refused;
         self.items += other.items;
         self.two_by_rust += other.two_by_rust;
@@ -136,6 +150,11 @@ impl Tally {
     /// Listings of the console, and its lines that are no commands.
     pub fn listings(&self) -> u64 {
         self.listings.values().sum()
+    }
+
+    /// Views by records, the refused ones included.
+    pub fn views(&self) -> u64 {
+        self.viewed + self.views_refused
     }
 
     /// Files saved by records, loaded as records and merged, the refused ones included.
@@ -212,14 +231,14 @@ impl Tally {
         let clean = clean.into_iter().map(|(by, refusal)| (by, LINK_CLEAN, refusal));
         let taken = [4, 6, LINK_CLEAN].into_iter().map(|call| (By::Added, call, 18));
         let clean = clean.chain(taken).filter(|_| console);
-        let kinds = SHEETS.into_iter().chain(LOADS).filter(|_| self.listings() > 0);
+        let kinds = SHEETS.into_iter().chain(LOADS).filter(|_| console);
         let sheets = kinds.filter(|kind| !self.listings.contains_key(kind)).map(str::to_string);
         let all = given.into_iter().map(|(code, refusal)| (By::Rust, code, refusal));
         let all = all.chain(added.into_iter().map(|(code, refusal)| (By::Added, code, refusal)));
         let all = all.chain(reasons).chain(clean);
         let calls = all.filter(|key| !self.calls.contains_key(key)).map(|key| format!("{key:?}"));
         let notes = notes.into_iter().filter(|note| !self.notes.contains_key(note)).map(str::to_string);
-        let files = saves::kinds().chain(loads::kinds()).chain(merges::kinds());
+        let files = saves::kinds().chain(loads::kinds()).chain(merges::kinds()).chain(views::kinds());
         let files = files.filter(|kind| !self.files.contains_key(kind)).map(str::to_string);
         calls.chain(notes).chain(sheets).chain(files).collect()
     }
@@ -271,6 +290,9 @@ impl fmt::Display for Tally {
         }
         if self.merged > 0 {
             writeln!(f, "files merged: {} pairs, and {} merges refused", self.merged, self.merges_refused)?;
+        }
+        if self.viewed > 0 {
+            writeln!(f, "views: {}, and {} refused", self.viewed, self.views_refused)?;
         }
         for (kind, count) in &self.files {
             writeln!(f, "  {kind:45} {count:9}")?;

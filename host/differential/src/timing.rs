@@ -1,13 +1,15 @@
 //! Times along wires: scripts of `time`, `longest`, `path` and `runorder` for the program `wiring`, and what it must write, by document
-//! 02's words over the original's blocks and wires.
+//! 02's words over the original's blocks and wires. The same scripts go to the entries `longest_of_records` and `path_of_records`.
 
 use std::collections::{BTreeMap, BTreeSet};
 use std::ops::Range;
 use std::path::Path;
 
-use driver::{Asked, Call, Oracle, Random, Shape, Sides, NODE_SLOTS};
+use driver::{to_bytes, Asked, Call, Oracle, Random, Shape, Sides, NODE_SLOTS};
+use kanhtrev::{longest_of, path_of, Node, Refusal, SLOTS};
 
 use crate::console::{typed, Block};
+use crate::history::Record;
 use crate::tally::Tally;
 
 /// What is asked of times; the tally counts by these names.
@@ -185,6 +187,7 @@ impl Question {
 /// Lines that make a wiring, and questions of it. How many answers come before those is known: one a line.
 pub struct Script {
     lines: Vec<String>,
+    records: Vec<Record>,
     oracle: Oracle,
     wiring: Wiring,
     questions: Vec<Question>,
@@ -198,6 +201,54 @@ pub fn written(program: &Path, script: &Script) -> Result<Vec<Block>, String> {
     let mut lines = script.lines.clone();
     lines.extend(script.questions.iter().map(Question::line));
     typed(program, None, lines.join("\n") + "\n")
+}
+
+/// The entries as answers, written as the program writes them. A list for the path is as long as the path, longer and one short, and what is
+/// no part of the path must keep its contents.
+pub fn by_entries(script: &Script) -> Result<Vec<Block>, String> {
+    const UNTOUCHED: u32 = 0xA5A5_A5A5;
+    let (requests, times) = (to_bytes(&script.records), &script.wiring.times);
+    let sum = |block: u32| longest_of(&requests, times, Node(block));
+    let path = |block: u32, room: usize| {
+        let mut list = vec![UNTOUCHED; room];
+        let blocks = path_of(&requests, times, Node(block), &mut list);
+        let kept = list.split_off(*blocks.as_ref().unwrap_or(&0));
+        let clean = kept.iter().all(|number| *number == UNTOUCHED);
+        clean.then_some(blocks.map(|_| list)).ok_or(format!("the path to {block} is not all that was written"))
+    };
+    let last = |block: u32| {
+        sum(block).map_or_else(|refusal| format!("refused {}", refusal.number()), |sum| format!("ok {sum}"))
+    };
+    let mut blocks: Vec<Block> = script.lines.iter().map(|_| vec!["ok".into()]).collect();
+    for question in &script.questions {
+        blocks.push(match question {
+            Question::Longest(block) => vec![last(*block)],
+            Question::Path(block) => {
+                let found = path(*block, SLOTS)?;
+                let length = found.as_ref().map_or(0, Vec::len);
+                if path(*block, length)? != found {
+                    return Err(format!("another path to {block} in a list as long as it"));
+                }
+                if length > 0 && path(*block, length - 1)? != Err(Refusal::BufferShort) {
+                    return Err(format!("a path to {block} in a list that is too short"));
+                }
+                let mut lines: Block =
+                    found.iter().flatten().map(|node| format!("  {node} {}", script.wiring.time(*node))).collect();
+                lines.push(match (&found, sum(*block)) {
+                    (Ok(_), Ok(_)) | (Err(_), Err(_)) => last(*block),
+                    _ => return Err(format!("a path to {block} without a sum, or a sum without a path")),
+                });
+                lines
+            }
+            Question::RunOrder(_) => return Err("there is no entry for run orders".into()),
+        });
+    }
+    let odd = requests.get(1..).unwrap_or(&[0]);
+    match (longest_of(odd, times, Node(0)), sum(0), longest_of(&requests, &times[1..], Node(0))) {
+        (Err(Refusal::Length), Ok(_) | Err(Refusal::Cycle), Err(Refusal::TimesLength)) => Ok(blocks),
+        (Err(Refusal::Length), Err(refused), Err(same)) if refused == same => Ok(blocks),
+        other => Err(format!("a list that is not whole, or of 1,023 times: {other:?}")),
+    }
 }
 
 fn sum_line(script: &Script, block: u32) -> Result<u64, String> {
@@ -214,10 +265,12 @@ pub fn imagined(script: &Script, wrong: Option<Wrong>) -> Vec<Block> {
         let right = sum_line(script, block);
         match wrong {
             Some(Wrong::OwnTime) => right.map(|sum| sum - wiring.time(block)),
-            Some(Wrong::ZeroCycle) if right == Err("refused 20".into()) => match wiring.times.iter().all(|time| *time == 0) {
-                true => Ok(0),
-                false => right,
-            },
+            Some(Wrong::ZeroCycle) if right == Err("refused 20".into()) => {
+                match wiring.times.iter().all(|time| *time == 0) {
+                    true => Ok(0),
+                    false => right,
+                }
+            }
             Some(Wrong::CycleElsewhere) if right.is_ok() && wiring.has_cycle() => Err("refused 20".into()),
             Some(Wrong::Repeats) => right.map(|sum| {
                 let path = wiring.path(block);
@@ -248,9 +301,7 @@ pub fn imagined(script: &Script, wrong: Option<Wrong>) -> Vec<Block> {
                         let place = |block| order.iter().position(|other| *other == block);
                         wiring.feeds.iter().all(|(from, to)| place(*from) < place(*to))
                     }
-                    Some(Wrong::WiresIgnored) => {
-                        Wiring { feeds: Vec::new(), ..wiring.clone() }.runs_in(order)
-                    }
+                    Some(Wrong::WiresIgnored) => Wiring { feeds: Vec::new(), ..wiring.clone() }.runs_in(order),
                     _ => wiring.runs_in(order),
                 };
                 vec![format!("ok {}", u32::from(yes))]
@@ -283,9 +334,11 @@ fn fault(script: &Script, question: &Question, block: &Block, tally: &mut Tally)
             if !path || expected.is_err() {
                 return (!items.is_empty()).then(|| "no items were expected".into());
             }
-            let numbers = |line: &String| line.split_whitespace().map(|word| word.parse().ok()).collect::<Option<Vec<u64>>>();
+            let numbers =
+                |line: &String| line.split_whitespace().map(|word| word.parse().ok()).collect::<Option<Vec<u64>>>();
             let items: Option<Vec<_>> = items.iter().map(numbers).collect();
-            let Some(items) = items.filter(|items| !items.is_empty() && items.iter().all(|item| item.len() == 2)) else {
+            let Some(items) = items.filter(|items| !items.is_empty() && items.iter().all(|item| item.len() == 2))
+            else {
                 return Some("a path of NODE TIME each was expected".into());
             };
             tally.items += items.len() as u64;
@@ -304,7 +357,10 @@ fn fault(script: &Script, question: &Question, block: &Block, tally: &mut Tally)
     }
 }
 
-fn compare(answers: &Answers, script: &Script, tally: &mut Tally) -> Result<(), String> {
+/// Compares the answers to a script's questions, and to those for run orders if they are asked.
+fn compare(answers: &Answers, mut script: Script, orders: bool, tally: &mut Tally) -> Result<(), String> {
+    script.questions.retain(|question| orders || !matches!(question, Question::RunOrder(_)));
+    let script = &script;
     let blocks = answers(script)?;
     for (number, question) in script.questions.iter().enumerate() {
         let block = blocks.get(script.lines.len() + number).ok_or("the console wrote fewer answers than lines")?;
@@ -332,12 +388,13 @@ enum Make {
 
 struct Maker {
     lines: Vec<String>,
+    records: Vec<Record>,
     oracle: Oracle,
 }
 
 impl Maker {
     fn new() -> Self {
-        Self { lines: Vec::new(), oracle: Oracle::new() }
+        Self { lines: Vec::new(), records: Vec::new(), oracle: Oracle::new() }
     }
 
     /// A call that the original takes, and its answer.
@@ -351,6 +408,7 @@ impl Maker {
             _ => return Some(answer),
         };
         self.lines.push(line);
+        self.records.push(call.to_record());
         Some(answer)
     }
 
@@ -380,7 +438,10 @@ impl Maker {
                 _ => (random.below(count), random.below(count)),
             };
             if make != Make::Chain || to != 0 {
-                self.link(firsts[from as usize] + width + random.below(width), firsts[to as usize] + random.below(width));
+                self.link(
+                    firsts[from as usize] + width + random.below(width),
+                    firsts[to as usize] + random.below(width),
+                );
             }
         }
     }
@@ -452,12 +513,12 @@ impl Maker {
             }
             questions.push(Question::RunOrder(order));
         }
-        Script { lines: self.lines, oracle: self.oracle, wiring, questions }
+        Script { lines: self.lines, records: self.records, oracle: self.oracle, wiring, questions }
     }
 }
 
 /// All wirings of three blocks with an input and an output each, by which wires there are: none, one or two between two blocks.
-pub fn run_small(answers: &Answers, tally: &mut Tally) -> Result<u64, String> {
+pub fn run_small(answers: &Answers, orders: bool, tally: &mut Tally) -> Result<u64, String> {
     let mut count = 0;
     for wires in 0..3u32.pow(6) {
         let mut maker = Maker::new();
@@ -469,14 +530,14 @@ pub fn run_small(answers: &Answers, tally: &mut Tally) -> Result<u64, String> {
                 maker.link(firsts[from] + 1, firsts[to]);
             }
         }
-        compare(answers, &maker.ask_all(wires % 5 == 0, &mut random), tally)?;
+        compare(answers, maker.ask_all(wires % 5 == 0, &mut random), orders, tally)?;
         count += 1;
     }
     Ok(count)
 }
 
 /// Random wirings with and without cycles, chains, fans, and what random histories leave.
-pub fn run(answers: &Answers, seeds: Range<u64>, tally: &mut Tally) -> Result<(), String> {
+pub fn run(answers: &Answers, orders: bool, seeds: Range<u64>, tally: &mut Tally) -> Result<(), String> {
     for seed in seeds {
         let mut random = Random::new(seed);
         let mut maker = Maker::new();
@@ -492,7 +553,7 @@ pub fn run(answers: &Answers, seeds: Range<u64>, tally: &mut Tally) -> Result<()
         }
         maker.spoil(&mut random);
         let script = maker.ask_all(random.one_in(6), &mut random);
-        compare(answers, &script, tally).map_err(|message| format!("seed {seed}: {message}"))?;
+        compare(answers, script, orders, tally).map_err(|message| format!("seed {seed}: {message}"))?;
     }
     Ok(())
 }

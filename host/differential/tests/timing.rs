@@ -1,13 +1,13 @@
 //! Questions of times along wires: a console that is right passes, and each way to be wrong is caught.
 
 use differential::tally::Tally;
-use differential::timing::{imagined, run, run_small, Wrong, TIMED};
+use differential::timing::{by_entries, imagined, run, run_small, Wrong, TIMED};
 
 fn asked(wrong: Option<Wrong>) -> Result<Tally, String> {
     let mut tally = Tally::default();
     let answers = |script: &_| Ok(imagined(script, wrong));
-    run(&answers, 1..150, &mut tally)?;
-    run_small(&answers, &mut tally)?;
+    run(&answers, true, 1..150, &mut tally)?;
+    run_small(&answers, true, &mut tally)?;
     Ok(tally)
 }
 
@@ -16,6 +16,14 @@ fn right_answers_pass() {
     let tally = asked(None).unwrap();
     let missing: Vec<_> = TIMED.into_iter().filter(|kind| !tally.lists(kind)).collect();
     assert!(missing.is_empty(), "never asked: {missing:?}");
+}
+
+#[test]
+fn the_entries_pass() {
+    let mut tally = Tally::default();
+    run(&by_entries, false, 1..150, &mut tally).unwrap();
+    run_small(&by_entries, false, &mut tally).unwrap();
+    assert!(tally.lists("path") && tally.lists("longest beyond a cycle") && !tally.lists("runorder, yes"));
 }
 
 #[test]

@@ -131,8 +131,8 @@ fn file() -> Vec<u8> {
 
 #[test]
 fn saved() {
-    assert_eq!(after(3).save(), file());
-    assert_eq!(List::new().save(), []);
+    assert_eq!(after(3).save().unwrap(), file());
+    assert_eq!(List::new().save().unwrap(), []);
     // Ranks in place of node numbers, and an order of the wires that is not that of their making.
     let mut list = List::new();
     list.add(0, 0);
@@ -142,7 +142,7 @@ fn saved() {
     for input in [2, 1, 2] {
         list.link(Port(0), Port(input));
     }
-    assert_eq!(list.save(), file());
+    assert_eq!(list.save().unwrap(), file());
 }
 
 #[test]
@@ -172,7 +172,7 @@ fn room_for_a_file() {
 fn loaded() {
     let list = List::load(&file()).unwrap();
     assert_eq!(list.bytes(), after(3).bytes());
-    assert_eq!(list.save(), file());
+    assert_eq!(list.save().unwrap(), file());
     assert!(List::load(&[]).unwrap().is_empty());
     // The first unit alone: the two blocks.
     assert_eq!(List::load(&file()[..512]).unwrap().bytes(), after(0).bytes());
@@ -252,8 +252,8 @@ fn a_kit_may_refuse_its_own_save() {
     };
     let accepted = |list: &List| list.run().iter().all(Result::is_ok);
     let most = (0..1_024).rev().find(|rest| accepted(&filled(*rest))).unwrap();
-    assert_eq!(List::load(&filled(most).save()).unwrap_err(), Refusal::NoSpace);
-    let less = (0..most).rev().find(|rest| List::load(&filled(*rest).save()).is_ok()).unwrap();
+    assert_eq!(List::load(&filled(most).save().unwrap()).unwrap_err(), Refusal::NoSpace);
+    let less = (0..most).rev().find(|rest| List::load(&filled(*rest).save().unwrap()).is_ok()).unwrap();
     assert_eq!(most - less, 3);
-    assert_eq!(List::load(&filled(less).save()).unwrap().save(), filled(less).save());
+    assert_eq!(List::load(&filled(less).save().unwrap()).unwrap().save().unwrap(), filled(less).save().unwrap());
 }

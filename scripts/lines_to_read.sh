@@ -18,10 +18,10 @@ lines records Words Run Forms
 echo 'for walks, lookups and whole listings besides:'
 lines portgraph Walks LinkWalks
 lines multiportgraph Walks WalkNumbers Lookups Listed
-echo 'for sheets and files besides:'
+echo 'for sheets, files and views besides:'
 lines sheets Theorems Sheets SheetHistory Held
 lines files View Layout Saving Loading BuildList Merging Claims LoadClaims MergeClaims FileTheorems LoadTheorems MergeTheorems
-lines exports Exports
+lines exports Exports Viewed ViewedClaims ViewedTheorems
 echo 'for the sketch besides:'
 lines sketches Plan PlanNumbers PlanCalls PlanLists SketchTables
 lines agreement Meaning Agreement Histories AgreementTheorems
@@ -31,3 +31,4 @@ echo 'for kits with other limits besides:'
 lines kits Kits KitTheorems
 echo 'for times along wires besides:'
 lines timing TimingTheorems TimingClaims Longest RunOrder Path
+lines exports Timed TimedTheorems

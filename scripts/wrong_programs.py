@@ -1,10 +1,11 @@
 #!/usr/bin/env python3
 """Tries wrong programs: the prover must refuse each edit of scripts/wrong_programs.txt for a fact that is not shown.
 
-  wrong_programs.py [--in DIR] [--write] [WORD..]
+  wrong_programs.py [--in DIR] [--definitions | --functions] [--write] [WORD..]
 
-With words, only the edits of crates and places that have one of them are tried. --in works in DIR and keeps it, so that the next run there
-checks only what has changed. --write puts the tables of the run into docs/TRIALS.md.
+With words, only the edits of the crates named and of places that have one of them are tried; with --definitions or --functions, only those
+of one kind. --in works in DIR and keeps it, so that the next run there checks only what has changed. --write puts the tables of the run
+into docs/TRIALS.md: a crate has one for its functions and one for its definitions, and a table is written if all its edits were tried.
 
 An edit is a line `CRATE PLACE: what the wrong program does`, lines `- ` with the text that is replaced, and lines `+ ` with what stands there
 instead. PLACE is a function, `module::name` or `Type::name`, or a definition, `Module.name` of specs/. The old text stands there exactly once,
@@ -12,7 +13,8 @@ in a function in its body. Every public function of the crates in COVERED must h
 
 Edits of different functions are tried together: a proof rests on the contracts of the functions that are called and not on their code, so
 that an edit shows in the errors of its own function alone. An edit of a definition is tried by itself, on the laws of its crate without
-functions and, where these still hold, on those of `theorems`. The command is `rt dev CRATE`, and it must prove the same files without edits.
+functions; of `portgraph` and `multiportgraph` on the laws that `theorems` rests on, in each crate up to it. The verdict names the first law that
+is not shown, and its crate. The command is `rt dev CRATE`, and it must prove the same files without edits.
 
 An edit is refused if its function needs a fact, or a law states one, that is not shown. It is bad if the text is not there, if it does not
 compile, or if errors say only that the proof file no longer fits the code; such an edit shows nothing, and counts as not refused.
@@ -25,10 +27,13 @@ import sys
 import tempfile
 
 ROOT = os.path.dirname(os.path.dirname(os.path.abspath(__file__)))
-COVERED = ("portgraph", "multiportgraph", "records", "sheets", "files", "sketches", "timing", "slots")
+COVERED = ("portgraph", "multiportgraph", "records", "sheets", "files", "exports", "sketches", "timing", "slots")
+# The crates up to the theorems, of which a definition is tried on all laws that these rest on.
+BELOW = ["portgraph", "multiportgraph", "theorems"]
 # Errors that rest on others, and errors of a proof file that speaks of needs or of facts on the way that the code does not have.
 FOLLOWS = re.compile(r"was not admitted")
 MISFIT = re.compile(r"that can be named from here|has no field|not in scope|^`[\w-]+-spec`: |: module `")
+MARK = "<!-- tables of scripts/wrong_programs.py --write -->\n"
 
 
 class Edit:
@@ -38,6 +43,9 @@ class Edit:
 
     def of_definition(self):
         return "::" not in self.place
+
+    def kind(self):
+        return "definitions" if self.of_definition() else "functions"
 
     def where(self, top):
         """The file, and the first and last line of the place."""
@@ -66,10 +74,12 @@ class Edit:
         write(path, "\n".join(lines[:first] + [text] + lines[last + 1 :]))
         return True
 
-    def judge(self, errors):
-        """The verdict by the edit's own errors."""
+    def judge(self, errors, law=""):
+        """The verdict by the edit's own errors, or by those of a law."""
         own = [e for e in errors if not FOLLOWS.search(e)]
-        if facts(errors):
+        if law and facts(errors):
+            self.tell("refused", law)
+        elif facts(errors):
             self.tell("refused", in_words(facts(errors)) + ("" if facts(errors) == own else " (the proof file fits no more besides)"))
         elif errors:
             self.tell("BAD EDIT", "only the proof file fits no more: " + (own or errors)[0])
@@ -208,38 +218,96 @@ def try_functions(top, crate, edits):
         shutil.copytree(kept, src)
 
 
-def try_definitions(top, crate, edits):
-    """Each on the laws of its crate, without functions and proofs of them, and then on the laws of `theorems`."""
-    folder = os.path.join(top, "crates", crate)
-    shutil.rmtree(os.path.join(folder, "proofs"))
+def strip(folder):
+    """The crate without functions and proofs of them."""
+    for gone in ("proofs", "must-fail"):
+        shutil.rmtree(os.path.join(folder, gone), ignore_errors=True)
     for name in os.listdir(os.path.join(folder, "src")):
         path = os.path.join(folder, "src", name)
         text = re.sub(r'^(?:pub |pub\(crate\) )?(?:extern "C" )?(?:fn |impl )[\s\S]*?^}$', "", read(path), flags=re.M)
-        write(path, re.sub(r"^(?:ghost use .*|#\[.*|use (?:.*::)?[a-z]\w*;)$", "", text, flags=re.M))
-    for c in (crate, "theorems"):
+        write(path, re.sub(r"^(?:ghost use .*|#\[.*|use (?:.*::)?[a-z]\w*(?: as \w+)?;)$", "", text, flags=re.M))
+
+
+def prune(top):
+    """The crates of BELOW without the files of specs that no file of `theorems` rests on: these are about the code."""
+    def file_of(crate, module):
+        return os.path.join(top, "crates", crate, "specs", module + ".antt")
+
+    left, reached = [("theorems", name[:-5]) for name in os.listdir(os.path.join(top, "crates", "theorems", "specs"))], set()
+    while left:
+        place = left.pop()
+        if place not in reached and os.path.exists(file_of(*place)):
+            reached.add(place)
+            left += re.findall(r"Rattle·(\w+?)(?:·specs)?\.specs\.(\w+)", read(file_of(*place)))
+    for crate in BELOW:
+        lib = read(file_of(crate, "Lib"))
+        for module in re.findall(r"^pub mod (\w+)$", lib, re.M):
+            if (crate, module) not in reached:
+                lib = lib.replace("\npub mod %s\n" % module, "\n")
+                os.remove(file_of(crate, module))
+        write(file_of(crate, "Lib"), lib)
+
+
+def law_of(path, said):
+    """The law that an error is about, with its file and crate."""
+    crate, module = re.search(r"/crates/(\w+)/(?:specs/)?(.*)\.antt$", path).groups()
+    named = re.match(r"`([^`\s]+)`: ", said)
+    return "`%s%s` of %s" % (module, "." + named.group(1) if named else "", crate)
+
+
+def try_definitions(top, crate, edits):
+    """Each on the laws of its crate, and then on those above it up to `theorems`."""
+    above = BELOW[BELOW.index(crate) :] if crate in BELOW else [crate]
+    for name in BELOW if crate in BELOW else above:
+        strip(os.path.join(top, "crates", name))
+    if crate in BELOW:
+        prune(top)
+    for c in above:
         if not check(top, c)[0]:
             sys.exit("the laws of %s do not hold without edits" % c)
     for e in edits:
         path, start, end = e.where(top)
         kept = read(path)
         if e.put(top):
-            prover = check(top, crate)[2] or check(top, "theorems")[2]
+            prover = []
+            for c in above:
+                prover = prover or check(top, c)[2]
             stops = [said for p, line, said in prover if os.path.samefile(p, path) and start < int(line) <= end + 1]
+            first = [law_of(p, said) for p, _, said in prover if facts([said])]
             if stops:
                 e.tell("BAD EDIT", "is no definition: " + stops[0])
             else:
-                e.judge([said for _, _, said in prover])
+                e.judge([said for _, _, said in prover], "".join(first[:1]))
         write(path, kept)
 
 
 def tables(edits):
-    lines = []
-    for crate in dict.fromkeys(e.crate for e in edits):
-        its = [e for e in edits if e.crate == crate]
-        lines += ["## %s: %d of %d refused" % (crate, sum(e.refused for e in its), len(its)), ""]
+    """The table of each crate and kind of place, by its title."""
+    found = {}
+    for crate, kind in dict.fromkeys((e.crate, e.kind()) for e in edits):
+        its = [e for e in edits if (e.crate, e.kind()) == (crate, kind)]
+        lines = ["## %s, %s: %d of %d refused" % (crate, kind, sum(e.refused for e in its), len(its)), ""]
         lines += ["| Place | Wrong program | Refused at |", "|---|---|---|"]
-        lines += ["| `%s` | %s | %s |" % (e.place, e.words, e.said if e.refused else "NOT REFUSED") for e in its] + [""]
-    return "\n".join(lines)
+        lines += ["| `%s` | %s | %s |" % (e.place, e.words, e.said if e.refused else "NOT REFUSED") for e in its]
+        found["%s, %s" % (crate, kind)] = "\n".join(lines) + "\n"
+    return found
+
+
+def write_into(path, edits, tried):
+    """Replaces the tables all of whose edits were tried, and leaves the others. The order is that of the list. Says what has no table."""
+    head, _, old = read(path).partition(MARK)
+    kept = {re.match(r"## (.*?):", text).group(1): text for text in re.findall(r"^## [\s\S]*?\n(?=\n## |\Z)", old, re.M)}
+    whole = {title: text for title, text in tables(tried).items() if len(rows(text)) == len(rows(tables(edits)[title]))}
+    order = [title for title in tables(edits) if title in whole or title in kept]
+    parts = [whole.get(title) or kept[title] for title in order]
+    counts = [re.search(r": (\d+) of (\d+) refused", text).groups() for text in parts]
+    total = "In all: %d of %d refused." % tuple(sum(int(count[i]) for count in counts) for i in (0, 1))
+    missing = ["%s (%d)" % (title, len(rows(text))) for title, text in tables(edits).items() if title not in order]
+    write(path, "\n".join([head + MARK, total + (" Not tried: %s." % "; ".join(missing) if missing else "") + "\n"] + parts))
+
+
+def rows(text):
+    return re.findall(r"^\| `.*", text, re.M)
 
 
 def main():
@@ -249,24 +317,30 @@ def main():
         at = words.index("--in")
         top = os.path.abspath(words[at + 1])
         del words[at : at + 2]
-    write_tables = "--write" in words
-    words = [w for w in words if w != "--write"]
+    options = [w for w in words if w.startswith("--")]
+    words = [w for w in words if w not in options]
+    if set(options) - {"--write", "--definitions", "--functions"}:
+        sys.exit(__doc__)
     edits = edits_in(read(os.path.join(ROOT, "scripts", "wrong_programs.txt")))
     lacking = []
     for crate in COVERED:
         for name, (_, public, _, _) in functions(ROOT, crate).items():
             if public and sum((e.crate, e.place) == (crate, name) for e in edits) < 2:
                 lacking.append("%s %s" % (crate, name))
-    edits = [e for e in edits if not words or any(w in (e.crate, e.place) or w in e.place for w in words)]
+    crates = {e.crate for e in edits}
+    tried = [e for e in edits if not words or any(w == e.crate if w in crates else w in e.place for w in words)]
+    tried = [e for e in tried if "--" + e.kind() in options or not {"--definitions", "--functions"} & set(options)]
     work = top or tempfile.mkdtemp()
     try:
-        for kind, trial in (("functions", try_functions), ("laws", try_definitions)):
-            its = [e for e in edits if e.of_definition() == (kind == "laws")]
-            folder = os.path.join(work, kind)
-            for part in ("rlib", "stamp") if its else ():
-                if os.path.isdir(os.path.join(ROOT, "target", part)):
-                    shutil.copytree(os.path.join(ROOT, "target", part), os.path.join(folder, "target", part), dirs_exist_ok=True)
+        for kind, trial in (("functions", try_functions), ("definitions", try_definitions)):
+            its = [e for e in tried if e.kind() == kind]
             for crate in dict.fromkeys(e.crate for e in its):
+                # what is proved already is taken from target/, but not where the crates below are without functions too
+                below = kind == "definitions" and crate in BELOW
+                folder = os.path.join(work, "theorems" if below else kind)
+                for part in () if below else ("rlib", "stamp"):
+                    if os.path.isdir(os.path.join(ROOT, "target", part)):
+                        shutil.copytree(os.path.join(ROOT, "target", part), os.path.join(folder, "target", part), dirs_exist_ok=True)
                 shutil.rmtree(os.path.join(folder, "crates"), ignore_errors=True)
                 shutil.copytree(os.path.join(ROOT, "crates"), os.path.join(folder, "crates"))
                 shutil.copy(os.path.join(ROOT, "crates.txt"), folder)
@@ -274,15 +348,13 @@ def main():
     finally:
         if not top:
             shutil.rmtree(work)
-    if write_tables and not words:
-        path = os.path.join(ROOT, "docs", "TRIALS.md")
-        head = read(path).split("<!-- tables of scripts/wrong_programs.py --write -->\n")[0]
-        write(path, head + "<!-- tables of scripts/wrong_programs.py --write -->\n\n" + tables(edits))
-    refused = sum(e.refused for e in edits)
+    if "--write" in options:
+        write_into(os.path.join(ROOT, "docs", "TRIALS.md"), edits, tried)
+    refused = sum(e.refused for e in tried)
     for name in lacking:
         print("fewer than two edits: " + name)
-    print("%d of %d refused" % (refused, len(edits)))
-    sys.exit(1 if refused < len(edits) or lacking else 0)
+    print("%d of %d refused" % (refused, len(tried)))
+    sys.exit(1 if refused < len(tried) or lacking else 0)
 
 
 if __name__ == "__main__":

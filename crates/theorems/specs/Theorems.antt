@@ -41,7 +41,7 @@ use Rattle.theorems.specs.Conditions.{RefusedBy, Accepted, Condition, le
 use Rattle.theorems.specs.Bench as bench
 use Rattle.theorems.specs.Bench.{askedAll, askedUnder, expectedAll, benchLines, resizeLines, fanOutLines, inputLines, tidyLines}
 use Rattle.theorems.specs.NumberTable as numbers
-use Rattle.theorems.specs.NumberTable.{refusals, refusalTable, answers, answerTable}
+use Rattle.theorems.specs.NumberTable.{refusals, refusalTable, answers, answerTable, Cursors, walkAnswers, walkTable}
 use Rattle.theorems.specs.Runs as runs
 use Rattle.theorems.specs.CallLaws as every
 use Rattle.theorems.specs.LinkCleanCall as clean
@@ -314,3 +314,7 @@ refusal-numbers = numbers.refusal-numbers
 
 pub answer-numbers : (n p o q r k : ℕ) → answers n p o q r k ≡ answerTable n p o q r k
 answer-numbers = numbers.answer-numbers
+
+-- .. and of every item, end and start of a walk.
+pub walk-numbers : (n p o : ℕ) (w : SubportLink) (c : Cursors) → walkAnswers n p o w c ≡ walkTable n p o w
+walk-numbers = numbers.walk-numbers

@@ -28,12 +28,14 @@ import tempfile
 
 ROOT = os.path.dirname(os.path.dirname(os.path.abspath(__file__)))
 COVERED = ("portgraph", "multiportgraph", "records", "sheets", "files", "exports", "sketches", "timing", "slots")
-# The crates up to the theorems, of which a definition is tried on all laws that these rest on.
-BELOW = ["portgraph", "multiportgraph", "theorems"]
 # Errors that rest on others, and errors of a proof file that speaks of needs or of facts on the way that the code does not have.
 FOLLOWS = re.compile(r"was not admitted")
 MISFIT = re.compile(r"that can be named from here|has no field|not in scope|^`[\w-]+-spec`: |: module `")
 MARK = "<!-- tables of scripts/wrong_programs.py --write -->\n"
+# The crates up to the theorems, of which a definition is tried on all laws that these rest on.
+BELOW = ["portgraph", "multiportgraph", "theorems"]
+# Files whose laws are promises too, of the numbers in lent tables, and which no theorem rests on.
+PROMISED = [("portgraph", "LentWords"), ("multiportgraph", "LentGraph")]
 
 
 class Edit:
@@ -229,11 +231,11 @@ def strip(folder):
 
 
 def prune(top):
-    """The crates of BELOW without the files of specs that no file of `theorems` rests on: these are about the code."""
+    """The crates of BELOW without the files of specs that neither `theorems` nor PROMISED rests on: these are about the code."""
     def file_of(crate, module):
         return os.path.join(top, "crates", crate, "specs", module + ".antt")
 
-    left, reached = [("theorems", name[:-5]) for name in os.listdir(os.path.join(top, "crates", "theorems", "specs"))], set()
+    left, reached = [("theorems", name[:-5]) for name in os.listdir(os.path.join(top, "crates", "theorems", "specs"))] + PROMISED, set()
     while left:
         place = left.pop()
         if place not in reached and os.path.exists(file_of(*place)):

@@ -11,8 +11,8 @@ lines() {
     printf '%-16s%5d  %s\n' "$crate" "$total" "$*"
 }
 echo 'for the calls and the theorems:'
-lines portgraph Limits Lists Entries Tables Lookups Calls Resize Lent
-lines multiportgraph Reading Graph Answers HiddenNodes Tidy Refusals Calls Places Wires MultiLent
+lines portgraph Limits Lists Entries Tables Lookups Calls Resize Lent Places
+lines multiportgraph Reading Graph Answers HiddenNodes Tidy Refusals Calls Wires MultiLent
 lines theorems Theorems Book History Claims AnswerClaims PlaceClaims ListingClaims MoveClaims CursorClaims Conditions Works TidyClaims ReleaseTheorems ReleaseClaims
 lines records Words Run Forms
 echo 'for walks, lookups and whole listings besides:'

@@ -29,7 +29,7 @@ use Rattle.multiportgraph.specs.LinkCutLaws.{AddDone, AddSays, add-block-law, a
 use Rattle.multiportgraph.specs.CaseLaws.{add-cases}
 use Rattle.multiportgraph.specs.Calls.{addBlock, addedAs}
 use Rattle.multiportgraph.specs.Graph.{withGraph}
-use Rattle.multiportgraph.specs.Places.{Place, spot}
+use Rattle.portgraph.specs.Places.{Place, spot}
 use Rattle.multiportgraph.specs.Reading.{isHidden, isSplit}
 use Rattle.multiportgraph.specs.SetLaws.{SameSplit}
 use Rattle.multiportgraph.specs.declared.multiportgraph.MultiPortGraph.{MultiPortGraph}

@@ -13,7 +13,7 @@ use Rattle.portgraph.specs.declared.iter.Sides.{Sides}
 use Rattle.multiportgraph.specs.Answers.{refusalNumbers}
 use Rattle.multiportgraph.specs.Calls.{subportLink, visibleNodes, visiblePorts, visibleLinks}
 use Rattle.multiportgraph.specs.Lookups.{portFanOut, nodeFanOut}
-use Rattle.multiportgraph.specs.Places.{Place, Wire, spot}
+use Rattle.portgraph.specs.Places.{Place, Wire, spot, farFrom}
 use Rattle.multiportgraph.specs.Reading.{isHidden, hidden, seen}
 use Rattle.multiportgraph.specs.Walks.{Start, started, refused, startAtNode, startBetween, startAtPort, portLinks, nodeLinks, neighbours, connections, subportsOf}
 use Rattle.multiportgraph.specs.Wires.{wiresWalked, blocks}
@@ -40,7 +40,7 @@ use Rattle.theorems.specs.Book as book
 use Rattle.theorems.specs.Book.{Call, AnswerOf, spotOf}
 use Rattle.theorems.specs.History.{step}
 use Rattle.theorems.specs.Conditions.{RefusedBy}
-use Rattle.theorems.specs.ListingClaims.{wireFrom, farFrom, OverSides}
+use Rattle.theorems.specs.ListingClaims.{wireFrom, OverSides}
 use Rattle.sketches.specs.Plan.{hasBlock, portsOnSide, isThere}
 use Rattle.sketches.specs.PlanNumbers.{reasonNumber}
 use Rattle.sketches.specs.PlanCalls as sketch

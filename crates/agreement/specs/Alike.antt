@@ -9,7 +9,7 @@ use Rattle.portgraph.specs.Model as model
 use Rattle.portgraph.specs.Model.{Model, slotOf}
 use Rattle.portgraph.specs.declared.node_entry.NodeMeta.{NodeMeta}
 use Rattle.multiportgraph.specs.WellFormed.{BlockIs, Seen}
-use Rattle.multiportgraph.specs.Places.{Place, Wire, spot}
+use Rattle.portgraph.specs.Places.{Place, Wire, spot}
 use Rattle.multiportgraph.specs.Reading.{isSplit, subports}
 use Rattle.multiportgraph.specs.declared.multiportgraph.MultiPortGraph.{MultiPortGraph}
 use Rattle.theorems.specs.WireRule.{Rel}

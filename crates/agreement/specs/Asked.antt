@@ -22,14 +22,14 @@ use Rattle.multiportgraph.specs.LinkCutLaws.{end-is-here, end-is-same, nowhere-
 use Rattle.multiportgraph.specs.CopyLaws.{port-at-is, port-at-here}
 use Rattle.multiportgraph.specs.CaseLaws.{subport-link-cases}
 use Rattle.multiportgraph.specs.Calls.{subportLink}
-use Rattle.multiportgraph.specs.Places.{Place, Wire, spot, atSpot, atEnd, touches, portPlace}
+use Rattle.portgraph.specs.Places.{Place, Wire, spot, atSpot, atEnd, touches, anyTouches}
+use Rattle.multiportgraph.specs.Reading.{portPlace, isHidden, isSplit, End, inner, lacking, endAt, subportOf, standingOf, farSubport}
 use Rattle.multiportgraph.specs.Wires.{placeOf}
-use Rattle.multiportgraph.specs.Reading.{isHidden, isSplit, End, inner, lacking, endAt, subportOf, standingOf, farSubport}
 use Rattle.multiportgraph.specs.declared.multiportgraph.MultiPortGraph.{MultiPortGraph}
 use Rattle.multiportgraph.specs.declared.multiportgraph.PortPlace.{PortPlace}
 use Rattle.multiportgraph.specs.declared.multiportgraph.Refusal.the-variants.{BadOffset, UnknownPort, UnknownOffset}
 use Rattle.multiportgraph.specs.declared.multiportgraph.CutAnswer.{CutAnswer}
-use Rattle.theorems.specs.Book.{Book, anyTouches, readBy}
+use Rattle.theorems.specs.Book.{Book, readBy}
 use Rattle.theorems.specs.BookLaws.{any-touches, none-touches, so-not-false, or-true, or-right}
 use Rattle.theorems.specs.Conditions.{sub-offset, sub-dead, sub-lacks}
 use Rattle.theorems.specs.CutSubCall.{subport-link-refuses}

@@ -12,7 +12,7 @@ use Rattle.portgraph.specs.GoodSlots.{same-place}
 use Rattle.multiportgraph.specs.WellFormed.{Fine, Seen, SameBlocks, lift}
 use Rattle.multiportgraph.specs.HiddenStays.{true-not-false}
 use Rattle.multiportgraph.specs.LinkCutLaws.{at-spot-here, at-spot-is}
-use Rattle.multiportgraph.specs.Places.{Place, spot, atSpot}
+use Rattle.portgraph.specs.Places.{Place, spot, atSpot}
 use Rattle.multiportgraph.specs.declared.multiportgraph.MultiPortGraph.{MultiPortGraph}
 use Rattle.theorems.specs.History.{State}
 use Rattle.theorems.specs.WireRule.{Rel, seen-live}

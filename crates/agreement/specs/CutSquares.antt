@@ -28,8 +28,8 @@ use Rattle.multiportgraph.specs.Cases.{cutRefused, cutEnd, cutSeen}
 use Rattle.multiportgraph.specs.Calls.{cutPort, cutSub, cutPlain}
 use Rattle.multiportgraph.specs.Graph.{withGraph}
 use Rattle.multiportgraph.specs.HiddenNodes.{removeCopy, unsplit}
-use Rattle.multiportgraph.specs.Places.{Place, Spot, spot, atSpot, atEnd, portPlace}
-use Rattle.multiportgraph.specs.Reading.{isHidden, isSplit, copySide, End, inner, lacking, endAt, subport#, standing, farSubport}
+use Rattle.portgraph.specs.Places.{Place, Spot, spot, atSpot, atEnd, without}
+use Rattle.multiportgraph.specs.Reading.{portPlace, isHidden, isSplit, copySide, End, inner, lacking, endAt, subport#, standing, farSubport}
 use Rattle.multiportgraph.specs.SetLaws.{SameSplit}
 use Rattle.multiportgraph.specs.declared.multiportgraph.MultiPortGraph.{MultiPortGraph}
 use Rattle.multiportgraph.specs.declared.multiportgraph.PortPlace.{PortPlace}
@@ -38,7 +38,7 @@ use Rattle.multiportgraph.specs.declared.multiportgraph.Refusal.{Refusal}
 use Rattle.multiportgraph.specs.declared.multiportgraph.CutAnswer.{CutAnswer}
 use Rattle.multiportgraph.specs.declared.multiportgraph.CutAnswer.the-variants as cutting
 use Rattle.theorems.specs.Book as book
-use Rattle.theorems.specs.Book.{spotOf, without, readBy, bookCut}
+use Rattle.theorems.specs.Book.{spotOf, readBy, bookCut}
 use Rattle.theorems.specs.AnswerWires.{cut-sub-answers, place-at}
 use Rattle.theorems.specs.BookLaws.{so-not-false}
 use Rattle.theorems.specs.Conditions.{SubRefused, sub-offset, sub-dead, sub-lacks, cut-dead}

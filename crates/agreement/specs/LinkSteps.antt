@@ -18,7 +18,7 @@ use Rattle.multiportgraph.specs.Ends.{outer-apart}
 use Rattle.multiportgraph.specs.Graph.{withGraph}
 use Rattle.multiportgraph.specs.HiddenNodes.{prepare}
 use Rattle.multiportgraph.specs.HiddenNodes as hiding
-use Rattle.multiportgraph.specs.Places.{Place, Wire, spot, wireOfSides}
+use Rattle.portgraph.specs.Places.{Place, Wire, spot, wireOfSides, nextOffset}
 use Rattle.multiportgraph.specs.LinkCutLaws.{Joined, join-ends}
 use Rattle.multiportgraph.specs.PrepareLaws.{prepare-law}
 use Rattle.multiportgraph.specs.SplitLaws.{HasEnd, KeptEnd, PreparedEnd, end-of-wire}
@@ -26,7 +26,7 @@ use Rattle.multiportgraph.specs.declared.multiportgraph.MultiPortGraph.{MultiPo
 use Rattle.multiportgraph.specs.declared.multiportgraph.LinkAnswer.{LinkAnswer}
 use Rattle.multiportgraph.specs.declared.multiportgraph.LinkAnswer.the-variants as link
 use Rattle.multiportgraph.specs.declared.multiportgraph.PortsLinked.{PortsLinked}
-use Rattle.theorems.specs.Book.{Book, withWires, spotOf, nextOffset, addWire, bookLink}
+use Rattle.theorems.specs.Book.{Book, withWires, spotOf, addWire, bookLink}
 use Rattle.theorems.specs.History.{State}
 use Rattle.theorems.specs.ReleaseClaims.{forRelease}
 use Rattle.theorems.specs.ReleaseLaws.{prepare-for}

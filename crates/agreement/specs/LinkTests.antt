@@ -15,15 +15,15 @@ use Rattle.multiportgraph.specs.Reading.{isSplit, visible, seen}
 use Rattle.multiportgraph.specs.WellFormed.{lift, outer, WireIn}
 use Rattle.multiportgraph.specs.Ends.{EndOf, out-side, outer-apart, seen-block, seen-dead}
 use Rattle.multiportgraph.specs.HiddenStays.{true-not-false}
-use Rattle.multiportgraph.specs.Places.{Place, Wire, spot, atSpot, atEnd, touches}
+use Rattle.portgraph.specs.Places.{Place, Wire, spot, atSpot, atEnd, touches, anyTouches, nextOffset}
 use Rattle.multiportgraph.specs.LinkCutLaws.{at-spot-here, at-spot-is}
 use Rattle.multiportgraph.specs.Refusals as kit
 use Rattle.multiportgraph.specs.Refusals.{wiredInput, wiredSeen}
 use Rattle.multiportgraph.specs.SplitLaws.{HasEnd, end-of-wire, wire-of-end}
 use Rattle.multiportgraph.specs.declared.multiportgraph.MultiPortGraph.{MultiPortGraph}
-use Rattle.multiportgraph.specs.declared.multiportgraph.Release.{Release}
-use Rattle.multiportgraph.specs.declared.multiportgraph.Release.the-variants.{One, Two}
-use Rattle.theorems.specs.Book.{anyTouches, nextOffset, readBy}
+use Rattle.portgraph.specs.declared.release.Release.{Release}
+use Rattle.portgraph.specs.declared.release.Release.the-variants.{One, Two}
+use Rattle.theorems.specs.Book.{readBy}
 use Rattle.theorems.specs.BookLaws.{or-true, or-right, any-touches}
 use Rattle.theorems.specs.TakenLaws.{wired-input, input-wired}
 use Rattle.theorems.specs.WireRule.{has-end-touches, touches-has-end, offset-of}

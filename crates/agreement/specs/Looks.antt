@@ -6,8 +6,8 @@ use Prim.Native.Nat.{ℕ, _+_}
 use native.Mathlib.Omega.{arith}
 use lib.ListN.{length}
 use Rattle.portgraph.specs.Lists.{filter, Member, Once}
-use Rattle.multiportgraph.specs.Listing.{member-map, map-member, member-filter, filter-member, length-map}
-use Rattle.multiportgraph.specs.Places.{Place, Wire, flag}
+use Rattle.portgraph.specs.Listing.{member-map, map-member, member-filter, filter-member, length-map}
+use Rattle.portgraph.specs.Places.{Place, Wire, flag}
 use Rattle.theorems.specs.BookLaws.{left-once}
 use Rattle.theorems.specs.Claims.{count}
 use Rattle.theorems.specs.ListingClaims.{Exactly}

@@ -21,14 +21,14 @@ use Rattle.multiportgraph.specs.Ends.{count-of}
 use Rattle.multiportgraph.specs.HiddenStays.{true-not-false}
 use Rattle.multiportgraph.specs.WellFormed.{inner#, BlockIs}
 use Rattle.theorems.specs.ListingWires.{spot-back}
-use Rattle.multiportgraph.specs.Listing as listing
-use Rattle.multiportgraph.specs.Listing.{member-map, map-member, member-filter, filter-member, filter-all, rising-filter, rising-map, length-map}
+use Rattle.portgraph.specs.Listing as listing
+use Rattle.portgraph.specs.Listing.{member-map, map-member, member-filter, filter-member, filter-all, rising-filter, rising-map, length-map}
 use Rattle.multiportgraph.specs.Lookups.{portFanOut, nodeFanOut}
-use Rattle.multiportgraph.specs.Places.{spot, atSpot, touches}
+use Rattle.portgraph.specs.Places.{spot, atSpot, touches}
 use Rattle.multiportgraph.specs.Walks.{startAtPort, startAtNode, startBetween}
 use Rattle.multiportgraph.specs.Wires.{blocks, portsOfSide}
 use Rattle.multiportgraph.specs.declared.multiportgraph.MultiPortGraph.{MultiPortGraph}
-use Rattle.multiportgraph.specs.declared.multiportgraph.Release.{Release}
+use Rattle.portgraph.specs.declared.release.Release.{Release}
 use Rattle.theorems.specs.Book.{Call}
 use Rattle.theorems.specs.BookLaws.{length-range, not-so-true}
 use Rattle.theorems.specs.Claims.{FanOutIsWires}

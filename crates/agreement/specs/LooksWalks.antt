@@ -19,17 +19,17 @@ use Rattle.portgraph.specs.declared.iter.Sides.the-variants.{One, Both}
 use Rattle.multiportgraph.specs.Ends.{port-of, split-has-subports}
 use Rattle.multiportgraph.specs.HiddenStays.{true-not-false}
 use Rattle.multiportgraph.specs.WellFormed.{inner#, Seen}
-use Rattle.multiportgraph.specs.Places.{Place, Wire, spot, atSpot, touches}
+use Rattle.portgraph.specs.Places.{Place, Wire, spot, atSpot, touches, endOn, farFrom}
 use Rattle.multiportgraph.specs.Reading.{isSplit, subports, portOf, subport#}
 use Rattle.multiportgraph.specs.WalkRule.{walked-is-wires, walked-once}
 use Rattle.multiportgraph.specs.Walks.{portLinks, nodeLinks, neighbours, connections, subportsOf}
 use Rattle.multiportgraph.specs.Wires.{wiresWalked, portsOfSide, subportsOfPort, subportsOfSide}
 use Rattle.multiportgraph.specs.declared.multiportgraph.MultiPortGraph.{MultiPortGraph}
 use Rattle.multiportgraph.specs.declared.multiportgraph.SubportLink.{SubportLink}
-use Rattle.multiportgraph.specs.declared.multiportgraph.Release.{Release}
+use Rattle.portgraph.specs.declared.release.Release.{Release}
 use Rattle.theorems.specs.Book.{Call, spotOf}
 use Rattle.theorems.specs.History.{State, run}
-use Rattle.theorems.specs.ListingClaims.{wireFrom, endOn, farFrom, Exactly, InBook, OverSides, OutOfRange, NotOwnOutput, FarNodes}
+use Rattle.theorems.specs.ListingClaims.{wireFrom, Exactly, InBook, OverSides, OutOfRange, NotOwnOutput, FarNodes}
 use Rattle.theorems.specs.ListingWires.{listings-are-wires-of-port, listings-are-wires-of-node, listings-are-wires-of-neighbours, listings-are-wires-between}
 use Rattle.theorems.specs.WireRule.{spot-of}
 use Rattle.sketches.specs.Plan as plan

@@ -7,9 +7,9 @@ use Prim.Native.Nat.{ℕ}
 use lib.Dec.{eqb}
 use Rattle.portgraph.specs.Lists.{filter, Member}
 use Rattle.portgraph.specs.Lookups.{containsNode}
-use Rattle.multiportgraph.specs.Places.{spot}
+use Rattle.portgraph.specs.Places.{spot}
 use Rattle.multiportgraph.specs.Reading.{dead, seen}
-use Rattle.multiportgraph.specs.declared.multiportgraph.Release.{Release}
+use Rattle.portgraph.specs.declared.release.Release.{Release}
 use Rattle.multiportgraph.specs.declared.multiportgraph.AddAnswer.{AddAnswer}
 use Rattle.multiportgraph.specs.declared.multiportgraph.AddAnswer.the-variants as add
 use Rattle.multiportgraph.specs.declared.multiportgraph.RemoveAnswer.{RemoveAnswer}

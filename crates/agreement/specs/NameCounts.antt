@@ -9,9 +9,8 @@ use lib.ListN.{length}
 use Rattle.portgraph.specs.GoodSlots.{zero-is-not-one}
 use Rattle.portgraph.specs.Limits.{nodeSlots, portSlots, nodePorts}
 use Rattle.portgraph.specs.Meaning.{sameSide}
-use Rattle.multiportgraph.specs.declared.multiportgraph.Release.{Release}
-use Rattle.multiportgraph.specs.Places.{atSpot}
-use Rattle.theorems.specs.Book.{without}
+use Rattle.portgraph.specs.declared.release.Release.{Release}
+use Rattle.portgraph.specs.Places.{atSpot, without}
 use Rattle.sketches.specs.Plan.{Plan, hasBlock, portsInAll, spotNamed, isThere, lacksOffset, inputTaken, aboveWired, ready, subportsOf, offsetReady, subportsReady, withWires}
 use Rattle.sketches.specs.PlanCalls as sketch
 use Rattle.sketches.specs.PlanCalls.{Sketched, leaves}

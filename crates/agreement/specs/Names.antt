@@ -11,9 +11,8 @@ use borrow.Author.Tests.{eq-eqb, ne-eqb, eqb-true, eqb-false}
 use Rattle.portgraph.specs.Lists.{filter, Member, Once, Rising}
 use Rattle.portgraph.specs.Meaning.{sameSide, newCount}
 use Rattle.portgraph.specs.declared.direction.Direction.{Direction}
-use Rattle.multiportgraph.specs.Listing.{member-map, length-map}
-use Rattle.multiportgraph.specs.Places.{Place, Wire, spot, atSpot, atEnd, touches, ofNode, ofDropped}
-use Rattle.theorems.specs.Book.{without, anyTouches, lowestUnwired, nextOffset}
+use Rattle.portgraph.specs.Listing.{member-map, length-map}
+use Rattle.portgraph.specs.Places.{Place, Wire, spot, atSpot, atEnd, touches, ofNode, ofDropped, without, anyTouches, lowestUnwired, nextOffset}
 use Rattle.sketches.specs.Plan.{Far, nothing, far, farFrom}
 use Rattle.agreement.specs.Meaning.{Naming}
 use Rattle.agreement.specs.Alike.{Apart, nameOf, placeRenamed, wireRenamed}

@@ -8,10 +8,10 @@ use lib.Dec.{eqb}
 use borrow.Author.Tests.{eqb-true}
 use Rattle.portgraph.specs.Lists.{filter, Member}
 use Rattle.portgraph.specs.declared.direction.Direction.{Direction}
-use Rattle.multiportgraph.specs.Listing.{member-filter}
+use Rattle.portgraph.specs.Listing.{member-filter}
 use Rattle.multiportgraph.specs.HiddenStays.{true-not-false}
 use Rattle.multiportgraph.specs.LinkCutLaws.{at-spot-here, at-spot-is}
-use Rattle.multiportgraph.specs.Places.{Place, Spot, spot, atSpot}
+use Rattle.portgraph.specs.Places.{Place, Spot, spot, atSpot}
 use Rattle.theorems.specs.BookLaws.{so-not-false}
 use Rattle.sketches.specs.Plan.{Plan, portAt, spotNamed, subportsAmong, subportsOf, setSubports, withSplits}
 use Rattle.sketches.specs.declared.sketch.SketchPort.{SketchPort}

@@ -40,10 +40,10 @@ use Rattle.multiportgraph.specs.Ends.{Hangs, split-has-copy, one-copy, count-of
 use Rattle.multiportgraph.specs.Needs.{needOf, copyNeed}
 use Rattle.multiportgraph.specs.SplitLaws.{PreparedEnd, split-tables}
 use Rattle.multiportgraph.specs.RecountLaws.{set-recounts, growth#, grown, more-longer}
-use Rattle.multiportgraph.specs.Places.{Place}
+use Rattle.portgraph.specs.Places.{Place}
 use Rattle.multiportgraph.specs.HiddenNodes.{copyIncoming, copyOutgoing, ready, split, splitBy, splitUnder, splitPort, lowestFree, enough, grow, growUnder, grownBy, recounted, reuse, reuseUnder, prepare, prepareUnder}
 use Rattle.multiportgraph.specs.declared.multiportgraph.MultiPortGraph.{MultiPortGraph}
-use Rattle.multiportgraph.specs.declared.lent_needs.Need.the-variants as need
+use Rattle.multiportgraph.specs.declared.lent.Need.the-variants as need
 use Rattle.sketches.specs.Plan.{subportsReady}
 use Rattle.agreement.specs.Alike.{subportsAt}
 use Rattle.agreement.specs.KeptSplits.{split-kept, same-subports}

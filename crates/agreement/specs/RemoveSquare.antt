@@ -16,14 +16,14 @@ use Rattle.multiportgraph.specs.Calls.{removeBlock, dropBlock}
 use Rattle.multiportgraph.specs.Cases.{removeMeta}
 use Rattle.multiportgraph.specs.CaseLaws.{remove-cases}
 use Rattle.multiportgraph.specs.WellFormed.{Fine, Seen}
-use Rattle.multiportgraph.specs.Listing.{member-filter, filter-member, rising-filter}
+use Rattle.portgraph.specs.Listing.{member-filter, filter-member, rising-filter}
 use Rattle.multiportgraph.specs.LinkCutLaws.{touched-not-out, touched-not-into, at-spot-is}
-use Rattle.multiportgraph.specs.Places.{Place, spot, ofNode}
+use Rattle.portgraph.specs.Places.{Place, spot, ofNode, without}
 use Rattle.multiportgraph.specs.declared.multiportgraph.MultiPortGraph.{MultiPortGraph}
 use Rattle.multiportgraph.specs.declared.multiportgraph.NodeRemoved.{NodeRemoved}
 use Rattle.multiportgraph.specs.declared.multiportgraph.RemoveAnswer.the-variants as remove
 use Rattle.theorems.specs.Book as book
-use Rattle.theorems.specs.Book.{without, bookRemove}
+use Rattle.theorems.specs.Book.{bookRemove}
 use Rattle.theorems.specs.BookLaws.{not-so-true, stayed-wire}
 use Rattle.theorems.specs.Conditions.{remove-unknown}
 use Rattle.theorems.specs.ReleaseRuns.{step-keeps}

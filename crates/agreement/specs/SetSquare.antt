@@ -31,9 +31,9 @@ use Rattle.multiportgraph.specs.Ends.{split-has-copy, ports-walked}
 use Rattle.multiportgraph.specs.HiddenStays.{true-not-false}
 use Rattle.multiportgraph.specs.HiddenNodes.{recounted, copiesDropped, removeAll}
 use Rattle.multiportgraph.specs.WellFormed.{Fine, BlockIs, Seen}
-use Rattle.multiportgraph.specs.Listing.{member-filter, member-map, map-member, rising-map}
+use Rattle.portgraph.specs.Listing.{member-filter, member-map, map-member, rising-map}
 use Rattle.multiportgraph.specs.LinkCutLaws.{at-spot-is}
-use Rattle.multiportgraph.specs.Places.{Place, spot, ofDropped}
+use Rattle.portgraph.specs.Places.{Place, spot, ofDropped, without}
 use Rattle.multiportgraph.specs.Reading.{isHidden, isSplit}
 use Rattle.multiportgraph.specs.RecountLaws.{Recount, SomeRecount, set-recounts, count-new, number-cases}
 use Rattle.multiportgraph.specs.SetLaws.{SetDone, set-counts-law, all-go, resize-loosens, resize-tracks}
@@ -45,7 +45,7 @@ use Rattle.multiportgraph.specs.declared.multiportgraph.Refusal.the-variants.{T
 use Rattle.multiportgraph.specs.declared.multiportgraph.SetAnswer as set-answer
 use Rattle.multiportgraph.specs.declared.multiportgraph.SetAnswer.the-variants as resize
 use Rattle.theorems.specs.Book as book
-use Rattle.theorems.specs.Book.{without, notBlock, bookSet}
+use Rattle.theorems.specs.Book.{notBlock, bookSet}
 use Rattle.theorems.specs.BookLaws.{not-so-true, so-not-false}
 use Rattle.theorems.specs.Conditions.{SetRefused, set-many, set-gone, set-hidden, set-short, set-full}
 use Rattle.theorems.specs.ReleaseRuns.{step-keeps}

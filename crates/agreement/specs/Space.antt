@@ -18,9 +18,9 @@ use Rattle.portgraph.specs.GoodSlots.{zero-is-not-one, slots-apart, slot-in-ran
 use Rattle.portgraph.specs.declared.direction.Direction.the-variants.{Outgoing}
 use Rattle.multiportgraph.specs.CountLaws.{visible-nodes}
 use Rattle.multiportgraph.specs.WellFormed.{Fine, WireIn, outer}
-use Rattle.multiportgraph.specs.Listing.{Apart, apart-below, member-filter, member-range, length-map}
+use Rattle.portgraph.specs.Listing.{Apart, apart-below, member-filter, member-range, length-map}
 use Rattle.multiportgraph.specs.LinkCutLaws.{to-same}
-use Rattle.multiportgraph.specs.Places.{Wire, atSpot, atEnd}
+use Rattle.portgraph.specs.Places.{Wire, atSpot, atEnd}
 use Rattle.multiportgraph.specs.Reading.{seen}
 use Rattle.multiportgraph.specs.Walks.{allPorts, isSeen}
 use Rattle.multiportgraph.specs.Wires.{blocks, isBlock}

@@ -23,7 +23,7 @@ use Rattle.portgraph.specs.declared.node_entry.NodeMeta.{NodeMeta}
 use Rattle.multiportgraph.specs.WellFormed.{inner#, BlockIs, Seen, WireIn}
 use Rattle.multiportgraph.specs.Ends.{split-has-copy, split-has-subports, one-copy, outer-seen, ends-join-ends, dead-seen}
 use Rattle.multiportgraph.specs.HiddenStays.{true-not-false}
-use Rattle.multiportgraph.specs.Places.{Place, Wire}
+use Rattle.portgraph.specs.Places.{Place, Wire}
 use Rattle.multiportgraph.specs.Reading.{isSplit, subports}
 use Rattle.theorems.specs.Book.{readBy}
 use Rattle.theorems.specs.Conditions.{Lacks}

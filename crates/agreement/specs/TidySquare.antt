@@ -19,7 +19,7 @@ use Rattle.multiportgraph.specs.Ends.{Hangs, one-copy, outer-of-block, outer-of
 use Rattle.multiportgraph.specs.HiddenStays.{true-not-false}
 use Rattle.multiportgraph.specs.WellFormed.{inner#, Fine, Seen, lift, outer, IsEnd}
 use Rattle.multiportgraph.specs.LinkCutLaws.{nowhere-not-to, at-spot-is, end-is-here, end-is-same}
-use Rattle.multiportgraph.specs.Places.{Place, Wire, Spot, spot, atSpot, atEnd, touches}
+use Rattle.portgraph.specs.Places.{Place, Wire, Spot, spot, atSpot, atEnd, touches, anyTouches}
 use Rattle.multiportgraph.specs.Reading.{isHidden, isSplit, copySide}
 use Rattle.multiportgraph.specs.Tidy as kit
 use Rattle.multiportgraph.specs.TidyLaws.{tidied-done, LastLinked, empty-above}
@@ -28,7 +28,7 @@ use Rattle.multiportgraph.specs.declared.multiportgraph.PortTidied.{PortTidied}
 use Rattle.multiportgraph.specs.declared.multiportgraph.TidyAnswer.the-variants as tidying
 use Rattle.portgraph.specs.GoodSlots.{same-place}
 use Rattle.theorems.specs.Book as book
-use Rattle.theorems.specs.Book.{Book, anyTouches}
+use Rattle.theorems.specs.Book.{Book}
 use Rattle.theorems.specs.BookLaws.{or-true}
 use Rattle.theorems.specs.Conditions.{cut-dead}
 use Rattle.theorems.specs.PortCases.{seen-block-port}

@@ -16,7 +16,7 @@ use Rattle.multiportgraph.specs.Listed.{listAfter}
 use Rattle.multiportgraph.specs.ListScans.{Writing}
 use Rattle.multiportgraph.specs.declared.multiportgraph.Refusal.{Refusal}
 use Rattle.multiportgraph.specs.declared.multiportgraph.Refusal.the-variants.{BadOffset, TooManyPorts, UnknownNode, HiddenNode, MovesTooShort, UnknownPort, HiddenPort, UnknownOffset, NoRoom, UnknownSecondPort, IncompatibleDirections, AlreadyLinked, InputWired}
-use Rattle.multiportgraph.specs.declared.multiportgraph.Release.the-variants.{One}
+use Rattle.portgraph.specs.declared.release.Release.the-variants.{One}
 use Rattle.records.specs.Words.{bytesOf}
 use Rattle.records.specs.WordLaws.{bytes-append, bytes-long}
 use Rattle.records.specs.Run.{five}

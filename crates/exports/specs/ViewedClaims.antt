@@ -6,7 +6,7 @@ use lib.ListN.{getD, take, drop}
 use Rattle.portgraph.specs.Lists.{range, Member, Once, Rising}
 use Rattle.portgraph.specs.declared.direction.Direction.{Direction}
 use Rattle.portgraph.specs.declared.direction.Direction.the-variants.{Incoming, Outgoing}
-use Rattle.multiportgraph.specs.Places.{Place, Wire, spot}
+use Rattle.portgraph.specs.Places.{Place, Wire, spot}
 use Rattle.theorems.specs.Book.{Block, Book, spotOf}
 
 -- What is read: blocks, and wires by their ends.

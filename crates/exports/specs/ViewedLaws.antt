@@ -17,9 +17,9 @@ use Rattle.portgraph.specs.declared.node_entry.NodeMeta.{NodeMeta}
 use Rattle.multiportgraph.specs.Ends.{count-of, ports-of-side, outer-seen, ends-join-ends, place-of-sub}
 use Rattle.multiportgraph.specs.WellFormed.{inner#, Fine, BlockIs, Seen, lift}
 use Rattle.multiportgraph.specs.Listed.{endNumbers, wireNumbers, wiresListed, firstPort, blockNumbers, blocksListed}
-use Rattle.multiportgraph.specs.Listing.{member-map, map-member, member-flatMap, rising-map}
+use Rattle.portgraph.specs.Listing.{member-map, map-member, member-flatMap, rising-map}
 use Rattle.multiportgraph.specs.ListReads.{blocks-length, wires-length}
-use Rattle.multiportgraph.specs.Places.{Place, Wire, spot}
+use Rattle.portgraph.specs.Places.{Place, Wire, spot}
 use Rattle.multiportgraph.specs.Reading.{subport#}
 use Rattle.multiportgraph.specs.WalkRule.{listed-is-wire, wire-is-listed, listed-once}
 use Rattle.multiportgraph.specs.Wires.{blocks, allWires, sideLinks, placeOf, wirePlaces, portsOfSide}

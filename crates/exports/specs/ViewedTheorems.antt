@@ -9,7 +9,7 @@ use Rattle.portgraph.specs.Limits.{nodeSlots, portSlots}
 use Rattle.multiportgraph.specs.Calls.{visibleNodes, visibleLinks}
 use Rattle.multiportgraph.specs.Listed.{listAfter}
 use Rattle.multiportgraph.specs.declared.multiportgraph.MultiPortGraph.{MultiPortGraph}
-use Rattle.multiportgraph.specs.declared.multiportgraph.Release.the-variants.{One}
+use Rattle.portgraph.specs.declared.release.Release.the-variants.{One}
 use Rattle.theorems.specs.Book.{Book}
 use Rattle.theorems.specs.CallLaws.{rel-run}
 use Rattle.theorems.specs.History.{State, run}

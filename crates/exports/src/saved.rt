@@ -2,11 +2,11 @@
 use files::save::SaveAnswer;
 use files::save::save_lent;
 use multiportgraph::lent::no_totals;
-use multiportgraph::multiportgraph::Release;
 use portgraph::index::FREE_LISTS;
 use portgraph::index::NODE_SLOTS;
 use portgraph::index::PORT_SLOTS;
 use portgraph::lent::NODE_WORDS;
+use portgraph::release::Release;
 use records::lent::run_tables;
 ghost use mathlib.Core.Path.{_≡_};
 ghost use Rattle.exports.specs.Exports.{saveTold, saveReturn, saveWritten};

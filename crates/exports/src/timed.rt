@@ -2,12 +2,12 @@
 use multiportgraph::lent::no_totals;
 use multiportgraph::lent_graph::graph_of_tables;
 use multiportgraph::multiportgraph::MultiPortGraph;
-use multiportgraph::multiportgraph::Release;
 use portgraph::index::FREE_LISTS;
 use portgraph::index::NODE_SLOTS;
 use portgraph::index::NodeIndex;
 use portgraph::index::PORT_SLOTS;
 use portgraph::lent::NODE_WORDS;
+use portgraph::release::Release;
 use records::answers::refusal_words;
 use records::lent::run_tables;
 use timing::answers::LongestAnswer;

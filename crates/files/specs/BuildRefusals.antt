@@ -16,14 +16,14 @@ use Rattle.portgraph.specs.declared.direction.Direction.the-variants.{Incoming,
 use Rattle.multiportgraph.specs.Calls.{addBlock, linkPair}
 use Rattle.multiportgraph.specs.Graph.{emptyGraph}
 use Rattle.multiportgraph.specs.WellFormed.{inner#}
-use Rattle.multiportgraph.specs.Listing.{member-left, member-right}
-use Rattle.multiportgraph.specs.Places.{Wire}
+use Rattle.portgraph.specs.Listing.{member-left, member-right}
+use Rattle.portgraph.specs.Places.{Wire}
 use Rattle.multiportgraph.specs.LinkCutLaws.{fine-empty}
 use Rattle.multiportgraph.specs.Space.{roomOf, overflows, linkWorks}
 use Rattle.multiportgraph.specs.SpaceLaws.{link-space}
 use Rattle.multiportgraph.specs.declared.multiportgraph.MultiPortGraph.{MultiPortGraph}
-use Rattle.multiportgraph.specs.declared.multiportgraph.Release.{Release}
-use Rattle.multiportgraph.specs.declared.multiportgraph.Release.the-variants.{Two}
+use Rattle.portgraph.specs.declared.release.Release.{Release}
+use Rattle.portgraph.specs.declared.release.Release.the-variants.{Two}
 use Rattle.multiportgraph.specs.declared.multiportgraph.AddAnswer.{AddAnswer}
 use Rattle.multiportgraph.specs.declared.multiportgraph.AddAnswer.the-variants as add
 use Rattle.multiportgraph.specs.declared.multiportgraph.NodeAdded.{NodeAdded}

@@ -19,11 +19,11 @@ use Rattle.multiportgraph.specs.HiddenStays.{true-not-false}
 use Rattle.multiportgraph.specs.Graph.{emptyGraph}
 use Rattle.multiportgraph.specs.WellFormed.{MultiWf}
 use Rattle.multiportgraph.specs.LentLaws.{empty-in}
-use Rattle.multiportgraph.specs.Listing.{length-map}
+use Rattle.portgraph.specs.Listing.{length-map}
 use Rattle.multiportgraph.specs.MultiLent.{multiIn, noTotals}
 use Rattle.multiportgraph.specs.declared.lent.Totals.{Totals}
 use Rattle.multiportgraph.specs.declared.multiportgraph.MultiPortGraph.{MultiPortGraph}
-use Rattle.multiportgraph.specs.declared.multiportgraph.Release.{Release}
+use Rattle.portgraph.specs.declared.release.Release.{Release}
 use Rattle.multiportgraph.specs.declared.multiportgraph.AddAnswer.{AddAnswer}
 use Rattle.multiportgraph.specs.declared.multiportgraph.AddAnswer.the-variants as add
 use Rattle.multiportgraph.specs.declared.multiportgraph.LinkAnswer.{LinkAnswer}

@@ -9,7 +9,7 @@ use lib.Dec.{eqb, ltb}
 use lib.ListN.{length, getD}
 use Rattle.portgraph.specs.Limits.{nodeSlots, portSlots, nodePorts}
 use Rattle.portgraph.specs.Lists.{filter, Member, Rising}
-use Rattle.multiportgraph.specs.Places.{Wire, flag}
+use Rattle.portgraph.specs.Places.{Wire, flag}
 use Rattle.theorems.specs.Book.{Block, Book}
 use Rattle.theorems.specs.Claims.{count}
 use Rattle.files.specs.View.{BlockPorts, RankWire, View, isBefore, rankWire}

@@ -10,7 +10,7 @@ use borrow.Author.Tests.{le-leb}
 use Rattle.portgraph.specs.Limits.{nodeSlots, portSlots, nodePorts}
 use Rattle.portgraph.specs.Lists.{Rising}
 use Rattle.multiportgraph.specs.Calls.{visibleNodes, visibleLinks}
-use Rattle.multiportgraph.specs.declared.multiportgraph.Release.{Release}
+use Rattle.portgraph.specs.declared.release.Release.{Release}
 use Rattle.theorems.specs.Book.{Call}
 use Rattle.theorems.specs.History.{run}
 use Rattle.theorems.specs.CallLaws.{rel-run}

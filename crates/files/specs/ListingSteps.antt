@@ -14,10 +14,10 @@ use Rattle.portgraph.specs.ResizeSteps.{sets-append}
 use Rattle.multiportgraph.specs.HiddenStays.{true-not-false}
 use Rattle.multiportgraph.specs.Graph.{emptyGraph}
 use Rattle.multiportgraph.specs.Listed.{listAfter}
-use Rattle.multiportgraph.specs.Listing.{length-map}
+use Rattle.portgraph.specs.Listing.{length-map}
 use Rattle.multiportgraph.specs.Wires.{blocks, wiresWalked}
 use Rattle.multiportgraph.specs.declared.multiportgraph.MultiPortGraph.{MultiPortGraph}
-use Rattle.multiportgraph.specs.declared.multiportgraph.Release.{Release}
+use Rattle.portgraph.specs.declared.release.Release.{Release}
 use Rattle.theorems.specs.CallLaws.{rel-run}
 use Rattle.theorems.specs.History.{run}
 use Rattle.files.specs.View.{BlockPorts, RankWire, View, rankAmong, sorted, rankWire, viewOf}

@@ -11,11 +11,11 @@ use Rattle.portgraph.specs.Model.{Model, Slots, live, gone, countOf}
 use Rattle.portgraph.specs.declared.direction.Direction.the-variants.{Incoming, Outgoing}
 use Rattle.multiportgraph.specs.WellFormed.{Fine}
 use Rattle.multiportgraph.specs.Ends.{count-of}
-use Rattle.multiportgraph.specs.Listing.{member-map, member-right}
+use Rattle.portgraph.specs.Listing.{member-map, member-right}
 use Rattle.multiportgraph.specs.Wires.{blocks}
 use Rattle.multiportgraph.specs.declared.multiportgraph.MultiPortGraph.{MultiPortGraph}
-use Rattle.multiportgraph.specs.declared.multiportgraph.Release.{Release}
-use Rattle.multiportgraph.specs.declared.multiportgraph.Release.the-variants.{Two}
+use Rattle.portgraph.specs.declared.release.Release.{Release}
+use Rattle.portgraph.specs.declared.release.Release.the-variants.{Two}
 use Rattle.multiportgraph.specs.declared.multiportgraph.Refusal.{Refusal}
 use Rattle.multiportgraph.specs.declared.multiportgraph.Refusal.the-variants.{NoRoom, InputWired}
 use Rattle.multiportgraph.specs.Graph.{emptyGraph}

@@ -11,8 +11,8 @@ use Rattle.multiportgraph.specs.Graph.{emptyGraph}
 use Rattle.multiportgraph.specs.Space.{roomOf, overflows, linkWorks}
 use Rattle.multiportgraph.specs.declared.multiportgraph.Refusal.{Refusal}
 use Rattle.multiportgraph.specs.declared.multiportgraph.Refusal.the-variants.{TooManyPorts, NoRoom, InputWired}
-use Rattle.multiportgraph.specs.declared.multiportgraph.Release.{Release}
-use Rattle.multiportgraph.specs.declared.multiportgraph.Release.the-variants.{Two}
+use Rattle.portgraph.specs.declared.release.Release.{Release}
+use Rattle.portgraph.specs.declared.release.Release.the-variants.{Two}
 use Rattle.theorems.specs.History.{run}
 use Rattle.theorems.specs.CallLaws.{rel-run}
 use Rattle.files.specs.View.{BlockPorts, RankWire, View}

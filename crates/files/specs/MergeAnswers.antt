@@ -13,11 +13,11 @@ use Rattle.portgraph.specs.Lists.{Member}
 use Rattle.multiportgraph.specs.HiddenStays.{true-not-false}
 use Rattle.multiportgraph.specs.Graph.{emptyGraph}
 use Rattle.multiportgraph.specs.Listed.{listAfter}
-use Rattle.multiportgraph.specs.Listing.{member-right, member-append, length-map}
+use Rattle.portgraph.specs.Listing.{member-right, member-append, length-map}
 use Rattle.multiportgraph.specs.Wires as graph
 use Rattle.multiportgraph.specs.Wires.{wiresWalked}
-use Rattle.multiportgraph.specs.declared.multiportgraph.Release.{Release}
-use Rattle.multiportgraph.specs.declared.multiportgraph.Release.the-variants.{One, Two}
+use Rattle.portgraph.specs.declared.release.Release.{Release}
+use Rattle.portgraph.specs.declared.release.Release.the-variants.{One, Two}
 use Rattle.multiportgraph.specs.declared.multiportgraph.Refusal.{Refusal}
 use Rattle.multiportgraph.specs.declared.multiportgraph.Refusal.the-variants.{TooManyPorts, NoRoom, InputWired}
 use Rattle.theorems.specs.History.{run}

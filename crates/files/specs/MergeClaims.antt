@@ -5,7 +5,7 @@ use mathlib.Core.List.{List}
 use Prim.Native.Nat.{ℕ, _≤_, _<_}
 use lib.ListN.{length}
 use Rattle.multiportgraph.specs.declared.multiportgraph.Refusal.{Refusal}
-use Rattle.multiportgraph.specs.declared.multiportgraph.Release.the-variants.{One}
+use Rattle.portgraph.specs.declared.release.Release.the-variants.{One}
 use Rattle.files.specs.Loading.{isWhole, isLaid, loadAnswer}
 use Rattle.files.specs.Merging.{mergedFile}
 use Rattle.files.specs.declared.load.LoadAnswer.the-variants as load

@@ -13,9 +13,8 @@ use Rattle.portgraph.specs.ResizeSteps.{sets-append}
 use Rattle.multiportgraph.specs.HiddenStays.{true-not-false}
 use Rattle.multiportgraph.specs.Graph.{emptyGraph}
 use Rattle.multiportgraph.specs.Listed.{listAfter}
-use Rattle.multiportgraph.specs.Listing.{length-map}
-use Rattle.multiportgraph.specs.CountLaws.{length-range}
-use Rattle.multiportgraph.specs.declared.multiportgraph.Release.the-variants.{One}
+use Rattle.portgraph.specs.Listing.{length-map, length-range}
+use Rattle.portgraph.specs.declared.release.Release.the-variants.{One}
 use Rattle.files.specs.View.{BlockPorts, RankWire, View}
 use Rattle.files.specs.Layout.{Record, blockOf, blockRecord, wireOf, wireRecord, fieldAt, unitsFor, unitsOf, bytesOf, fileLength, unbytes}
 use Rattle.files.specs.LayoutLaws.{FieldsFit, ViewFits, units-length, file-length, view-read-back}

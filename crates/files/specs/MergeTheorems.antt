@@ -8,7 +8,7 @@ use native.Mathlib.Omega.{arith}
 use lib.ListN.{length, drop}
 use borrow.Author.Tests.{le-leb}
 use Rattle.multiportgraph.specs.Listed.{listAfter}
-use Rattle.multiportgraph.specs.declared.multiportgraph.Release.the-variants.{One}
+use Rattle.portgraph.specs.declared.release.Release.the-variants.{One}
 use Rattle.multiportgraph.specs.declared.multiportgraph.Refusal.{Refusal}
 use Rattle.multiportgraph.specs.declared.multiportgraph.Refusal.the-variants.{TooManyPorts, NoRoom}
 use Rattle.theorems.specs.History.{run}

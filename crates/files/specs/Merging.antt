@@ -6,7 +6,7 @@ use lib.Dec.{leb}
 use lib.ListN.{length}
 use Rattle.multiportgraph.specs.Answers.{refusalNumbers}
 use Rattle.multiportgraph.specs.Listed.{listAfter}
-use Rattle.multiportgraph.specs.declared.multiportgraph.Release.the-variants.{One}
+use Rattle.portgraph.specs.declared.release.Release.the-variants.{One}
 use Rattle.files.specs.View.{RankWire, View, insertAll}
 use Rattle.files.specs.Layout.{bytesOf, unbytes}
 use Rattle.files.specs.Loading.{isWhole, isLaid, loadAnswer}

@@ -28,7 +28,7 @@ use Rattle.multiportgraph.specs.LinkCutLaws.{fine-empty}
 use Rattle.multiportgraph.specs.Space.{Room, roomOf, overflows, addWorks}
 use Rattle.multiportgraph.specs.SpaceLaws.{Spaced, room-is, room-added, add-space}
 use Rattle.multiportgraph.specs.declared.multiportgraph.MultiPortGraph.{MultiPortGraph}
-use Rattle.multiportgraph.specs.declared.multiportgraph.Release.{Release}
+use Rattle.portgraph.specs.declared.release.Release.{Release}
 use Rattle.multiportgraph.specs.declared.multiportgraph.AddAnswer.{AddAnswer}
 use Rattle.multiportgraph.specs.declared.multiportgraph.AddAnswer.the-variants as add
 use Rattle.multiportgraph.specs.declared.multiportgraph.NodeAdded.{NodeAdded}

@@ -9,12 +9,12 @@ use lib.ListN.{getD}
 use Rattle.portgraph.specs.Lists.{Member, Once}
 use Rattle.portgraph.specs.Model.{Model}
 use Rattle.portgraph.specs.GoodSlots.{zero-is-not-one}
-use Rattle.multiportgraph.specs.Listing.{member-left, member-right}
-use Rattle.multiportgraph.specs.Places.{Wire, flag}
+use Rattle.portgraph.specs.Listing.{member-left, member-right}
+use Rattle.portgraph.specs.Places.{Wire, flag}
 use Rattle.multiportgraph.specs.Wires.{blocks}
 use Rattle.multiportgraph.specs.declared.multiportgraph.MultiPortGraph.{MultiPortGraph}
-use Rattle.multiportgraph.specs.declared.multiportgraph.Release.{Release}
-use Rattle.multiportgraph.specs.declared.multiportgraph.Release.the-variants.{Two}
+use Rattle.portgraph.specs.declared.release.Release.{Release}
+use Rattle.portgraph.specs.declared.release.Release.the-variants.{Two}
 use Rattle.multiportgraph.specs.declared.multiportgraph.Refusal.the-variants.{NoRoom, InputWired}
 use Rattle.theorems.specs.Book.{Call, Book}
 use Rattle.theorems.specs.History.{run}

@@ -9,9 +9,9 @@ use lib.ListN.{length, length-append}
 use Rattle.portgraph.specs.Lists.{filter}
 use Rattle.portgraph.specs.GoodSlots.{zero-is-not-one}
 use Rattle.multiportgraph.specs.Graph.{emptyGraph}
-use Rattle.multiportgraph.specs.declared.multiportgraph.Release.{Release}
-use Rattle.multiportgraph.specs.Listing.{length-map}
-use Rattle.multiportgraph.specs.Places.{Place, Wire, Spot, nowhere, spot, touches, atSpot, atEnd, ofNode, ofDropped}
+use Rattle.portgraph.specs.declared.release.Release.{Release}
+use Rattle.portgraph.specs.Listing.{length-map}
+use Rattle.portgraph.specs.Places.{Place, Wire, Spot, nowhere, spot, touches, atSpot, atEnd, ofNode, ofDropped, without, nextOffset}
 use Rattle.multiportgraph.specs.declared.multiportgraph.AddAnswer.the-variants as add
 use Rattle.multiportgraph.specs.declared.multiportgraph.RemoveAnswer.the-variants as remove
 use Rattle.multiportgraph.specs.declared.multiportgraph.SetAnswer.the-variants as resize
@@ -21,7 +21,7 @@ use Rattle.multiportgraph.specs.declared.multiportgraph.CutAnswer.{CutAnswer}
 use Rattle.multiportgraph.specs.declared.multiportgraph.CutAnswer.the-variants as cutting
 use Rattle.multiportgraph.specs.declared.multiportgraph.Refusal.{Refusal}
 use Rattle.theorems.specs.Book as book
-use Rattle.theorems.specs.Book.{Call, AnswerOf, Book, emptyBook, spotOf, without, nextOffset, addWire, readBy, firstMark, secondMark, notBlock, bookAnswer, bookAdd, bookRemove, bookSet, bookLink, bookLinkSub, bookCut}
+use Rattle.theorems.specs.Book.{Call, AnswerOf, Book, emptyBook, spotOf, addWire, readBy, firstMark, secondMark, notBlock, bookAnswer, bookAdd, bookRemove, bookSet, bookLink, bookLinkSub, bookCut}
 use Rattle.theorems.specs.History.{State, next, runFrom, runFromUnder, run, runUnder, step}
 use Rattle.theorems.specs.HistoryCounts.{visible-links-of-history, visible-nodes-of-history}
 use Rattle.theorems.specs.Conditions.{RefusedBy}

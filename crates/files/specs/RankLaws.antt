@@ -14,7 +14,7 @@ use Rattle.portgraph.specs.Model.{Model}
 use Rattle.portgraph.specs.declared.node_entry.NodeMeta.{NodeMeta}
 use Rattle.multiportgraph.specs.Wires.{isBlock, blocks}
 use Rattle.multiportgraph.specs.WellFormed.{BlockIs}
-use Rattle.multiportgraph.specs.Listing.{Apart, member-filter, filter-member, filter-none, member-map, map-member, rising-filter, rising-map, range-rises, length-map}
+use Rattle.portgraph.specs.Listing.{Apart, member-filter, filter-member, filter-none, member-map, map-member, rising-filter, rising-map, range-rises, length-map}
 use Rattle.multiportgraph.specs.declared.multiportgraph.MultiPortGraph.{MultiPortGraph}
 use Rattle.theorems.specs.Book.{Block, Book}
 use Rattle.theorems.specs.WireRule.{OtherNode, Rel}

@@ -16,14 +16,14 @@ use Rattle.portgraph.specs.Lists.{range, Member, Rising}
 use Rattle.portgraph.specs.Model.{Model}
 use Rattle.portgraph.specs.ResizeSteps.{sets-append}
 use Rattle.portgraph.specs.declared.direction.Direction.the-variants.{Incoming, Outgoing}
-use Rattle.multiportgraph.specs.Places.{Wire}
+use Rattle.portgraph.specs.Places.{Wire}
 use Rattle.multiportgraph.specs.Calls.{visibleNodes, visibleLinks}
 use Rattle.multiportgraph.specs.WellFormed.{Fine, MultiWf}
 use Rattle.multiportgraph.specs.Wires.{blocks, allWires, wiresWalked, wirePlaces, placeOf}
 use Rattle.multiportgraph.specs.Listed.{endNumbers, wireNumbers, wiresListed, blockNumbers, blocksListed, listAfter}
 use Rattle.multiportgraph.specs.ListReads.{wires-length, blocks-length}
-use Rattle.multiportgraph.specs.Listing.{Apart, member-map, map-member, member-range, range-member, length-map}
-use Rattle.multiportgraph.specs.CountLaws.{length-range, visible-nodes, visible-links}
+use Rattle.portgraph.specs.Listing.{Apart, member-map, map-member, member-range, range-member, length-map, length-range}
+use Rattle.multiportgraph.specs.CountLaws.{visible-nodes, visible-links}
 use Rattle.multiportgraph.specs.declared.multiportgraph.MultiPortGraph.{MultiPortGraph}
 use Rattle.multiportgraph.specs.declared.multiportgraph.SubportLink.{SubportLink}
 use Rattle.theorems.specs.PortListing.{rising-apart}

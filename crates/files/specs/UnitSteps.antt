@@ -8,7 +8,7 @@ use Prim.Native.Nat.{ℕ, zero, suc, _+_, _-_, _*_, _/_, _%_, _≤_, _<_, min}
 use native.Mathlib.Omega.{arith}
 use lib.ListN.{length, getD, take, drop, replicate, length-append, length-take, length-drop, List·getD-eq-default, List·getD-map, List·getD-append, drop-of-length-le, replicate-append-replicate}
 use lib.Seq.{sets, length-sets, sets-eq, drop-cons, drop-drop, take-nil, length-take-le, getD-append-add}
-use Rattle.multiportgraph.specs.Listing.{length-map}
+use Rattle.portgraph.specs.Listing.{length-map}
 use Rattle.multiportgraph.specs.ListScans.{Writing}
 use Rattle.portgraph.specs.Lists.{range}
 use Rattle.portgraph.specs.Model.{total}

@@ -6,7 +6,7 @@ use Prim.Native.Nat.{ℕ, suc}
 use lib.Dec.{eqb, ltb}
 use Rattle.portgraph.specs.Lookups.{numPorts}
 use Rattle.portgraph.specs.declared.direction.Direction.the-variants.{Incoming, Outgoing}
-use Rattle.multiportgraph.specs.Places.{Wire}
+use Rattle.portgraph.specs.Places.{Wire}
 use Rattle.multiportgraph.specs.Wires.{blocks, wiresWalked}
 use Rattle.multiportgraph.specs.declared.multiportgraph.MultiPortGraph.{MultiPortGraph}
 

@@ -17,15 +17,15 @@ use Rattle.portgraph.specs.GoodSlots.{slot-in-range, slots-apart}
 use Rattle.portgraph.specs.declared.direction.Direction.{Direction}
 use Rattle.portgraph.specs.declared.direction.Direction.the-variants.{Incoming, Outgoing}
 use Rattle.portgraph.specs.declared.node_entry.NodeMeta.{NodeMeta}
-use Rattle.multiportgraph.specs.Places.{Place, Wire, flag}
+use Rattle.portgraph.specs.Places.{Place, Wire, flag}
 use Rattle.multiportgraph.specs.Wires.{Walked, blocks, allWires, walked, wiresWalked, wirePlaces}
 use Rattle.multiportgraph.specs.Calls.{visibleNodes, visibleLinks}
 use Rattle.multiportgraph.specs.WellFormed.{Fine, MultiWf, BlockIs, Seen, lift, outer, IsEnd, WireIn}
 use Rattle.multiportgraph.specs.HiddenStays.{true-not-false}
 use Rattle.multiportgraph.specs.Ends.{OuterOf, count-of, outer-seen, outer-apart, ends-join-ends, wires-by-out, wires-by-into, out-not-into}
-use Rattle.multiportgraph.specs.Listing.{Apart, apart-below, member-map, member-append, length-map, rising-append, rising-map, range-rises, range-member}
+use Rattle.portgraph.specs.Listing.{Apart, apart-below, member-map, member-append, length-map, rising-append, rising-map, range-rises, range-member, partners, length-range}
 use Rattle.multiportgraph.specs.WalkRule.{walk-is-listing, walked-is-wires, walked-once, listed-is-wire, listed-once}
-use Rattle.multiportgraph.specs.CountLaws.{partners, length-range, visible-nodes, visible-links}
+use Rattle.multiportgraph.specs.CountLaws.{visible-nodes, visible-links}
 use Rattle.multiportgraph.specs.declared.multiportgraph.MultiPortGraph.{MultiPortGraph}
 use Rattle.theorems.specs.Book.{Block, Book}
 use Rattle.theorems.specs.BookLaws.{same-count}

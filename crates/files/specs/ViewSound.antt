@@ -10,14 +10,14 @@ use Rattle.portgraph.specs.Model as model
 use Rattle.portgraph.specs.Model.{Model}
 use Rattle.portgraph.specs.declared.direction.Direction.{Direction}
 use Rattle.portgraph.specs.declared.direction.Direction.the-variants.{Incoming, Outgoing}
-use Rattle.multiportgraph.specs.Places.{Place, Wire}
+use Rattle.portgraph.specs.Places.{Place, Wire}
 use Rattle.multiportgraph.specs.Wires.{blocks, wiresWalked}
 use Rattle.multiportgraph.specs.WellFormed.{Fine, outer, IsEnd, WireIn}
 use Rattle.multiportgraph.specs.Ends.{count-of, outer-seen, ends-join-ends}
-use Rattle.multiportgraph.specs.Listing.{member-map, length-map}
+use Rattle.portgraph.specs.Listing.{member-map, length-map}
 use Rattle.multiportgraph.specs.WalkRule.{walked-is-wires}
 use Rattle.multiportgraph.specs.declared.multiportgraph.MultiPortGraph.{MultiPortGraph}
-use Rattle.multiportgraph.specs.declared.multiportgraph.Release.{Release}
+use Rattle.portgraph.specs.declared.release.Release.{Release}
 use Rattle.theorems.specs.Book.{Call}
 use Rattle.theorems.specs.History.{run}
 use Rattle.theorems.specs.CallLaws.{rel-run}

@@ -2,9 +2,9 @@
 use crate::bytes::field_at;
 use crate::load::LoadAnswer;
 use crate::wires::place;
+use lent_calls::lent_blocks::add_lent;
+use lent_linking::lent_links::link_lent;
 use multiportgraph::lent::Totals;
-use multiportgraph::lent::add_lent;
-use multiportgraph::lent_links::link_lent;
 use multiportgraph::multiportgraph::AddAnswer;
 use multiportgraph::multiportgraph::LinkAnswer;
 use portgraph::index::FREE_LISTS;

@@ -9,7 +9,7 @@ use Rattle.portgraph.specs.Lists.{Member}
 use Rattle.portgraph.specs.GoodLaws.{emptyModel}
 use Rattle.multiportgraph.specs.Graph.{emptyGraph}
 use Rattle.multiportgraph.specs.LinkCutLaws.{fine-empty}
-use Rattle.multiportgraph.specs.declared.multiportgraph.Release.{Release}
+use Rattle.portgraph.specs.declared.release.Release.{Release}
 use Rattle.multiportgraph.specs.declared.multiportgraph.Refusal.the-variants.{NoRoom}
 use Rattle.theorems.specs.Book.{emptyBook}
 use Rattle.theorems.specs.History.{State, runUnder}

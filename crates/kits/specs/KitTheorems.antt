@@ -11,7 +11,7 @@ use Rattle.portgraph.specs.Limits.{present}
 use Rattle.portgraph.specs.Lists.{Member}
 use Rattle.multiportgraph.specs.Graph.{emptyGraph}
 use Rattle.multiportgraph.specs.declared.multiportgraph.MultiPortGraph.{MultiPortGraph}
-use Rattle.multiportgraph.specs.declared.multiportgraph.Release.{Release}
+use Rattle.portgraph.specs.declared.release.Release.{Release}
 use Rattle.multiportgraph.specs.declared.multiportgraph.Refusal.the-variants.{NoRoom}
 use Rattle.theorems.specs.Book.{Call}
 use Rattle.theorems.specs.History.{State, run, runUnder}

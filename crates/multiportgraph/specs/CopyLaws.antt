@@ -35,7 +35,7 @@ use Rattle.multiportgraph.specs.HiddenStays.{same-wire, outer-kept, true
 use Rattle.multiportgraph.specs.LinkCutLaws.{to-same, end-is-here, CutDone, CutSays, CutSaid, cut-end, endIs, touches-neither, touched-not-out, touched-not-into, at-spot-here, at-spot-is}
 use Rattle.multiportgraph.specs.declared.multiportgraph.MultiPortGraph.{MultiPortGraph}
 use Rattle.multiportgraph.specs.declared.multiportgraph.CutAnswer.the-variants as cutting
-use Rattle.multiportgraph.specs.Places.{Place, Wire, touches, atSpot, atEnd, spot, flag}
+use Rattle.portgraph.specs.Places.{Place, Wire, touches, atSpot, atEnd, spot, flag}
 use Rattle.multiportgraph.specs.Graph.{withGraph}
 use Rattle.multiportgraph.specs.HiddenNodes.{removeCopy, unsplit}
 use Rattle.multiportgraph.specs.Cases.{cutSeen}

@@ -25,10 +25,10 @@ use Rattle.multiportgraph.specs.Wires.{isBlock, blocks, portsOfSide, all
 use Rattle.multiportgraph.specs.Walks.{portsByBlock}
 use Rattle.multiportgraph.specs.WellFormed.{copyPlace, Fine, Seen, outer, IsEnd, WireIn, subportsOfSlot}
 use Rattle.multiportgraph.specs.Ends.{split-has-copy, one-copy, unsplit-no-copy, copy-or-end, outer-seen, outer-apart, ends-join-ends, main-seen, main-side, main-back, count-of, wires-by-out}
-use Rattle.multiportgraph.specs.Listing.{Apart, member-left, member-right, member-append, member-filter, filter-member, member-flatMap, flatMap-member, member-map, map-member, length-map, range-member, in-wires, wire-member, filter-all, rising-append, rising-filter, rising-flatMap, rising-map, range-rises}
+use Rattle.portgraph.specs.Listing.{Apart, member-left, member-right, member-append, member-filter, filter-member, member-flatMap, flatMap-member, member-map, map-member, length-map, range-member, in-wires, wire-member, filter-all, rising-append, rising-filter, rising-flatMap, rising-map, range-rises, length-range, partners}
 use Rattle.multiportgraph.specs.WalkRule.{listed-is-wire, wire-is-listed, listed-once}
 use Rattle.multiportgraph.specs.declared.multiportgraph.MultiPortGraph.{MultiPortGraph}
-use Rattle.multiportgraph.specs.Places.{Place, Wire, flag}
+use Rattle.portgraph.specs.Places.{Place, Wire, flag}
 
 -- Sums and lengths.
 
@@ -42,11 +42,6 @@ pub total-add : (n : ℕ) (f g : ℕ → ℕ) → total n (λ i. f i + g i) ≡ 
 unfolding total
 total-add zero f g = refl
 total-add (suc n) f g = let r = total-add n f g in omega arith
-
-pub length-range : (i n : ℕ) → length (range i n) ≡ n
-unfolding range
-length-range i zero = refl
-length-range i (suc n) = ap suc (length-range (suc i) n)
 
 -- the length of lists gathered over those numbers for which a test holds
 gathered-from : {A : Type 0} (g : ℕ → List A) (t : ℕ → Bool) (i n : ℕ) →
@@ -87,40 +82,6 @@ counted t n = ap length (sym (flatMap-alone (filter t (range 0 n)))) ∙ (gather
     go : (b : Bool) → cond b 1 0 ≡ flag b
     go true = refl
     go false = refl
-
--- Two lists of which each item of the one has a partner in the other, and no partner twice.
-
-module _ {B : Type 0} where
-  -- a list without the item at one of its places
-  abbrev except : (y : B) (l : List B) → Member y l → List B
-  except y (x ∷ l) (inl e) = l
-  except y (x ∷ l) (inr i) = x ∷ except y l i
-
-  length-except : (y : B) (l : List B) (i : Member y l) → suc (length (except y l i)) ≡ length l
-  length-except y (x ∷ l) (inl e) = refl
-  length-except y (x ∷ l) (inr i) = ap suc (length-except y l i)
-
-  still-there : (y : B) (l : List B) (i : Member y l) (z : B) → Member z l → (z ≡ y) ⊎ Member z (except y l i)
-  still-there y (x ∷ l) (inl e) z (inl p) = inl (p ∙ sym e)
-  still-there y (x ∷ l) (inl e) z (inr j) = inr j
-  still-there y (x ∷ l) (inr i) z (inl p) = inr (inl p)
-  still-there y (x ∷ l) (inr i) z (inr j) = ⊎-elim inl (λ k. inr (inr k)) (still-there y l i z j)
-
-module _ {A B : Type 0} (R : A → B → Type 0) (own : (x z : A) (y : B) → R x y → R z y → x ≡ z) where
-  pub partners : (a : List A) (b : List B) → Rising Apart a → ((x : A) → Member x a → (y : B) × Member y b × R x y) → length a ≤ length b
-  partners [] b r h = omega arith
-  partners (x ∷ a) b r h =
-      let k = partners a (except (p .0) b (p .1)) (r .1) others in
-      let l = length-except (p .0) b (p .1) in
-      omega arith
-    where
-      p : (y : B) × Member y b × R x y
-      p = h x (inl refl)
-
-      others : (z : A) → Member z a → (y : B) × Member y (except (p .0) b (p .1)) × R z y
-      others z i =
-          let q = h z (inr i) in
-          ⊎-elim (λ e. absurd (r .0 z i (own x z (p .0) (p .2) (subst (R z) e (q .2))))) (λ j. (q .0, j, q .2)) (still-there (p .0) b (p .1) (q .0) (q .1))
 
 once-apart : (l : List Wire) → Once l → Rising Apart l
 once-apart [] o = tt

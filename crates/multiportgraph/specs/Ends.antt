@@ -25,7 +25,7 @@ use Rattle.multiportgraph.specs.Wires.{portsOfSide, subportsOfPort, subp
 use Rattle.multiportgraph.specs.WellFormed.{inner#, copyPlace, Marked, copy-port, main-port, Fine, BlockIs, Seen, lift, outer, IsEnd, WireIn, SameBlocks}
 use Rattle.multiportgraph.specs.declared.multiportgraph.MultiPortGraph.{MultiPortGraph}
 use Rattle.multiportgraph.specs.declared.multiportgraph.SubportIndex.{SubportIndex}
-use Rattle.multiportgraph.specs.Places.{Place, Wire, wireOfSides}
+use Rattle.portgraph.specs.Places.{Place, Wire, wireOfSides}
 
 -- a port of a block, by its number
 pub record BlockPort (m : MultiPortGraph) (M : Model) (p n : ℕ) (d : Direction) : Type 0 where

@@ -25,7 +25,7 @@ use Rattle.multiportgraph.specs.Wires.{wireTo, portsOfSide}
 use Rattle.multiportgraph.specs.Walks.{fanOut, sumOf, blockFanOut, portLinks, portsOfNode}
 use Rattle.multiportgraph.specs.Lookups.{counted, portFanOut, nodeFanOut}
 use Rattle.multiportgraph.specs.LookupSteps.{start-at, block-at, meta-is, fan-out-at}
-use Rattle.multiportgraph.specs.Listing.{member-range}
+use Rattle.portgraph.specs.Listing.{member-range}
 use Rattle.multiportgraph.specs.ScanLaws.{block-not-hidden, row-fits, port-seen-there, ports-in-row}
 use Rattle.multiportgraph.specs.Scans.{spanFirst, spanCount, linksIn}
 use Rattle.multiportgraph.specs.ScanReads.{mark-told, count-plain, links-whole, first-subport, first-itself}

@@ -9,7 +9,7 @@ use Rattle.portgraph.specs.Calls.{newGraph}
 use Rattle.portgraph.specs.declared.portgraph.PortGraph.{PortGraph}
 use Rattle.multiportgraph.specs.Reading.{hidden, subports}
 use Rattle.multiportgraph.specs.declared.multiportgraph.MultiPortGraph.{MultiPortGraph}
-use Rattle.multiportgraph.specs.declared.multiportgraph.Release.{Release}
+use Rattle.portgraph.specs.declared.release.Release.{Release}
 
 abbrev pub multi : PortGraph → List Bool → List Bool → ℕ → ℕ → Release → MultiPortGraph
 multi g marks flags copies subs release =

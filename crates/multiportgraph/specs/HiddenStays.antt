@@ -24,7 +24,7 @@ use Rattle.portgraph.specs.declared.portgraph.PortGraph.{PortGraph}
 use Rattle.multiportgraph.specs.Reading.{isHidden, isSplit, copySide}
 use Rattle.multiportgraph.specs.WellFormed.{inner#, copyPlace, Marked, copy-port, main-port, Fine, outer, IsEnd, WireIn, subportsOfSlot}
 use Rattle.multiportgraph.specs.declared.multiportgraph.MultiPortGraph.{MultiPortGraph}
-use Rattle.multiportgraph.specs.Places.{Place, Wire, flag}
+use Rattle.portgraph.specs.Places.{Place, Wire, flag}
 use Rattle.multiportgraph.specs.Graph.{withGraph}
 
 pub true-or-false : (b : Bool) → (b ≡ true) ⊎ (b ≡ false)

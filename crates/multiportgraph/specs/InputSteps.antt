@@ -22,8 +22,8 @@ use Rattle.multiportgraph.specs.Cases.{linkRefused, takenSeen, takenEnds
 use Rattle.multiportgraph.specs.CaseLaws.{link-taken, link-clean-taken, link-sub-taken}
 use Rattle.multiportgraph.specs.Inputs.{wiredAt, wiredPort, wiredIn, takenIn, takenSubIn, takenPortsIn}
 use Rattle.multiportgraph.specs.declared.multiportgraph.MultiPortGraph.{MultiPortGraph}
-use Rattle.multiportgraph.specs.declared.multiportgraph.Release.{Release}
-use Rattle.multiportgraph.specs.declared.multiportgraph.Release.the-variants as release
+use Rattle.portgraph.specs.declared.release.Release.{Release}
+use Rattle.portgraph.specs.declared.release.Release.the-variants as release
 use Rattle.multiportgraph.specs.declared.multiportgraph.LinkAnswer.{LinkAnswer}
 use Rattle.multiportgraph.specs.declared.multiportgraph.PortsLinked.{PortsLinked}
 use Rattle.multiportgraph.specs.declared.multiportgraph.Refusal.{Refusal}

@@ -10,7 +10,7 @@ use Rattle.multiportgraph.specs.TableReads.{seenIn, endIn}
 use Rattle.multiportgraph.specs.FanOutScans.{wiresAtIn}
 use Rattle.multiportgraph.specs.Refusals.{goodOffset, takenUnder}
 use Rattle.multiportgraph.specs.Cases.{takenSeen, takenEnds}
-use Rattle.multiportgraph.specs.declared.multiportgraph.Release.{Release}
+use Rattle.portgraph.specs.declared.release.Release.{Release}
 use Rattle.multiportgraph.specs.declared.multiportgraph.Refusal.{Refusal}
 use Rattle.multiportgraph.specs.declared.multiportgraph.Refusal.the-variants.{BadOffset}
 

@@ -46,9 +46,9 @@ use Rattle.multiportgraph.specs.declared.ends.SeenPort.{SeenPort}
 use Rattle.multiportgraph.specs.declared.ends.SeenPort.the-variants as seen-port
 use Rattle.multiportgraph.specs.declared.prepare.Prepared.{Prepared}
 use Rattle.multiportgraph.specs.declared.lent.Totals.{Totals}
-use Rattle.multiportgraph.specs.declared.lent_prepare.PreparedLent.{PreparedLent}
-use Rattle.multiportgraph.specs.declared.lent_needs.Need.{Need}
-use Rattle.multiportgraph.specs.declared.lent_needs.Takes.{Takes}
+use Rattle.multiportgraph.specs.declared.lent.PreparedLent.{PreparedLent}
+use Rattle.multiportgraph.specs.declared.lent.Need.{Need}
+use Rattle.multiportgraph.specs.declared.lent.Takes.{Takes}
 use Rattle.multiportgraph.specs.Graph.{withGraph}
 use Rattle.multiportgraph.specs.HiddenNodes.{grow, prepare}
 use Rattle.multiportgraph.specs.Cases.{linkRefused, linkSecond, linkFirst, linkLive, linkSeen}

@@ -29,7 +29,7 @@ use Rattle.multiportgraph.specs.BlockSteps.{wf-remove-copy}
 use Rattle.multiportgraph.specs.TableReads.{farIn, ownerIn}
 use Rattle.multiportgraph.specs.MultiLent.{multiIn, noTotals, portOfIn, copySideIn, farEntry, farPortIn, copyNodeIn, Sound}
 use Rattle.multiportgraph.specs.declared.multiportgraph.MultiPortGraph.{MultiPortGraph}
-use Rattle.multiportgraph.specs.declared.multiportgraph.Release.{Release}
+use Rattle.portgraph.specs.declared.release.Release.{Release}
 use Rattle.multiportgraph.specs.declared.lent.Totals.{Totals}
 use Rattle.multiportgraph.specs.Graph.{emptyGraph}
 use Rattle.multiportgraph.specs.HiddenNodes.{removeCopy, removeLone, unsplit}

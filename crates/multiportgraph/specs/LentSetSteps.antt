@@ -1,6 +1,6 @@
 -- Resizing a block over lent tables leaves the graph, and gives the answer, that its definition says.
 use mathlib.Core.Path.{_≡_, refl, sym, ap, _∙_, subst}
-use mathlib.Core.Bool.{Bool, false}
+use mathlib.Core.Bool.{Bool}
 use mathlib.Core.List.{List}
 use mathlib.Core.Logic.{_⊎_, ⊎-elim}
 use Prim.Native.Nat.{ℕ, _+_, _-_, _≤_}
@@ -10,7 +10,7 @@ use lib.Seq.{sets, length-sets}
 use Rattle.portgraph.specs.Limits.{nodePorts}
 use Rattle.portgraph.specs.Lookups.{metaAt}
 use Rattle.portgraph.specs.Model.{Wf}
-use Rattle.portgraph.specs.Resize.{Plan, refuse, same, inside, anew, planOf, setBy, setNumPorts, movesAfter, setNumPortsUnder}
+use Rattle.portgraph.specs.Resize.{Plan, refuse, same, inside, anew, planOf, setBy, setNumPorts, setNumPortsUnder}
 use Rattle.portgraph.specs.ResizeLaws.{wf-set}
 use Rattle.portgraph.specs.Lent as lower
 use Rattle.portgraph.specs.Lent.{metaIn, graphIn}
@@ -22,12 +22,11 @@ use Rattle.portgraph.specs.declared.lent.Counts.{Counts}
 use Rattle.portgraph.specs.declared.portgraph.PortGraph.{PortGraph}
 use Rattle.portgraph.specs.declared.resize.SetAnswer as lower-set
 use Rattle.portgraph.specs.declared.resize.SetAnswer.the-variants as lower-set-variants
-use Rattle.multiportgraph.specs.Reading.{isHidden}
-use Rattle.multiportgraph.specs.Calls.{setAs, setCounts, movesTold, movesToldUnder}
+use Rattle.multiportgraph.specs.Calls.{setAs, setCounts}
 use Rattle.multiportgraph.specs.MarkLaws.{length-layMarks}
 use Rattle.multiportgraph.specs.BlockSteps.{set-block, block-in, copies-dropped-most, copies-dropped-few, list-taken}
 use Rattle.multiportgraph.specs.PrepareSteps.{lower-wf}
-use Rattle.multiportgraph.specs.MultiLent.{multiIn, totalsCounts, Sound, FitsIf, Resizes, marksFollow, settled}
+use Rattle.multiportgraph.specs.MultiLent.{multiIn, totalsCounts, Sound, FitsIf, Resizes, settled}
 use Rattle.multiportgraph.specs.LentSteps.{found-fits}
 use Rattle.multiportgraph.specs.declared.multiportgraph.MultiPortGraph.{MultiPortGraph}
 use Rattle.multiportgraph.specs.declared.multiportgraph.SetAnswer.{SetAnswer}
@@ -144,7 +143,3 @@ module _ (nodes links owners heads : List ℕ) (marks flags : List Bool) (totals
         let done : after ≡ resized m n k i o g a = p ∙ ((λ j. settled (same j) n k (u j) a) ∙ settled-is m n k i o g a (r .meta) kept) in
         let z = set-block m n i o room (r .few) k (r .meta) (record { graph = g; answer = a }) a after (r .seen) (λ j. record { graph = e j; answer = f j }) refl done in
         (ap (λ (x : PortsSet). x .graph) z, q ∙ ap (λ (x : PortsSet). x .answer) z)
-
-  pub moves-told : (b b′ : List ℕ) → b′ ≡ movesAfter (graphIn nodes links owners heads (totals .counts)) n i o b → b′ ≡ movesTold m n i o b
-  unfolding movesToldUnder
-  moves-told b b′ j = rw (r .seen) j

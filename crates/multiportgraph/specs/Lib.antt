@@ -2,7 +2,6 @@
 -- `theorems`; here stand the definitions that contracts and theorems cite, and the laws behind the code.
 --
 -- What must be believed: that these definitions, over the lower crate's, say what document 01 says. In this order:
---   Places        places and the wires between them, with no graph in their types
 --   Reading       how a port number is read: live, hidden, split; ends and subports, and where an end stands
 --   Graph         a graph from its parts: every other graph is made by these (`withGraph`, `withMarks`, `withHidden`)
 --   Answers       01's numbers and values of each answer
@@ -23,7 +22,6 @@
 --   the work of a call is what it takes and gives back, and 10 is given exactly if a table would grow past its limit (SpaceLaws)
 --   words-of-graph, tables-fixed (LentGraph): the graph fixes each number of lent tables
 -- They speak in the words of Model (a node is live, a port stands at a place) and, for 10, of Space (the work of a call).
-pub mod Places
 pub mod Reading
 pub mod Graph
 pub mod Answers
@@ -55,7 +53,6 @@ pub mod Space
 -- laws: calls by cases; ends and listings; each change of a graph; readings off tables; room
 pub mod CaseLaws
 pub mod Ends
-pub mod Listing
 pub mod WalkRule
 pub mod CountLaws
 pub mod ScanLaws

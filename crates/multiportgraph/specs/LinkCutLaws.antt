@@ -39,7 +39,7 @@ use Rattle.multiportgraph.specs.WellFormed.{copyPlace, Fine, BlockIs, Se
 use Rattle.multiportgraph.specs.Ends.{BlockPort, EndOf, block-seen, end-read, ends-join-ends, outer-apart}
 use Rattle.multiportgraph.specs.HiddenStays.{same-wire, Alike, end-kept, kept-end, wire-kept, kept-wire, true-or-false, true-not-false, Frame, plain-frame, frame-fine, outer-kept, hidden-below, split-below}
 use Rattle.multiportgraph.specs.declared.multiportgraph.MultiPortGraph.{MultiPortGraph}
-use Rattle.multiportgraph.specs.declared.multiportgraph.Release.{Release}
+use Rattle.portgraph.specs.declared.release.Release.{Release}
 use Rattle.multiportgraph.specs.declared.multiportgraph.AddAnswer.{AddAnswer}
 use Rattle.multiportgraph.specs.declared.multiportgraph.AddAnswer.the-variants as add
 use Rattle.multiportgraph.specs.declared.multiportgraph.SubportIndex.{SubportIndex}
@@ -50,7 +50,7 @@ use Rattle.multiportgraph.specs.declared.multiportgraph.PortsLinked.{Por
 use Rattle.multiportgraph.specs.declared.multiportgraph.CutAnswer.{CutAnswer}
 use Rattle.multiportgraph.specs.declared.multiportgraph.CutAnswer.the-variants as cutting
 use Rattle.multiportgraph.specs.declared.multiportgraph.PortUnlinked.{PortUnlinked}
-use Rattle.multiportgraph.specs.Places.{Place, Wire, touches, wireOfSides, atSpot, atEnd, spot, flag}
+use Rattle.portgraph.specs.Places.{Place, Wire, touches, wireOfSides, atSpot, atEnd, spot, flag}
 use Rattle.multiportgraph.specs.Graph.{withGraph, emptyGraph}
 use Rattle.multiportgraph.specs.Cases.{linkSubSeen, linkFirstEnd, linkSecondEnd, linkInner, linkRefused, cutSubSeen, cutEnd, cutRefused}
 use Rattle.multiportgraph.specs.Refusals.{goodOffset, inputTaken}

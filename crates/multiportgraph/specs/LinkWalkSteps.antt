@@ -22,7 +22,7 @@ use Rattle.multiportgraph.specs.TableReads.{ownerIn, seenIn, wireIn}
 use Rattle.multiportgraph.specs.TableReadLaws.{seen-read}
 use Rattle.multiportgraph.specs.Wires.{isBlock, wireTo, sideLinks}
 use Rattle.multiportgraph.specs.Walks.{bothSeen, between, bySides, portLinksSeen, portLinks, linksLeft, stepFront, stepBack, linkBeyond, nodeLinks, stepLinks, isOwnOutput, notIgnored, neighbourLinks, neighboursItem, stepNeighbours, connections, connectionsItem, linksItem, stepConnections}
-use Rattle.multiportgraph.specs.Listing.{filter-same}
+use Rattle.portgraph.specs.Listing.{filter-same}
 use Rattle.multiportgraph.specs.ScanLaws.{range-append, range-between, flatMap-append, block-not-hidden}
 use Rattle.multiportgraph.specs.LookupSteps.{block-at, meta-is}
 use Rattle.multiportgraph.specs.Scans.{firstFound, spanFirst, spanCount, notOwnOutput, passesIn, linksIn, beyondIn, endBefore}

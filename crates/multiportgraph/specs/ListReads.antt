@@ -37,7 +37,7 @@ use Rattle.multiportgraph.specs.CodeForms.{flagAt}
 use Rattle.multiportgraph.specs.CodeFormSteps.{flag-is}
 use Rattle.multiportgraph.specs.WellFormed.{inner#, copyPlace, MultiWf, IsEnd}
 use Rattle.multiportgraph.specs.Ends.{Hangs, EndOf, BlockPort, block-seen, split-has-copy, owner-of, position-of, end-side, end-read, ends-join-ends, other-side, main-seen, main-side, subport-of-hidden, subport-of-block, map-range}
-use Rattle.multiportgraph.specs.Listing.{member-range}
+use Rattle.portgraph.specs.Listing.{member-range}
 use Rattle.multiportgraph.specs.TableReads.{farIn, ownerIn}
 use Rattle.multiportgraph.specs.TableReadLaws.{far-is, owner-read, mark-told}
 use Rattle.multiportgraph.specs.ScanLaws.{linksFromTo, portsAcross, range-append, flatMap-append, flatMap-same, flatMap-map, flatMap-flatMap, port-seen-there, side-in-row, links-in-row, links-of-split, links-of-plain}

@@ -29,10 +29,10 @@ use Rattle.multiportgraph.specs.WellFormed.{MultiWf}
 use Rattle.multiportgraph.specs.CodeForms.{flagAt}
 use Rattle.multiportgraph.specs.TableReads.{farIn, ownerIn}
 use Rattle.multiportgraph.specs.declared.multiportgraph.MultiPortGraph.{MultiPortGraph}
-use Rattle.multiportgraph.specs.declared.multiportgraph.Release.{Release}
+use Rattle.portgraph.specs.declared.release.Release.{Release}
 use Rattle.multiportgraph.specs.declared.prepare.Prepared.{Prepared}
 use Rattle.multiportgraph.specs.declared.lent.Totals.{Totals}
-use Rattle.multiportgraph.specs.declared.lent_prepare.PreparedLent.{PreparedLent}
+use Rattle.multiportgraph.specs.declared.lent.PreparedLent.{PreparedLent}
 use Rattle.multiportgraph.specs.HiddenNodes.{marksMoved, removeAll}
 
 -- the graph that lent tables and numbers are

@@ -47,9 +47,9 @@ use Rattle.multiportgraph.specs.declared.multiportgraph.MultiPortGraph.{
 use Rattle.multiportgraph.specs.declared.multiportgraph.Refusal.the-variants.{NoRoom}
 use Rattle.multiportgraph.specs.declared.prepare.Prepared.{Prepared}
 use Rattle.multiportgraph.specs.declared.lent.Totals.{Totals}
-use Rattle.multiportgraph.specs.declared.lent_needs.Need.{Need}
-use Rattle.multiportgraph.specs.declared.lent_needs.Need.the-variants as need
-use Rattle.multiportgraph.specs.declared.lent_needs.Takes.{Takes}
+use Rattle.multiportgraph.specs.declared.lent.Need.{Need}
+use Rattle.multiportgraph.specs.declared.lent.Need.the-variants as need
+use Rattle.multiportgraph.specs.declared.lent.Takes.{Takes}
 use Rattle.multiportgraph.specs.HiddenNodes.{lowestFree, split, grow, reuse, prepare, prepareUnder, reuseUnder}
 use Rattle.multiportgraph.specs.Cases.{linkRefused, linkSecond, linkLive}
 use Rattle.multiportgraph.specs.Presumed.{OnBlock, LinkedPort, BothOnBlock, GrowPort}

@@ -17,7 +17,7 @@ use Rattle.multiportgraph.specs.WellFormed.{inner#, copyPlace, Fine, See
 use Rattle.multiportgraph.specs.Ends.{Hangs, hangs, split-has-copy, one-copy, port-of, linked-is, unlinked-is}
 use Rattle.multiportgraph.specs.Needs.{copyNeed, needOf}
 use Rattle.multiportgraph.specs.declared.multiportgraph.MultiPortGraph.{MultiPortGraph}
-use Rattle.multiportgraph.specs.declared.lent_needs.Need.the-variants as need
+use Rattle.multiportgraph.specs.declared.lent.Need.the-variants as need
 use Rattle.multiportgraph.specs.HiddenNodes.{lowestFree}
 
 -- both linked, or neither

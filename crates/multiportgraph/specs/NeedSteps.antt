@@ -22,9 +22,9 @@ use Rattle.portgraph.specs.declared.lent.Counts.{Counts}
 use Rattle.multiportgraph.specs.CodeForms.{flagAt, lowestUnlinked}
 use Rattle.multiportgraph.specs.TableReads.{farIn, ownerIn}
 use Rattle.multiportgraph.specs.Needs.{sideSlot, copyNeedIn, needIn, GrowsFew, takesNothing, takesOf, nextFree, nodesLeft, headLeft, portsLeft, roomFor}
-use Rattle.multiportgraph.specs.declared.lent_needs.Need.{Need}
-use Rattle.multiportgraph.specs.declared.lent_needs.Need.the-variants as need
-use Rattle.multiportgraph.specs.declared.lent_needs.Takes.{Takes}
+use Rattle.multiportgraph.specs.declared.lent.Need.{Need}
+use Rattle.multiportgraph.specs.declared.lent.Need.the-variants as need
+use Rattle.multiportgraph.specs.declared.lent.Takes.{Takes}
 
 pub next-none-left : (nodes : List ℕ) (free : ℕ) → free ≡ 0 → 0 ≡ nextFree nodes free
 unfolding restOf

@@ -21,9 +21,9 @@ use Rattle.multiportgraph.specs.HiddenNodes as hiding
 use Rattle.multiportgraph.specs.CodeForms.{flagAt, lowestUnlinked}
 use Rattle.multiportgraph.specs.TableReads.{farIn, ownerIn}
 use Rattle.multiportgraph.specs.declared.multiportgraph.MultiPortGraph.{MultiPortGraph}
-use Rattle.multiportgraph.specs.declared.lent_needs.Need.{Need}
-use Rattle.multiportgraph.specs.declared.lent_needs.Need.the-variants as need
-use Rattle.multiportgraph.specs.declared.lent_needs.Takes.{Takes}
+use Rattle.multiportgraph.specs.declared.lent.Need.{Need}
+use Rattle.multiportgraph.specs.declared.lent.Need.the-variants as need
+use Rattle.multiportgraph.specs.declared.lent.Takes.{Takes}
 use Rattle.multiportgraph.specs.HiddenNodes.{lowestFree, split, grow}
 
 -- a hidden node c with its meta data: the lowest unlinked subport of side d, else one more

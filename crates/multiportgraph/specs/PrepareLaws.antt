@@ -29,7 +29,7 @@ use Rattle.multiportgraph.specs.Ends.{Hangs, split-has-copy, one-copy, u
 use Rattle.multiportgraph.specs.SplitLaws.{HasEnd, PreparedEnd, AllLinked, NoSpace, no-subport, PreparedSays, end-of-wire, wire-of-end, split-says}
 use Rattle.multiportgraph.specs.RecountLaws.{grow-law}
 use Rattle.multiportgraph.specs.declared.multiportgraph.MultiPortGraph.{MultiPortGraph}
-use Rattle.multiportgraph.specs.Places.{Place, Wire}
+use Rattle.portgraph.specs.Places.{Place, Wire}
 use Rattle.multiportgraph.specs.HiddenNodes.{Prepared, ready, full, split, lowestFree, moreIncoming, moreOutgoing, enough, grownBy, grow, reuse, prepare, prepareUnder, reuseUnder, growUnder}
 
 -- Where a hidden node cannot grow.

@@ -34,7 +34,7 @@ use Rattle.multiportgraph.specs.CodeForms.{lowestUnlinked, preparedAs}
 use Rattle.multiportgraph.specs.declared.multiportgraph.MultiPortGraph.{MultiPortGraph}
 use Rattle.multiportgraph.specs.declared.prepare.Prepared.{Prepared}
 use Rattle.multiportgraph.specs.HiddenNodes.{copyIncoming, copyOutgoing, splitBy, split, lowestFree, splitUnder}
-use Rattle.multiportgraph.specs.Places.{flag}
+use Rattle.portgraph.specs.Places.{flag}
 
 -- What a graph of the calls keeps small.
 

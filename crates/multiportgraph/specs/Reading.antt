@@ -1,14 +1,12 @@
 -- How a port number is read: live or not, hidden or not, split or not, and which end a subport is.
 use mathlib.Core.Bool.{Bool, true, false, cond}
-use mathlib.Core.List.{List, [], _∷_}
-use Prim.Native.Nat.{ℕ, zero, suc, _+_, _-_}
+use mathlib.Core.List.{[]}
+use Prim.Native.Nat.{ℕ, _-_}
 use lib.Dec.{eqb, ltb}
 use lib.ListN.{getD}
-use Rattle.portgraph.specs.Entries.{reversed, sideNumber}
-use Rattle.portgraph.specs.Lookups.{node#, port#, portAt, portLink, portNode, portIndex, portOffset, numPorts, metaAt}
+use Rattle.portgraph.specs.Lookups.{node#, port#, portAt, portLink, portNode, portIndex, portOffset, numPorts}
 use Rattle.portgraph.specs.declared.direction.Direction.{Direction}
 use Rattle.portgraph.specs.declared.direction.Direction.the-variants.{Incoming, Outgoing}
-use Rattle.portgraph.specs.declared.index.PortIndex.{PortIndex}
 use Rattle.portgraph.specs.declared.index.MaybeNodeIndex.{MaybeNodeIndex}
 use Rattle.portgraph.specs.declared.index.MaybeNodeIndex.the-variants as maybe-node
 use Rattle.portgraph.specs.declared.index.MaybePortIndex.{MaybePortIndex}
@@ -26,7 +24,11 @@ use Rattle.multiportgraph.specs.declared.multiportgraph.PortPlace.{PortP
 use Rattle.multiportgraph.specs.declared.multiportgraph.CutAnswer.{CutAnswer}
 use Rattle.multiportgraph.specs.declared.multiportgraph.CutAnswer.the-variants as cutting
 use Rattle.multiportgraph.specs.declared.multiportgraph.Refusal.the-variants.{UnknownOffset}
-use Rattle.multiportgraph.specs.Places.{Place, portPlace}
+use Rattle.portgraph.specs.Places.{Place}
+
+-- the place of an end as answers and walks give it: its offset stands in the subport beside it
+abbrev pub portPlace : Place → PortPlace
+portPlace x = record { node = node# (x .node); side = x .side; position = x .pos }
 
 -- Numbers out of the lower graph's lookups; 0 where there is nothing, which no graph of the calls shows.
 

@@ -42,7 +42,7 @@ use Rattle.multiportgraph.specs.Ends.{Hangs, other-side, side-cases, cou
 use Rattle.multiportgraph.specs.HiddenStays.{copy-side-is, true-not-false}
 use Rattle.multiportgraph.specs.SplitLaws.{HasEnd, KeptEnd, PreparedEnd}
 use Rattle.multiportgraph.specs.declared.multiportgraph.MultiPortGraph.{MultiPortGraph}
-use Rattle.multiportgraph.specs.Places.{Place, Wire, flag}
+use Rattle.portgraph.specs.Places.{Place, Wire, flag}
 use Rattle.multiportgraph.specs.Graph.{withSubports}
 use Rattle.multiportgraph.specs.HiddenNodes.{recounted, layMarks, ready, moreIncoming, moreOutgoing, enough, more, grownBy, grow, growUnder}
 

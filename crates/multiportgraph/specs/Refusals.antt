@@ -23,8 +23,8 @@ use Rattle.portgraph.specs.declared.resize.SetAnswer.the-variants as lower-set
 use Rattle.multiportgraph.specs.Reading.{isHidden, Port, dead, hidden, visible, seen, End, inner, lacking, endAt, sideOf}
 use Rattle.multiportgraph.specs.declared.multiportgraph.MultiPortGraph.{MultiPortGraph}
 use Rattle.multiportgraph.specs.Walks.{fanOut}
-use Rattle.multiportgraph.specs.declared.multiportgraph.Release.{Release}
-use Rattle.multiportgraph.specs.declared.multiportgraph.Release.the-variants as release
+use Rattle.portgraph.specs.declared.release.Release.{Release}
+use Rattle.portgraph.specs.declared.release.Release.the-variants as release
 use Rattle.multiportgraph.specs.declared.multiportgraph.Refusal.{Refusal}
 use Rattle.multiportgraph.specs.declared.multiportgraph.Refusal.the-variants.{BadOffset, TooManyPorts, UnknownNode, HiddenNode, MovesTooShort, UnknownPort, HiddenPort, UnknownOffset, NoRoom, UnknownSecondPort, IncompatibleDirections, AlreadyLinked, InputWired}
 use Rattle.multiportgraph.specs.HiddenNodes.{prepareUnder, Prepared, ready, full}

@@ -29,7 +29,7 @@ use Rattle.multiportgraph.specs.Wires.{isBlock, portsOfSide, subportsOfP
 use Rattle.multiportgraph.specs.Walks.{between, bySides, portsOfNode, subportsOf, subportBeyond, portLinksSeen, portLinks, linkBeyond}
 use Rattle.multiportgraph.specs.WellFormed.{inner#, MultiWf}
 use Rattle.multiportgraph.specs.Ends.{map-range, seen-block}
-use Rattle.multiportgraph.specs.Listing.{member-map, member-flatMap, member-range, filter-all, filter-none, filter-append, filter-same, filter-flatMap, flatMap-beyond, range-rises, range-member}
+use Rattle.portgraph.specs.Listing.{member-map, member-flatMap, member-range, filter-all, filter-none, filter-append, filter-same, filter-flatMap, flatMap-beyond, range-rises, range-member}
 use Rattle.multiportgraph.specs.declared.multiportgraph.MultiPortGraph.{MultiPortGraph}
 use Rattle.multiportgraph.specs.declared.multiportgraph.SubportIndex.{SubportIndex}
 use Rattle.multiportgraph.specs.declared.multiportgraph.SubportLink.{SubportLink}

@@ -36,7 +36,7 @@ use Rattle.multiportgraph.specs.TableReads.{farIn, countBeside, firstBes
 use Rattle.multiportgraph.specs.TableReadLaws.{seen-read, subports-read, end-read-off, wire-read, end-is-port}
 use Rattle.multiportgraph.specs.Wires.{isBlock, blocks, wireTo, wireOf, sideLinks, allWires, isBeyond, wiresBeyond}
 use Rattle.multiportgraph.specs.Walks.{bySides, portLinksSeen, portLinks, linkBeyond}
-use Rattle.multiportgraph.specs.Listing.{member-range, member-filter, filter-append}
+use Rattle.portgraph.specs.Listing.{member-range, member-filter, filter-append}
 use Rattle.multiportgraph.specs.ScanLaws.{linksFromTo, linkPast, flatMap-same, flatMap-under, filter-swap, offsets-past, wire-stands, links-on, links-end, filter-beyond-held, links-of-split, links-of-plain, row-fits, block-links-all, block-links-rest, block-links-none}
 use Rattle.multiportgraph.specs.Scans.{spanFirst, spanCount, linksIn, portLinksBy, portLinksIn, linksRest, beyondIn, blockLinksIn, wiresIn}
 use Rattle.multiportgraph.specs.ScanSteps.{filter-every}

@@ -31,7 +31,7 @@ use Rattle.multiportgraph.specs.CodeForms.{flagAt, seenAs}
 use Rattle.multiportgraph.specs.TableReads.{ownerIn, farIn, seenIn, ownsUp, ownsDown, runUp, runDown, countBeside, subportsIn, firstIn, subportIn, placeIn, farPlaceIn, wireIn, wireEndIn}
 use Rattle.multiportgraph.specs.TableReadSteps.{run-bound}
 use Rattle.multiportgraph.specs.Wires.{wireTo}
-use Rattle.multiportgraph.specs.Listing.{filter-append}
+use Rattle.portgraph.specs.Listing.{filter-append}
 use Rattle.multiportgraph.specs.Scans.{firstFound, linkPort, spanFirst, spanCount, notOwnOutput, passesIn, linksIn, portLinksBy, portLinksIn, linksRest, beyondIn, blockLinksIn, wiresIn}
 use Rattle.multiportgraph.specs.declared.multiportgraph.SubportIndex.{SubportIndex}
 use Rattle.multiportgraph.specs.declared.multiportgraph.PortPlace.{PortPlace}

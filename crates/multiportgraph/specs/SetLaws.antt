@@ -45,7 +45,7 @@ use Rattle.multiportgraph.specs.declared.multiportgraph.Refusal.{Refusal
 use Rattle.multiportgraph.specs.declared.multiportgraph.Refusal.the-variants.{TooManyPorts, UnknownNode, HiddenNode}
 use Rattle.multiportgraph.specs.declared.multiportgraph.SetAnswer.{SetAnswer}
 use Rattle.multiportgraph.specs.declared.multiportgraph.SetAnswer.the-variants as resize
-use Rattle.multiportgraph.specs.Places.{Place, Wire, touches, ofDropped, flag}
+use Rattle.portgraph.specs.Places.{Place, Wire, touches, ofDropped, flag}
 use Rattle.multiportgraph.specs.HiddenNodes.{recounted, copiesIn, copiesDropped, removeCopy, removeLone, removeAll}
 use Rattle.multiportgraph.specs.Cases.{resized, setMeta}
 use Rattle.multiportgraph.specs.CaseLaws.{set-cases}

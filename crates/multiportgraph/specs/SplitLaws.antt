@@ -43,7 +43,7 @@ use Rattle.multiportgraph.specs.WellFormed.{inner#, copyPlace, Copy, Mar
 use Rattle.multiportgraph.specs.Ends.{ends-join-ends, unsplit-no-copy, outer-of-subport, outer-of-block}
 use Rattle.multiportgraph.specs.HiddenStays.{same-wire}
 use Rattle.multiportgraph.specs.declared.multiportgraph.MultiPortGraph.{MultiPortGraph}
-use Rattle.multiportgraph.specs.Places.{Place, Wire, flag}
+use Rattle.portgraph.specs.Places.{Place, Wire, flag}
 use Rattle.multiportgraph.specs.HiddenNodes.{copyIncoming, copyOutgoing, Prepared, ready, full, split, splitBy, splitPort, splitGraph, splitUnder}
 
 -- a wire has an end at a place

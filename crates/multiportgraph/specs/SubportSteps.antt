@@ -23,7 +23,7 @@ use Rattle.multiportgraph.specs.TableReads.{seenIn}
 use Rattle.multiportgraph.specs.TableReadLaws.{seen-read}
 use Rattle.multiportgraph.specs.Wires.{portsOfSide}
 use Rattle.multiportgraph.specs.Walks.{bothSeen, portsOfNode, subportsOf, subportBeyond, stepSubports}
-use Rattle.multiportgraph.specs.Listing.{member-range}
+use Rattle.portgraph.specs.Listing.{member-range}
 use Rattle.multiportgraph.specs.ScanLaws.{subportsSeen, subportsAt, subportsFromTo, subportPast, subports-on, subports-end, subports-of-split, subports-of-plain, split-subports-rest, plain-subports-rest, block-not-hidden, row-fits, port-seen-there, ports-in-row, block-subports-all, block-subports-rest, block-subports-none}
 use Rattle.multiportgraph.specs.LookupSteps.{start-at, block-at, meta-is, fan-out-at}
 use Rattle.multiportgraph.specs.Scans.{spanCount}

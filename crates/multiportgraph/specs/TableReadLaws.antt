@@ -19,8 +19,7 @@ use Rattle.portgraph.specs.declared.direction.Direction.the-variants.{Incoming,
 use Rattle.portgraph.specs.declared.port_entry.PortMeta.{PortMeta}
 use Rattle.portgraph.specs.declared.port_entry.PortEntry.{PortEntry}
 use Rattle.portgraph.specs.declared.port_entry.PortEntry.the-variants as port-variants
-use Rattle.multiportgraph.specs.Reading.{isHidden, isSplit, hidden, visible, seenEntry, seen, ownerOf, copyNode, copySide, subports, subportAt, inner, lacking, End, endAt, portOf, subport#, subportOf, standing, standingOf, farSubport}
-use Rattle.multiportgraph.specs.Places.{portPlace}
+use Rattle.multiportgraph.specs.Reading.{isHidden, isSplit, hidden, visible, seenEntry, seen, ownerOf, copyNode, copySide, subports, subportAt, inner, lacking, End, endAt, portOf, subport#, subportOf, standing, standingOf, farSubport, portPlace}
 use Rattle.multiportgraph.specs.Calls.{cutPlain}
 use Rattle.multiportgraph.specs.CodeForms.{flagAt}
 use Rattle.multiportgraph.specs.CodeFormSteps.{flag-is}

@@ -42,7 +42,7 @@ use Rattle.multiportgraph.specs.declared.multiportgraph.MultiPortGraph.{
 use Rattle.multiportgraph.specs.declared.multiportgraph.TidyAnswer.{TidyAnswer}
 use Rattle.multiportgraph.specs.declared.multiportgraph.TidyAnswer.the-variants as tidying
 use Rattle.multiportgraph.specs.declared.multiportgraph.PortTidied.{PortTidied}
-use Rattle.multiportgraph.specs.Places.{Place, Wire, touches, wireOfSides}
+use Rattle.portgraph.specs.Places.{Place, Wire, touches, wireOfSides}
 use Rattle.multiportgraph.specs.Graph.{withGraph, withMarks, withSubports}
 use Rattle.multiportgraph.specs.HiddenNodes.{enough, recounted, removeCopy, unsplit}
 use Rattle.multiportgraph.specs.Calls.{tidyPort}

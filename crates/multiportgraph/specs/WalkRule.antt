@@ -21,7 +21,7 @@ use Rattle.portgraph.specs.declared.direction.Direction.the-variants.{Outgoing}
 use Rattle.multiportgraph.specs.Reading.{ownerOf, portOf, isHidden, isSplit, visible, seen, subports, End, inner, lacking, endAt, subport#, subportOf, standingOf, linkOfEnd}
 use Rattle.multiportgraph.specs.Wires.{isBlock, blocks, portsOfSide, subportsOfPort, subportsOfSide, wireTo, wireOf, sideLinks, allWires, isBeyond, firstItem, wiresBeyond, stepWires, startWires, Walked, walkedOn, walkBy, walkWires, placeOf, wirePlaces, longWalk, walked, wiresWalked}
 use Rattle.multiportgraph.specs.WellFormed.{inner#, copyPlace, Fine, Seen, lift, outer, IsEnd, WireIn}
-use Rattle.multiportgraph.specs.Listing.{Apart, member-right, member-flatMap, flatMap-member, member-map, map-member, length-map, member-filter, filter-member, member-range, range-member, in-wires, wire-member, filter-flatMap, flatMap-beyond, filter-rest, rising-by-items, rising-filter, rising-flatMap, rising-map, range-rises, apart-below, rising-once}
+use Rattle.portgraph.specs.Listing.{Apart, member-right, member-flatMap, flatMap-member, member-map, map-member, length-map, member-filter, filter-member, member-range, range-member, in-wires, wire-member, filter-flatMap, flatMap-beyond, filter-rest, rising-by-items, rising-filter, rising-flatMap, rising-map, range-rises, apart-below, rising-once}
 use Rattle.multiportgraph.specs.Ends.{Hangs, ends-join-ends, place-of-sub, subport-of, main-side, owner-of, port-of, count-of, seen-block, main-seen, end-side, split-has-copy, one-copy, outer-of-block, unsplit-is-end}
 use Rattle.multiportgraph.specs.declared.multiportgraph.MultiPortGraph.{MultiPortGraph}
 use Rattle.multiportgraph.specs.declared.multiportgraph.SubportIndex.{SubportIndex}
@@ -29,7 +29,7 @@ use Rattle.multiportgraph.specs.declared.multiportgraph.SubportLink.{Sub
 use Rattle.multiportgraph.specs.declared.multiportgraph.CutAnswer.{CutAnswer}
 use Rattle.multiportgraph.specs.declared.multiportgraph.CutAnswer.the-variants as cutting
 use Rattle.multiportgraph.specs.declared.iter.Wires.{Wires}
-use Rattle.multiportgraph.specs.Places.{Place, Wire}
+use Rattle.portgraph.specs.Places.{Place, Wire}
 
 -- a listed subport: the port x of a block that it stands at, and the end z that it is
 pub record SubportIs (m : MultiPortGraph) (M : Model) (x z : model.InnerPlace) (s : SubportIndex) : Type 0 where

@@ -25,7 +25,7 @@ use Rattle.multiportgraph.specs.TableReads.{seenIn}
 use Rattle.multiportgraph.specs.TableReadLaws.{seen-read}
 use Rattle.multiportgraph.specs.Wires.{isBlock, blocks}
 use Rattle.multiportgraph.specs.Walks.{isSeen, heldSeen, bothSeen, between, nodeHeld, blocksLeft, stepNodes, stepNodesBack, allPorts, portsLeft, stepAllPorts, stepAllPortsBack, portsOfNode, stepNodePorts}
-use Rattle.multiportgraph.specs.Listing.{member-filter, member-range, filter-append, filter-same}
+use Rattle.portgraph.specs.Listing.{member-filter, member-range, filter-append, filter-same}
 use Rattle.multiportgraph.specs.ScanLaws.{range-append, filter-swap, range-between, block-not-hidden, block-ports-rest, row-fits}
 use Rattle.multiportgraph.specs.LookupSteps.{block-at, meta-is}
 use Rattle.multiportgraph.specs.WalkScans.{heldIn, blockSlot, portsIn, firstOr, lastOr}

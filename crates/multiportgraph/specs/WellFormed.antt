@@ -17,7 +17,7 @@ use Rattle.portgraph.specs.declared.direction.Direction.the-variants.{Incoming,
 use Rattle.portgraph.specs.declared.node_entry.NodeMeta.{NodeMeta}
 use Rattle.multiportgraph.specs.Reading.{isHidden, isSplit, copySide}
 use Rattle.multiportgraph.specs.declared.multiportgraph.MultiPortGraph.{MultiPortGraph}
-use Rattle.multiportgraph.specs.Places.{Place, Wire, touches, flag}
+use Rattle.portgraph.specs.Places.{Place, Wire, touches, flag}
 
 -- an inner place
 abbrev pub inner# : ℕ → Direction → ℕ → model.InnerPlace

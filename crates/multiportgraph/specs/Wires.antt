@@ -18,7 +18,7 @@ use Rattle.multiportgraph.specs.declared.multiportgraph.CutAnswer.the-va
 use Rattle.multiportgraph.specs.declared.iter.Wires.{Wires}
 use Rattle.multiportgraph.specs.declared.iter.WiresStep.{WiresStep}
 use Rattle.multiportgraph.specs.declared.iter.WiresStep.the-variants.{Item, End}
-use Rattle.multiportgraph.specs.Places.{Wire}
+use Rattle.portgraph.specs.Places.{Wire}
 
 -- Listings.
 

@@ -3,7 +3,6 @@ use crate::ends::EndFound;
 use crate::ends::SeenPort;
 use crate::fan_out::wires_at;
 use crate::multiportgraph::Refusal;
-use crate::multiportgraph::Release;
 use crate::multiportgraph::SubportIndex;
 use crate::reads::end_in;
 use crate::reads::seen_in;
@@ -11,6 +10,7 @@ use portgraph::direction::Direction;
 use portgraph::index::NODE_SLOTS;
 use portgraph::index::PORT_SLOTS;
 use portgraph::index::PortIndex;
+use portgraph::release::Release;
 ghost use mathlib.Core.Path.{_≡_};
 ghost use Rattle.multiportgraph.specs.Inputs.{wiredIn, takenIn, takenSubIn, takenPortsIn};
 
@@ -43,7 +43,7 @@ fn wired_input<'a>(
 }
 
 // Whether a link of two ports names such an input, under release 2.
-pub(crate) fn input_taken<'a>(
+pub fn input_taken<'a>(
     marks: &'a [bool; PORT_SLOTS],
     links: &'a [u32; PORT_SLOTS],
     owners: &'a [u32; PORT_SLOTS],
@@ -66,7 +66,7 @@ pub(crate) fn input_taken<'a>(
 }
 
 // What such a link of ports is refused with.
-pub(crate) fn taken_ports<'a>(
+pub fn taken_ports<'a>(
     owners: &'a [u32; PORT_SLOTS],
     flags: &'a [bool; NODE_SLOTS],
     a: PortIndex,
@@ -88,7 +88,7 @@ pub(crate) fn taken_ports<'a>(
 }
 
 // And such a link of subports.
-pub(crate) fn taken_subports<'a>(
+pub fn taken_subports<'a>(
     marks: &'a [bool; PORT_SLOTS],
     links: &'a [u32; PORT_SLOTS],
     owners: &'a [u32; PORT_SLOTS],

@@ -1,46 +1,26 @@
-// The calls over lent tables, for a run that copies none of them: adding, linking and cutting, and what a subport is linked with.
-use crate::inputs::input_taken;
-use crate::inputs::taken_subports;
+// What stands beside lent tables: the numbers of a graph, what an end of a link needs, and what the calls over lent tables give.
 use crate::multiportgraph::AddAnswer;
 use crate::multiportgraph::EndAnswer;
 use crate::multiportgraph::LinkAnswer;
-use crate::multiportgraph::Refusal;
-use crate::multiportgraph::Release;
-use crate::multiportgraph::SubportIndex;
-use crate::named::NamedEnd;
-use crate::named::NamedLink;
-use crate::named::end_named;
-use crate::named::link_named;
-use crate::named::read_in;
-use crate::reads::wire_end_in;
-use portgraph::index::FREE_LISTS;
-use portgraph::index::NODE_SLOTS;
-use portgraph::index::PORT_SLOTS;
+use crate::multiportgraph::RemoveAnswer;
+use crate::multiportgraph::SetAnswer;
+use portgraph::index::NodeIndex;
 use portgraph::lent::Counts;
-use portgraph::lent::NODE_WORDS;
-use portgraph::lent_slots::add_node_lent;
+use portgraph::node_entry::NodeMeta;
 use portgraph::numbers::less;
-use portgraph::numbers::wide;
-use portgraph::slots::AddAnswer as LowerAdd;
-use portgraph::tables::cut;
-use portgraph::tables::link_both;
-use portgraph::tables::without_link;
+use portgraph::release::Release;
 ghost use mathlib.Core.Path.{_≡_};
 ghost use Prim.Native.Nat.{_-_};
-ghost use Rattle.portgraph.specs.Lent.{StaysCanonical};
-ghost use Rattle.multiportgraph.specs.Calls.{addedAs, addBlock, cutSub, linkSub, subportLink};
-ghost use Rattle.multiportgraph.specs.Answers.{addNumbers, linkNumbers, cutNumbers, beforePlace, unplaced, unplacedNumbers};
-ghost use Rattle.multiportgraph.specs.WellFormed.{MultiWf};
-ghost use Rattle.multiportgraph.specs.MultiLent.{multiIn, noTotals, totalsCounts, totalsLinks};
+ghost use Rattle.multiportgraph.specs.MultiLent.{noTotals, totalsCounts, totalsLinks};
 
 // What a graph has besides its tables.
 pub struct Totals {
-    pub(crate) counts: Counts,
+    pub counts: Counts,
     // The number of hidden nodes, and of subports in them.
-    pub(crate) copies: usize,
-    pub(crate) subs: usize,
+    pub copies: usize,
+    pub subs: usize,
     // The release that the graph is made for.
-    pub(crate) release: Release,
+    pub release: Release,
 }
 
 pub struct AddedLent {
@@ -56,6 +36,43 @@ pub struct LinkedLent {
 pub struct CutLent {
     pub totals: Totals,
     pub answer: EndAnswer,
+}
+
+// What the end that a link of a port takes needs.
+pub enum Need {
+    // Nothing: the inner port and its offset.
+    Ready(u32, u16),
+    // One more subport of this hidden node, which has these meta data.
+    Grow(NodeIndex, NodeMeta),
+    // A hidden node.
+    Split,
+}
+
+// What is taken for an end, and what is free then.
+pub struct Takes {
+    // A node slot is taken.
+    pub node: bool,
+    // The size of the block that is taken, and of the one that is free then; 0 for none.
+    pub take: usize,
+    pub give: usize,
+}
+
+// A prepared end: the numbers, the inner port and its offset; or, where there is no room, the graph as it was.
+pub struct PreparedLent {
+    pub totals: Totals,
+    pub port: u32,
+    pub offset: u16,
+    pub ready: bool,
+}
+
+pub struct RemovedLent {
+    pub totals: Totals,
+    pub answer: RemoveAnswer,
+}
+
+pub struct SetLent {
+    pub totals: Totals,
+    pub answer: SetAnswer,
 }
 
 // The numbers of the empty graph that is made for this release.
@@ -98,7 +115,7 @@ pub fn link_count_lent(totals: Totals) -> usize
     less(totals.counts.link_count, totals.copies)
 }
 
-pub(crate) fn with_counts(totals: Totals, counts: Counts) -> Totals
+pub fn with_counts(totals: Totals, counts: Counts) -> Totals
     ensures { λ r. ⌜ r ≡ totalsCounts totals counts ⌝ }
 {
     let release = totals.release;
@@ -110,7 +127,7 @@ pub(crate) fn with_counts(totals: Totals, counts: Counts) -> Totals
     }
 }
 
-pub(crate) fn with_links(totals: Totals, links: usize) -> Totals
+pub fn with_links(totals: Totals, links: usize) -> Totals
     ensures { λ r. ⌜ r ≡ totalsLinks totals links ⌝ }
 {
     let counts = totals.counts;
@@ -127,141 +144,5 @@ pub(crate) fn with_links(totals: Totals, links: usize) -> Totals
         copies: totals.copies,
         subs: totals.subs,
         release: release,
-    }
-}
-
-fn added_as(answer: LowerAdd) -> AddAnswer
-    ensures { λ r. ⌜ r ≡ addedAs answer ⌝ }
-{
-    match answer {
-        LowerAdd::Added(node, first) => AddAnswer::Added(node, first),
-        LowerAdd::TooManyPorts => AddAnswer::Refused(Refusal::TooManyPorts),
-        LowerAdd::NoRoom => AddAnswer::Refused(Refusal::NoRoom),
-    }
-}
-
-// MultiPortGraph::add_node over lent tables.
-pub fn add_lent(
-    nodes: &mut [u32; NODE_WORDS],
-    links: &mut [u32; PORT_SLOTS],
-    owners: &mut [u32; PORT_SLOTS],
-    heads: &mut [u32; FREE_LISTS],
-    marks: &mut [bool; PORT_SLOTS],
-    flags: &mut [bool; NODE_SLOTS],
-    totals: Totals,
-    incoming: usize,
-    outgoing: usize,
-) -> AddedLent
-    requires { ⌜ MultiWf (multiIn (now nodes) (now links) (now owners) (now heads) (now marks) (now flags) totals) ⌝ }
-    ensures { λ r. ⌜ (multiIn (now (nodes .exit)) (now (links .exit)) (now (owners .exit)) (now (heads .exit)) (now (marks .exit)) (now (flags .exit)) (r .totals) ≡ addBlock (multiIn (now (nodes .entry)) (now (links .entry)) (now (owners .entry)) (now (heads .entry)) (now (marks .entry)) (now (flags .entry)) totals) incoming outgoing .graph)
-        × (r .answer ≡ addBlock (multiIn (now (nodes .entry)) (now (links .entry)) (now (owners .entry)) (now (heads .entry)) (now (marks .entry)) (now (flags .entry)) totals) incoming outgoing .answer)
-        × StaysCanonical (now (nodes .entry)) (now (nodes .exit))
-        × (addNumbers (r .answer) ≡ addNumbers (addBlock (multiIn (now (nodes .entry)) (now (links .entry)) (now (owners .entry)) (now (heads .entry)) (now (marks .entry)) (now (flags .entry)) totals) incoming outgoing .answer)) ⌝ }
-{
-    let counts = totals.counts;
-    let added = add_node_lent(nodes, links, owners, heads, counts, incoming, outgoing);
-    let after = added.counts;
-    let answer = added.answer;
-    AddedLent {
-        totals: with_counts(totals, after),
-        answer: added_as(answer),
-    }
-}
-
-// MultiPortGraph::subport_link over lent tables, without the place.
-pub fn subport_link_lent<'a>(
-    nodes: &'a [u32; NODE_WORDS],
-    links: &'a [u32; PORT_SLOTS],
-    owners: &'a [u32; PORT_SLOTS],
-    heads: &'a [u32; FREE_LISTS],
-    marks: &'a [bool; PORT_SLOTS],
-    flags: &'a [bool; NODE_SLOTS],
-    totals: Totals,
-    subport: SubportIndex,
-) -> EndAnswer
-    requires { ⌜ MultiWf (multiIn (now nodes) (now links) (now owners) (now heads) (now marks) (now flags) totals) ⌝ }
-    ensures { λ r. ⌜ (r ≡ unplaced (subportLink (multiIn (now (nodes .entry)) (now (links .entry)) (now (owners .entry)) (now (heads .entry)) (now (marks .entry)) (now (flags .entry)) totals) (subport .port .0) (subport .«subport_offset»)))
-        × (unplacedNumbers r ≡ beforePlace (cutNumbers (subportLink (multiIn (now (nodes .entry)) (now (links .entry)) (now (owners .entry)) (now (heads .entry)) (now (marks .entry)) (now (flags .entry)) totals) (subport .port .0) (subport .«subport_offset»)))) ⌝ }
-{
-    match end_named(marks, links, owners, flags, subport) {
-        NamedEnd::At(inner) => wire_end_in(links, owners, flags, inner),
-        NamedEnd::Refused(refusal) => EndAnswer::Refused(refusal),
-    }
-}
-
-// MultiPortGraph::unlink_subport over lent tables, without the place.
-pub fn cut_sub_lent(
-    nodes: &mut [u32; NODE_WORDS],
-    links: &mut [u32; PORT_SLOTS],
-    owners: &mut [u32; PORT_SLOTS],
-    heads: &mut [u32; FREE_LISTS],
-    marks: &mut [bool; PORT_SLOTS],
-    flags: &mut [bool; NODE_SLOTS],
-    totals: Totals,
-    subport: SubportIndex,
-) -> CutLent
-    requires { ⌜ MultiWf (multiIn (now nodes) (now links) (now owners) (now heads) (now marks) (now flags) totals) ⌝ }
-    ensures { λ r. ⌜ (multiIn (now (nodes .exit)) (now (links .exit)) (now (owners .exit)) (now (heads .exit)) (now (marks .exit)) (now (flags .exit)) (r .totals) ≡ cutSub (multiIn (now (nodes .entry)) (now (links .entry)) (now (owners .entry)) (now (heads .entry)) (now (marks .entry)) (now (flags .entry)) totals) (subport .port .0) (subport .«subport_offset») .graph)
-        × (r .answer ≡ unplaced (cutSub (multiIn (now (nodes .entry)) (now (links .entry)) (now (owners .entry)) (now (heads .entry)) (now (marks .entry)) (now (flags .entry)) totals) (subport .port .0) (subport .«subport_offset») .answer))
-        × (now (nodes .exit) ≡ now (nodes .entry))
-        × (unplacedNumbers (r .answer) ≡ beforePlace (cutNumbers (cutSub (multiIn (now (nodes .entry)) (now (links .entry)) (now (owners .entry)) (now (heads .entry)) (now (marks .entry)) (now (flags .entry)) totals) (subport .port .0) (subport .«subport_offset») .answer))) ⌝ }
-{
-    match end_named(marks, links, owners, flags, subport) {
-        NamedEnd::At(inner) => {
-            let answer = wire_end_in(links, owners, flags, inner);
-            let far = cut(links, wide(inner));
-            CutLent {
-                totals: with_links(totals, without_link(totals.counts.link_count, far)),
-                answer: answer,
-            }
-        }
-        NamedEnd::Refused(refusal) => CutLent {
-            totals: totals,
-            answer: EndAnswer::Refused(refusal),
-        },
-    }
-}
-
-// MultiPortGraph::link_subports over lent tables.
-pub fn link_sub_lent(
-    nodes: &mut [u32; NODE_WORDS],
-    links: &mut [u32; PORT_SLOTS],
-    owners: &mut [u32; PORT_SLOTS],
-    heads: &mut [u32; FREE_LISTS],
-    marks: &mut [bool; PORT_SLOTS],
-    flags: &mut [bool; NODE_SLOTS],
-    totals: Totals,
-    from: SubportIndex,
-    to: SubportIndex,
-) -> LinkedLent
-    requires { ⌜ MultiWf (multiIn (now nodes) (now links) (now owners) (now heads) (now marks) (now flags) totals) ⌝ }
-    ensures { λ r. ⌜ (multiIn (now (nodes .exit)) (now (links .exit)) (now (owners .exit)) (now (heads .exit)) (now (marks .exit)) (now (flags .exit)) (r .totals) ≡ linkSub (multiIn (now (nodes .entry)) (now (links .entry)) (now (owners .entry)) (now (heads .entry)) (now (marks .entry)) (now (flags .entry)) totals) (from .port .0) (from .«subport_offset») (to .port .0) (to .«subport_offset») .graph)
-        × (r .answer ≡ linkSub (multiIn (now (nodes .entry)) (now (links .entry)) (now (owners .entry)) (now (heads .entry)) (now (marks .entry)) (now (flags .entry)) totals) (from .port .0) (from .«subport_offset») (to .port .0) (to .«subport_offset») .answer)
-        × (now (nodes .exit) ≡ now (nodes .entry))
-        × (linkNumbers (r .answer) ≡ linkNumbers (linkSub (multiIn (now (nodes .entry)) (now (links .entry)) (now (owners .entry)) (now (heads .entry)) (now (marks .entry)) (now (flags .entry)) totals) (from .port .0) (from .«subport_offset») (to .port .0) (to .«subport_offset») .answer)) ⌝ }
-{
-    let release = totals.release;
-    let p = from.port;
-    let q = to.port;
-    if input_taken(marks, links, owners, flags, release, p.0, q.0) {
-        return LinkedLent {
-            totals: totals,
-            answer: LinkAnswer::Refused(taken_subports(marks, links, owners, flags, from, to)),
-        };
-    }
-    match link_named(marks, links, owners, flags, from, to) {
-        NamedLink::Ends(x, y) => {
-            let first = read_in(marks, from);
-            let second = read_in(marks, to);
-            link_both(links, x, y);
-            LinkedLent {
-                totals: with_links(totals, totals.counts.link_count + 1),
-                answer: LinkAnswer::Linked(first, second),
-            }
-        }
-        NamedLink::Refused(refusal) => LinkedLent {
-            totals: totals,
-            answer: LinkAnswer::Refused(refusal),
-        },
     }
 }

@@ -16,7 +16,7 @@ ghost use Rattle.multiportgraph.specs.CodeForms.{flagAt, putFlag, layKep
 ghost use Rattle.multiportgraph.specs.HiddenNodes.{layRange, layMarks};
 
 // The mark of a port; false outside the table.
-pub(crate) fn marked(marks: &[bool; PORT_SLOTS], port: usize) -> bool
+pub fn marked(marks: &[bool; PORT_SLOTS], port: usize) -> bool
     ensures { λ r. ⌜ r ≡ flagAt (now (marks .entry)) portSlots port ⌝ }
 {
     if port < PORT_SLOTS {
@@ -27,7 +27,7 @@ pub(crate) fn marked(marks: &[bool; PORT_SLOTS], port: usize) -> bool
 }
 
 // Sets the mark of a port; outside the table nothing changes.
-pub(crate) fn put_mark(marks: &mut [bool; PORT_SLOTS], port: usize, mark: bool)
+pub fn put_mark(marks: &mut [bool; PORT_SLOTS], port: usize, mark: bool)
     ensures { λ _. ⌜ now (marks .exit) ≡ putFlag (now (marks .entry)) portSlots port mark ⌝ }
 {
     if port < PORT_SLOTS {
@@ -36,7 +36,7 @@ pub(crate) fn put_mark(marks: &mut [bool; PORT_SLOTS], port: usize, mark: bool)
 }
 
 // The hidden flag of a node; false outside the table.
-pub(crate) fn flagged(flags: &[bool; NODE_SLOTS], node: usize) -> bool
+pub fn flagged(flags: &[bool; NODE_SLOTS], node: usize) -> bool
     ensures { λ r. ⌜ r ≡ flagAt (now (flags .entry)) nodeSlots node ⌝ }
 {
     if node < NODE_SLOTS {
@@ -47,7 +47,7 @@ pub(crate) fn flagged(flags: &[bool; NODE_SLOTS], node: usize) -> bool
 }
 
 // Sets the hidden flag of a node; outside the table nothing changes.
-pub(crate) fn put_flag(flags: &mut [bool; NODE_SLOTS], node: usize, flag: bool)
+pub fn put_flag(flags: &mut [bool; NODE_SLOTS], node: usize, flag: bool)
     ensures { λ _. ⌜ now (flags .exit) ≡ putFlag (now (flags .entry)) nodeSlots node flag ⌝ }
 {
     if node < NODE_SLOTS {
@@ -155,7 +155,7 @@ fn unmark_old(marks: &mut [bool; PORT_SLOTS], a: NodeMeta, b: NodeMeta)
 }
 
 // Each kept port has its mark at its new number; the node's other ports, old and new, are unmarked.
-pub(crate) fn lay_marks(marks: &mut [bool; PORT_SLOTS], a: NodeMeta, b: NodeMeta)
+pub fn lay_marks(marks: &mut [bool; PORT_SLOTS], a: NodeMeta, b: NodeMeta)
     requires { ⌜ BlockFits a × BlockFits b ⌝ }
     ensures { λ _. ⌜ now (marks .exit) ≡ layMarks (now (marks .entry)) a b ⌝ }
 {

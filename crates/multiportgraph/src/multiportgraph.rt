@@ -5,14 +5,7 @@ use portgraph::index::NodeIndex;
 use portgraph::index::PORT_SLOTS;
 use portgraph::index::PortIndex;
 use portgraph::portgraph::PortGraph;
-
-// The release of the kit that a graph is made for.
-pub enum Release {
-    // Every port takes many wires.
-    One,
-    // An input takes one wire only.
-    Two,
-}
+use portgraph::release::Release;
 
 // A port graph, by value, that allows several links at one port.
 pub struct MultiPortGraph {

@@ -65,7 +65,7 @@ pub enum LinkNeed {
 }
 
 // The end that a subport means.
-pub(crate) fn end_named<'a>(
+pub fn end_named<'a>(
     marks: &'a [bool; PORT_SLOTS],
     links: &'a [u32; PORT_SLOTS],
     owners: &'a [u32; PORT_SLOTS],
@@ -153,7 +153,7 @@ fn first_end<'a>(
 }
 
 // The ends of a link.
-pub(crate) fn link_named<'a>(
+pub fn link_named<'a>(
     marks: &'a [bool; PORT_SLOTS],
     links: &'a [u32; PORT_SLOTS],
     owners: &'a [u32; PORT_SLOTS],
@@ -185,7 +185,7 @@ pub(crate) fn link_named<'a>(
 }
 
 // An end as read: on an unsplit port every offset means the port itself.
-pub(crate) fn read_in(marks: &[bool; PORT_SLOTS], subport: SubportIndex) -> SubportIndex
+pub fn read_in(marks: &[bool; PORT_SLOTS], subport: SubportIndex) -> SubportIndex
     ensures { λ r. ⌜ r ≡ readIn (now (marks .entry)) (subport .port .0) (subport .«subport_offset») ⌝ }
 {
     let port = subport.port;
@@ -199,7 +199,7 @@ pub(crate) fn read_in(marks: &[bool; PORT_SLOTS], subport: SubportIndex) -> Subp
 }
 
 // Whether a range of slots lies within the table.
-pub(crate) fn row_fits(first: usize, count: usize) -> bool
+pub fn row_fits(first: usize, count: usize) -> bool
     ensures { λ r. ⌜ r ≡ leb (first + count) portSlots ⌝ }
 {
     if first <= PORT_SLOTS {

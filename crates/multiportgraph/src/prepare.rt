@@ -11,19 +11,15 @@ use crate::reads::subports_in;
 use portgraph::direction::Direction;
 use portgraph::index::NODE_PORTS;
 use portgraph::index::NodeIndex;
-use portgraph::index::PORT_SLOTS;
 use portgraph::index::PortIndex;
 use portgraph::numbers::wide;
 use portgraph::resize::SetAnswer as LowerSet;
 use portgraph::slots::AddAnswer as LowerAdd;
-use portgraph::tables::cut;
-use portgraph::tables::link_both;
 ghost use mathlib.Core.Path.{_≡_};
 ghost use Prim.Native.Nat.{_+_, _≤_};
 ghost use Rattle.portgraph.specs.Limits.{portSlots};
-ghost use Rattle.portgraph.specs.Tables.{at};
 ghost use Rattle.multiportgraph.specs.Reading.{copyNode};
-ghost use Rattle.multiportgraph.specs.TableReads.{hangOn, copyAt, subportsAt, grownIncoming, grownOutgoing};
+ghost use Rattle.multiportgraph.specs.TableReads.{copyAt, subportsAt, grownIncoming, grownOutgoing};
 ghost use Rattle.multiportgraph.specs.CodeForms.{preparedAs};
 ghost use Rattle.multiportgraph.specs.HiddenNodes.{split, grow, prepare, copyIncoming, copyOutgoing};
 ghost use Rattle.multiportgraph.specs.Presumed.{OnBlock, LinkedPort, SplitPort};
@@ -39,7 +35,7 @@ pub struct Prepared {
     pub ready: bool,
 }
 
-pub(crate) fn copy_incoming(direction: Direction) -> usize
+pub fn copy_incoming(direction: Direction) -> usize
     ensures { λ r. ⌜ r ≡ copyIncoming direction ⌝ }
 {
     match direction {
@@ -48,7 +44,7 @@ pub(crate) fn copy_incoming(direction: Direction) -> usize
     }
 }
 
-pub(crate) fn copy_outgoing(direction: Direction) -> usize
+pub fn copy_outgoing(direction: Direction) -> usize
     ensures { λ r. ⌜ r ≡ copyOutgoing direction ⌝ }
 {
     match direction {
@@ -57,19 +53,8 @@ pub(crate) fn copy_outgoing(direction: Direction) -> usize
     }
 }
 
-// The port hangs on the copy port, and its old link is at the first subport. Answers what the table held for the port.
-pub(crate) fn hang(links: &mut [u32; PORT_SLOTS], port: u32, copy: u32, first: u32) -> u32
-    ensures { λ r. ⌜ (r ≡ at (now (links .entry)) port) × (now (links .exit) ≡ hangOn (now (links .entry)) port copy first) ⌝ }
-{
-    let far = far_in(links, wide(port));
-    let held = cut(links, wide(port));
-    link_both(links, port, copy);
-    link_both(links, first, far);
-    held
-}
-
 // Where the copy port stands in a new hidden node's block.
-pub(crate) fn copy_at(direction: Direction) -> u32
+pub fn copy_at(direction: Direction) -> u32
     ensures { λ r. ⌜ r ≡ copyAt direction ⌝ }
 {
     match direction {
@@ -79,7 +64,7 @@ pub(crate) fn copy_at(direction: Direction) -> u32
 }
 
 // Where the first subport stands there.
-pub(crate) fn subports_at(direction: Direction) -> u32
+pub fn subports_at(direction: Direction) -> u32
     ensures { λ r. ⌜ r ≡ subportsAt direction ⌝ }
 {
     match direction {
@@ -89,7 +74,7 @@ pub(crate) fn subports_at(direction: Direction) -> u32
 }
 
 // The counts of a hidden node that has `count` subports on this side, with one more.
-pub(crate) fn grown_incoming(direction: Direction, count: usize) -> usize
+pub fn grown_incoming(direction: Direction, count: usize) -> usize
     requires { ⌜ count ≤ portSlots ⌝ }
     ensures { λ r. ⌜ r ≡ grownIncoming direction count ⌝ }
 {
@@ -99,7 +84,7 @@ pub(crate) fn grown_incoming(direction: Direction, count: usize) -> usize
     }
 }
 
-pub(crate) fn grown_outgoing(direction: Direction, count: usize) -> usize
+pub fn grown_outgoing(direction: Direction, count: usize) -> usize
     requires { ⌜ count ≤ portSlots ⌝ }
     ensures { λ r. ⌜ r ≡ grownOutgoing direction count ⌝ }
 {

@@ -40,7 +40,7 @@ fn nowhere() -> PortPlace
 }
 
 // The slot that a slot is linked with; 0 for none.
-pub(crate) fn far_in(links: &[u32; PORT_SLOTS], slot: usize) -> u32
+pub fn far_in(links: &[u32; PORT_SLOTS], slot: usize) -> u32
     ensures { λ r. ⌜ r ≡ farIn (now (links .entry)) slot ⌝ }
 {
     let far = at(links, slot);
@@ -48,7 +48,7 @@ pub(crate) fn far_in(links: &[u32; PORT_SLOTS], slot: usize) -> u32
 }
 
 // The node that has a port; 0 for a port that is not live.
-pub(crate) fn owner_in(owners: &[u32; PORT_SLOTS], port: u32) -> u32
+pub fn owner_in(owners: &[u32; PORT_SLOTS], port: u32) -> u32
     ensures { λ r. ⌜ r ≡ ownerIn (now (owners .entry)) port ⌝ }
 {
     let PortEntry::Port(meta) = PortEntry::read(at(owners, wide(port))) else {
@@ -59,7 +59,7 @@ pub(crate) fn owner_in(owners: &[u32; PORT_SLOTS], port: u32) -> u32
 }
 
 // A port number: not live, of a hidden node, or of a block.
-pub(crate) fn seen_in<'a>(
+pub fn seen_in<'a>(
     owners: &'a [u32; PORT_SLOTS],
     flags: &'a [bool; NODE_SLOTS],
     port: u32,
@@ -305,7 +305,7 @@ pub(crate) fn wire_in<'a>(
 }
 
 // What an end is linked with.
-pub(crate) fn wire_end_in<'a>(
+pub fn wire_end_in<'a>(
     links: &'a [u32; PORT_SLOTS],
     owners: &'a [u32; PORT_SLOTS],
     flags: &'a [bool; NODE_SLOTS],
@@ -344,7 +344,7 @@ pub(crate) fn plain_in<'a>(
 }
 
 // The lowest offset from 0 whose port, counted from `first`, has no link; `count` where all have.
-pub(crate) fn lowest_unlinked(links: &[u32; PORT_SLOTS], first: usize, count: usize) -> usize
+pub fn lowest_unlinked(links: &[u32; PORT_SLOTS], first: usize, count: usize) -> usize
     requires { ⌜ first + count ≤ portSlots ⌝ }
     ensures { λ r. ⌜ r ≡ lowestUnlinked (now (links .entry)) first 0 count ⌝ }
 {

@@ -13,8 +13,8 @@ use Rattle.portgraph.specs.Entries.{freshSlot, freeSlotOf, nodeSlotOf, w
 use Rattle.portgraph.specs.Tables.{at, fillRange, headAt, putHead, ownBlock, cutRange, cutCount, chainBlock}
 use Rattle.portgraph.specs.Meaning.{metaOf}
 use Rattle.portgraph.specs.Lookups.{entryAt, metaOfEntry, metaAt, startOf, offsetIn, portIn, portIndex, portOffset, node#, port#}
-use Rattle.portgraph.specs.Calls.{newGraph, findSlot, findBlock, restOf, grown, slotAfter, addNode, removeNode, withLinks}
-use Rattle.portgraph.specs.Resize.{BlockFits, Plan, refuse, same, inside, anew, sameCounts, fitsInside, planOf, setBy, toldBy, setNumPorts, movesAfter, roundUp, dropLinks, dropCount, dropped, keptIncoming, keptOutgoing, firstSlot, insideLinks, anewLinks, setNumPortsUnder, movesAfterUnder}
+use Rattle.portgraph.specs.Calls.{newGraph, findSlot, findBlock, restOf, grown, slotAfter, addNode, removeNode}
+use Rattle.portgraph.specs.Resize.{BlockFits, Plan, refuse, same, inside, anew, sameCounts, fitsInside, planOf, setBy, setNumPorts, roundUp, dropLinks, dropCount, dropped, keptIncoming, keptOutgoing, firstSlot, insideLinks, anewLinks, setNumPortsUnder}
 use Rattle.portgraph.specs.Lent.{nodeWords, narrow, slotOfWords, slotsIn, slotIn, putSlot, metaIn, portWithin, portIndexIn, offsetOfIn, portOffsetIn, graphIn, countLinks, countPorts, Resizes, noCounts}
 use Rattle.portgraph.specs.Model.{Wf}
 use Rattle.portgraph.specs.WfFacts.{block-fits, node-below, port-len-fits, port-count-fits}
@@ -23,7 +23,6 @@ use Rattle.portgraph.specs.SlotSteps.{node-added, node-removed, node-slo
 use Rattle.portgraph.specs.ResizeSteps.{round-up-positive, rest-after, plan-same, plan-inside, plan-no-room, plan-anew}
 use Rattle.portgraph.specs.ResizeLaws.{anew-in-steps}
 use Rattle.portgraph.specs.LentResize.{takeBlock, dropPorts, settleInside, settleAnew, inside-in-steps}
-use Rattle.portgraph.specs.declared.direction.Direction.{Direction}
 use Rattle.portgraph.specs.declared.index.PortOffset.{PortOffset}
 use Rattle.portgraph.specs.declared.index.MaybePortIndex.the-variants as maybe-port
 use Rattle.portgraph.specs.declared.index.MaybePortOffset.the-variants as maybe-offset
@@ -38,10 +37,6 @@ use Rattle.portgraph.specs.declared.port_entry.PortMeta.{PortMeta}
 use Rattle.portgraph.specs.declared.port_entry.PortEntry.{PortEntry}
 use Rattle.portgraph.specs.declared.port_entry.PortEntry.the-variants as port-variants
 use Rattle.portgraph.specs.declared.portgraph.PortGraph.{PortGraph}
-use Rattle.portgraph.specs.declared.portgraph.LinkAnswer.{LinkAnswer}
-use Rattle.portgraph.specs.declared.portgraph.PortLink.{PortLink}
-use Rattle.portgraph.specs.declared.portgraph.PortsLinked.{PortsLinked}
-use Rattle.portgraph.specs.declared.portgraph.PortUnlinked.{PortUnlinked}
 use Rattle.portgraph.specs.declared.resize.SetAnswer.{SetAnswer}
 use Rattle.portgraph.specs.declared.resize.SetAnswer.the-variants as set-variants
 use Rattle.portgraph.specs.declared.resize.PortsSet.{PortsSet}
@@ -332,18 +327,8 @@ added-in e = (ap (λ (x : NodeAdded). x .graph) e, ap (λ (x : NodeAdded). x .an
 pub removed-in : {g : PortGraph} {a : RemoveAnswer} {r : NodeRemoved} → _≡_ {A = NodeRemoved} (record { graph = g; answer = a }) r → (g ≡ r .graph) × (a ≡ r .answer)
 removed-in e = (ap (λ (x : NodeRemoved). x .graph) e, ap (λ (x : NodeRemoved). x .answer) e)
 
-pub linked-in : {g : PortGraph} {a : LinkAnswer} {r : PortsLinked} → _≡_ {A = PortsLinked} (record { graph = g; answer = a }) r → (g ≡ r .graph) × (a ≡ r .answer)
-linked-in e = (ap (λ (x : PortsLinked). x .graph) e, ap (λ (x : PortsLinked). x .answer) e)
-
-pub unlinked-in : {g : PortGraph} {a : PortLink} {r : PortUnlinked} → _≡_ {A = PortUnlinked} (record { graph = g; answer = a }) r → (g ≡ r .graph) × (a ≡ r .answer)
-unlinked-in e = (ap (λ (x : PortUnlinked). x .graph) e, ap (λ (x : PortUnlinked). x .answer) e)
-
 set-lent : {g : PortGraph} {a : SetAnswer} {r : PortsSet} → _≡_ {A = PortsSet} (record { graph = g; answer = a }) r → (g ≡ r .graph) × (a ≡ r .answer)
 set-lent e = (ap (λ (x : PortsSet). x .graph) e, ap (λ (x : PortsSet). x .answer) e)
-
-pub counted-links : (nodes links links′ owners heads : List ℕ) (counts counts′ : Counts) (k : ℕ) → counts′ ≡ countLinks counts k
-    → graphIn nodes links′ owners heads counts′ ≡ withLinks (graphIn nodes links owners heads counts) links′ k
-counted-links nodes links links′ owners heads counts counts′ k e = ap (graphIn nodes links′ owners heads) e
 
 -- Adding and removing a node.
 
@@ -494,13 +479,6 @@ inside-events m i o e f g h = ap (λ (k : ℕ). set-variants.Set k) (omega arith
 pub anew-events : (m : NodeMeta) (i o : ℕ) {ports : ℕ} → ports ≡ m .incoming + m .outgoing → set-variants.Set ports ≡ set-variants.Set (dropped m i o + (keptIncoming m i + keptOutgoing m o))
 anew-events m i o e = ap (λ (k : ℕ). set-variants.Set k) (omega arith)
 
-module _ (m : NodeMeta) (i o : ℕ) {oi oo ki ko : ℕ} (ei : oi ≡ m .incoming) (eo : oo ≡ m .outgoing) (eki : ki ≡ min oi i) (eko : ko ≡ min oo o) where
-  pub inside-told-events : set-variants.Set (((oi - ki) + (oo - ko)) + ko) ≡ set-variants.Set (dropped m i o + keptOutgoing m o)
-  inside-told-events = rw (eki, eko, ei, eo)
-
-  pub anew-told-events : set-variants.Set (((oi - ki) + (oo - ko)) + (ki + ko)) ≡ set-variants.Set (dropped m i o + (keptIncoming m i + keptOutgoing m o))
-  anew-told-events = rw (eki, eko, ei, eo)
-
 -- the steps together are the change of counts
 module _ (nodes links owners heads : List ℕ) (counts : Counts) (n : ℕ) (m : NodeMeta) (i o : ℕ) where
   pub inside-done : {links₁ : List ℕ} {counts₁ : Counts} {g : PortGraph} → counts₁ ≡ countLinks counts (counts .«link_count» - dropCount links m i o) → links₁ ≡ dropLinks links m i o
@@ -566,9 +544,3 @@ resizes g w n m i o e few =
       used = port-len-fits g w;
       counted = port-count-fits g w;
     }
-
-pub answered-in : (g h : PortGraph) (n i o : ℕ) (b b′ : List ℕ) (a : SetAnswer) (p : Plan) → planOf g n i o (length b) ≡ p
-    → h ≡ setBy g n i o p .graph → a ≡ setBy g n i o p .answer → b′ ≡ sets b 0 (toldBy g i o p)
-    → (h ≡ setNumPorts g n i o (length b) .graph) × (a ≡ setNumPorts g n i o (length b) .answer) × (b′ ≡ movesAfter g n i o b)
-unfolding setNumPortsUnder movesAfterUnder
-answered-in g h n i o b b′ a p e eg ea eb = (rw e eg, rw e ea, rw e eb)

@@ -31,15 +31,9 @@ module _ {A B : Type 0} where
   pub without-words : {C : Type 0} → A × B × C → A × B
   without-words p = (p .0, p .1)
 
-  pub with-words-3 : {C D : Type 0} → A × B × C → D → A × B × C × D
-  with-words-3 p d = (p .0, p .1, p .2, d)
-
 module _ {A C X : Type 0} (numbers : X → List ℕ) {x y : X} where
   pub and-numbers : A × (x ≡ y) × C → A × (x ≡ y) × C × (numbers x ≡ numbers y)
   and-numbers p = (p .0, p .1, p .2, ap numbers (p .1))
-
-  pub and-numbers-4 : {D : Type 0} → A × (x ≡ y) × C × D → A × (x ≡ y) × C × D × (numbers x ≡ numbers y)
-  and-numbers-4 p = (p .0, p .1, p .2, p .3, ap numbers (p .1))
 
 -- numbers that no call touches
 pub untouched : {t u : List ℕ} → u ≡ t → StaysCanonical t u

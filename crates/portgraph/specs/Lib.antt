@@ -6,6 +6,7 @@
 --   Lookups, Calls, Resize      each call: answer, graph and move list as the contracts cite them
 --   Walks, LinkWalks            the steps of the cursors
 --   Lent                        the same graph as tables apart, each lent to the calls: graphIn puts them together
+--   Places                      places and the wires between them, which the crates above speak of
 -- and three words of Meaning: metaOf, sameSide, newCount.
 --
 -- What is proved, and need not be believed: everything else. A contract presumes of its graph only that it came from these calls
@@ -34,9 +35,11 @@ pub mod Walks
 pub mod LinkWalks
 pub mod Lent
 -- what is proved: what the tables stand for
+pub mod Places
 pub mod Model
 pub mod Meaning
 -- laws: single changes; tables, sums and chains; links under any numbering of places; the model stays good
+pub mod Listing
 pub mod Joins
 pub mod TableLaws
 pub mod Chains

@@ -81,7 +81,7 @@ fn put_words(nodes: &mut [u32; NODE_WORDS], n: usize, kind: u32, a: u32, b: u32,
 }
 
 // Stores a slot of the node table; outside nothing changes.
-pub(crate) fn put_slot(nodes: &mut [u32; NODE_WORDS], n: usize, slot: NodeSlot)
+pub fn put_slot(nodes: &mut [u32; NODE_WORDS], n: usize, slot: NodeSlot)
     ensures { λ _. ⌜ (slotsIn (now (nodes .exit)) ≡ putSlot (slotsIn (now (nodes .entry))) n slot) × StaysCanonical (now (nodes .entry)) (now (nodes .exit)) ⌝ }
 {
     let entry = slot.entry;
@@ -100,7 +100,7 @@ pub(crate) fn put_slot(nodes: &mut [u32; NODE_WORDS], n: usize, slot: NodeSlot)
 }
 
 // The next free entry after one; 0 for none, and for a node.
-pub(crate) fn next_in(nodes: &[u32; NODE_WORDS], n: usize) -> u32
+pub fn next_in(nodes: &[u32; NODE_WORDS], n: usize) -> u32
     ensures { λ r. ⌜ r ≡ nextOf (slotIn (now (nodes .entry)) n .entry) ⌝ }
 {
     if NODE_SLOTS <= n {
@@ -115,7 +115,7 @@ pub(crate) fn next_in(nodes: &[u32; NODE_WORDS], n: usize) -> u32
 }
 
 // Gives a free entry another neighbour before it; a node stays as it is, and outside nothing changes.
-pub(crate) fn put_prev(nodes: &mut [u32; NODE_WORDS], n: usize, prev: u16)
+pub fn put_prev(nodes: &mut [u32; NODE_WORDS], n: usize, prev: u16)
     ensures { λ _. ⌜ (slotsIn (now (nodes .exit)) ≡ putSlot (slotsIn (now (nodes .entry))) n (withPrev (slotIn (now (nodes .entry)) n) prev)) × StaysCanonical (now (nodes .entry)) (now (nodes .exit)) ⌝ }
 {
     if n < NODE_SLOTS {

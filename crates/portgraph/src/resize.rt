@@ -67,7 +67,7 @@ pub fn round_up(total: usize) -> usize
 }
 
 // Whether a node has these counts already.
-pub(crate) fn same_counts(meta: NodeMeta, incoming: usize, outgoing: usize) -> bool
+pub fn same_counts(meta: NodeMeta, incoming: usize, outgoing: usize) -> bool
     ensures { λ r. ⌜ r ≡ sameCounts meta incoming outgoing ⌝ }
 {
     if incoming == wide16(meta.incoming) {
@@ -77,7 +77,7 @@ pub(crate) fn same_counts(meta: NodeMeta, incoming: usize, outgoing: usize) -> b
 }
 
 // Whether these counts are done within the node's block.
-pub(crate) fn fits_inside(meta: NodeMeta, incoming: usize, outgoing: usize) -> bool
+pub fn fits_inside(meta: NodeMeta, incoming: usize, outgoing: usize) -> bool
     requires { ⌜ incoming + outgoing ≤ nodePorts ⌝ }
     ensures { λ r. ⌜ r ≡ fitsInside meta incoming outgoing ⌝ }
 {
@@ -118,12 +118,7 @@ pub(crate) fn drop_both(
 }
 
 // Moves the outgoing ports that stay, and clears new slots and slots no longer used.
-pub(crate) fn inside_links(
-    links: &mut [u32; PORT_SLOTS],
-    meta: NodeMeta,
-    incoming: usize,
-    outgoing: usize,
-)
+pub fn inside_links(links: &mut [u32; PORT_SLOTS], meta: NodeMeta, incoming: usize, outgoing: usize)
     requires { ⌜ (meta .«first_port» .0 + meta .capacity ≤ portSlots) × (meta .incoming + meta .outgoing ≤ meta .capacity)
         × (incoming + outgoing ≤ meta .capacity) × (meta .capacity ≤ nodePorts) ⌝ }
     ensures { λ _. ⌜ now (links .exit) ≡ insideLinks (now (links .entry)) meta incoming outgoing ⌝ }
@@ -160,7 +155,7 @@ pub(crate) fn inside_links(
 }
 
 // Clears the slots of a new block, and moves the ports that stay into it.
-pub(crate) fn anew_links(
+pub fn anew_links(
     links: &mut [u32; PORT_SLOTS],
     meta: NodeMeta,
     incoming: usize,

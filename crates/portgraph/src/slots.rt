@@ -57,7 +57,7 @@ pub struct NodeRemoved {
 }
 
 // The node slot that is taken next: the one freed last, else the next at the end.
-pub(crate) fn find_slot(free: u32, len: usize) -> Found
+pub fn find_slot(free: u32, len: usize) -> Found
     ensures { λ r. ⌜ r ≡ findSlot free len ⌝ }
 {
     if free == 0 {
@@ -70,7 +70,7 @@ pub(crate) fn find_slot(free: u32, len: usize) -> Found
 }
 
 // The block that is taken next: the one of exactly this size freed last, else the end.
-pub(crate) fn find_block(heads: &[u32; FREE_LISTS], len: usize, size: usize) -> Found
+pub fn find_block(heads: &[u32; FREE_LISTS], len: usize, size: usize) -> Found
     requires { ⌜ (len ≤ portSlots) × (size ≤ portSlots) ⌝ }
     ensures { λ r. ⌜ r ≡ findBlock (now (heads .entry)) len size ⌝ }
 {
@@ -88,7 +88,7 @@ pub(crate) fn find_block(heads: &[u32; FREE_LISTS], len: usize, size: usize) -> 
 }
 
 // The first of a list of free ones after its first is taken, which names the next.
-pub(crate) fn rest_of(head: u32, next: u32) -> u32
+pub fn rest_of(head: u32, next: u32) -> u32
     ensures { λ r. ⌜ r ≡ restOf head next ⌝ }
 {
     if head == 0 { 0 } else { next }
@@ -103,7 +103,7 @@ pub fn grown(head: u32, len: usize, size: usize) -> usize
 }
 
 // The slot of a free entry that is given one higher than its number, or another slot where there is none.
-pub(crate) fn slot_after(code: u32, other: usize) -> usize
+pub fn slot_after(code: u32, other: usize) -> usize
     requires { ⌜ other < nodeSlots ⌝ }
     ensures { λ r. ⌜ (r ≡ slotAfter code other) × (r < nodeSlots) ⌝ }
 {

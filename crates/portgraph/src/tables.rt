@@ -39,7 +39,7 @@ pub fn without_link(count: usize, far: u32) -> usize
 }
 
 // Sets `count` slots from `first` on; a range that runs past the table is left alone.
-pub(crate) fn fill(table: &mut [u32; PORT_SLOTS], first: u32, count: u16, value: u32)
+pub fn fill(table: &mut [u32; PORT_SLOTS], first: u32, count: u16, value: u32)
     ensures { λ _. ⌜ now (table .exit) ≡ fillRange (now (table .entry)) first count value ⌝ }
 {
     let start = wide(first);
@@ -61,7 +61,7 @@ pub fn head_at(heads: &[u32; FREE_LISTS], size: usize) -> u32
 }
 
 // Makes another block the first free one of its size.
-pub(crate) fn put_head(heads: &mut [u32; FREE_LISTS], size: usize, value: u32)
+pub fn put_head(heads: &mut [u32; FREE_LISTS], size: usize, value: u32)
     ensures { λ _. ⌜ now (heads .exit) ≡ putHead (now (heads .entry)) size value ⌝ }
 {
     if 0 < size {
@@ -72,7 +72,7 @@ pub(crate) fn put_head(heads: &mut [u32; FREE_LISTS], size: usize, value: u32)
 }
 
 // The slots of a block get their owner: the node, incoming ports first, then outgoing; what is left is free.
-pub(crate) fn own_block(owners: &mut [u32; PORT_SLOTS], node: u32, meta: NodeMeta)
+pub fn own_block(owners: &mut [u32; PORT_SLOTS], node: u32, meta: NodeMeta)
     requires { ⌜ (node ≤ portSlots) × (meta .«first_port» .0 + meta .capacity ≤ portSlots) × (meta .incoming + meta .outgoing ≤ meta .capacity) ⌝ }
     ensures { λ _. ⌜ now (owners .exit) ≡ ownBlock (now (owners .entry)) node meta ⌝ }
 {
@@ -118,7 +118,7 @@ pub(crate) fn link_count(far: u32) -> usize
 }
 
 // Cuts the links of `count` ports from `first` on, one after the other, and answers how many there were.
-pub(crate) fn cut_range(links: &mut [u32; PORT_SLOTS], first: usize, count: usize) -> usize
+pub fn cut_range(links: &mut [u32; PORT_SLOTS], first: usize, count: usize) -> usize
     requires { ⌜ first + count ≤ portSlots ⌝ }
     ensures { λ r. ⌜ (r ≡ cutCount (now (links .entry)) first count) × (now (links .exit) ≡ cutRange (now (links .entry)) first count) ⌝ }
 {
@@ -200,7 +200,7 @@ pub(crate) fn transfer_ports(links: &mut [u32; PORT_SLOTS], old: usize, new: usi
 }
 
 // A free block is put before the others of its size: its first slot holds the one that was first.
-pub(crate) fn chain_block(links: &mut [u32; PORT_SLOTS], first: usize, size: usize, head: u32)
+pub fn chain_block(links: &mut [u32; PORT_SLOTS], first: usize, size: usize, head: u32)
     ensures { λ _. ⌜ now (links .exit) ≡ chainBlock (now (links .entry)) first size head ⌝ }
 {
     if size != 0 {

@@ -15,7 +15,7 @@ use Rattle.multiportgraph.specs.declared.multiportgraph.EndAnswer.{EndAnswer}
 use Rattle.records.specs.Run.{Asked, call, linkOf, counts, refused, after, numbers, five, Answered}
 use Rattle.records.specs.Forms.{EventsFit}
 use Rattle.records.specs.AnswerSteps.{events-fit, cut-told, counts-told}
-use Rattle.multiportgraph.specs.declared.multiportgraph.Release.{Release}
+use Rattle.portgraph.specs.declared.release.Release.{Release}
 use Rattle.multiportgraph.specs.Graph.{emptyGraph}
 use Rattle.multiportgraph.specs.Answers.{setNumbers, unplaced, unplacedNumbers}
 use Rattle.multiportgraph.specs.HiddenNodes.{enough}

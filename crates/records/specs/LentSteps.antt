@@ -7,7 +7,7 @@ use Rattle.portgraph.specs.Lent.{nodeWords}
 use Rattle.multiportgraph.specs.MultiLent.{multiIn, noTotals}
 use Rattle.multiportgraph.specs.LentLaws.{empty-in}
 use Rattle.multiportgraph.specs.declared.lent.Totals.{Totals}
-use Rattle.multiportgraph.specs.declared.multiportgraph.Release.{Release}
+use Rattle.portgraph.specs.declared.release.Release.{Release}
 use Rattle.multiportgraph.specs.Graph.{emptyGraph}
 
 -- tables without anything are the empty graph of a release

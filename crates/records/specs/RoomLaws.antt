@@ -16,7 +16,7 @@ use Rattle.multiportgraph.specs.WellFormed.{Fine}
 use Rattle.theorems.specs.CallLaws.{rel-run, refused-under-no-other}
 use Rattle.theorems.specs.Conditions as laws
 use Rattle.multiportgraph.specs.declared.multiportgraph.MultiPortGraph.{MultiPortGraph}
-use Rattle.multiportgraph.specs.declared.multiportgraph.Release.the-variants.{One}
+use Rattle.portgraph.specs.declared.release.Release.the-variants.{One}
 use Rattle.multiportgraph.specs.declared.multiportgraph.Refusal.{Refusal}
 use Rattle.multiportgraph.specs.declared.multiportgraph.Refusal.the-variants.{BadOffset, TooManyPorts, UnknownNode, HiddenNode, MovesTooShort, UnknownPort, HiddenPort, UnknownOffset, NoRoom, UnknownSecondPort, IncompatibleDirections, AlreadyLinked, InputWired}
 use Rattle.multiportgraph.specs.declared.multiportgraph.AddAnswer.the-variants as add

@@ -11,7 +11,7 @@ use Rattle.theorems.specs.History.{step, numbersOf}
 use Rattle.multiportgraph.specs.WellFormed.{MultiWf}
 use Rattle.multiportgraph.specs.declared.multiportgraph.MultiPortGraph.{MultiPortGraph}
 use Rattle.records.specs.Words.{bytesOf, Request, requestsOf}
-use Rattle.multiportgraph.specs.declared.multiportgraph.Release.the-variants.{One}
+use Rattle.portgraph.specs.declared.release.Release.the-variants.{One}
 use Rattle.multiportgraph.specs.Graph.{emptyGraph}
 use Rattle.multiportgraph.specs.Answers.{cutNumbers}
 use Rattle.multiportgraph.specs.Refusals.{goodOffset}

@@ -10,9 +10,8 @@ use lib.ListN.{length}
 use borrow.Author.Tests.{le-leb, lt-leb, lt-ltb, le-ltb, leb-false}
 use Rattle.portgraph.specs.Lists.{filter}
 use Rattle.portgraph.specs.Limits.{nodeSlots, portSlots, nodePorts}
-use Rattle.multiportgraph.specs.Listing.{length-map}
-use Rattle.multiportgraph.specs.Places.{Place, Wire, ofNode, ofDropped}
-use Rattle.theorems.specs.Book.{without}
+use Rattle.portgraph.specs.Listing.{length-map}
+use Rattle.portgraph.specs.Places.{Place, Wire, ofNode, ofDropped, without}
 use Rattle.sketches.specs.Plan.{PlanBlock, Plan, hasBlock, portsInAll}
 use Rattle.sketches.specs.PlanCalls.{mostAdds, Sketched, leaves, addBlock, removeBlock, recount, setCounts}
 use Rattle.sketches.specs.PlanNumbers.{addNumbers, doneNumbers}

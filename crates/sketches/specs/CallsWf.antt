@@ -13,9 +13,8 @@ use Rattle.portgraph.specs.Limits.{nodeSlots, portSlots, nodePorts}
 use Rattle.portgraph.specs.Meaning.{sameSide, newCount}
 use Rattle.portgraph.specs.declared.direction.Direction.{Direction}
 use Rattle.portgraph.specs.declared.direction.Direction.the-variants.{Incoming, Outgoing}
-use Rattle.multiportgraph.specs.Places.{Place, Wire, Spot, atSpot, atEnd, ofNode, ofDropped, touches, wireOfSides}
-use Rattle.multiportgraph.specs.Listing.{member-filter, member-map, length-map, rising-filter}
-use Rattle.theorems.specs.Book.{without, anyTouches, lowestUnwired, nextOffset}
+use Rattle.portgraph.specs.Places.{Place, Wire, Spot, atSpot, atEnd, ofNode, ofDropped, touches, wireOfSides, without, anyTouches, lowestUnwired, nextOffset}
+use Rattle.portgraph.specs.Listing.{member-filter, member-map, length-map, rising-filter}
 use Rattle.sketches.specs.Plan.{PlanBlock, Plan, withSplits, withWires, hasBlock, portsOnSide, portsInAll, spotNamed, isThere, subportsAmong, subportsOf, setSubports, offsetRead, lacksOffset, end#, placeNamed, inputTaken, farFrom, aboveEnd, aboveWired, offsetReady, subportsReady, ready}
 use Rattle.sketches.specs.PlanCalls.{mostAdds, mostWires, Sketched, leaves, addBlock, removeBlock, recount, setCounts, isFull, withWire, bothLinked, linkPorts, linkClean, isWired, badOffset, linkSubports, cutPort, subportLink, isRefused, cutSubport, tidied, tidyPort}
 use Rattle.sketches.specs.PlanWf.{PlanWf, mostSubports, Elsewhere, filter-shorter, subports-wf}

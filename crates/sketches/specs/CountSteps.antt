@@ -7,8 +7,8 @@ use lib.Dec.{eqb}
 use lib.ListN.{length}
 use Rattle.portgraph.specs.Lists.{filter}
 use Rattle.portgraph.specs.declared.direction.Direction.the-variants.{Outgoing}
-use Rattle.multiportgraph.specs.Places.{Wire, touches, atSpot}
-use Rattle.multiportgraph.specs.Listing.{length-map}
+use Rattle.portgraph.specs.Places.{Wire, touches, atSpot}
+use Rattle.portgraph.specs.Listing.{length-map}
 use Rattle.sketches.specs.Plan.{Plan, hasBlock, spotNamed, isThere}
 use Rattle.sketches.specs.PlanLists.{linksOfPort, linksOfSide, blockCount, portCount, wireCount, portFanOut, blockFanOut}
 use Rattle.sketches.specs.Rows.{rowsIn, wireOf, hits}

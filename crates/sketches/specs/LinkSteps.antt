@@ -10,10 +10,9 @@ use borrow.Author.Tests.{le-leb, lt-leb}
 use Rattle.portgraph.specs.Meaning.{sameSide}
 use Rattle.portgraph.specs.declared.direction.Direction.{Direction}
 use Rattle.portgraph.specs.declared.direction.Direction.the-variants.{Incoming, Outgoing}
-use Rattle.multiportgraph.specs.Places.{Place, Wire, atSpot, wireOfSides}
-use Rattle.multiportgraph.specs.declared.multiportgraph.Release.{Release}
-use Rattle.multiportgraph.specs.declared.multiportgraph.Release.the-variants as release
-use Rattle.theorems.specs.Book.{anyTouches}
+use Rattle.portgraph.specs.Places.{Place, Wire, atSpot, wireOfSides, anyTouches}
+use Rattle.portgraph.specs.declared.release.Release.{Release}
+use Rattle.portgraph.specs.declared.release.Release.the-variants as release
 use Rattle.sketches.specs.Plan.{Plan, withWires, portsOnSide, spotNamed, isThere, wiredSide, takenUnder, inputTaken, placeNamed, end#, offsetReady, ready}
 use Rattle.sketches.specs.PlanCalls.{mostWires, Sketched, leaves, withWire, bothLinked, linkPorts, linkClean}
 use Rattle.sketches.specs.PlanNumbers.{linkNumbers}

@@ -9,9 +9,8 @@ use lib.Dec.{eqb, ltb}
 use lib.ListN.{length, getD, set, length-set, replicate, length-replicate, getD-replicate}
 use lib.Seq.{getD-set-same, getD-set-other}
 use borrow.Author.Tests.{eqb-true, eqb-false, ltb-false}
-use Rattle.multiportgraph.specs.Listing.{length-map}
-use Rattle.multiportgraph.specs.Places.{Place, Wire, Spot, atSpot, atEnd, touches}
-use Rattle.theorems.specs.Book.{anyTouches, lowestUnwired, nextOffset}
+use Rattle.portgraph.specs.Listing.{length-map}
+use Rattle.portgraph.specs.Places.{Place, Wire, Spot, atSpot, atEnd, touches, anyTouches, lowestUnwired, nextOffset}
 use Rattle.sketches.specs.Plan.{aboveEnd, aboveWired}
 use Rattle.sketches.specs.Rows.{rowSlots, rowsIn, rowAt, wireOf, wiresIn}
 use Rattle.sketches.specs.declared.rows.Row.{Row}

@@ -9,10 +9,9 @@ use Rattle.portgraph.specs.Lists.{filter}
 use Rattle.portgraph.specs.Meaning.{newCount}
 use Rattle.portgraph.specs.declared.direction.Direction.{Direction}
 use Rattle.portgraph.specs.declared.direction.Direction.the-variants.{Incoming, Outgoing}
-use Rattle.multiportgraph.specs.Places.{Place, Wire, Spot, spot, atSpot, touches}
-use Rattle.multiportgraph.specs.declared.multiportgraph.Release.{Release}
-use Rattle.multiportgraph.specs.declared.multiportgraph.Release.the-variants as release
-use Rattle.theorems.specs.Book.{anyTouches, nextOffset}
+use Rattle.portgraph.specs.Places.{Place, Wire, Spot, spot, atSpot, touches, anyTouches, nextOffset}
+use Rattle.portgraph.specs.declared.release.Release.{Release}
+use Rattle.portgraph.specs.declared.release.Release.the-variants as release
 use Rattle.sketches.specs.declared.sketch.SketchPort.{SketchPort}
 use Rattle.sketches.specs.declared.sketch.SketchEnd.{SketchEnd}
 

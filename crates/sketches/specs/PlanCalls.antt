@@ -10,8 +10,7 @@ use Rattle.portgraph.specs.Limits.{nodeSlots, portSlots, nodePorts}
 use Rattle.portgraph.specs.Meaning.{sameSide, newCount}
 use Rattle.portgraph.specs.declared.direction.Direction.{Direction}
 use Rattle.portgraph.specs.declared.direction.Direction.the-variants.{Incoming, Outgoing}
-use Rattle.multiportgraph.specs.Places.{Place, Wire, Spot, spot, atSpot, atEnd, ofNode, ofDropped, wireOfSides}
-use Rattle.theorems.specs.Book.{without, anyTouches}
+use Rattle.portgraph.specs.Places.{Place, Wire, Spot, spot, atSpot, atEnd, ofNode, ofDropped, wireOfSides, without, anyTouches}
 use Rattle.sketches.specs.Plan.{PlanBlock, Plan, withSplits, withWires, hasBlock, portsOnSide, portsInAll, spotNamed, isThere, subportsOf, setSubports, offsetRead, lacksOffset, end#, portAt, endAtPlace, placeNamed, inputTaken, Far, nothing, far, farFrom, aboveWired, offsetReady, ready}
 use Rattle.sketches.specs.declared.sketch.SketchPort.{SketchPort}
 use Rattle.sketches.specs.declared.sketch.SketchEnd.{SketchEnd}

@@ -8,8 +8,7 @@ use Rattle.portgraph.specs.Lists.{filter, range}
 use Rattle.portgraph.specs.Meaning.{sameSide}
 use Rattle.portgraph.specs.declared.direction.Direction.{Direction}
 use Rattle.portgraph.specs.declared.direction.Direction.the-variants.{Incoming, Outgoing}
-use Rattle.multiportgraph.specs.Places.{Place, Wire, atSpot, touches}
-use Rattle.theorems.specs.ListingClaims.{endOn, farFrom}
+use Rattle.portgraph.specs.Places.{Place, Wire, atSpot, touches, endOn, farFrom}
 use Rattle.sketches.specs.Plan.{PlanBlock, Plan, hasBlock, portsOnSide, portsInAll, spotNamed, isThere, subportsOf, end#}
 use Rattle.sketches.specs.declared.sketch.SketchPort.{SketchPort}
 use Rattle.sketches.specs.declared.sketch.SketchEnd.{SketchEnd}

@@ -14,10 +14,9 @@ use Rattle.portgraph.specs.Limits.{nodeSlots, portSlots}
 use Rattle.portgraph.specs.Meaning.{sameSide, newCount}
 use Rattle.portgraph.specs.declared.direction.Direction.{Direction}
 use Rattle.portgraph.specs.declared.direction.Direction.the-variants.{Incoming, Outgoing}
-use Rattle.multiportgraph.specs.Places.{Place, Wire, Spot, spot, atSpot}
-use Rattle.multiportgraph.specs.Listing.{member-left, member-right, member-filter, member-map, map-member, range-member, length-map, rising-filter, rising-map, Apart}
-use Rattle.multiportgraph.specs.CountLaws.{partners, length-range}
-use Rattle.multiportgraph.specs.declared.multiportgraph.Release.{Release}
+use Rattle.portgraph.specs.Places.{Place, Wire, Spot, spot, atSpot}
+use Rattle.portgraph.specs.Listing.{member-left, member-right, member-filter, member-map, map-member, range-member, length-map, rising-filter, rising-map, Apart, partners, length-range}
+use Rattle.portgraph.specs.declared.release.Release.{Release}
 use Rattle.sketches.specs.Plan.{PlanBlock, Plan, emptyPlan, withSplits, hasBlock, portsOnSide, portsInAll, spotNamed, isThere, subportsOf, setSubports}
 use Rattle.sketches.specs.PlanCalls.{mostWires}
 use Rattle.sketches.specs.declared.sketch.SketchPort.{SketchPort}

@@ -9,8 +9,7 @@ use Rattle.portgraph.specs.Lists.{filter}
 use Rattle.portgraph.specs.Meaning.{newCount}
 use Rattle.portgraph.specs.declared.direction.Direction.{Direction}
 use Rattle.portgraph.specs.declared.direction.Direction.the-variants.{Incoming, Outgoing}
-use Rattle.multiportgraph.specs.Places.{Place, Wire, atSpot, touches}
-use Rattle.theorems.specs.Book.{anyTouches, without}
+use Rattle.portgraph.specs.Places.{Place, Wire, atSpot, touches, anyTouches, without}
 use Rattle.sketches.specs.Plan.{PlanBlock, hasBlock, portsOnSide, spotNamed, subportsAmong}
 use Rattle.sketches.specs.Rows.{blockOf, splitOf, wireOf, endHits, hits, missed, newestOf, isThereAny}
 use Rattle.sketches.specs.declared.rows.Row.{Row}

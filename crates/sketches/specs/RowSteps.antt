@@ -12,7 +12,7 @@ use borrow.Author.Tests.{le-leb, lt-leb, eq-eqb, ne-eqb}
 use Rattle.portgraph.specs.Lists.{filter}
 use Rattle.portgraph.specs.declared.direction.Direction.{Direction}
 use Rattle.portgraph.specs.declared.direction.Direction.the-variants.{Incoming, Outgoing}
-use Rattle.theorems.specs.ListingClaims.{endOn}
+use Rattle.portgraph.specs.Places.{endOn}
 use Rattle.sketches.specs.Plan.{PlanBlock, portsInAll}
 use Rattle.sketches.specs.PlanCalls.{recount}
 use Rattle.sketches.specs.Rows.{rowAt, putRow, rowsIn, Table, newestHit, oldestHit, wireOf, blockOf, hits, newestOf, isThereAny, noRow}

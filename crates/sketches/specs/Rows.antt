@@ -8,8 +8,7 @@ use lib.ListN.{length, getD, set}
 use Rattle.portgraph.specs.Lists.{filter}
 use Rattle.portgraph.specs.declared.direction.Direction.{Direction}
 use Rattle.portgraph.specs.declared.direction.Direction.the-variants.{Incoming, Outgoing}
-use Rattle.multiportgraph.specs.Places.{Place, Wire, atSpot, atEnd, ofNode, ofDropped, touches}
-use Rattle.theorems.specs.ListingClaims.{endOn, farFrom}
+use Rattle.portgraph.specs.Places.{Place, Wire, atSpot, atEnd, ofNode, ofDropped, touches, endOn, farFrom}
 use Rattle.sketches.specs.Plan.{PlanBlock, spotNamed}
 use Rattle.sketches.specs.PlanLists.{isOwnOutput}
 use Rattle.sketches.specs.declared.rows.Row.{Row}

@@ -12,8 +12,8 @@ use Rattle.portgraph.specs.Lists.{filter}
 use Rattle.portgraph.specs.Entries.{sideNumber}
 use Rattle.portgraph.specs.declared.direction.Direction.{Direction}
 use Rattle.portgraph.specs.declared.direction.Direction.the-variants.{Incoming, Outgoing}
-use Rattle.multiportgraph.specs.Listing.{length-map}
-use Rattle.multiportgraph.specs.Places.{Place, atSpot}
+use Rattle.portgraph.specs.Listing.{length-map}
+use Rattle.portgraph.specs.Places.{Place, atSpot}
 use Rattle.sketches.specs.Plan.{Plan, withSplits, spotNamed, isThere, subportsAmong, subportsOf, setSubports, offsetReady, subportsReady, ready}
 use Rattle.sketches.specs.PlanCalls.{mostWires}
 use Rattle.sketches.specs.PlanWf.{PlanWf, mostSubports, splitsSet, splits-fit, subports-wf}

@@ -11,9 +11,8 @@ use Rattle.portgraph.specs.Lists.{filter}
 use Rattle.portgraph.specs.Meaning.{sameSide}
 use Rattle.portgraph.specs.declared.direction.Direction.{Direction}
 use Rattle.portgraph.specs.declared.direction.Direction.the-variants.{Outgoing}
-use Rattle.multiportgraph.specs.Places.{Place, Wire, touches, atSpot}
-use Rattle.multiportgraph.specs.Listing.{filter-append, filter-same, filter-all}
-use Rattle.theorems.specs.ListingClaims.{endOn, farFrom}
+use Rattle.portgraph.specs.Places.{Place, Wire, touches, atSpot, endOn, farFrom}
+use Rattle.portgraph.specs.Listing.{filter-append, filter-same, filter-all}
 use Rattle.sketches.specs.Plan.{PlanBlock, Plan, spotNamed}
 use Rattle.sketches.specs.PlanLists.{linksOfPort, linksOfSide, isOwnOutput, neighboursOfSide, connections, blockNames}
 use Rattle.sketches.specs.Rows.{rowAt, rowsIn, blockOf, wireOf, hits, newestHit, oldestHit}

@@ -12,7 +12,7 @@ use portgraph::numbers::larger;
 use portgraph::numbers::wide;
 ghost use mathlib.Core.Path.{_≡_};
 ghost use Prim.Native.Nat.{_≤_};
-ghost use Rattle.theorems.specs.Book.{nextOffset};
+ghost use Rattle.portgraph.specs.Places.{nextOffset};
 ghost use Rattle.sketches.specs.Plan.{spotNamed, aboveEnd, aboveWired};
 ghost use Rattle.sketches.specs.Rows.{rowSlots, placeIn, wireOf, wiresIn};
 ghost use Rattle.sketches.specs.Offsets.{mark, marked, Marks, lowestUnmarked};

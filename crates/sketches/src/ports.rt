@@ -9,7 +9,7 @@ use portgraph::direction::Direction;
 ghost use mathlib.Core.Path.{_≡_};
 ghost use Prim.Native.Nat.{_≤_};
 ghost use lib.Dec.{ltb};
-ghost use Rattle.theorems.specs.Book.{anyTouches};
+ghost use Rattle.portgraph.specs.Places.{anyTouches};
 ghost use Rattle.sketches.specs.Plan.{hasBlock, portsOnSide, subportsAmong, spotNamed};
 ghost use Rattle.sketches.specs.Rows.{rowSlots, blocksIn, splitsIn, wiresIn, endHits};
 

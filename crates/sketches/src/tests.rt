@@ -4,8 +4,7 @@ use crate::sketch::SketchPort;
 use portgraph::direction::Direction;
 use portgraph::numbers::same_side;
 ghost use mathlib.Core.Path.{_≡_};
-ghost use Rattle.multiportgraph.specs.Places.{ofDropped, atSpot, atEnd};
-ghost use Rattle.theorems.specs.ListingClaims.{endOn};
+ghost use Rattle.portgraph.specs.Places.{ofDropped, atSpot, atEnd, endOn};
 ghost use Rattle.sketches.specs.Plan.{spotNamed};
 ghost use Rattle.sketches.specs.Rows.{sideOf, placeIn, wireOf, splitOf, endHits, hits};
 

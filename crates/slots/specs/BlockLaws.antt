@@ -22,7 +22,7 @@ use Rattle.portgraph.specs.declared.node_entry.NodeMeta.{NodeMeta}
 use Rattle.portgraph.specs.declared.node_entry.MaybeNodeMeta.{MaybeNodeMeta}
 use Rattle.portgraph.specs.declared.node_entry.MaybeNodeMeta.the-variants as maybe-meta
 use Rattle.portgraph.specs.declared.portgraph.PortGraph.{PortGraph}
-use Rattle.multiportgraph.specs.Listing.{Apart, apart-below, member-left, member-right, member-append, member-flatMap, flatMap-member, member-map, map-member, member-range, range-member, range-rises, rising-append, rising-flatMap, rising-map}
+use Rattle.portgraph.specs.Listing.{Apart, apart-below, member-left, member-right, member-append, member-flatMap, flatMap-member, member-map, map-member, member-range, range-member, range-rises, rising-append, rising-flatMap, rising-map}
 use Rattle.slots.specs.Blocks.{Holder, byNode, free, SlotBlock, slotBlock, blockOfMeta, nodeHolds, heldBlocks, chained, freeOf, listedFree, freeBlocks, blocksOf, holderNumber, sizeOf, holderOfBlock, laid, sizesLaid, holdersLaid, walkBlocks, slotList}
 use Rattle.slots.specs.SlotClaims.{InBlock, Tiles, SlotsAccounted, SlotsListed}
 use Rattle.slots.specs.TileLaws.{walk-tiles, walk-gives, tiles-rise, tiles-add}

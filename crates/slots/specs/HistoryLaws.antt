@@ -25,9 +25,9 @@ use Rattle.multiportgraph.specs.WellFormed.{Fine, MultiWf, copyPlace, Seen}
 use Rattle.multiportgraph.specs.LinkCutLaws.{fine-empty}
 use Rattle.multiportgraph.specs.Ends.{block-seen, seen-block, split-has-copy, one-copy, copy-valid, port-of, main-seen}
 use Rattle.multiportgraph.specs.Space.{Room}
-use Rattle.multiportgraph.specs.Listing.{member-map, map-member}
+use Rattle.portgraph.specs.Listing.{member-map, map-member}
 use Rattle.multiportgraph.specs.declared.multiportgraph.MultiPortGraph.{MultiPortGraph}
-use Rattle.multiportgraph.specs.declared.multiportgraph.Release.{Release}
+use Rattle.portgraph.specs.declared.release.Release.{Release}
 use Rattle.theorems.specs.Book.{Call, emptyBook}
 use Rattle.theorems.specs.History.{State, step, next, run, runFrom, runFromUnder, runUnder}
 use Rattle.theorems.specs.CallLaws.{run-kept, step-kept}

@@ -4,7 +4,7 @@ use mathlib.Core.List.{List, [], _∷_, _++_, map, flatMap}
 use Prim.Native.Nat.{ℕ}
 use Rattle.portgraph.specs.Lists.{range, filter}
 use Rattle.portgraph.specs.Tables.{at, put, headAt}
-use Rattle.multiportgraph.specs.declared.multiportgraph.Release.the-variants.{One}
+use Rattle.portgraph.specs.declared.release.Release.the-variants.{One}
 use Rattle.theorems.specs.Book.{Call, addCall, removeCall, linkCall}
 use Rattle.theorems.specs.History.{run, runUnder, runFromUnder}
 use Rattle.slots.specs.Blocks.{slotNumbers, slotList, sizesLaid, holdersLaid, heldBlocks, freeBlocks, freeOf, chained, laid, walkBlocks}

@@ -9,7 +9,7 @@ use Rattle.portgraph.specs.declared.direction.Direction.{Direction}
 use Rattle.multiportgraph.specs.Reading.{isSplit, visible, seen, inner, endAt, subport#, asRead, subportOf}
 use Rattle.multiportgraph.specs.Refusals.{endOf}
 use Rattle.multiportgraph.specs.Calls.{subportLink, cutPort, cutSub}
-use Rattle.multiportgraph.specs.Places.{Wire, wireOfSides}
+use Rattle.portgraph.specs.Places.{Wire, wireOfSides}
 use Rattle.multiportgraph.specs.Wires.{placeOf}
 use Rattle.multiportgraph.specs.SplitLaws.{HasEnd}
 use Rattle.multiportgraph.specs.declared.multiportgraph.MultiPortGraph.{MultiPortGraph}

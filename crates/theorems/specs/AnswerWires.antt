@@ -19,14 +19,14 @@ use Rattle.portgraph.specs.declared.portgraph.PortLink.{PortLink}
 use Rattle.portgraph.specs.declared.portgraph.PortLink.the-variants as lower-cut
 use Rattle.portgraph.specs.declared.direction.Direction.{Direction}
 use Rattle.portgraph.specs.declared.direction.Direction.the-variants.{Incoming, Outgoing}
-use Rattle.multiportgraph.specs.declared.multiportgraph.Release.{Release}
+use Rattle.portgraph.specs.declared.release.Release.{Release}
 use Rattle.multiportgraph.specs.Reading.{isSplit, Port, dead, hidden, visible, seen, sideOf, End, inner, lacking, endAt, subport#, asRead, subportOf, standing, standingOf, linkOfEnd, farSubport}
 use Rattle.multiportgraph.specs.Answers.{unplaced}
 use Rattle.multiportgraph.specs.Refusals.{endOf, innerPort, goodOffset}
 use Rattle.multiportgraph.specs.Calls.{linkPair, linkSub, subportLink, cutPlain, cutPort, cutSub}
 use Rattle.multiportgraph.specs.Cases.{cutRefused, cutEnd, cutSubSeen, linkOfSeen}
 use Rattle.multiportgraph.specs.CaseLaws.{cut-cases, cut-sub-cases, subport-link-cases}
-use Rattle.multiportgraph.specs.Places.{Place, Wire, spot, wireOfSides}
+use Rattle.portgraph.specs.Places.{Place, Wire, spot, wireOfSides, nextOffset}
 use Rattle.multiportgraph.specs.Wires.{placeOf}
 use Rattle.multiportgraph.specs.WellFormed.{Fine, Seen, lift, outer, IsEnd, WireIn, SameBlocks}
 use Rattle.multiportgraph.specs.Ends.{BlockPort, EndOf, end-of-unsplit, other-side, block-seen, seen-block, outer-seen, outer-apart, outer-side, ends-join-ends, end-read, place-of-sub, subport-of, subport-is}
@@ -41,7 +41,7 @@ use Rattle.multiportgraph.specs.declared.multiportgraph.EndAnswer.the-variants 
 use Rattle.multiportgraph.specs.declared.multiportgraph.PortsLinked.{PortsLinked}
 use Rattle.multiportgraph.specs.declared.multiportgraph.PortUnlinked.{PortUnlinked}
 use Rattle.multiportgraph.specs.declared.multiportgraph.Refusal.the-variants.{BadOffset}
-use Rattle.theorems.specs.Book.{Call, Book, spotOf, addWire, nextOffset, readBy}
+use Rattle.theorems.specs.Book.{Call, Book, spotOf, addWire, readBy}
 use Rattle.theorems.specs.History.{State, next, run}
 use Rattle.theorems.specs.Claims.{Link, byPorts, byPortsClean, bySubports, linking, LinkedBy}
 use Rattle.theorems.specs.LinkLaw.{LinkDone, link-done-law}

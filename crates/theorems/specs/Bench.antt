@@ -16,8 +16,8 @@ use Rattle.multiportgraph.specs.Lookups.{portFanOut, nodeFanOut, countNumbers}
 use Rattle.theorems.specs.Book.{Call, addCall, removeCall, setCall, linkCall, linkCleanCall, linkSubCall, cutCall, cutSubCall, AnswerOf, tidyCall}
 use Rattle.theorems.specs.History.{step, numbersOf}
 use Rattle.multiportgraph.specs.declared.multiportgraph.MultiPortGraph.{MultiPortGraph}
-use Rattle.multiportgraph.specs.declared.multiportgraph.Release.{Release}
-use Rattle.multiportgraph.specs.declared.multiportgraph.Release.the-variants.{One, Two}
+use Rattle.portgraph.specs.declared.release.Release.{Release}
+use Rattle.portgraph.specs.declared.release.Release.the-variants.{One, Two}
 use Rattle.multiportgraph.specs.declared.multiportgraph.SubportIndex.{SubportIndex}
 use Rattle.multiportgraph.specs.declared.iter.WiresStep.{WiresStep}
 use Rattle.multiportgraph.specs.declared.iter.WiresStep.the-variants as wires-step

@@ -23,7 +23,7 @@ use Rattle.multiportgraph.specs.Reading.{ownerOf, isHidden, Port, dead, hidden,
 use Rattle.multiportgraph.specs.Wires.{isBlock, sideLinks, isBeyond, portsOfSide}
 use Rattle.multiportgraph.specs.Walks.{Start, started, refused, startAtNode, startBetween, isSeen, heldSeen, bothSeen, bySides, portsOfNode, stepNodePorts, subportsOf, subportBeyond, stepSubports, portLinksSeen, portLinks, notSkipped, nodeLinks, linkBeyond, linksItem, stepLinks, notIgnored, neighbourLinks, neighbours, neighboursItem, stepNeighbours, connections, connectionsItem, stepConnections, nodePortsFrom, startNodePorts, subportsFrom, startSubports, linksFrom, startLinks, neighboursFrom, startNeighbours, connectionsFrom, startConnections}
 use Rattle.multiportgraph.specs.WellFormed.{MultiWf}
-use Rattle.multiportgraph.specs.Listing.{member-flatMap, member-range, member-filter, filter-all, rising-filter, rising-flatMap, range-rises, member-append, filter-same, length-map}
+use Rattle.portgraph.specs.Listing.{member-flatMap, member-range, member-filter, filter-all, rising-filter, rising-flatMap, range-rises, member-append, filter-same, length-map}
 use Rattle.multiportgraph.specs.ScanLaws.{isPast, past-later, past-here, past-earlier, linksFromTo, subportsFromTo, subportsSeen, subportsAt, link-at-port, subport-at-port, links-in-row, subports-in-row, ports-in-row, block-not-hidden, block-has-meta, port-seen-there, portsAcross, side-in-row}
 use Rattle.theorems.specs.Cursors.{Stepped, item, end, walk, Listed, Fronts, walk-front, first-if, map-same, rising-as, walk-nothing}
 use Rattle.multiportgraph.specs.declared.multiportgraph.MultiPortGraph.{MultiPortGraph}

@@ -1,12 +1,11 @@
 -- The wire book of 01: fed each call with its answer, the marks before it of the ports that it names and, after an accepted
 -- resize, the node's ports as walked. No graph stands in its types.
-use mathlib.Core.Bool.{Bool, true, false, not, cond, _||_}
-use mathlib.Core.List.{List, [], _∷_, _++_}
-use Prim.Native.Nat.{ℕ, zero, suc, _+_, _-_}
-use lib.Dec.{eqb, leb}
-use lib.ListN.{length, take, drop}
+use mathlib.Core.Bool.{Bool, false, not, cond}
+use mathlib.Core.List.{List, [], _∷_}
+use Prim.Native.Nat.{ℕ, suc, _+_}
+use lib.Dec.{eqb}
+use lib.ListN.{take, drop}
 use Rattle.portgraph.specs.Lists.{range, filter}
-use Rattle.portgraph.specs.Meaning.{sameSide, newCount}
 use Rattle.portgraph.specs.declared.direction.Direction.{Direction}
 use Rattle.portgraph.specs.declared.direction.Direction.the-variants.{Incoming, Outgoing}
 use Rattle.multiportgraph.specs.declared.multiportgraph.AddAnswer.{AddAnswer}
@@ -20,7 +19,7 @@ use Rattle.multiportgraph.specs.declared.multiportgraph.LinkAnswer.the-variants
 use Rattle.multiportgraph.specs.declared.multiportgraph.CutAnswer.{CutAnswer}
 use Rattle.multiportgraph.specs.declared.multiportgraph.CutAnswer.the-variants as cutting
 use Rattle.multiportgraph.specs.declared.multiportgraph.TidyAnswer.{TidyAnswer}
-use Rattle.multiportgraph.specs.Places.{Spot, nowhere, spot, atSpot, atEnd, touches, wireOfSides, ofNode, ofDropped, Place, Wire}
+use Rattle.portgraph.specs.Places.{Spot, nowhere, spot, atSpot, atEnd, wireOfSides, ofNode, ofDropped, Place, Wire, without, nextOffset}
 
 -- The calls that give back a graph.
 pub data Call : Type 0 where
@@ -68,23 +67,6 @@ spotAmong n d p (q ∷ l) i other = cond (eqb p q) (spot n d i) (spotAmong n d p
 unfoldable pub spotOf : List Block → ℕ → Spot
 spotOf [] p = nowhere
 spotOf (b ∷ l) p = spotAmong (b .node) Incoming p (b .ins) 0 (spotAmong (b .node) Outgoing p (b .outs) 0 (spotOf l p))
-
--- the wires with no such end
-abbrev pub without : (Place → Bool) → List Wire → List Wire
-without f l = filter (λ w. not (touches f w)) l
-
-unfoldable pub anyTouches : (Place → Bool) → List Wire → Bool
-anyTouches f [] = false
-anyTouches f (w ∷ l) = touches f w || anyTouches f l
-
--- the lowest offset from o on that no wire has at a spot, looking at most so far
-unfoldable pub lowestUnwired : List Wire → Spot → ℕ → ℕ → ℕ
-lowestUnwired wires s o zero = o
-lowestUnwired wires s o (suc n) = cond (anyTouches (atEnd s o) wires) (lowestUnwired wires s (suc o) n) o
-
--- there are at most as many wired offsets as wires
-abbrev pub nextOffset : List Wire → Spot → ℕ
-nextOffset wires s = lowestUnwired wires s 0 (length wires)
 
 abbrev pub addWire : List Wire → Spot → ℕ → Spot → ℕ → List Wire
 addWire wires nowhere o t r = wires

@@ -15,11 +15,11 @@ use Rattle.portgraph.specs.Model.{total}
 use Rattle.portgraph.specs.Sums.{total-same, sameSide-refl, sameSide-true}
 use Rattle.portgraph.specs.declared.direction.Direction.{Direction}
 use Rattle.portgraph.specs.declared.direction.Direction.the-variants.{Incoming, Outgoing}
-use Rattle.theorems.specs.Book.{Block, spotAmong, without, anyTouches, lowestUnwired, nextOffset}
-use Rattle.multiportgraph.specs.Listing.{member-filter, filter-member, in-wires, wire-member}
+use Rattle.theorems.specs.Book.{Block, spotAmong}
+use Rattle.portgraph.specs.Places.{without, anyTouches, lowestUnwired, nextOffset, Place, Wire, Spot, spot, atSpot, atEnd, touches, flag}
+use Rattle.portgraph.specs.Listing.{member-filter, filter-member, in-wires, wire-member}
 use Rattle.multiportgraph.specs.HiddenStays.{true-not-false}
 use Rattle.multiportgraph.specs.LinkCutLaws.{end-is-same}
-use Rattle.multiportgraph.specs.Places.{Place, Wire, Spot, spot, atSpot, atEnd, touches, flag}
 use Rattle.theorems.specs.Claims.{count}
 
 -- truth values

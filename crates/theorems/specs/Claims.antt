@@ -7,7 +7,7 @@ use lib.Dec.{eqb}
 use Rattle.portgraph.specs.Lists.{Member, Once}
 use Rattle.portgraph.specs.declared.direction.Direction.{Direction}
 use Rattle.multiportgraph.specs.Calls.{linkSub, cutSub, linkPair, linkClean}
-use Rattle.multiportgraph.specs.Places.{Wire, Spot, spot, atSpot, touches, flag}
+use Rattle.portgraph.specs.Places.{Wire, Spot, spot, atSpot, touches, flag}
 use Rattle.multiportgraph.specs.Wires.{walked, wiresWalked}
 use Rattle.multiportgraph.specs.Lookups.{portFanOut, nodeFanOut}
 use Rattle.theorems.specs.Book as book

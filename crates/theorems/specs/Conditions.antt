@@ -20,11 +20,11 @@ use Rattle.theorems.specs.Book as book
 use Rattle.theorems.specs.Book.{Call, AnswerOf}
 use Rattle.multiportgraph.specs.WellFormed.{copyPlace, BlockIs, Seen, lift, WireIn}
 use Rattle.multiportgraph.specs.Ends.{EndOf}
-use Rattle.multiportgraph.specs.Places.{Wire}
+use Rattle.portgraph.specs.Places.{Wire}
 use Rattle.multiportgraph.specs.declared.multiportgraph.MultiPortGraph.{MultiPortGraph}
 use Rattle.multiportgraph.specs.declared.multiportgraph.SubportIndex.{SubportIndex}
 use Rattle.multiportgraph.specs.declared.multiportgraph.PortPlace.{PortPlace}
-use Rattle.multiportgraph.specs.declared.multiportgraph.Release.the-variants.{Two}
+use Rattle.portgraph.specs.declared.release.Release.the-variants.{Two}
 use Rattle.multiportgraph.specs.declared.multiportgraph.Refusal.{Refusal}
 use Rattle.multiportgraph.specs.declared.multiportgraph.Refusal.the-variants.{BadOffset, TooManyPorts, UnknownNode, HiddenNode, MovesTooShort, UnknownPort, HiddenPort, UnknownOffset, NoRoom, UnknownSecondPort, IncompatibleDirections, AlreadyLinked, InputWired}
 use Rattle.multiportgraph.specs.declared.multiportgraph.AddAnswer.the-variants as add

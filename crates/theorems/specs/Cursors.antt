@@ -11,7 +11,7 @@ use Rattle.portgraph.specs.Lists.{filter, onFirst, onLast, Member, Rising}
 use Rattle.portgraph.specs.GoodSlots.{zero-is-not-one}
 use Rattle.portgraph.specs.WalkLaws.{Walked, whole, unfinished, more}
 use Rattle.multiportgraph.specs.Ends.{map-append}
-use Rattle.multiportgraph.specs.Listing.{Apart, member-left, member-right, member-filter, filter-all, filter-append, rising-filter}
+use Rattle.portgraph.specs.Listing.{Apart, member-left, member-right, member-filter, filter-all, filter-append, rising-filter}
 
 -- What a step answers: an item with the cursor moved, or the end.
 pub data Stepped (B C : Type 0) : Type 0 where

@@ -15,7 +15,7 @@ use Rattle.multiportgraph.specs.declared.multiportgraph.MultiPortGraph.{MultiPo
 use Rattle.multiportgraph.specs.declared.multiportgraph.Refusal.{Refusal}
 use Rattle.multiportgraph.specs.declared.multiportgraph.CutAnswer.the-variants as cutting
 use Rattle.multiportgraph.specs.declared.multiportgraph.PortUnlinked.{PortUnlinked}
-use Rattle.multiportgraph.specs.Places.{atSpot}
+use Rattle.portgraph.specs.Places.{atSpot}
 use Rattle.multiportgraph.specs.Cases.{cutRefused, cutSeen}
 use Rattle.multiportgraph.specs.CaseLaws.{cut-cases}
 use Rattle.multiportgraph.specs.CopyLaws.{portAt, cut-port-law}

@@ -20,7 +20,7 @@ use Rattle.multiportgraph.specs.declared.multiportgraph.MultiPortGraph.{MultiPo
 use Rattle.multiportgraph.specs.declared.multiportgraph.Refusal.{Refusal}
 use Rattle.multiportgraph.specs.declared.multiportgraph.CutAnswer.the-variants as cutting
 use Rattle.multiportgraph.specs.declared.multiportgraph.PortUnlinked.{PortUnlinked}
-use Rattle.multiportgraph.specs.Places.{atEnd}
+use Rattle.portgraph.specs.Places.{atEnd}
 use Rattle.multiportgraph.specs.Cases.{cutRefused, cutEnd, cutSubSeen, linkOfSeen}
 use Rattle.multiportgraph.specs.CaseLaws.{cut-sub-cases, subport-link-cases}
 use Rattle.multiportgraph.specs.LinkCutLaws.{endNamed, cut-sub-law}

@@ -11,13 +11,13 @@ use Rattle.portgraph.specs.Lists.{range, Member}
 use Rattle.portgraph.specs.Model.{Model}
 use Rattle.portgraph.specs.declared.direction.Direction.the-variants.{Incoming, Outgoing}
 use Rattle.portgraph.specs.declared.node_entry.NodeMeta.{NodeMeta}
-use Rattle.multiportgraph.specs.declared.multiportgraph.Release.{Release}
+use Rattle.portgraph.specs.declared.release.Release.{Release}
 use Rattle.multiportgraph.specs.Calls.{visibleNodes, visiblePorts, visibleLinks}
 use Rattle.multiportgraph.specs.Wires.{Walked, wirePlaces, walked, wiresWalked, allWires, portsOfSide}
 use Rattle.theorems.specs.Book.{Call, Block, Book}
 use Rattle.theorems.specs.History.{State, run}
 use Rattle.theorems.specs.BookLaws.{same-count}
-use Rattle.multiportgraph.specs.Listing.{Apart, member-map, map-member, rising-map, length-map}
+use Rattle.portgraph.specs.Listing.{Apart, member-map, map-member, rising-map, length-map}
 use Rattle.multiportgraph.specs.WalkRule.{walk-is-listing, walked-is-wires, walked-once}
 use Rattle.multiportgraph.specs.WellFormed.{BlockIs}
 use Rattle.multiportgraph.specs.Ends.{ports-of-side}
@@ -26,7 +26,7 @@ use Rattle.multiportgraph.specs.CountLaws.{visible-nodes, visible-links}
 use Rattle.theorems.specs.WireRule.{OtherNode, Rel}
 use Rattle.theorems.specs.CallLaws.{rel-run}
 use Rattle.multiportgraph.specs.declared.multiportgraph.MultiPortGraph.{MultiPortGraph}
-use Rattle.multiportgraph.specs.Places.{Wire}
+use Rattle.portgraph.specs.Places.{Wire}
 use Rattle.theorems.specs.Claims.{portsOfBlock, portsInBook, count}
 
 -- Wires.

@@ -11,7 +11,7 @@ use Rattle.portgraph.specs.Model as model
 use Rattle.portgraph.specs.Model.{Model, Slots, Valid, slotOf, countOf}
 use Rattle.portgraph.specs.Entries.{portsOn}
 use Rattle.portgraph.specs.declared.direction.Direction.{Direction}
-use Rattle.multiportgraph.specs.declared.multiportgraph.Release.{Release}
+use Rattle.portgraph.specs.declared.release.Release.{Release}
 use Rattle.multiportgraph.specs.Reading.{isSplit}
 use Rattle.multiportgraph.specs.WellFormed.{inner#, Fine, Seen}
 use Rattle.multiportgraph.specs.Ends.{port-of, count-of}

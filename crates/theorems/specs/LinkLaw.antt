@@ -26,7 +26,7 @@ use Rattle.multiportgraph.specs.declared.multiportgraph.Refusal.{Refusal}
 use Rattle.multiportgraph.specs.declared.multiportgraph.LinkAnswer.{LinkAnswer}
 use Rattle.multiportgraph.specs.declared.multiportgraph.LinkAnswer.the-variants as link
 use Rattle.multiportgraph.specs.declared.multiportgraph.PortsLinked.{PortsLinked}
-use Rattle.multiportgraph.specs.Places.{Place, Wire, wireOfSides}
+use Rattle.portgraph.specs.Places.{Place, Wire, wireOfSides}
 use Rattle.multiportgraph.specs.Graph.{withGraph}
 use Rattle.multiportgraph.specs.HiddenNodes.{Prepared, ready, full, prepare}
 use Rattle.multiportgraph.specs.Cases.{linkPrepared, linkSecond, linkFirst, linkSeen, linkLive}

@@ -19,18 +19,18 @@ use Rattle.portgraph.specs.PlaceLaws.{port-link-to, port-link-none}
 use Rattle.portgraph.specs.declared.direction.Direction.{Direction}
 use Rattle.portgraph.specs.declared.direction.Direction.the-variants.{Incoming, Outgoing}
 use Rattle.multiportgraph.specs.Reading.{isHidden, isSplit, subports, subportAt, End, inner, lacking, endAt, subport#, subportOf, standing, linkOfEnd, farSubport, copySide}
-use Rattle.multiportgraph.specs.Places.{Place, Wire, spot, atSpot, touches, wireOfSides}
+use Rattle.portgraph.specs.Places.{Place, Wire, spot, atSpot, touches, wireOfSides, endOn, farFrom}
 use Rattle.multiportgraph.specs.Wires.{subportsOfPort, wireTo, wireOf, placeOf}
 use Rattle.multiportgraph.specs.Walks.{portLinks}
 use Rattle.multiportgraph.specs.WellFormed.{Fine, Seen, lift, outer, IsEnd, WireIn, copyPlace}
 use Rattle.multiportgraph.specs.Ends.{EndOf, lift-place, seen-block, ends-join-ends, out-side, into-side, outer-seen, outer-apart, end-read, place-of-sub, subport-of, other-side, hangs, one-copy, end-side, outer-of-subport, outer-of-block, end-of-split, end-of-unsplit}
 use Rattle.multiportgraph.specs.LinkCutLaws.{at-spot-is}
-use Rattle.multiportgraph.specs.Listing.{member-flatMap, flatMap-member, member-map, map-member, range-member}
+use Rattle.portgraph.specs.Listing.{member-flatMap, flatMap-member, member-map, map-member, range-member}
 use Rattle.multiportgraph.specs.declared.multiportgraph.MultiPortGraph.{MultiPortGraph}
 use Rattle.multiportgraph.specs.declared.multiportgraph.SubportIndex.{SubportIndex}
 use Rattle.multiportgraph.specs.declared.multiportgraph.SubportLink.{SubportLink}
 use Rattle.theorems.specs.BookLaws.{or-true, or-right}
-use Rattle.theorems.specs.ListingClaims.{wireFrom, endOn, farFrom}
+use Rattle.theorems.specs.ListingClaims.{wireFrom}
 use Rattle.portgraph.specs.Entries.{reversed}
 
 -- the end of a port at which a wire ends is read as named

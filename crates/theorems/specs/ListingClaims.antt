@@ -8,7 +8,7 @@ use Rattle.portgraph.specs.declared.direction.Direction.{Direction}
 use Rattle.portgraph.specs.declared.direction.Direction.the-variants.{Incoming, Outgoing}
 use Rattle.portgraph.specs.declared.iter.Sides.{Sides}
 use Rattle.portgraph.specs.declared.iter.Sides.the-variants.{One, Both}
-use Rattle.multiportgraph.specs.Places.{Place, Wire, atSpot, wireOfSides}
+use Rattle.portgraph.specs.Places.{Place, Wire, atSpot, wireOfSides, farFrom}
 use Rattle.theorems.specs.Book.{Block, Book, spotOf}
 use Rattle.multiportgraph.specs.Wires.{placeOf}
 use Rattle.multiportgraph.specs.declared.multiportgraph.MultiPortGraph.{MultiPortGraph}
@@ -17,15 +17,6 @@ use Rattle.multiportgraph.specs.declared.multiportgraph.SubportLink.{SubportLin
 -- a listed link from a side, read as places: its own end is of that side, and the outgoing place stands first
 abbrev pub wireFrom : MultiPortGraph → Direction → SubportLink → Wire
 wireFrom m d w = wireOfSides d (placeOf m (w .from)) (placeOf m (w .to))
-
--- the end of a wire on a side, and the far one
-abbrev pub endOn : Direction → Wire → Place
-endOn Incoming w = w .into
-endOn Outgoing w = w .out
-
-abbrev pub farFrom : Direction → Wire → Place
-farFrom Incoming w = w .out
-farFrom Outgoing w = w .into
 
 -- a list has exactly the wires of a book for which something holds, each once
 pub record Exactly (booked : List Wire) (P : Wire → Type 0) (l : List Wire) : Type 0 where

@@ -20,16 +20,16 @@ use Rattle.portgraph.specs.declared.direction.Direction.the-variants.{Incoming,
 use Rattle.portgraph.specs.declared.iter.Sides.{Sides}
 use Rattle.portgraph.specs.declared.iter.Sides.the-variants.{One, Both}
 use Rattle.portgraph.specs.declared.node_entry.NodeMeta.{NodeMeta}
-use Rattle.multiportgraph.specs.declared.multiportgraph.Release.{Release}
+use Rattle.portgraph.specs.declared.release.Release.{Release}
 use Rattle.multiportgraph.specs.Reading.{ownerOf, isHidden, isSplit, Port, dead, hidden, visible, seen, subport#}
-use Rattle.multiportgraph.specs.Places as places
-use Rattle.multiportgraph.specs.Places.{Place, Wire, Spot, spot, atSpot, touches}
+use Rattle.portgraph.specs.Places as places
+use Rattle.portgraph.specs.Places.{Place, Wire, Spot, spot, atSpot, touches, endOn, farFrom}
 use Rattle.multiportgraph.specs.Wires.{isBlock, blocks, portsOfSide, subportsOfPort, subportsOfSide, wireOf, sideLinks, placeOf}
 use Rattle.multiportgraph.specs.Walks.{portLinksSeen, portLinks, notSkipped, nodeLinks, notIgnored, neighbourLinks, neighbours, connections}
 use Rattle.multiportgraph.specs.WellFormed.{inner#, Fine, BlockIs, Seen, lift}
 use Rattle.multiportgraph.specs.Ends.{seen-block, block-seen, ends-join-ends, outer-seen, place-of-sub, map-append}
 use Rattle.multiportgraph.specs.LinkCutLaws.{at-spot-here, at-spot-is}
-use Rattle.multiportgraph.specs.Listing.{Apart, member-filter, filter-member, member-flatMap, flatMap-member, member-map, map-member, filter-append, rising-filter, rising-map, rising-once}
+use Rattle.portgraph.specs.Listing.{Apart, member-filter, filter-member, member-flatMap, flatMap-member, member-map, map-member, filter-append, rising-filter, rising-map, rising-once}
 use Rattle.multiportgraph.specs.ScanLaws.{block-not-hidden, block-has-meta}
 use Rattle.multiportgraph.specs.declared.multiportgraph.MultiPortGraph.{MultiPortGraph}
 use Rattle.multiportgraph.specs.declared.multiportgraph.SubportIndex.{SubportIndex}
@@ -42,7 +42,7 @@ use Rattle.theorems.specs.PortListing.{blocks-list, side-listed, side-ha
 use Rattle.theorems.specs.Cursors.{rising-as}
 use Rattle.theorems.specs.WalkStepLaws.{linkOffset, port-links-rise}
 use Rattle.theorems.specs.BlockWalkLaws.{Ahead, block-links-rise}
-use Rattle.theorems.specs.ListingClaims.{wireFrom, endOn, farFrom, Exactly, InBook, OverSides, OutOfRange, FarNodes, NotOwnOutput}
+use Rattle.theorems.specs.ListingClaims.{wireFrom, Exactly, InBook, OverSides, OutOfRange, FarNodes, NotOwnOutput}
 use Rattle.theorems.specs.ListedLinks.{LinkIs, Found, placedLink, own-end, far-end, own-touches, from-place, link-wire, same-from, wire-found, touched-own, port-link, port-has-link, wire-is, sub-read}
 
 -- the far nodes of listed links

@@ -39,7 +39,7 @@ use Rattle.portgraph.specs.declared.portgraph.PortGraph.{PortGraph}
 use Rattle.portgraph.specs.declared.resize.SetAnswer as lower-set-answer
 use Rattle.portgraph.specs.declared.resize.SetAnswer.the-variants as lower-set
 use Rattle.portgraph.specs.declared.resize.PortsSet as lower-ports-set
-use Rattle.multiportgraph.specs.declared.multiportgraph.Release.{Release}
+use Rattle.portgraph.specs.declared.release.Release.{Release}
 use Rattle.multiportgraph.specs.Reading.{portOf, hasLink, farPort, isHidden, isSplit, copyNode}
 use Rattle.multiportgraph.specs.HiddenNodes.{copiesIn, copiesDropped, recounted, removeAll}
 use Rattle.multiportgraph.specs.Calls.{setAs, setCounts, movesTold, movesToldUnder, toldMeta}

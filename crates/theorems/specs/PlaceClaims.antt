@@ -3,9 +3,9 @@ use mathlib.Core.Path.{_≡_}
 use mathlib.Core.Bool.{true, false}
 use Prim.Native.Nat.{ℕ}
 use Rattle.portgraph.specs.Lists.{Member}
-use Rattle.multiportgraph.specs.Reading.{isSplit, subport#, asRead, subportOf}
+use Rattle.multiportgraph.specs.Reading.{isSplit, subport#, asRead, subportOf, portPlace}
 use Rattle.multiportgraph.specs.Calls.{subportLink, cutPort, cutSub}
-use Rattle.multiportgraph.specs.Places.{Wire, spot, portPlace}
+use Rattle.portgraph.specs.Places.{Wire, spot, farFrom}
 use Rattle.multiportgraph.specs.Wires.{placeOf, stepWires}
 use Rattle.multiportgraph.specs.Walks.{stepFront, stepBack, stepLinks, stepConnections}
 use Rattle.multiportgraph.specs.declared.multiportgraph.SubportIndex.{SubportIndex}
@@ -23,7 +23,6 @@ use Rattle.multiportgraph.specs.declared.iter.WiresStep.the-variants as wires-s
 use Rattle.theorems.specs.Book.{spotOf}
 use Rattle.theorems.specs.History.{State}
 use Rattle.theorems.specs.AnswerClaims.{wireBetween}
-use Rattle.theorems.specs.ListingClaims.{farFrom}
 
 -- From one subport another is found, with a place: the book has the wire between the two, and the far end of that wire stands there.
 pub record FarStands (s : State) (near far : SubportIndex) (x : PortPlace) : Type 0 where

@@ -13,19 +13,19 @@ use Rattle.portgraph.specs.Model.{Model, Far, nowhere, to, slotOf}
 use Rattle.portgraph.specs.GoodSlots.{zero-is-not-one}
 use Rattle.portgraph.specs.declared.direction.Direction.{Direction}
 use Rattle.portgraph.specs.declared.direction.Direction.the-variants.{Outgoing}
-use Rattle.multiportgraph.specs.declared.multiportgraph.Release.{Release}
-use Rattle.multiportgraph.specs.Reading.{isSplit, Port, dead, hidden, visible, seen, End, inner, lacking, endAt, subport#, asRead, subportOf, standing, linkOfEnd}
+use Rattle.portgraph.specs.declared.release.Release.{Release}
+use Rattle.multiportgraph.specs.Reading.{isSplit, Port, dead, hidden, visible, seen, End, inner, lacking, endAt, subport#, asRead, subportOf, standing, linkOfEnd, portPlace}
 use Rattle.multiportgraph.specs.Refusals.{goodOffset}
 use Rattle.multiportgraph.specs.Calls.{subportLink, cutPort}
 use Rattle.multiportgraph.specs.Cases.{linkOfSeen, cutSeen}
 use Rattle.multiportgraph.specs.CaseLaws.{cut-cases, subport-link-cases}
 use Rattle.multiportgraph.specs.Answers.{unplaced}
-use Rattle.multiportgraph.specs.Places.{Place, spot, portPlace, wireOfSides}
+use Rattle.portgraph.specs.Places.{Place, spot, wireOfSides}
 use Rattle.multiportgraph.specs.Wires.{isBlock, blocks, sideLinks, allWires, placeOf, stepWires, firstItem}
 use Rattle.multiportgraph.specs.Walks.{portLinksSeen, portLinks, notSkipped, nodeLinks, connections, stepLinks, stepConnections}
 use Rattle.multiportgraph.specs.WellFormed.{inner#}
 use Rattle.multiportgraph.specs.Ends.{block-seen}
-use Rattle.multiportgraph.specs.Listing.{member-right, member-filter, member-flatMap}
+use Rattle.portgraph.specs.Listing.{member-right, member-filter, member-flatMap}
 use Rattle.multiportgraph.specs.ScanLaws.{block-not-hidden}
 use Rattle.multiportgraph.specs.declared.multiportgraph.MultiPortGraph.{MultiPortGraph}
 use Rattle.multiportgraph.specs.declared.multiportgraph.SubportIndex.{SubportIndex}

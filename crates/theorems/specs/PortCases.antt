@@ -14,7 +14,7 @@ use Rattle.multiportgraph.specs.WellFormed.{Fine, lift, outer}
 use Rattle.multiportgraph.specs.Ends as ends
 use Rattle.multiportgraph.specs.Ends.{EndOf}
 use Rattle.multiportgraph.specs.declared.multiportgraph.MultiPortGraph.{MultiPortGraph}
-use Rattle.multiportgraph.specs.Places.{Place}
+use Rattle.portgraph.specs.Places.{Place}
 use Rattle.theorems.specs.Conditions.{Lacks, OfBlock, OfHidden, PortIs, block-port, hidden-port, no-port}
 
 -- Ports and ends.

@@ -23,9 +23,9 @@ use Rattle.multiportgraph.specs.Wires.{isBlock, blocks, portsOfSide}
 use Rattle.multiportgraph.specs.Walks.{isSeen, allPorts, portsByBlock}
 use Rattle.multiportgraph.specs.WellFormed.{inner#, Fine, BlockIs, Seen}
 use Rattle.multiportgraph.specs.Ends as ends
-use Rattle.multiportgraph.specs.Listing.{Apart, member-left, member-right, member-append, member-filter, filter-member, member-flatMap, flatMap-member, member-map, map-member, member-range, range-member, rising-append, rising-filter, rising-flatMap, rising-map, range-rises}
+use Rattle.portgraph.specs.Listing.{Apart, member-left, member-right, member-append, member-filter, filter-member, member-flatMap, flatMap-member, member-map, map-member, member-range, range-member, rising-append, rising-filter, rising-flatMap, rising-map, range-rises, partners}
 use Rattle.theorems.specs.WireRule.{seen-live}
-use Rattle.multiportgraph.specs.CountLaws.{partners, visible-ports}
+use Rattle.multiportgraph.specs.CountLaws.{visible-ports}
 use Rattle.multiportgraph.specs.declared.multiportgraph.MultiPortGraph.{MultiPortGraph}
 
 -- two lists of numbers without repeats that have the same members are as long

@@ -9,8 +9,8 @@ use Rattle.portgraph.specs.Lists.{filter}
 use Rattle.multiportgraph.specs.Graph.{multi, emptyGraph}
 use Rattle.multiportgraph.specs.Calls.{linkPairIf, linkCleanIf, linkSubIf}
 use Rattle.multiportgraph.specs.declared.multiportgraph.MultiPortGraph.{MultiPortGraph}
-use Rattle.multiportgraph.specs.declared.multiportgraph.Release.{Release}
-use Rattle.multiportgraph.specs.declared.multiportgraph.Release.the-variants.{Two}
+use Rattle.portgraph.specs.declared.release.Release.{Release}
+use Rattle.portgraph.specs.declared.release.Release.the-variants.{Two}
 use Rattle.theorems.specs.Book as book
 use Rattle.theorems.specs.Book.{Call, AnswerOf, emptyBook}
 use Rattle.theorems.specs.History.{Stepped, State, step, next, numbersOf}

@@ -10,8 +10,8 @@ use Rattle.multiportgraph.specs.Graph.{emptyGraph}
 use Rattle.multiportgraph.specs.WellFormed.{MultiWf}
 use Rattle.multiportgraph.specs.HiddenStays.{true-not-false}
 use Rattle.multiportgraph.specs.LinkCutLaws.{none-hidden}
-use Rattle.multiportgraph.specs.Places.{Wire}
-use Rattle.multiportgraph.specs.declared.multiportgraph.Release.the-variants.{Two}
+use Rattle.portgraph.specs.Places.{Wire}
+use Rattle.portgraph.specs.declared.release.Release.the-variants.{Two}
 use Rattle.theorems.specs.Book.{Call}
 use Rattle.theorems.specs.History.{State, next, run, runFrom, runFromUnder, runUnder}
 use Rattle.theorems.specs.CallLaws.{empty-kept, rel-run, run-kept, step-kept}

@@ -43,14 +43,14 @@ use Rattle.multiportgraph.specs.Tidy.{subportsLeft, leftIncoming, leftOutgoing,
 use Rattle.multiportgraph.specs.TidyLaws.{DropWithin, within-is, within-set, left-within}
 use Rattle.multiportgraph.specs.Wires.{subportsOfPort, wireOf, wireTo}
 use Rattle.multiportgraph.specs.Walks.{fanOut, portLinks}
-use Rattle.multiportgraph.specs.Places.{Place, Wire, flag}
+use Rattle.portgraph.specs.Places.{Place, Wire, flag}
 use Rattle.multiportgraph.specs.Refusals.{inputTaken, takenUnder, wiredInput}
 use Rattle.multiportgraph.specs.Calls.{linkCleanIf, linkPairIf, linkSubIf, tidyPort}
 use Rattle.multiportgraph.specs.Cases.{linkCleanBy, linkFirst, linkLive, linkPrepared, linkSecond, linkSeen, pairSeen, tidySeen}
 use Rattle.multiportgraph.specs.CaseLaws.{link-cases, link-clean-cases, link-clean-taken, link-sub-taken, link-taken, tidy-cases}
 use Rattle.multiportgraph.specs.declared.multiportgraph.MultiPortGraph.{MultiPortGraph}
-use Rattle.multiportgraph.specs.declared.multiportgraph.Release.{Release}
-use Rattle.multiportgraph.specs.declared.multiportgraph.Release.the-variants.{Two}
+use Rattle.portgraph.specs.declared.release.Release.{Release}
+use Rattle.portgraph.specs.declared.release.Release.the-variants.{Two}
 use Rattle.multiportgraph.specs.declared.multiportgraph.PortsLinked.{PortsLinked}
 use Rattle.multiportgraph.specs.declared.multiportgraph.PortTidied.{PortTidied}
 use Rattle.multiportgraph.specs.declared.named.NamedPair.{NamedPair}

@@ -24,7 +24,7 @@ use Rattle.portgraph.specs.declared.slots.AddAnswer as lower-add-answer
 use Rattle.portgraph.specs.declared.slots.AddAnswer.the-variants as lower-add
 use Rattle.portgraph.specs.declared.resize.SetAnswer as lower-set-answer
 use Rattle.portgraph.specs.declared.resize.SetAnswer.the-variants as lower-set
-use Rattle.multiportgraph.specs.Reading.{isHidden, isSplit, hasLink, portOf, Port, dead, hidden, visible, seen, seenEntry, sideOf, End, inner, lacking, endAt, subports, subportAt, copyNode, copySide, mainPort, subport#, asRead, subportOf, farPort, placeOf, standing, standingOf, farSubport, ownerOf, positionOf}
+use Rattle.multiportgraph.specs.Reading.{isHidden, isSplit, hasLink, portOf, Port, dead, hidden, visible, seen, seenEntry, sideOf, End, inner, lacking, endAt, subports, subportAt, copyNode, copySide, mainPort, subport#, asRead, subportOf, farPort, placeOf, standing, standingOf, farSubport, ownerOf, positionOf, portPlace}
 use Rattle.multiportgraph.specs.HiddenNodes.{copiesDropped, copiesIn, full, grownBy, growUnder, lowestFree, Prepared, prepareUnder, ready, recounted, removeAll, removeCopy, removeLone, reuseUnder, splitBy, splitPort, splitUnder, unsplit, unsplitRange}
 use Rattle.multiportgraph.specs.Graph.{withGraph}
 use Rattle.multiportgraph.specs.declared.multiportgraph.RemoveAnswer.the-variants as remove
@@ -34,7 +34,7 @@ use Rattle.multiportgraph.specs.CaseLaws.{add-cases, remove-cases, set-cases, l
 use Rattle.multiportgraph.specs.Refusals.{goodOffset}
 use Rattle.multiportgraph.specs.Tidy.{subportsLeft, dropSubports, linkDirectly, tidied}
 use Rattle.multiportgraph.specs.declared.multiportgraph.MultiPortGraph.{MultiPortGraph}
-use Rattle.multiportgraph.specs.declared.multiportgraph.Release.{Release}
+use Rattle.portgraph.specs.declared.release.Release.{Release}
 use Rattle.multiportgraph.specs.declared.multiportgraph.SubportIndex.{SubportIndex}
 use Rattle.multiportgraph.specs.declared.multiportgraph.NodeAdded.{NodeAdded}
 use Rattle.multiportgraph.specs.declared.multiportgraph.NodeRemoved.{NodeRemoved}
@@ -48,7 +48,6 @@ use Rattle.multiportgraph.specs.declared.multiportgraph.TidyAnswer.the-variants
 use Rattle.multiportgraph.specs.declared.multiportgraph.Refusal.the-variants.{BadOffset, TooManyPorts, HiddenNode}
 use Rattle.multiportgraph.specs.declared.named.NamedPair.{NamedPair}
 use Rattle.multiportgraph.specs.declared.named.NamedPair.the-variants as pair
-use Rattle.multiportgraph.specs.Places.{portPlace}
 use Rattle.theorems.specs.ReleaseClaims.{forRelease}
 
 module _ (r : Release) where

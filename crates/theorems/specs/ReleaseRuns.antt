@@ -35,8 +35,8 @@ use Rattle.multiportgraph.specs.Calls.{addBlock, addedAs, cutPlain, cutPort, cu
 use Rattle.multiportgraph.specs.Cases.{cutEnd, cutRefused, cutSeen, cutSubSeen, linkCleanBy, linkFirst, linkFirstEnd, linkInner, linkLive, linkPrepared, linkRefused, linkSecond, linkSecondEnd, linkSeen, linkSubSeen, pairSeen, removeMeta, setMeta, setRefused, takenFirst, takenSecond, takenSeen, takenSubSeen, tidySeen}
 use Rattle.multiportgraph.specs.CaseLaws.{add-cases, remove-cases, set-cases, link-cases, link-taken, link-clean-cases, link-clean-taken, link-sub-cases, link-sub-taken, cut-cases, cut-sub-cases, tidy-cases}
 use Rattle.multiportgraph.specs.declared.multiportgraph.MultiPortGraph.{MultiPortGraph}
-use Rattle.multiportgraph.specs.declared.multiportgraph.Release.{Release}
-use Rattle.multiportgraph.specs.declared.multiportgraph.Release.the-variants.{One, Two}
+use Rattle.portgraph.specs.declared.release.Release.{Release}
+use Rattle.portgraph.specs.declared.release.Release.the-variants.{One, Two}
 use Rattle.multiportgraph.specs.declared.multiportgraph.SubportIndex.{SubportIndex}
 use Rattle.multiportgraph.specs.declared.multiportgraph.NodeAdded.{NodeAdded}
 use Rattle.multiportgraph.specs.declared.multiportgraph.NodeRemoved.{NodeRemoved}

@@ -8,10 +8,10 @@ use Prim.Native.Nat.{ℕ}
 use Rattle.portgraph.specs.Lists.{Member}
 use Rattle.portgraph.specs.declared.direction.Direction.the-variants.{Incoming}
 use Rattle.multiportgraph.specs.Reading.{isSplit, visible, seen}
-use Rattle.multiportgraph.specs.Places.{Wire}
+use Rattle.portgraph.specs.Places.{Wire}
 use Rattle.multiportgraph.specs.declared.multiportgraph.MultiPortGraph.{MultiPortGraph}
-use Rattle.multiportgraph.specs.declared.multiportgraph.Release.{Release}
-use Rattle.multiportgraph.specs.declared.multiportgraph.Release.the-variants.{One, Two}
+use Rattle.portgraph.specs.declared.release.Release.{Release}
+use Rattle.portgraph.specs.declared.release.Release.the-variants.{One, Two}
 use Rattle.theorems.specs.Book.{Call}
 use Rattle.theorems.specs.History.{step, run}
 use Rattle.theorems.specs.ReleaseClaims.{forRelease, stepUnchecked, steppedFor, numberOf, answers, without18, callsPassed}

@@ -36,7 +36,7 @@ use Rattle.multiportgraph.specs.declared.multiportgraph.Refusal.the-variants.{H
 use Rattle.multiportgraph.specs.declared.multiportgraph.RemoveAnswer.{RemoveAnswer}
 use Rattle.multiportgraph.specs.declared.multiportgraph.RemoveAnswer.the-variants as remove
 use Rattle.multiportgraph.specs.declared.multiportgraph.NodeRemoved.{NodeRemoved}
-use Rattle.multiportgraph.specs.Places.{Place, Wire, touches, ofNode}
+use Rattle.portgraph.specs.Places.{Place, Wire, touches, ofNode}
 use Rattle.multiportgraph.specs.Graph.{withGraph}
 use Rattle.multiportgraph.specs.HiddenNodes.{unsplit, unsplitRange}
 use Rattle.multiportgraph.specs.Cases.{removeMeta, removeRefused}

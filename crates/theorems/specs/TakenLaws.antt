@@ -18,15 +18,15 @@ use Rattle.portgraph.specs.declared.direction.Direction.the-variants.{Incoming,
 use Rattle.multiportgraph.specs.Reading.{visible, seen}
 use Rattle.multiportgraph.specs.Refusals.{wiredSide, wiredSeen, wiredInput, takenUnder, inputTaken}
 use Rattle.multiportgraph.specs.Walks.{portLinks, fanOut}
-use Rattle.multiportgraph.specs.Places.{Place, Wire, spot, atSpot}
+use Rattle.portgraph.specs.Places.{Place, Wire, spot, atSpot, endOn}
 use Rattle.multiportgraph.specs.Wires.{placeOf}
 use Rattle.multiportgraph.specs.WellFormed.{Fine, Seen, lift, WireIn}
 use Rattle.multiportgraph.specs.LinkCutLaws.{at-spot-here}
 use Rattle.multiportgraph.specs.declared.multiportgraph.MultiPortGraph.{MultiPortGraph}
-use Rattle.multiportgraph.specs.declared.multiportgraph.Release.{Release}
-use Rattle.multiportgraph.specs.declared.multiportgraph.Release.the-variants.{One, Two}
+use Rattle.portgraph.specs.declared.release.Release.{Release}
+use Rattle.portgraph.specs.declared.release.Release.the-variants.{One, Two}
 use Rattle.multiportgraph.specs.declared.multiportgraph.SubportLink.{SubportLink}
-use Rattle.theorems.specs.ListingClaims.{wireFrom, endOn}
+use Rattle.theorems.specs.ListingClaims.{wireFrom}
 use Rattle.theorems.specs.Conditions.{OfBlock, PortIs, Taken, WiredInput, block-port, hidden-port, no-port}
 use Rattle.theorems.specs.PortCases.{port-is, seen-block-port, seen-hidden-port, seen-none}
 use Rattle.theorems.specs.ListedLinks.{LinkIs, own-end, from-place, link-wire, port-link, port-has-link}

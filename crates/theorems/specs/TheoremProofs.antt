@@ -14,7 +14,7 @@ use Rattle.portgraph.specs.declared.direction.Direction.the-variants.{Incoming,
 use Rattle.portgraph.specs.declared.portgraph.PortLink.{PortLink}
 use Rattle.portgraph.specs.declared.portgraph.PortLink.the-variants as lower-cut
 use Rattle.portgraph.specs.Calls.{unlinkPort}
-use Rattle.multiportgraph.specs.declared.multiportgraph.Release.{Release}
+use Rattle.portgraph.specs.declared.release.Release.{Release}
 use Rattle.multiportgraph.specs.Reading.{isSplit, inner, endAt, subport#, farSubport}
 use Rattle.multiportgraph.specs.Calls.{linkSub, cutSub, linkPair, linkClean}
 use Rattle.multiportgraph.specs.Wires.{wiresWalked}
@@ -38,7 +38,7 @@ use Rattle.multiportgraph.specs.declared.multiportgraph.LinkAnswer.{LinkAnswer}
 use Rattle.multiportgraph.specs.declared.multiportgraph.LinkAnswer.the-variants as link
 use Rattle.multiportgraph.specs.declared.multiportgraph.CutAnswer.{CutAnswer}
 use Rattle.multiportgraph.specs.declared.multiportgraph.CutAnswer.the-variants as cutting
-use Rattle.multiportgraph.specs.Places.{Wire, Spot, nowhere, spot, atSpot, touches, wireOfSides}
+use Rattle.portgraph.specs.Places.{Wire, Spot, nowhere, spot, atSpot, touches, wireOfSides}
 use Rattle.theorems.specs.Claims.{Link, byPorts, byPortsClean, bySubports, linking, LinkedBy, acceptedLink, joins, between, Restored, WireRule}
 use Rattle.theorems.specs.ListedLinks.{end-named}
 

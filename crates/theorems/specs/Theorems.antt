@@ -17,10 +17,10 @@ use Rattle.portgraph.specs.declared.direction.Direction.the-variants.{Outgoing}
 use Rattle.portgraph.specs.declared.node_entry.NodeMeta.{NodeMeta}
 use Rattle.portgraph.specs.declared.node_entry.MaybeNodeMeta.the-variants as maybe-meta
 use Rattle.portgraph.specs.declared.iter.Sides.{Sides}
-use Rattle.multiportgraph.specs.declared.multiportgraph.Release.{Release}
+use Rattle.portgraph.specs.declared.release.Release.{Release}
 use Rattle.multiportgraph.specs.Calls.{setCounts, movesTold, visibleNodes, visiblePorts, visibleLinks}
 use Rattle.multiportgraph.specs.Answers.{refusalNumbers}
-use Rattle.multiportgraph.specs.Places.{Spot, spot, atSpot, touches}
+use Rattle.portgraph.specs.Places.{Spot, spot, atSpot, touches, endOn, farFrom}
 use Rattle.multiportgraph.specs.Reading.{seen, visible, isSplit, copyNode}
 use Rattle.multiportgraph.specs.Wires.{wiresWalked, walkWires, stepWires, allWires, sideLinks, isBlock}
 use Rattle.multiportgraph.specs.Walks.{isSeen, portLinks, nodeLinks, neighbours, connections}
@@ -36,7 +36,7 @@ use Rattle.theorems.specs.AnswerClaims.{AnswersItsWire, AnswersAreWires}
 use Rattle.theorems.specs.PlaceClaims.{PlacesAreWires}
 use Rattle.theorems.specs.TidyClaims.{PlacesKept, WalksKept, LeftByWires, FoundAgain}
 use Rattle.theorems.specs.TidyHistory as tidy
-use Rattle.theorems.specs.ListingClaims.{wireFrom, endOn, farFrom, Exactly, InBook, OverSides, OutOfRange, FarNodes, NotOwnOutput}
+use Rattle.theorems.specs.ListingClaims.{wireFrom, Exactly, InBook, OverSides, OutOfRange, FarNodes, NotOwnOutput}
 use Rattle.theorems.specs.Conditions.{RefusedBy, Accepted, Condition, leavesPrepared}
 use Rattle.theorems.specs.Bench as bench
 use Rattle.theorems.specs.Bench.{askedAll, askedUnder, expectedAll, benchLines, resizeLines, fanOutLines, inputLines, tidyLines}

@@ -10,7 +10,7 @@ use Rattle.portgraph.specs.declared.direction.Direction.{Direction}
 use Rattle.portgraph.specs.declared.node_entry.NodeMeta.{NodeMeta}
 use Rattle.multiportgraph.specs.Calls.{addBlock}
 use Rattle.multiportgraph.specs.Reading.{isSplit, subports}
-use Rattle.multiportgraph.specs.Places.{Wire, spot, atEnd, touches}
+use Rattle.portgraph.specs.Places.{Wire, spot, atEnd, touches}
 use Rattle.multiportgraph.specs.WellFormed.{Fine}
 use Rattle.multiportgraph.specs.Space.{roomOf, afterWorks, takeNode, takeBlock, giveNode, giveBlock}
 use Rattle.multiportgraph.specs.Wires.{stepWires, wiresWalked, portsWalked}

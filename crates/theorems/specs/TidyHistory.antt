@@ -40,7 +40,7 @@ use Rattle.multiportgraph.specs.Tidy.{subportsLeft, tidied}
 use Rattle.multiportgraph.specs.TidyLaws.{TidyDone, TidySays, TidyLeft, SameBlock, tidy-port-law, tidy-left, left-linked, tidy-again, tidied-split}
 use Rattle.multiportgraph.specs.SplitLaws.{HasEnd, end-of-wire, wire-of-end}
 use Rattle.multiportgraph.specs.declared.multiportgraph.MultiPortGraph.{MultiPortGraph}
-use Rattle.multiportgraph.specs.declared.multiportgraph.Release.{Release}
+use Rattle.portgraph.specs.declared.release.Release.{Release}
 use Rattle.multiportgraph.specs.declared.multiportgraph.Refusal.{Refusal}
 use Rattle.multiportgraph.specs.declared.multiportgraph.Refusal.the-variants.{NoRoom}
 use Rattle.multiportgraph.specs.declared.multiportgraph.TidyAnswer.{TidyAnswer}
@@ -48,7 +48,7 @@ use Rattle.multiportgraph.specs.declared.multiportgraph.TidyAnswer.the-variants
 use Rattle.multiportgraph.specs.declared.multiportgraph.PortTidied.{PortTidied}
 use Rattle.multiportgraph.specs.declared.multiportgraph.NodeAdded.{NodeAdded}
 use Rattle.multiportgraph.specs.declared.multiportgraph.AddAnswer.the-variants as add
-use Rattle.multiportgraph.specs.Places.{Place, Wire, spot, atEnd, touches}
+use Rattle.portgraph.specs.Places.{Place, Wire, spot, atEnd, touches}
 use Rattle.theorems.specs.Book as book
 use Rattle.theorems.specs.Book.{Call, Book, tidyCall, spotOf}
 use Rattle.theorems.specs.History.{State, Stepped, step, next, run}

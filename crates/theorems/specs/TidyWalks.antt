@@ -18,13 +18,13 @@ use Rattle.portgraph.specs.declared.direction.Direction.the-variants.{Incoming,
 use Rattle.portgraph.specs.declared.iter.Sides.{Sides}
 use Rattle.portgraph.specs.declared.iter.Sides.the-variants.{One}
 use Rattle.portgraph.specs.declared.node_entry.NodeMeta.{NodeMeta}
-use Rattle.multiportgraph.specs.Reading.{ownerOf, Port, dead, hidden, visible, seen, subport#}
-use Rattle.multiportgraph.specs.Places.{Place, Wire, spot, atSpot, portPlace}
+use Rattle.multiportgraph.specs.Reading.{ownerOf, Port, dead, hidden, visible, seen, subport#, portPlace}
+use Rattle.portgraph.specs.Places.{Place, Wire, spot, atSpot, endOn, farFrom}
 use Rattle.multiportgraph.specs.WellFormed.{inner#, Fine, Seen, lift, WireIn, BlockIs, SameBlocks}
 use Rattle.multiportgraph.specs.Ends.{block-seen, seen-block, seen-still, ends-join-ends, outer-seen, place-of-sub, lift-place, owner-of}
 use Rattle.multiportgraph.specs.Wires.{isBlock, blocks, sideLinks, allWires, isBeyond, wiresBeyond, wiresSeen, stepWires, firstItem, placeOf}
 use Rattle.multiportgraph.specs.Walks.{between, isSeen, heldSeen, bothSeen, bySides, portLinks, portLinksSeen, linksLeft, stepFront, stepBack, nodeLinks, notSkipped, linkBeyond, linksItem, stepLinks, connections, connectionsItem, stepConnections}
-use Rattle.multiportgraph.specs.Listing.{rising-by-items, filter-same, member-filter}
+use Rattle.portgraph.specs.Listing.{rising-by-items, filter-same, member-filter}
 use Rattle.multiportgraph.specs.HiddenStays.{true-not-false}
 use Rattle.portgraph.specs.Walks.{portsFrom}
 use Rattle.multiportgraph.specs.ScanLaws.{linksFromTo, portsAcross, links-in-row, flatMap-same, block-not-hidden, block-has-meta}
@@ -38,7 +38,7 @@ use Rattle.multiportgraph.specs.declared.iter.Wires.{Wires}
 use Rattle.multiportgraph.specs.declared.iter.PortLinks.{PortLinks}
 use Rattle.multiportgraph.specs.declared.iter.NodeLinks.{NodeLinks}
 use Rattle.multiportgraph.specs.declared.iter.NodeConnections.{NodeConnections}
-use Rattle.theorems.specs.ListingClaims.{wireFrom, endOn, farFrom}
+use Rattle.theorems.specs.ListingClaims.{wireFrom}
 use Rattle.theorems.specs.ListedLinks.{LinkIs, own-end, far-end, from-place, link-wire, port-link, port-has-link}
 use Rattle.theorems.specs.PortListing.{blocks-list}
 use Rattle.theorems.specs.ListingWires.{side-link}

@@ -16,7 +16,7 @@ use Rattle.portgraph.specs.declared.index.PortIndex.{PortIndex}
 use Rattle.multiportgraph.specs.Reading.{Port, dead, hidden, visible, seen}
 use Rattle.multiportgraph.specs.Wires.{isBlock, blocks, stepWires, wiresSeen, firstItem, allWires}
 use Rattle.multiportgraph.specs.Walks.{isSeen, heldSeen, bothSeen, between, nodeHeld, blocksLeft, stepNodes, stepNodesBack, allPorts, portsLeft, stepAllPorts, stepAllPortsBack, portsOfNode, stepNodePorts, subportsOf, subportBeyond, stepSubports, portLinksSeen, portLinks, linksLeft, stepFront, stepBack, nodeLinks, linkBeyond, linksItem, stepLinks, neighbourLinks, neighboursItem, stepNeighbours, connections, connectionsItem, stepConnections}
-use Rattle.multiportgraph.specs.Listing.{member-filter}
+use Rattle.portgraph.specs.Listing.{member-filter}
 use Rattle.theorems.specs.Cursors.{front, back}
 use Rattle.multiportgraph.specs.declared.multiportgraph.MultiPortGraph.{MultiPortGraph}
 use Rattle.multiportgraph.specs.declared.multiportgraph.SubportIndex.{SubportIndex}

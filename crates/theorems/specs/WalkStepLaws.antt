@@ -18,7 +18,7 @@ use Rattle.portgraph.specs.declared.direction.Direction.{Direction}
 use Rattle.multiportgraph.specs.Reading.{isSplit, Port, dead, hidden, visible, seen, subports, endAt, subport#, linkOfEnd}
 use Rattle.multiportgraph.specs.Wires.{isBlock, blocks, subportsOfPort, wireTo, wireOf}
 use Rattle.multiportgraph.specs.Walks.{Start, started, refused, isSeen, heldSeen, between, nodeHeld, blocksLeft, stepNodes, stepNodesBack, allPorts, portsLeft, stepAllPorts, stepAllPortsBack, portLinksSeen, portLinks, linksLeft, stepFront, stepBack, startAtPort, portLinksFrom, startPortLinks}
-use Rattle.multiportgraph.specs.Listing.{Apart, member-filter, filter-all, rising-filter, rising-flatMap, rising-map, range-rises}
+use Rattle.portgraph.specs.Listing.{Apart, member-filter, filter-all, rising-filter, rising-flatMap, rising-map, range-rises}
 use Rattle.multiportgraph.specs.ScanLaws.{wire-stands}
 use Rattle.theorems.specs.Cursors.{Turns, turns, rising-apart, Stepped, item, end, walk, From, front, back, walkEnds, takeEnds, backwards, Listed, Fronts, Backs, walk-front, walk-back, walk-ends, first-map, last-map, map-same, walk-nothing, ends-nothing}
 use Rattle.multiportgraph.specs.declared.multiportgraph.MultiPortGraph.{MultiPortGraph}

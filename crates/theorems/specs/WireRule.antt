@@ -20,10 +20,11 @@ use Rattle.portgraph.specs.GoodLaws.{emptyModel}
 use Rattle.portgraph.specs.declared.direction.Direction.{Direction}
 use Rattle.portgraph.specs.declared.direction.Direction.the-variants.{Incoming, Outgoing}
 use Rattle.portgraph.specs.declared.node_entry.NodeMeta.{NodeMeta}
-use Rattle.theorems.specs.Book.{emptyBook, readBy, Block, Book, withWires, spotAmong, spotOf, without, nextOffset, addWire, notBlock, bookAdd, bookRemove, bookSet, bookLink, bookLinkSub, bookCut}
+use Rattle.theorems.specs.Book.{emptyBook, readBy, Block, Book, withWires, spotAmong, spotOf, addWire, notBlock, bookAdd, bookRemove, bookSet, bookLink, bookLinkSub, bookCut}
+use Rattle.portgraph.specs.Places.{without, nextOffset, Place, Wire, Spot, spot, atEnd, touches, wireOfSides}
 use Rattle.multiportgraph.specs.WellFormed.{inner#, Fine, BlockIs, Seen, lift, WireIn, SameBlocks, Wiring, none, SameWires}
 use Rattle.theorems.specs.BookLaws.{so-not-false, not-so-true, or-true, or-right, left-once, wire-stays, stayed-wire, length-range, among-run, beside-run, any-touches, none-touches, next-offset}
-use Rattle.multiportgraph.specs.Listing.{member-filter, filter-member, rising-filter}
+use Rattle.portgraph.specs.Listing.{member-filter, filter-member, rising-filter}
 use Rattle.multiportgraph.specs.HiddenStays.{true-not-false}
 use Rattle.multiportgraph.specs.Ends.{out-side, into-side, ports-walked}
 use Rattle.multiportgraph.specs.Reading.{isSplit, subport#, asRead}
@@ -48,9 +49,8 @@ use Rattle.multiportgraph.specs.declared.multiportgraph.CutAnswer.the-variants 
 use Rattle.multiportgraph.specs.declared.multiportgraph.TidyAnswer.{TidyAnswer}
 use Rattle.multiportgraph.specs.declared.multiportgraph.TidyAnswer.the-variants as tidying
 use Rattle.multiportgraph.specs.TidyLaws.{TidyDone, TidySays}
-use Rattle.multiportgraph.specs.Places.{Place, Wire, Spot, spot, atEnd, touches, wireOfSides}
 use Rattle.multiportgraph.specs.Wires.{portsWalked}
-use Rattle.multiportgraph.specs.declared.multiportgraph.Release.{Release}
+use Rattle.portgraph.specs.declared.release.Release.{Release}
 use Rattle.multiportgraph.specs.Graph.{emptyGraph}
 
 -- The relation.

@@ -19,13 +19,13 @@ use Rattle.portgraph.specs.GoodSlots.{zero-is-not-one, slot-in-block}
 use Rattle.portgraph.specs.declared.direction.Direction.{Direction}
 use Rattle.portgraph.specs.declared.direction.Direction.the-variants.{Outgoing}
 use Rattle.portgraph.specs.declared.node_entry.NodeMeta.{NodeMeta}
-use Rattle.multiportgraph.specs.declared.multiportgraph.Release.{Release}
+use Rattle.portgraph.specs.declared.release.Release.{Release}
 use Rattle.multiportgraph.specs.Reading.{Port, dead, hidden, visible, seen, ownerOf, isSplit, subport#, subports, portOf, endAt, linkOfEnd}
 use Rattle.multiportgraph.specs.WellFormed.{inner#, Fine, Seen}
 use Rattle.multiportgraph.specs.Ends.{owner-of, port-of, count-of, seen-block, block-seen}
 use Rattle.multiportgraph.specs.Wires.{isBlock, blocks, portsOfSide, subportsOfPort, subportsOfSide, wireTo, wireOf, sideLinks, allWires, isBeyond, firstItem, wiresBeyond, wiresSeen, stepWires, walkBy, walkedOn, walkWires}
 use Rattle.multiportgraph.specs.Walks.{isSeen}
-use Rattle.multiportgraph.specs.Listing.{member-filter, member-flatMap, flatMap-member, member-map, member-range, filter-flatMap, flatMap-beyond, filter-all, rising-filter, rising-map, rising-flatMap, range-rises}
+use Rattle.portgraph.specs.Listing.{member-filter, member-flatMap, flatMap-member, member-map, member-range, filter-flatMap, flatMap-beyond, filter-all, rising-filter, rising-map, rising-flatMap, range-rises}
 use Rattle.theorems.specs.PortListing.{blocks-list, side-listed}
 use Rattle.theorems.specs.WalkStepLaws.{less}
 use Rattle.theorems.specs.Book.{Call}

@@ -15,7 +15,7 @@ use Rattle.multiportgraph.specs.Calls.{visibleNodes, visibleLinks}
 use Rattle.multiportgraph.specs.CountLaws.{visible-nodes}
 use Rattle.multiportgraph.specs.WellFormed.{Fine}
 use Rattle.multiportgraph.specs.HiddenStays.{true-not-false}
-use Rattle.multiportgraph.specs.Listing.{Apart}
+use Rattle.portgraph.specs.Listing.{Apart}
 use Rattle.multiportgraph.specs.Listed.{wiresListed, blocksListed, listAfter}
 use Rattle.multiportgraph.specs.Lookups.{counted, capacityOf}
 use Rattle.multiportgraph.specs.Walks.{Start, started, refused, startAtNode}

@@ -9,11 +9,11 @@ use lib.Seq.{getD-append-add}
 use Rattle.portgraph.specs.Limits.{nodeSlots}
 use Rattle.portgraph.specs.Lists.{Member, Rising, range}
 use Rattle.portgraph.specs.Model.{Model}
-use Rattle.multiportgraph.specs.Places.{Wire}
+use Rattle.portgraph.specs.Places.{Wire}
 use Rattle.multiportgraph.specs.WellFormed.{Fine}
 use Rattle.multiportgraph.specs.Listed.{endNumbers, wireNumbers, wiresListed}
 use Rattle.multiportgraph.specs.ListReads.{wires-length}
-use Rattle.multiportgraph.specs.Listing.{member-map, rising-map, member-filter, member-range}
+use Rattle.portgraph.specs.Listing.{member-map, rising-map, member-filter, member-range}
 use Rattle.multiportgraph.specs.WalkRule.{Earlier, walked-rises}
 use Rattle.multiportgraph.specs.Wires.{isBlock, blocks, allWires, wiresWalked, wirePlaces}
 use Rattle.multiportgraph.specs.declared.multiportgraph.MultiPortGraph.{MultiPortGraph}

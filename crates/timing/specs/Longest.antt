@@ -6,7 +6,7 @@ use Prim.Native.Nat.{ℕ, zero, suc, _+_, max}
 use lib.Dec.{eqb}
 use lib.ListN.{length, getD}
 use Rattle.portgraph.specs.Limits.{nodeSlots}
-use Rattle.multiportgraph.specs.Places.{Wire}
+use Rattle.portgraph.specs.Places.{Wire}
 use Rattle.multiportgraph.specs.Answers.{refusalNumbers}
 use Rattle.multiportgraph.specs.Wires.{wiresWalked}
 use Rattle.multiportgraph.specs.Walks.{Start, started, refused, startAtNode}

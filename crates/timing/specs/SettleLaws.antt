@@ -12,9 +12,9 @@ use lib.Seq.{getD-set-same, getD-set-other, getD-at}
 use borrow.Author.Tests.{eqb-true, eqb-false, eq-eqb, ne-eqb, ltb-true, ltb-false, lt-ltb, le-ltb, leb-true, leb-false}
 use Rattle.portgraph.specs.Limits.{nodeSlots}
 use Rattle.portgraph.specs.Lists.{Member, Rising, range, filter}
-use Rattle.multiportgraph.specs.Places.{flag}
+use Rattle.portgraph.specs.Places.{flag}
 use Rattle.multiportgraph.specs.HiddenStays.{true-not-false}
-use Rattle.multiportgraph.specs.Listing.{Apart, apart-below, member-append, member-left, member-right, member-filter, filter-member, rising-append, rising-filter, range-rises, member-range, range-member}
+use Rattle.portgraph.specs.Listing.{Apart, apart-below, member-append, member-left, member-right, member-filter, filter-member, rising-append, rising-filter, range-rises, member-range, range-member}
 use Rattle.timing.specs.Longest.{Feed, feeders, anyOf, largestOf, comes, largestSum, timeIn}
 use Rattle.timing.specs.RunOrder.{isIn}
 use Rattle.timing.specs.TimingClaims.{Leads, sumAlong}

@@ -11,8 +11,7 @@ use lib.Seq.{drop-cons, take-suc-set, length-take-le, getD-set-same, getD-set-ot
 use borrow.Author.Tests.{eqb-true, eqb-false, eq-eqb, ne-eqb, lt-ltb, le-ltb, le-leb, lt-leb}
 use Rattle.portgraph.specs.Limits.{nodeSlots, portSlots}
 use Rattle.portgraph.specs.Lists.{range}
-use Rattle.multiportgraph.specs.Listing.{length-map}
-use Rattle.multiportgraph.specs.CountLaws.{length-range}
+use Rattle.portgraph.specs.Listing.{length-map, length-range}
 use Rattle.timing.specs.Longest.{Feed, timeIn}
 use Rattle.timing.specs.Settling.{feedAt, feedsListed, Tables, tablesOf, zeros, waitsOf, firstsOf, pushed, pushReady, wireDone, runDone, blockDone, startTables, settle, settled, Bounded}
 use Rattle.timing.specs.SettleLaws.{same-or-not}

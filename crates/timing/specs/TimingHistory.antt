@@ -11,11 +11,11 @@ use Rattle.portgraph.specs.Limits.{nodeSlots}
 use Rattle.portgraph.specs.Lists.{Member, range}
 use Rattle.portgraph.specs.Model.{Model}
 use Rattle.multiportgraph.specs.WellFormed.{Fine}
-use Rattle.multiportgraph.specs.Listing.{member-filter}
-use Rattle.multiportgraph.specs.Places.{Wire}
+use Rattle.portgraph.specs.Listing.{member-filter}
+use Rattle.portgraph.specs.Places.{Wire}
 use Rattle.multiportgraph.specs.Wires.{isBlock, blocks}
 use Rattle.multiportgraph.specs.declared.multiportgraph.Refusal.{Refusal}
-use Rattle.multiportgraph.specs.declared.multiportgraph.Release.{Release}
+use Rattle.portgraph.specs.declared.release.Release.{Release}
 use Rattle.theorems.specs.Book.{Call, Book}
 use Rattle.theorems.specs.CallLaws.{rel-run}
 use Rattle.theorems.specs.History.{run}

@@ -14,8 +14,8 @@ use Rattle.portgraph.specs.Lists.{Member, Rising, filter}
 use Rattle.portgraph.specs.Model.{Model}
 use Rattle.multiportgraph.specs.HiddenStays.{true-not-false}
 use Rattle.multiportgraph.specs.WellFormed.{Fine}
-use Rattle.multiportgraph.specs.Listing.{Apart, member-map, map-member, member-filter, filter-member, rising-filter}
-use Rattle.multiportgraph.specs.Places.{Wire}
+use Rattle.portgraph.specs.Listing.{Apart, member-map, map-member, member-filter, filter-member, rising-filter}
+use Rattle.portgraph.specs.Places.{Wire}
 use Rattle.multiportgraph.specs.Walks.{Start, started, refused, startAtNode}
 use Rattle.multiportgraph.specs.Wires.{blocks, wiresWalked}
 use Rattle.multiportgraph.specs.declared.multiportgraph.MultiPortGraph.{MultiPortGraph}

@@ -11,7 +11,7 @@ use Rattle.portgraph.specs.Limits.{nodeSlots}
 use Rattle.portgraph.specs.Model.{Model}
 use Rattle.multiportgraph.specs.WellFormed.{Fine}
 use Rattle.multiportgraph.specs.declared.multiportgraph.Refusal.{Refusal}
-use Rattle.multiportgraph.specs.declared.multiportgraph.Release.{Release}
+use Rattle.portgraph.specs.declared.release.Release.{Release}
 use Rattle.theorems.specs.Book.{Call}
 use Rattle.theorems.specs.History.{run}
 use Rattle.theorems.specs.ListingClaims.{InBook}

@@ -6,8 +6,8 @@ use lines::listening::Listener;
 use lines::listening::ROOM;
 use lines::text::line_part;
 use multiportgraph::multiportgraph::MultiPortGraph;
-use multiportgraph::multiportgraph::Release;
 use portgraph::index::NODE_SLOTS;
+use portgraph::release::Release;
 use records::ask::empty;
 ghost use Rattle.multiportgraph.specs.WellFormed.{MultiWf};
 

@@ -1,7 +1,7 @@
 -- `sketches::tests::at_port` meets its contract: another block, another side, and the positions.
 use mathlib.Core.Path.{sym, _∙_}
 use borrow.Author.Tests.{eq-eqb, ne-eqb, not-true, not-false}
-use Rattle.multiportgraph.specs.Places.{atSpot}
+use Rattle.portgraph.specs.Places.{atSpot}
 use borrow.Author.Needs.{needs}
 use Rattle.sketches.proofs.tests.at_port.Statement.{statement}
 use Rattle.sketches.proofs.tests.at_port.Tie as tie

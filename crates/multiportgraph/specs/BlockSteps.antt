@@ -1,5 +1,5 @@
 -- What the loops over a block's ports and over listed hidden nodes do, turn by turn, and what the calls that remove or resize a block amount to.
-use mathlib.Core.Path.{_≡_, refl, sym, ap, _∙_}
+use mathlib.Core.Path.{_≡_, refl, sym, ap, _∙_, subst}
 use mathlib.Core.Bool.{Bool, true, false, cond}
 use mathlib.Core.List.{List, [], _∷_, _++_}
 use Prim.Native.Nat.{ℕ, zero, suc, _+_, _-_, _≤_, _<_, min}
@@ -7,7 +7,8 @@ use native.Mathlib.Omega.{arith}
 use native.Mathlib.Nat.{zero-add}
 use lib.ListN.{getD, set, length, take, drop, length-append}
 use lib.Seq.{sets, sets-eq, length-sets, drop-cons, take-append-seam}
-use borrow.Author.Tests.{le-leb, lt-leb}
+use lib.Dec.{leb}
+use borrow.Author.Tests.{le-leb, lt-leb, leb-true, leb-false}
 use Rattle.portgraph.specs.Limits.{portSlots, nodePorts, present}
 use Rattle.portgraph.specs.Model.{Wf}
 use Rattle.portgraph.specs.Lookups.{entryAt, metaOfEntry, metaAt}
@@ -31,10 +32,15 @@ use Rattle.portgraph.specs.declared.portgraph.PortGraph.{PortGraph}
 use Rattle.multiportgraph.specs.Reading.{portOf, isHidden, isSplit, copyNode, copySide}
 use Rattle.multiportgraph.specs.Calls.{dropBlock, removeBlock, setAs, setCounts, toldMeta, movesTold, movesToldUnder, setCountsUnder}
 use Rattle.multiportgraph.specs.WellFormed.{MultiWf}
-use Rattle.multiportgraph.specs.CodeForms.{flagAt}
+use Rattle.multiportgraph.specs.CodeForms.{flagAt, blockIn, blockFound}
 use Rattle.multiportgraph.specs.CodeFormSteps.{flag-inside}
 use Rattle.multiportgraph.specs.CopySteps.{unsplit-plain}
+use Rattle.multiportgraph.specs.declared.multiportgraph.Refusal.{Refusal}
 use Rattle.multiportgraph.specs.declared.multiportgraph.Refusal.the-variants.{TooManyPorts, UnknownNode, HiddenNode}
+use Rattle.multiportgraph.specs.declared.lookups.BlockFound.{BlockFound}
+use Rattle.multiportgraph.specs.declared.lookups.BlockFound.the-variants as found
+use Rattle.multiportgraph.specs.declared.multiportgraph.SetAnswer.{SetAnswer}
+use Rattle.multiportgraph.specs.declared.multiportgraph.SetAnswer.the-variants as resize
 use Rattle.multiportgraph.specs.declared.multiportgraph.RemoveAnswer.the-variants as remove
 use Rattle.multiportgraph.specs.declared.multiportgraph.NodeRemoved.{NodeRemoved}
 use Rattle.multiportgraph.specs.declared.multiportgraph.PortsSet.{PortsSet}
@@ -243,8 +249,11 @@ range-in m n c k w e f =
     let b = fits .ports in
     (lower-wf m w, omega arith)
 
+pub wf-bare : (m m′ : MultiPortGraph) (p n : ℕ) → m′ ≡ unsplitRange m p n → Wf (m .graph) → Wf (m′ .graph)
+wf-bare m m′ p n e w = rw e (wf-unsplit-range m p n w)
+
 pub wf-range-is : (m m′ : MultiPortGraph) (p n : ℕ) → m′ ≡ unsplitRange m p n → MultiWf m → Wf (m′ .graph)
-wf-range-is m m′ p n e w = rw e (wf-unsplit-range m p n (lower-wf m w))
+wf-range-is m m′ p n e w = wf-bare m m′ p n e (lower-wf m w)
 
 abbrev RemovedAs : MultiPortGraph → ℕ → NodeRemoved → Type 0
 RemovedAs m n r = (r ≡ removeBlock m n) × (removeNumbers (r .answer) ≡ removeNumbers (removeBlock m n .answer))
@@ -263,14 +272,44 @@ module _ (m : MultiPortGraph) (n : ℕ) where
   pub remove-hidden : (k : NodeMeta) → maybe-meta.Some k ≡ metaAt (m .graph) n → isHidden m n ≡ true → RemovedAs m n (removeRefused m HiddenNode)
   remove-hidden k e h = removed-as m n _ (remove-cond k true h ∙ ap (removeMeta m n) e ∙ sym (remove-cases m n))
 
+  -- by what is found of the node
+  pub remove-refused : {a : Refusal} → found.Refused a ≡ blockFound m n → RemovedAs m n (removeRefused m a)
+  unfolding blockFound
+  remove-refused {a} e = go (metaAt (m .graph) n) refl (isHidden m n) refl e
+    where
+      go : (x : MaybeNodeMeta) → x ≡ metaAt (m .graph) n → (h : Bool) → isHidden m n ≡ h → found.Refused a ≡ blockIn h x → RemovedAs m n (removeRefused m a)
+      go maybe-meta.None f h g q = let z : UnknownNode ≡ a = cc in subst (λ (y : Refusal). RemovedAs m n (removeRefused m y)) z (remove-unknown f)
+      go (maybe-meta.Some k) f true g q = let z : HiddenNode ≡ a = cc in subst (λ (y : Refusal). RemovedAs m n (removeRefused m y)) z (remove-hidden k f g)
+      go (maybe-meta.Some k) f false g q = let z : _≡_ {A = ℕ} 0 1 = cc in absurd (omega arith)
+
+  pub found-is : (k : NodeMeta) → found.Block k ≡ blockFound m n → (maybe-meta.Some k ≡ metaAt (m .graph) n) × (isHidden m n ≡ false)
+  unfolding blockFound
+  found-is k e = go (metaAt (m .graph) n) refl (isHidden m n) refl e
+    where
+      go : (x : MaybeNodeMeta) → x ≡ metaAt (m .graph) n → (h : Bool) → isHidden m n ≡ h → found.Block k ≡ blockIn h x → (maybe-meta.Some k ≡ metaAt (m .graph) n) × (isHidden m n ≡ false)
+      go maybe-meta.None f h g q = let z : _≡_ {A = ℕ} 0 1 = cc in absurd (omega arith)
+      go (maybe-meta.Some j) f true g q = let z : _≡_ {A = ℕ} 0 1 = cc in absurd (omega arith)
+      go (maybe-meta.Some j) f false g q = let z : k ≡ j = cc in (ap maybe-meta.Some z ∙ f, g)
+
+  pub remove-found : (k : NodeMeta) {g : MultiPortGraph} → found.Block k ≡ blockFound m n → g ≡ dropBlock m n k → RemovedAs m n (record { graph = g; answer = remove.Removed })
+  remove-found k e d =
+      let f = found-is k e in
+      removed-as m n _ (ap (λ x. record { graph = x; answer = remove.Removed }) d ∙ remove-cond k false (f .1) ∙ ap (removeMeta m n) (f .0) ∙ sym (remove-cases m n))
+
+-- its hidden nodes went, then the node
+pub block-dropped : (m : MultiPortGraph) (n : ℕ) (k : NodeMeta) {c : ℕ} {bare : MultiPortGraph} {s : lower-removed.NodeRemoved} → c ≡ k .incoming + k .outgoing
+    → bare ≡ unsplitRange m (k .«first_port» .0) c → s ≡ removeNode (bare .graph) n → withGraph bare (s .graph) ≡ dropBlock m n k
+unfolding dropBlock
+block-dropped m n k {bare = bare} f g j =
+    let b : bare ≡ unsplitRange m (k .«first_port» .0) (k .incoming + k .outgoing) = g ∙ ap (unsplitRange m (k .«first_port» .0)) f in
+    ap (λ x. withGraph bare (x .graph)) j ∙ ap (λ x. withGraph x (removeNode (x .graph) n .graph)) b
+
+module _ (m : MultiPortGraph) (n : ℕ) where
   pub remove-removed : (k : NodeMeta) (c : ℕ) (bare : MultiPortGraph) (s : lower-removed.NodeRemoved) → maybe-meta.Some k ≡ metaAt (m .graph) n → isHidden m n ≡ false
       → c ≡ k .incoming + k .outgoing → bare ≡ unsplitRange m (k .«first_port» .0) c → s ≡ removeNode (bare .graph) n
       → RemovedAs m n (record { graph = withGraph bare (s .graph); answer = remove.Removed })
-  unfolding dropBlock
   remove-removed k c bare s e h f g j =
-      let b : bare ≡ unsplitRange m (k .«first_port» .0) (k .incoming + k .outgoing) = g ∙ ap (unsplitRange m (k .«first_port» .0)) f in
-      let d : withGraph bare (s .graph) ≡ dropBlock m n k = ap (λ x. withGraph bare (x .graph)) j ∙ ap (λ x. withGraph x (removeNode (x .graph) n .graph)) b in
-      removed-as m n _ (ap (λ x. record { graph = x; answer = remove.Removed }) d ∙ remove-cond k false h ∙ ap (removeMeta m n) e ∙ sym (remove-cases m n))
+      removed-as m n _ (ap (λ x. record { graph = x; answer = remove.Removed }) (block-dropped m n k f g j) ∙ remove-cond m n k false h ∙ ap (removeMeta m n) e ∙ sym (remove-cases m n))
 
 -- Changing a block's counts.
 
@@ -288,16 +327,16 @@ loose-removed m loose after g k n i o c l l′ fits e f h j long =
     f ∙ ap (removeAll loose) t ∙ ap (λ x. removeAll x (copiesDropped m k i o)) e
 
 -- what removing the listed nodes asks
-pub listed-fits : (m loose : MultiPortGraph) (s : lower-set.PortsSet) (k : NodeMeta) (n i o c room : ℕ) (l l′ : List ℕ) → MultiWf m → BlockFits k → loose ≡ recounted m n (s .graph)
-    → s ≡ setNumPorts (m .graph) n i o room → c ≡ length (copiesDropped m k i o) → l′ ≡ sets l 0 (copiesDropped m k i o) → length l ≡ nodePorts
+pub listed-fits : (m loose : MultiPortGraph) (g : PortGraph) (k : NodeMeta) (n i o c : ℕ) (l l′ : List ℕ) → Wf g → BlockFits k → loose ≡ recounted m n g
+    → c ≡ length (copiesDropped m k i o) → l′ ≡ sets l 0 (copiesDropped m k i o) → length l ≡ nodePorts
     → Wf (loose .graph) × (c ≤ nodePorts) × (length l′ ≡ nodePorts)
 unfolding recounted
-listed-fits m loose s k n i o c room l l′ w fits e f h j long =
+listed-fits m loose g k n i o c l l′ w fits e h j long =
     let few = copies-dropped-few m k i o fits in
-    (rw (e, f) (wf-set (m .graph) n i o room (lower-wf m w)), omega arith, ap length j ∙ length-sets l 0 (copiesDropped m k i o) ∙ long)
+    (rw e w, omega arith, ap length j ∙ length-sets l 0 (copiesDropped m k i o) ∙ long)
 
-pub both-wf : (m : MultiPortGraph) (s : lower-set.PortsSet) (n i o room : ℕ) → MultiWf m → s ≡ setNumPorts (m .graph) n i o room → Wf (m .graph) × Wf (s .graph)
-both-wf m s n i o room w e = (lower-wf m w, rw e (wf-set (m .graph) n i o room (lower-wf m w)))
+pub wf-set-is : (m : MultiPortGraph) (s : lower-set.PortsSet) (n i o room : ℕ) → MultiWf m → s ≡ setNumPorts (m .graph) n i o room → Wf (s .graph)
+wf-set-is m s n i o room w e = rw e (wf-set (m .graph) n i o room (lower-wf m w))
 
 pub block-in : (m : MultiPortGraph) (n : ℕ) (k : NodeMeta) → MultiWf m → maybe-meta.Some k ≡ metaAt (m .graph) n → BlockFits k
 block-in m n k w e = found-block-fits (m .graph) (lower-wf m w) n k e
@@ -368,3 +407,58 @@ module _ (m : MultiPortGraph) (n i o : ℕ) (b : List ℕ) where
           → b′ ≡ movesAfter (m .graph) n i o b → s .answer ≡ a → g ≡ resized m n k i o (s .graph) a → SetAs (record { graph = g; answer = setAs a }) b′
       unfolding movesToldUnder
       set-answered s a g b′ h f j q u = set-as _ b′ (set-block m n i o (length b) few k e s a g h f q u) (rw h j)
+
+  -- by what is found of the node, and whether the counts are within the limit
+  abbrev found-within : BlockFound
+  found-within = cond (leb (i + o) nodePorts) (blockFound m n) (found.Refused TooManyPorts)
+
+  pub set-refused : {a : Refusal} → found.Refused a ≡ found-within → SetAs (setRefused m a) b
+  unfolding blockFound
+  set-refused {a} e = go (leb (i + o) nodePorts) refl e
+    where
+      As : Refusal → Type 0
+      As y = SetAs (setRefused m y) b
+
+      there : i + o ≤ nodePorts → (x : MaybeNodeMeta) → x ≡ metaAt (m .graph) n → (h : Bool) → isHidden m n ≡ h → found.Refused a ≡ blockIn h x → As a
+      there few maybe-meta.None f h g q = let z : UnknownNode ≡ a = cc in subst As z (set-unknown few f)
+      there few (maybe-meta.Some k) f true g q = let z : HiddenNode ≡ a = cc in subst As z (set-hidden few k f g)
+      there few (maybe-meta.Some k) f false g q = let z : _≡_ {A = ℕ} 0 1 = cc in absurd (omega arith)
+
+      go : (t : Bool) → leb (i + o) nodePorts ≡ t → found.Refused a ≡ cond t (blockFound m n) (found.Refused TooManyPorts) → As a
+      go true f q = there (leb-true _ _ f) (metaAt (m .graph) n) refl (isHidden m n) refl q
+      go false f q = let z : TooManyPorts ≡ a = cc in subst As z (set-too-many (leb-false _ _ f))
+
+  pub set-within : (k : NodeMeta) → found.Block k ≡ found-within → (i + o ≤ nodePorts) × (found.Block k ≡ blockFound m n)
+  set-within k e = go (leb (i + o) nodePorts) refl e
+    where
+      go : (t : Bool) → leb (i + o) nodePorts ≡ t → found.Block k ≡ cond t (blockFound m n) (found.Refused TooManyPorts) → (i + o ≤ nodePorts) × (found.Block k ≡ blockFound m n)
+      go true f q = (leb-true _ _ f, q)
+      go false f q = let z : _≡_ {A = ℕ} 0 1 = cc in absurd (omega arith)
+
+  -- a block that is there: the lower graph refuses, or has its new counts
+  module _ (few : i + o ≤ nodePorts) (k : NodeMeta) (e : found.Block k ≡ blockFound m n) (s : lower-set.PortsSet) {b′ : List ℕ} {c : SetAnswer}
+      (f : s ≡ setNumPorts (m .graph) n i o (length b)) (j : b′ ≡ movesAfter (m .graph) n i o b) (told : c ≡ setAs (s .answer)) where
+    by-answer : (v : lower-answer.SetAnswer) (g : MultiPortGraph) → s .answer ≡ v → g ≡ resized m n k i o (s .graph) v → SetAs (record { graph = g; answer = c }) b′
+    by-answer v g q u =
+        subst (λ (y : SetAnswer). SetAs (record { graph = g; answer = y }) b′) (sym (told ∙ ap setAs q))
+        (set-answered few k (found-is m n k e .0) s v g b′ (found-is m n k e .1) f j q u)
+
+    pub set-left : {a : Refusal} → c ≡ resize.Refused a → SetAs (record { graph = m; answer = c }) b′
+    set-left {a} z = go (s .answer) refl (sym told ∙ z)
+      where
+        go : (v : lower-answer.SetAnswer) → s .answer ≡ v → setAs v ≡ resize.Refused a → SetAs (record { graph = m; answer = c }) b′
+        go (lower-variants.Set t) q y = let z : _≡_ {A = ℕ} 0 1 = cc in absurd (omega arith)
+        go lower-variants.TooManyPorts q y = by-answer _ m q refl
+        go lower-variants.UnknownNode q y = by-answer _ m q refl
+        go lower-variants.MovesTooShort q y = by-answer _ m q refl
+        go lower-variants.NoRoom q y = by-answer _ m q refl
+
+    pub set-done : {t : ℕ} {g : MultiPortGraph} → c ≡ resize.Set t → g ≡ removeAll (recounted m n (s .graph)) (copiesDropped m k i o) → SetAs (record { graph = g; answer = c }) b′
+    set-done {t} {g} z u = go (s .answer) refl (sym told ∙ z)
+      where
+        go : (v : lower-answer.SetAnswer) → s .answer ≡ v → setAs v ≡ resize.Set t → SetAs (record { graph = g; answer = c }) b′
+        go (lower-variants.Set y) q x = by-answer _ g q u
+        go lower-variants.TooManyPorts q x = let z : _≡_ {A = ℕ} 0 1 = cc in absurd (omega arith)
+        go lower-variants.UnknownNode q x = let z : _≡_ {A = ℕ} 0 1 = cc in absurd (omega arith)
+        go lower-variants.MovesTooShort q x = let z : _≡_ {A = ℕ} 0 1 = cc in absurd (omega arith)
+        go lower-variants.NoRoom q x = let z : _≡_ {A = ℕ} 0 1 = cc in absurd (omega arith)

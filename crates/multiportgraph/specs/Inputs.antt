@@ -10,6 +10,13 @@ use Rattle.multiportgraph.specs.TableReads.{seenIn, endIn}
 use Rattle.multiportgraph.specs.FanOutScans.{wiresAtIn}
 use Rattle.multiportgraph.specs.Refusals.{goodOffset, takenUnder}
 use Rattle.multiportgraph.specs.Cases.{takenSeen, takenEnds}
+use Rattle.multiportgraph.specs.Named.{linkNeed, pairNamed, linkNamed}
+use Rattle.multiportgraph.specs.declared.named.LinkNeed.{LinkNeed}
+use Rattle.multiportgraph.specs.declared.named.LinkNeed.the-variants as needs
+use Rattle.multiportgraph.specs.declared.named.NamedPair.{NamedPair}
+use Rattle.multiportgraph.specs.declared.named.NamedPair.the-variants as pair
+use Rattle.multiportgraph.specs.declared.named.NamedLink.{NamedLink}
+use Rattle.multiportgraph.specs.declared.named.NamedLink.the-variants as ends
 use Rattle.portgraph.specs.declared.release.Release.{Release}
 use Rattle.multiportgraph.specs.declared.multiportgraph.Refusal.{Refusal}
 use Rattle.multiportgraph.specs.declared.multiportgraph.Refusal.the-variants.{BadOffset}
@@ -44,3 +51,17 @@ module _ (marks : List Bool) (links owners : List ℕ) (flags : List Bool) where
 -- and a link of ports
 unfoldable pub takenPortsIn : List ℕ → List Bool → ℕ → ℕ → Refusal
 takenPortsIn owners flags a b = takenSeen a b (seenIn owners flags a) (seenIn owners flags b)
+
+-- what a call names, where that refusal comes first
+module _ (marks : List Bool) (links owners : List ℕ) (flags : List Bool) (release : Release) where
+  unfoldable pub linkNeedUnder : ℕ → ℕ → LinkNeed
+  linkNeedUnder a b =
+      cond (takenIn marks links owners flags release a b) (needs.Refused (takenPortsIn owners flags a b)) (linkNeed marks links owners flags a b)
+
+  unfoldable pub pairNamedUnder : ℕ → ℕ → NamedPair
+  pairNamedUnder a b =
+      cond (takenIn marks links owners flags release a b) (pair.Refused (takenPortsIn owners flags a b)) (pairNamed owners flags a b)
+
+  unfoldable pub linkNamedUnder : ℕ → ℕ → ℕ → ℕ → NamedLink
+  linkNamedUnder p o q r =
+      cond (takenIn marks links owners flags release p q) (ends.Refused (takenSubIn marks links owners flags p o q r)) (linkNamed marks links owners flags p o q r)

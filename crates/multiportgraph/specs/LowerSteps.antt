@@ -18,21 +18,25 @@ use Rattle.portgraph.specs.declared.portgraph.PortGraph.{PortGraph}
 use Rattle.portgraph.specs.declared.portgraph.PortsLinked as lower-linked
 use Rattle.portgraph.specs.declared.portgraph.PortUnlinked as lower-unlinked
 use Rattle.multiportgraph.specs.HiddenNodes.{prepare}
-use Rattle.multiportgraph.specs.Reading.{Port, dead, hidden, visible, seen, isSplit, End, inner, lacking, endAt, subport#}
-use Rattle.multiportgraph.specs.Calls.{cutSub, cutPlain, cutPort, linkSubIf, linkPairIf}
+use Rattle.multiportgraph.specs.Reading.{Port, dead, hidden, visible, seen, sideOf, isSplit, End, inner, lacking, endAt, subport#}
+use Rattle.multiportgraph.specs.Calls.{cutSub, cutPlain, cutPort, subportLink, linkSubIf, linkPairIf}
 use Rattle.portgraph.specs.Limits.{present}
+use Rattle.multiportgraph.specs.Cases.{cutRefused}
+use Rattle.multiportgraph.specs.Lookups.{directionSeen, directionOf}
 use Rattle.multiportgraph.specs.Graph.{withGraph}
 use Rattle.multiportgraph.specs.Refusals.{goodOffset}
 use Rattle.multiportgraph.specs.WellFormed.{MultiWf}
 use Rattle.multiportgraph.specs.Presumed.{OnBlock}
-use Rattle.multiportgraph.specs.CallSteps.{cut-port-plain}
+use Rattle.multiportgraph.specs.CallSteps.{cut-port-seen, cut-port-plain}
 use Rattle.multiportgraph.specs.TableReads.{seenIn, endIn, wireIn, plainIn}
 use Rattle.multiportgraph.specs.TableReadLaws.{seen-read, end-read-off, end-is-port, plain-read}
-use Rattle.multiportgraph.specs.Named.{endOr, endSeen, endNamed, freeEnds, secondOr, secondSeen, secondEnd, firstOr, firstEnd, bothSeen, linkNamed, readIn, endNeedIn, secondReady, bothReady, firstReady, firstNeed, bothNeed, linkSeen, linkNeed, joinedAt, cutAt, cutNamed, preparedBy}
-use Rattle.multiportgraph.specs.NamedLaws.{ReadyEnd, ready-joined, ready-end, need-law, cut-done, link-done, call-done}
+use Rattle.multiportgraph.specs.Named.{endOr, endSeen, endNamed, freeEnds, secondOr, secondSeen, secondEnd, firstOr, firstEnd, bothSeen, linkNamed, readIn, endNeedIn, secondReady, bothReady, firstReady, firstNeed, bothNeed, linkSeen, linkNeed, joinedAt, cutAt, readNamed, cutNamed, preparedBy}
+use Rattle.multiportgraph.specs.NamedLaws.{ReadyEnd, ready-joined, ready-end, need-law, link-of-named, cut-of-named, cut-done, link-done, call-done}
 use Rattle.multiportgraph.specs.declared.multiportgraph.MultiPortGraph.{MultiPortGraph}
 use Rattle.multiportgraph.specs.declared.multiportgraph.SubportIndex.{SubportIndex}
-use Rattle.multiportgraph.specs.declared.multiportgraph.Refusal.the-variants.{BadOffset, IncompatibleDirections, AlreadyLinked}
+use Rattle.multiportgraph.specs.declared.lookups.DirectionAnswer.the-variants as direction-of
+use Rattle.multiportgraph.specs.declared.multiportgraph.Refusal.{Refusal}
+use Rattle.multiportgraph.specs.declared.multiportgraph.Refusal.the-variants.{UnknownPort, HiddenPort, BadOffset, IncompatibleDirections, AlreadyLinked}
 use Rattle.multiportgraph.specs.declared.multiportgraph.CutAnswer.{CutAnswer}
 use Rattle.multiportgraph.specs.declared.multiportgraph.PortUnlinked.{PortUnlinked}
 use Rattle.multiportgraph.specs.declared.multiportgraph.LinkAnswer.the-variants as link
@@ -89,6 +93,14 @@ module _ {m : MultiPortGraph} (w : MultiWf m) where
       cut-done w p o is told
       (λ i. record { graph = withGraph m ((ap (λ (z : lower-unlinked.PortUnlinked). z .graph) u ∙ live-cut x (live-named p o x (sym is ∙ told))) i); answer = k i })
 
+  -- what is cut is what the subport was linked with
+  pub link-cut : (p o : ℕ) → subportLink m p o ≡ cutSub m p o .answer
+  link-cut p o = link-of-named (w .fine) p o ∙ (go (endNamed (m .multiport) (m .graph .«port_link») (m .graph .«port_meta») (m .«copy_node») p o) ∙ ap (λ (u : PortUnlinked). u .answer) (sym (cut-of-named (w .fine) p o)))
+    where
+      go : (e : NamedEnd) → readNamed m e ≡ cutNamed m e .answer
+      go (end.At x) = refl
+      go (end.Refused r) = refl
+
   pub port-cut-below : {p : ℕ} {d : Direction} (b : OnBlock m p d) → isSplit m p ≡ false → {r : lower-unlinked.PortUnlinked} {a : CutAnswer} → r ≡ unlinkPort (m .graph) p →
       a ≡ plainIn (m .graph .«port_link») (m .graph .«port_meta») (m .«copy_node») p → _≡_ {A = PortUnlinked} (record { graph = withGraph m (r .graph); answer = a }) (cutPort m p)
   unfolding unlinkPort
@@ -96,6 +108,30 @@ module _ {m : MultiPortGraph} (w : MultiWf m) where
       ap (λ (x : CutAnswer). record { graph = withGraph m (r .graph); answer = x })
       (k ∙ (plain-read (b .wf .fine) p (b .node) d (b .is) s ∙ ap (λ (z : lower-unlinked.PortUnlinked). cutPlain m (z .answer)) (sym u)))
       ∙ cut-port-plain m p (b .node) d r (r .answer) (b .is) s u refl
+
+  -- A port by its side: one of a block, or refused.
+
+  pub on-side : (p : ℕ) {d : Direction} → directionOf m p ≡ direction-of.Found d → OnBlock m p d
+  unfolding directionOf
+  on-side p {d} e = go (seen m p) refl e
+    where
+      go : (s : Port) → seen m p ≡ s → directionSeen p s ≡ direction-of.Found d → OnBlock m p d
+      go dead t e = absurd (zero-is-not-one (cc))
+      go hidden t e = absurd (zero-is-not-one (cc))
+      go (visible n a) t e = let q : a ≡ d = cc in record { wf = w; node = n; is = t ∙ ap (visible n) q }
+
+  -- its side is the one that is seen
+  pub side-seen : {p : ℕ} {d : Direction} → OnBlock m p d → OnBlock m p (sideOf (seen m p))
+  side-seen {p} {d} b = record { wf = w; node = b .node; is = b .is ∙ ap (visible (b .node)) (sym (ap sideOf (b .is))) }
+
+  pub port-cut-refused : (p : ℕ) {a : Refusal} → directionOf m p ≡ direction-of.Refused a → cutRefused m a ≡ cutPort m p
+  unfolding directionOf
+  port-cut-refused p {a} e = go (seen m p) refl e
+    where
+      go : (s : Port) → seen m p ≡ s → directionSeen p s ≡ direction-of.Refused a → cutRefused m a ≡ cutPort m p
+      go dead t e = let q : UnknownPort (port# p) ≡ a = cc in ap (cutRefused m) (sym q) ∙ cut-port-seen m p dead t
+      go hidden t e = let q : HiddenPort (port# p) ≡ a = cc in ap (cutRefused m) (sym q) ∙ cut-port-seen m p hidden t
+      go (visible n d) t e = absurd (zero-is-not-one (cc))
 
   -- Two ends that are linked.
 

@@ -27,6 +27,8 @@ use Rattle.multiportgraph.specs.declared.named.NamedEnd.the-variants as 
 use Rattle.multiportgraph.specs.declared.named.NamedLink.{NamedLink}
 use Rattle.multiportgraph.specs.declared.named.NamedLink.the-variants as ends
 use Rattle.multiportgraph.specs.declared.named.NamedPair.{NamedPair}
+use Rattle.multiportgraph.specs.declared.named.SeenPair.{SeenPair}
+use Rattle.multiportgraph.specs.declared.named.SeenPair.the-variants as both
 use Rattle.multiportgraph.specs.declared.named.EndNeed.{EndNeed}
 use Rattle.multiportgraph.specs.declared.named.EndNeed.the-variants as need
 use Rattle.multiportgraph.specs.declared.named.LinkNeed.{LinkNeed}
@@ -34,6 +36,21 @@ use Rattle.multiportgraph.specs.declared.named.LinkNeed.the-variants as 
 use Rattle.multiportgraph.specs.Graph.{withGraph}
 use Rattle.multiportgraph.specs.Refusals.{goodOffset}
 use Rattle.multiportgraph.specs.Cases.{cutRefused, linkRefused}
+
+-- how the two ports of a link are seen: 7, 8, else their sides; and those of two subports, 2 before that
+abbrev pub pairOf : ℕ → ℕ → Port → Port → SeenPair
+pairOf a b dead second = both.Refused (UnknownPort (port# a))
+pairOf a b hidden second = both.Refused (HiddenPort (port# a))
+pairOf a b (visible n d) hidden = both.Refused (HiddenPort (port# b))
+pairOf a b (visible n d) dead = both.First d
+pairOf a b (visible n d) (visible k e) = both.Both d e
+
+unfoldable pub seenPair : List ℕ → List Bool → ℕ → ℕ → SeenPair
+seenPair owners flags a b = pairOf a b (seenIn owners flags a) (seenIn owners flags b)
+
+unfoldable pub subportPair : List ℕ → List Bool → ℕ → ℕ → ℕ → ℕ → SeenPair
+subportPair owners flags p o q r =
+    cond (goodOffset o) (cond (goodOffset r) (seenPair owners flags p q) (both.Refused BadOffset)) (both.Refused BadOffset)
 
 -- two ends that are there: 12, 13, else they can be linked
 unfoldable pub freeEnds : List ℕ → ℕ → Direction → ℕ → Direction → NamedLink

@@ -16,16 +16,19 @@ use Rattle.portgraph.specs.declared.direction.Direction.{Direction}
 use Rattle.portgraph.specs.declared.port_entry.PortMeta.{PortMeta}
 use Rattle.portgraph.specs.declared.port_entry.PortEntry.{PortEntry}
 use Rattle.portgraph.specs.declared.port_entry.PortEntry.the-variants as port-variants
-use Rattle.multiportgraph.specs.Reading.{nodeNumber, Port, visible, End, inner, subport#}
+use Rattle.multiportgraph.specs.Reading.{nodeNumber, Port, dead, hidden, visible, End, inner, subport#}
 use Rattle.multiportgraph.specs.CallSteps.{bad-offset}
 use Rattle.multiportgraph.specs.CodeForms.{flagAt, lowestUnlinked}
 use Rattle.multiportgraph.specs.TableReads.{ownerIn, seenIn, endIn, subportsIn, firstIn}
-use Rattle.multiportgraph.specs.Named.{endOr, endSeen, endNamed, freeEnds, secondOr, secondSeen, secondEnd, firstOr, firstEnd, bothSeen, linkNamed, readIn, reuseAt, reuseIn, endNeedIn, secondReady, bothReady, firstReady, firstNeed, bothNeed, linkSeen, linkNeed, pairNamed}
-use Rattle.multiportgraph.specs.declared.multiportgraph.Refusal.the-variants.{BadOffset, IncompatibleDirections, AlreadyLinked}
+use Rattle.multiportgraph.specs.Named.{pairOf, seenPair, subportPair, endOr, endSeen, endNamed, freeEnds, secondOr, secondSeen, secondEnd, firstOr, firstEnd, bothSeen, linkNamed, readIn, reuseAt, reuseIn, endNeedIn, secondReady, bothReady, firstReady, firstNeed, bothNeed, linkSeen, linkNeed, pairNamed}
+use Rattle.multiportgraph.specs.declared.multiportgraph.Refusal.the-variants.{BadOffset, UnknownSecondPort, IncompatibleDirections, AlreadyLinked}
 use Rattle.multiportgraph.specs.declared.named.NamedEnd.the-variants as end
 use Rattle.multiportgraph.specs.declared.named.NamedLink.{NamedLink}
 use Rattle.multiportgraph.specs.declared.named.NamedLink.the-variants as ends
+use Rattle.multiportgraph.specs.declared.named.NamedPair.{NamedPair}
 use Rattle.multiportgraph.specs.declared.named.NamedPair.the-variants as pair
+use Rattle.multiportgraph.specs.declared.named.SeenPair.{SeenPair}
+use Rattle.multiportgraph.specs.declared.named.SeenPair.the-variants as both
 use Rattle.multiportgraph.specs.declared.named.EndNeed.{EndNeed}
 use Rattle.multiportgraph.specs.declared.named.EndNeed.the-variants as need
 use Rattle.multiportgraph.specs.declared.named.LinkNeed.{LinkNeed}
@@ -115,40 +118,83 @@ module _ (marks : List Bool) (links owners : List ℕ) (flags : List Bool) where
       → l ≡ firstEnd marks links owners flags p o q r d
   first-found p o q r d x l e f = f ∙ first-lacking p o q r d (inner x) e
 
-  pub link-bad : (p o q r : ℕ) → o ≡ 65535 → ends.Refused BadOffset ≡ linkNamed marks links owners flags p o q r
-  unfolding linkNamed
-  link-bad p o q r e = rw (bad-offset o e)
+  -- by how the two ports are seen
+  abbrev pub linkAsSeen : ℕ → ℕ → ℕ → ℕ → SeenPair → NamedLink
+  linkAsSeen p o q r (both.Refused x) = ends.Refused x
+  linkAsSeen p o q r (both.First d) = firstEnd marks links owners flags p o q r d
+  linkAsSeen p o q r (both.Both d e) = firstEnd marks links owners flags p o q r d
 
-  pub link-bad-second : (p o q r : ℕ) → goodOffset o ≡ true → r ≡ 65535 → ends.Refused BadOffset ≡ linkNamed marks links owners flags p o q r
-  unfolding linkNamed
-  link-bad-second p o q r g e = rw (g, bad-offset r e)
-
-  pub link-seen : (p o q r : ℕ) (s t : Port) → goodOffset o ≡ true → goodOffset r ≡ true → seenIn owners flags p ≡ s → seenIn owners flags q ≡ t
-      → bothSeen marks links owners flags p o q r s t ≡ linkNamed marks links owners flags p o q r
-  unfolding linkNamed
-  link-seen p o q r s t g h e f = rw (g, h, e, f)
-
-  pub link-first : (p o q r n : ℕ) (d : Direction) (t : Port) (l : NamedLink) → goodOffset o ≡ true → goodOffset r ≡ true → seenIn owners flags p ≡ visible n d → seenIn owners flags q ≡ t
-      → firstEnd marks links owners flags p o q r d ≡ bothSeen marks links owners flags p o q r (visible n d) t
-      → l ≡ firstEnd marks links owners flags p o q r d → l ≡ linkNamed marks links owners flags p o q r
-  link-first p o q r n d t l g h e f same k = k ∙ same ∙ link-seen p o q r (visible n d) t g h e f
+  pub link-seen : (p o q r : ℕ) (v : SeenPair) {u : SeenPair} → u ≡ subportPair owners flags p o q r → u ≡ v → {l : NamedLink} → l ≡ linkAsSeen p o q r v → l ≡ linkNamed marks links owners flags p o q r
+  unfolding linkNamed subportPair seenPair
+  link-seen p o q r v e f h = h ∙ (ap (linkAsSeen p o q r) (sym f ∙ e) ∙ go (goodOffset o) (goodOffset r) (seenIn owners flags p) (seenIn owners flags q))
+    where
+      go : (a b : Bool) (s t : Port) → linkAsSeen p o q r (cond a (cond b (pairOf p q s t) (both.Refused BadOffset)) (both.Refused BadOffset))
+          ≡ cond a (cond b (bothSeen marks links owners flags p o q r s t) (ends.Refused BadOffset)) (ends.Refused BadOffset)
+      go false b s t = refl
+      go true false s t = refl
+      go true true dead t = refl
+      go true true hidden t = refl
+      go true true (visible n d) hidden = refl
+      go true true (visible n d) dead = refl
+      go true true (visible n d) (visible k e) = refl
 
   -- What a link needs.
-  pub call-seen : (a b : ℕ) (s t : Port) → seenIn owners flags a ≡ s → seenIn owners flags b ≡ t → linkSeen marks links owners flags a b s t ≡ linkNeed marks links owners flags a b
-  unfolding linkNeed
-  call-seen a b s t e f = rw (e, f)
+  abbrev pub needAsSeen : ℕ → ℕ → SeenPair → LinkNeed
+  needAsSeen a b (both.Refused x) = needs.Refused x
+  needAsSeen a b (both.First d) = firstNeed marks links owners a d b
+  needAsSeen a b (both.Both d e) = bothNeed marks links owners a d b e
+
+  pub call-seen : (a b : ℕ) (v : SeenPair) {u : SeenPair} → u ≡ seenPair owners flags a b → u ≡ v → {l : LinkNeed} → l ≡ needAsSeen a b v → l ≡ linkNeed marks links owners flags a b
+  unfolding linkNeed seenPair
+  call-seen a b v e f h = h ∙ (ap (needAsSeen a b) (sym f ∙ e) ∙ go (seenIn owners flags a) (seenIn owners flags b))
+    where
+      go : (s t : Port) → needAsSeen a b (pairOf a b s t) ≡ linkSeen marks links owners flags a b s t
+      go dead t = refl
+      go hidden t = refl
+      go (visible n d) hidden = refl
+      go (visible n d) dead = refl
+      go (visible n d) (visible k e) = refl
 
 -- Two ports, before an end is prepared.
 module _ (owners : List ℕ) (flags : List Bool) (a b : ℕ) where
-  pub pair-seen : (s t : Port) → seenIn owners flags a ≡ s → seenIn owners flags b ≡ t → pairSeen a b s t ≡ pairNamed owners flags a b
-  unfolding pairNamed
-  pair-seen s t e f = rw (e, f)
+  pub both-seen : (s t : Port) → seenIn owners flags a ≡ s → seenIn owners flags b ≡ t → pairOf a b s t ≡ seenPair owners flags a b
+  unfolding seenPair
+  both-seen s t e f = rw (e, f)
 
-  pub pair-sides : (n k : ℕ) (d e : Direction) {c v : Bool} → seenIn owners flags a ≡ visible n d → seenIn owners flags b ≡ visible k e → c ≡ sameSide d e → c ≡ v →
+  abbrev pub pairAsSeen : SeenPair → NamedPair
+  pairAsSeen (both.Refused x) = pair.Refused x
+  pairAsSeen (both.First d) = pair.Refused (UnknownSecondPort (port# b))
+  pairAsSeen (both.Both d e) = cond (sameSide d e) (pair.Refused (IncompatibleDirections (port# a) (port# b) d)) pair.Opposite
+
+  pub pair-seen : (v : SeenPair) {u : SeenPair} → u ≡ seenPair owners flags a b → u ≡ v → {l : NamedPair} → l ≡ pairAsSeen v → l ≡ pairNamed owners flags a b
+  unfolding pairNamed seenPair
+  pair-seen v e f h = h ∙ (ap pairAsSeen (sym f ∙ e) ∙ go (seenIn owners flags a) (seenIn owners flags b))
+    where
+      go : (s t : Port) → pairAsSeen (pairOf a b s t) ≡ pairSeen a b s t
+      go dead t = refl
+      go hidden t = refl
+      go (visible n d) hidden = refl
+      go (visible n d) dead = refl
+      go (visible n d) (visible k e) = refl
+
+  pub pair-sides : (d e : Direction) {c v : Bool} {u : SeenPair} → u ≡ seenPair owners flags a b → u ≡ both.Both d e → c ≡ sameSide d e → c ≡ v →
       cond v (pair.Refused (IncompatibleDirections (port# a) (port# b) d)) pair.Opposite ≡ pairNamed owners flags a b
-  pair-sides n k d e f g h i =
-      ap (λ (u : Bool). cond u (pair.Refused (IncompatibleDirections (port# a) (port# b) d)) pair.Opposite) (sym i ∙ h)
-      ∙ pair-seen (visible n d) (visible k e) f g
+  pair-sides d e f g h i = pair-seen (both.Both d e) f g (ap (λ (u : Bool). cond u (pair.Refused (IncompatibleDirections (port# a) (port# b) d)) pair.Opposite) (sym i ∙ h))
+
+-- And the ports of two subports.
+module _ (owners : List ℕ) (flags : List Bool) (p o q r : ℕ) where
+  pub both-bad : o ≡ 65535 → both.Refused BadOffset ≡ subportPair owners flags p o q r
+  unfolding subportPair
+  both-bad e = rw (bad-offset o e)
+
+  module _ (g : goodOffset o ≡ true) where
+    pub both-bad-second : r ≡ 65535 → both.Refused BadOffset ≡ subportPair owners flags p o q r
+    unfolding subportPair
+    both-bad-second e = rw (g, bad-offset r e)
+
+    pub both-good : goodOffset r ≡ true → {l : SeenPair} → l ≡ seenPair owners flags p q → l ≡ subportPair owners flags p o q r
+    unfolding subportPair
+    both-good h e = e ∙ rw (g, h)
 
 -- A range of slots.
 pub fits-inside : (f n : ℕ) (b : Bool) → f ≤ portSlots → b ≡ leb n (portSlots - f) → b ≡ leb (f + n) portSlots

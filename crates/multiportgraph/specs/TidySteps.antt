@@ -15,7 +15,7 @@ use Rattle.portgraph.specs.Calls.{linkPorts}
 use Rattle.portgraph.specs.Resize.{setNumPorts}
 use Rattle.portgraph.specs.Model as model
 use Rattle.portgraph.specs.Model.{Model, Wf, Far, nowhere, to, Slots, Valid, slotOf, countOf, firstOf, sideStart}
-use Rattle.portgraph.specs.GoodSlots.{slot-in-range}
+use Rattle.portgraph.specs.GoodSlots.{slot-in-range, zero-is-not-one}
 use Rattle.portgraph.specs.PlaceLaws.{link-none, link-to}
 use Rattle.portgraph.specs.declared.direction.Direction.{Direction}
 use Rattle.portgraph.specs.declared.direction.Direction.the-variants.{Incoming, Outgoing}
@@ -23,7 +23,7 @@ use Rattle.portgraph.specs.declared.portgraph.PortGraph.{PortGraph}
 use Rattle.portgraph.specs.declared.portgraph.PortsLinked.{PortsLinked}
 use Rattle.portgraph.specs.declared.resize.PortsSet.{PortsSet}
 use Rattle.multiportgraph.specs.Reading.{farPort, hasLink, portOf, isSplit, copyNode, subports, subportAt, Port, dead, hidden, visible, seen}
-use Rattle.multiportgraph.specs.WellFormed.{inner#, Fine, Seen, MultiWf}
+use Rattle.multiportgraph.specs.WellFormed.{inner#, Fine, Seen}
 use Rattle.multiportgraph.specs.Ends.{BlockPort, Hangs, block-seen, split-has-copy, port-of, linked-is, unlinked-is, far-of}
 use Rattle.multiportgraph.specs.Graph.{multi, withGraph, withSubports}
 use Rattle.multiportgraph.specs.CodeForms.{putFlag, linkedFrom}
@@ -34,10 +34,14 @@ use Rattle.multiportgraph.specs.HiddenNodes.{enough, recounted, unsplit}
 use Rattle.multiportgraph.specs.Tidy.{linkedUpTo, subportsLeft, leftIncoming, leftOutgoing, resizedWithin, dropSubports, linkDirectly, tidied}
 use Rattle.multiportgraph.specs.TidyLaws.{LastLinked, last-linked, empty-above, within-is, drop-within, drop-marks, went, bare-is, unchanged}
 use Rattle.multiportgraph.specs.Calls.{tidyPort}
-use Rattle.multiportgraph.specs.Cases.{tidySeen}
+use Rattle.multiportgraph.specs.Lookups.{directionSeen, directionOf}
+use Rattle.multiportgraph.specs.Cases.{tidyRefused, tidySeen}
 use Rattle.multiportgraph.specs.CaseLaws.{tidy-cases}
-use Rattle.multiportgraph.specs.Presumed.{SplitPort, LeftPort}
+use Rattle.multiportgraph.specs.Presumed.{OnBlock, SplitPort, LeftPort}
 use Rattle.multiportgraph.specs.declared.multiportgraph.MultiPortGraph.{MultiPortGraph}
+use Rattle.multiportgraph.specs.declared.multiportgraph.Refusal.{Refusal}
+use Rattle.multiportgraph.specs.declared.multiportgraph.Refusal.the-variants.{UnknownPort, HiddenPort}
+use Rattle.multiportgraph.specs.declared.lookups.DirectionAnswer.the-variants as direction-of
 use Rattle.multiportgraph.specs.declared.multiportgraph.TidyAnswer.the-variants as tidying
 use Rattle.multiportgraph.specs.declared.multiportgraph.PortTidied.{PortTidied}
 
@@ -275,31 +279,34 @@ all-left {m} {p} {d} b left e all =
     let own : k .copy ≡ copyNode m p = sym (k .copyIs) ∙ ap (copyNode m) (y .slot) in
     sym (unchanged (f b) (y .place) k) ∙ (λ i. dropSubports m (own i) (y .side i) (is i))
 
+-- A split port, by how many of its subports are left.
+module _ {m : MultiPortGraph} {p : ℕ} {d : Direction} (b : SplitPort m p d) {left : ℕ} (l : left ≡ subportsLeft m p d) where
+  pub left-direct : {r : MultiPortGraph} → left < 2 → r ≡ linkDirectly m p d → r ≡ tidied m p d
+  unfolding tidied
+  left-direct few k = k ∙ sym (ap (λ (c : Bool). cond c (dropSubports m (copyNode m p) d (subportsLeft m p d)) (linkDirectly m p d)) (le-ltb 1 (subportsLeft m p d) (omega arith)))
+
+  pub left-drop : {r : MultiPortGraph} → 2 ≤ left → r ≡ dropSubports m (copyNode m p) d left → r ≡ tidied m p d
+  unfolding tidied
+  left-drop more k =
+      k ∙ (ap (dropSubports m (copyNode m p) d) l ∙ sym (ap (λ (c : Bool). cond c (dropSubports m (copyNode m p) d (subportsLeft m p d)) (linkDirectly m p d)) (lt-ltb 1 (subportsLeft m p d) (omega arith))))
+
+  -- all subports are left: nothing changes
+  pub left-all : {count : ℕ} → count ≡ subports m p d → 2 ≤ left → count ≤ left → m ≡ tidied m p d
+  left-all c more all = left-drop more (all-left b left l (subst (λ (n : ℕ). n ≤ left) c all))
+
 -- The call.
-module _ (m : MultiPortGraph) (w : MultiWf m) (p : ℕ) where
-  pub tidy-seen : (s : Port) → seen m p ≡ s → tidySeen m p s ≡ tidyPort m p
+module _ (m : MultiPortGraph) (p : ℕ) where
+  tidy-seen : (s : Port) → seen m p ≡ s → tidySeen m p s ≡ tidyPort m p
   tidy-seen s e = ap (tidySeen m p) (sym e) ∙ sym (tidy-cases m p)
 
-  module _ (n : ℕ) (d : Direction) (e : seen m p ≡ visible n d) where
-    pub tidy-whole : isSplit m p ≡ false → _≡_ {A = PortTidied} (record { graph = m; answer = tidying.Tidied }) (tidyPort m p)
-    tidy-whole s =
-        ap (λ (u : MultiPortGraph). record { graph = u; answer = tidying.Tidied }) (sym (ap (λ (b : Bool). cond b (tidied m p d) m) s)) ∙ tidy-seen (visible n d) e
+  pub tidy-done : {r : MultiPortGraph} {d : Direction} → OnBlock m p d → r ≡ cond (isSplit m p) (tidied m p d) m → _≡_ {A = PortTidied} (record { graph = r; answer = tidying.Tidied }) (tidyPort m p)
+  tidy-done {d = d} b k = ap (λ (u : MultiPortGraph). record { graph = u; answer = tidying.Tidied }) k ∙ tidy-seen (visible (b .node) d) (b .is)
 
-    module _ (s : isSplit m p ≡ true) {left : ℕ} (l : left ≡ subportsLeft m p d) where
-      tidy-by : {r : MultiPortGraph} → r ≡ tidied m p d → _≡_ {A = PortTidied} (record { graph = r; answer = tidying.Tidied }) (tidyPort m p)
-      tidy-by k = ap (λ (u : MultiPortGraph). record { graph = u; answer = tidying.Tidied }) (k ∙ sym (ap (λ (b : Bool). cond b (tidied m p d) m) s)) ∙ tidy-seen (visible n d) e
-
-      pub tidy-direct : {r : MultiPortGraph} → left < 2 → r ≡ linkDirectly m p d → _≡_ {A = PortTidied} (record { graph = r; answer = tidying.Tidied }) (tidyPort m p)
-      unfolding tidied
-      tidy-direct few k = tidy-by (k ∙ sym (ap (λ (b : Bool). cond b (dropSubports m (copyNode m p) d (subportsLeft m p d)) (linkDirectly m p d)) (le-ltb 1 (subportsLeft m p d) (omega arith))))
-
-      pub tidy-drop : {r : MultiPortGraph} → 2 ≤ left → r ≡ dropSubports m (copyNode m p) d left → _≡_ {A = PortTidied} (record { graph = r; answer = tidying.Tidied }) (tidyPort m p)
-      unfolding tidied
-      tidy-drop more k =
-          tidy-by (k ∙ (ap (dropSubports m (copyNode m p) d) l ∙ sym (ap (λ (b : Bool). cond b (dropSubports m (copyNode m p) d (subportsLeft m p d)) (linkDirectly m p d)) (lt-ltb 1 (subportsLeft m p d) (omega arith)))))
-
-      -- all subports are left: nothing changes
-      pub tidy-none : 2 ≤ left → subports m p d ≤ left → _≡_ {A = PortTidied} (record { graph = m; answer = tidying.Tidied }) (tidyPort m p)
-      tidy-none more all =
-          let b : SplitPort m p d = record { block = record { wf = w; node = n; is = e }; split = s } in
-          tidy-drop more (all-left b left l all)
+  pub tidy-refused : {a : Refusal} → directionOf m p ≡ direction-of.Refused a → tidyRefused m a ≡ tidyPort m p
+  unfolding directionOf
+  tidy-refused {a} e = go (seen m p) refl e
+    where
+      go : (s : Port) → seen m p ≡ s → directionSeen p s ≡ direction-of.Refused a → tidyRefused m a ≡ tidyPort m p
+      go dead t e = let q : UnknownPort (port# p) ≡ a = cc in ap (tidyRefused m) (sym q) ∙ tidy-seen dead t
+      go hidden t e = let q : HiddenPort (port# p) ≡ a = cc in ap (tidyRefused m) (sym q) ∙ tidy-seen hidden t
+      go (visible n d) t e = absurd (zero-is-not-one (cc))

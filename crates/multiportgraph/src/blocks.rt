@@ -1,6 +1,6 @@
 // Removing blocks, and changing their counts.
 use crate::ends::port_of;
-use crate::marks::flagged;
+use crate::lookups::BlockFound;
 use crate::marks::marked;
 use crate::multiportgraph::MultiPortGraph;
 use crate::multiportgraph::NodeRemoved;
@@ -10,23 +10,54 @@ use crate::multiportgraph::RemoveAnswer;
 use crate::multiportgraph::SetAnswer;
 use portgraph::index::NODE_PORTS;
 use portgraph::index::NodeIndex;
-use portgraph::node_entry::MaybeNodeMeta;
 use portgraph::node_entry::NodeMeta;
 use portgraph::numbers::smaller;
 use portgraph::numbers::wide;
 use portgraph::numbers::wide16;
+use portgraph::portgraph::PortGraph;
 use portgraph::resize::SetAnswer as LowerSet;
 ghost use mathlib.Core.Path.{_≡_};
+ghost use mathlib.Core.Bool.{cond};
+ghost use lib.Dec.{leb};
 ghost use Prim.Native.Nat.{_+_, _≤_};
 ghost use lib.ListN.{length, take};
 ghost use lib.Seq.{sets};
 ghost use Rattle.portgraph.specs.Limits.{portSlots, nodePorts};
 ghost use Rattle.portgraph.specs.Model.{Wf};
 ghost use Rattle.portgraph.specs.Resize.{BlockFits};
-ghost use Rattle.multiportgraph.specs.Calls.{removeBlock, setCounts, movesTold};
+ghost use Rattle.multiportgraph.specs.Calls.{dropBlock, removeBlock, setAs, setCounts, movesTold};
+ghost use Rattle.multiportgraph.specs.CodeForms.{blockFound};
+ghost use Rattle.multiportgraph.specs.declared.lookups.BlockFound.the-variants.{Block, Refused};
+ghost use Rattle.multiportgraph.specs.declared.multiportgraph.Refusal.the-variants.{TooManyPorts};
 ghost use Rattle.multiportgraph.specs.WellFormed.{MultiWf};
-ghost use Rattle.multiportgraph.specs.HiddenNodes.{unsplitRange, copiesIn, copiesDropped, removeLone, removeAll};
+ghost use Rattle.multiportgraph.specs.HiddenNodes.{unsplitRange, copiesIn, copiesDropped, recounted, removeLone, removeAll};
 ghost use Rattle.multiportgraph.specs.Answers.{removeNumbers, setNumbers};
+
+// A block that is to have so many ports, or why that is refused.
+fn within(found: BlockFound, incoming: usize, outgoing: usize) -> BlockFound
+    ensures { λ r. ⌜ r ≡ cond (leb (incoming + outgoing) nodePorts) found (Refused TooManyPorts) ⌝ }
+{
+    if NODE_PORTS < incoming {
+        return BlockFound::Refused(Refusal::TooManyPorts);
+    }
+    if NODE_PORTS - incoming < outgoing {
+        return BlockFound::Refused(Refusal::TooManyPorts);
+    }
+    found
+}
+
+// What a change of counts answers, where the single-link graph answers this.
+fn set_answer(lower: LowerSet) -> SetAnswer
+    ensures { λ r. ⌜ r ≡ setAs lower ⌝ }
+{
+    match lower {
+        LowerSet::Set(events) => SetAnswer::Set(events),
+        LowerSet::TooManyPorts => SetAnswer::Refused(Refusal::TooManyPorts),
+        LowerSet::UnknownNode => SetAnswer::Refused(Refusal::UnknownNode),
+        LowerSet::MovesTooShort => SetAnswer::Refused(Refusal::MovesTooShort),
+        LowerSet::NoRoom => SetAnswer::Refused(Refusal::NoRoom),
+    }
+}
 
 impl MultiPortGraph {
     // `count` ports from `first` on lose their hidden nodes, the first one first.
@@ -51,28 +82,32 @@ impl MultiPortGraph {
         requires { ⌜ MultiWf self ⌝ }
         ensures { λ r. ⌜ (r ≡ removeBlock self (node .0)) × (removeNumbers (r .answer) ≡ removeNumbers (removeBlock self (node .0) .answer)) ⌝ }
     {
-        let graph = self.graph;
-        let MaybeNodeMeta::Some(meta) = graph.node_meta_valid(node) else {
-            return NodeRemoved {
-                graph: self,
-                answer: RemoveAnswer::Refused(Refusal::UnknownNode),
-            };
-        };
-        if flagged(&self.copy_node, wide(node.0)) {
-            return NodeRemoved {
-                graph: self,
-                answer: RemoveAnswer::Refused(Refusal::HiddenNode),
-            };
+        match self.block(node) {
+            BlockFound::Block(meta) => {
+                return NodeRemoved {
+                    graph: self.without_block(node, meta),
+                    answer: RemoveAnswer::Removed,
+                };
+            }
+            BlockFound::Refused(refusal) => {
+                return NodeRemoved {
+                    graph: self,
+                    answer: RemoveAnswer::Refused(refusal),
+                };
+            }
         }
+    }
+
+    // The graph without a block: the hidden nodes of its ports go, then the block.
+    fn without_block(self, node: NodeIndex, meta: NodeMeta) -> MultiPortGraph
+        requires { ⌜ Wf (self .graph) × BlockFits meta ⌝ }
+        ensures { λ r. ⌜ r ≡ dropBlock self (node .0) meta ⌝ }
+    {
         let mut bare = self.unsplit_range(meta.first_port.0, meta.port_count());
-        let inner = bare.graph;
-        let removed = inner.remove_node(node);
+        let removed = bare.graph.remove_node(node);
         let after = removed.graph;
         bare.graph = after;
-        NodeRemoved {
-            graph: bare,
-            answer: RemoveAnswer::Removed,
-        }
+        bare
     }
 
     // Lists the hidden nodes of `count` ports from `first` on, in order, from place `at` on; answers the place after the last.
@@ -132,61 +167,63 @@ impl MultiPortGraph {
             × (now (moves .exit) ≡ movesTold self (node .0) incoming outgoing (now (moves .entry)))
             × (setNumbers (r .answer) ≡ setNumbers (setCounts self (node .0) incoming outgoing (length (now (moves .entry))) .answer)) ⌝ }
     {
-        if NODE_PORTS < incoming {
-            return PortsSet {
-                graph: self,
-                answer: SetAnswer::Refused(Refusal::TooManyPorts),
-            };
+        match within(self.block(node), incoming, outgoing) {
+            BlockFound::Block(meta) => {
+                return self.resize(node, meta, incoming, outgoing, moves);
+            }
+            BlockFound::Refused(refusal) => {
+                return PortsSet {
+                    graph: self,
+                    answer: SetAnswer::Refused(refusal),
+                };
+            }
         }
-        if NODE_PORTS - incoming < outgoing {
+    }
+
+    // Changes the number of ports of a block that is there, to counts within the limit.
+    fn resize(
+        self,
+        node: NodeIndex,
+        meta: NodeMeta,
+        incoming: usize,
+        outgoing: usize,
+        moves: &mut [u32],
+    ) -> PortsSet
+        requires { ⌜ MultiWf self × (incoming + outgoing ≤ nodePorts) × (Block meta ≡ blockFound self (node .0)) ⌝ }
+        ensures { λ r. ⌜ (r ≡ setCounts self (node .0) incoming outgoing (length (now (moves .entry))))
+            × (now (moves .exit) ≡ movesTold self (node .0) incoming outgoing (now (moves .entry))) ⌝ }
+    {
+        let sized = self.graph.set_num_ports(node, incoming, outgoing, moves);
+        let lower = sized.answer;
+        let answer = set_answer(lower);
+        let SetAnswer::Set(_) = answer else {
             return PortsSet {
                 graph: self,
-                answer: SetAnswer::Refused(Refusal::TooManyPorts),
-            };
-        }
-        let graph = self.graph;
-        let MaybeNodeMeta::Some(meta) = graph.node_meta_valid(node) else {
-            return PortsSet {
-                graph: self,
-                answer: SetAnswer::Refused(Refusal::UnknownNode),
+                answer: answer,
             };
         };
-        if flagged(&self.copy_node, wide(node.0)) {
-            return PortsSet {
-                graph: self,
-                answer: SetAnswer::Refused(Refusal::HiddenNode),
-            };
+        PortsSet {
+            graph: self.without_dropped(node, meta, incoming, outgoing, sized.graph),
+            answer: answer,
         }
+    }
+
+    // The graph over the lower graph in which a block has its new counts: the hidden nodes of the ports that are dropped go.
+    fn without_dropped(
+        self,
+        node: NodeIndex,
+        meta: NodeMeta,
+        incoming: usize,
+        outgoing: usize,
+        after: PortGraph,
+    ) -> MultiPortGraph
+        requires { ⌜ Wf (self .graph) × Wf after × BlockFits meta ⌝ }
+        ensures { λ r. ⌜ r ≡ removeAll (recounted self (node .0) after) (copiesDropped self meta incoming outgoing) ⌝ }
+    {
         let mut list = [0u32; NODE_PORTS];
         let count = self.copies_dropped(&mut list, meta, incoming, outgoing);
-        let sized = graph.set_num_ports(node, incoming, outgoing, moves);
-        let answer = sized.answer;
-        match answer {
-            LowerSet::Set(events) => {
-                let after = sized.graph;
-                let loose = self.recounted(node.0, after);
-                PortsSet {
-                    graph: loose.remove_all(&list, count),
-                    answer: SetAnswer::Set(events),
-                }
-            }
-            LowerSet::TooManyPorts => PortsSet {
-                graph: self,
-                answer: SetAnswer::Refused(Refusal::TooManyPorts),
-            },
-            LowerSet::UnknownNode => PortsSet {
-                graph: self,
-                answer: SetAnswer::Refused(Refusal::UnknownNode),
-            },
-            LowerSet::MovesTooShort => PortsSet {
-                graph: self,
-                answer: SetAnswer::Refused(Refusal::MovesTooShort),
-            },
-            LowerSet::NoRoom => PortsSet {
-                graph: self,
-                answer: SetAnswer::Refused(Refusal::NoRoom),
-            },
-        }
+        let loose = self.recounted(node.0, after);
+        loose.remove_all(&list, count)
     }
 
     // Lists the hidden nodes of the ports that are dropped, in the order in which these are reported, and answers how many.

@@ -1,12 +1,10 @@
 // Adding blocks, linking and cutting, and what a subport is linked with.
-use crate::ends::SeenPort;
-use crate::inputs::input_taken;
-use crate::inputs::taken_subports;
+use crate::inputs::link_named_under;
+use crate::lookups::DirectionAnswer;
 use crate::marks::marked;
 use crate::multiportgraph::AddAnswer;
 use crate::multiportgraph::CutAnswer;
 use crate::multiportgraph::EndAnswer;
-use crate::multiportgraph::LinkAnswer;
 use crate::multiportgraph::MultiPortGraph;
 use crate::multiportgraph::NodeAdded;
 use crate::multiportgraph::PortUnlinked;
@@ -16,12 +14,11 @@ use crate::multiportgraph::SubportIndex;
 use crate::named::NamedEnd;
 use crate::named::NamedLink;
 use crate::named::end_named;
-use crate::named::link_named;
 use crate::named::read_in;
 use crate::reads::place_in;
 use crate::reads::plain_in;
-use crate::reads::seen_in;
 use crate::reads::wire_in;
+use portgraph::direction::Direction;
 use portgraph::index::NODE_SLOTS;
 use portgraph::index::PORT_SLOTS;
 use portgraph::index::PortIndex;
@@ -32,10 +29,25 @@ use portgraph::release::Release;
 use portgraph::slots::AddAnswer as LowerAdd;
 ghost use mathlib.Core.Path.{_≡_};
 ghost use Prim.Native.Nat.{_-_};
-ghost use Rattle.multiportgraph.specs.Calls.{addBlock, linkSub, cutPort, cutSub, subportLink, visibleNodes, visiblePorts, visibleLinks};
+ghost use Rattle.multiportgraph.specs.Calls.{addedAs, addBlock, linkSub, cutPort, cutSub, subportLink, visibleNodes, visiblePorts, visibleLinks};
 ghost use Rattle.multiportgraph.specs.WellFormed.{MultiWf};
-ghost use Rattle.multiportgraph.specs.Graph.{emptyGraph};
+ghost use Rattle.portgraph.specs.Calls.{unlinkPort};
+ghost use Rattle.multiportgraph.specs.Graph.{emptyGraph, withGraph};
+ghost use Rattle.multiportgraph.specs.Presumed.{OnBlock};
+ghost use Rattle.multiportgraph.specs.Reading.{isSplit, seen, sideOf};
+ghost use Rattle.multiportgraph.specs.Named.{endNamed};
 ghost use Rattle.multiportgraph.specs.Answers.{addNumbers, linkNumbers, cutNumbers, unplaced, unplacedNumbers};
+
+// What the lower graph answers to an added node, as this graph answers it.
+fn added_as(answer: LowerAdd) -> AddAnswer
+    ensures { λ r. ⌜ r ≡ addedAs answer ⌝ }
+{
+    match answer {
+        LowerAdd::Added(node, first) => AddAnswer::Added(node, first),
+        LowerAdd::TooManyPorts => AddAnswer::Refused(Refusal::TooManyPorts),
+        LowerAdd::NoRoom => AddAnswer::Refused(Refusal::NoRoom),
+    }
+}
 
 impl CutAnswer {
     // The same without the place.
@@ -78,24 +90,13 @@ impl MultiPortGraph {
         requires { ⌜ MultiWf self ⌝ }
         ensures { λ r. ⌜ (r ≡ addBlock self incoming outgoing) × (addNumbers (r .answer) ≡ addNumbers (addBlock self incoming outgoing .answer)) ⌝ }
     {
-        let graph = self.graph;
-        let added = graph.add_node(incoming, outgoing);
+        let added = self.graph.add_node(incoming, outgoing);
         let answer = added.answer;
         let after = added.graph;
         self.graph = after;
-        match answer {
-            LowerAdd::Added(node, first) => NodeAdded {
-                graph: self,
-                answer: AddAnswer::Added(node, first),
-            },
-            LowerAdd::TooManyPorts => NodeAdded {
-                graph: self,
-                answer: AddAnswer::Refused(Refusal::TooManyPorts),
-            },
-            LowerAdd::NoRoom => NodeAdded {
-                graph: self,
-                answer: AddAnswer::Refused(Refusal::NoRoom),
-            },
+        NodeAdded {
+            graph: self,
+            answer: added_as(answer),
         }
     }
 
@@ -126,18 +127,25 @@ impl MultiPortGraph {
         less(graph.link_count(), self.copy_node_count)
     }
 
-    // What a subport is linked with, and where that stands.
-    pub fn subport_link(self, subport: SubportIndex) -> CutAnswer
-        requires { ⌜ MultiWf self ⌝ }
-        ensures { λ r. ⌜ (r ≡ subportLink self (subport .port .0) (subport .«subport_offset»)) × (cutNumbers r ≡ cutNumbers (subportLink self (subport .port .0) (subport .«subport_offset»))) ⌝ }
+    // The end that a subport means.
+    fn end_of(self, subport: SubportIndex) -> NamedEnd
+        ensures { λ r. ⌜ r ≡ endNamed (self .multiport) (self .graph .«port_link») (self .graph .«port_meta») (self .«copy_node») (subport .port .0) (subport .«subport_offset») ⌝ }
     {
-        match end_named(
+        end_named(
             &self.multiport,
             &self.graph.port_link,
             &self.graph.port_meta,
             &self.copy_node,
             subport,
-        ) {
+        )
+    }
+
+    // What a subport is linked with, and where that stands.
+    pub fn subport_link(self, subport: SubportIndex) -> CutAnswer
+        requires { ⌜ MultiWf self ⌝ }
+        ensures { λ r. ⌜ (r ≡ subportLink self (subport .port .0) (subport .«subport_offset»)) × (cutNumbers r ≡ cutNumbers (subportLink self (subport .port .0) (subport .«subport_offset»))) ⌝ }
+    {
+        match self.end_of(subport) {
             NamedEnd::At(inner) => {
                 wire_in(
                     &self.graph.port_link,
@@ -150,144 +158,125 @@ impl MultiPortGraph {
         }
     }
 
+    // The graph with the link of an inner port cut.
+    fn without_wire(mut self, inner: PortIndex) -> MultiPortGraph
+        ensures { λ r. ⌜ r ≡ withGraph self (unlinkPort (self .graph) (inner .0) .graph) ⌝ }
+    {
+        let unlinked = self.graph.unlink_port(inner);
+        let after = unlinked.graph;
+        self.graph = after;
+        self
+    }
+
     // Cuts the wire at a subport, if there is one, and answers the far end, and where it stood.
-    pub fn unlink_subport(mut self, subport: SubportIndex) -> PortUnlinked
+    pub fn unlink_subport(self, subport: SubportIndex) -> PortUnlinked
         requires { ⌜ MultiWf self ⌝ }
         ensures { λ r. ⌜ (r ≡ cutSub self (subport .port .0) (subport .«subport_offset»)) × (cutNumbers (r .answer) ≡ cutNumbers (cutSub self (subport .port .0) (subport .«subport_offset») .answer)) ⌝ }
     {
-        match end_named(
-            &self.multiport,
-            &self.graph.port_link,
-            &self.graph.port_meta,
-            &self.copy_node,
-            subport,
-        ) {
-            NamedEnd::At(inner) => {
-                let answer = wire_in(
-                    &self.graph.port_link,
-                    &self.graph.port_meta,
-                    &self.copy_node,
-                    inner,
-                );
-                let graph = self.graph;
-                let unlinked = graph.unlink_port(PortIndex(inner));
-                let after = unlinked.graph;
-                self.graph = after;
-                PortUnlinked {
-                    graph: self,
-                    answer: answer,
-                }
-            }
-            NamedEnd::Refused(refusal) => PortUnlinked {
-                graph: self,
-                answer: CutAnswer::Refused(refusal),
-            },
+        PortUnlinked {
+            graph: self.without_end(subport),
+            answer: self.subport_link(subport),
         }
+    }
+
+    // The graph with the wire at a subport cut, if there is one.
+    fn without_end(self, subport: SubportIndex) -> MultiPortGraph
+        requires { ⌜ MultiWf self ⌝ }
+        ensures { λ r. ⌜ r ≡ cutSub self (subport .port .0) (subport .«subport_offset») .graph ⌝ }
+    {
+        let NamedEnd::At(inner) = self.end_of(subport) else {
+            return self;
+        };
+        self.without_wire(PortIndex(inner))
     }
 
     // Cuts every wire at a port. A split port loses its hidden node and answers itself, with its own place; another one answers the
     // inner far port, with the place of its visible end.
-    pub fn unlink_port(mut self, port: PortIndex) -> PortUnlinked
+    pub fn unlink_port(self, port: PortIndex) -> PortUnlinked
         requires { ⌜ MultiWf self ⌝ }
         ensures { λ r. ⌜ (r ≡ cutPort self (port .0)) × (cutNumbers (r .answer) ≡ cutNumbers (cutPort self (port .0) .answer)) ⌝ }
     {
-        match seen_in(&self.graph.port_meta, &self.copy_node, port.0) {
-            SeenPort::Dead => PortUnlinked {
-                graph: self,
-                answer: CutAnswer::Refused(Refusal::UnknownPort(port)),
-            },
-            SeenPort::Hidden => PortUnlinked {
-                graph: self,
-                answer: CutAnswer::Refused(Refusal::HiddenPort(port)),
-            },
-            SeenPort::Visible(_, direction) => {
-                if marked(&self.multiport, wide(port.0)) {
-                    let place = place_in(&self.graph.port_meta, port.0);
-                    let after = self.drop_copy(port.0, direction);
-                    return PortUnlinked {
-                        graph: after,
-                        answer: CutAnswer::Found(
-                            SubportIndex {
-                                port: port,
-                                subport_offset: 0,
-                            },
-                            place,
-                        ),
-                    };
-                }
-                let answer = plain_in(
-                    &self.graph.port_link,
-                    &self.graph.port_meta,
-                    &self.copy_node,
-                    port.0,
-                );
-                let graph = self.graph;
-                let unlinked = graph.unlink_port(port);
-                let after = unlinked.graph;
-                self.graph = after;
-                PortUnlinked {
+        match self.port_direction(port) {
+            DirectionAnswer::Found(direction) => {
+                return PortUnlinked {
+                    graph: self.without_wires(port, direction),
+                    answer: self.cut_answer(port),
+                };
+            }
+            DirectionAnswer::Refused(refusal) => {
+                return PortUnlinked {
                     graph: self,
-                    answer: answer,
-                }
+                    answer: CutAnswer::Refused(refusal),
+                };
             }
         }
     }
 
+    // Whether a port is split.
+    fn is_split(self, port: u32) -> bool
+        ensures { λ r. ⌜ r ≡ isSplit self port ⌝ }
+    {
+        marked(&self.multiport, wide(port))
+    }
+
+    // The graph without the wires at a port of a block.
+    fn without_wires(self, port: PortIndex, direction: Direction) -> MultiPortGraph
+        requires { ⌜ OnBlock self (port .0) direction ⌝ }
+        ensures { λ r. ⌜ r ≡ cutPort self (port .0) .graph ⌝ }
+    {
+        if self.is_split(port.0) {
+            return self.drop_copy(port.0, direction);
+        }
+        self.without_wire(port)
+    }
+
+    // What cutting the wires at a port of a block answers.
+    fn cut_answer(self, port: PortIndex) -> CutAnswer
+        requires { ⌜ OnBlock self (port .0) (sideOf (seen self (port .0))) ⌝ }
+        ensures { λ r. ⌜ r ≡ cutPort self (port .0) .answer ⌝ }
+    {
+        if self.is_split(port.0) {
+            let place = place_in(&self.graph.port_meta, port.0);
+            return CutAnswer::Found(
+                SubportIndex {
+                    port: port,
+                    subport_offset: 0,
+                },
+                place,
+            );
+        }
+        plain_in(
+            &self.graph.port_link,
+            &self.graph.port_meta,
+            &self.copy_node,
+            port.0,
+        )
+    }
+
     // Links two subports, and answers both ends as read.
-    pub fn link_subports(mut self, from: SubportIndex, to: SubportIndex) -> PortsLinked
+    pub fn link_subports(self, from: SubportIndex, to: SubportIndex) -> PortsLinked
         requires { ⌜ MultiWf self ⌝ }
         ensures { λ r. ⌜ (r ≡ linkSub self (from .port .0) (from .«subport_offset») (to .port .0) (to .«subport_offset»))
             × (linkNumbers (r .answer) ≡ linkNumbers (linkSub self (from .port .0) (from .«subport_offset») (to .port .0) (to .«subport_offset») .answer)) ⌝ }
     {
         let release = self.release;
-        let p = from.port;
-        let q = to.port;
-        if input_taken(
+        match link_named_under(
             &self.multiport,
             &self.graph.port_link,
             &self.graph.port_meta,
             &self.copy_node,
             release,
-            p.0,
-            q.0,
-        ) {
-            let refusal = taken_subports(
-                &self.multiport,
-                &self.graph.port_link,
-                &self.graph.port_meta,
-                &self.copy_node,
-                from,
-                to,
-            );
-            return PortsLinked {
-                graph: self,
-                answer: LinkAnswer::Refused(refusal),
-            };
-        }
-        match link_named(
-            &self.multiport,
-            &self.graph.port_link,
-            &self.graph.port_meta,
-            &self.copy_node,
             from,
             to,
         ) {
             NamedLink::Ends(x, y) => {
                 let first = read_in(&self.multiport, from);
                 let second = read_in(&self.multiport, to);
-                let graph = self.graph;
-                let linked = graph.link_ports(PortIndex(x), PortIndex(y));
-                let after = linked.graph;
-                self.graph = after;
-                PortsLinked {
-                    graph: self,
-                    answer: LinkAnswer::Linked(first, second),
-                }
+                return self.link_ends(x, y, first, second);
             }
-            NamedLink::Refused(refusal) => PortsLinked {
-                graph: self,
-                answer: LinkAnswer::Refused(refusal),
-            },
+            NamedLink::Refused(refusal) => {
+                return self.link_refused(refusal);
+            }
         }
     }
 }

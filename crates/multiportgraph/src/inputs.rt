@@ -4,6 +4,15 @@ use crate::ends::SeenPort;
 use crate::fan_out::wires_at;
 use crate::multiportgraph::Refusal;
 use crate::multiportgraph::SubportIndex;
+use crate::named::LinkNeed;
+use crate::named::NamedLink;
+use crate::named::NamedPair;
+use crate::named::SeenPair;
+use crate::named::link_named;
+use crate::named::link_need;
+use crate::named::pair_named;
+use crate::named::seen_pair;
+use crate::named::subport_pair;
 use crate::reads::end_in;
 use crate::reads::seen_in;
 use portgraph::direction::Direction;
@@ -12,7 +21,9 @@ use portgraph::index::PORT_SLOTS;
 use portgraph::index::PortIndex;
 use portgraph::release::Release;
 ghost use mathlib.Core.Path.{_≡_};
-ghost use Rattle.multiportgraph.specs.Inputs.{wiredIn, takenIn, takenSubIn, takenPortsIn};
+ghost use Rattle.multiportgraph.specs.TableReads.{endIn};
+ghost use Rattle.multiportgraph.specs.Cases.{takenSecond};
+ghost use Rattle.multiportgraph.specs.Inputs.{wiredIn, takenIn, takenSubIn, takenPortsIn, linkNeedUnder, pairNamedUnder, linkNamedUnder};
 
 // Whether a port is a live input of a block and has a wire.
 fn wired_input<'a>(
@@ -74,17 +85,35 @@ pub fn taken_ports<'a>(
 ) -> Refusal
     ensures { λ r. ⌜ r ≡ takenPortsIn (now (owners .entry)) (now (flags .entry)) (a .0) (b .0) ⌝ }
 {
-    match seen_in(owners, flags, a.0) {
-        SeenPort::Dead => Refusal::UnknownPort(a),
-        SeenPort::Hidden => Refusal::HiddenPort(a),
-        SeenPort::Visible(_, _) => {
-            match seen_in(owners, flags, b.0) {
-                SeenPort::Dead => Refusal::InputWired,
-                SeenPort::Hidden => Refusal::HiddenPort(b),
-                SeenPort::Visible(_, _) => Refusal::InputWired,
-            }
-        }
+    match seen_pair(owners, flags, a, b) {
+        SeenPair::Refused(refusal) => refusal,
+        SeenPair::First(_) => Refusal::InputWired,
+        SeenPair::Both(_, _) => Refusal::InputWired,
     }
+}
+
+// What it is refused with at the last end that is looked at.
+fn taken_end<'a>(
+    marks: &'a [bool; PORT_SLOTS],
+    links: &'a [u32; PORT_SLOTS],
+    owners: &'a [u32; PORT_SLOTS],
+    subport: SubportIndex,
+    direction: Direction,
+) -> Refusal
+    ensures { λ r. ⌜ r ≡ takenSecond (subport .port .0) (endIn (now (marks .entry)) (now (links .entry)) (now (owners .entry)) (subport .port .0) direction (subport .«subport_offset»)) ⌝ }
+{
+    let port = subport.port;
+    let EndFound::At(_) = end_in(
+        marks,
+        links,
+        owners,
+        port.0,
+        direction,
+        subport.subport_offset,
+    ) else {
+        return Refusal::UnknownOffset(port);
+    };
+    Refusal::InputWired
 }
 
 // And such a link of subports.
@@ -98,39 +127,75 @@ pub fn taken_subports<'a>(
 ) -> Refusal
     ensures { λ r. ⌜ r ≡ takenSubIn (now (marks .entry)) (now (links .entry)) (now (owners .entry)) (now (flags .entry)) (from .port .0) (from .«subport_offset») (to .port .0) (to .«subport_offset») ⌝ }
 {
-    let p = from.port;
-    let q = to.port;
-    if from.subport_offset == 65535 {
-        return Refusal::BadOffset;
-    }
-    if to.subport_offset == 65535 {
-        return Refusal::BadOffset;
-    }
-    match seen_in(owners, flags, p.0) {
-        SeenPort::Dead => Refusal::UnknownPort(p),
-        SeenPort::Hidden => Refusal::HiddenPort(p),
-        SeenPort::Visible(_, d) => {
-            match seen_in(owners, flags, q.0) {
-                SeenPort::Hidden => Refusal::HiddenPort(q),
-                SeenPort::Dead => {
-                    let EndFound::At(_) = end_in(marks, links, owners, p.0, d, from.subport_offset)
-                    else {
-                        return Refusal::UnknownOffset(p);
-                    };
-                    Refusal::InputWired
-                }
-                SeenPort::Visible(_, e) => {
-                    let EndFound::At(_) = end_in(marks, links, owners, p.0, d, from.subport_offset)
-                    else {
-                        return Refusal::UnknownOffset(p);
-                    };
-                    let EndFound::At(_) = end_in(marks, links, owners, q.0, e, to.subport_offset)
-                    else {
-                        return Refusal::UnknownOffset(q);
-                    };
-                    Refusal::InputWired
-                }
-            }
+    match subport_pair(owners, flags, from, to) {
+        SeenPair::Refused(refusal) => {
+            return refusal;
+        }
+        SeenPair::First(d) => {
+            return taken_end(marks, links, owners, from, d);
+        }
+        SeenPair::Both(d, e) => {
+            let p = from.port;
+            let EndFound::At(_) = end_in(marks, links, owners, p.0, d, from.subport_offset) else {
+                return Refusal::UnknownOffset(p);
+            };
+            return taken_end(marks, links, owners, to, e);
         }
     }
+}
+
+// What a link of two ports needs, or why it is refused, by release 2 too.
+pub(crate) fn link_need_under<'a>(
+    marks: &'a [bool; PORT_SLOTS],
+    links: &'a [u32; PORT_SLOTS],
+    owners: &'a [u32; PORT_SLOTS],
+    flags: &'a [bool; NODE_SLOTS],
+    release: Release,
+    a: PortIndex,
+    b: PortIndex,
+) -> LinkNeed
+    ensures { λ r. ⌜ r ≡ linkNeedUnder (now (marks .entry)) (now (links .entry)) (now (owners .entry)) (now (flags .entry)) release (a .0) (b .0) ⌝ }
+{
+    if input_taken(marks, links, owners, flags, release, a.0, b.0) {
+        return LinkNeed::Refused(taken_ports(owners, flags, a, b));
+    }
+    link_need(marks, links, owners, flags, a, b)
+}
+
+// Whether two ports can be linked, room apart, by release 2 too.
+pub(crate) fn pair_named_under<'a>(
+    marks: &'a [bool; PORT_SLOTS],
+    links: &'a [u32; PORT_SLOTS],
+    owners: &'a [u32; PORT_SLOTS],
+    flags: &'a [bool; NODE_SLOTS],
+    release: Release,
+    a: PortIndex,
+    b: PortIndex,
+) -> NamedPair
+    ensures { λ r. ⌜ r ≡ pairNamedUnder (now (marks .entry)) (now (links .entry)) (now (owners .entry)) (now (flags .entry)) release (a .0) (b .0) ⌝ }
+{
+    if input_taken(marks, links, owners, flags, release, a.0, b.0) {
+        return NamedPair::Refused(taken_ports(owners, flags, a, b));
+    }
+    pair_named(owners, flags, a, b)
+}
+
+// The ends of a link of two subports, or why it is refused, by release 2 too.
+pub(crate) fn link_named_under<'a>(
+    marks: &'a [bool; PORT_SLOTS],
+    links: &'a [u32; PORT_SLOTS],
+    owners: &'a [u32; PORT_SLOTS],
+    flags: &'a [bool; NODE_SLOTS],
+    release: Release,
+    from: SubportIndex,
+    to: SubportIndex,
+) -> NamedLink
+    ensures { λ r. ⌜ r ≡ linkNamedUnder (now (marks .entry)) (now (links .entry)) (now (owners .entry)) (now (flags .entry)) release (from .port .0) (from .«subport_offset») (to .port .0) (to .«subport_offset») ⌝ }
+{
+    let p = from.port;
+    let q = to.port;
+    if input_taken(marks, links, owners, flags, release, p.0, q.0) {
+        return NamedLink::Refused(taken_subports(marks, links, owners, flags, from, to));
+    }
+    link_named(marks, links, owners, flags, from, to)
 }

@@ -7,7 +7,7 @@ use portgraph::numbers::smaller;
 use portgraph::numbers::wide;
 use portgraph::numbers::wide16;
 ghost use mathlib.Core.Path.{_≡_};
-ghost use mathlib.Core.Bool.{false};
+ghost use mathlib.Core.Bool.{true, false, cond};
 ghost use Prim.Native.Nat.{_+_, _≤_};
 ghost use Rattle.portgraph.specs.Limits.{nodeSlots, portSlots};
 ghost use Rattle.portgraph.specs.Tables.{fill};
@@ -35,6 +35,20 @@ pub fn put_mark(marks: &mut [bool; PORT_SLOTS], port: usize, mark: bool)
     }
 }
 
+// Sets the marks of two ports, the first one first.
+pub(crate) fn put_marks(
+    marks: &mut [bool; PORT_SLOTS],
+    first: u32,
+    first_mark: bool,
+    second: u32,
+    second_mark: bool,
+)
+    ensures { λ _. ⌜ now (marks .exit) ≡ putFlag (putFlag (now (marks .entry)) portSlots first «first_mark») portSlots second «second_mark» ⌝ }
+{
+    put_mark(marks, wide(first), first_mark);
+    put_mark(marks, wide(second), second_mark);
+}
+
 // The hidden flag of a node; false outside the table.
 pub fn flagged(flags: &[bool; NODE_SLOTS], node: usize) -> bool
     ensures { λ r. ⌜ r ≡ flagAt (now (flags .entry)) nodeSlots node ⌝ }
@@ -44,6 +58,16 @@ pub fn flagged(flags: &[bool; NODE_SLOTS], node: usize) -> bool
     } else {
         false
     }
+}
+
+// Whether one of two nodes has its hidden flag.
+pub(crate) fn either_flagged(flags: &[bool; NODE_SLOTS], first: u32, second: u32) -> bool
+    ensures { λ r. ⌜ r ≡ cond (flagAt (now (flags .entry)) nodeSlots first) true (flagAt (now (flags .entry)) nodeSlots second) ⌝ }
+{
+    if flagged(flags, wide(first)) {
+        return true;
+    }
+    flagged(flags, wide(second))
 }
 
 // Sets the hidden flag of a node; outside the table nothing changes.

@@ -20,7 +20,7 @@ ghost use mathlib.Core.Path.{_≡_};
 ghost use Prim.Native.Nat.{_+_};
 ghost use lib.Dec.{leb};
 ghost use Rattle.portgraph.specs.Limits.{portSlots};
-ghost use Rattle.multiportgraph.specs.Named.{endNamed, freeEnds, secondEnd, firstEnd, linkNamed, readIn, reuseIn, endNeedIn, firstNeed, bothNeed, linkNeed, pairNamed};
+ghost use Rattle.multiportgraph.specs.Named.{seenPair, subportPair, endNamed, freeEnds, secondEnd, firstEnd, linkNamed, readIn, reuseIn, endNeedIn, firstNeed, bothNeed, linkNeed, pairNamed};
 
 // A subport that a call names.
 pub enum NamedEnd {
@@ -43,6 +43,15 @@ pub enum NamedPair {
     Refused(Refusal),
 }
 
+// How the two ports that a link names are seen.
+pub enum SeenPair {
+    Refused(Refusal),
+    // The first is of a block, on this side; the second is not live.
+    First(Direction),
+    // Both are of blocks, on these sides.
+    Both(Direction, Direction),
+}
+
 // What an end needs before it can take a link.
 pub enum EndNeed {
     // Nothing: the inner port and its offset.
@@ -62,6 +71,56 @@ pub enum LinkNeed {
     First(Direction),
     // One end or both, of these sides, have to be prepared.
     Both(Direction, Direction),
+}
+
+// How two ports are seen, or the refusal.
+pub(crate) fn seen_pair<'a>(
+    owners: &'a [u32; PORT_SLOTS],
+    flags: &'a [bool; NODE_SLOTS],
+    a: PortIndex,
+    b: PortIndex,
+) -> SeenPair
+    ensures { λ r. ⌜ r ≡ seenPair (now (owners .entry)) (now (flags .entry)) (a .0) (b .0) ⌝ }
+{
+    match seen_in(owners, flags, a.0) {
+        SeenPort::Dead => {
+            return SeenPair::Refused(Refusal::UnknownPort(a));
+        }
+        SeenPort::Hidden => {
+            return SeenPair::Refused(Refusal::HiddenPort(a));
+        }
+        SeenPort::Visible(_, d) => {
+            match seen_in(owners, flags, b.0) {
+                SeenPort::Hidden => {
+                    return SeenPair::Refused(Refusal::HiddenPort(b));
+                }
+                SeenPort::Dead => {
+                    return SeenPair::First(d);
+                }
+                SeenPort::Visible(_, e) => {
+                    return SeenPair::Both(d, e);
+                }
+            }
+        }
+    }
+}
+
+// The same of the ports of two subports, after their offsets.
+pub(crate) fn subport_pair<'a>(
+    owners: &'a [u32; PORT_SLOTS],
+    flags: &'a [bool; NODE_SLOTS],
+    from: SubportIndex,
+    to: SubportIndex,
+) -> SeenPair
+    ensures { λ r. ⌜ r ≡ subportPair (now (owners .entry)) (now (flags .entry)) (from .port .0) (from .«subport_offset») (to .port .0) (to .«subport_offset») ⌝ }
+{
+    if from.subport_offset == 65535 {
+        return SeenPair::Refused(Refusal::BadOffset);
+    }
+    if to.subport_offset == 65535 {
+        return SeenPair::Refused(Refusal::BadOffset);
+    }
+    seen_pair(owners, flags, from.port, to.port)
 }
 
 // The end that a subport means.
@@ -163,23 +222,15 @@ pub fn link_named<'a>(
 ) -> NamedLink
     ensures { λ r. ⌜ r ≡ linkNamed (now (marks .entry)) (now (links .entry)) (now (owners .entry)) (now (flags .entry)) (from .port .0) (from .«subport_offset») (to .port .0) (to .«subport_offset») ⌝ }
 {
-    let p = from.port;
-    let q = to.port;
-    if from.subport_offset == 65535 {
-        return NamedLink::Refused(Refusal::BadOffset);
-    }
-    if to.subport_offset == 65535 {
-        return NamedLink::Refused(Refusal::BadOffset);
-    }
-    match seen_in(owners, flags, p.0) {
-        SeenPort::Dead => NamedLink::Refused(Refusal::UnknownPort(p)),
-        SeenPort::Hidden => NamedLink::Refused(Refusal::HiddenPort(p)),
-        SeenPort::Visible(_, d) => {
-            match seen_in(owners, flags, q.0) {
-                SeenPort::Hidden => NamedLink::Refused(Refusal::HiddenPort(q)),
-                SeenPort::Dead => first_end(marks, links, owners, flags, from, to, d),
-                SeenPort::Visible(_, _) => first_end(marks, links, owners, flags, from, to, d),
-            }
+    match subport_pair(owners, flags, from, to) {
+        SeenPair::Refused(refusal) => {
+            return NamedLink::Refused(refusal);
+        }
+        SeenPair::First(d) => {
+            return first_end(marks, links, owners, flags, from, to, d);
+        }
+        SeenPair::Both(d, _) => {
+            return first_end(marks, links, owners, flags, from, to, d);
         }
     }
 }
@@ -300,15 +351,15 @@ pub(crate) fn link_need<'a>(
 ) -> LinkNeed
     ensures { λ r. ⌜ r ≡ linkNeed (now (marks .entry)) (now (links .entry)) (now (owners .entry)) (now (flags .entry)) (a .0) (b .0) ⌝ }
 {
-    match seen_in(owners, flags, a.0) {
-        SeenPort::Dead => LinkNeed::Refused(Refusal::UnknownPort(a)),
-        SeenPort::Hidden => LinkNeed::Refused(Refusal::HiddenPort(a)),
-        SeenPort::Visible(_, d) => {
-            match seen_in(owners, flags, b.0) {
-                SeenPort::Hidden => LinkNeed::Refused(Refusal::HiddenPort(b)),
-                SeenPort::Dead => first_need(marks, links, owners, a.0, d, b),
-                SeenPort::Visible(_, e) => both_need(marks, links, owners, a.0, d, b.0, e),
-            }
+    match seen_pair(owners, flags, a, b) {
+        SeenPair::Refused(refusal) => {
+            return LinkNeed::Refused(refusal);
+        }
+        SeenPair::First(d) => {
+            return first_need(marks, links, owners, a.0, d, b);
+        }
+        SeenPair::Both(d, e) => {
+            return both_need(marks, links, owners, a.0, d, b.0, e);
         }
     }
 }
@@ -322,20 +373,18 @@ pub(crate) fn pair_named<'a>(
 ) -> NamedPair
     ensures { λ r. ⌜ r ≡ pairNamed (now (owners .entry)) (now (flags .entry)) (a .0) (b .0) ⌝ }
 {
-    match seen_in(owners, flags, a.0) {
-        SeenPort::Dead => NamedPair::Refused(Refusal::UnknownPort(a)),
-        SeenPort::Hidden => NamedPair::Refused(Refusal::HiddenPort(a)),
-        SeenPort::Visible(_, d) => {
-            match seen_in(owners, flags, b.0) {
-                SeenPort::Hidden => NamedPair::Refused(Refusal::HiddenPort(b)),
-                SeenPort::Dead => NamedPair::Refused(Refusal::UnknownSecondPort(b)),
-                SeenPort::Visible(_, e) => {
-                    if same_side(d, e) {
-                        return NamedPair::Refused(Refusal::IncompatibleDirections(a, b, d));
-                    }
-                    NamedPair::Opposite
-                }
+    match seen_pair(owners, flags, a, b) {
+        SeenPair::Refused(refusal) => {
+            return NamedPair::Refused(refusal);
+        }
+        SeenPair::First(_) => {
+            return NamedPair::Refused(Refusal::UnknownSecondPort(b));
+        }
+        SeenPair::Both(d, e) => {
+            if same_side(d, e) {
+                return NamedPair::Refused(Refusal::IncompatibleDirections(a, b, d));
             }
+            return NamedPair::Opposite;
         }
     }
 }

@@ -16,14 +16,13 @@ use crate::iter::PortLinksStart;
 use crate::iter::Ports;
 use crate::iter::Wires;
 use crate::lookups::BlockFound;
-use crate::marks::flagged;
+use crate::marks::either_flagged;
 use crate::multiportgraph::MultiPortGraph;
 use crate::multiportgraph::Refusal;
 use crate::reads::seen_in;
 use portgraph::index::NodeIndex;
 use portgraph::index::PortIndex;
 use portgraph::iter::Sides;
-use portgraph::numbers::wide;
 ghost use mathlib.Core.Path.{_≡_};
 ghost use Rattle.multiportgraph.specs.Wires.{startWires};
 ghost use Rattle.multiportgraph.specs.Walks.{startNodePorts, startSubports, startPortLinks, startLinks, startNeighbours, startConnections};
@@ -146,10 +145,7 @@ impl MultiPortGraph {
         let graph = self.graph;
         if graph.contains_node(from) {
             if graph.contains_node(to) {
-                if flagged(&self.copy_node, wide(from.0)) {
-                    return NodeConnectionsStart::Refused(Refusal::HiddenNode);
-                }
-                if flagged(&self.copy_node, wide(to.0)) {
+                if either_flagged(&self.copy_node, from.0, to.0) {
                     return NodeConnectionsStart::Refused(Refusal::HiddenNode);
                 }
                 return NodeConnectionsStart::Started(NodeConnections {

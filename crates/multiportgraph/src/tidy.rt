@@ -1,34 +1,33 @@
 // Tidying a port: empty subports above the highest wired one go, or the whole hidden node.
-use crate::ends::SeenPort;
+use crate::copies::copy_in;
+use crate::lookups::DirectionAnswer;
 use crate::marks::marked;
-use crate::marks::put_mark;
 use crate::multiportgraph::MultiPortGraph;
 use crate::multiportgraph::PortTidied;
-use crate::multiportgraph::Refusal;
 use crate::multiportgraph::TidyAnswer;
-use crate::prepare::MOVES;
-use crate::reads::far_in;
+use crate::prepare::linked;
+use crate::prepare::resized;
 use crate::reads::first_in;
-use crate::reads::owner_in;
-use crate::reads::seen_in;
 use crate::reads::subports_in;
 use portgraph::direction::Direction;
-use portgraph::index::NodeIndex;
 use portgraph::index::PORT_SLOTS;
 use portgraph::index::PortIndex;
 use portgraph::numbers::less;
 use portgraph::numbers::wide;
 use portgraph::tables::at;
 ghost use mathlib.Core.Path.{_≡_};
+ghost use mathlib.Core.Bool.{cond};
 ghost use Prim.Native.Nat.{_+_, _≤_};
 ghost use Rattle.portgraph.specs.Limits.{portSlots};
-ghost use Rattle.multiportgraph.specs.Reading.{copyNode};
+ghost use Rattle.portgraph.specs.Tables.{at};
+ghost use Rattle.multiportgraph.specs.Reading.{copyNode, isSplit, subports};
+ghost use Rattle.multiportgraph.specs.TableReads.{firstIn};
 ghost use Rattle.multiportgraph.specs.CodeForms.{linkedFrom};
-ghost use Rattle.multiportgraph.specs.Tidy.{leftIncoming, leftOutgoing, dropSubports, linkDirectly};
+ghost use Rattle.multiportgraph.specs.Tidy.{leftIncoming, leftOutgoing, dropSubports, linkDirectly, subportsLeft, tidied};
 ghost use Rattle.multiportgraph.specs.Calls.{tidyPort};
 ghost use Rattle.multiportgraph.specs.Answers.{tidyNumbers};
 ghost use Rattle.multiportgraph.specs.WellFormed.{MultiWf};
-ghost use Rattle.multiportgraph.specs.Presumed.{SplitPort, LeftPort};
+ghost use Rattle.multiportgraph.specs.Presumed.{OnBlock, SplitPort, LeftPort};
 
 // How many of `count` ports from `first` on are left without the unlinked ones above the highest linked one.
 pub(crate) fn linked_from(links: &[u32; PORT_SLOTS], first: usize, count: usize) -> usize
@@ -64,10 +63,22 @@ fn left_outgoing(direction: Direction, left: usize) -> usize
     }
 }
 
+// What the first subport of a split port is linked with, one higher; 0 for nothing.
+fn first_held<'a>(
+    links: &'a [u32; PORT_SLOTS],
+    owners: &'a [u32; PORT_SLOTS],
+    port: u32,
+    direction: Direction,
+) -> u32
+    ensures { λ r. ⌜ r ≡ at (now (links .entry)) (firstIn (now (links .entry)) (now (owners .entry)) port direction) ⌝ }
+{
+    at(links, first_in(links, owners, port, direction))
+}
+
 impl MultiPortGraph {
     // A split port's hidden node is left with some of its subports. The copy port's mark moves with it.
     fn drop_subports(
-        mut self,
+        self,
         port: u32,
         direction: Direction,
         count: usize,
@@ -76,20 +87,13 @@ impl MultiPortGraph {
         requires { ⌜ LeftPort self port direction count left ⌝ }
         ensures { λ r. ⌜ r ≡ dropSubports self (copyNode self port) direction left ⌝ }
     {
-        let copy = far_in(&self.graph.port_link, wide(port));
-        let node = owner_in(&self.graph.port_meta, copy);
+        let graph = self.graph;
+        let hidden = copy_in(&graph.port_link, &graph.port_meta, port, direction);
         let incoming = left_incoming(direction, left);
         let outgoing = left_outgoing(direction, left);
-        let mut moves = [0u32; MOVES];
-        let graph = self.graph;
-        let sized = graph.set_num_ports(NodeIndex(node), incoming, outgoing, &mut moves);
-        let after = sized.graph;
-        self.graph = after;
-        let moved = far_in(&self.graph.port_link, wide(port));
-        put_mark(&mut self.multiport, wide(copy), false);
-        put_mark(&mut self.multiport, wide(moved), true);
-        self.subport_count = less(self.subport_count, less(count, left));
-        self
+        let sized = resized(graph, hidden.node, incoming, outgoing);
+        let subports = less(self.subport_count, less(count, left));
+        self.copy_moved(sized.graph, port, hidden.copy, subports)
     }
 
     // The hidden node of a split port goes, and what its first subport was linked with is linked to the port.
@@ -97,21 +101,18 @@ impl MultiPortGraph {
         requires { ⌜ SplitPort self port direction ⌝ }
         ensures { λ r. ⌜ r ≡ linkDirectly self port direction ⌝ }
     {
-        let first = first_in(
+        let held = first_held(
             &self.graph.port_link,
             &self.graph.port_meta,
             port,
             direction,
         );
-        let held = at(&self.graph.port_link, first);
-        let far = far_in(&self.graph.port_link, first);
         let mut bare = self.drop_copy(port, direction);
         if held == 0 {
             return bare;
         }
-        let graph = bare.graph;
-        let linked = graph.link_ports(PortIndex(port), PortIndex(far));
-        let after = linked.graph;
+        let far = held - 1;
+        let after = linked(bare.graph, port, far);
         bare.graph = after;
         bare
     }
@@ -122,48 +123,57 @@ impl MultiPortGraph {
         requires { ⌜ MultiWf self ⌝ }
         ensures { λ r. ⌜ (r ≡ tidyPort self (port .0)) × (tidyNumbers (r .answer) ≡ tidyNumbers (tidyPort self (port .0) .answer)) ⌝ }
     {
-        match seen_in(&self.graph.port_meta, &self.copy_node, port.0) {
-            SeenPort::Dead => PortTidied {
-                graph: self,
-                answer: TidyAnswer::Refused(Refusal::UnknownPort(port)),
-            },
-            SeenPort::Hidden => PortTidied {
-                graph: self,
-                answer: TidyAnswer::Refused(Refusal::HiddenPort(port)),
-            },
-            SeenPort::Visible(_, direction) => {
-                if marked(&self.multiport, wide(port.0)) {
-                    let count = subports_in(
-                        &self.graph.port_link,
-                        &self.graph.port_meta,
-                        port.0,
-                        direction,
-                    );
-                    let first = first_in(
-                        &self.graph.port_link,
-                        &self.graph.port_meta,
-                        port.0,
-                        direction,
-                    );
-                    let left = linked_from(&self.graph.port_link, first, count);
-                    if left < 2 {
-                        return PortTidied {
-                            graph: self.link_directly(port.0, direction),
-                            answer: TidyAnswer::Tidied,
-                        };
-                    }
-                    if left < count {
-                        return PortTidied {
-                            graph: self.drop_subports(port.0, direction, count, left),
-                            answer: TidyAnswer::Tidied,
-                        };
-                    }
-                }
-                PortTidied {
-                    graph: self,
+        match self.port_direction(port) {
+            DirectionAnswer::Found(direction) => {
+                return PortTidied {
+                    graph: self.tidied(port.0, direction),
                     answer: TidyAnswer::Tidied,
-                }
+                };
+            }
+            DirectionAnswer::Refused(refusal) => {
+                return PortTidied {
+                    graph: self,
+                    answer: TidyAnswer::Refused(refusal),
+                };
             }
         }
+    }
+
+    // The graph with a port of a block tidied.
+    fn tidied(self, port: u32, direction: Direction) -> MultiPortGraph
+        requires { ⌜ OnBlock self port direction ⌝ }
+        ensures { λ r. ⌜ r ≡ cond (isSplit self port) (tidied self port direction) self ⌝ }
+    {
+        if marked(&self.multiport, wide(port)) {
+            let count = subports_in(
+                &self.graph.port_link,
+                &self.graph.port_meta,
+                port,
+                direction,
+            );
+            let first = first_in(
+                &self.graph.port_link,
+                &self.graph.port_meta,
+                port,
+                direction,
+            );
+            let left = linked_from(&self.graph.port_link, first, count);
+            return self.with_left(port, direction, count, left);
+        }
+        self
+    }
+
+    // The graph with so many of the subports of a split port left.
+    fn with_left(self, port: u32, direction: Direction, count: usize, left: usize) -> MultiPortGraph
+        requires { ⌜ SplitPort self port direction × (count ≡ subports self port direction) × (left ≡ subportsLeft self port direction) ⌝ }
+        ensures { λ r. ⌜ r ≡ tidied self port direction ⌝ }
+    {
+        if left < 2 {
+            return self.link_directly(port, direction);
+        }
+        if left < count {
+            return self.drop_subports(port, direction, count, left);
+        }
+        self
     }
 }

@@ -1,43 +1,21 @@
--- `multiportgraph::multiportgraph::MultiPortGraph::unlink_subport` meets its contract: an end that is cut, and a refusal.
-use mathlib.Core.Path.{refl}
+-- `multiportgraph::multiportgraph::MultiPortGraph::unlink_subport` meets its contract.
+use mathlib.Core.Path.{_∙_}
 use borrow.Author.Needs.{needs}
 use Rattle.portgraph.specs.LookupSteps.{with-numbers}
+use Rattle.multiportgraph.specs.Answers.{cutNumbers}
+use Rattle.multiportgraph.specs.LowerSteps.{link-cut}
 use Rattle.multiportgraph.specs.declared.multiportgraph.PortUnlinked.{PortUnlinked}
-use Rattle.multiportgraph.specs.NamedLaws.{cut-done}
-use Rattle.multiportgraph.specs.LowerSteps.{end-cut-below}
 use Rattle.multiportgraph.proofs.multiportgraph.MultiPortGraph.unlink_subport.Statement.{statement}
 use Rattle.multiportgraph.proofs.multiportgraph.MultiPortGraph.unlink_subport.Tie as tie
-use Rattle.multiportgraph.specs.Answers.{cutNumbers}
 
-end-named-requires : tie.Need-end-named-requires
-end-named-requires c κs = search needs
+without-end-requires : tie.Need-without-end-requires
+without-end-requires c κs = search needs
 
-enum-known-inner : tie.Need-enum-known-inner
-enum-known-inner c = search needs
-
-wire-in-requires : tie.Need-wire-in-requires
-wire-in-requires c κs = search needs
-
-unlink-port-requires : tie.Need-unlink-port-requires
-unlink-port-requires c κs = search needs
-
-enum-known-refusal : tie.Need-enum-known-refusal
-enum-known-refusal c = search needs
+subport-link-requires : tie.Need-subport-link-requires
+subport-link-requires c κs = search needs
 
 returns : tie.Need-returns
-returns c = with-numbers (λ (r : PortUnlinked). cutNumbers (r .answer)) (end-cut-below (c .before .before .before .before .before .before .before .before .before .before .before .before .before .before .before .before .before .pre) _ _ (c .before .before .before .before .before .before .before .before .before .before .before .end-named .ensures) (c .before .before .before .before .before .before .before .before .before .inner .given .1) (c .before .unlink-port .ensures .0) (c .before .before .before .wire-in .ensures))
-
-returns-2 : tie.Need-returns-2
-returns-2 c = with-numbers (λ (r : PortUnlinked). cutNumbers (r .answer)) (cut-done (c .before .before .before .before .before .before .before .before .before .pre) _ _ (c .before .before .before .end-named .ensures) (c .before .refusal .given .1) refl)
+returns c = with-numbers (λ (r : PortUnlinked). cutNumbers (r .answer)) (λ i. record { graph = c .before .without-end .ensures i; answer = (c .subport-link .ensures .0 ∙ link-cut (c .before .before .pre) _ _) i })
 
 pub unlink-subport-spec : {M : Type 1} → statement M
-unlink-subport-spec =
-    tie.close
-    (tie.spec
-    end-named-requires
-    enum-known-inner
-    wire-in-requires
-    unlink-port-requires
-    enum-known-refusal
-    returns
-    returns-2)
+unlink-subport-spec = tie.close (tie.spec without-end-requires subport-link-requires returns)

@@ -6,7 +6,7 @@
 must-fail edits, and, between backticks, in pages. Functions of src/, generated names, strings, inputs and outputs keep their names.
 With --list it prints old and new names and changes nothing.
 """
-import collections, glob, re, subprocess, sys
+import collections, glob, os, re, subprocess, sys
 
 TOKEN = re.compile(r"[^\s(){}\[\],;.:\"`|\\λ←]+")
 
@@ -116,7 +116,19 @@ def turn(text, table, generated=False):
     return ''.join(out)
 
 
+def foreign(text):
+    """Names that a file takes from another library stay as they are there."""
+    out = set()
+    for m in re.finditer(r'use ([^\s{;]+)\.\{([^}]*)\}', text):
+        if not (m.group(1).startswith('Rattle.') and os.path.isdir('crates/' + m.group(1).split('.')[1])):
+            out |= {n.strip().split(' as ')[0] for n in m.group(2).split(',')}
+    return out
+
+
 def turned(f, text, table):
+    if f.endswith(('.antt', '.rt')):
+        kept = foreign(text)
+        table = {old: new for old, new in table.items() if old not in kept} if kept & table.keys() else table
     if f.endswith('.antt'):
         lines = []
         for line in text.split('\n'):

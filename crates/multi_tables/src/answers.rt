@@ -6,14 +6,14 @@ use port_tables::direction::Direction;
 use port_tables::index::{NodeIndex, PortIndex};
 
 // A port with an offset among its subports; 0 for a port that is not split.
-#[derive(Drop)]
+#[derive(Clone, Copy)]
 pub struct SubportIndex {
     pub port: PortIndex,
     pub subport_offset: u16,
 }
 
 // Why a call is refused.
-#[derive(Drop)]
+#[derive(Clone, Copy)]
 pub enum Refusal {
     // An offset above 65,534.
     BadOffset,
@@ -41,14 +41,14 @@ pub enum Refusal {
 }
 
 // Where a port of a block stands: the block, the side, and the position on that side.
-#[derive(Drop)]
+#[derive(Clone, Copy)]
 pub struct PortPlace {
     pub node: NodeIndex,
     pub side: Direction,
     pub position: u16,
 }
 
-#[derive(Drop)]
+#[derive(Clone, Copy)]
 pub enum CutAnswer {
     // The end found, and where it stands; for an inner port, where its visible end does.
     Found(SubportIndex, PortPlace),
@@ -57,7 +57,7 @@ pub enum CutAnswer {
 }
 
 // The same without the place, as the calls over lent tables answer.
-#[derive(Drop)]
+#[derive(Clone, Copy)]
 pub enum EndAnswer {
     Found(SubportIndex),
     Nothing,
@@ -65,7 +65,7 @@ pub enum EndAnswer {
 }
 
 // A wire as a walk gives it: the two subports that are linked, and where the second one stands.
-#[derive(Drop)]
+#[derive(Clone, Copy)]
 pub struct SubportLink {
     pub from: SubportIndex,
     pub to: SubportIndex,

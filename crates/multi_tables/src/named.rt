@@ -13,7 +13,7 @@ use port_tables::numbers::{same_side, wide};
 use port_tables::tables::at;
 
 // A subport that a call names.
-#[derive(Drop)]
+#[derive(Clone, Copy)]
 pub enum NamedEnd {
     // Its inner port.
     At(u32),
@@ -21,7 +21,7 @@ pub enum NamedEnd {
 }
 
 // Two subports that a call links.
-#[derive(Drop)]
+#[derive(Clone, Copy)]
 pub enum NamedLink {
     // Their inner ports.
     Ends(u32, u32),
@@ -29,7 +29,7 @@ pub enum NamedLink {
 }
 
 // Two ports that a call links, before an end is prepared.
-#[derive(Drop)]
+#[derive(Clone, Copy)]
 pub enum NamedPair {
     // Ports of blocks on opposite sides.
     Opposite,
@@ -37,7 +37,7 @@ pub enum NamedPair {
 }
 
 // How the two ports that a link names are seen.
-#[derive(Drop)]
+#[derive(Clone, Copy)]
 pub enum SeenPair {
     Refused(Refusal),
     // The first is of a block, on this side; the second is not live.
@@ -47,7 +47,7 @@ pub enum SeenPair {
 }
 
 // What an end needs before it can take a link.
-#[derive(Drop)]
+#[derive(Clone, Copy)]
 pub enum EndNeed {
     // Nothing: the inner port and its offset.
     Ready(u32, u16),
@@ -58,7 +58,7 @@ pub enum EndNeed {
 }
 
 // What a link of two ports needs.
-#[derive(Drop)]
+#[derive(Clone, Copy)]
 pub enum LinkNeed {
     // Nothing: the inner port and the offset of each end.
     Ends(u32, u16, u32, u16),

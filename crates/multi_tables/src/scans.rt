@@ -17,7 +17,7 @@ use port_tables::numbers::{wide, wide16};
 use port_tables::sides::{Sides, ports_from, ports_to};
 
 // Which links a walk gives, by the port that they lead to.
-#[derive(Drop)]
+#[derive(Clone, Copy)]
 pub enum LinkFilter {
     All,
     // Not to a port from the first on, the second excluded.
@@ -26,7 +26,7 @@ pub enum LinkFilter {
     To(NodeIndex),
 }
 
-#[derive(Drop)]
+#[derive(Clone, Copy)]
 pub enum LinkFound {
     Link(SubportLink),
     None,

@@ -3,7 +3,7 @@ use port_tables::direction::Direction;
 use port_tables::index::NodeIndex;
 
 // A port number, read.
-#[derive(Drop)]
+#[derive(Clone, Copy)]
 pub enum SeenPort {
     // Not live.
     Dead,
@@ -14,7 +14,7 @@ pub enum SeenPort {
 }
 
 // An end that a call names: the inner port, or none where a split port has no such offset.
-#[derive(Drop)]
+#[derive(Clone, Copy)]
 pub enum EndFound {
     At(u32),
     Lacking,

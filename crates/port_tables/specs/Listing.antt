@@ -16,6 +16,7 @@ module _ {A : Type 0} where
   pub member_left : (x : A) (a b : List A) → Member x a → Member x (a ++ b)
   member_left x (y ∷ a) b (inl e) = inl e
   member_left x (y ∷ a) b (inr i) = inr (member_left x a b i)
+  member_left x [] b x'' = elim x'' [ ]
 
   pub member_right : (x : A) (a b : List A) → Member x b → Member x (a ++ b)
   member_right x [] b i = i
@@ -44,6 +45,7 @@ module _ {A : Type 0} where
       go : (b : Bool) → Member x (filter t l) → Member x (cond b (y ∷ filter t l) (filter t l))
       go true k = inr k
       go false k = k
+  filter_member t x [] x3 h = elim x3 [ ]
 
 module _ {A B : Type 0} where
   pub member_flat_map : (f : A → List B) (b : B) (l : List A) → Member b (flat_map f l) → (a : A) × Member a l × Member b (f a)
@@ -56,6 +58,7 @@ module _ {A B : Type 0} where
   unfolding flat_map
   flat_map_member f b a (x ∷ l) (inl p) h = member_left b (f x) (flat_map f l) (subst (λ (y : A). Member b (f y)) p h)
   flat_map_member f b a (x ∷ l) (inr i) h = member_right b (f x) (flat_map f l) (flat_map_member f b a l i h)
+  flat_map_member f b a [] x'' h = elim x'' [ ]
 
   pub member_map : (f : A → B) (b : B) (l : List A) → Member b (map f l) → (a : A) × Member a l × (b ≡ f a)
   member_map f b [] i = absurd i
@@ -65,6 +68,7 @@ module _ {A B : Type 0} where
   pub map_member : (f : A → B) (a : A) (l : List A) → Member a l → Member (f a) (map f l)
   map_member f a (x ∷ l) (inl p) = inl (ap f p)
   map_member f a (x ∷ l) (inr i) = inr (map_member f a l i)
+  map_member f a [] x' = elim x' [ ]
 
   pub length_map : (f : A → B) (l : List A) → length (map f l) ≡ length l
   length_map f [] = refl
@@ -88,10 +92,12 @@ range_member x i (suc n) h k = go (eqb x i) refl (λ l. range_member x (suc i) n
 pub in_wires : (w : Wire) (l : List Wire) → Member w l → Member w l
 in_wires w (v ∷ l) (inl e) = inl e
 in_wires w (v ∷ l) (inr i) = inr (in_wires w l i)
+in_wires w [] x' = elim x' [ ]
 
 pub wire_member : (w : Wire) (l : List Wire) → Member w l → Member w l
 wire_member w (v ∷ l) (inl e) = inl e
 wire_member w (v ∷ l) (inr i) = inr (wire_member w l i)
+wire_member w [] x' = elim x' [ ]
 
 -- Sifting.
 
@@ -217,6 +223,7 @@ module _ {A : Type 0} (f : ℕ → List A) (n : ℕ) (t u : A → Bool) where
       let q = r.0 n i in
       rw (filter_none t (f k) (before k (inl refl) q), le-ltb n k (omega arith))
       (flat_map_beyond l r.1 i (λ j h. before j (inr h)) (λ j h. here j (inr h)) (λ j h. later j (inr h)))
+  flat_map_beyond [] r x5 before here later = elim x5 [ ]
 
 -- Different numbers below a bound.
 
@@ -258,16 +265,19 @@ module _ {B : Type 0} where
   abbrev except : (y : B) (l : List B) → Member y l → List B
   except y (x ∷ l) (inl e) = l
   except y (x ∷ l) (inr i) = x ∷ except y l i
+  except y [] x' = elim x' [ ]
 
   length_except : (y : B) (l : List B) (i : Member y l) → suc (length (except y l i)) ≡ length l
   length_except y (x ∷ l) (inl e) = refl
   length_except y (x ∷ l) (inr i) = ap suc (length_except y l i)
+  length_except y [] i = elim i [ ]
 
   still_there : (y : B) (l : List B) (i : Member y l) (z : B) → Member z l → (z ≡ y) ⊎ Member z (except y l i)
   still_there y (x ∷ l) (inl e) z (inl p) = inl (p ∙ sym e)
   still_there y (x ∷ l) (inl e) z (inr j) = inr j
   still_there y (x ∷ l) (inr i) z (inl p) = inr (inl p)
   still_there y (x ∷ l) (inr i) z (inr j) = ⊎_elim inl (λ k. inr (inr k)) (still_there y l i z j)
+  still_there y [] i z _ = elim i [ ]
 
 module _ {A B : Type 0} (R : A → B → Type 0) (own : (x z : A) (y : B) → R x y → R z y → x ≡ z) where
   pub partners : (a : List A) (b : List B) → Rising Apart a → ((x : A) → Member x a → (y : B) × Member y b × R x y) → length a ≤ length b

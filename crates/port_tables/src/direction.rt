@@ -2,7 +2,7 @@
 ghost use Rattle.std.specs.Prelude.{◌≡◌};
 ghost use Rattle.port_tables.specs.Entries.{reversed, side_number};
 
-#[derive(Drop)]
+#[derive(Clone, Copy)]
 pub enum Direction {
     // Input to a node.
     Incoming,

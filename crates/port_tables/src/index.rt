@@ -14,43 +14,43 @@ pub const NODE_PORTS: usize = 1024;
 pub const FREE_LISTS: usize = NODE_PORTS + 1;
 
 // The number of a node.
-#[derive(Drop)]
+#[derive(Clone, Copy)]
 pub struct NodeIndex(pub u32);
 
 // The number of a port.
-#[derive(Drop)]
+#[derive(Clone, Copy)]
 pub struct PortIndex(pub u32);
 
 // A node's number, or none.
-#[derive(Drop)]
+#[derive(Clone, Copy)]
 pub enum MaybeNodeIndex {
     Some(NodeIndex),
     None,
 }
 
 // A port's number, or none.
-#[derive(Drop)]
+#[derive(Clone, Copy)]
 pub enum MaybePortIndex {
     Some(PortIndex),
     None,
 }
 
 // A port's place within its node: the direction, and the position on that side.
-#[derive(Drop)]
+#[derive(Clone, Copy)]
 pub struct PortOffset {
     pub direction: Direction,
     pub index: u16,
 }
 
 // A port's place within its node, or none.
-#[derive(Drop)]
+#[derive(Clone, Copy)]
 pub enum MaybePortOffset {
     Some(PortOffset),
     None,
 }
 
 // A direction, or none.
-#[derive(Drop)]
+#[derive(Clone, Copy)]
 pub enum MaybeDirection {
     Some(Direction),
     None,

@@ -12,7 +12,7 @@ use crate::numbers::wide;
 pub const NODE_WORDS: usize = 5 * NODE_SLOTS;
 
 // What a graph has besides its tables.
-#[derive(Drop)]
+#[derive(Clone, Copy)]
 pub struct Counts {
     // The first free node entry, one higher than its number; 0 for none.
     pub node_free: u32,

@@ -1,5 +1,7 @@
 // Numbers, directions, entries, and leaves over the tables of a port graph, each of which takes one table: what both graphs and the
 // sketch rest on. The modules follow the files of Quantinuum/portgraph.
+#![tactic(auto)]
+
 pub mod direction;
 pub mod index;
 pub mod lent;

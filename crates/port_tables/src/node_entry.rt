@@ -7,7 +7,7 @@ use crate::index::PortIndex;
 use crate::numbers::wide16;
 
 // Meta data of a valid node.
-#[derive(Drop)]
+#[derive(Clone, Copy)]
 pub struct NodeMeta {
     // The first slot of the node's block; 0 for a node without a block.
     pub first_port: PortIndex,
@@ -19,13 +19,13 @@ pub struct NodeMeta {
 
 // A free entry's neighbours in the list of free entries, each one higher than its number; 0 for none.
 // None is higher than the slots of the table, and these fit 16 bits (neighbours-fit in specs/Limits.antt).
-#[derive(Drop)]
+#[derive(Clone, Copy)]
 pub struct FreeNodeEntry {
     pub prev: u16,
     pub next: u16,
 }
 
-#[derive(Drop)]
+#[derive(Clone, Copy)]
 pub enum NodeEntry {
     // No node is stored here.
     Free(FreeNodeEntry),
@@ -34,14 +34,14 @@ pub enum NodeEntry {
 }
 
 // A node's meta data, or none.
-#[derive(Drop)]
+#[derive(Clone, Copy)]
 pub enum MaybeNodeMeta {
     Some(NodeMeta),
     None,
 }
 
 // An element of the node table.
-#[derive(Drop)]
+#[derive(Clone, Copy)]
 pub struct NodeSlot {
     pub entry: NodeEntry,
 }

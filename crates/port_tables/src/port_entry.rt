@@ -7,7 +7,7 @@ use crate::direction::Direction;
 use crate::index::NodeIndex;
 
 // Meta data of a valid port.
-#[derive(Drop)]
+#[derive(Clone, Copy)]
 pub struct PortMeta {
     // The node that has the port.
     pub node: NodeIndex,
@@ -16,7 +16,7 @@ pub struct PortMeta {
 }
 
 // An entry, read.
-#[derive(Drop)]
+#[derive(Clone, Copy)]
 pub enum PortEntry {
     // No port is stored here.
     Free,

@@ -7,7 +7,7 @@ use crate::node_entry::NodeMeta;
 use crate::numbers::{wide, wide16};
 
 // One side of a node, or both, incoming first.
-#[derive(Drop)]
+#[derive(Clone, Copy)]
 pub enum Sides {
     One(Direction),
     Both,

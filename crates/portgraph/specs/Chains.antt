@@ -122,7 +122,8 @@ node_chain_set_prev nodes p q [] long below once c = tt
 node_chain_set_prev nodes p q (n ∷ l) long below once c =
     let e : suc n - 1 ≡ n = omega arith in
     let b : n < node_slots = below n (inl refl) in
-    rw (eqb-suc-zero n, e) (
+    let moved : set_prev nodes (number_of_first (n ∷ l)) q ≡ set nodes n (with_prev (get_or nodes n fresh_slot) q) = rw (eqb-suc-zero n, e) refl in
+    subst (λ (x : List NodeSlot). NodeChain x q (n ∷ l)) (sym moved) (
       ap (λ (x : NodeSlot). x.entry) (get_or-set_same nodes n _ fresh_slot (omega arith)) ∙ ap (λ (x : NodeEntry). with_prev_entry x q) c.0,
       node_chain_set nodes n (suc n) _ l once.0 c.1,
     )

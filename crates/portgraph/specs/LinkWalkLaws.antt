@@ -465,6 +465,7 @@ filter_in f x (y ∷ l) i h = go (f y) refl (λ j. filter_in f x l j h) i
         let z : ◌≡◌ {A = ℕ} 0 1 = cc in
         absurd (omega arith)
     go false e rest (inr j) = rest j
+filter_in f x [] i h = elim i [ ]
 
 pub in_numbers : (x p k : ℕ) → Member x (range p k) → (p ≤ x) × (x < p + k)
 unfolding range

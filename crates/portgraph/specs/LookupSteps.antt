@@ -3,7 +3,7 @@
 use Rattle.std.specs.Prelude.{◌≡◌, Bool, false, cond, List, map, ℕ, ◌+◌, ◌-◌, ◌≤◌, ◌<◌, length, get_or, replicate}
 use Rattle.std.proofs.Common.{sym, ◌∙◌, arith, lt-ltb, le-ltb, eq-eqb, ne_eqb}
 use Rattle.std.proofs.Math.Path.{ap}
-use Rattle.std.proofs.lemmas.List.{length_map}
+use Rattle.std.proofs.lemmas.List.{length-map}
 use Rattle.std.proofs.Math.ListN.{get_or-eq_default}
 use Rattle.port_tables.specs.Limits.{node_slots, port_slots, free_lists}
 use Rattle.port_tables.specs.Entries.{fresh_slot, port_entry, ports_on, same_side, port#, meta_of_entry}
@@ -59,7 +59,7 @@ graph_of_fresh s e = ap graph_of e
 
 -- a list is as long as what is made of each of its elements
 pub length_of_map : (X Y : Type 0) (f : X → Y) (l : List X) (n : ℕ) → length (map f l) ≡ n → length l ≡ n
-length_of_map X Y f l n h = sym (length_map l f) ∙ h
+length_of_map X Y f l n h = sym (length-map l f) ∙ h
 
 pub node_outside : (l : List NodeSlot) (n w : ℕ) → length l ≡ node_slots → w ≡ n → node_slots ≤ w → maybe_meta.None ≡ meta_of_entry (get_or l n fresh_slot).entry
 node_outside l n w long e h =

@@ -357,9 +357,10 @@ module _ {g : PortGraph} {M : Model} (good : Good M) (h : Holds g M) (n : ℕ) (
   node_chain_left : NodeChain (set (set_prev g.node_meta g.node_free (n + 1)) n (free_slot_of 0 g.node_free)) 0 (n ∷ M.free_nodes)
   node_chain_left =
       let one : n + 1 ≡ suc n = omega arith in
-      rw (h.node_head, one)
+      subst (λ (x : ℕ). NodeChain (set (set_prev g.node_meta x (n + 1)) n (free_slot_of 0 x)) 0 (n ∷ M.free_nodes)) (sym h.node_head)
+      (subst (λ (x : ℕ). NodeChain (set (set_prev g.node_meta (number_of_first M.free_nodes) x) n (free_slot_of 0 (number_of_first M.free_nodes))) 0 (n ∷ M.free_nodes)) (sym one)
       (node_chain_push g.node_meta n M.free_nodes h.nodes_long node_below (free_below good h) good.free_once
-      (λ i. gone_not_live (good.free_gone n i) here) h.node_chain)
+      (λ i. gone_not_live (good.free_gone n i) here) h.node_chain))
 
   links_left : g.link_count - cut_count g.port_link start m.capacity ≡ all_links without left
   links_left =

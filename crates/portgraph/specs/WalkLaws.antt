@@ -219,6 +219,7 @@ nodes_ascend nodes n (suc k) = go (is_node (get_or nodes n fresh_slot).entry) (n
 ascending_in : (n x : ℕ) (l : List ℕ) → Ascending n l → Member x l → n ≤ x
 ascending_in n x (y ∷ l) a (inl e) = let b : n ≤ y = a.0 in omega arith
 ascending_in n x (y ∷ l) a (inr i) = let b : n ≤ y = a.0 in let c = ascending_in (suc y) x l a.1 i in omega arith
+ascending_in n x [] a x4 = elim x4 [ ]
 
 -- what ascends has no item twice
 pub ascending_once : (n : ℕ) (l : List ℕ) → Ascending n l → Once l

@@ -11,14 +11,14 @@ use port_tables::numbers::{less, wide, wide16};
 use port_tables::tables::{at, chain_block, cut_range, fill, head_at, own_block, put_head};
 
 // What a search for room finds: a first slot, or none.
-#[derive(Drop)]
+#[derive(Clone, Copy)]
 pub enum Found {
     At(usize),
     NoRoom,
 }
 
 // What adding a node comes to.
-#[derive(Drop)]
+#[derive(Clone, Copy)]
 pub enum AddAnswer {
     // The node, and its first port; 0 for a node without ports.
     Added(NodeIndex, PortIndex),
@@ -26,21 +26,21 @@ pub enum AddAnswer {
     NoRoom,
 }
 
-#[derive(Drop)]
+#[derive(Clone, Copy)]
 pub struct NodeAdded {
     pub graph: PortGraph,
     pub answer: AddAnswer,
 }
 
 // What removing a node comes to.
-#[derive(Drop)]
+#[derive(Clone, Copy)]
 pub enum RemoveAnswer {
     Removed,
     // The node is not live.
     UnknownNode,
 }
 
-#[derive(Drop)]
+#[derive(Clone, Copy)]
 pub struct NodeRemoved {
     pub graph: PortGraph,
     pub answer: RemoveAnswer,

@@ -11,51 +11,51 @@ use port_tables::numbers::{larger, wide};
 use port_tables::sides::{Sides, ports_from, ports_to};
 
 // A walk over the nodes, by ascending number.
-#[derive(Drop)]
+#[derive(Clone, Copy)]
 pub struct Nodes {
     pub held: u32,
 }
 
-#[derive(Drop)]
+#[derive(Clone, Copy)]
 pub enum NodesStep {
     Item(NodeIndex, Nodes),
     End,
 }
 
 // A walk over the ports of a node.
-#[derive(Drop)]
+#[derive(Clone, Copy)]
 pub struct NodePorts {
     pub node: NodeIndex,
     pub sides: Sides,
     pub held: u32,
 }
 
-#[derive(Drop)]
+#[derive(Clone, Copy)]
 pub enum NodePortsStep {
     Item(PortIndex, NodePorts),
     End,
 }
 
 // A start of a walk over the ports of a node.
-#[derive(Drop)]
+#[derive(Clone, Copy)]
 pub enum PortsStart {
     Started(NodePorts),
     UnknownNode,
 }
 
 // A walk over the port offsets of a node.
-#[derive(Drop)]
+#[derive(Clone, Copy)]
 pub struct NodePortOffsets {
     pub ports: NodePorts,
 }
 
-#[derive(Drop)]
+#[derive(Clone, Copy)]
 pub enum NodePortOffsetsStep {
     Item(PortOffset, NodePortOffsets),
     End,
 }
 
-#[derive(Drop)]
+#[derive(Clone, Copy)]
 pub enum OffsetsStart {
     Started(NodePortOffsets),
     UnknownNode,

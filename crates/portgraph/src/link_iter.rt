@@ -14,14 +14,14 @@ use port_tables::sides::{Sides, ports_from, ports_to};
 use port_tables::tables::at;
 
 // A link, from the port where it was found.
-#[derive(Drop)]
+#[derive(Clone, Copy)]
 pub struct Link {
     pub from: PortIndex,
     pub to: PortIndex,
 }
 
 // A walk over the links of a node; links to a port from `skip_from` on, `skip_to` excluded, are left out.
-#[derive(Drop)]
+#[derive(Clone, Copy)]
 pub struct NodeLinks {
     pub node: NodeIndex,
     pub sides: Sides,
@@ -30,13 +30,13 @@ pub struct NodeLinks {
     pub held: u32,
 }
 
-#[derive(Drop)]
+#[derive(Clone, Copy)]
 pub enum NodeLinksStep {
     Item(Link, NodeLinks),
     End,
 }
 
-#[derive(Drop)]
+#[derive(Clone, Copy)]
 pub enum NodeLinksStart {
     Started(NodeLinks),
     UnknownNode,
@@ -44,7 +44,7 @@ pub enum NodeLinksStart {
 
 // A walk over the neighbours of a node, one for each link; with the flag, links to outgoing ports of the node itself are left
 // out.
-#[derive(Drop)]
+#[derive(Clone, Copy)]
 pub struct Neighbours {
     pub node: NodeIndex,
     pub sides: Sides,
@@ -52,52 +52,52 @@ pub struct Neighbours {
     pub held: u32,
 }
 
-#[derive(Drop)]
+#[derive(Clone, Copy)]
 pub enum NeighboursStep {
     Item(NodeIndex, Neighbours),
     End,
 }
 
-#[derive(Drop)]
+#[derive(Clone, Copy)]
 pub enum NeighboursStart {
     Started(Neighbours),
     UnknownNode,
 }
 
 // A walk over the links from one node's outgoing side to another node.
-#[derive(Drop)]
+#[derive(Clone, Copy)]
 pub struct NodeConnections {
     pub node: NodeIndex,
     pub target: NodeIndex,
     pub held: u32,
 }
 
-#[derive(Drop)]
+#[derive(Clone, Copy)]
 pub enum NodeConnectionsStep {
     Item(Link, NodeConnections),
     End,
 }
 
-#[derive(Drop)]
+#[derive(Clone, Copy)]
 pub enum NodeConnectionsStart {
     Started(NodeConnections),
     UnknownNode,
 }
 
 // A walk over all ports, by ascending number.
-#[derive(Drop)]
+#[derive(Clone, Copy)]
 pub struct Ports {
     pub held: u32,
 }
 
-#[derive(Drop)]
+#[derive(Clone, Copy)]
 pub enum PortsStep {
     Item(PortIndex, Ports),
     End,
 }
 
 // Consecutive port slots, the end excluded.
-#[derive(Drop)]
+#[derive(Clone, Copy)]
 pub struct Span {
     pub from: usize,
     pub to: usize,

@@ -16,7 +16,7 @@ use port_tables::port_entry::PortEntry;
 use port_tables::tables::{at, cut, link_both, link_count};
 
 // A port graph, by value.
-#[derive(Drop)]
+#[derive(Clone, Copy)]
 pub struct PortGraph {
     // The nodes; free entries form a list.
     pub(crate) node_meta: [NodeSlot; NODE_SLOTS],
@@ -38,7 +38,7 @@ pub struct PortGraph {
 }
 
 // What a port is linked with.
-#[derive(Drop)]
+#[derive(Clone, Copy)]
 pub enum PortLink {
     Linked(PortIndex),
     Unlinked,
@@ -47,7 +47,7 @@ pub enum PortLink {
 }
 
 // What a link of two ports comes to.
-#[derive(Drop)]
+#[derive(Clone, Copy)]
 pub enum LinkAnswer {
     Linked(PortIndex, PortIndex),
     // The first port is not live.
@@ -59,13 +59,13 @@ pub enum LinkAnswer {
     AlreadyLinked(PortIndex),
 }
 
-#[derive(Drop)]
+#[derive(Clone, Copy)]
 pub struct PortsLinked {
     pub graph: PortGraph,
     pub answer: LinkAnswer,
 }
 
-#[derive(Drop)]
+#[derive(Clone, Copy)]
 pub struct PortUnlinked {
     pub graph: PortGraph,
     pub answer: PortLink,

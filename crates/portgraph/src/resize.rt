@@ -20,7 +20,7 @@ use port_tables::tables::{
 };
 
 // What a change of counts comes to.
-#[derive(Drop)]
+#[derive(Clone, Copy)]
 pub enum SetAnswer {
     // Done, with so many events in the move list.
     Set(usize),
@@ -32,7 +32,7 @@ pub enum SetAnswer {
     NoRoom,
 }
 
-#[derive(Drop)]
+#[derive(Clone, Copy)]
 pub struct PortsSet {
     pub graph: PortGraph,
     pub answer: SetAnswer,

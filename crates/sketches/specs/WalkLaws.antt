@@ -4,7 +4,7 @@ use Rattle.std.proofs.Math.Path.{◌≡◌, refl, ap}
 use Rattle.std.proofs.Common.{sym, ◌∙◌, subst}
 use Rattle.std.specs.Prelude.{Bool, not, eqb}
 use Rattle.std.proofs.Math.Bool.{true, false, cond}
-use mathlib.Core.List.{List, [], ◌∷◌, ◌++◌, map, map_map, append-nil}
+use mathlib.Core.List.{List, [], ◌∷◌, ◌++◌, map, map-map, append-nil}
 use Prim.Native.Nat.{ℕ, zero, suc, ◌+◌, ◌-◌, ◌≤◌, ◌<◌, min}
 use native.Mathlib.Omega.{arith}
 use Rattle.std.proofs.Math.Dec.{leb}
@@ -213,7 +213,7 @@ module _ (b s w : List ℕ) (h : Totals) where
   listed : (g : Wire → Bool) (x : Test) → ((r : Row) → hits x r ≡ g (wire_of r)) → wires_left w h.wires (whole_walk h.wires x) ≡ map wire_held (filter g (plan_in b s w h).wires)
   listed g x e =
       ap (map (λ r. wire_held (wire_of r))) (whole_left w h.wires x ∙ filter_same (hits x) (λ r. g (wire_of r)) (rows_in w h.wires) (λ r i. e r))
-      ∙ sym (map_map wire_held wire_of (filter (λ r. g (wire_of r)) (rows_in w h.wires)))
+      ∙ sym (map-map wire_held wire_of (filter (λ r. g (wire_of r)) (rows_in w h.wires)))
       ∙ ap (map wire_held) (filter_map wire_of g (rows_in w h.wires))
 
   pub walk_of_port : (x : SketchPort) → wires_left w h.wires (whole_walk h.wires (test.Wire (ask.AtPort x))) ≡ map wire_held (links_of_port (plan_in b s w h) x)
@@ -276,4 +276,4 @@ walk_of_blocks b s w h l =
     let e : min h.blocks (min h.blocks 3072) ≡ h.blocks = omega arith in
     ap (λ (k : List Row). map (λ r. r.0) (filter (hits test.Every) k)) (ap (rows_between b 0) e ∙ all_rows b h.blocks)
     ∙ ap (map (λ r. r.0)) (filter_all (hits test.Every) (rows_in b h.blocks) (λ r i. refl))
-    ∙ sym (map_map (λ (x : PlanBlock). x.name) block_of (rows_in b h.blocks))
+    ∙ sym (map-map (λ (x : PlanBlock). x.name) block_of (rows_in b h.blocks))

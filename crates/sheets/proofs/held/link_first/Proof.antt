@@ -4,7 +4,7 @@
 -- All that the proof knows of `link_sheet` is that it meets its contract.
 -- Assumes nothing.
 use mathlib.Core.Path.{◌≡◌, refl, sym, ap, subst, ◌∙◌}
-use mathlib.Core.List.{[], ◌∷◌, List, ◌++◌, map, map_map}
+use mathlib.Core.List.{[], ◌∷◌, List, ◌++◌, map, map-map}
 use Prim.Native.Nat.{ℕ, ◌<◌, ◌≤◌, ◌^◌}
 use native.Mathlib.Omega.{arith}
 use lib.Dec.{T, lit<}
@@ -96,7 +96,7 @@ abbrev to_tuple : SheetEntry → (Struct (declared.shape E.the_type)).Denot
 to_tuple = (E.the_type).to
 
 as_tuples : (xs : List SheetEntry) → map (LL.tuple_val E.the_type E'.the_laws) (map to_tuple xs) ≡ map entry_val xs
-as_tuples xs = map_map (LL.tuple_val E.the_type E'.the_laws) to_tuple xs
+as_tuples xs = map-map (LL.tuple_val E.the_type E'.the_laws) to_tuple xs
 
 places_as_field : (xs : List SheetEntry) → IsPlaces xs →
     Is (Array (Struct (declared.shape E.the_type)) 65) (map to_tuple xs) (array_val (map (LL.tuple_val E.the_type E'.the_laws) (map to_tuple xs)) ∷ [])

@@ -1,0 +1,25 @@
+-- `multi_tables::reads::end_beside` meets its contract, by side: an offset that is there and one that is not.
+use native.Mathlib.Omega.{arith}
+use Rattle.multi_tables.specs.TableReadSteps.{count_below, end_in_lem, end_in_lacking, end_out, end_out_lacking, end_out_past}
+use Rattle.multi_tables.proofs.reads.end_beside.Goals as goal
+
+pub overflow_add-result : goal.overflow_add-result
+overflow_add-result c = let b = count_below _ _ _ c.wide-place.ensures _ _ c.in-Incoming.is c.count_beside-count.ensures in omega arith
+
+pub overflow_cast-result : goal.overflow_cast-result
+overflow_cast-result c = let b = count_below _ _ _ c.wide-place.ensures _ _ c.in-Incoming.is c.count_beside-count.ensures in omega arith
+
+pub returns-then-wide16-count : goal.returns-then-wide16-count
+returns-then-wide16-count c = end_in_lem _ _ _ c.wide-place.ensures _ _ _ c.wide16-then-wide16-count.ensures _ _ c.in-Incoming.is c.count_beside-count.ensures (omega arith) c.less.ensures
+
+pub returns-then-at : goal.returns-then-at
+returns-then-at c = end_out _ _ _ c.wide-place.ensures _ _ _ c.wide16-in-Outgoing.ensures _ _ c.in-Outgoing.is c.if-slot-lt-PORT_SLOTS.true c.at.ensures c.at-then-slot-lt-PORT_SLOTS.ensures c.if-at.true
+
+pub returns-else-wide16-count : goal.returns-else-wide16-count
+returns-else-wide16-count c = end_in_lacking _ _ _ c.wide-place.ensures _ _ _ c.wide16.ensures _ c.in-Incoming.is c.count_beside-count.ensures c.if-wide16-count.false
+
+pub returns-else-at : goal.returns-else-at
+returns-else-at c = end_out_lacking _ _ _ c.wide-place.ensures _ _ _ c.wide16-in-Outgoing.ensures _ _ c.in-Outgoing.is c.if-slot-lt-PORT_SLOTS.true c.at.ensures c.at-then-slot-lt-PORT_SLOTS.ensures c.if-at.false
+
+pub returns-else-slot-lt-PORT_SLOTS : goal.returns-else-slot-lt-PORT_SLOTS
+returns-else-slot-lt-PORT_SLOTS c = end_out_past _ _ _ c.wide-place.ensures _ _ _ c.wide16-in-Outgoing.ensures c.in-Outgoing.is c.if-slot-lt-PORT_SLOTS.false

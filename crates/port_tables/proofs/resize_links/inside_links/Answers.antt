@@ -1,0 +1,18 @@
+-- `port_tables::resize_links::inside_links` meets its contract: the ports that stay are moved, then three ranges are cleared.
+use Rattle.port_tables.specs.ResizeLinkSteps.{inside_links_done}
+use Rattle.port_tables.proofs.resize_links.inside_links.Goals as goal
+
+pub returns : goal.returns
+returns c =
+    inside_links_done _ _ _ _ _ _ _ _ _ _ _ _ _ _ _
+    c.wide-first.ensures
+    c.wide16-old_in.ensures
+    c.wide16-old_out.ensures
+    c.smaller-kept.ensures
+    c.shift_ports.ensures
+    c.less.ensures
+    c.fill.ensures
+    c.less-2.ensures
+    c.fill-2.ensures
+    c.less-3.ensures
+    c.fill-3.ensures

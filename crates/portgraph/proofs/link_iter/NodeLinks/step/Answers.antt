@@ -1,0 +1,44 @@
+-- `portgraph::link_iter::NodeLinks::step` meets its contract: an item, none left, and no such node.
+
+-- the step, from what was computed
+use mathlib.Core.Path.{◌≡◌}
+use Prim.Native.Nat.{◌<◌}
+use native.Mathlib.Omega.{arith}
+use lib.Dec.{ltb}
+use Rattle.port_tables.specs.Limits.{port_slots}
+use Rattle.port_tables.specs.TableSteps.{with_numbers}
+use Rattle.portgraph.specs.LinkWalks.{links_item, step_links, links_numbers}
+use Rattle.portgraph.specs.LinkWalkSteps.{left_inside, links_outside, links_by_search, links_given, links_over}
+use Rattle.portgraph.specs.declared.link_iter.NodeLinksStep.TheVariants.{End}
+use mathlib.Core.Bool.{cond}
+use Rattle.portgraph.proofs.link_iter.NodeLinks.step.Goals as goal
+use Rattle.portgraph.proofs.link_iter.NodeLinks.step.Goals.{After-struct_known-1, Then-port-left}
+
+step-found : (c : After-struct_known-1)
+    → step_links c.args.graph c.args.self
+    ≡ cond (ltb c.next_link-port.result c.ports_left-left.result.to) (links_item c.args.graph c.args.self c.next_link-port.result) End
+step-found c = links_by_search c.args.graph _ _ _ _ _ _ _ c.wide-place.ensures c.held_in-there.ensures c.ports_left-left.ensures c.wide.ensures c.wide-then-place-lt-NODE_SLOTS.ensures c.next_link-port.ensures
+
+-- where it stops lies within the tables
+room : (c : Then-port-left) → c.next_link-port.result < port_slots
+room c =
+    let h = left_inside _ c.requires _ _ _ _ _ c.ports_left-left.ensures in
+    omega arith
+
+pub overflow_cast-result : goal.overflow_cast-result
+overflow_cast-result c = let h = room (goal.at.overflow_cast-result c).Then-port-left in omega arith
+
+pub overflow_cast-result-then-port-left : goal.overflow_cast-result-then-port-left
+overflow_cast-result-then-port-left c = let h = room (goal.at.overflow_cast-result-then-port-left c).Then-port-left in omega arith
+
+pub overflow_add-result : goal.overflow_add-result
+overflow_add-result c = let h = room (goal.at.overflow_add-result c).Then-port-left in omega arith
+
+pub returns-then-port-left : goal.returns-then-port-left
+returns-then-port-left c = with_numbers links_numbers (links_given _ _ _ _ _ (step-found (goal.at.returns-then-port-left c).After-struct_known-1) c.if-port-left.true c.far_in.ensures)
+
+pub returns-else-port-left : goal.returns-else-port-left
+returns-else-port-left c = with_numbers links_numbers (links_over _ _ _ _ (step-found (goal.at.returns-else-port-left c).After-struct_known-1) c.if-port-left.false)
+
+pub returns-else-place-lt-NODE_SLOTS : goal.returns-else-place-lt-NODE_SLOTS
+returns-else-place-lt-NODE_SLOTS c = with_numbers links_numbers (links_outside c.args.graph _ c.args.self c.requires.holds.nodes_long c.wide-place.ensures c.if-place-lt-NODE_SLOTS.false)

@@ -64,6 +64,7 @@ not_named n b = not (eqb b.name n)
 
 weigh_without : (f : PlanBlock → ℕ) (l : List PlanBlock) → Rising OtherName l → (p : PlanBlock) → Member p l → weigh f l ≡ f p + weigh f (filter (not_named p.name) l)
 unfolding weigh filter
+weigh_without f [] r p never = absurd never
 weigh_without f (q ∷ l) r p (inl e) =
     let others : filter (not_named p.name) l ≡ l =
     filter_all (not_named p.name) l (λ c i. ap not (ne_eqb c.name p.name (λ z. r.0 c i (ap (λ (v : PlanBlock). v.name) (sym e) ∙ sym z)))) in

@@ -27,11 +27,13 @@ WireNamed l w = HasName l w.out.node × HasName l w.into.node
 
 pub name_of_lem : (l : List Naming) → Rising Apart l → (n k : ℕ) → Member (naming n k) l → name_of l n ≡ k
 unfolding name_of
+name_of_lem [] r n k never = absurd never
 name_of_lem (x ∷ l) r n k (inl p) = rw (← p, eq-eqb n n refl) refl
 name_of_lem (x ∷ l) r n k (inr i) = rw (ne_eqb x.node n (r.0 (naming n k) i).0) (name_of_lem l r.1 n k i)
 
 -- one name, one node
 pub node_of_lem : (l : List Naming) → Rising Apart l → (x y : Naming) → Member x l → Member y l → x.name ≡ y.name → x.node ≡ y.node
+node_of_lem [] r x y never _ e = absurd never
 node_of_lem (z ∷ l) r x y (inl p) (inl q) e = ap (λ (v : Naming). v.node) (p ∙ sym q)
 node_of_lem (z ∷ l) r x y (inl p) (inr j) e = absurd ((r.0 y j).1 (ap (λ (v : Naming). v.name) (sym p) ∙ e))
 node_of_lem (z ∷ l) r x y (inr i) (inl q) e = absurd ((r.0 x i).1 (ap (λ (v : Naming). v.name) (sym q) ∙ sym e))

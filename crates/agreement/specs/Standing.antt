@@ -32,11 +32,13 @@ use Rattle.agreement.specs.Names.{naming, HasName, AllNamed}
 
 pub on_side : (l : List PlanBlock) → Rising OtherName l → (p : PlanBlock) → Member p l → (d : Direction) → ports_on_side l p.name d ≡ new_count p.incoming p.outgoing d
 unfolding ports_on_side
+on_side [] r p never d = absurd never
 on_side (q ∷ l) r p (inl e) d = rw (← e, eq-eqb p.name p.name refl) refl
 on_side (q ∷ l) r p (inr i) d = rw (ne_eqb q.name p.name (r.0 p i)) (on_side l r.1 p i d)
 
 pub has_block_lem : (l : List PlanBlock) (p : PlanBlock) → Member p l → has_block l p.name ≡ true
 unfolding has_block
+has_block_lem [] p never = absurd never
 has_block_lem (q ∷ l) p (inl e) = rw (← e, eq-eqb p.name p.name refl) refl
 has_block_lem (q ∷ l) p (inr i) = go (eqb q.name p.name) (has_block_lem l p i)
   where

@@ -1,4 +1,6 @@
 // What the tablet's Rust or C calls on files, views and times, over lists of numbers alone.
+#![tactic(auto)]
+
 pub mod loaded;
 pub mod merged;
 pub mod saved;

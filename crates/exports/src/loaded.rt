@@ -68,8 +68,7 @@ fn load_number(answer: LoadAnswer) -> u64
 // Lays the adds and links that build the wiring of a file for release 1, as requests, so that a list which begins with them goes on from the loaded graph. Their length,
 // or 4,294,967,296 and the refusal: 16 and 17 as loading gives them, 3 or 10 as the first add or link that is refused, 15 if the buffer is too short. A buffer
 // of a refused file stays as it was.
-#[unsafe(no_mangle)]
-pub extern "C" fn records_of_file(file: &[u8], requests: &mut [u8]) -> u64
+pub fn records_of_file(file: &[u8], requests: &mut [u8]) -> u64
     ensures { (result ≡ records_return file.now requests.old)
         × (requests.new ≡ records_written file.now requests.old) }
 {

@@ -75,8 +75,7 @@ fn path_told(listed: PathListed, room: usize) -> u64
 // Runs a list of requests from an empty graph of release 1, past refused calls, and answers the largest sum of times along wires that end at a block of the graph that
 // it leaves, the block's own time included; or 4,294,967,296 and the refusal: 1 if the length of the list is not a multiple of 20, 4 or 5 if the number names no block,
 // 19 if there are not 1,024 times, 20 if a cycle can reach the block.
-#[unsafe(no_mangle)]
-pub extern "C" fn longest_of_records<'a>(requests: &'a [u8], times: &'a [u16], block: u32) -> u64
+pub fn longest_of_records<'a>(requests: &'a [u8], times: &'a [u16], block: u32) -> u64
     ensures { result ≡ longest_return requests.now times.now block }
 {
     if requests.len() % 20 != 0 {
@@ -87,8 +86,7 @@ pub extern "C" fn longest_of_records<'a>(requests: &'a [u8], times: &'a [u16], b
 
 // The same question, answered by the blocks along wires that have this sum, from the first to the one named, at the start of the lent list. How many they are, or
 // 4,294,967,296 and the refusal: those of the sum, then 15 if the list is too short: 1,024 numbers are enough. A list of a refused question stays as it was.
-#[unsafe(no_mangle)]
-pub extern "C" fn path_of_records<'a>(
+pub fn path_of_records<'a>(
     requests: &'a [u8],
     times: &'a [u16],
     block: u32,

@@ -117,8 +117,7 @@ fn view_in<'a>(
 // of blocks and wires; then for each block, by ascending number, node, incoming, outgoing and first port; then for each wire, in the order of the list of all wires,
 // port, offset, node and position of its outgoing end and of its incoming end. The view's length, or 4,294,967,296 and the refusal: 1 if the length of the list is not a
 // multiple of 20, 15 if the buffer is too short, which then stays as it was.
-#[unsafe(no_mangle)]
-pub extern "C" fn view_of_records(requests: &[u8], view: &mut [u8]) -> u64
+pub fn view_of_records(requests: &[u8], view: &mut [u8]) -> u64
     ensures { (result ≡ view_return requests.now view.old)
         × (view.new ≡ view_written requests.now view.old) }
 {

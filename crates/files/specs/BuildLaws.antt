@@ -69,6 +69,7 @@ accepted_apart s (c ∷ a) b e =
 
 module _ {A : Type 0} where
   pub at_below : (l : List A) (r : ℕ) (x : A) → At l r x → r < length l
+  at_below [] r x never = absurd never
   at_below (y ∷ l) zero x h = omega arith
   at_below (y ∷ l) (suc r) x h = let k = at_below l r x h in omega arith
 

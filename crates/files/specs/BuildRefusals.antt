@@ -425,6 +425,7 @@ fitting_added release bs h = ⊎_elim (λ e. e) (λ k. absurd (never k.0 (first_
         (add_ends release t.first t.item t.accepted r t.refused)
 
 member_at : {A : Type 0} (x : A) (l : List A) → Member x l → (r : ℕ) × At l r x
+member_at {A = A} x [] never = absurd never
 member_at x (y ∷ l) (inl e) = (0, e)
 member_at x (y ∷ l) (inr i) = let h = member_at x l i in (suc h.0, h.1)
 

@@ -74,6 +74,7 @@ module _ (bytes : List ℕ) (small : Bytes bytes) where
       subst (λ (b : BlockPorts). FieldsFit (block_record b)) (sym (r.each i (omega arith))) (record { a = f.a; b = f.b; c = omega arith; d = omega arith }))
     where
       each : (l : List BlockPorts) → ((i : ℕ) → i < length l → FieldsFit (block_record (block_at l i))) → (b : BlockPorts) → Member b l → FieldsFit (block_record b)
+      each [] h b never = absurd never
       each (x ∷ l) h b (inl e) = subst (λ (y : BlockPorts). FieldsFit (block_record y)) (sym e) (h 0 (omega arith))
       each (x ∷ l) h b (inr i) = each l (λ j k. h (suc j) (omega arith)) b i
 
@@ -96,6 +97,7 @@ module _ (bytes : List ℕ) (small : Bytes bytes) where
         subst (λ (w : RankWire). FieldsFit (wire_record (raised raise w))) (sym (r.each i (omega arith))) (record { a = k.0; b = f.b; c = k.1; d = f.d }))
       where
         each : (l : List RankWire) → ((i : ℕ) → i < length l → FieldsFit (wire_record (raised raise (get_or l i no_wire)))) → (w : RankWire) → Member w l → FieldsFit (wire_record (raised raise w))
+        each [] h w never = absurd never
         each (x ∷ l) h w (inl e) = subst (λ (y : RankWire). FieldsFit (wire_record (raised raise y))) (sym e) (h 0 (omega arith))
         each (x ∷ l) h w (inr i) = each l (λ j k. h (suc j) (omega arith)) w i
 

@@ -201,6 +201,7 @@ laid_keeps n p (b ∷ bs) l x i = laid_keeps (suc n) (p + (b.incoming + b.outgoi
 
 pub laid_has : (n p : ℕ) (bs : List BlockPorts) (l : List Block) (r : ℕ) (b : BlockPorts) → At bs r b → Member (block_from (n + r) (p + first_port bs r) b) (laid n p bs l)
 unfolding laid first_port
+laid_has n p [] l r b never = absurd never
 laid_has n p (c ∷ bs) l zero b e =
     let x : n + 0 ≡ n = omega arith in
     let y : p + 0 ≡ p = omega arith in

@@ -85,8 +85,8 @@ refused_enters_nothing B (book.set_call n i o room) v marks ports r e = ap (λ a
 refused_enters_nothing B (book.link_call a b) v marks ports r e = ap (book_link B a b) e
 refused_enters_nothing B (book.link_clean_call a b) v marks ports r e = ap (book_link B a b) e
 refused_enters_nothing B (book.link_sub_call p o q t) v marks ports r e = ap (λ a. book_link_sub B p o q t a marks) e
-refused_enters_nothing B (book.cut_call p) v marks ports r e = ap (book_cut B _) e
-refused_enters_nothing B (book.cut_sub_call p o) v marks ports r e = ap (book_cut B _) e
+refused_enters_nothing B (book.cut_call p) v marks ports r e = ap (book_cut B (at_spot (spot_of B.blocks p))) e
+refused_enters_nothing B (book.cut_sub_call p o) v marks ports r e = ap (book_cut B (at_end (spot_of B.blocks p) (read_by (first_mark marks) o))) e
 refused_enters_nothing B (book.tidy_call p) v marks ports r e = refl
 
 next_enters_one : (s : State) (c : Call) → entries (next s c).book ≤ suc (entries s.book)

@@ -22,6 +22,7 @@ use Rattle.files.specs.Claims.{rank_in, At}
 
 module _ {A : Type 0} where
   pub at_member : (l : List A) (r : ℕ) (x : A) → At l r x → Member x l
+  at_member [] r x never = absurd never
   at_member (y ∷ l) zero x e = inl e
   at_member (y ∷ l) (suc r) x h = inr (at_member l r x h)
 
@@ -37,10 +38,12 @@ module _ {A : Type 0} where
 
 module _ {A B : Type 0} (f : A → B) where
   pub at_map : (l : List A) (r : ℕ) (y : B) → At (map f l) r y → (x : A) × At l r x × (y ≡ f x)
+  at_map [] r y never = absurd never
   at_map (x ∷ l) zero y e = (x, refl, e)
   at_map (x ∷ l) (suc r) y h = at_map l r y h
 
   pub map_at : (l : List A) (r : ℕ) (x : A) → At l r x → At (map f l) r (f x)
+  map_at [] r x never = absurd never
   map_at (z ∷ l) zero x e = ap f e
   map_at (z ∷ l) (suc r) x h = map_at l r x h
 
@@ -48,6 +51,7 @@ module _ {A B : Type 0} (f : A → B) where
 
 pub rank_below : (l : List ℕ) (n : ℕ) → Member n l → rank_among l n < length l
 unfolding rank_among
+rank_below [] n never = absurd never
 rank_below (k ∷ l) n h = go (eqb k n) refl h (rank_below l n)
   where
     go : (b : Bool) → eqb k n ≡ b → (n ≡ k) ⊎ Member n l → (Member n l → rank_among l n < length l) → cond b 0 (suc (rank_among l n)) < suc (length l)
@@ -58,6 +62,7 @@ rank_below (k ∷ l) n h = go (eqb k n) refl h (rank_below l n)
 -- a number stands at its rank,
 pub rank_at : (l : List ℕ) (n : ℕ) → Member n l → At l (rank_among l n) n
 unfolding rank_among
+rank_at [] n never = absurd never
 rank_at (k ∷ l) n h = go (eqb k n) refl h (rank_at l n)
   where
     go : (b : Bool) → eqb k n ≡ b → (n ≡ k) ⊎ Member n l → (Member n l → At l (rank_among l n) n) → At (k ∷ l) (cond b 0 (suc (rank_among l n))) n
@@ -68,12 +73,14 @@ rank_at (k ∷ l) n h = go (eqb k n) refl h (rank_at l n)
 -- and at no other position
 pub at_rank : (l : List ℕ) → Rising Apart l → (r n : ℕ) → At l r n → rank_among l n ≡ r
 unfolding rank_among
+at_rank [] a r n never = absurd never
 at_rank (k ∷ l) a zero n e = rw (eq-eqb k n (sym e))
 at_rank (k ∷ l) a (suc r) n h = rw (ne_eqb k n (a.0 n (at_member l r n h))) (ap suc (at_rank l a.1 r n h))
 
 -- in an ascending list a rank is the number of smaller numbers
 pub rank_counts : (l : List ℕ) → Rising ◌<◌ l → (n : ℕ) → Member n l → rank_among l n ≡ length (filter (λ k. ltb k n) l)
 unfolding rank_among filter
+rank_counts [] r n never = absurd never
 rank_counts (k ∷ l) r n (inl p) =
     rw (eq-eqb k n (sym p), le-ltb k n (omega arith))
     (sym (ap length (filter_none (λ j. ltb j n) l (λ j i. let h = r.0 j i in le-ltb j n (omega arith)))))

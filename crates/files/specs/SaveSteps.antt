@@ -194,6 +194,7 @@ module _ {listed ends : List ℕ} (table : List ℕ) (p : Listings listed ends (
 listed_number : {A : Type 0} (k : ℕ) (f : A → List ℕ) → ((x : A) → length (f x) ≡ k) → (j : ℕ) → j < k → (l : List A) (i : ℕ) (x : A) → At l i x →
     get_or (flat_map f l) (k * i + j) 0 ≡ get_or (f x) j 0
 unfolding flat_map
+listed_number {A = A} k f h j s [] i x never = absurd never
 listed_number k f h j s (y ∷ l) zero x e =
     let z : k * 0 + j ≡ j = omega arith in
     let n = h y in

@@ -17,6 +17,7 @@ use Rattle.files.specs.WrittenLaws.{bytes_after, field_small}
 
 module _ {A : Type 0} (f : A → Bool) where
   pub every_item : (l : List A) → every f l ≡ true → (x : A) → Member x l → f x ≡ true
+  every_item [] e x never = absurd never
   every_item (y ∷ l) e x (inl p) = ap f p ∙ (both_true (f y) (every f l) e).0
   every_item (y ∷ l) e x (inr i) = every_item l (both_true (f y) (every f l) e).1 x i
 

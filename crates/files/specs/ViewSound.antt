@@ -29,6 +29,7 @@ use Rattle.files.specs.ViewLaws.{walked_fits}
 
 -- what stands at a position is read there
 pub at_read : {A : Type 0} (l : List A) (r : ℕ) (x d : A) → At l r x → get_or l r d ≡ x
+at_read {A = A} mathlib.Core.List.[] r x d never = absurd never
 at_read (y ∷ l) zero x d e = sym e
 at_read (y ∷ l) (suc r) x d h = at_read l r x d h
 

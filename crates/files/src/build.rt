@@ -18,7 +18,7 @@ use port_tables::index::{FREE_LISTS, NODE_SLOTS, PORT_SLOTS, PortIndex};
 use port_tables::lent::NODE_WORDS;
 
 // What stands outside the tables afterwards, and the answer.
-#[derive(Drop)]
+#[derive(Clone, Copy)]
 pub(crate) struct BuiltIn {
     pub totals: Totals,
     pub answer: LoadAnswer,

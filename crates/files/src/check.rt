@@ -122,7 +122,7 @@ fn next_kind(rest: &[u8]) -> u64
 }
 
 // Whether all units are right by themselves, and how many blocks and wires they then have.
-#[derive(Drop)]
+#[derive(Clone, Copy)]
 pub(crate) struct Shape {
     pub right: bool,
     pub blocks: usize,

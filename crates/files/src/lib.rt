@@ -1,4 +1,6 @@
 // A wiring as a file: saving it, loading it, and two files as one.
+#![tactic(auto)]
+
 pub mod build;
 pub mod bytes;
 pub mod check;

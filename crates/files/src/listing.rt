@@ -20,7 +20,7 @@ use port_tables::release::Release;
 pub const BUILD_NUMBERS: usize = 2 * (NODE_SLOTS + PORT_SLOTS / 2);
 
 // The answer of the load, and how many blocks and wires were built; none of a refused load.
-#[derive(Drop)]
+#[derive(Clone, Copy)]
 pub struct BuildListed {
     pub answer: LoadAnswer,
     pub blocks: usize,

@@ -19,7 +19,7 @@ use port_tables::lent::NODE_WORDS;
 use port_tables::release::Release;
 
 // What loading comes to.
-#[derive(Drop)]
+#[derive(Clone, Copy)]
 pub enum LoadAnswer {
     Loaded,
     // Refusal 16: the length is not a multiple of 512, or a unit's sum is wrong.

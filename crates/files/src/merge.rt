@@ -27,7 +27,7 @@ const MOST_RECORDS: usize = PORT_SLOTS;
 const LONGEST_RESULT: usize = 512 * ((2 * NODE_SLOTS + 62) / 63 + (MOST_RECORDS + 62) / 63);
 
 // What merging comes to.
-#[derive(Drop)]
+#[derive(Clone, Copy)]
 pub enum MergeAnswer {
     // The result's length in bytes.
     Merged(usize),

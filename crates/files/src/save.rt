@@ -34,7 +34,7 @@ const SOME: usize = 126;
 pub const LONGEST_FILE: usize = 512 * ((NODE_SLOTS + 62) / 63 + (MOST_WIRES + 62) / 63);
 
 // What saving comes to.
-#[derive(Drop)]
+#[derive(Clone, Copy)]
 pub enum SaveAnswer {
     // The file's length in bytes.
     Saved(usize),

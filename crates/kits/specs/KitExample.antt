@@ -47,6 +47,7 @@ fields_fit = (fits, λ r i. absurd i)
     fits : (r : Record) → Member r (map block_record blocks_j) → FieldsFit r
     fits r (inl e) = subst FieldsFit (sym e) (of _ (omega arith) (omega arith) (omega arith) (omega arith))
     fits r (inr (inl e)) = subst FieldsFit (sym e) (of _ (omega arith) (omega arith) (omega arith) (omega arith))
+    fits r (inr (inr (inr never))) = absurd never
     fits r (inr (inr (inl e))) = subst FieldsFit (sym e) (of _ (omega arith) (omega arith) (omega arith) (omega arith))
 
 sound : Sound case_j
@@ -59,6 +60,7 @@ blocks_fit = record { few = few; nodes = omega arith; ports = omega arith }
     few : (b : BlockPorts) → Member b blocks_j → b.incoming + b.outgoing ≤ 1024
     few b (inl e) = let x = ap (λ (c : BlockPorts). c.incoming + c.outgoing) e in omega arith
     few b (inr (inl e)) = let x = ap (λ (c : BlockPorts). c.incoming + c.outgoing) e in omega arith
+    few b (inr (inr (inr never))) = absurd never
     few b (inr (inr (inl e))) = let x = ap (λ (c : BlockPorts). c.incoming + c.outgoing) e in omega arith
 
 added : (release : Release) → first_refusal (empty_graph release) (map add_of blocks_j) ≡ Loaded

@@ -1,1 +1,2 @@
 // Kits with other limits: statements and proofs stand in specs, and there is no code.
+#![tactic(auto)]

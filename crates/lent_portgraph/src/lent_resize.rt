@@ -19,7 +19,7 @@ use port_tables::tables::{at, chain_block, cut_range, fill, head_at, own_block, 
 use portgraph::alloc::{Found, find_block, grown, rest_of};
 use portgraph::resize::SetAnswer;
 
-#[derive(Drop)]
+#[derive(Clone, Copy)]
 pub struct PortsSetLent {
     pub counts: Counts,
     pub answer: SetAnswer,

@@ -14,13 +14,13 @@ use portgraph::alloc::{
     AddAnswer, Found, RemoveAnswer, find_block, find_slot, grown, rest_of, slot_after,
 };
 
-#[derive(Drop)]
+#[derive(Clone, Copy)]
 pub struct NodeAddedLent {
     pub counts: Counts,
     pub answer: AddAnswer,
 }
 
-#[derive(Drop)]
+#[derive(Clone, Copy)]
 pub struct NodeRemovedLent {
     pub counts: Counts,
     pub answer: RemoveAnswer,

@@ -20,7 +20,7 @@ use port_tables::numbers::{less, wide};
 use portgraph::portgraph::PortGraph;
 
 // The hidden node of a split port: its copy port, its number, and how many subports it has.
-#[derive(Drop)]
+#[derive(Clone, Copy)]
 pub(crate) struct HiddenCopy {
     pub(crate) copy: u32,
     pub(crate) node: u32,

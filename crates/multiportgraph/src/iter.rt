@@ -6,54 +6,54 @@ use port_tables::sides::Sides;
 
 // A walk over the blocks, by ascending number, from either end: the blocks given last from the front and from the back, each
 // one higher, with 0 for none.
-#[derive(Drop)]
+#[derive(Clone, Copy)]
 pub struct Nodes {
     pub front: u32,
     pub back: u32,
 }
 
-#[derive(Drop)]
+#[derive(Clone, Copy)]
 pub enum NodesStep {
     Item(NodeIndex, Nodes),
     End,
 }
 
 // A walk over all ports of blocks, by ascending number, from either end.
-#[derive(Drop)]
+#[derive(Clone, Copy)]
 pub struct Ports {
     pub front: u32,
     pub back: u32,
 }
 
-#[derive(Drop)]
+#[derive(Clone, Copy)]
 pub enum PortsStep {
     Item(PortIndex, Ports),
     End,
 }
 
 // A walk over the ports of a block.
-#[derive(Drop)]
+#[derive(Clone, Copy)]
 pub struct NodePorts {
     pub node: NodeIndex,
     pub sides: Sides,
     pub held: u32,
 }
 
-#[derive(Drop)]
+#[derive(Clone, Copy)]
 pub enum NodePortsStep {
     Item(PortIndex, NodePorts),
     End,
 }
 
 // A start of a walk is a call.
-#[derive(Drop)]
+#[derive(Clone, Copy)]
 pub enum NodePortsStart {
     Started(NodePorts),
     Refused(Refusal),
 }
 
 // A walk over the subports of a block.
-#[derive(Drop)]
+#[derive(Clone, Copy)]
 pub struct NodeSubports {
     pub node: NodeIndex,
     pub sides: Sides,
@@ -61,13 +61,13 @@ pub struct NodeSubports {
     pub offset: u16,
 }
 
-#[derive(Drop)]
+#[derive(Clone, Copy)]
 pub enum NodeSubportsStep {
     Item(SubportIndex, NodeSubports),
     End,
 }
 
-#[derive(Drop)]
+#[derive(Clone, Copy)]
 pub enum NodeSubportsStart {
     Started(NodeSubports),
     Refused(Refusal),
@@ -75,27 +75,27 @@ pub enum NodeSubportsStart {
 
 // A walk over the links of a port, from either end: the offsets given last from the front and from the back, each one higher,
 // with 0 for none.
-#[derive(Drop)]
+#[derive(Clone, Copy)]
 pub struct PortLinks {
     pub port: PortIndex,
     pub front: u32,
     pub back: u32,
 }
 
-#[derive(Drop)]
+#[derive(Clone, Copy)]
 pub enum PortLinksStep {
     Item(SubportLink, PortLinks),
     End,
 }
 
-#[derive(Drop)]
+#[derive(Clone, Copy)]
 pub enum PortLinksStart {
     Started(PortLinks),
     Refused(Refusal),
 }
 
 // A walk over the links of a block; links to a port from `skip_from` on, `skip_to` excluded, are left out.
-#[derive(Drop)]
+#[derive(Clone, Copy)]
 pub struct NodeLinks {
     pub node: NodeIndex,
     pub sides: Sides,
@@ -105,13 +105,13 @@ pub struct NodeLinks {
     pub offset: u16,
 }
 
-#[derive(Drop)]
+#[derive(Clone, Copy)]
 pub enum NodeLinksStep {
     Item(SubportLink, NodeLinks),
     End,
 }
 
-#[derive(Drop)]
+#[derive(Clone, Copy)]
 pub enum NodeLinksStart {
     Started(NodeLinks),
     Refused(Refusal),
@@ -119,7 +119,7 @@ pub enum NodeLinksStart {
 
 // A walk over the neighbours of a block, one for each link; with the flag, links to outgoing ports of the block itself are
 // left out.
-#[derive(Drop)]
+#[derive(Clone, Copy)]
 pub struct Neighbours {
     pub node: NodeIndex,
     pub sides: Sides,
@@ -128,20 +128,20 @@ pub struct Neighbours {
     pub offset: u16,
 }
 
-#[derive(Drop)]
+#[derive(Clone, Copy)]
 pub enum NeighboursStep {
     Item(NodeIndex, Neighbours),
     End,
 }
 
-#[derive(Drop)]
+#[derive(Clone, Copy)]
 pub enum NeighboursStart {
     Started(Neighbours),
     Refused(Refusal),
 }
 
 // A walk over the links from one block's outgoing side to another block.
-#[derive(Drop)]
+#[derive(Clone, Copy)]
 pub struct NodeConnections {
     pub node: NodeIndex,
     pub target: NodeIndex,
@@ -149,26 +149,26 @@ pub struct NodeConnections {
     pub offset: u16,
 }
 
-#[derive(Drop)]
+#[derive(Clone, Copy)]
 pub enum NodeConnectionsStep {
     Item(SubportLink, NodeConnections),
     End,
 }
 
-#[derive(Drop)]
+#[derive(Clone, Copy)]
 pub enum NodeConnectionsStart {
     Started(NodeConnections),
     Refused(Refusal),
 }
 
 // A walk over all wires.
-#[derive(Drop)]
+#[derive(Clone, Copy)]
 pub struct Wires {
     pub held: u32,
     pub offset: u16,
 }
 
-#[derive(Drop)]
+#[derive(Clone, Copy)]
 pub enum WiresStep {
     Item(SubportLink, Wires),
     End,

@@ -11,7 +11,7 @@ use port_tables::numbers::less;
 use port_tables::release::Release;
 
 // What a graph has besides its tables.
-#[derive(Drop)]
+#[derive(Clone, Copy)]
 pub struct Totals {
     pub counts: Counts,
     // The number of hidden nodes, and of subports in them.
@@ -21,26 +21,26 @@ pub struct Totals {
     pub release: Release,
 }
 
-#[derive(Drop)]
+#[derive(Clone, Copy)]
 pub struct AddedLent {
     pub totals: Totals,
     pub answer: AddAnswer,
 }
 
-#[derive(Drop)]
+#[derive(Clone, Copy)]
 pub struct LinkedLent {
     pub totals: Totals,
     pub answer: LinkAnswer,
 }
 
-#[derive(Drop)]
+#[derive(Clone, Copy)]
 pub struct CutLent {
     pub totals: Totals,
     pub answer: EndAnswer,
 }
 
 // What the end that a link of a port takes needs.
-#[derive(Drop)]
+#[derive(Clone, Copy)]
 pub enum Need {
     // Nothing: the inner port and its offset.
     Ready(u32, u16),
@@ -51,7 +51,7 @@ pub enum Need {
 }
 
 // What is taken for an end, and what is free then.
-#[derive(Drop)]
+#[derive(Clone, Copy)]
 pub struct Takes {
     // A node slot is taken.
     pub node: bool,
@@ -61,7 +61,7 @@ pub struct Takes {
 }
 
 // A prepared end: the numbers, the inner port and its offset; or, where there is no room, the graph as it was.
-#[derive(Drop)]
+#[derive(Clone, Copy)]
 pub struct PreparedLent {
     pub totals: Totals,
     pub port: u32,
@@ -69,13 +69,13 @@ pub struct PreparedLent {
     pub ready: bool,
 }
 
-#[derive(Drop)]
+#[derive(Clone, Copy)]
 pub struct RemovedLent {
     pub totals: Totals,
     pub answer: RemoveAnswer,
 }
 
-#[derive(Drop)]
+#[derive(Clone, Copy)]
 pub struct SetLent {
     pub totals: Totals,
     pub answer: SetAnswer,

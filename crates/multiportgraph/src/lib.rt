@@ -1,4 +1,6 @@
 // A port graph in which several links may share a port, over the single-link graph.
+#![tactic(auto)]
+
 pub mod blocks;
 pub mod calls;
 pub mod copies;

@@ -12,7 +12,7 @@ use port_tables::node_entry::MaybeNodeMeta;
 use port_tables::numbers::{wide, wide16};
 
 // What a listing comes to.
-#[derive(Drop)]
+#[derive(Clone, Copy)]
 pub enum ListAnswer {
     // So many items were written.
     Listed(usize),
@@ -21,7 +21,7 @@ pub enum ListAnswer {
 }
 
 // An end of a wire.
-#[derive(Drop)]
+#[derive(Clone, Copy)]
 pub struct WireEnd {
     pub port: u32,
     pub offset: u32,

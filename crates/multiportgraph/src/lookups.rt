@@ -16,26 +16,26 @@ use port_tables::index::{MaybePortIndex, NodeIndex, PortIndex, PortOffset};
 use port_tables::node_entry::{MaybeNodeMeta, NodeMeta};
 use port_tables::numbers::wide;
 
-#[derive(Drop)]
+#[derive(Clone, Copy)]
 pub enum DirectionAnswer {
     Found(Direction),
     Refused(Refusal),
 }
 
-#[derive(Drop)]
+#[derive(Clone, Copy)]
 pub enum NodeAnswer {
     Found(NodeIndex),
     Refused(Refusal),
 }
 
 // The side and position of a port.
-#[derive(Drop)]
+#[derive(Clone, Copy)]
 pub enum OffsetAnswer {
     Found(PortOffset),
     Refused(Refusal),
 }
 
-#[derive(Drop)]
+#[derive(Clone, Copy)]
 pub enum PortAnswer {
     Found(PortIndex),
     // The block has no such position.
@@ -43,14 +43,14 @@ pub enum PortAnswer {
     Refused(Refusal),
 }
 
-#[derive(Drop)]
+#[derive(Clone, Copy)]
 pub enum CountAnswer {
     Count(usize),
     Refused(Refusal),
 }
 
 // A node number, read: a block's meta data, or why it is refused.
-#[derive(Drop)]
+#[derive(Clone, Copy)]
 pub enum BlockFound {
     Block(NodeMeta),
     Refused(Refusal),

@@ -5,7 +5,7 @@ use port_tables::release::Release;
 use portgraph::portgraph::PortGraph;
 
 // A port graph, by value, that allows several links at one port.
-#[derive(Drop)]
+#[derive(Clone, Copy)]
 pub struct MultiPortGraph {
     pub(crate) graph: PortGraph,
     // Marks of the ports that connect a main port with its copy node, at both ends.
@@ -19,7 +19,7 @@ pub struct MultiPortGraph {
     pub(crate) release: Release,
 }
 
-#[derive(Drop)]
+#[derive(Clone, Copy)]
 pub enum AddAnswer {
     // The node, and its first port; 0 for a node without ports.
     Added(NodeIndex, PortIndex),
@@ -32,7 +32,7 @@ pub struct NodeAdded {
     pub answer: AddAnswer,
 }
 
-#[derive(Drop)]
+#[derive(Clone, Copy)]
 pub enum RemoveAnswer {
     Removed,
     Refused(Refusal),
@@ -44,7 +44,7 @@ pub struct NodeRemoved {
     pub answer: RemoveAnswer,
 }
 
-#[derive(Drop)]
+#[derive(Clone, Copy)]
 pub enum SetAnswer {
     // Done, with so many events in the move list.
     Set(usize),
@@ -57,7 +57,7 @@ pub struct PortsSet {
     pub answer: SetAnswer,
 }
 
-#[derive(Drop)]
+#[derive(Clone, Copy)]
 pub enum LinkAnswer {
     Linked(SubportIndex, SubportIndex),
     Refused(Refusal),
@@ -75,7 +75,7 @@ pub struct PortUnlinked {
     pub answer: CutAnswer,
 }
 
-#[derive(Drop)]
+#[derive(Clone, Copy)]
 pub enum TidyAnswer {
     Tidied,
     Refused(Refusal),

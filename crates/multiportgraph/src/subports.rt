@@ -18,7 +18,7 @@ use port_tables::index::{NODE_SLOTS, PORT_SLOTS, PortIndex};
 use port_tables::numbers::{wide, wide16};
 use port_tables::sides::{ports_from, ports_to};
 
-#[derive(Drop)]
+#[derive(Clone, Copy)]
 pub enum SubportFound {
     Subport(SubportIndex),
     None,

@@ -17,7 +17,7 @@ use multiportgraph::multiportgraph::{
 use port_tables::direction::Direction;
 
 // 0 or the refusal, then values, the rest 0.
-#[derive(Drop)]
+#[derive(Clone, Copy)]
 pub struct Answer5 {
     pub a: u32,
     pub b: u32,

@@ -20,7 +20,7 @@ use port_tables::lent::NODE_WORDS;
 use port_tables::release::Release;
 
 // What stands outside the tables afterwards, and the five words of the answer.
-#[derive(Drop)]
+#[derive(Clone, Copy)]
 struct Told {
     totals: Totals,
     words: Answer5,

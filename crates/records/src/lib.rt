@@ -1,5 +1,6 @@
 // The one entry for the dealer tablet's Rust: runs a list of requests from an empty graph and writes the answers.
 // The modules in reading order: each uses only those above it.
+#![tactic(auto)]
 
 // Words in bytes.
 pub mod words;

@@ -11,7 +11,7 @@ use multi_tables::answers::SubportIndex;
 use port_tables::index::{NODE_PORTS, NodeIndex, PortIndex};
 
 // A call with its arguments, or refusal 2.
-#[derive(Drop)]
+#[derive(Clone, Copy)]
 pub(crate) enum Ask {
     // incoming, outgoing
     Add(u32, u32),

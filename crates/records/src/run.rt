@@ -25,8 +25,7 @@ fn run_all(requests: &[u8], answers: &mut [u8])
 }
 
 // Runs a list of requests of five little-endian words. 1 for refusal 1, which leaves the answers as they are; else 0.
-#[unsafe(no_mangle)]
-pub extern "C" fn run_records(requests: &[u8], answers: &mut [u8]) -> u32
+pub fn run_records(requests: &[u8], answers: &mut [u8]) -> u32
     ensures { (result ≡ returned requests.now answers.old)
         × (answers.new ≡ written requests.now answers.old) }
 {

@@ -12,7 +12,7 @@ use port_tables::index::PortIndex;
 pub const SHEET_ENTRIES: usize = 64;
 
 // Two ports that are to be linked, and space for the answer.
-#[derive(Drop)]
+#[derive(Clone, Copy)]
 pub struct SheetEntry {
     pub port_a: PortIndex,
     pub port_b: PortIndex,
@@ -32,7 +32,7 @@ impl SheetEntry {
     }
 }
 
-#[derive(Drop)]
+#[derive(Clone, Copy)]
 pub enum SheetAnswer {
     // Every entry was done and has its answer, a refused one too.
     Done,

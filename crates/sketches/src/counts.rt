@@ -14,7 +14,7 @@ use crate::tests::{EndTest, Test};
 use crate::totals::Totals;
 use port_tables::direction::Direction;
 
-#[derive(Drop)]
+#[derive(Clone, Copy)]
 pub struct SketchCounts {
     pub blocks: usize,
     pub ports: usize,

@@ -21,7 +21,7 @@ use crate::totals::{
 };
 
 // The far end of a wire.
-#[derive(Drop)]
+#[derive(Clone, Copy)]
 pub(crate) enum FarEnd {
     Nothing,
     At(RowEnd),

@@ -1,5 +1,6 @@
 // A sketch of a wiring: the same calls over a simple list of blocks and a list of wires. There are no hidden nodes and no slots; ends are
 // named by place, and a block by how many adds were accepted before it.
+#![tactic(auto)]
 
 // Types: ports, ends, refusals and answers.
 pub mod sketch;

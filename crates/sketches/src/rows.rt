@@ -10,7 +10,7 @@ pub const WORDS: usize = 18432;
 
 // A block has its name and its counts, a split port its block, side, position and number of subports, and a wire the block, position
 // and offset of its output, then those of its input. Other numbers are 0.
-#[derive(Drop)]
+#[derive(Clone, Copy)]
 pub struct Row(pub u32, pub u32, pub u32, pub u32, pub u32, pub u32);
 
 pub(crate) fn row_at(table: &[u32; WORDS], i: usize) -> Row

@@ -2,7 +2,7 @@
 use port_tables::direction::Direction;
 
 // A port: the name of its block, its side and its position there.
-#[derive(Drop)]
+#[derive(Clone, Copy)]
 pub struct SketchPort {
     pub block: u32,
     pub side: Direction,
@@ -10,14 +10,14 @@ pub struct SketchPort {
 }
 
 // An end: a port with an offset among its subports; 0 for a port that is not split.
-#[derive(Drop)]
+#[derive(Clone, Copy)]
 pub struct SketchEnd {
     pub port: SketchPort,
     pub offset: u16,
 }
 
 // Why a call is refused.
-#[derive(Drop)]
+#[derive(Clone, Copy)]
 pub enum Reason {
     // An offset above 65,534.
     BadOffset,
@@ -41,28 +41,28 @@ pub enum Reason {
 }
 
 // The name of the new block.
-#[derive(Drop)]
+#[derive(Clone, Copy)]
 pub enum AddAnswer {
     Added(u32),
     Refused(Reason),
 }
 
 // Of a removal, a resize and a tidying.
-#[derive(Drop)]
+#[derive(Clone, Copy)]
 pub enum DoneAnswer {
     Done,
     Refused(Reason),
 }
 
 // The two ends of the new wire, the first named first.
-#[derive(Drop)]
+#[derive(Clone, Copy)]
 pub enum LinkAnswer {
     Linked(SketchEnd, SketchEnd),
     Refused(Reason),
 }
 
 // Of cutting a port: the port itself where it was split, else the far port of its wire.
-#[derive(Drop)]
+#[derive(Clone, Copy)]
 pub enum PortAnswer {
     Found(SketchPort),
     Nothing,
@@ -70,28 +70,28 @@ pub enum PortAnswer {
 }
 
 // Of cutting at an end, and of asking what it is linked with: the far end.
-#[derive(Drop)]
+#[derive(Clone, Copy)]
 pub enum EndAnswer {
     Found(SketchEnd),
     Nothing,
     Refused(Reason),
 }
 
-#[derive(Drop)]
+#[derive(Clone, Copy)]
 pub enum CountAnswer {
     Count(usize),
     Refused(Reason),
 }
 
 // Two ports that are to be linked, and space for the answer.
-#[derive(Drop)]
+#[derive(Clone, Copy)]
 pub struct SheetEntry {
     pub from: SketchPort,
     pub to: SketchPort,
     pub answer: LinkAnswer,
 }
 
-#[derive(Drop)]
+#[derive(Clone, Copy)]
 pub enum SheetAnswer {
     // Every entry was done and has its answer, a refused one too.
     Done,

@@ -15,7 +15,7 @@ use crate::totals::{LinkedLent, Totals, with_wires};
 use port_tables::numbers::same_side;
 
 // What a call is refused with before any change, if anything.
-#[derive(Drop)]
+#[derive(Clone, Copy)]
 pub(crate) enum Judged {
     Fine,
     Refused(Reason),

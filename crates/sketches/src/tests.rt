@@ -10,7 +10,7 @@ use port_tables::direction::Direction;
 use port_tables::numbers::same_side;
 
 // An end as a row has it.
-#[derive(Drop)]
+#[derive(Clone, Copy)]
 pub(crate) struct RowEnd {
     pub block: u32,
     pub side: Direction,
@@ -19,7 +19,7 @@ pub(crate) struct RowEnd {
 }
 
 // What an end may be asked.
-#[derive(Drop)]
+#[derive(Clone, Copy)]
 pub enum EndTest {
     OfBlock(u32),
     // Beyond the counts that a block is left with, incoming first.
@@ -29,7 +29,7 @@ pub enum EndTest {
 }
 
 // What a row may be asked.
-#[derive(Drop)]
+#[derive(Clone, Copy)]
 pub enum Test {
     Every,
     // A block of this name.

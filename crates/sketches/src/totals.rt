@@ -5,7 +5,7 @@ ghost use Rattle.sketches.specs.SketchTables.{new_held, totals_counts, held_spli
 use crate::sketch::{AddAnswer, DoneAnswer, EndAnswer, LinkAnswer, PortAnswer};
 use port_tables::release::Release;
 
-#[derive(Drop)]
+#[derive(Clone, Copy)]
 pub struct Totals {
     pub release: Release,
     // The adds that were accepted.
@@ -16,31 +16,31 @@ pub struct Totals {
     pub wires: usize,
 }
 
-#[derive(Drop)]
+#[derive(Clone, Copy)]
 pub struct AddedLent {
     pub totals: Totals,
     pub answer: AddAnswer,
 }
 
-#[derive(Drop)]
+#[derive(Clone, Copy)]
 pub struct DoneLent {
     pub totals: Totals,
     pub answer: DoneAnswer,
 }
 
-#[derive(Drop)]
+#[derive(Clone, Copy)]
 pub struct LinkedLent {
     pub totals: Totals,
     pub answer: LinkAnswer,
 }
 
-#[derive(Drop)]
+#[derive(Clone, Copy)]
 pub struct PortCutLent {
     pub totals: Totals,
     pub answer: PortAnswer,
 }
 
-#[derive(Drop)]
+#[derive(Clone, Copy)]
 pub struct EndCutLent {
     pub totals: Totals,
     pub answer: EndAnswer,

@@ -15,46 +15,46 @@ use port_tables::direction::Direction;
 use port_tables::numbers::smaller;
 
 // A wire, its outgoing end first.
-#[derive(Drop)]
+#[derive(Clone, Copy)]
 pub struct SketchWire {
     pub out: SketchEnd,
     pub into: SketchEnd,
 }
 
 // The rows that are left of a walk, and the test on them.
-#[derive(Drop)]
+#[derive(Clone, Copy)]
 pub struct Walk {
     pub low: usize,
     pub high: usize,
     pub test: Test,
 }
 
-#[derive(Drop)]
+#[derive(Clone, Copy)]
 pub enum WalkStart {
     At(Walk),
     Refused(Reason),
 }
 
-#[derive(Drop)]
+#[derive(Clone, Copy)]
 pub enum WireStep {
     Wire(SketchWire, Walk),
     End,
 }
 
-#[derive(Drop)]
+#[derive(Clone, Copy)]
 pub enum BlockStep {
     Block(u32, Walk),
     End,
 }
 
 // Where a walk over subports stands: the port and the offset that come next.
-#[derive(Drop)]
+#[derive(Clone, Copy)]
 pub struct SubportWalk {
     pub port: SketchPort,
     pub offset: u32,
 }
 
-#[derive(Drop)]
+#[derive(Clone, Copy)]
 pub enum SubportStep {
     Subport(SketchEnd, SubportWalk),
     End,

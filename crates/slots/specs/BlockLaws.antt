@@ -78,6 +78,7 @@ module _ (f : SlotBlock → ℕ) where
   laid_read : (l : List SlotBlock) (t : List ℕ) (b : SlotBlock) → length t ≡ port_slots → b.first < port_slots → Member b l → ((c : SlotBlock) → Member c l → c.first ≡ b.first → f c ≡ f b) →
       at (laid f l t) b.first ≡ f b
   unfolding laid
+  laid_read [] t b long small never same = absurd never
   laid_read (c ∷ l) t b long small (inl e) same =
       laid_keeps l (put t c.first (f c)) b.first (f b) (length_put t c.first (f c) ∙ long) small (λ d i. same d (inr i))
       (ap (λ (d : SlotBlock). at (put t d.first (f d)) b.first) (sym e) ∙ at_put_same t b.first (f b) long small)

@@ -63,6 +63,7 @@ none_asked (take_block size ∷ l) r e = go (eqb size 0) e (λ d. none_asked l r
     go false d h = absurd (zero_is_not_one (cc))
 
 no_growth : (size : ℕ) (l : List ℕ) (f : ℕ) → Member f l → growth size l ≡ 0
+no_growth size [] f never = absurd never
 no_growth size (b ∷ l) f i = refl
 
 -- where one block only is asked for, and one of its size is free, it does not grow

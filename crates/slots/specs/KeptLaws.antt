@@ -45,6 +45,7 @@ taken_or_left blocks len size k b i =
     (λ e. first (blocks size) e (subst (λ (j : ℕ). Member b (blocks j)) e i)) (λ e. inl i)
   where
     first : (l : List ℕ) → k ≡ size → Member b l → Member b (rest l) ⊎ ((b ≡ first_or len l) × (k ≡ size))
+    first [] e never = absurd never
     first (c ∷ l) e (inl q) = inr (q, e)
     first (c ∷ l) e (inr j) = inl j
 

@@ -96,6 +96,7 @@ list_end links size (suc n) = refl
 
 pub list_on : (links : List ℕ) (head size n : ℕ) → (head ≡ 0 → ⊥) → 0 < n → list_from links head size n ≡ (slot_block (head - 1) size free ∷ []) ++ list_from links (at links (head - 1)) size (n - 1)
 unfolding list_from chained
+list_on links head size zero some never = absurd (omega arith)
 list_on links head size (suc n) some h =
     let e : suc n - 1 ≡ n = omega arith in
     rw (ne_eqb head 0 some, e)

@@ -80,7 +80,7 @@ among_run n d a (suc k) j (suc i) other h =
     let e : eqb (a + suc i) a ≡ false = ne_eqb (a + suc i) a (λ q. omega arith) in
     let z : a + suc i ≡ suc a + i = omega arith in
     let y : suc j + i ≡ j + suc i = omega arith in
-    rw e (rw z (among_run n d (suc a) k (suc j) i other (omega arith) ∙ ap (spot n d) y))
+    rw e (ap (λ (p : ℕ). spot_among n d p (range (suc a) k) (suc j) other) z ∙ (among_run n d (suc a) k (suc j) i other (omega arith) ∙ ap (spot n d) y))
 
 pub beside_run : (n : ℕ) (d : Direction) (p a k j : ℕ) (other : Spot) → ((i : ℕ) → i < k → p ≡ a + i → ⊥) → spot_among n d p (range a k) j other ≡ other
 unfolding spot_among range

@@ -235,6 +235,7 @@ module _ {B : Type 0} where
   apart_first (x ∷ a) b r = ((λ y i. r.0 y (member_left y a b i)), apart_first a b r.1)
 
   apart_last : (a : List B) (x : B) → Rising Apart (a ++ (x ∷ [])) → (y : B) → Member y a → x ≡ y → ⊥
+  apart_last [] x r y never q = absurd never
   apart_last (z ∷ a) x r y (inl e) q = r.0 x (member_right x a (x ∷ []) (inl refl)) (sym (q ∙ e))
   apart_last (z ∷ a) x r y (inr i) q = apart_last a x r.1 y i q
 
@@ -361,6 +362,7 @@ filter_narrow {A} t u (x ∷ l) h = go (t x) refl (u x) refl (filter_narrow t u 
     go false e false d r = r
 
 rising_last : {A : Type 0} (R : A → A → Type 0) (a : List A) (x : A) → Rising R (a ++ (x ∷ [])) → (y : A) → Member y a → R y x
+rising_last {A = A} R [] x r y never = absurd never
 rising_last R (z ∷ a) x r y (inl e) = subst (λ v. R v x) (sym e) (r.0 x (member_right x a (x ∷ []) (inl refl)))
 rising_last R (z ∷ a) x r y (inr i) = rising_last R a x r.1 y i
 

@@ -155,17 +155,17 @@ module _ {m : MultiPortGraph} {M : Model} (f : Fine m M) (a b : ℕ) where
 
   -- 10 is given where 18 is not
   full_free : LinkRefused m M a b m NoRoom → Taken m M a b → ⊥
-  full_free k = go NoRoom k refl
+  full_free k = go m NoRoom k refl
     where
-      go : (r : Refusal) → LinkRefused m M a b m r → r ≡ NoRoom → Taken m M a b → ⊥
-      go r (link_first_dead d) e = absurd (zero_is_not_one (cc))
-      go r (link_first_hidden k) e = absurd (zero_is_not_one (cc))
-      go r (link_second_hidden x s k) e = absurd (zero_is_not_one (cc))
-      go r (link_wired x s n k) e = absurd (zero_is_not_one (cc))
-      go r (link_first_full x s n free g) e = free
-      go r (link_second_full x y m₁ u o s t free g h) e = free
-      go r (link_second_dead x m₁ u o s d free g) e = absurd (zero_is_not_one (cc))
-      go r (link_one_side x y m₁ m₂ u o v w s t free g h q) e = absurd (zero_is_not_one (cc))
+      go : (left : MultiPortGraph) (r : Refusal) → LinkRefused m M a b left r → r ≡ NoRoom → Taken m M a b → ⊥
+      go left r (link_first_dead d) e = absurd (zero_is_not_one (cc))
+      go left r (link_first_hidden k) e = absurd (zero_is_not_one (cc))
+      go left r (link_second_hidden x s k) e = absurd (zero_is_not_one (cc))
+      go left r (link_wired x s n k) e = absurd (zero_is_not_one (cc))
+      go left r (link_first_full x s n free g) e = free
+      go left r (link_second_full x y m₁ u o s t free g h) e = free
+      go left r (link_second_dead x m₁ u o s d free g) e = absurd (zero_is_not_one (cc))
+      go left r (link_one_side x y m₁ m₂ u o v w s t free g h q) e = absurd (zero_is_not_one (cc))
 
   pub clean_refuses : (r : Refusal) → CleanRefused m M a b r → link_clean m a b ≡ link_refused m r
   clean_refuses r (clean_first_dead d) = clean_before dead (seen m b) (seen_none f a d) refl _ refl refl

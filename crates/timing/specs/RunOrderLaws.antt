@@ -50,6 +50,7 @@ before_is (n ∷ l) a b e = go (eqb a n && is_in b l) refl e (before_is l a b)
 
 is_before_lem : (l : List ℕ) (a b : ℕ) → Before l a b → is_before l a b ≡ true
 unfolding is_before
+is_before_lem [] a b never = absurd never
 is_before_lem (n ∷ l) a b (inl h) = rw (eq-eqb a n h.0, member_in b l h.1)
 is_before_lem (n ∷ l) a b (inr h) = go (eqb a n && is_in b l) (is_before_lem l a b h)
   where
@@ -68,21 +69,25 @@ apart_once (n ∷ l) o = ((λ i. o.0 n i refl), apart_once l o.1)
 -- Which of two stands before the other.
 
 before_member : (l : List ℕ) (a b : ℕ) → Before l a b → Member a l × Member b l
+before_member [] a b never = absurd never
 before_member (n ∷ l) a b (inl h) = (inl h.0, inr h.1)
 before_member (n ∷ l) a b (inr h) = let r = before_member l a b h in (inr r.0, inr r.1)
 
 before_trans : (l : List ℕ) (a b c : ℕ) → Once l → Before l a b → Before l b c → Before l a c
+before_trans [] a b c o never _ = absurd never
 before_trans (n ∷ l) a b c o (inl h) (inl k) = absurd (o.0 (subst (λ (x : ℕ). Member x l) k.0 h.1))
 before_trans (n ∷ l) a b c o (inl h) (inr k) = inl (h.0, (before_member l b c k).1)
 before_trans (n ∷ l) a b c o (inr h) (inl k) = absurd (o.0 (subst (λ (x : ℕ). Member x l) k.0 (before_member l a b h).1))
 before_trans (n ∷ l) a b c o (inr h) (inr k) = inr (before_trans l a b c o.1 h k)
 
 before_itself : (l : List ℕ) (a : ℕ) → Once l → Before l a a → ⊥
+before_itself [] a o never = absurd never
 before_itself (n ∷ l) a o (inl h) = o.0 (subst (λ (x : ℕ). Member x l) h.0 h.1)
 before_itself (n ∷ l) a o (inr h) = before_itself l a o.1 h
 
 pub before_filter : (t : ℕ → Bool) (l : List ℕ) (a b : ℕ) → Before l a b → t a ≡ true → t b ≡ true → Before (filter t l) a b
 unfolding filter
+before_filter t [] a b never e f = absurd never
 before_filter t (n ∷ l) a b (inl h) e f = rw (ap t (sym h.0) ∙ e) (inl (h.0, filter_member t b l h.1 f))
 before_filter t (n ∷ l) a b (inr h) e f = go (t n) (before_filter t l a b h e f)
   where
@@ -92,6 +97,7 @@ before_filter t (n ∷ l) a b (inr h) e f = go (t n) (before_filter t l a b h e 
 
 -- in an order in which feeders come first, feeds go forward
 in_order_before : (feeds : List Feed) (seen l : List ℕ) → InOrder feeds seen l → (a b : ℕ) → Member a (feeders feeds b) → Member b l → Member a seen ⊎ Before l a b
+in_order_before feeds seen [] o a b f never = absurd never
 in_order_before feeds seen (n ∷ l) o a b f (inl e) = inl (o.0 a (subst (λ (x : ℕ). Member a (feeders feeds x)) e f))
 in_order_before feeds seen (n ∷ l) o a b f (inr i) = go (in_order_before feeds (n ∷ seen) l o.1 a b f i)
   where
@@ -124,6 +130,7 @@ one_inside l n e = go (ltb n (length l)) refl
 -- every number named has 1 in the table, and none is named twice; else the order is not right
 named_each : (places : List ℕ) (i : ℕ) (l : List ℕ) → (named places i l).right ≡ true → (n : ℕ) → Member n l → get_or places n 0 ≡ 1
 unfolding named
+named_each places i [] e n never = absurd never
 named_each places i (k ∷ l) e n m = go (eqb (get_or places k 0) 1) refl e m (named_each (set places k (i + 2)) (suc i) l)
   where
     go : (b : Bool) → eqb (get_or places k 0) 1 ≡ b → (cond b (named (set places k (i + 2)) (suc i) l) (record { places = places; right = false })).right ≡ true → (n ≡ k) ⊎ Member n l →
@@ -183,6 +190,7 @@ place_first places i k l e =
     ap (λ (r : Named). get_or r.places k 0) f.same ∙ (place_stays (set places k (i + 2)) (suc i) l f.rest k f.apart ∙ f.written)
 
 place_later : (places : List ℕ) (i : ℕ) (l : List ℕ) → (named places i l).right ≡ true → (n : ℕ) → Member n l → i + 2 ≤ get_or (named places i l).places n 0
+place_later places i [] e n never = absurd never
 place_later places i (k ∷ l) e n (inl p) = let q = place_first places i k l e in subst (λ (x : ℕ). i + 2 ≤ get_or (named places i (k ∷ l)).places x 0) (sym p) (omega arith)
 place_later places i (k ∷ l) e n (inr j) =
     let f = first places i k l e in
@@ -191,6 +199,7 @@ place_later places i (k ∷ l) e n (inr j) =
     omega arith
 
 before_places : (places : List ℕ) (i : ℕ) (l : List ℕ) → (named places i l).right ≡ true → (a b : ℕ) → Before l a b → get_or (named places i l).places a 0 < get_or (named places i l).places b 0
+before_places places i [] e a b never = absurd never
 before_places places i (k ∷ l) e a b (inl h) =
     let f = first places i k l e in
     let x = place_first places i k l e in
@@ -206,6 +215,7 @@ before_places places i (k ∷ l) e a b (inr h) =
 
 places_before : (places : List ℕ) (i : ℕ) (l : List ℕ) → (named places i l).right ≡ true → (a b : ℕ) → Member a l → Member b l →
     get_or (named places i l).places a 0 < get_or (named places i l).places b 0 → Before l a b
+places_before places i [] e a b never _ h = absurd never
 places_before places i (k ∷ l) e a b (inl p) (inl q) h =
     let x : a ≡ b = p ∙ sym q in
     let y = ap (λ (n : ℕ). get_or (named places i (k ∷ l)).places n 0) x in
@@ -231,6 +241,7 @@ marked_stays (k ∷ l) places n h = marked_stays l (set places k 1) n (λ i. h (
 
 marked_one : (l places : List ℕ) (n : ℕ) → Member n l → n < length places → get_or (marked l places) n 0 ≡ 1
 unfolding marked
+marked_one [] places n never h = absurd never
 marked_one (k ∷ l) places n i h = go (member_or_not n l) i (marked_one l (set places k 1) n)
   where
     go : Member n l ⊎ (Member n l → ⊥) → (n ≡ k) ⊎ Member n l → (Member n l → n < length (set places k 1) → get_or (marked l (set places k 1)) n 0 ≡ 1) → get_or (marked l (set places k 1)) n 0 ≡ 1

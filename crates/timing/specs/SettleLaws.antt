@@ -37,6 +37,7 @@ in_member x (y ∷ l) e = go (eqb x y) refl (in_member x l) e
 
 pub member_in : (x : ℕ) (l : List ℕ) → Member x l → is_in x l ≡ true
 unfolding is_in
+member_in x [] never = absurd never
 member_in x (y ∷ l) (inl e) = rw (eq-eqb x y e)
 member_in x (y ∷ l) (inr i) = go (eqb x y) (member_in x l i)
   where
@@ -93,6 +94,7 @@ waiting_split done b n h (f ∷ l) =
 -- where none is left, every feeder is done
 pub waiting_none : (done : List ℕ) (n : ℕ) (l : List Feed) → waiting done n l ≡ 0 → (p : ℕ) → Member p (feeders l n) → Member p done
 unfolding waiting feeders
+waiting_none done n [] e p never = absurd never
 waiting_none done n (f ∷ l) e p i = go (eqb f.target n) (is_in f.source done) refl (waiting_none done n l) e i
   where
     go : (t s : Bool) → is_in f.source done ≡ s → (waiting done n l ≡ 0 → (p : ℕ) → Member p (feeders l n) → Member p done) →
@@ -121,6 +123,7 @@ feed# p n = record { source = p; target = n }
 
 pub feeders_member : (p n : ℕ) (l : List Feed) → Member p (feeders l n) → Member (feed# p n) l
 unfolding feeders
+feeders_member p n [] never = absurd never
 feeders_member p n (f ∷ l) i = go (eqb f.target n) refl (feeders_member p n l) i
   where
     go : (t : Bool) → eqb f.target n ≡ t → (Member p (feeders l n) → Member (feed# p n) l) → Member p (cond t (f.source ∷ feeders l n) (feeders l n)) → Member (feed# p n) (f ∷ l)
@@ -130,6 +133,7 @@ feeders_member p n (f ∷ l) i = go (eqb f.target n) refl (feeders_member p n l)
 
 pub member_feeders : (f : Feed) (l : List Feed) → Member f l → Member f.source (feeders l f.target)
 unfolding feeders
+member_feeders f [] never = absurd never
 member_feeders f (g ∷ l) (inl e) = rw (eq-eqb g.target f.target (sym (ap (λ (x : Feed). x.target) e))) (inl (ap (λ (x : Feed). x.source) e))
 member_feeders f (g ∷ l) (inr i) = go (eqb g.target f.target) (member_feeders f l i)
   where
@@ -139,6 +143,7 @@ member_feeders f (g ∷ l) (inr i) = go (eqb g.target f.target) (member_feeders 
 
 group_member : (b : ℕ) (f : Feed) (l : List Feed) → Member f (group b l) → Member f l × (f.source ≡ b)
 unfolding group
+group_member b f [] never = absurd never
 group_member b f (g ∷ l) i = go (eqb g.source b) refl (group_member b f l) i
   where
     go : (t : Bool) → eqb g.source b ≡ t → (Member f (group b l) → Member f l × (f.source ≡ b)) → Member f (cond t (g ∷ group b l) (group b l)) → Member f (g ∷ l) × (f.source ≡ b)
@@ -148,6 +153,7 @@ group_member b f (g ∷ l) i = go (eqb g.source b) refl (group_member b f l) i
 
 member_group : (b : ℕ) (f : Feed) (l : List Feed) → Member f l → f.source ≡ b → Member f (group b l)
 unfolding group
+member_group b f [] never h = absurd never
 member_group b f (g ∷ l) (inl e) h = rw (eq-eqb g.source b (sym (ap (λ (x : Feed). x.source) e) ∙ h)) (inl e)
 member_group b f (g ∷ l) (inr i) h = go (eqb g.source b) (member_group b f l i h)
   where
@@ -463,6 +469,7 @@ module _ (feeds : List Feed) (time : ℕ → ℕ) where
   -- A block.
 
   not_before : (a rest : List ℕ) (b : ℕ) → Rising Apart (a ++ (b ∷ rest)) → Member b a → ⊥
+  not_before [] rest b r never = absurd never
   not_before (x ∷ a) rest b r (inl e) = r.0 b (member_right b a (b ∷ rest) (inl refl)) (sym e)
   not_before (x ∷ a) rest b r (inr i) = not_before a rest b r.1 i
 
@@ -593,6 +600,7 @@ module _ (feeds : List Feed) (time : ℕ → ℕ) (below : (p n : ℕ) → Membe
   path_next seen n fed h zero l path z w = (n, path, refl, w, go (get_or t.origin n 0) refl)
     where
       empty : (seen : List ℕ) → suc (length seen) ≤ 1 → (p : ℕ) → Member p seen → ⊥
+      empty [] h p never = absurd never
       empty (x ∷ seen) h p i = omega arith
 
       go : (v : ℕ) → get_or t.origin n 0 ≡ v → sum_along time (n ∷ path) ≡ (time n + get_or t.best n 0) + sum_along time path
@@ -614,6 +622,7 @@ module _ (feeds : List Feed) (time : ℕ → ℕ) (below : (p n : ℕ) → Membe
 
   paths : (seen l : List ℕ) → InOrder feeds seen l → ((p : ℕ) → Member p seen → PathTo (length seen) p) → (p : ℕ) → Member p l → PathTo (length l + length seen) p
   unfolding PathTo
+  paths seen [] o h p never k g = absurd never
   paths seen (n ∷ l) o h p i k g = find (paths (n ∷ seen) l o.1 next p) i
     where
       next : (q : ℕ) → Member q (n ∷ seen) → PathTo (suc (length seen)) q

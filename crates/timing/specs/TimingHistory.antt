@@ -88,6 +88,7 @@ longest_is_largest release calls n times s e =
     ((w.0 ∷ w.1, walk_booked release calls w.0 n w.1 w.2, w.3 ∙ sym c.sum), λ l k. most l k c)
   where
     most : (l : List ℕ) → WalkTo (run release calls).book.wires n l → laws.Summed (run release calls).graph n times s → sum_along (time_in times) l ≤ s
+    most [] never c = absurd never
     most (a ∷ l) k c =
         let m = (run release calls).graph in
         let f = (rel_run release calls).1.fine in

@@ -28,6 +28,7 @@ any_some t (p ∷ l) e = go (t p) refl (any_some t l) e
 
 pub some_any : (t : ℕ → Bool) (l : List ℕ) (p : ℕ) → Member p l → t p ≡ true → any_of t l ≡ true
 unfolding any_of
+some_any t [] p never h = absurd never
 some_any t (q ∷ l) p (inl e) h = rw (← e, h)
 some_any t (q ∷ l) p (inr i) h = go (t q) (some_any t l p i h)
   where
@@ -49,6 +50,7 @@ any_none t l e p i = go (t p) refl
 
 pub largest_above : (v : ℕ → ℕ) (l : List ℕ) (p : ℕ) → Member p l → v p ≤ largest_of v l
 unfolding largest_of
+largest_above v [] p never = absurd never
 largest_above v (q ∷ l) p (inl e) = rw (← e) (omega arith)
 largest_above v (q ∷ l) p (inr i) = let h = largest_above v l p i in omega arith
 
@@ -105,6 +107,7 @@ module _ (R : ℕ → ℕ → Type 0) where
 
   -- the blocks of a walk of at least one wire have the test that ends of wires have
   pub leads_all : (T : ℕ → Type 0) → ((p n : ℕ) → R p n → T p × T n) → (a n : ℕ) (l : List ℕ) → T n → Leads R a n l → (x : ℕ) → Member x (a ∷ l) → T x
+  leads_all T ends a n [] t e x (inr never) = absurd never
   leads_all T ends a n [] t e x (inl p) = subst T (sym (p ∙ e)) t
   leads_all T ends a n (c ∷ l) t h x (inl p) = subst T (sym p) (ends a c h.0).0
   leads_all T ends a n (c ∷ l) t h x (inr i) = leads_all T ends c n l t h.1 x i
@@ -120,6 +123,7 @@ sum_append t (n ∷ a) b = let h = sum_append t a b in omega arith
 -- Repeats.
 
 member_split : (c : ℕ) (l : List ℕ) → Member c l → (x : List ℕ) × (y : List ℕ) × (l ≡ x ++ (c ∷ y))
+member_split c [] never = absurd never
 member_split c (n ∷ l) (inl e) = ([], l, ap (λ (k : ℕ). k ∷ l) (sym e))
 member_split c (n ∷ l) (inr i) = let r = member_split c l i in (n ∷ r.0, r.1, ap (λ (k : List ℕ). n ∷ k) r.2)
 

@@ -2,7 +2,7 @@
 use multi_tables::answers::Refusal;
 
 // What a question for the largest sum comes to.
-#[derive(Drop)]
+#[derive(Clone, Copy)]
 pub enum LongestAnswer {
     // The largest sum, in microseconds.
     Longest(u32),
@@ -15,7 +15,7 @@ pub enum LongestAnswer {
 }
 
 // The answer, and how many blocks a path that has the sum was listed with; none where there is no sum.
-#[derive(Drop)]
+#[derive(Clone, Copy)]
 pub struct PathListed {
     pub answer: LongestAnswer,
     pub blocks: usize,

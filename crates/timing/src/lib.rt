@@ -1,4 +1,5 @@
 // Times along wires: the largest sum of times that comes to a block, a path that has it, and whether a proposed run order is right.
+#![tactic(auto)]
 
 // What is answered.
 pub mod answers;

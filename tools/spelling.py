@@ -108,7 +108,7 @@ def turn(text, table, generated=False):
         dotted = m.start() > 1 and text[m.start() - 1] == '.' and not text[m.start() - 2:m.start() - 1].isspace()
         if not dotted:
             head = token
-        stays = dotted and (head == 'Rattle' or token in LEMMAS
+        stays = dotted and (token in LEMMAS
                             or generated and '-' in token and head in ('c', 'w', 'l', 'κs', 'goal', 'tie'))
         out.append(token if stays else table.get(token, token))
         last = m.end()

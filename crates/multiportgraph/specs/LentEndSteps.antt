@@ -140,7 +140,7 @@ module _ (m : MultiPortGraph) (a : ℕ) (d : Direction) {g : MultiPortGraph} (r 
       link_parts (sym (ap (link_live m a d a d) is
       ∙ (ap (link_second m a d r.port r.offset a d) (again_ready b g r.port r.offset is)
       ∙ ap (λ (c : Bool). cond c (link_refused g (IncompatibleDirections (port# r.port) (port# r.port) d))
-      (record { graph = with_graph g (Rattle.portgraph.specs.Calls.linkPorts g.graph r.port r.port).graph; answer = link.Linked (subport# a r.offset) (subport# a r.offset) })) (one_side d))))
+      (record { graph = with_graph g (Rattle.portgraph.specs.Calls.link_ports g.graph r.port r.port).graph; answer = link.Linked (subport# a r.offset) (subport# a r.offset) })) (one_side d))))
     where
       one_side : (d : Direction) → same_side d d ≡ true
       one_side Incoming = refl
@@ -172,7 +172,7 @@ module _ {m : MultiPortGraph} {a : ℕ} {d : Direction} {x o b : ℕ} {e : Direc
     second_same c =
         link_parts (sym (by_second (hiding.ready k s.port s.offset) second_is
         ∙ ap (λ (v : Bool). cond v (link_refused k (IncompatibleDirections (port# x) (port# s.port) d))
-        (record { graph = with_graph k (Rattle.portgraph.specs.Calls.linkPorts k.graph x s.port).graph; answer = link.Linked (subport# a o) (subport# b s.offset) })) c))
+        (record { graph = with_graph k (Rattle.portgraph.specs.Calls.link_ports k.graph x s.port).graph; answer = link.Linked (subport# a o) (subport# b s.offset) })) c))
 
     pub second_linked : same_side d e ≡ false → {l : List ℕ} → l ≡ tables.link_both k.graph.port_link x s.port →
         (with_graph k (with_links k.graph l (k.graph.link_count + 1)) ≡ (link_live m a d b e (prepare m a d)).graph)

@@ -26,7 +26,7 @@ pub enum AddAnswer {
     Refused(Refusal),
 }
 
-#[derive(Drop)]
+#[derive(Clone, Copy)]
 pub struct NodeAdded {
     pub graph: MultiPortGraph,
     pub answer: AddAnswer,
@@ -38,7 +38,7 @@ pub enum RemoveAnswer {
     Refused(Refusal),
 }
 
-#[derive(Drop)]
+#[derive(Clone, Copy)]
 pub struct NodeRemoved {
     pub graph: MultiPortGraph,
     pub answer: RemoveAnswer,
@@ -51,7 +51,7 @@ pub enum SetAnswer {
     Refused(Refusal),
 }
 
-#[derive(Drop)]
+#[derive(Clone, Copy)]
 pub struct PortsSet {
     pub graph: MultiPortGraph,
     pub answer: SetAnswer,
@@ -63,13 +63,13 @@ pub enum LinkAnswer {
     Refused(Refusal),
 }
 
-#[derive(Drop)]
+#[derive(Clone, Copy)]
 pub struct PortsLinked {
     pub graph: MultiPortGraph,
     pub answer: LinkAnswer,
 }
 
-#[derive(Drop)]
+#[derive(Clone, Copy)]
 pub struct PortUnlinked {
     pub graph: MultiPortGraph,
     pub answer: CutAnswer,
@@ -81,7 +81,7 @@ pub enum TidyAnswer {
     Refused(Refusal),
 }
 
-#[derive(Drop)]
+#[derive(Clone, Copy)]
 pub struct PortTidied {
     pub graph: MultiPortGraph,
     pub answer: TidyAnswer,

@@ -29,7 +29,7 @@ use portgraph::resize::{PortsSet, SetAnswer as LowerSet};
 const MOVES: usize = 3 * NODE_PORTS;
 
 // A prepared end: the graph, the inner port and its offset; or, where there is no room, the graph as it was.
-#[derive(Drop)]
+#[derive(Clone, Copy)]
 pub struct Prepared {
     pub graph: MultiPortGraph,
     pub port: u32,

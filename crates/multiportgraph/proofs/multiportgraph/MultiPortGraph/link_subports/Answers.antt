@@ -1,0 +1,13 @@
+-- `multiportgraph::multiportgraph::MultiPortGraph::link_subports` meets its contract: two ends that are linked, and a refusal.
+use mathlib.Core.Path.{◌∙◌}
+use Rattle.port_tables.specs.TableSteps.{with_numbers}
+use Rattle.multiportgraph.specs.Answers.{link_numbers}
+use Rattle.multiportgraph.specs.declared.multiportgraph.PortsLinked.{PortsLinked}
+use Rattle.multiportgraph.specs.InputSteps.{sub_joined, sub_refused}
+use Rattle.multiportgraph.proofs.multiportgraph.MultiPortGraph.link_subports.Goals as goal
+
+pub returns-in-Ends : goal.returns-in-Ends
+returns-in-Ends c = with_numbers (λ (r : PortsLinked). link_numbers r.answer) (c.link_ends.ensures ∙ sub_joined c.requires _ _ _ _ c.link_named_under.ensures c.in-Ends.is c.read_in-first.ensures c.read_in-second.ensures)
+
+pub returns-in-Refused : goal.returns-in-Refused
+returns-in-Refused c = with_numbers (λ (r : PortsLinked). link_numbers r.answer) (c.link_refused.ensures ∙ sub_refused c.requires _ _ _ _ c.link_named_under.ensures c.in-Refused.is)

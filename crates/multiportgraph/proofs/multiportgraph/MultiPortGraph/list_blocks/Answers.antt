@@ -1,0 +1,20 @@
+-- `multiportgraph::multiportgraph::MultiPortGraph::list_blocks` meets its contract: what the lent tables list is what the graph lists.
+use mathlib.Core.Path.{sym, subst}
+use lib.ListN.{length}
+use Rattle.multiportgraph.specs.WellFormed.{MultiWf}
+use Rattle.multiportgraph.specs.Wires.{blocks}
+use Rattle.multiportgraph.specs.Listed.{blocks_listed}
+use Rattle.multiportgraph.specs.LentGraph.{lent_is}
+use Rattle.multiportgraph.specs.ListSteps.{listed_as}
+use Rattle.multiportgraph.specs.declared.multiportgraph.MultiPortGraph.{MultiPortGraph}
+use Rattle.multiportgraph.proofs.multiportgraph.MultiPortGraph.list_blocks.Goals as goal
+
+  statement,
+
+}
+
+pub blocks_lent-requires : goal.blocks_lent-requires
+blocks_lent-requires c = subst (λ (m : MultiPortGraph). MultiWf m) (sym (lent_is c.args.self _ c.put_slots.ensures.0 c.node_slots-slots.ensures c.free_heads-heads.ensures c.counts-counts.ensures)) c.requires
+
+pub returns : goal.returns
+returns c = listed_as (λ m. length (blocks m)) blocks_listed c.args.list.now (lent_is c.args.self _ c.put_slots.ensures.0 c.node_slots-slots.ensures c.free_heads-heads.ensures c.counts-counts.ensures) c.blocks_lent.ensures

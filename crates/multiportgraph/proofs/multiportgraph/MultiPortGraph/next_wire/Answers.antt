@@ -1,0 +1,30 @@
+-- `multiportgraph::multiportgraph::MultiPortGraph::next_wire` meets its contract. Invariant: what is found from `n` on is what is found from `node` on.
+-- Measure: the node slots that are left.
+use mathlib.Core.Path.{◌≡◌, ap, ◌∙◌}
+use mathlib.Core.List.{List}
+use native.Mathlib.Omega.{arith}
+use Rattle.port_tables.specs.Limits.{node_slots}
+use Rattle.port_tables.specs.Entries.{fresh_slot}
+use Rattle.port_tables.specs.declared.node_entry.NodeSlot.{NodeSlot}
+use lib.ListN.{get_or}
+use Rattle.multi_tables.specs.Forms.{flag_at}
+use Rattle.multi_tables.specs.Scans.{first_found, block_links_in}
+use Rattle.multi_tables.specs.ScanSteps.{nodes_turn, nodes_found, nodes_done}
+use Rattle.multiportgraph.proofs.multiportgraph.MultiPortGraph.next_wire.Goals as goal
+use Rattle.multiportgraph.proofs.multiportgraph.MultiPortGraph.next_wire.Goals.{After-block_links-found}
+
+-- what the slot's scan found
+found_is : (c : After-block_links-found) → c.block_links-found.result ≡ first_found (block_links_in c.args.self.multiport c.args.self.graph.port_link c.args.self.graph.port_meta c.args.self.copy_node (get_or c.args.self.graph.node_meta c.loop-n.n fresh_slot).entry (flag_at c.args.self.copy_node node_slots c.loop-n.n) c.loop-n.h c.loop-n.o)
+found_is c =
+    c.block_links-found.ensures.0
+    ∙ (ap (λ (l : List NodeSlot). first_found (block_links_in c.args.self.multiport c.args.self.graph.port_link c.args.self.graph.port_meta c.args.self.copy_node (get_or l c.loop-n.n fresh_slot).entry c.flagged-hidden.result c.loop-n.h c.loop-n.o)) c.node_slots-slots.ensures
+    ∙ ap (λ b. first_found (block_links_in c.args.self.multiport c.args.self.graph.port_link c.args.self.graph.port_meta c.args.self.copy_node (get_or c.args.self.graph.node_meta c.loop-n.n fresh_slot).entry b c.loop-n.h c.loop-n.o)) c.flagged-hidden.ensures)
+
+pub returns-in-Link : goal.returns-in-Link
+returns-in-Link c = (nodes_found c.args.self.multiport c.args.self.graph.port_link c.args.self.graph.port_meta c.args.self.copy_node c.args.self.graph.node_meta c.loop-n.n c.loop-n.h c.loop-n.o _ _ c.loop-n-test.true (found_is (goal.at.returns-in-Link c).After-block_links-found) c.in-Link.is ∙ c.loop-n.invariant, c.block_links-found.ensures.1)
+
+pub loop-n-preserved : goal.loop-n-preserved
+loop-n-preserved c = nodes_turn c.args.self.multiport c.args.self.graph.port_link c.args.self.graph.port_meta c.args.self.copy_node c.args.self.graph.node_meta c.loop-n.n c.loop-n.h c.loop-n.o _ c.loop-n-test.true (found_is (goal.at.loop-n-preserved c).After-block_links-found) c.in-None.is ∙ c.loop-n.invariant
+
+pub returns : goal.returns
+returns c = (nodes_done c.args.self.multiport c.args.self.graph.port_link c.args.self.graph.port_meta c.args.self.copy_node c.args.self.graph.node_meta c.loop-n.n c.loop-n.h c.loop-n.o c.loop-n-test.false ∙ c.loop-n.invariant, omega arith)

@@ -1,0 +1,21 @@
+-- `multiportgraph::multiportgraph::MultiPortGraph::split` meets its contract: no room, and the split.
+use mathlib.Core.Path.{refl, ◌∙◌}
+use Rattle.portgraph.specs.Calls.{add_node}
+use Rattle.portgraph.specs.contracts.alloc.AddAnswer
+use denote.Enum.Declared
+use Rattle.multiportgraph.specs.PrepareSteps.{split_full}
+use Rattle.multiportgraph.proofs.multiportgraph.MultiPortGraph.split.Goals as goal
+
+)
+
+pub returns-in_default : goal.returns-in_default
+returns-in_default c =
+    split_full c.args.self c.args.port c.args.direction c.copy_incoming.ensures c.copy_outgoing.ensures c.add_node-added.ensures.0
+    (Declared.tag_of AddAnswer.the_type) (λ n f. refl) c.in_default.in_default-own.keys2
+
+pub split_by-requires : goal.split_by-requires
+split_by-requires c =
+    (
+  c.requires,
+  c.add_node-added.ensures.0 ∙ (λ i. add_node c.args.self.graph (c.copy_incoming.ensures i) (c.copy_outgoing.ensures i)),
+  c.in-Added.is,

@@ -1,0 +1,26 @@
+-- `multiportgraph::multiportgraph::MultiPortGraph::unlink_port` meets its contract: a port of a block, and a refusal.
+
+-- the port is a block's
+use mathlib.Core.Path.{sym, ◌∙◌}
+use Rattle.port_tables.specs.TableSteps.{with_numbers}
+use Rattle.multiportgraph.specs.Answers.{cut_numbers}
+use Rattle.multiportgraph.specs.Presumed.{OnBlock}
+use Rattle.multiportgraph.specs.LowerSteps.{on_side, side_seen, port_cut_refused}
+use Rattle.multiportgraph.specs.declared.multiportgraph.PortUnlinked.{PortUnlinked}
+use Rattle.multiportgraph.proofs.multiportgraph.MultiPortGraph.unlink_port.Goals as goal
+use Rattle.multiportgraph.proofs.multiportgraph.MultiPortGraph.unlink_port.Goals.{In-Found}
+
+on-here : (c : In-Found) → OnBlock c.args.self c.args.port.0 c.in-Found.direction
+on-here c = on_side c.requires c.args.port.0 (sym c.port_direction.ensures.0 ∙ c.in-Found.is)
+
+pub without_wires-requires : goal.without_wires-requires
+without_wires-requires c = on-here (goal.at.without_wires-requires c).In-Found
+
+pub cut_answer-requires : goal.cut_answer-requires
+cut_answer-requires c = side_seen c.requires (on-here (goal.at.cut_answer-requires c).In-Found)
+
+pub returns-in-Found : goal.returns-in-Found
+returns-in-Found c = with_numbers (λ (r : PortUnlinked). cut_numbers r.answer) (λ i. record { graph = c.without_wires.ensures i; answer = c.cut_answer.ensures i })
+
+pub returns-in-Refused : goal.returns-in-Refused
+returns-in-Refused c = with_numbers (λ (r : PortUnlinked). cut_numbers r.answer) (port_cut_refused c.requires c.args.port.0 (sym c.port_direction.ensures.0 ∙ c.in-Refused.is))

@@ -5,24 +5,24 @@ mod looks;
 mod state;
 
 // One letter's line.
-fn show(letter: u8, good: bool) {
-    if good {
-        io::write_all(1, &[letter, b' ', b'o', b'k', b'\n']);
+fn show(rt: &impl Print, letter: u8, good: bool) {
+    let _ = if good {
+        rt.write_all(&[letter, b' ', b'o', b'k', b'\n'])
     } else {
-        io::write_all(1, &[letter, b' ', b'b', b'a', b'd', b'\n']);
-    }
+        rt.write_all(&[letter, b' ', b'b', b'a', b'd', b'\n'])
+    };
 }
 
-fn main() {
-    show(b'A', cases::case_a());
-    show(b'B', cases::case_b());
-    show(b'C', cases::case_c());
-    show(b'D', cases::case_d());
-    show(b'E', cases::case_e());
-    show(b'F', cases::case_f());
-    show(b'G', cases::case_g());
-    show(b'H', cases::case_h());
-    show(b'I', cases::case_i());
-    show(b'J', cases::case_j());
-    show(b'K', cases::case_k());
+fn main(rt: HostRuntime) {
+    show(&rt, b'A', cases::case_a());
+    show(&rt, b'B', cases::case_b());
+    show(&rt, b'C', cases::case_c());
+    show(&rt, b'D', cases::case_d());
+    show(&rt, b'E', cases::case_e());
+    show(&rt, b'F', cases::case_f());
+    show(&rt, b'G', cases::case_g());
+    show(&rt, b'H', cases::case_h());
+    show(&rt, b'I', cases::case_i());
+    show(&rt, b'J', cases::case_j());
+    show(&rt, b'K', cases::case_k());
 }

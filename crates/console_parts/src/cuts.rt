@@ -19,7 +19,7 @@ pub(crate) fn side_number(side: Direction) -> u32 {
     }
 }
 
-fn show_found(answer: CutAnswer) {
+fn show_found(rt: &impl Print, answer: CutAnswer) {
     match answer {
         CutAnswer::Found(end, place) => {
             let side = place.side;
@@ -29,10 +29,10 @@ fn show_found(answer: CutAnswer) {
                 .number(place.node.0)
                 .number(side_number(side))
                 .number(place.position as u32)
-                .write();
+                .write(rt);
         }
-        CutAnswer::Nothing => Line::of(b"ok 0 0 0").write(),
-        CutAnswer::Refused(refusal) => show_refusal(refusal),
+        CutAnswer::Nothing => Line::of(b"ok 0 0 0").write(rt),
+        CutAnswer::Refused(refusal) => show_refusal(rt, refusal),
     }
 }
 
@@ -47,22 +47,25 @@ fn unlinked(graph: MultiPortGraph, order: Order) -> PortUnlinked
 }
 
 // A command that cuts all wires at a port, or the wire at a subport.
-pub fn cut(graph: MultiPortGraph, order: Order) -> MultiPortGraph
+pub fn cut(rt: &impl Print, graph: MultiPortGraph, order: Order) -> MultiPortGraph
     requires { MultiWf graph }
     ensures { MultiWf result }
 {
     let done = unlinked(graph, order);
     let answer = done.answer;
-    show_found(answer);
+    show_found(rt, answer);
     done.graph
 }
 
 // What a subport is linked with.
-pub fn show_link(graph: MultiPortGraph, order: Order)
+pub fn show_link(rt: &impl Print, graph: MultiPortGraph, order: Order)
     requires { MultiWf graph }
 {
-    show_found(graph.subport_link(SubportIndex {
-        port: PortIndex(order.number(0)),
-        subport_offset: order.offset(1),
-    }));
+    show_found(
+        rt,
+        graph.subport_link(SubportIndex {
+            port: PortIndex(order.number(0)),
+            subport_offset: order.offset(1),
+        }),
+    );
 }

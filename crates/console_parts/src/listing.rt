@@ -228,7 +228,7 @@ fn start(graph: MultiPortGraph, command: u32, node: NodeIndex, other: NodeIndex)
 }
 
 // An item stands on a line after two blanks.
-fn show_item(item: Item) {
+fn show_item(rt: &impl Print, item: Item) {
     let mut line = Line::of(b" ").number(item.a);
     if 1 < item.count {
         line = line.number(item.b);
@@ -241,11 +241,11 @@ fn show_item(item: Item) {
             .number(item.side)
             .number(item.position);
     }
-    line.write();
+    line.write(rt);
 }
 
 // Every item of a walk, and how many there are. No walk has more than there are port slots.
-fn show_items(graph: MultiPortGraph, order: Order) -> usize
+fn show_items(rt: &impl Print, graph: MultiPortGraph, order: Order) -> usize
     requires { MultiWf graph }
 {
     let mut item = no_item();
@@ -255,14 +255,14 @@ fn show_items(graph: MultiPortGraph, order: Order) -> usize
         if item.count == 0 {
             return count;
         }
-        show_item(item);
+        show_item(rt, item);
         count += 1;
     }
     count
 }
 
 // A command that walks.
-pub fn list(graph: MultiPortGraph, order: Order)
+pub fn list(rt: &impl Print, graph: MultiPortGraph, order: Order)
     requires { MultiWf graph }
 {
     match start(
@@ -271,7 +271,7 @@ pub fn list(graph: MultiPortGraph, order: Order)
         NodeIndex(order.number(0)),
         NodeIndex(order.number(1)),
     ) {
-        CountAnswer::Count(_) => show_number(show_items(graph, order) as u64),
-        CountAnswer::Refused(refusal) => show_refusal(refusal),
+        CountAnswer::Count(_) => show_number(rt, show_items(rt, graph, order) as u64),
+        CountAnswer::Refused(refusal) => show_refusal(rt, refusal),
     }
 }

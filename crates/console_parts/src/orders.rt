@@ -82,7 +82,7 @@ fn entry_size(command: u32) -> usize {
 }
 
 // The order of a line that was heard.
-pub fn order_of(text: &[u8], line: u64) -> Order {
+pub fn order_of(rt: &impl Print, text: &[u8], line: u64) -> Order {
     let table = b"\
 add IN OUT
 remove N
@@ -122,5 +122,5 @@ runorder N N ..
     let first = next_word(text, 0);
     let row = row_of(table, text, first);
     let size = entry_size(row.number);
-    order_by(table, row, size, text, first.to, line)
+    order_by(rt, table, row, size, text, first.to, line)
 }

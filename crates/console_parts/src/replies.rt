@@ -75,36 +75,37 @@ fn reason_of(answer: Answer5) -> u32 {
 }
 
 // A refusal with what it carries, on a line that begins with what is given.
-fn show_refused(line: Line, answer: Answer5) {
+fn show_refused(rt: &impl Print, line: Line, answer: Answer5) {
     let longer = with_values(
         line.with(b"refused").number(answer.a),
         answer,
         carried(answer.a),
     );
-    with_reason(longer, reason_of(answer)).write();
+    with_reason(longer, reason_of(answer)).write(rt);
 }
 
 // An answer with so many values, or the refusal, on a line that begins with what is given.
-fn show_on(line: Line, answer: Answer5, values: u32) {
+fn show_on(rt: &impl Print, line: Line, answer: Answer5, values: u32) {
     if answer.a == 0 {
-        with_values(line.with(b"ok"), answer, values).write();
+        with_values(line.with(b"ok"), answer, values).write(rt);
     } else {
-        show_refused(line, answer);
+        show_refused(rt, line, answer);
     }
 }
 
-pub fn show_answer(answer: Answer5, values: u32) {
-    show_on(Line::of(b""), answer, values);
+pub fn show_answer(rt: &impl Print, answer: Answer5, values: u32) {
+    show_on(rt, Line::of(b""), answer, values);
 }
 
 // The same as an item of a listing.
-pub fn show_item(answer: Answer5, values: u32) {
-    show_on(Line::of(b"  "), answer, values);
+pub fn show_item(rt: &impl Print, answer: Answer5, values: u32) {
+    show_on(rt, Line::of(b"  "), answer, values);
 }
 
 // A refusal that carries nothing, by its number.
-pub fn show_refusal_number(number: u32) {
+pub fn show_refusal_number(rt: &impl Print, number: u32) {
     show_refused(
+        rt,
         Line::of(b""),
         Answer5 {
             a: number,
@@ -116,18 +117,18 @@ pub fn show_refusal_number(number: u32) {
     );
 }
 
-pub fn show_refusal(refusal: Refusal) {
-    show_refused(Line::of(b""), refusal_words(refusal));
+pub fn show_refusal(rt: &impl Print, refusal: Refusal) {
+    show_refused(rt, Line::of(b""), refusal_words(refusal));
 }
 
 // `ok` with one number.
-pub fn show_number(value: u64) {
-    Line::of(b"ok").long(value).write();
+pub fn show_number(rt: &impl Print, value: u64) {
+    Line::of(b"ok").long(value).write(rt);
 }
 
-pub fn show_count(answer: CountAnswer) {
+pub fn show_count(rt: &impl Print, answer: CountAnswer) {
     match answer {
-        CountAnswer::Count(count) => show_number(count as u64),
-        CountAnswer::Refused(refusal) => show_refusal(refusal),
+        CountAnswer::Count(count) => show_number(rt, count as u64),
+        CountAnswer::Refused(refusal) => show_refusal(rt, refusal),
     }
 }

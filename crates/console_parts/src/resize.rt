@@ -16,7 +16,7 @@ fn number_at(numbers: &[u32; MOVES], at: usize) -> u32 {
 }
 
 // Each event: the port, the kind, and the new port or the old link.
-fn show_moves(moves: &[u32; MOVES], events: usize) {
+fn show_moves(rt: &impl Print, moves: &[u32; MOVES], events: usize) {
     let mut event: usize = 0;
     while event < events {
         if NODE_PORTS <= event {
@@ -27,12 +27,12 @@ fn show_moves(moves: &[u32; MOVES], events: usize) {
             .number(number_at(moves, at))
             .number(number_at(moves, at + 1))
             .number(number_at(moves, at + 2))
-            .write();
+            .write(rt);
         event += 1;
     }
 }
 
-pub fn resize_block(graph: MultiPortGraph, order: Order) -> MultiPortGraph
+pub fn resize_block(rt: &impl Print, graph: MultiPortGraph, order: Order) -> MultiPortGraph
     requires { MultiWf graph }
     ensures { MultiWf result }
 {
@@ -47,10 +47,10 @@ pub fn resize_block(graph: MultiPortGraph, order: Order) -> MultiPortGraph
     let answer = sized.answer;
     match answer {
         SetAnswer::Set(events) => {
-            show_moves(&moves, events);
-            show_number(events as u64);
+            show_moves(rt, &moves, events);
+            show_number(rt, events as u64);
         }
-        SetAnswer::Refused(refusal) => show_refusal(refusal),
+        SetAnswer::Refused(refusal) => show_refusal(rt, refusal),
     }
     sized.graph
 }

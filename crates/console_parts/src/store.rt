@@ -4,49 +4,65 @@ ghost use Rattle.multiportgraph.specs.WellFormed.{MultiWf};
 
 use crate::replies::{show_number, show_refusal_number};
 use files::save::{LONGEST_FILE, SaveAnswer, save};
-use libc::{
-    EACCES, EFBIG, EINVAL, EIO, EISDIR, ENAMETOOLONG, ENOENT, ENOSPC, ENOTDIR, EPERM, EROFS,
-    PATH_MAX,
-};
 use lines::orders::Order;
 use lines::reading::put_byte;
 use lines::show::write_bytes;
 use lines::text::{Span, byte_at, next_word, part};
 use multiportgraph::multiportgraph::MultiPortGraph;
+use std::fs::{Files, OpenFile, OpenOptions, Permissions};
+use std::io::{ErrorKind, Write};
+use std::os::unix::fs::{OpenOptionsExt, PermissionsExt};
+use std::{fs, io, str};
 
-// The length of the name under which a file is made.
+// The longest path of the system, with its end.
+const PATH_MAX: usize = 4096;
+
+// The length of the name under which a file is made, and how many such names there are: it ends in six digits.
 const MADE_NAME: usize = 14;
 
+const DIGITS: usize = 6;
+
+const MADE_NAMES: u32 = 1000000;
+
+// The system's number for a disk that does not answer, which has no kind.
+const EIO: i32 = 5;
+
 // The system's reason, in plain words.
-fn show_reason(error: i32) {
-    match error {
-        EPERM | EACCES => write_bytes(b"this is not allowed"),
-        ENOENT => write_bytes(b"there is no such file or folder"),
-        EIO => write_bytes(b"the disk does not answer as it should"),
-        ENOTDIR => write_bytes(b"a part of the name is no folder"),
-        EISDIR => write_bytes(b"this is a folder"),
-        EINVAL => write_bytes(b"this is no name of a file"),
-        EFBIG => write_bytes(b"a file has at most 65536 bytes"),
-        ENOSPC => write_bytes(b"the disk is full"),
-        EROFS => write_bytes(b"the disk can only be read"),
-        ENAMETOOLONG => write_bytes(b"the name is too long"),
-        _ => write_bytes(b"the system refused it"),
+fn show_reason(rt: &impl Print, error: io::Error) {
+    if let Some(EIO) = error.raw_os_error() {
+        write_bytes(rt, b"the disk does not answer as it should");
+        return;
+    }
+    match error.kind() {
+        ErrorKind::PermissionDenied => write_bytes(rt, b"this is not allowed"),
+        ErrorKind::NotFound => write_bytes(rt, b"there is no such file or folder"),
+        ErrorKind::WriteZero => write_bytes(rt, b"the disk does not answer as it should"),
+        ErrorKind::NotADirectory => write_bytes(rt, b"a part of the name is no folder"),
+        ErrorKind::IsADirectory => write_bytes(rt, b"this is a folder"),
+        ErrorKind::InvalidInput => write_bytes(rt, b"this is no name of a file"),
+        ErrorKind::FileTooLarge => write_bytes(rt, b"a file has at most 65536 bytes"),
+        ErrorKind::StorageFull => write_bytes(rt, b"the disk is full"),
+        ErrorKind::ReadOnlyFilesystem => write_bytes(rt, b"the disk can only be read"),
+        ErrorKind::InvalidFilename => write_bytes(rt, b"the name is too long"),
+        _ => write_bytes(rt, b"the system refused it"),
     }
 }
 
 // What cannot be done to a file, with the reason.
-pub(crate) fn show_failure(what: &[u8], name: &[u8], error: i32) {
-    write_bytes(what);
-    write_bytes(name);
-    write_bytes(b"  # ");
-    show_reason(error);
-    write_bytes(b"\n");
+pub(crate) fn show_failure(rt: &impl Print, what: &[u8], name: &[u8], error: io::Error) {
+    write_bytes(rt, what);
+    write_bytes(rt, name);
+    write_bytes(rt, b"  # ");
+    show_reason(rt, error);
+    write_bytes(rt, b"\n");
 }
 
-// Why the call before it failed.
-pub(crate) fn last_error() -> i32 {
-    let error = os::errno();
-    if error == 0 { EIO } else { error }
+// A name as a path, which is text: no other file can be asked for.
+pub(crate) fn path_of(name: &[u8]) -> io::Result<&str> {
+    match str::from_utf8(name) {
+        Ok(path) => Ok(path),
+        Err(_) => Err(io::Error::from(ErrorKind::InvalidInput)),
+    }
 }
 
 // The length of a path's folder, with the slash after it; 0 for none.
@@ -76,96 +92,125 @@ pub(crate) fn put_text(path: &mut [u8], at: usize, text: &[u8]) {
     }
 }
 
-// Writes a file that was made, and has it on the disk; 0, or the system's reason.
-fn fill_file(file: i32, bytes: &[u8]) -> i32 {
-    if !io::write_all(file, bytes) {
-        return last_error();
-    }
-    if libc::fsync(file) != 0 {
-        return last_error();
-    }
-    0
+// Writes a file that was made, and has it on the disk.
+fn fill_file<F: Write + OpenFile>(file: &mut F, bytes: &[u8]) -> io::Result<()> {
+    file.write_all(bytes)?;
+    file.sync_all()
 }
 
 // Has the new name of a file on the disk too, where the folder can be synced.
-fn sync_folder(folder: &[u8]) {
-    let file = if folder.len() == 0 {
-        os::open_read(b".")
+fn sync_folder(rt: &impl Files, folder: &[u8]) {
+    let path = if folder.is_empty() {
+        Ok(".")
     } else {
-        os::open_read(folder)
+        path_of(folder)
     };
-    if 0 <= file {
-        libc::fsync(file);
-        libc::close(file);
+    let Ok(path) = path else {
+        return;
+    };
+    if let Ok(file) = fs::open(rt, path) {
+        let _ = file.sync_all();
     }
 }
 
-// Makes a file under a new name, which ends what is given of a path.
-fn make_file(path: &mut [u8], len: usize) -> i32 {
-    if path.len() < len {
-        return -1;
+// Puts the last digits of a number before a place of a path.
+fn put_digits(path: &mut [u8], end: usize, number: u32) {
+    let mut left = number;
+    let mut count: usize = 0;
+    while count < DIGITS {
+        count += 1;
+        if end < count {
+            return;
+        }
+        put_byte(path, end - count, b'0' + (left % 10) as u8);
+        left /= 10;
     }
-    os::create_temp(&mut path[0..len])
+}
+
+// Makes a file that only this user may read, unless there is one of that name.
+fn open_new<R: Files>(rt: &R, path: &[u8]) -> io::Result<R::File> {
+    let mut options = OpenOptions::new();
+    options.write(true).create_new(true).mode(0o600);
+    options.open(rt, path_of(path)?)
+}
+
+// Makes a file under a new name, which ends what is given of a path: the first number in its last places that no file has.
+fn make_file<R: Files>(rt: &R, path: &mut [u8], len: usize) -> io::Result<R::File> {
+    for number in 0..MADE_NAMES {
+        put_digits(path, len, number);
+        match open_new(rt, part(path, Span { from: 0, to: len })) {
+            Ok(file) => return Ok(file),
+            Err(error) => {
+                if error.kind() != ErrorKind::AlreadyExists {
+                    return Err(error);
+                }
+            }
+        }
+    }
+    Err(io::Error::from(ErrorKind::AlreadyExists))
+}
+
+// Gives a file its name.
+fn name_file(rt: &impl Files, made: &[u8], name: &[u8]) -> io::Result<()> {
+    fs::rename(rt, path_of(made)?, path_of(name)?)
+}
+
+// Takes a file away.
+fn remove(rt: &impl Files, made: &[u8]) -> io::Result<()> {
+    fs::remove_file(rt, path_of(made)?)
 }
 
 // Gives a file that was made its name; one that could not be written goes.
-fn settle(error: i32, made: &[u8], name: &[u8]) -> i32 {
-    if error != 0 {
-        os::unlink(made);
-        return error;
+fn settle(rt: &impl Files, filled: io::Result<()>, made: &[u8], name: &[u8]) -> io::Result<()> {
+    let settled = match filled {
+        Ok(()) => name_file(rt, made, name),
+        Err(error) => Err(error),
+    };
+    if settled.is_err() {
+        let _ = remove(rt, made);
     }
-    if os::rename(made, name) == 0 {
-        return 0;
-    }
-    let reason = last_error();
-    os::unlink(made);
-    reason
+    settled
 }
 
-// Writes a file; 0, or the system's reason, and then the file of that name is as it was.
-fn write_file(name: &[u8], bytes: &[u8]) -> i32 {
+// Writes a file; where that fails, the file of that name is as it was.
+fn write_file(rt: &impl Files, name: &[u8], bytes: &[u8]) -> io::Result<()> {
     let end = folder_len(name);
     let folder = part(name, Span { from: 0, to: end });
     if PATH_MAX - MADE_NAME < end {
-        return ENAMETOOLONG;
+        return Err(io::Error::from(ErrorKind::InvalidFilename));
     }
     let mut path = [0u8; PATH_MAX];
     let len = end + MADE_NAME;
     put_text(&mut path, 0, folder);
     put_text(&mut path, end, b".wiring-XXXXXX");
-    let file = make_file(&mut path, len);
-    if file < 0 {
-        return last_error();
-    }
+    let mut file = make_file(rt, &mut path, len)?;
     // A disk that knows no such rights refuses this, which does no harm.
-    libc::fchmod(file, 0o644);
-    let error = fill_file(file, bytes);
-    libc::close(file);
-    let settled = settle(error, part(&path, Span { from: 0, to: len }), name);
-    if settled == 0 {
-        sync_folder(folder);
-    }
-    settled
+    let _ = file.set_permissions(Permissions::from_mode(0o644));
+    let filled = fill_file(&mut file, bytes);
+    drop(file);
+    settle(rt, filled, part(&path, Span { from: 0, to: len }), name)?;
+    sync_folder(rt, folder);
+    Ok(())
 }
 
 // Writes the file of a wiring under a name, and says its length.
-pub(crate) fn write_wiring(name: &[u8], bytes: &[u8]) {
-    let error = write_file(name, bytes);
-    if error == 0 {
-        show_number(bytes.len() as u64);
-    } else {
-        show_failure(b"cannot write ", name, error);
+pub(crate) fn write_wiring(rt: &(impl Files + Print), name: &[u8], bytes: &[u8]) {
+    match write_file(rt, name, bytes) {
+        Ok(()) => show_number(rt, bytes.len() as u64),
+        Err(error) => show_failure(rt, b"cannot write ", name, error),
     }
 }
 
 // Saves the wiring under the name that stands in the line.
-pub fn save_as(graph: MultiPortGraph, order: Order, text: &[u8])
+pub fn save_as(rt: &(impl Files + Print), graph: MultiPortGraph, order: Order, text: &[u8])
     requires { MultiWf graph }
 {
     let name = part(text, next_word(text, order.from));
     let mut buffer = [0u8; LONGEST_FILE];
     match save(graph, &mut buffer) {
-        SaveAnswer::Saved(len) => write_wiring(name, part(&buffer, Span { from: 0, to: len })),
-        SaveAnswer::BufferShort => show_refusal_number(15),
+        SaveAnswer::Saved(len) => {
+            write_wiring(rt, name, part(&buffer, Span { from: 0, to: len }));
+        }
+        SaveAnswer::BufferShort => show_refusal_number(rt, 15),
     }
 }

@@ -8,15 +8,15 @@ use multiportgraph::multiportgraph::{MultiPortGraph, TidyAnswer};
 use records::ask::tidy_port;
 
 // A command that tidies a port.
-pub fn tidy(graph: MultiPortGraph, order: Order) -> MultiPortGraph
+pub fn tidy(rt: &impl Print, graph: MultiPortGraph, order: Order) -> MultiPortGraph
     requires { MultiWf graph }
     ensures { MultiWf result }
 {
     let done = tidy_port(graph, order.number(0));
     let answer = done.answer;
     match answer {
-        TidyAnswer::Tidied => write_bytes(b"ok\n"),
-        TidyAnswer::Refused(refusal) => show_refusal(refusal),
+        TidyAnswer::Tidied => write_bytes(rt, b"ok\n"),
+        TidyAnswer::Refused(refusal) => show_refusal(rt, refusal),
     }
     done.graph
 }

@@ -16,14 +16,16 @@ fn number_at(numbers: &[u32; ROOM], at: usize) -> u32 {
 }
 
 // A block by its number.
-fn show_block(numbers: &[u32; ROOM], block: usize) {
+fn show_block(rt: &impl Print, numbers: &[u32; ROOM], block: usize) {
     if block < ROOM {
-        Line::of(b" ").number(number_at(numbers, 4 * block)).write();
+        Line::of(b" ")
+            .number(number_at(numbers, 4 * block))
+            .write(rt);
     }
 }
 
 // A wire by its ports, each with its offset, and node, side and position of the second, which is an input.
-fn show_wire(numbers: &[u32; ROOM], wire: usize) {
+fn show_wire(rt: &impl Print, numbers: &[u32; ROOM], wire: usize) {
     if wire < ROOM {
         let at = 8 * wire;
         let node = number_at(numbers, at + 6);
@@ -36,12 +38,12 @@ fn show_wire(numbers: &[u32; ROOM], wire: usize) {
             .number(node)
             .number(0)
             .number(position)
-            .write();
+            .write(rt);
     }
 }
 
 // A wire by the places of its ports: node, position and offset.
-fn show_places(numbers: &[u32; ROOM], wire: usize) {
+fn show_places(rt: &impl Print, numbers: &[u32; ROOM], wire: usize) {
     if wire < ROOM {
         let at = 8 * wire;
         Line::of(b" ")
@@ -51,17 +53,17 @@ fn show_places(numbers: &[u32; ROOM], wire: usize) {
             .number(number_at(numbers, at + 6))
             .number(number_at(numbers, at + 7))
             .number(number_at(numbers, at + 5))
-            .write();
+            .write(rt);
     }
 }
 
-fn show_all(numbers: &[u32; ROOM], command: u32, count: usize) {
+fn show_all(rt: &impl Print, numbers: &[u32; ROOM], command: u32, count: usize) {
     let mut k: usize = 0;
     while k < count {
         match command {
-            BLOCKS => show_block(numbers, k),
-            PLACES => show_places(numbers, k),
-            _ => show_wire(numbers, k),
+            BLOCKS => show_block(rt, numbers, k),
+            PLACES => show_places(rt, numbers, k),
+            _ => show_wire(rt, numbers, k),
         }
         k += 1;
     }
@@ -77,15 +79,15 @@ fn listed(graph: MultiPortGraph, command: u32, numbers: &mut [u32; ROOM]) -> Lis
 }
 
 // A command that lists all blocks or all wires.
-pub fn list_whole(graph: MultiPortGraph, command: u32)
+pub fn list_whole(rt: &impl Print, graph: MultiPortGraph, command: u32)
     requires { MultiWf graph }
 {
     let mut numbers = [0u32; ROOM];
     match listed(graph, command, &mut numbers) {
         ListAnswer::Listed(count) => {
-            show_all(&numbers, command, count);
-            show_number(count as u64);
+            show_all(rt, &numbers, command, count);
+            show_number(rt, count as u64);
         }
-        ListAnswer::TooShort(_) => write_bytes(b"the listing is too long\n"),
+        ListAnswer::TooShort(_) => write_bytes(rt, b"the listing is too long\n"),
     }
 }

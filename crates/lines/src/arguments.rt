@@ -1,33 +1,39 @@
 // What the words after the program's name ask for.
 use crate::text::{Span, is_word};
+use std::env::{Env, FillError};
 
-#[derive(Drop)]
+#[derive(Clone, Copy)]
 pub enum Asked {
     Run,
     Echo,
     Usage,
 }
 
-// Any word but `--echo` asks for the usage; one that is longer than the buffer reads as empty.
-fn asked_by(number: usize) -> Asked {
+// Any word but `--echo` asks for the usage, one that is longer than the buffer too; nothing is asked for where there is no such word.
+fn asked_by(rt: &impl Env, number: usize) -> Option<Asked> {
     let mut buffer = [0u8; 16];
-    let len = os::arg(number, &mut buffer);
-    if is_word(&buffer, Span { from: 0, to: len }, b"--echo") {
-        return Asked::Echo;
+    match rt.arg(number, &mut buffer) {
+        Ok(len) => {
+            if is_word(&buffer, Span { from: 0, to: len }, b"--echo") {
+                return Some(Asked::Echo);
+            }
+            Some(Asked::Usage)
+        }
+        Err(FillError::TooLong) => Some(Asked::Usage),
+        Err(FillError::NotPresent) => None,
     }
-    Asked::Usage
 }
 
-pub fn read_arguments() -> Asked {
-    let count = os::arg_count();
+pub fn read_arguments(rt: &impl Env) -> Asked {
     let mut found = Asked::Run;
-    let mut number: usize = 1;
-    while number < count {
-        found = asked_by(number);
+    for number in 1..usize::MAX {
+        let Some(asked) = asked_by(rt, number) else {
+            return found;
+        };
+        found = asked;
         if let Asked::Usage = found {
             return found;
         }
-        number += 1;
     }
     found
 }

@@ -3,11 +3,12 @@ use crate::reading::{Found, Reader};
 use crate::show::write_bytes;
 use crate::text::{byte_at, line_of, next_word, part};
 use crate::wrong::{TOO_LONG, show_bad};
+use std::io::Read;
 
 // The longest line, and its newline.
 pub const ROOM: usize = 65537;
 
-#[derive(Drop)]
+#[derive(Clone, Copy)]
 pub struct Listener {
     pub reader: Reader,
     // Whether each line is printed before its answer.
@@ -30,20 +31,20 @@ fn is_skipped(text: &[u8]) -> bool {
     byte_at(text, first.from) == b'#'
 }
 
-fn show_line(text: &[u8]) {
-    write_bytes(b"> ");
-    write_bytes(text);
-    write_bytes(b"\n");
+fn show_line(rt: &impl Print, text: &[u8]) {
+    write_bytes(rt, b"> ");
+    write_bytes(rt, text);
+    write_bytes(rt, b"\n");
 }
 
 // A line without its newline: whether it is heard.
-fn hear_line(text: &[u8], echo: bool) -> bool {
+fn hear_line(rt: &impl Print, text: &[u8], echo: bool) -> bool {
     let words = line_of(text);
     if is_skipped(words) {
         return false;
     }
     if echo {
-        show_line(words);
+        show_line(rt, words);
     }
     true
 }
@@ -78,46 +79,46 @@ impl Listener {
     }
 
     // A part of a line that is too long. Only the first is printed.
-    fn pass(self, text: &[u8]) -> Self {
+    fn pass(self, rt: &impl Print, text: &[u8]) -> Self {
         if self.echo {
             if !self.too_long {
-                show_line(text);
+                show_line(rt, text);
             }
         }
         self.told(false, self.line, true, false)
     }
 
     // The line in hand ends with this text.
-    fn end_line(self, text: &[u8], last: bool) -> Self {
+    fn end_line(self, rt: &impl Print, text: &[u8], last: bool) -> Self {
         let line = after(self.line);
         if self.too_long {
-            show_bad(line, TOO_LONG, b"at most 65536 bytes");
+            show_bad(rt, line, TOO_LONG, b"at most 65536 bytes");
             return self.told(false, line, false, last);
         }
-        self.told(hear_line(text, self.echo), line, false, last)
+        self.told(hear_line(rt, text, self.echo), line, false, last)
     }
 
     // What was found in the input, with its text.
-    fn hear(self, found: Found, text: &[u8]) -> Self {
+    fn hear(self, rt: &impl Print, found: Found, text: &[u8]) -> Self {
         match found {
             Found::Nothing => self.told(false, self.line, self.too_long, false),
-            Found::Line => self.end_line(text, false),
-            Found::Part => self.pass(text),
-            Found::Last => self.end_line(text, true),
+            Found::Line => self.end_line(rt, text, false),
+            Found::Part => self.pass(rt, text),
+            Found::Last => self.end_line(rt, text, true),
             Found::Failed => {
-                write_bytes(b"cannot read the input\n");
+                write_bytes(rt, b"cannot read the input\n");
                 self.told(false, self.line, self.too_long, true)
             }
         }
     }
 
     // One step in the input.
-    pub fn listen(mut self, buffer: &mut [u8]) -> Self {
+    pub fn listen<I: Read>(mut self, rt: &impl Print, input: &mut I, buffer: &mut [u8]) -> Self {
         let before = self.reader;
-        let reader = before.step(buffer);
+        let reader = before.step(input, buffer);
         self.reader = reader;
         let found = reader.found;
         let span = reader.span;
-        self.hear(found, part(buffer, span))
+        self.hear(rt, found, part(buffer, span))
     }
 }

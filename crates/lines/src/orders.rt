@@ -24,7 +24,7 @@ const WORDS: usize = 65536;
 const MOST_NAME: usize = 4000;
 
 // A command with its numbers, or what is wrong.
-#[derive(Drop)]
+#[derive(Clone, Copy)]
 pub struct Order {
     // The number of the command's row.
     pub command: u32,
@@ -138,7 +138,7 @@ fn value_of(text: &[u8], word: Span, unsuited: u32) -> u64
 }
 
 // A number, or what is wrong with its word.
-#[derive(Drop)]
+#[derive(Clone, Copy)]
 struct Value {
     wrong: u32,
     number: u32,
@@ -236,11 +236,19 @@ fn with_words(command: u32, text: &[u8], from: usize, usage: &[u8], size: usize)
 
 // The order of a line with this row of a table for its first word, and with further words from a place on; if something is wrong with the
 // line, that is said, and the order is none. The size is how many numbers an entry of the command's list has, 0 where it has no list.
-pub fn order_by(table: &[u8], row: Row, size: usize, text: &[u8], from: usize, line: u64) -> Order
+pub fn order_by(
+    rt: &impl Print,
+    table: &[u8],
+    row: Row,
+    size: usize,
+    text: &[u8],
+    from: usize,
+    line: u64,
+) -> Order
     ensures { Ordered row.number size text.now from (part_of table.now row.span) result }
 {
     if row.number == NOTHING {
-        show_bad(line, UNKNOWN_COMMAND, b"help lists them");
+        show_bad(rt, line, UNKNOWN_COMMAND, b"help lists them");
         return order_to(NOTHING, from);
     }
     let span = row.span;
@@ -249,6 +257,6 @@ pub fn order_by(table: &[u8], row: Row, size: usize, text: &[u8], from: usize, l
     if order.wrong == FINE {
         return order;
     }
-    show_bad(line, order.wrong, usage);
+    show_bad(rt, line, order.wrong, usage);
     order_to(NOTHING, from)
 }

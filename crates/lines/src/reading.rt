@@ -2,10 +2,10 @@
 ghost use Rattle.std.specs.Prelude.{◌≡◌, set};
 
 use crate::text::{Span, byte_at, line_end};
-use libc::STDIN_FILENO;
+use std::io::Read;
 
 // What a step finds.
-#[derive(Drop)]
+#[derive(Clone, Copy)]
 pub enum Found {
     // Bytes were read, and no line has come to its end.
     Nothing,
@@ -21,7 +21,7 @@ pub enum Found {
 
 // What was found, and where it stands in the buffer; then the line in hand: where it begins, up to where there is no newline in it,
 // and where what was read ends.
-#[derive(Drop)]
+#[derive(Clone, Copy)]
 pub struct Reader {
     pub found: Found,
     pub span: Span,
@@ -66,19 +66,15 @@ fn found_first(found: Found, len: usize, seen: usize, held: usize) -> Reader {
 }
 
 // Reads once, into what is left of the buffer.
-fn read_more(buffer: &mut [u8], held: usize) -> Reader {
+fn read_more<I: Read>(input: &mut I, buffer: &mut [u8], held: usize) -> Reader {
     if buffer.len() <= held {
         return found_first(Found::Part, held, 0, 0);
     }
-    let got = libc::read(STDIN_FILENO, &mut buffer[held..]);
-    let more = io::count(got, &buffer[held..]);
-    if 0 < more {
-        return found_first(Found::Nothing, 0, held, held + more);
+    match input.read(&mut buffer[held..]) {
+        Ok(0) => found_first(Found::Last, held, 0, 0),
+        Ok(more) => found_first(Found::Nothing, 0, held, held + more),
+        Err(_) => found_first(Found::Failed, 0, 0, 0),
     }
-    if got < 0 {
-        return found_first(Found::Failed, 0, 0, 0);
-    }
-    found_first(Found::Last, held, 0, 0)
 }
 
 impl Reader {
@@ -87,7 +83,7 @@ impl Reader {
     }
 
     // The next line, if the buffer has one; else one read.
-    pub fn step(self, buffer: &mut [u8]) -> Self {
+    pub fn step<I: Read>(self, input: &mut I, buffer: &mut [u8]) -> Self {
         let end = line_end(buffer, self.seen, self.held);
         if end < self.held {
             return Reader {
@@ -102,6 +98,6 @@ impl Reader {
             };
         }
         let held = move_down(buffer, self.from, self.held);
-        read_more(buffer, held)
+        read_more(input, buffer, held)
     }
 }

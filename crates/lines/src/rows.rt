@@ -5,7 +5,7 @@ use crate::text::{Span, line_end, next_word, same_word};
 const ROWS: u32 = 64;
 
 // A row: its number from 1, 0 for none, and where it stands.
-#[derive(Drop)]
+#[derive(Clone, Copy)]
 pub struct Row {
     pub number: u32,
     pub span: Span,

@@ -1,24 +1,25 @@
 // One line of output, put together byte by byte and written at once.
-use libc::STDOUT_FILENO;
+use std::fmt;
+use std::fmt::Write;
 
 const WIDTH: usize = 160;
 
 // A line; bytes past its width are left out, and no line of the console comes near it.
-#[derive(Drop)]
+#[derive(Clone, Copy)]
 pub struct Line {
     pub bytes: [u8; WIDTH],
     pub len: usize,
 }
 
-// Writes bytes as they are.
-pub fn write_bytes(bytes: &[u8]) {
-    io::write_all(STDOUT_FILENO, bytes);
+// Writes bytes as they are. What cannot be written is left out.
+pub fn write_bytes(rt: &impl Print, bytes: &[u8]) {
+    let _ = rt.write_all(bytes);
 }
 
 // Writes the first bytes of a line.
-fn write_first(bytes: &[u8], len: usize) {
+fn write_first(rt: &impl Print, bytes: &[u8], len: usize) {
     if len <= bytes.len() {
-        write_bytes(&bytes[0..len]);
+        write_bytes(rt, &bytes[0..len]);
     }
 }
 
@@ -52,9 +53,9 @@ impl Line {
 
     // A blank, and the number in decimal digits.
     pub fn long(self, value: u64) -> Self {
-        let mut digits = [0u8; 20];
-        let count = io::decimal(value, &mut digits);
-        self.byte(b' ').with(&digits[..count])
+        let mut line = self.byte(b' ');
+        let _ = write!(line, "{value}");
+        line
     }
 
     pub fn number(self, value: u32) -> Self {
@@ -62,9 +63,17 @@ impl Line {
     }
 
     // Writes the line with its newline.
-    pub fn write(self) {
+    pub fn write(self, rt: &impl Print) {
         let line = self.byte(b'\n');
         let bytes = line.bytes;
-        write_first(&bytes, line.len);
+        write_first(rt, &bytes, line.len);
+    }
+}
+
+// Text goes behind what the line has.
+impl fmt::Write for Line {
+    fn write_str(&mut self, text: &str) -> fmt::Result {
+        *self = (*self).with(text.as_bytes());
+        Ok(())
     }
 }

@@ -4,7 +4,7 @@ ghost use Rattle.lines.specs.Text.{is_blank, bytes_of, part_of, without_return, 
 ghost use Rattle.lines.specs.TextSteps.{with_digit};
 
 // A part of a text: a word up to the blank after it, or a line up to its newline.
-#[derive(Drop)]
+#[derive(Clone, Copy)]
 pub struct Span {
     pub from: usize,
     pub to: usize,

@@ -44,7 +44,7 @@ fn with_wrong(line: Line, wrong: u32) -> Line {
 }
 
 // A line that is no command; after the reason stands what helps, as how the command is typed.
-pub(crate) fn show_bad(line: u64, wrong: u32, help: &[u8]) {
+pub(crate) fn show_bad(rt: &impl Print, line: u64, wrong: u32, help: &[u8]) {
     let bad = Line::of(b"bad line").long(line).with(b"  # ");
-    with_wrong(bad, wrong).with(b": ").with(help).write();
+    with_wrong(bad, wrong).with(b": ").with(help).write(rt);
 }

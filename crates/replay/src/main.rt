@@ -2,8 +2,8 @@
 // are run, and the program prints how many answers are equal. The check runs it on the list of `host/sample`.
 ghost use Rattle.std.specs.Prelude.{◌+◌, ◌*◌, ◌≤◌, length};
 
-use libc::{STDIN_FILENO, STDOUT_FILENO};
 use records::run::run_records;
+use std::io::Read;
 
 // The bytes of a request, and of an answer.
 const RECORD: usize = 20;
@@ -45,46 +45,59 @@ fn equal_answers(recorded: &[u8], answers: &[u8], count: usize) -> usize
     equal
 }
 
-fn show(equal: usize, count: usize) {
-    io::print_decimal(STDOUT_FILENO, equal as u64);
-    io::write_all(STDOUT_FILENO, b" of ");
-    io::print_decimal(STDOUT_FILENO, count as u64);
-    io::write_all(STDOUT_FILENO, b" equal\n");
+// What cannot be written is left out.
+fn show(rt: &impl Print, equal: usize, count: usize) {
+    let _ = println!(rt; "{equal} of {count} equal");
+}
+
+fn show_text(rt: &impl Print, text: &str) {
+    let _ = println!(rt; "{text}");
 }
 
 // Runs the first half of a recording and compares with the second.
-fn replay(input: &[u8], answers: &mut [u8]) {
+fn replay(rt: &impl Print, input: &[u8], answers: &mut [u8]) {
     let half = input.len() / 2;
     if answers.len() < input.len() - half {
-        io::write_all(STDOUT_FILENO, b"the recording is too long\n");
+        show_text(rt, "the recording is too long");
         return;
     }
     if input.len() != 2 * half {
-        io::write_all(
-            STDOUT_FILENO,
-            b"the recording has not as many answers as requests\n",
-        );
+        show_text(rt, "the recording has not as many answers as requests");
         return;
     }
     if run_records(&input[..half], &mut answers[..half]) != 0 {
-        io::write_all(STDOUT_FILENO, b"the recording is no list of requests\n");
+        show_text(rt, "the recording is no list of requests");
         return;
     }
     let count = half / RECORD;
-    show(equal_answers(&input[half..], answers, count), count);
+    show(rt, equal_answers(&input[half..], answers, count), count);
 }
 
-fn read_and_replay(input: &mut [u8], answers: &mut [u8]) {
-    let len = io::read_full(STDIN_FILENO, input);
-    replay(&input[..len], answers);
+// Reads until the buffer is full, the input ends or a read fails, and tells how many bytes were read.
+fn read_full<I: Read>(source: &mut I, input: &mut [u8]) -> usize
+    ensures { result ≤ length input.new }
+{
+    let mut len: usize = 0;
+    while len < input.len() {
+        match source.read(&mut input[len..]) {
+            Ok(0) | Err(_) => return len,
+            Ok(count) => len += count,
+        }
+    }
+    len
 }
 
-fn with_room(input: &mut [u8; INPUT], answers: &mut [u8; LIST]) {
-    read_and_replay(input, answers);
+fn read_and_replay(rt: &(impl Print + Input), input: &mut [u8], answers: &mut [u8]) {
+    let len = read_full(&mut rt.reader(), input);
+    replay(rt, &input[..len], answers);
 }
 
-fn main() {
+fn with_room(rt: &(impl Print + Input), input: &mut [u8; INPUT], answers: &mut [u8; LIST]) {
+    read_and_replay(rt, input, answers);
+}
+
+fn main(rt: HostRuntime) {
     let mut input = [0u8; INPUT];
     let mut answers = [0u8; LIST];
-    with_room(&mut input, &mut answers);
+    with_room(&rt, &mut input, &mut answers);
 }

@@ -8,14 +8,15 @@ use sketches::rows::WORDS;
 use sketches::sketch::AddAnswer;
 use sketches::totals::Totals;
 
-fn show_added(answer: AddAnswer) {
+fn show_added(rt: &impl Print, answer: AddAnswer) {
     match answer {
-        AddAnswer::Added(name) => show_number(name as u64),
-        AddAnswer::Refused(reason) => show_refused(reason),
+        AddAnswer::Added(name) => show_number(rt, name as u64),
+        AddAnswer::Refused(reason) => show_refused(rt, reason),
     }
 }
 
 pub(crate) fn add(
+    rt: &impl Print,
     blocks: &mut [u32; WORDS],
     splits: &mut [u32; WORDS],
     wires: &mut [u32; WORDS],
@@ -34,11 +35,12 @@ pub(crate) fn add(
         order.number(1),
     );
     let answer = done.answer;
-    show_added(answer);
+    show_added(rt, answer);
     done.totals
 }
 
 pub(crate) fn remove(
+    rt: &impl Print,
     blocks: &mut [u32; WORDS],
     splits: &mut [u32; WORDS],
     wires: &mut [u32; WORDS],
@@ -50,11 +52,12 @@ pub(crate) fn remove(
 {
     let done = remove_lent(blocks, splits, wires, totals, order.number(0));
     let answer = done.answer;
-    show_done(answer);
+    show_done(rt, answer);
     done.totals
 }
 
 pub(crate) fn resize(
+    rt: &impl Print,
     blocks: &mut [u32; WORDS],
     splits: &mut [u32; WORDS],
     wires: &mut [u32; WORDS],
@@ -74,6 +77,6 @@ pub(crate) fn resize(
         order.number(2),
     );
     let answer = done.answer;
-    show_done(answer);
+    show_done(rt, answer);
     done.totals
 }

@@ -29,6 +29,7 @@ fn release_of(number: u32) -> Release {
 
 // An empty sketch: its tables may hold what they do.
 fn begin(
+    rt: &impl Print,
     blocks: &mut [u32; WORDS],
     splits: &mut [u32; WORDS],
     wires: &mut [u32; WORDS],
@@ -38,12 +39,13 @@ fn begin(
     requires { SketchWf blocks.old splits.old wires.old totals }
     ensures { SketchWf blocks.new splits.new wires.new result }
 {
-    write_bytes(b"ok\n");
+    write_bytes(rt, b"ok\n");
     new_totals(release_of(order.number(0)))
 }
 
 // A command; the text is that of its line.
 pub(crate) fn run(
+    rt: &impl Print,
     blocks: &mut [u32; WORDS],
     splits: &mut [u32; WORDS],
     wires: &mut [u32; WORDS],
@@ -57,17 +59,17 @@ pub(crate) fn run(
     let command = order.command;
     match command {
         NOTHING | QUIT => totals,
-        NEW => begin(blocks, splits, wires, totals, order),
-        ADD => add(blocks, splits, wires, totals, order),
-        REMOVE => remove(blocks, splits, wires, totals, order),
-        RESIZE => resize(blocks, splits, wires, totals, order),
-        LINK | LINKCLEAN | LINKSUB => link(blocks, splits, wires, totals, order),
-        SHEET => link_sheet(blocks, splits, wires, totals, order, text),
-        UNLINK => unlink(blocks, splits, wires, totals, order),
-        UNLINKSUB => unlink_subport(blocks, splits, wires, totals, order),
-        TIDY => tidy(blocks, splits, wires, totals, order),
+        NEW => begin(rt, blocks, splits, wires, totals, order),
+        ADD => add(rt, blocks, splits, wires, totals, order),
+        REMOVE => remove(rt, blocks, splits, wires, totals, order),
+        RESIZE => resize(rt, blocks, splits, wires, totals, order),
+        LINK | LINKCLEAN | LINKSUB => link(rt, blocks, splits, wires, totals, order),
+        SHEET => link_sheet(rt, blocks, splits, wires, totals, order, text),
+        UNLINK => unlink(rt, blocks, splits, wires, totals, order),
+        UNLINKSUB => unlink_subport(rt, blocks, splits, wires, totals, order),
+        TIDY => tidy(rt, blocks, splits, wires, totals, order),
         _ => {
-            look(blocks, splits, wires, totals, order);
+            look(rt, blocks, splits, wires, totals, order);
             totals
         }
     }
@@ -75,6 +77,7 @@ pub(crate) fn run(
 
 // How much there is.
 fn show_counts<'a>(
+    rt: &impl Print,
     blocks: &'a [u32; WORDS],
     splits: &'a [u32; WORDS],
     wires: &'a [u32; WORDS],
@@ -87,11 +90,12 @@ fn show_counts<'a>(
         .long(counts.blocks as u64)
         .long(counts.ports as u64)
         .long(counts.wires as u64)
-        .write();
+        .write(rt);
 }
 
 // A command that looks at the sketch.
 fn look<'a>(
+    rt: &impl Print,
     blocks: &'a [u32; WORDS],
     splits: &'a [u32; WORDS],
     wires: &'a [u32; WORDS],
@@ -102,17 +106,17 @@ fn look<'a>(
 {
     let command = order.command;
     match command {
-        SUBLINK => show_link(blocks, splits, wires, totals, order),
-        COUNTS => show_counts(blocks, splits, wires, totals),
-        FANOUT => show_count(fan_out_lent(blocks, splits, wires, totals, port_at(order, 0))),
-        BLOCKFANOUT => show_count(block_fan_out_lent(
-            blocks,
-            splits,
-            wires,
-            totals,
-            order.number(0),
-        )),
-        HELP => show_help(),
-        _ => list(blocks, splits, wires, totals, order),
+        SUBLINK => show_link(rt, blocks, splits, wires, totals, order),
+        COUNTS => show_counts(rt, blocks, splits, wires, totals),
+        FANOUT => show_count(
+            rt,
+            fan_out_lent(blocks, splits, wires, totals, port_at(order, 0)),
+        ),
+        BLOCKFANOUT => show_count(
+            rt,
+            block_fan_out_lent(blocks, splits, wires, totals, order.number(0)),
+        ),
+        HELP => show_help(rt),
+        _ => list(rt, blocks, splits, wires, totals, order),
     }
 }

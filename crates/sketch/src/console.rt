@@ -19,6 +19,7 @@ pub struct Turn {
 
 // Runs what was heard, with its text.
 fn obey(
+    rt: &impl Print,
     blocks: &mut [u32; WORDS],
     splits: &mut [u32; WORDS],
     wires: &mut [u32; WORDS],
@@ -35,7 +36,7 @@ fn obey(
             ended: listener.ended,
         };
     }
-    let order = order_of(text, listener.line);
+    let order = order_of(rt, text, listener.line);
     if order.command == QUIT {
         return Turn {
             totals: totals,
@@ -43,13 +44,14 @@ fn obey(
         };
     }
     Turn {
-        totals: run(blocks, splits, wires, totals, order, text),
+        totals: run(rt, blocks, splits, wires, totals, order, text),
         ended: listener.ended,
     }
 }
 
 // A loop has to end, and nothing says that the input does: so its turns are counted down, from a number that no run uses up.
 fn converse(
+    rt: &(impl Print + Input),
     blocks: &mut [u32; WORDS],
     splits: &mut [u32; WORDS],
     wires: &mut [u32; WORDS],
@@ -60,12 +62,14 @@ fn converse(
 {
     let mut totals = new_totals(Release::One);
     let mut listener = Listener::new(echo);
+    let mut input = rt.reader();
     let mut turns = u64::MAX;
     while 0 < turns {
-        listener = listener.listen(buffer);
+        listener = listener.listen(rt, &mut input, buffer);
         let reader = listener.reader;
         let span = reader.span;
         let turn = obey(
+            rt,
             blocks,
             splits,
             wires,
@@ -82,6 +86,7 @@ fn converse(
 }
 
 fn with_room(
+    rt: &(impl Print + Input),
     blocks: &mut [u32; WORDS],
     splits: &mut [u32; WORDS],
     wires: &mut [u32; WORDS],
@@ -90,14 +95,14 @@ fn with_room(
 )
     requires { Table blocks.old × (Table splits.old × Table wires.old) }
 {
-    converse(blocks, splits, wires, buffer, echo);
+    converse(rt, blocks, splits, wires, buffer, echo);
 }
 
 // Commands from standard input, from an empty sketch of release 1 on.
-pub(crate) fn read_and_run(echo: bool) {
+pub(crate) fn read_and_run(rt: &(impl Print + Input), echo: bool) {
     let mut blocks = [0u32; WORDS];
     let mut splits = [0u32; WORDS];
     let mut wires = [0u32; WORDS];
     let mut buffer = [0u8; ROOM];
-    with_room(&mut blocks, &mut splits, &mut wires, &mut buffer, echo);
+    with_room(rt, &mut blocks, &mut splits, &mut wires, &mut buffer, echo);
 }

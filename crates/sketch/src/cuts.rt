@@ -10,24 +10,25 @@ use sketches::rows::WORDS;
 use sketches::sketch::{EndAnswer, PortAnswer};
 use sketches::totals::Totals;
 
-fn show_port(answer: PortAnswer) {
+fn show_port(rt: &impl Print, answer: PortAnswer) {
     match answer {
-        PortAnswer::Found(port) => with_port(Line::of(b"ok 1"), port).write(),
-        PortAnswer::Nothing => Line::of(b"ok 0").write(),
-        PortAnswer::Refused(reason) => show_refused(reason),
+        PortAnswer::Found(port) => with_port(Line::of(b"ok 1"), port).write(rt),
+        PortAnswer::Nothing => Line::of(b"ok 0").write(rt),
+        PortAnswer::Refused(reason) => show_refused(rt, reason),
     }
 }
 
-fn show_end(answer: EndAnswer) {
+fn show_end(rt: &impl Print, answer: EndAnswer) {
     match answer {
-        EndAnswer::Found(end) => with_end(Line::of(b"ok 1"), end).write(),
-        EndAnswer::Nothing => Line::of(b"ok 0").write(),
-        EndAnswer::Refused(reason) => show_refused(reason),
+        EndAnswer::Found(end) => with_end(Line::of(b"ok 1"), end).write(rt),
+        EndAnswer::Nothing => Line::of(b"ok 0").write(rt),
+        EndAnswer::Refused(reason) => show_refused(rt, reason),
     }
 }
 
 // Cuts all wires at a port.
 pub(crate) fn unlink(
+    rt: &impl Print,
     blocks: &mut [u32; WORDS],
     splits: &mut [u32; WORDS],
     wires: &mut [u32; WORDS],
@@ -39,12 +40,13 @@ pub(crate) fn unlink(
 {
     let done = cut_lent(blocks, splits, wires, totals, port_at(order, 0));
     let answer = done.answer;
-    show_port(answer);
+    show_port(rt, answer);
     done.totals
 }
 
 // Cuts the wire at an end.
 pub(crate) fn unlink_subport(
+    rt: &impl Print,
     blocks: &mut [u32; WORDS],
     splits: &mut [u32; WORDS],
     wires: &mut [u32; WORDS],
@@ -63,11 +65,12 @@ pub(crate) fn unlink_subport(
         order.offset(3),
     );
     let answer = done.answer;
-    show_end(answer);
+    show_end(rt, answer);
     done.totals
 }
 
 pub(crate) fn tidy(
+    rt: &impl Print,
     blocks: &mut [u32; WORDS],
     splits: &mut [u32; WORDS],
     wires: &mut [u32; WORDS],
@@ -79,12 +82,13 @@ pub(crate) fn tidy(
 {
     let done = tidy_lent(blocks, splits, wires, totals, port_at(order, 0));
     let answer = done.answer;
-    show_done(answer);
+    show_done(rt, answer);
     done.totals
 }
 
 // What an end is linked with.
 pub(crate) fn show_link<'a>(
+    rt: &impl Print,
     blocks: &'a [u32; WORDS],
     splits: &'a [u32; WORDS],
     wires: &'a [u32; WORDS],
@@ -93,12 +97,15 @@ pub(crate) fn show_link<'a>(
 )
     requires { SketchWf blocks.now splits.now wires.now totals }
 {
-    show_end(subport_link_lent(
-        blocks,
-        splits,
-        wires,
-        totals,
-        port_at(order, 0),
-        order.offset(3),
-    ));
+    show_end(
+        rt,
+        subport_link_lent(
+            blocks,
+            splits,
+            wires,
+            totals,
+            port_at(order, 0),
+            order.offset(3),
+        ),
+    );
 }

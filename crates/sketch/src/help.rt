@@ -1,8 +1,9 @@
 // What the program says of itself: how it is started, and its commands.
 use lines::show::write_bytes;
 
-pub(crate) fn show_usage() {
+pub(crate) fn show_usage(rt: &impl Print) {
     write_bytes(
+        rt,
         b"\
 usage: sketch [--echo]
 Commands come on standard input, one a line, and each is answered at once; `help` lists them.
@@ -13,8 +14,9 @@ Commands come on standard input, one a line, and each is answered at once; `help
 }
 
 // The commands in groups: what each does, and after the colon what it answers.
-pub(crate) fn show_help() {
+pub(crate) fn show_help(rt: &impl Print) {
     write_bytes(
+        rt,
         b"\
 A block is named by how many blocks were added before it, removed ones counted. A port is B S P: its block, its side (0 incoming, 1
 outgoing) and its position there, from 0. An end is a port and an offset O among its subports, 0 where the port is not split.

@@ -119,16 +119,16 @@ impl Item {
     }
 
     // An item stands on a line after two blanks.
-    pub(crate) fn show(self) {
+    pub(crate) fn show(self, rt: &impl Print) {
         let near = self.near;
         let far = self.far;
         let port = near.port;
         let count = self.count;
         let line = Line::of(b" ");
         match count {
-            1 => line.number(port.block).write(),
-            4 => with_end(line, near).write(),
-            _ => with_end(with_end(line, near), far).write(),
+            1 => line.number(port.block).write(rt),
+            4 => with_end(line, near).write(rt),
+            _ => with_end(with_end(line, near), far).write(rt),
         }
     }
 }

@@ -12,13 +12,13 @@ use sketches::subport_links::link_subports_lent;
 use sketches::totals::{LinkedLent, Totals};
 
 // The answer of a link on a line that begins with what is given.
-pub(crate) fn show_linked_on(line: Line, answer: LinkAnswer) {
+pub(crate) fn show_linked_on(rt: &impl Print, line: Line, answer: LinkAnswer) {
     match answer {
         LinkAnswer::Linked(first, second) => {
             let longer = with_end(line.with(b"ok"), first);
-            with_end(longer, second).write();
+            with_end(longer, second).write(rt);
         }
-        LinkAnswer::Refused(reason) => show_refused_on(line, reason),
+        LinkAnswer::Refused(reason) => show_refused_on(rt, line, reason),
     }
 }
 
@@ -66,6 +66,7 @@ fn linked(
 
 // A command that links.
 pub(crate) fn link(
+    rt: &impl Print,
     blocks: &mut [u32; WORDS],
     splits: &mut [u32; WORDS],
     wires: &mut [u32; WORDS],
@@ -77,6 +78,6 @@ pub(crate) fn link(
 {
     let done = linked(blocks, splits, wires, totals, order);
     let answer = done.answer;
-    show_linked_on(Line::of(b""), answer);
+    show_linked_on(rt, Line::of(b""), answer);
     done.totals
 }

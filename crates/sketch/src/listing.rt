@@ -85,6 +85,7 @@ fn step<'a>(
 
 // Every item of a walk on a side, and how many there are.
 fn show_side<'a>(
+    rt: &impl Print,
     blocks: &'a [u32; WORDS],
     splits: &'a [u32; WORDS],
     wires: &'a [u32; WORDS],
@@ -103,7 +104,7 @@ fn show_side<'a>(
         if item.count == 0 {
             return count;
         }
-        item.show();
+        item.show(rt);
         count += 1;
     }
     count
@@ -120,6 +121,7 @@ fn side_named(order: Order) -> u32 {
 
 // Every item of a walk that was started, and how many there are.
 fn show_items<'a>(
+    rt: &impl Print,
     blocks: &'a [u32; WORDS],
     splits: &'a [u32; WORDS],
     wires: &'a [u32; WORDS],
@@ -131,9 +133,19 @@ fn show_items<'a>(
 {
     let side = side_named(order);
     if side < 2 {
-        return show_side(blocks, splits, wires, totals, order, side_of(side), walk);
+        return show_side(
+            rt,
+            blocks,
+            splits,
+            wires,
+            totals,
+            order,
+            side_of(side),
+            walk,
+        );
     }
     let incoming = show_side(
+        rt,
         blocks,
         splits,
         wires,
@@ -145,6 +157,7 @@ fn show_items<'a>(
     let test = test_of(order, Direction::Outgoing);
     let rest = whole_walk(totals.wires, test);
     let outgoing = show_side(
+        rt,
         blocks,
         splits,
         wires,
@@ -206,6 +219,7 @@ fn first_side(number: u32) -> Direction {
 
 // A command that walks.
 pub(crate) fn list<'a>(
+    rt: &impl Print,
     blocks: &'a [u32; WORDS],
     splits: &'a [u32; WORDS],
     wires: &'a [u32; WORDS],
@@ -216,8 +230,11 @@ pub(crate) fn list<'a>(
 {
     match start(blocks, splits, wires, totals, order) {
         WalkStart::At(walk) => {
-            show_number(show_items(blocks, splits, wires, totals, order, walk) as u64);
+            show_number(
+                rt,
+                show_items(rt, blocks, splits, wires, totals, order, walk) as u64,
+            );
         }
-        WalkStart::Refused(reason) => show_refused(reason),
+        WalkStart::Refused(reason) => show_refused(rt, reason),
     }
 }

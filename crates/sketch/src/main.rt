@@ -16,10 +16,10 @@ use crate::console::read_and_run;
 use crate::help::show_usage;
 use lines::arguments::{Asked, read_arguments};
 
-fn main() {
-    match read_arguments() {
-        Asked::Run => read_and_run(false),
-        Asked::Echo => read_and_run(true),
-        Asked::Usage => show_usage(),
+fn main(rt: HostRuntime) {
+    match read_arguments(&rt) {
+        Asked::Run => read_and_run(&rt, false),
+        Asked::Echo => read_and_run(&rt, true),
+        Asked::Usage => show_usage(&rt),
     }
 }

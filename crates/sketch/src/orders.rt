@@ -90,7 +90,7 @@ fn entry_size(command: u32) -> usize {
 }
 
 // The order of a line that was heard.
-pub(crate) fn order_of(text: &[u8], line: u64) -> Order {
+pub(crate) fn order_of(rt: &impl Print, text: &[u8], line: u64) -> Order {
     let table = b"\
 new RELEASE
 add IN OUT
@@ -121,5 +121,5 @@ quit
     let first = next_word(text, 0);
     let row = row_of(table, text, first);
     let size = entry_size(row.number);
-    order_by(table, row, size, text, first.to, line)
+    order_by(rt, table, row, size, text, first.to, line)
 }

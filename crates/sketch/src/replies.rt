@@ -41,34 +41,34 @@ fn with_reason(line: Line, reason: Reason) -> Line {
 }
 
 // A refusal on a line that begins with what is given.
-pub(crate) fn show_refused_on(line: Line, reason: Reason) {
+pub(crate) fn show_refused_on(rt: &impl Print, line: Line, reason: Reason) {
     let refused = line
         .with(b"refused")
         .number(number_of(reason))
         .with(b"  # ");
-    with_reason(refused, reason).write();
+    with_reason(refused, reason).write(rt);
 }
 
-pub(crate) fn show_refused(reason: Reason) {
-    show_refused_on(Line::of(b""), reason);
+pub(crate) fn show_refused(rt: &impl Print, reason: Reason) {
+    show_refused_on(rt, Line::of(b""), reason);
 }
 
 // `ok` with one number.
-pub(crate) fn show_number(value: u64) {
-    Line::of(b"ok").long(value).write();
+pub(crate) fn show_number(rt: &impl Print, value: u64) {
+    Line::of(b"ok").long(value).write(rt);
 }
 
-pub(crate) fn show_count(answer: CountAnswer) {
+pub(crate) fn show_count(rt: &impl Print, answer: CountAnswer) {
     match answer {
-        CountAnswer::Count(count) => show_number(count as u64),
-        CountAnswer::Refused(reason) => show_refused(reason),
+        CountAnswer::Count(count) => show_number(rt, count as u64),
+        CountAnswer::Refused(reason) => show_refused(rt, reason),
     }
 }
 
-pub(crate) fn show_done(answer: DoneAnswer) {
+pub(crate) fn show_done(rt: &impl Print, answer: DoneAnswer) {
     match answer {
-        DoneAnswer::Done => Line::of(b"ok").write(),
-        DoneAnswer::Refused(reason) => show_refused(reason),
+        DoneAnswer::Done => Line::of(b"ok").write(rt),
+        DoneAnswer::Refused(reason) => show_refused(rt, reason),
     }
 }
 

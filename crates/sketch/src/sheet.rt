@@ -58,7 +58,7 @@ fn entries_of(text: &[u8], from: usize) -> [SheetEntry; SHEET_PLACES] {
 }
 
 // The answers of the first entries.
-fn show_entries(entries: [SheetEntry; SHEET_PLACES], count: usize) {
+fn show_entries(rt: &impl Print, entries: [SheetEntry; SHEET_PLACES], count: usize) {
     let mut i: usize = 0;
     while i < count {
         if SHEET_PLACES <= i {
@@ -66,13 +66,14 @@ fn show_entries(entries: [SheetEntry; SHEET_PLACES], count: usize) {
         }
         let entry = entries[i];
         let answer = entry.answer;
-        show_linked_on(Line::of(b"  "), answer);
+        show_linked_on(rt, Line::of(b"  "), answer);
         i += 1;
     }
 }
 
 // A command that links the entries of a line, one after the other.
 pub(crate) fn link_sheet(
+    rt: &impl Print,
     blocks: &mut [u32; WORDS],
     splits: &mut [u32; WORDS],
     wires: &mut [u32; WORDS],
@@ -90,11 +91,11 @@ pub(crate) fn link_sheet(
     match answer {
         SheetAnswer::Done => {
             let done = linked.entries;
-            show_entries(done, count);
-            show_number(count as u64);
+            show_entries(rt, done, count);
+            show_number(rt, count as u64);
         }
         SheetAnswer::TooManyEntries => {
-            write_bytes(b"refused 14  # a sheet has at most 64 entries\n");
+            write_bytes(rt, b"refused 14  # a sheet has at most 64 entries\n");
         }
     }
     linked.totals

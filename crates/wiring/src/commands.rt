@@ -23,9 +23,10 @@ use multiportgraph::multiportgraph::MultiPortGraph;
 use port_tables::index::{NodeIndex, PortIndex};
 use port_tables::release::Release;
 use records::ask::{ask, empty, link_clean};
+use std::fs::Files;
 
 // A request, and so many values of its answer.
-fn request(graph: MultiPortGraph, order: Order, values: u32) -> MultiPortGraph
+fn request(rt: &impl Print, graph: MultiPortGraph, order: Order, values: u32) -> MultiPortGraph
     requires { MultiWf graph }
     ensures { MultiWf result }
 {
@@ -38,25 +39,25 @@ fn request(graph: MultiPortGraph, order: Order, values: u32) -> MultiPortGraph
         order.number(3),
     );
     let answer = told.answer;
-    show_answer(answer, values);
+    show_answer(rt, answer, values);
     told.graph
 }
 
-fn link_cleanly(graph: MultiPortGraph, order: Order) -> MultiPortGraph
+fn link_cleanly(rt: &impl Print, graph: MultiPortGraph, order: Order) -> MultiPortGraph
     requires { MultiWf graph }
     ensures { MultiWf result }
 {
     let told = link_clean(graph, order.number(0), order.number(1));
     let answer = told.answer;
-    show_answer(answer, 4);
+    show_answer(rt, answer, 4);
     told.graph
 }
 
 // An empty wiring of the release that the order names, 1 or 2.
-fn begin(order: Order) -> MultiPortGraph
+fn begin(rt: &impl Print, order: Order) -> MultiPortGraph
     ensures { MultiWf result }
 {
-    write_bytes(b"ok\n");
+    write_bytes(rt, b"ok\n");
     if order.number(0) == 1 {
         return empty(Release::One);
     }
@@ -64,45 +65,50 @@ fn begin(order: Order) -> MultiPortGraph
 }
 
 // A command that changes the graph, or asks for what a request asks; the text is that of its line.
-pub(crate) fn run(graph: MultiPortGraph, order: Order, text: &[u8]) -> MultiPortGraph
+pub(crate) fn run(
+    rt: &(impl Files + Print),
+    graph: MultiPortGraph,
+    order: Order,
+    text: &[u8],
+) -> MultiPortGraph
     requires { MultiWf graph }
     ensures { MultiWf result }
 {
     let command = order.command;
     match command {
         NOTHING | QUIT => graph,
-        RESIZE => resize_block(graph, order),
-        SHEET => link_pairs(graph, order, text),
-        LOAD => load_from(graph, order, text),
-        NEW => begin(order),
-        REMOVE => request(graph, order, 0),
-        ADD => request(graph, order, 2),
-        UNLINK | UNLINKSUB => cut(graph, order),
-        COUNTS => request(graph, order, 3),
-        LINK | LINKSUB => request(graph, order, 4),
-        LINKCLEAN => link_cleanly(graph, order),
-        TIDY => tidy(graph, order),
+        RESIZE => resize_block(rt, graph, order),
+        SHEET => link_pairs(rt, graph, order, text),
+        LOAD => load_from(rt, graph, order, text),
+        NEW => begin(rt, order),
+        REMOVE => request(rt, graph, order, 0),
+        ADD => request(rt, graph, order, 2),
+        UNLINK | UNLINKSUB => cut(rt, graph, order),
+        COUNTS => request(rt, graph, order, 3),
+        LINK | LINKSUB => request(rt, graph, order, 4),
+        LINKCLEAN => link_cleanly(rt, graph, order),
+        TIDY => tidy(rt, graph, order),
         _ => {
-            look(graph, order, text);
+            look(rt, graph, order, text);
             graph
         }
     }
 }
 
 // A command that looks at the graph.
-fn look(graph: MultiPortGraph, order: Order, text: &[u8])
+fn look(rt: &(impl Files + Print), graph: MultiPortGraph, order: Order, text: &[u8])
     requires { MultiWf graph }
 {
     let command = order.command;
     match command {
-        SUBLINK => show_link(graph, order),
-        FANOUT => show_count(graph.port_fan_out(PortIndex(order.number(0)))),
-        BLOCKFANOUT => show_count(graph.node_fan_out(NodeIndex(order.number(0)))),
-        SAVE => save_as(graph, order, text),
-        MERGE => merge_as(order, text),
-        HELP => show_help(),
-        SLOTS => show_slots(graph),
-        BLOCKS | WIRES | PLACES => list_whole(graph, command),
-        _ => list(graph, order),
+        SUBLINK => show_link(rt, graph, order),
+        FANOUT => show_count(rt, graph.port_fan_out(PortIndex(order.number(0)))),
+        BLOCKFANOUT => show_count(rt, graph.node_fan_out(NodeIndex(order.number(0)))),
+        SAVE => save_as(rt, graph, order, text),
+        MERGE => merge_as(rt, order, text),
+        HELP => show_help(rt),
+        SLOTS => show_slots(rt, graph),
+        BLOCKS | WIRES | PLACES => list_whole(rt, graph, command),
+        _ => list(rt, graph, order),
     }
 }

@@ -9,6 +9,7 @@ use multiportgraph::multiportgraph::MultiPortGraph;
 use port_tables::index::NODE_SLOTS;
 use port_tables::release::Release;
 use records::ask::empty;
+use std::fs::Files;
 
 // The graph after a line, and whether no line is heard any more.
 #[derive(Drop)]
@@ -19,6 +20,7 @@ pub struct Turn {
 
 // Runs what was heard, with its text and the times of node slots.
 fn obey(
+    rt: &(impl Files + Print),
     graph: MultiPortGraph,
     listener: Listener,
     text: &[u8],
@@ -33,7 +35,7 @@ fn obey(
             ended: listener.ended,
         };
     }
-    let order = order_of(text, listener.line);
+    let order = order_of(rt, text, listener.line);
     if order.command == QUIT {
         return Turn {
             graph: graph,
@@ -41,22 +43,23 @@ fn obey(
         };
     }
     Turn {
-        graph: run_timed(graph, order, text, times),
+        graph: run_timed(rt, graph, order, text, times),
         ended: listener.ended,
     }
 }
 
 // A loop has to end, and nothing says that the input does: so its turns are counted down, from a number that no run uses up.
-fn converse(buffer: &mut [u8], echo: bool) {
+fn converse(rt: &(impl Files + Print + Input), buffer: &mut [u8], echo: bool) {
     let mut graph = empty(Release::One);
     let mut times = [0u16; NODE_SLOTS];
     let mut listener = Listener::new(echo);
+    let mut input = rt.reader();
     let mut turns = u64::MAX;
     while 0 < turns {
-        listener = listener.listen(buffer);
+        listener = listener.listen(rt, &mut input, buffer);
         let reader = listener.reader;
         let span = reader.span;
-        let turn = obey(graph, listener, line_part(buffer, span), &mut times);
+        let turn = obey(rt, graph, listener, line_part(buffer, span), &mut times);
         graph = turn.graph;
         if turn.ended {
             return;
@@ -65,12 +68,12 @@ fn converse(buffer: &mut [u8], echo: bool) {
     }
 }
 
-fn with_room(buffer: &mut [u8; ROOM], echo: bool) {
-    converse(buffer, echo);
+fn with_room(rt: &(impl Files + Print + Input), buffer: &mut [u8; ROOM], echo: bool) {
+    converse(rt, buffer, echo);
 }
 
 // Commands from standard input, from an empty graph of release 1 on.
-pub(crate) fn read_and_run(echo: bool) {
+pub(crate) fn read_and_run(rt: &(impl Files + Print + Input), echo: bool) {
     let mut buffer = [0u8; ROOM];
-    with_room(&mut buffer, echo);
+    with_room(rt, &mut buffer, echo);
 }

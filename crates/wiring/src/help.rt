@@ -1,8 +1,9 @@
 // What the program says of itself: how it is started, and its commands.
 use lines::show::write_bytes;
 
-pub(crate) fn show_usage() {
+pub(crate) fn show_usage(rt: &impl Print) {
     write_bytes(
+        rt,
         b"\
 usage: wiring [--echo]
 Commands come on standard input, one a line, and each is answered at once; `help` lists them.
@@ -13,8 +14,9 @@ Commands come on standard input, one a line, and each is answered at once; `help
 }
 
 // The commands in groups: what each does, and after the colon what it answers.
-pub(crate) fn show_help() {
+pub(crate) fn show_help(rt: &impl Print) {
     write_bytes(
+        rt,
         b"\
 Change the wiring:
   add IN OUT              a block with so many inputs and outputs: ok NODE FIRSTPORT

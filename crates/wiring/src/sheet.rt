@@ -32,7 +32,7 @@ fn entries_of(text: &[u8], from: usize) -> [SheetEntry; SHEET_PLACES] {
 }
 
 // The answers of the first entries.
-fn show_entries(places: [SheetEntry; SHEET_PLACES], count: usize) {
+fn show_entries(rt: &impl Print, places: [SheetEntry; SHEET_PLACES], count: usize) {
     let mut i: usize = 0;
     while i < count {
         if SHEET_PLACES <= i {
@@ -40,13 +40,18 @@ fn show_entries(places: [SheetEntry; SHEET_PLACES], count: usize) {
         }
         let entry = places[i];
         let answer = entry.answer;
-        show_item(link_words(answer), 4);
+        show_item(rt, link_words(answer), 4);
         i += 1;
     }
 }
 
 // The pairs of a line are linked, one after the other.
-pub(crate) fn link_pairs(graph: MultiPortGraph, order: Order, text: &[u8]) -> MultiPortGraph
+pub(crate) fn link_pairs(
+    rt: &impl Print,
+    graph: MultiPortGraph,
+    order: Order,
+    text: &[u8],
+) -> MultiPortGraph
     requires { MultiWf graph }
     ensures { MultiWf result }
 {
@@ -57,10 +62,10 @@ pub(crate) fn link_pairs(graph: MultiPortGraph, order: Order, text: &[u8]) -> Mu
     match answer {
         SheetAnswer::Done => {
             let done = linked.places;
-            show_entries(done, count);
-            show_number(count as u64);
+            show_entries(rt, done, count);
+            show_number(rt, count as u64);
         }
-        SheetAnswer::TooManyEntries => show_refusal_number(14),
+        SheetAnswer::TooManyEntries => show_refusal_number(rt, 14),
     }
     linked.graph
 }

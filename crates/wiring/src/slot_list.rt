@@ -11,7 +11,7 @@ fn number_at(numbers: &[u32; LIST_NUMBERS], at: usize) -> u32 {
 }
 
 // A block: its first slot, its size, and the node that holds it or `free`.
-fn show_slot_block(numbers: &[u32; LIST_NUMBERS], block: usize) {
+fn show_slot_block(rt: &impl Print, numbers: &[u32; LIST_NUMBERS], block: usize) {
     if block < LIST_NUMBERS {
         let at = 3 * block;
         let holder = number_at(numbers, at + 2);
@@ -19,27 +19,27 @@ fn show_slot_block(numbers: &[u32; LIST_NUMBERS], block: usize) {
             .number(number_at(numbers, at))
             .number(number_at(numbers, at + 1));
         if holder == 0 {
-            line.with(b" free").write();
+            line.with(b" free").write(rt);
         } else {
-            line.number(holder - 1).write();
+            line.number(holder - 1).write(rt);
         }
     }
 }
 
-fn show_blocks(numbers: &[u32; LIST_NUMBERS], count: usize) {
+fn show_blocks(rt: &impl Print, numbers: &[u32; LIST_NUMBERS], count: usize) {
     let mut k: usize = 0;
     while k < count {
-        show_slot_block(numbers, k);
+        show_slot_block(rt, numbers, k);
         k += 1;
     }
 }
 
 // The command that lists them.
-pub(crate) fn show_slots(graph: MultiPortGraph)
+pub(crate) fn show_slots(rt: &impl Print, graph: MultiPortGraph)
     requires { MultiWf graph }
 {
     let mut numbers = [0u32; LIST_NUMBERS];
     let count = list_slots(graph, &mut numbers);
-    show_blocks(&numbers, count);
-    show_number(count as u64);
+    show_blocks(rt, &numbers, count);
+    show_number(rt, count as u64);
 }

@@ -10,6 +10,7 @@ use lines::text::{next_word, number_or_zero};
 use multiportgraph::multiportgraph::MultiPortGraph;
 use port_tables::index::{NODE_SLOTS, NodeIndex};
 use port_tables::numbers::wide;
+use std::fs::Files;
 use timing::answers::LongestAnswer;
 use timing::longest::{longest, path};
 use timing::order::run_order;
@@ -22,7 +23,7 @@ fn time_at(times: &[u16; NODE_SLOTS], slot: usize) -> u16 {
 }
 
 // The time of a slot, both as the order says.
-fn set_time(times: &mut [u16; NODE_SLOTS], order: Order) {
+fn set_time(rt: &impl Print, times: &mut [u16; NODE_SLOTS], order: Order) {
     let slot = wide(order.number(0));
     if slot < NODE_SLOTS {
         let time = order.number(1);
@@ -30,44 +31,54 @@ fn set_time(times: &mut [u16; NODE_SLOTS], order: Order) {
             times[slot] = time as u16;
         }
     }
-    write_bytes(b"ok\n");
+    write_bytes(rt, b"ok\n");
 }
 
-fn show_sum(answer: LongestAnswer) {
+fn show_sum(rt: &impl Print, answer: LongestAnswer) {
     match answer {
-        LongestAnswer::Longest(sum) => show_number(sum as u64),
-        LongestAnswer::Refused(refusal) => show_refusal(refusal),
-        LongestAnswer::BadTimes => show_refusal_number(19),
-        LongestAnswer::Cycle => show_refusal_number(20),
+        LongestAnswer::Longest(sum) => show_number(rt, sum as u64),
+        LongestAnswer::Refused(refusal) => show_refusal(rt, refusal),
+        LongestAnswer::BadTimes => show_refusal_number(rt, 19),
+        LongestAnswer::Cycle => show_refusal_number(rt, 20),
     }
 }
 
 // A block of a list, with its time.
-fn show_block<'a>(blocks: &'a [u32; NODE_SLOTS], times: &'a [u16; NODE_SLOTS], i: usize) {
+fn show_block<'a>(
+    rt: &impl Print,
+    blocks: &'a [u32; NODE_SLOTS],
+    times: &'a [u16; NODE_SLOTS],
+    i: usize,
+) {
     if i < NODE_SLOTS {
         let block = blocks[i];
         let time = time_at(times, wide(block));
-        Line::of(b" ").number(block).number(time as u32).write();
+        Line::of(b" ").number(block).number(time as u32).write(rt);
     }
 }
 
 // The first blocks of a list, each with its time.
-fn show_blocks<'a>(blocks: &'a [u32; NODE_SLOTS], times: &'a [u16; NODE_SLOTS], count: usize) {
+fn show_blocks<'a>(
+    rt: &impl Print,
+    blocks: &'a [u32; NODE_SLOTS],
+    times: &'a [u16; NODE_SLOTS],
+    count: usize,
+) {
     let mut k: usize = 0;
     while k < count {
-        show_block(blocks, times, k);
+        show_block(rt, blocks, times, k);
         k += 1;
     }
 }
 
-fn show_path(graph: MultiPortGraph, order: Order, times: &[u16; NODE_SLOTS])
+fn show_path(rt: &impl Print, graph: MultiPortGraph, order: Order, times: &[u16; NODE_SLOTS])
     requires { MultiWf graph }
 {
     let mut blocks = [0u32; NODE_SLOTS];
     let found = path(graph, NodeIndex(order.number(0)), times, &mut blocks);
-    show_blocks(&blocks, times, found.blocks);
+    show_blocks(rt, &blocks, times, found.blocks);
     let answer = found.answer;
-    show_sum(answer);
+    show_sum(rt, answer);
 }
 
 fn put_number(numbers: &mut [u32; NAMED], i: usize, value: u32) {
@@ -87,11 +98,11 @@ fn put_numbers(numbers: &mut [u32; NAMED], text: &[u8], from: usize) {
     }
 }
 
-fn show_yes(yes: bool) {
+fn show_yes(rt: &impl Print, yes: bool) {
     if yes {
-        show_number(1);
+        show_number(rt, 1);
     } else {
-        show_number(0);
+        show_number(rt, 0);
     }
 }
 
@@ -111,16 +122,17 @@ fn are_run_order(graph: MultiPortGraph, numbers: &[u32; NAMED], count: usize) ->
     is_run_order(graph, numbers, count)
 }
 
-fn show_run_order(graph: MultiPortGraph, order: Order, text: &[u8])
+fn show_run_order(rt: &impl Print, graph: MultiPortGraph, order: Order, text: &[u8])
     requires { MultiWf graph }
 {
     let mut numbers = [0u32; NAMED];
     put_numbers(&mut numbers, text, order.from);
-    show_yes(are_run_order(graph, &numbers, order.entries));
+    show_yes(rt, are_run_order(graph, &numbers, order.entries));
 }
 
 // One command: on times, or on the graph.
 pub(crate) fn run_timed(
+    rt: &(impl Files + Print),
     graph: MultiPortGraph,
     order: Order,
     text: &[u8],
@@ -132,21 +144,21 @@ pub(crate) fn run_timed(
     let command = order.command;
     match command {
         TIME => {
-            set_time(times, order);
+            set_time(rt, times, order);
             graph
         }
         LONGEST => {
-            show_sum(longest(graph, NodeIndex(order.number(0)), times));
+            show_sum(rt, longest(graph, NodeIndex(order.number(0)), times));
             graph
         }
         PATH => {
-            show_path(graph, order, times);
+            show_path(rt, graph, order, times);
             graph
         }
         RUNORDER => {
-            show_run_order(graph, order, text);
+            show_run_order(rt, graph, order, text);
             graph
         }
-        _ => run(graph, order, text),
+        _ => run(rt, graph, order, text),
     }
 }

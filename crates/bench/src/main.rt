@@ -1,5 +1,7 @@
 // The bench wiring, checked by hand: runs each case on the code and prints its letter with `ok`, or `bad` where a number of the
 // case is another one.
+#![tactic(auto)]
+
 mod cases;
 mod looks;
 mod state;

@@ -22,7 +22,7 @@ use port_tables::sides::Sides;
 // The numbers of an item, so many of them as `count` says, none before the first and after the last: of a link both ends, and node, side
 // and position of the second. Then what the cursors hold: a node, a port or an offset, one higher than its number, an offset, and what
 // was given last from the back.
-#[derive(Drop)]
+#[derive(Clone, Copy)]
 pub(crate) struct Item {
     pub count: u32,
     pub a: u32,

@@ -116,13 +116,10 @@ fn sync_folder(rt: &impl Files, folder: &[u8]) {
 // Puts the last digits of a number before a place of a path.
 fn put_digits(path: &mut [u8], end: usize, number: u32) {
     let mut left = number;
-    let mut count: usize = 0;
-    while count < DIGITS {
-        count += 1;
-        if end < count {
-            return;
+    for count in 1..DIGITS + 1 {
+        if count <= end {
+            put_byte(path, end - count, b'0' + (left % 10) as u8);
         }
-        put_byte(path, end - count, b'0' + (left % 10) as u8);
         left /= 10;
     }
 }

@@ -1,5 +1,6 @@
 // What the programs that people type at share: lines are read from standard input and taken apart into words and numbers, and answers are
 // written as lines.
+#![tactic(auto)]
 
 // Lines, words and numbers in a text, and lines of a text as rows of a table.
 pub mod rows;

@@ -1,5 +1,7 @@
 // Replays a recording from standard input: a list of requests, then the answers that the Rust original gave to them. The requests
 // are run, and the program prints how many answers are equal. The check runs it on the list of `host/sample`.
+#![tactic(auto)]
+
 ghost use Rattle.std.specs.Prelude.{◌+◌, ◌*◌, ◌≤◌, length};
 
 use records::run::run_records;

@@ -11,7 +11,7 @@ use sketches::rows::WORDS;
 use sketches::totals::{Totals, new_totals};
 
 // The sketch after a line, besides its tables, and whether no line is heard any more.
-#[derive(Drop)]
+#[derive(Clone, Copy)]
 pub struct Turn {
     pub totals: Totals,
     pub ended: bool,

@@ -7,7 +7,7 @@ use sketches::walks::{SketchWire, SubportWalk, Walk};
 
 // How many numbers an item has, none before the first and after the last, and its ends; then from where the walk goes on: over wires or
 // blocks, or over subports.
-#[derive(Drop)]
+#[derive(Clone, Copy)]
 pub struct Item {
     pub count: u32,
     pub near: SketchEnd,

@@ -1,5 +1,7 @@
 // A console for a sketch of a wiring: commands on standard input, one a line, from an empty sketch on; each is answered on standard output
 // as soon as its line is read.
+#![tactic(auto)]
+
 mod blocks;
 mod commands;
 mod console;

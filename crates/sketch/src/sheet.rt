@@ -13,7 +13,7 @@ use sketches::sketch::{SheetAnswer, SheetEntry, SketchPort};
 use sketches::totals::Totals;
 
 // A port, and where in the line its numbers end.
-#[derive(Drop)]
+#[derive(Clone, Copy)]
 pub struct PortRead {
     pub port: SketchPort,
     pub to: usize,

@@ -1,5 +1,7 @@
 // A console for a wiring: commands on standard input, one a line, from an empty graph on; each is answered on standard output as
 // soon as its line is read.
+#![tactic(auto)]
+
 mod commands;
 mod console;
 mod help;

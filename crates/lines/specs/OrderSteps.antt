@@ -1,12 +1,12 @@
 -- What the proofs of functions over orders cite.
-use Rattle.std.specs.Prelude.{◌≡◌, Bool, true, false, not, cond, List, ◌⊎◌, ℕ, suc, ◌+◌, ◌≤◌, ◌<◌, ltb, set}
+use Rattle.std.specs.Prelude.{◌≡◌, Bool, true, false, not, cond, List, ℕ, ◌+◌, ◌≤◌, ◌<◌, ltb, set}
 use Rattle.std.proofs.Math.Path.{refl, sym, ap, subst}
 use Rattle.std.proofs.Common.{◌∙◌, inl, inr, add-one, arith, length-set, get_or-set_same, get_or-set_other, lt-ltb, le-ltb}
 use Rattle.std.specs.Bool.{beq}
 use Rattle.std.proofs.Math.Logic.{⊎_elim}
 use Rattle.std.proofs.Math.ListN.{get_or, length}
-use Rattle.lines.specs.Orders.{order, start_of, spoiled_by, with_number, number_at, offset_at, most_numbers, Asks, word_at, is_empty, file_name, Says, Read, Numbered, Ordered}
-use Rattle.lines.specs.Text.{bytes_of, next_word, number_said, same_bytes, no_value}
+use Rattle.lines.specs.Orders.{order, start_of, spoiled_by, with_number, number_at, offset_at, most_numbers, Asks, word_at, is_empty, file_name, Says, Numbered, Ordered}
+use Rattle.lines.specs.Text.{bytes_of, next_word, number_said, same_bytes}
 use Rattle.lines.specs.TextSteps.{below_or}
 use Rattle.lines.specs.declared.text.Span.{Span}
 use Rattle.lines.specs.declared.orders.Order.{Order}

@@ -1,6 +1,6 @@
 -- What the words about texts mean.
-use Rattle.std.specs.Prelude.{◌≡◌, refl, Bool, true, false, cond, ◌&&◌, List, [], ◌∷◌, ◌↔◌, ℕ, zero, suc, ◌+◌, ◌-◌, ◌*◌, ◌≤◌, ◌<◌, eqb, leb, ltb, get_or, length, take, drop}
-use Rattle.std.proofs.Common.{sym, ap, ◌∙◌, arith, drop-cons, eqb-true, eq-eqb}
+use Rattle.std.specs.Prelude.{◌≡◌, refl, Bool, true, false, ◌&&◌, List, [], ◌∷◌, ◌↔◌, ℕ, zero, suc, ◌+◌, ◌-◌, ◌≤◌, eqb, get_or, length, take, drop}
+use Rattle.std.proofs.Common.{ap, arith, drop-cons, eqb-true, eq-eqb}
 use Rattle.lines.specs.Text.{bytes_from, bytes_of, same_bytes}
 use Rattle.lines.specs.declared.text.Span.{Span}
 

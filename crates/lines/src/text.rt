@@ -76,6 +76,7 @@ pub fn line_end(text: &[u8], from: usize, to: usize) -> usize
     to
 }
 
+#[tactic(auto, unfolding(crate::specs::Text::is_blank))]
 fn is_blank(byte: u8) -> bool
     ensures { result ≡ is_blank byte }
 {

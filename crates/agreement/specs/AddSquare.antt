@@ -35,7 +35,7 @@ use Rattle.multiportgraph.specs.declared.multiportgraph.AddAnswer.TheVariants as
 use Rattle.theorems.specs.Book as book
 use Rattle.theorems.specs.Book.{book_add}
 use Rattle.theorems.specs.BookLaws.{so_not_false}
-use Rattle.theorems.specs.WireRule.{blocks_added, wires_same, seen_live}
+use Rattle.theorems.proofs.WireRule.{blocks_added, wires_same, seen_live}
 use Rattle.sketches.specs.Plan.{Plan, PlanBlock, has_block, ports_on_side, ports_in_all, port_at, is_there, subports_among}
 use Rattle.sketches.specs.PlanCalls as sketch
 use Rattle.sketches.specs.PlanCalls.{Sketched, leaves, most_adds}

@@ -13,7 +13,7 @@ use Rattle.port_tables.specs.declared.release.Release.{Release}
 use Rattle.theorems.specs.Book.{Call}
 use Rattle.theorems.specs.History.{State, next, run_from, run_from_under, run, run_under}
 use Rattle.theorems.specs.Runs.{run_append, run_next}
-use Rattle.theorems.specs.WireRule.{rel_start}
+use Rattle.theorems.proofs.WireRule.{rel_start}
 use Rattle.sheets.specs.Sheets.{too_many, answered}
 use Rattle.sheets.specs.SheetHistory as sheet
 use Rattle.sheets.specs.SheetHistory.{links_of}

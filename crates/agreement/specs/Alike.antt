@@ -8,7 +8,7 @@ use Rattle.multiportgraph.specs.WellFormed.{BlockIs, Seen}
 use Rattle.port_tables.specs.Places.{Place, Wire, spot}
 use Rattle.multiportgraph.specs.Reading.{is_split, subports}
 use Rattle.multiportgraph.specs.declared.multiportgraph.MultiPortGraph.{MultiPortGraph}
-use Rattle.theorems.specs.WireRule.{Rel}
+use Rattle.theorems.proofs.WireRule.{Rel}
 use Rattle.sketches.specs.Plan.{PlanBlock, port_at, is_there, subports_among}
 use Rattle.agreement.specs.Meaning.{Naming, Both}
 

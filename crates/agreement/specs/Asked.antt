@@ -29,9 +29,9 @@ use Rattle.multi_tables.specs.declared.answers.CutAnswer.{CutAnswer}
 use Rattle.theorems.specs.Book.{Book, read_by}
 use Rattle.theorems.specs.BookLaws.{any_touches_lem, none_touches, so_not_false, or_true, or_right}
 use Rattle.theorems.specs.Conditions.{sub_offset, sub_dead, sub_lacks}
-use Rattle.theorems.specs.CutSubCall.{subport_link_refuses}
+use Rattle.theorems.proofs.CutSubCall.{subport_link_refuses}
 use Rattle.theorems.specs.PortCases.{seen_block_port, is_lacking, end_is_lem}
-use Rattle.theorems.specs.WireRule.{Rel}
+use Rattle.theorems.proofs.WireRule.{Rel}
 use Rattle.sketches.specs.Plan.{Far, nothing, far, far_from, is_there, spot_named, offset_read, lacks_offset, port_at}
 use Rattle.sketches.specs.PlanCalls as sketch
 use Rattle.sketches.specs.PlanCalls.{end_found}

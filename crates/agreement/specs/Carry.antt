@@ -11,7 +11,7 @@ use Rattle.multiportgraph.specs.LinkCutLaws.{at_spot_here, at_spot_is}
 use Rattle.port_tables.specs.Places.{Place, spot, at_spot}
 use Rattle.multiportgraph.specs.declared.multiportgraph.MultiPortGraph.{MultiPortGraph}
 use Rattle.theorems.specs.History.{State}
-use Rattle.theorems.specs.WireRule.{Rel, seen_live}
+use Rattle.theorems.proofs.WireRule.{Rel, seen_live}
 use Rattle.sketches.specs.Plan.{Plan, PlanBlock, port_at, ports_on_side, is_there, subports_among, set_subports}
 use Rattle.sketches.specs.declared.sketch.SketchPort.{SketchPort}
 use Rattle.agreement.specs.Meaning.{Both}

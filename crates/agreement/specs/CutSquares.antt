@@ -37,13 +37,13 @@ use Rattle.multi_tables.specs.declared.answers.CutAnswer.{CutAnswer}
 use Rattle.multi_tables.specs.declared.answers.CutAnswer.TheVariants as cutting
 use Rattle.theorems.specs.Book as book
 use Rattle.theorems.specs.Book.{spot_of, read_by, book_cut}
-use Rattle.theorems.specs.AnswerWires.{cut_sub_answers, place_at}
+use Rattle.theorems.proofs.AnswerWires.{cut_sub_answers, place_at}
 use Rattle.theorems.specs.BookLaws.{so_not_false}
 use Rattle.theorems.specs.Conditions.{SubRefused, sub_offset, sub_dead, sub_lacks, cut_dead}
-use Rattle.theorems.specs.CutCall.{cut_refuses}
-use Rattle.theorems.specs.CutSubCall.{cut_sub_refuses}
+use Rattle.theorems.proofs.CutCall.{cut_refuses}
+use Rattle.theorems.proofs.CutSubCall.{cut_sub_refuses}
 use Rattle.theorems.specs.PortCases.{seen_block_port, is_lacking, end_is_lem}
-use Rattle.theorems.specs.WireRule.{rel_cut, spot_of_lem}
+use Rattle.theorems.proofs.WireRule.{rel_cut, spot_of_lem}
 use Rattle.sketches.specs.Plan.{Plan, is_there, spot_named, far_from, offset_read, subports_of, set_subports, with_wires}
 use Rattle.sketches.specs.PlanCalls as sketch
 use Rattle.sketches.specs.PlanCalls.{Sketched, leaves, is_refused, port_found}

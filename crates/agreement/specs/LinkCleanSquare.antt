@@ -16,8 +16,8 @@ use Rattle.multi_tables.specs.declared.answers.Refusal.TheVariants.{NoRoom}
 use Rattle.theorems.specs.Book as book
 use Rattle.theorems.specs.Book.{book_link}
 use Rattle.theorems.specs.Conditions.{LinkRefused, OfBlock, Taken, clean_first_dead, clean_full, clean_one_side, clean_second_dead, clean_wired, link_first_full, link_second_full}
-use Rattle.theorems.specs.LinkCall.{block_not_hidden, links_otherwise, sides_differ}
-use Rattle.theorems.specs.LinkCleanCall.{clean_refuses, link_is_clean}
+use Rattle.theorems.proofs.LinkCall.{block_not_hidden, links_otherwise, sides_differ}
+use Rattle.theorems.proofs.LinkCleanCall.{clean_refuses, link_is_clean}
 use Rattle.theorems.specs.TakenLaws.{so_free, so_taken}
 use Rattle.sketches.specs.Plan.{input_taken}
 use Rattle.sketches.specs.PlanCalls as sketch

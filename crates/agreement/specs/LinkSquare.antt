@@ -16,7 +16,7 @@ use Rattle.multi_tables.specs.declared.answers.Refusal.TheVariants.{NoRoom}
 use Rattle.theorems.specs.Book as book
 use Rattle.theorems.specs.Book.{book_link}
 use Rattle.theorems.specs.Conditions.{LinkRefused, OfBlock, OfHidden, Taken, link_first_dead, link_first_full, link_one_side, link_second_dead, link_second_full, link_wired}
-use Rattle.theorems.specs.LinkCall.{block_not_hidden, dead_not_hidden, link_refuses, links_otherwise, sides_differ}
+use Rattle.theorems.proofs.LinkCall.{block_not_hidden, dead_not_hidden, link_refuses, links_otherwise, sides_differ}
 use Rattle.theorems.specs.TakenLaws.{so_free, so_taken}
 use Rattle.sketches.specs.Plan.{input_taken, ready}
 use Rattle.sketches.specs.PlanCalls as sketch

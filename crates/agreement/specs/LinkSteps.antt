@@ -29,7 +29,7 @@ use Rattle.theorems.specs.Book.{Book, with_wires, spot_of, add_wire, book_link}
 use Rattle.theorems.specs.History.{State}
 use Rattle.theorems.specs.ReleaseClaims.{for_release}
 use Rattle.theorems.specs.ReleaseLaws.{prepare_for}
-use Rattle.theorems.specs.WireRule.{spot_of_lem, rel_same, rel_linked}
+use Rattle.theorems.proofs.WireRule.{spot_of_lem, rel_same, rel_linked}
 use Rattle.sketches.specs.Plan.{Plan, spot_named, subports_of, place_named, subports_ready, offset_ready, ready}
 use Rattle.sketches.specs.PlanCalls.{Sketched, both_linked, with_wire}
 use Rattle.sketches.specs.declared.sketch.LinkAnswer as sketch_answer

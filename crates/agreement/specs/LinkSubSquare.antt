@@ -24,8 +24,8 @@ use Rattle.multiportgraph.specs.declared.multiportgraph.LinkAnswer as kit_answer
 use Rattle.theorems.specs.Book as book
 use Rattle.theorems.specs.Book.{Book, with_wires, spot_of, add_wire, read_by, book_link_sub}
 use Rattle.theorems.specs.Conditions.{Lacks, OfBlock, Offsets, Taken, sub_first_dead, sub_first_lacks, sub_first_linked, sub_offsets, sub_one_side, sub_second_dead, sub_second_lacks, sub_second_linked, sub_wired}
-use Rattle.theorems.specs.LinkCall.{sides_differ}
-use Rattle.theorems.specs.LinkSubCall.{link_sub_refuses, links_sub_otherwise}
+use Rattle.theorems.proofs.LinkCall.{sides_differ}
+use Rattle.theorems.proofs.LinkSubCall.{link_sub_refuses, links_sub_otherwise}
 use Rattle.theorems.specs.PortCases.{end_is_lem, is_lacking}
 use Rattle.theorems.specs.TakenLaws.{so_free, so_taken}
 use Rattle.sketches.specs.Plan.{input_taken, lacks_offset, offset_read, end#}

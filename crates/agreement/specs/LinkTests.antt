@@ -27,7 +27,7 @@ use Rattle.port_tables.specs.declared.release.Release.TheVariants.{One, Two}
 use Rattle.theorems.specs.Book.{read_by}
 use Rattle.theorems.specs.BookLaws.{or_true, or_right, any_touches_lem}
 use Rattle.theorems.specs.TakenLaws.{wired_input_lem, input_wired}
-use Rattle.theorems.specs.WireRule.{has_end_touches, touches_has_end, offset_of_lem}
+use Rattle.theorems.proofs.WireRule.{has_end_touches, touches_has_end, offset_of_lem}
 use Rattle.sketches.specs.Plan.{spot_named, wired_side, taken_under, input_taken, offset_ready}
 use Rattle.sketches.specs.PlanCalls.{is_wired}
 use Rattle.sketches.specs.declared.sketch.SketchPort.{SketchPort}

@@ -18,7 +18,7 @@ use Rattle.multiportgraph.specs.CountLaws.{visible_nodes_lem}
 use Rattle.multiportgraph.specs.Ends.{count_of_lem}
 use Rattle.multiportgraph.specs.HiddenStays.{true_not_false}
 use Rattle.multiportgraph.specs.WellFormed.{inner#, BlockIs}
-use Rattle.theorems.specs.ListingWires.{spot_back}
+use Rattle.theorems.proofs.ListingWires.{spot_back}
 use Rattle.port_tables.specs.Listing as listing
 use Rattle.port_tables.specs.Listing.{member_map, map_member, member_filter, filter_member, filter_all, rising_filter, rising_map, length_map}
 use Rattle.multiportgraph.specs.Lookups.{port_fan_out, node_fan_out}
@@ -31,12 +31,12 @@ use Rattle.theorems.specs.Book.{Call}
 use Rattle.theorems.specs.BookLaws.{length_range, not_so_true}
 use Rattle.theorems.specs.Claims.{FanOutIsWires}
 use Rattle.theorems.specs.Conditions.{cut_dead, remove_unknown}
-use Rattle.theorems.specs.FanOutWires.{fan_out_is_wires}
+use Rattle.theorems.proofs.FanOutWires.{fan_out_is_wires}
 use Rattle.theorems.specs.History.{State, run}
-use Rattle.theorems.specs.HistoryCounts.{visible_links_of_history}
+use Rattle.theorems.proofs.HistoryCounts.{visible_links_of_history}
 use Rattle.theorems.specs.PortCases.{seen_block_port, seen_none}
-use Rattle.theorems.specs.PortListing.{ListsBlocks, blocks_as_many, blocks_list, both_sides, by_blocks_lists, lists_as_long, ascending_lists, visible_ports_ascending}
-use Rattle.theorems.specs.StartLaws.{port_fan_out_refused, node_fan_out_refused}
+use Rattle.theorems.proofs.PortListing.{ListsBlocks, blocks_as_many, blocks_list, both_sides, by_blocks_lists, lists_as_long, ascending_lists, visible_ports_ascending}
+use Rattle.theorems.proofs.StartLaws.{port_fan_out_refused, node_fan_out_refused}
 use Rattle.sketches.specs.Plan.{PlanBlock, has_block, ports_on_side, ports_in_all, spot_named, is_there}
 use Rattle.sketches.specs.PlanLists as listed
 use Rattle.sketches.specs.PlanNumbers.{reason_number}

@@ -28,8 +28,8 @@ use Rattle.port_tables.specs.declared.release.Release.{Release}
 use Rattle.theorems.specs.Book.{Call, spot_of}
 use Rattle.theorems.specs.History.{State, run}
 use Rattle.theorems.specs.ListingClaims.{wire_from, Exactly, InBook, OverSides, OutOfRange, NotOwnOutput, FarNodes}
-use Rattle.theorems.specs.ListingWires.{listings_are_wires_of_port, listings_are_wires_of_node, listings_are_wires_of_neighbours, listings_are_wires_between}
-use Rattle.theorems.specs.WireRule.{spot_of_lem}
+use Rattle.theorems.proofs.ListingWires.{listings_are_wires_of_port, listings_are_wires_of_node, listings_are_wires_of_neighbours, listings_are_wires_between}
+use Rattle.theorems.proofs.WireRule.{spot_of_lem}
 use Rattle.sketches.specs.Plan as plan
 use Rattle.sketches.specs.Plan.{spot_named, ports_on_side, end#}
 use Rattle.sketches.specs.PlanLists as listed

@@ -21,7 +21,7 @@ use Rattle.multiportgraph.specs.declared.multiportgraph.MultiPortGraph.{MultiPor
 use Rattle.theorems.specs.Book as book
 use Rattle.theorems.specs.Book.{Call, spot_of}
 use Rattle.theorems.specs.BookLaws.{so_not_false}
-use Rattle.theorems.specs.WireRule.{spot_of_lem}
+use Rattle.theorems.proofs.WireRule.{spot_of_lem}
 use Rattle.sketches.specs.Plan.{has_block, ports_on_side, is_there}
 use Rattle.sketches.specs.declared.sketch.SketchPort.{SketchPort}
 use Rattle.agreement.specs.Meaning.{PlanCall, add_plan, remove_plan, set_plan, link_plan, link_clean_plan, link_sub_plan, cut_plan, cut_sub_plan, tidy_plan, Both, PortMeans, same_port, no_port, BlockMeans, same_block, no_block, Means, means_add, means_remove, means_set, means_link, means_link_clean, means_link_sub, means_cut, means_cut_sub, means_tidy}

@@ -25,10 +25,10 @@ use Rattle.theorems.specs.Book as book
 use Rattle.theorems.specs.Book.{book_remove}
 use Rattle.theorems.specs.BookLaws.{not_so_true, stayed_wire}
 use Rattle.theorems.specs.Conditions.{remove_unknown}
-use Rattle.theorems.specs.ReleaseRuns.{step_keeps}
-use Rattle.theorems.specs.RemoveCall.{remove_refuses}
+use Rattle.theorems.proofs.ReleaseRuns.{step_keeps}
+use Rattle.theorems.proofs.RemoveCall.{remove_refuses}
 use Rattle.theorems.specs.RemoveLaws.{RemoveDone, drop_block_done}
-use Rattle.theorems.specs.WireRule.{blocks_removed, wires_dropped, seen_live}
+use Rattle.theorems.proofs.WireRule.{blocks_removed, wires_dropped, seen_live}
 use Rattle.sketches.specs.Plan.{Plan, PlanBlock, ports_on_side, is_there, subports_among}
 use Rattle.sketches.specs.PlanCalls as sketch
 use Rattle.sketches.specs.PlanCalls.{Sketched}

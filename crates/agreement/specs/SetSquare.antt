@@ -45,9 +45,9 @@ use Rattle.theorems.specs.Book as book
 use Rattle.theorems.specs.Book.{not_block, book_set}
 use Rattle.theorems.specs.BookLaws.{not_so_true, so_not_false}
 use Rattle.theorems.specs.Conditions.{SetRefused, set_many, set_gone, set_hidden, set_short, set_full}
-use Rattle.theorems.specs.ReleaseRuns.{step_keeps}
-use Rattle.theorems.specs.SetCall.{set_refuses, set_refused_lem}
-use Rattle.theorems.specs.WireRule.{RightBlocks, blocks_set, wires_dropped, seen_live}
+use Rattle.theorems.proofs.ReleaseRuns.{step_keeps}
+use Rattle.theorems.proofs.SetCall.{set_refuses, set_refused_lem}
+use Rattle.theorems.proofs.WireRule.{RightBlocks, blocks_set, wires_dropped, seen_live}
 use Rattle.sketches.specs.Plan.{Plan, PlanBlock, has_block, ports_on_side, ports_in_all, port_at, is_there, subports_among}
 use Rattle.sketches.specs.PlanCalls as sketch
 use Rattle.sketches.specs.PlanCalls.{Sketched, leaves, recount}

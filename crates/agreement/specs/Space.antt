@@ -29,7 +29,7 @@ use Rattle.theorems.specs.Book as book
 use Rattle.theorems.specs.Book.{Call}
 use Rattle.theorems.specs.Conditions.{RefusedBy}
 use Rattle.theorems.specs.History.{step}
-use Rattle.theorems.specs.PortListing.{blocks_list, ascending_lists, visible_ports_ascending}
+use Rattle.theorems.proofs.PortListing.{blocks_list, ascending_lists, visible_ports_ascending}
 use Rattle.sketches.specs.Plan.{Plan, has_block, ports_in_all, is_there, subports_of, lacks_offset, input_taken, Far, nothing, far, far_from, spot_named, offset_read, ready}
 use Rattle.sketches.specs.PlanCalls as sketch
 use Rattle.sketches.specs.PlanCalls.{Sketched, leaves, most_adds, is_full, is_wired, bad_offset, recount, port_found, end_found}

@@ -20,8 +20,8 @@ use Rattle.port_tables.specs.Places.{Place, Wire}
 use Rattle.multiportgraph.specs.Reading.{is_split, subports}
 use Rattle.theorems.specs.Book.{read_by}
 use Rattle.theorems.specs.Conditions.{Lacks}
-use Rattle.theorems.specs.WireRule.{seen_live}
-use Rattle.theorems.specs.ListingWires.{spot_back}
+use Rattle.theorems.proofs.WireRule.{seen_live}
+use Rattle.theorems.proofs.ListingWires.{spot_back}
 use Rattle.sketches.specs.Plan.{PlanBlock, has_block, ports_on_side, is_there, subports_of, offset_read, lacks_offset}
 use Rattle.sketches.specs.declared.sketch.SketchPort.{SketchPort}
 use Rattle.agreement.specs.Meaning.{Both, PortMeans, same_port, no_port, BlockMeans, same_block, no_block}

@@ -29,9 +29,9 @@ use Rattle.theorems.specs.Book.{Book}
 use Rattle.theorems.specs.BookLaws.{or_true}
 use Rattle.theorems.specs.Conditions.{cut_dead}
 use Rattle.theorems.specs.PortCases.{seen_block_port}
-use Rattle.theorems.specs.ReleaseRuns.{step_keeps}
-use Rattle.theorems.specs.TidyCall.{tidy_refuses}
-use Rattle.theorems.specs.WireRule.{Rel, rel_same}
+use Rattle.theorems.proofs.ReleaseRuns.{step_keeps}
+use Rattle.theorems.proofs.TidyCall.{tidy_refuses}
+use Rattle.theorems.proofs.WireRule.{Rel, rel_same}
 use Rattle.sketches.specs.Plan.{is_there, spot_named, subports_of, set_subports, above_end, above_wired}
 use Rattle.sketches.specs.PlanCalls as sketch
 use Rattle.sketches.specs.PlanCalls.{Sketched, leaves}

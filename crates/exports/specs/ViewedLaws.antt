@@ -27,9 +27,9 @@ use Rattle.multi_tables.specs.declared.answers.SubportIndex.{SubportIndex}
 use Rattle.multi_tables.specs.declared.answers.SubportLink.{SubportLink}
 use Rattle.theorems.specs.Book.{Block, Book, spot_of}
 use Rattle.theorems.specs.ListedLinks.{LinkIs, from_place}
-use Rattle.theorems.specs.ListingWires.{side_link}
-use Rattle.theorems.specs.PortListing.{blocks_list}
-use Rattle.theorems.specs.WireRule.{Rel, spot_of_lem}
+use Rattle.theorems.proofs.ListingWires.{side_link}
+use Rattle.theorems.proofs.PortListing.{blocks_list}
+use Rattle.theorems.proofs.WireRule.{Rel, spot_of_lem}
 use Rattle.records.specs.Words.{bytes_of}
 use Rattle.files.specs.RankLaws.{blocks_rise}
 use Rattle.exports.specs.Viewed.{view_words, view_bytes}

@@ -8,7 +8,7 @@ use Rattle.multiportgraph.specs.Listed.{list_after}
 use Rattle.multiportgraph.specs.declared.multiportgraph.MultiPortGraph.{MultiPortGraph}
 use Rattle.port_tables.specs.declared.release.Release.TheVariants.{One}
 use Rattle.theorems.specs.Book.{Book}
-use Rattle.theorems.specs.CallLaws.{rel_run}
+use Rattle.theorems.proofs.CallLaws.{rel_run}
 use Rattle.theorems.specs.History.{State, run}
 use Rattle.records.specs.Words.{requests_of}
 use Rattle.records.specs.Run.{calls_of}

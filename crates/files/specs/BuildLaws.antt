@@ -22,8 +22,8 @@ use Rattle.theorems.specs.History.{State, next, run_from, run_from_under, run, r
 use Rattle.theorems.specs.Runs.{run_append}
 use Rattle.theorems.specs.Claims.{count}
 use Rattle.theorems.specs.Conditions.{OfBlock, RefusedBy}
-use Rattle.theorems.specs.WireRule.{Rel, spot_of_lem}
-use Rattle.theorems.specs.CallLaws.{rel_step, rel_run}
+use Rattle.theorems.proofs.WireRule.{Rel, spot_of_lem}
+use Rattle.theorems.proofs.CallLaws.{rel_step, rel_run}
 use Rattle.files.specs.View.{BlockPorts, RankWire, View, rank_wire, view_of}
 use Rattle.files.specs.Loading.{block_at, first_port, out_port, in_port, add_of, link_of, build_of, after_call, first_refusal, first_refusal_under}
 use Rattle.files.specs.Claims.{rank_in, same_wire, how_many, wires_between, HasBlock, At, Sound}

@@ -33,11 +33,11 @@ use Rattle.theorems.specs.Book.{Call, AnswerOf, empty_book}
 use Rattle.theorems.specs.History.{State, next, run_from, run_from_under, run, run_under, step}
 use Rattle.theorems.specs.Runs.{run_append}
 use Rattle.theorems.specs.Conditions.{RefusedBy, OfBlock, NoSlot, NoBlock, Taken, AddRefused, add_many, add_full}
-use Rattle.theorems.specs.AddCall.{add_refuses, add_refused}
+use Rattle.theorems.proofs.AddCall.{add_refuses, add_refused}
 use Rattle.theorems.specs.Claims.{count}
-use Rattle.theorems.specs.WireRule.{Rel}
-use Rattle.theorems.specs.CallLaws.{rel_run}
-use Rattle.theorems.specs.ReleaseRuns.{release_kept}
+use Rattle.theorems.proofs.WireRule.{Rel}
+use Rattle.theorems.proofs.CallLaws.{rel_run}
+use Rattle.theorems.proofs.ReleaseRuns.{release_kept}
 use Rattle.files.specs.View.{BlockPorts, RankWire, View}
 use Rattle.files.specs.Loading.{first_port, out_port, in_port, add_of, link_of, build_of, after_call, first_refusal, first_refusal_under}
 use Rattle.files.specs.Claims.{At, same_wire, how_many, Sound}

@@ -25,8 +25,8 @@ use Rattle.multiportgraph.specs.declared.multiportgraph.LinkAnswer.TheVariants a
 use Rattle.theorems.specs.Book as book
 use Rattle.theorems.specs.Book.{Call, AnswerOf, Book, empty_book, book_add}
 use Rattle.theorems.specs.History.{step, State, next, run_from, run_from_under, run, run_under}
-use Rattle.theorems.specs.HistoryCounts.{visible_nodes_of_history}
-use Rattle.theorems.specs.CallLaws.{empty_kept, step_kept, rel_run}
+use Rattle.theorems.proofs.HistoryCounts.{visible_nodes_of_history}
+use Rattle.theorems.proofs.CallLaws.{empty_kept, step_kept, rel_run}
 use Rattle.files.specs.View.{BlockPorts, RankWire, View}
 use Rattle.files.specs.Layout.{field_at, block_of, wire_of, units_for, unbytes}
 use Rattle.files.specs.Loading.{every, unit_list, is_laid, units_right, ranks_right, block_at, positions_right, order_right, view_right, first_port, out_port, in_port, add_of, link_of, build_of, after_call, first_refusal, first_refusal_under, graph_if, is_whole, load_answer, load_answer_under, load_graph, load_graph_under}

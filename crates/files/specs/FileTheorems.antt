@@ -8,7 +8,7 @@ use Rattle.multiportgraph.specs.Calls.{visible_nodes, visible_links}
 use Rattle.port_tables.specs.declared.release.Release.{Release}
 use Rattle.theorems.specs.Book.{Call}
 use Rattle.theorems.specs.History.{run}
-use Rattle.theorems.specs.CallLaws.{rel_run}
+use Rattle.theorems.proofs.CallLaws.{rel_run}
 use Rattle.files.specs.View.{RankWire, View, view_of}
 use Rattle.files.specs.Layout.{units_for, bytes_of, file_length, unbytes}
 use Rattle.files.specs.Saving.{file_of, save_answer}

@@ -20,8 +20,8 @@ use Rattle.multi_tables.specs.declared.answers.Refusal.TheVariants.{NoRoom, Inpu
 use Rattle.theorems.specs.Book.{Book}
 use Rattle.theorems.specs.Claims.{count}
 use Rattle.theorems.specs.Conditions.{OfBlock, WiredInput, Taken, LinkRefused, link_first_dead, link_first_hidden, link_second_hidden, link_wired, link_first_full, link_second_full, link_second_dead, link_one_side}
-use Rattle.theorems.specs.LinkCall.{block_not_hidden, link_refuses, link_refused_lem}
-use Rattle.theorems.specs.WireRule.{Rel}
+use Rattle.theorems.proofs.LinkCall.{block_not_hidden, link_refuses, link_refused_lem}
+use Rattle.theorems.proofs.WireRule.{Rel}
 use Rattle.files.specs.View.{RankWire, rank_wire}
 use Rattle.files.specs.Claims.{same_wire, how_many}
 use Rattle.files.specs.OrderLaws.{counted_in, same_wire_equal, same_wire_self}

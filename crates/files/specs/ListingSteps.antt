@@ -20,7 +20,7 @@ use Rattle.port_tables.specs.Listing.{length_map}
 use Rattle.multiportgraph.specs.Wires.{blocks, wires_walked}
 use Rattle.multiportgraph.specs.declared.multiportgraph.MultiPortGraph.{MultiPortGraph}
 use Rattle.port_tables.specs.declared.release.Release.{Release}
-use Rattle.theorems.specs.CallLaws.{rel_run}
+use Rattle.theorems.proofs.CallLaws.{rel_run}
 use Rattle.theorems.specs.History.{run}
 use Rattle.files.specs.View.{BlockPorts, RankWire, View, rank_among, sorted, rank_wire, view_of}
 use Rattle.files.specs.Layout.{field_at, block_of, wire_of, units_for, unbytes}

@@ -19,7 +19,7 @@ use Rattle.multi_tables.specs.declared.answers.Refusal.TheVariants.{NoRoom, Inpu
 use Rattle.multiportgraph.specs.Graph.{empty_graph}
 use Rattle.theorems.specs.Book.{Call}
 use Rattle.theorems.specs.History.{run}
-use Rattle.theorems.specs.CallLaws.{rel_run}
+use Rattle.theorems.proofs.CallLaws.{rel_run}
 use Rattle.files.specs.View.{BlockPorts, View, block_ports, view_of}
 use Rattle.files.specs.Layout.{bytes_of, unbytes}
 use Rattle.files.specs.LayoutLaws.{view_read_back}

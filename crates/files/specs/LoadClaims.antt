@@ -9,7 +9,7 @@ use Rattle.multi_tables.specs.declared.answers.Refusal.TheVariants.{TooManyPorts
 use Rattle.port_tables.specs.declared.release.Release.{Release}
 use Rattle.port_tables.specs.declared.release.Release.TheVariants.{Two}
 use Rattle.theorems.specs.History.{run}
-use Rattle.theorems.specs.CallLaws.{rel_run}
+use Rattle.theorems.proofs.CallLaws.{rel_run}
 use Rattle.files.specs.View.{BlockPorts, RankWire, View}
 use Rattle.files.specs.Loading.{first_port, out_port, in_port, add_of, build_of, first_refusal}
 use Rattle.files.specs.declared.load.LoadAnswer.TheVariants.{Loaded}

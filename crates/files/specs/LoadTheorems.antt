@@ -10,7 +10,7 @@ use Rattle.multi_tables.specs.declared.answers.Refusal.TheVariants.{TooManyPorts
 use Rattle.multiportgraph.specs.Graph.{empty_graph}
 use Rattle.theorems.specs.Book.{Call}
 use Rattle.theorems.specs.History.{State, run, run_from}
-use Rattle.theorems.specs.CallLaws.{rel_run}
+use Rattle.theorems.proofs.CallLaws.{rel_run}
 use Rattle.theorems.specs.Runs.{run_append}
 use Rattle.theorems.specs.ReleaseClaims.{for_release}
 use Rattle.files.specs.View.{View, view_of}

@@ -19,7 +19,7 @@ use Rattle.port_tables.specs.declared.release.Release.TheVariants.{One, Two}
 use Rattle.multi_tables.specs.declared.answers.Refusal.{Refusal}
 use Rattle.multi_tables.specs.declared.answers.Refusal.TheVariants.{TooManyPorts, NoRoom, InputWired}
 use Rattle.theorems.specs.History.{run}
-use Rattle.theorems.specs.CallLaws.{rel_run}
+use Rattle.theorems.proofs.CallLaws.{rel_run}
 use Rattle.files.specs.View.{BlockPorts, View, rank_among, rank_wire, view_of}
 use Rattle.files.specs.Layout.{units_for, file_length, unbytes, read_units}
 use Rattle.files.specs.LayoutLaws.{ViewFits, file_length_lem, view_read_back}

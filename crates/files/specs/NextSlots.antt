@@ -28,7 +28,7 @@ use Rattle.multiportgraph.specs.declared.multiportgraph.NodeAdded.{NodeAdded}
 use Rattle.multi_tables.specs.declared.answers.Refusal.TheVariants.{NoRoom}
 use Rattle.theorems.specs.Book.{Block, Book, empty_book, book_add}
 use Rattle.theorems.specs.History.{State, next, run_from, run_from_under, run, run_under, step}
-use Rattle.theorems.specs.CallLaws.{call_law}
+use Rattle.theorems.proofs.CallLaws.{call_law}
 use Rattle.files.specs.View.{BlockPorts, RankWire}
 use Rattle.files.specs.Loading.{block_at, first_port, out_port, in_port, add_of, after_call, first_refusal, first_refusal_under}
 use Rattle.files.specs.Claims.{rank_in, At}

@@ -14,9 +14,9 @@ use Rattle.multi_tables.specs.declared.answers.Refusal.TheVariants.{NoRoom, Inpu
 use Rattle.theorems.specs.Book.{Call, Book}
 use Rattle.theorems.specs.History.{run}
 use Rattle.theorems.specs.Claims.{count}
-use Rattle.theorems.specs.WireRule.{Rel}
-use Rattle.theorems.specs.CallLaws.{rel_run}
-use Rattle.theorems.specs.ReleaseTheorems.{release_two_wires_an_input_once}
+use Rattle.theorems.proofs.WireRule.{Rel}
+use Rattle.theorems.proofs.CallLaws.{rel_run}
+use Rattle.theorems.proofs.ReleaseTheorems.{release_two_wires_an_input_once}
 use Rattle.files.specs.View.{RankWire, rank_among, rank_wire, view_of}
 use Rattle.files.specs.Saving.{file_of}
 use Rattle.files.specs.Loading.{load_answer}

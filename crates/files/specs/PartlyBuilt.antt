@@ -18,9 +18,9 @@ use Rattle.multi_tables.specs.declared.answers.Refusal.{Refusal}
 use Rattle.theorems.specs.Book as book
 use Rattle.theorems.specs.Book.{Call, AnswerOf, Book, empty_book, spot_of, add_wire, read_by, first_mark, second_mark, not_block, book_answer, book_add, book_remove, book_set, book_link, book_link_sub, book_cut}
 use Rattle.theorems.specs.History.{State, next, run_from, run_from_under, run, run_under, step}
-use Rattle.theorems.specs.HistoryCounts.{visible_links_of_history, visible_nodes_of_history}
+use Rattle.theorems.proofs.HistoryCounts.{visible_links_of_history, visible_nodes_of_history}
 use Rattle.theorems.specs.Conditions.{RefusedBy}
-use Rattle.theorems.specs.CallLaws.{rel_run}
+use Rattle.theorems.proofs.CallLaws.{rel_run}
 use Rattle.files.specs.View.{View, view_of}
 use Rattle.files.specs.Loading.{add_of, link_of, build_of, first_refusal, first_refusal_under}
 use Rattle.files.specs.ViewLaws.{view_blocks, view_wires}

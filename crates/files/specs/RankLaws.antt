@@ -13,8 +13,8 @@ use Rattle.multiportgraph.specs.WellFormed.{BlockIs}
 use Rattle.port_tables.specs.Listing.{Apart, member_filter, filter_member, filter_none, member_map, map_member, rising_filter, rising_map, range_rises, length_map}
 use Rattle.multiportgraph.specs.declared.multiportgraph.MultiPortGraph.{MultiPortGraph}
 use Rattle.theorems.specs.Book.{Block, Book}
-use Rattle.theorems.specs.WireRule.{OtherNode, Rel}
-use Rattle.theorems.specs.PortListing.{same_length, rising_apart, blocks_list}
+use Rattle.theorems.proofs.WireRule.{OtherNode, Rel}
+use Rattle.theorems.proofs.PortListing.{same_length, rising_apart, blocks_list}
 use Rattle.files.specs.View.{rank_among}
 use Rattle.files.specs.Claims.{rank_in, At}
 

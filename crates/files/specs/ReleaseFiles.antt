@@ -22,7 +22,7 @@ use Rattle.theorems.specs.Book.{Call, AnswerOf}
 use Rattle.theorems.specs.History.{Stepped, step, run}
 use Rattle.theorems.specs.Conditions.{RefusedBy}
 use Rattle.theorems.specs.ReleaseClaims.{for_release, stepped_for, number_of}
-use Rattle.theorems.specs.ReleaseRuns.{Gave18, step_either, one_unchecked, unchecked_for}
+use Rattle.theorems.proofs.ReleaseRuns.{Gave18, step_either, one_unchecked, unchecked_for}
 use Rattle.files.specs.View.{BlockPorts, RankWire, View}
 use Rattle.files.specs.Layout.{unbytes}
 use Rattle.files.specs.Loading.{add_of, link_of, build_of, after_call, first_refusal, first_refusal_under, is_whole, is_laid, load_answer, load_answer_under, load_graph, load_graph_under, graph_if}

@@ -28,7 +28,7 @@ use Rattle.port_tables.specs.Listing.{Apart, member_map, map_member, member_rang
 use Rattle.multiportgraph.specs.CountLaws.{visible_nodes_lem, visible_links_lem}
 use Rattle.multiportgraph.specs.declared.multiportgraph.MultiPortGraph.{MultiPortGraph}
 use Rattle.multi_tables.specs.declared.answers.SubportLink.{SubportLink}
-use Rattle.theorems.specs.PortListing.{rising_apart}
+use Rattle.theorems.proofs.PortListing.{rising_apart}
 use Rattle.files.specs.View.{BlockPorts, RankWire, rank_among, sorted, block_ports, rank_wire, view_of}
 use Rattle.files.specs.Layout.{Record, block_record, wire_record, units_for, units_of, bytes_of, file_length}
 use Rattle.files.specs.LayoutLaws.{FieldsFit, units_length}

@@ -30,8 +30,8 @@ use Rattle.multiportgraph.specs.declared.multiportgraph.MultiPortGraph.{MultiPor
 use Rattle.theorems.specs.Book.{Block, Book}
 use Rattle.theorems.specs.BookLaws.{same_count}
 use Rattle.theorems.specs.Claims.{count}
-use Rattle.theorems.specs.WireRule.{Rel, seen_live}
-use Rattle.theorems.specs.PortListing.{blocks_list, rising_apart}
+use Rattle.theorems.proofs.WireRule.{Rel, seen_live}
+use Rattle.theorems.proofs.PortListing.{blocks_list, rising_apart}
 use Rattle.files.specs.View.{BlockPorts, RankWire, View, rank_among, sorted, block_ports, rank_wire, view_of}
 use Rattle.files.specs.Layout.{block_record, wire_record, units_for, file_length}
 use Rattle.files.specs.Saving.{file_of}

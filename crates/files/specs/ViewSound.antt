@@ -19,7 +19,7 @@ use Rattle.multiportgraph.specs.declared.multiportgraph.MultiPortGraph.{MultiPor
 use Rattle.port_tables.specs.declared.release.Release.{Release}
 use Rattle.theorems.specs.Book.{Call}
 use Rattle.theorems.specs.History.{run}
-use Rattle.theorems.specs.CallLaws.{rel_run}
+use Rattle.theorems.proofs.CallLaws.{rel_run}
 use Rattle.files.specs.View.{BlockPorts, RankWire, rank_among, sorted, block_ports, rank_wire, view_of}
 use Rattle.files.specs.Loading.{block_at}
 use Rattle.files.specs.Claims.{At, Sound}

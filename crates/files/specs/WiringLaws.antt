@@ -6,7 +6,7 @@ use Rattle.portgraph.specs.Model.{Model}
 use Rattle.multiportgraph.specs.Wires.{blocks, wires_walked}
 use Rattle.multiportgraph.specs.declared.multiportgraph.MultiPortGraph.{MultiPortGraph}
 use Rattle.theorems.specs.Book.{Book}
-use Rattle.theorems.specs.WireRule.{Rel}
+use Rattle.theorems.proofs.WireRule.{Rel}
 use Rattle.files.specs.View.{View, rank_among, rank_wire, view_of}
 use Rattle.files.specs.Claims.{same_wire, SameWiring, At, how_many, AtMost}
 use Rattle.files.specs.OrderLaws.{sorted_rises, wires_by_counts}

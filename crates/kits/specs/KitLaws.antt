@@ -31,7 +31,7 @@ use Rattle.multiportgraph.specs.declared.multiportgraph.TidyAnswer.TheVariants a
 use Rattle.theorems.specs.Book as book
 use Rattle.theorems.specs.Book.{Call, AnswerOf, empty_book, book_answer}
 use Rattle.theorems.specs.History.{Stepped, step_under, State, marks_named, ports_shown, next_under, run_from_under, run_under, numbers_of}
-use Rattle.theorems.specs.CallLaws.{empty_kept, step_kept}
+use Rattle.theorems.proofs.CallLaws.{empty_kept, step_kept}
 use Rattle.theorems.specs.Conditions.{RefusedBy}
 use Rattle.files.specs.View.{BlockPorts, RankWire, View}
 use Rattle.files.specs.Layout.{unbytes}

@@ -4,7 +4,7 @@ use Rattle.std.proofs.Common.{sym, ap, subst, ◌∙◌}
 use Rattle.multiportgraph.specs.Calls.{set_counts, subport_link, cut_port, cut_sub, visible_nodes, visible_ports, visible_links, tidy_port}
 use Rattle.theorems.specs.Book.{set_call, cut_call, cut_sub_call, tidy_call}
 use Rattle.multiportgraph.specs.WellFormed.{MultiWf}
-use Rattle.theorems.specs.CallLaws.{empty_kept, step_kept}
+use Rattle.theorems.proofs.CallLaws.{empty_kept, step_kept}
 use Rattle.multiportgraph.specs.declared.multiportgraph.MultiPortGraph.{MultiPortGraph}
 use Rattle.multiportgraph.specs.declared.multiportgraph.PortsSet.{PortsSet}
 use Rattle.multiportgraph.specs.declared.multiportgraph.PortUnlinked.{PortUnlinked}

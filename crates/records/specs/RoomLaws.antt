@@ -8,7 +8,7 @@ use Rattle.theorems.specs.Book as book
 use Rattle.theorems.specs.Book.{Call, AnswerOf}
 use Rattle.theorems.specs.History.{step, run, numbers_of}
 use Rattle.multiportgraph.specs.WellFormed.{Fine}
-use Rattle.theorems.specs.CallLaws.{rel_run, refused_under_no_other}
+use Rattle.theorems.proofs.CallLaws.{rel_run, refused_under_no_other}
 use Rattle.theorems.specs.Conditions as laws
 use Rattle.multiportgraph.specs.declared.multiportgraph.MultiPortGraph.{MultiPortGraph}
 use Rattle.port_tables.specs.declared.release.Release.TheVariants.{One}
@@ -27,7 +27,7 @@ use Rattle.multiportgraph.specs.HiddenNodes.{enough}
 use Rattle.multiportgraph.specs.Answers.{cut_numbers}
 use Rattle.multi_tables.specs.EndAnswers.{refusal_numbers}
 use Rattle.theorems.specs.Conditions.{AddRefused, RemoveRefused, SetRefused, CutRefused, SubRefused, LinkRefused, CleanRefused, LinkSubRefused, RefusedBy, Condition}
-use Rattle.theorems.specs.CutSubCall.{subport_link_refused}
+use Rattle.theorems.proofs.CutSubCall.{subport_link_refused}
 
 -- the refusal with number 6
 refusal_six : (r : Refusal) → get_or (refusal_numbers r) 0 0 ≡ 6 → r ≡ MovesTooShort

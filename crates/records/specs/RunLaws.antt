@@ -4,7 +4,7 @@ use Rattle.std.specs.Prelude.{◌≡◌, refl, List, [], ◌∷◌, ◌++◌}
 use Rattle.std.proofs.Common.{sym, ap, ◌∙◌, subst}
 use Rattle.theorems.specs.Book.{empty_book}
 use Rattle.theorems.specs.History.{State, next, run, run_under, run_from, run_from_under}
-use Rattle.theorems.specs.Theorems.{wire_rule}
+use Rattle.theorems.proofs.Theorems.{wire_rule}
 use Rattle.multiportgraph.specs.declared.multiportgraph.MultiPortGraph.{MultiPortGraph}
 use Rattle.records.specs.Words.{Request}
 use Rattle.records.specs.Run.{Asked, call, link_of, counts, refused, asked, after, numbers, five, answers_from, graph_from, call_then, calls_of, first_graph}

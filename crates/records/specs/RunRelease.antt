@@ -14,12 +14,12 @@ use Rattle.multi_tables.specs.declared.answers.CutAnswer.TheVariants as cutting
 use Rattle.theorems.specs.Book as book
 use Rattle.theorems.specs.Book.{Call, AnswerOf}
 use Rattle.theorems.specs.History.{run, numbers_of}
-use Rattle.theorems.specs.CallLaws.{rel_run}
+use Rattle.theorems.proofs.CallLaws.{rel_run}
 use Rattle.theorems.specs.Conditions as laws
 use Rattle.theorems.specs.Conditions.{SubRefused}
-use Rattle.theorems.specs.CutSubCall.{subport_link_refused}
+use Rattle.theorems.proofs.CutSubCall.{subport_link_refused}
 use Rattle.theorems.specs.ReleaseClaims.{first_of, number_of}
-use Rattle.theorems.specs.ReleaseTheorems.{release_one_is_as_before}
+use Rattle.theorems.proofs.ReleaseTheorems.{release_one_is_as_before}
 use Rattle.records.specs.Words.{Request}
 use Rattle.records.specs.Run.{Asked, call, link_of, counts, refused, asked, without_place, recorded, numbers, calls_of}
 

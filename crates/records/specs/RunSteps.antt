@@ -5,7 +5,7 @@ use borrow.Author.Tests.{eq-eqb, ne_eqb}
 use Rattle.std.proofs.lemmas.List.Edits.{sets, sets-eq}
 use Rattle.std.proofs.Math.Seq.{length-sets, drop-length}
 use Rattle.multiportgraph.specs.WellFormed.{MultiWf}
-use Rattle.theorems.specs.CallLaws.{empty_kept}
+use Rattle.theorems.proofs.CallLaws.{empty_kept}
 use Rattle.multiportgraph.specs.declared.multiportgraph.MultiPortGraph.{MultiPortGraph}
 use Rattle.records.specs.Words.{bytes_of, Request, request_at, requests_from, requests_of}
 use Rattle.records.specs.Run.{Asked, asked, after, numbers, five, Answered, answers_from, graph_from, answer_bytes, returned, written, list_taken, first_graph}

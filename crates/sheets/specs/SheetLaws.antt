@@ -11,7 +11,7 @@ use Rattle.port_tables.specs.declared.release.Release.{Release}
 use Rattle.multiportgraph.specs.declared.multiportgraph.MultiPortGraph.{MultiPortGraph}
 use Rattle.theorems.specs.Book.{Call, link_call}
 use Rattle.theorems.specs.History.{State, step, next, run_from, run_from_under, run, run_under}
-use Rattle.theorems.specs.CallLaws.{step_kept}
+use Rattle.theorems.proofs.CallLaws.{step_kept}
 use Rattle.theorems.specs.Runs.{run_from_append}
 use Rattle.sheets.specs.declared.sheet.SheetEntry.{SheetEntry}
 use Rattle.sheets.specs.declared.sheet.SheetLinked.{SheetLinked}

@@ -5,7 +5,7 @@ use Rattle.std.proofs.Math.Seq.{get_or-append_seam, set-append_seam, append_snoc
 use Rattle.multiportgraph.specs.WellFormed.{MultiWf}
 use Rattle.multiportgraph.specs.declared.multiportgraph.MultiPortGraph.{MultiPortGraph}
 use Rattle.theorems.specs.Book.{link_call}
-use Rattle.theorems.specs.CallLaws.{step_kept}
+use Rattle.theorems.proofs.CallLaws.{step_kept}
 use Rattle.sheets.specs.declared.sheet.SheetEntry.{SheetEntry}
 use Rattle.sheets.specs.declared.sheet.SheetLinked.{SheetLinked}
 use Rattle.sheets.specs.declared.sheet.SheetAnswer.TheVariants.{Done, TooManyEntries}

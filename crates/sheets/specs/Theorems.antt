@@ -25,8 +25,8 @@ use Rattle.theorems.specs.Claims.{WireRule, Link, linking, LinkedBy, accepted_li
 use Rattle.theorems.specs.AnswerClaims.{AnswersItsWire, AnswersAreWires}
 use Rattle.theorems.specs.PlaceClaims.{PlacesAreWires}
 use Rattle.theorems.specs.Conditions.{RefusedBy, Accepted, Condition, leaves_prepared}
-use Rattle.theorems.specs.Theorems as calls
-use Rattle.theorems.specs.ReleaseTheorems as releases
+use Rattle.theorems.proofs.Theorems as calls
+use Rattle.theorems.proofs.ReleaseTheorems as releases
 use Rattle.sheets.specs.declared.sheet.SheetEntry.{SheetEntry}
 use Rattle.sheets.specs.declared.sheet.SheetAnswer.TheVariants.{TooManyEntries}
 use Rattle.sheets.specs.declared.held.HeldLinked.{HeldLinked}

@@ -43,7 +43,7 @@ use Rattle.theorems.specs.Book.{Call, AnswerOf, Book}
 use Rattle.theorems.specs.History.{State, step, numbers_of, run_from, run_from_under, entered}
 use Rattle.theorems.specs.Works.{works_of}
 use Rattle.theorems.specs.Conditions.{RefusedBy}
-use Rattle.theorems.specs.CallLaws.{call_law, call_space, call_room_after}
+use Rattle.theorems.proofs.CallLaws.{call_law, call_space, call_room_after}
 use Rattle.slots.specs.SlotClaims.{blocks_asked, asks_node, AsksOnly, answers_ten, LacksNode, NeverForPorts, works_done, works_along, Takes, Untaken, FreedSince, freed_by, freed_later}
 use Rattle.slots.specs.KeptLaws.{given_stays, given_is, taken_or_left}
 

@@ -25,7 +25,7 @@ use Rattle.multiportgraph.specs.declared.multiportgraph.MultiPortGraph.{MultiPor
 use Rattle.port_tables.specs.declared.release.Release.{Release}
 use Rattle.theorems.specs.Book.{Call, empty_book}
 use Rattle.theorems.specs.History.{State, step, next, run, run_from, run_from_under, run_under}
-use Rattle.theorems.specs.CallLaws.{run_kept, step_kept}
+use Rattle.theorems.proofs.CallLaws.{run_kept, step_kept}
 use Rattle.theorems.specs.Runs.{run_next, run_append}
 use Rattle.sheets.specs.Sheets.{link_sheet, sheet_entries}
 use Rattle.sheets.specs.SheetHistory.{links_of}

@@ -24,8 +24,8 @@ use Rattle.multiportgraph.specs.declared.lookups.CountAnswer.{CountAnswer}
 use Rattle.multiportgraph.specs.declared.lookups.CountAnswer.TheVariants as count_of
 use Rattle.multiportgraph.specs.declared.multiportgraph.MultiPortGraph.{MultiPortGraph}
 use Rattle.multi_tables.specs.declared.answers.Refusal.{Refusal}
-use Rattle.theorems.specs.PortListing.{blocks_list, rising_apart}
-use Rattle.theorems.specs.StartLaws.{start_at_node_starts}
+use Rattle.theorems.proofs.PortListing.{blocks_list, rising_apart}
+use Rattle.theorems.proofs.StartLaws.{start_at_node_starts}
 use Rattle.files.specs.Forms.{node_listed, nodes_of, blocks_in}
 use Rattle.files.specs.RankLaws.{blocks_rise}
 use Rattle.files.specs.SaveSteps.{listing_taken, listed_blocks, listed_wires, nodes_are}

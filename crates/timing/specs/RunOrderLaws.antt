@@ -11,7 +11,7 @@ use Rattle.port_tables.specs.Listing.{Apart, member_filter, filter_member, partn
 use Rattle.files.specs.Loading.{every}
 use Rattle.files.specs.LaidLaws.{both_true}
 use Rattle.files.specs.SoundLaws.{every_item, item_every}
-use Rattle.theorems.specs.PortListing.{same_length}
+use Rattle.theorems.proofs.PortListing.{same_length}
 use Rattle.multiportgraph.specs.Wires.{blocks}
 use Rattle.multiportgraph.specs.declared.multiportgraph.MultiPortGraph.{MultiPortGraph}
 use Rattle.timing.specs.Longest.{Feed, feeds_in, feeders}

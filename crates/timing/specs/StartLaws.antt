@@ -15,7 +15,7 @@ use Rattle.port_tables.specs.Limits.{node_slots}
 use Rattle.port_tables.specs.Lists.{Member, Rising, range, filter}
 use Rattle.port_tables.specs.Places.{flag}
 use Rattle.port_tables.specs.Listing.{Apart, member_right, member_filter, filter_member, rising_filter, range_rises, member_range, range_member, length_range}
-use Rattle.theorems.specs.PortListing.{rising_apart}
+use Rattle.theorems.proofs.PortListing.{rising_apart}
 use Rattle.timing.specs.Longest.{Feed, feeders, comes, largest_sum, longest_among, time_in}
 use Rattle.timing.specs.RunOrder.{is_in}
 use Rattle.timing.specs.Settling.{Tables, zeros, waits_of, firsts_of, pushed, push_ready, start_tables, wire_done, run_done, settle, settled}

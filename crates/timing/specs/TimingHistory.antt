@@ -13,12 +13,12 @@ use Rattle.multiportgraph.specs.Wires.{is_block, blocks}
 use Rattle.multi_tables.specs.declared.answers.Refusal.{Refusal}
 use Rattle.port_tables.specs.declared.release.Release.{Release}
 use Rattle.theorems.specs.Book.{Call, Book}
-use Rattle.theorems.specs.CallLaws.{rel_run}
+use Rattle.theorems.proofs.CallLaws.{rel_run}
 use Rattle.theorems.specs.History.{run}
 use Rattle.theorems.specs.ListingClaims.{InBook}
-use Rattle.theorems.specs.StartLaws.{NodeRefused, start_at_node_refused}
-use Rattle.theorems.specs.PortListing.{blocks_list}
-use Rattle.theorems.specs.Theorems.{wire_rule, blocks_are_booked}
+use Rattle.theorems.proofs.StartLaws.{NodeRefused, start_at_node_refused}
+use Rattle.theorems.proofs.PortListing.{blocks_list}
+use Rattle.theorems.proofs.Theorems.{wire_rule, blocks_are_booked}
 use Rattle.timing.specs.Longest.{time_in, feeds_in, feeders, comes, longest_of}
 use Rattle.timing.specs.RunOrder.{run_order}
 use Rattle.timing.specs.Path.{path_of}

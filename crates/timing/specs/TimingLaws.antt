@@ -19,8 +19,8 @@ use Rattle.multiportgraph.specs.Walks.{Start, started, refused, start_at_node}
 use Rattle.multiportgraph.specs.Wires.{blocks, wires_walked}
 use Rattle.multiportgraph.specs.declared.multiportgraph.MultiPortGraph.{MultiPortGraph}
 use Rattle.multi_tables.specs.declared.answers.Refusal.{Refusal}
-use Rattle.theorems.specs.PortListing.{blocks_list}
-use Rattle.theorems.specs.StartLaws.{start_at_node_starts}
+use Rattle.theorems.proofs.PortListing.{blocks_list}
+use Rattle.theorems.proofs.StartLaws.{start_at_node_starts}
 use Rattle.timing.specs.Longest.{Feed, feed_of, feeds_in, feeders, comes, largest_sum, time_in, longest_among, longest_timed, longest_from, longest_of}
 use Rattle.timing.specs.RunOrder.{is_in, run_order}
 use Rattle.timing.specs.Path.{path_of}

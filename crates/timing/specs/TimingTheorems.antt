@@ -10,7 +10,7 @@ use Rattle.port_tables.specs.declared.release.Release.{Release}
 use Rattle.theorems.specs.Book.{Call}
 use Rattle.theorems.specs.History.{run}
 use Rattle.theorems.specs.ListingClaims.{InBook}
-use Rattle.theorems.specs.StartLaws.{NodeRefused}
+use Rattle.theorems.proofs.StartLaws.{NodeRefused}
 use Rattle.timing.specs.Longest.{time_in, longest_of}
 use Rattle.timing.specs.RunOrder.{run_order}
 use Rattle.timing.specs.Path.{path_of}

@@ -3,7 +3,7 @@ use mathlib.Core.Path.{sym, ap, ◌∙◌, subst}
 use borrow.Author.Rules.{rules}
 use Rattle.multiportgraph.specs.WellFormed.{MultiWf}
 use Rattle.multiportgraph.specs.declared.multiportgraph.MultiPortGraph.{MultiPortGraph}
-use Rattle.theorems.specs.CallLaws.{empty_kept}
+use Rattle.theorems.proofs.CallLaws.{empty_kept}
 use Rattle.records.specs.Words.{requests_of}
 use Rattle.records.specs.Run.{graph_from}
 use Rattle.records.specs.LentSteps.{start_in}

@@ -7,7 +7,7 @@ use Rattle.port_tables.specs.Limits.{node_slots}
 use Rattle.multiportgraph.specs.Graph.{empty_graph}
 use Rattle.multiportgraph.specs.WellFormed.{MultiWf}
 use Rattle.multiportgraph.specs.MultiLent.{multi_in}
-use Rattle.theorems.specs.CallLaws.{empty_kept}
+use Rattle.theorems.proofs.CallLaws.{empty_kept}
 use Rattle.files.specs.Layout.{units_for, unbytes}
 use Rattle.files.specs.BuildSteps.{blocks_fit_table, built_blocks, built_wires}
 use borrow.Author.Rules.{rules}

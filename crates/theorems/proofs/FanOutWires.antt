@@ -17,10 +17,10 @@ use Rattle.theorems.specs.History.{run}
 use Rattle.theorems.specs.Claims.{count, FanOutIsWires}
 use Rattle.theorems.specs.ListingClaims.{wire_from, Exactly, InBook}
 use Rattle.theorems.specs.BookLaws.{same_count_among}
-use Rattle.theorems.specs.CallLaws.{rel_run}
-use Rattle.theorems.specs.WireRule.{Rel}
-use Rattle.theorems.specs.StartLaws.{port_fan_out_found, node_fan_out_found}
-use Rattle.theorems.specs.ListingWires.{block_booked, spot_back, listings_are_wires_of_side, listings_are_wires_of_port}
+use Rattle.theorems.proofs.CallLaws.{rel_run}
+use Rattle.theorems.proofs.WireRule.{Rel}
+use Rattle.theorems.proofs.StartLaws.{port_fan_out_found, node_fan_out_found}
+use Rattle.theorems.proofs.ListingWires.{block_booked, spot_back, listings_are_wires_of_side, listings_are_wires_of_port}
 
 -- how many of a book's wires pass a test, where a list has exactly those
 

@@ -19,11 +19,11 @@ use Rattle.multiportgraph.specs.declared.multiportgraph.NodeAdded.{NodeAdded}
 use Rattle.multiportgraph.specs.Graph.{with_graph}
 use Rattle.multiportgraph.specs.CaseLaws.{add_cases}
 use Rattle.multiportgraph.specs.LinkCutLaws.{add_block_law}
-use Rattle.theorems.specs.WireRule.{after_add}
+use Rattle.theorems.proofs.WireRule.{after_add}
 use Rattle.multiportgraph.specs.SpaceLaws.{add_call_space}
 use Rattle.theorems.specs.Works.{works_of}
 use Rattle.theorems.specs.Conditions.{AddRefused, add_full, add_many}
-use Rattle.theorems.specs.CallLaw.{CallLaw, whole}
+use Rattle.theorems.proofs.CallLaw.{CallLaw, whole}
 
 -- Adding a block.
 

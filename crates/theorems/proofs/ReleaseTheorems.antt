@@ -13,8 +13,8 @@ use Rattle.port_tables.specs.declared.release.Release.TheVariants.{One, Two}
 use Rattle.theorems.specs.Book.{Call}
 use Rattle.theorems.specs.History.{step, run}
 use Rattle.theorems.specs.ReleaseClaims.{for_release, step_unchecked, stepped_for, number_of, answers, without18, calls_passed}
-use Rattle.theorems.specs.ReleaseRuns as runs
-use Rattle.theorems.specs.ReleaseHistory as history
+use Rattle.theorems.proofs.ReleaseRuns as runs
+use Rattle.theorems.proofs.ReleaseHistory as history
 
 -- A graph keeps the release that it is made for.
 pub release_is_kept : (release : Release) (calls : List Call) → (run release calls).graph.release ≡ release

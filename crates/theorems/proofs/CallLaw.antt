@@ -7,7 +7,7 @@ use Rattle.multiportgraph.specs.declared.multiportgraph.MultiPortGraph.{MultiPor
 use Rattle.multi_tables.specs.declared.answers.Refusal.{Refusal}
 use Rattle.multi_tables.specs.declared.answers.Refusal.TheVariants.{NoRoom}
 use Rattle.theorems.specs.History.{step, entered}
-use Rattle.theorems.specs.WireRule.{Leads}
+use Rattle.theorems.proofs.WireRule.{Leads}
 use Rattle.multiportgraph.specs.SpaceLaws.{Spaced}
 use Rattle.theorems.specs.Works.{works_of}
 use Rattle.theorems.specs.Conditions.{Condition, RefusedBy, leaves_prepared}

@@ -32,11 +32,11 @@ use Rattle.multiportgraph.specs.Cases.{set_refused, resized, set_meta}
 use Rattle.multiportgraph.specs.HiddenNodes.{full}
 use Rattle.multiportgraph.specs.CaseLaws.{set_cases}
 use Rattle.multiportgraph.specs.SetLaws.{set_counts_law, set_refused_law}
-use Rattle.theorems.specs.WireRule.{after_set}
+use Rattle.theorems.proofs.WireRule.{after_set}
 use Rattle.multiportgraph.specs.SpaceLaws.{set_call_space}
 use Rattle.theorems.specs.Works.{works_of}
 use Rattle.theorems.specs.Conditions.{SetRefused, set_full, set_gone, set_hidden, set_many, set_short}
-use Rattle.theorems.specs.CallLaw.{CallLaw, whole}
+use Rattle.theorems.proofs.CallLaw.{CallLaw, whole}
 
 -- Changing a block's counts.
 

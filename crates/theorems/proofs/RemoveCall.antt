@@ -20,11 +20,11 @@ use Rattle.multiportgraph.specs.declared.multiportgraph.NodeRemoved.{NodeRemoved
 use Rattle.multiportgraph.specs.Cases.{remove_refused, remove_meta}
 use Rattle.multiportgraph.specs.CaseLaws.{remove_cases}
 use Rattle.theorems.specs.RemoveLaws.{remove_block_law}
-use Rattle.theorems.specs.WireRule.{after_remove}
+use Rattle.theorems.proofs.WireRule.{after_remove}
 use Rattle.multiportgraph.specs.SpaceLaws.{remove_space}
 use Rattle.theorems.specs.Works.{works_of}
 use Rattle.theorems.specs.Conditions.{RemoveRefused, remove_hidden, remove_unknown}
-use Rattle.theorems.specs.CallLaw.{CallLaw, whole}
+use Rattle.theorems.proofs.CallLaw.{CallLaw, whole}
 
 -- Removing a block.
 

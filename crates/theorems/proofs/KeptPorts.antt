@@ -17,11 +17,11 @@ use Rattle.multiportgraph.specs.declared.multiportgraph.SetAnswer.TheVariants as
 use Rattle.theorems.specs.Book as book
 use Rattle.theorems.specs.Book.{Call}
 use Rattle.theorems.specs.History.{run, step}
-use Rattle.theorems.specs.WireRule.{seen_live}
-use Rattle.theorems.specs.CallLaws.{rel_run}
+use Rattle.theorems.proofs.WireRule.{seen_live}
+use Rattle.theorems.proofs.CallLaws.{rel_run}
 use Rattle.theorems.specs.ListingClaims.{InBook}
 use Rattle.theorems.specs.MoveClaims.{SplitAsBefore}
-use Rattle.theorems.specs.ListingWires.{block_booked}
+use Rattle.theorems.proofs.ListingWires.{block_booked}
 
 module _ {m : MultiPortGraph} {M : Model} (f : Fine m M) {m' : MultiPortGraph} {n i o : ℕ} (s : SetDone m M m' n i o) where
   -- a port that is not dropped is still there

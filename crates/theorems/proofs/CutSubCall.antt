@@ -22,12 +22,12 @@ use Rattle.port_tables.specs.Places.{at_end}
 use Rattle.multiportgraph.specs.Cases.{cut_refused, cut_end, cut_sub_seen, link_of_seen}
 use Rattle.multiportgraph.specs.CaseLaws.{cut_sub_cases, subport_link_cases}
 use Rattle.multiportgraph.specs.LinkCutLaws.{end_named, cut_sub_law}
-use Rattle.theorems.specs.WireRule.{after_cut}
+use Rattle.theorems.proofs.WireRule.{after_cut}
 use Rattle.multiportgraph.specs.SpaceLaws.{cut_sub_space}
 use Rattle.theorems.specs.Works.{works_of}
 use Rattle.theorems.specs.Conditions.{CutSays, OfBlock, PortIs, SubRefused, block_port, hidden_port, no_port, sub_dead, sub_hidden, sub_lacks, sub_offset}
 use Rattle.theorems.specs.PortCases.{is_lacking, lacks_is, port_is, seen_block_port, seen_hidden_port, seen_none}
-use Rattle.theorems.specs.CallLaw.{CallLaw, whole}
+use Rattle.theorems.proofs.CallLaw.{CallLaw, whole}
 
 -- Cutting a subport, and what it is linked with.
 

@@ -29,13 +29,13 @@ use Rattle.multi_tables.specs.NamedEnds.{taken_seen}
 use Rattle.multiportgraph.specs.HiddenNodes.{Prepared, ready, full, prepare}
 use Rattle.multiportgraph.specs.CaseLaws.{link_cases, link_taken}
 use Rattle.theorems.specs.LinkLaw.{link_says}
-use Rattle.theorems.specs.WireRule.{after_link}
+use Rattle.theorems.proofs.WireRule.{after_link}
 use Rattle.multiportgraph.specs.SpaceLaws.{link_space}
 use Rattle.theorems.specs.Works.{works_of}
 use Rattle.theorems.specs.Conditions.{LinkRefused, LinkSays, OfBlock, OfHidden, PortIs, Taken, block_port, comes_late, hidden_port, link_first_dead, link_first_full, link_first_hidden, link_one_side, link_second_dead, link_second_full, link_second_hidden, link_wired, no_port}
 use Rattle.theorems.specs.PortCases.{port_is, seen_block_port, seen_hidden_port, seen_none}
 use Rattle.theorems.specs.TakenLaws.{free_so, so_free, so_taken, taken_so}
-use Rattle.theorems.specs.CallLaw.{CallLaw}
+use Rattle.theorems.proofs.CallLaw.{CallLaw}
 use Rattle.multiportgraph.specs.Calls.{link_pair, link_pair_if}
 
 -- Linking ports.

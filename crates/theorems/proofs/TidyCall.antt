@@ -15,11 +15,11 @@ use Rattle.multiportgraph.specs.Cases.{tidy_refused, tidy_seen}
 use Rattle.multiportgraph.specs.CaseLaws.{tidy_cases}
 use Rattle.multiportgraph.specs.TidyLaws.{tidy_port_law}
 use Rattle.multiportgraph.specs.SpaceLaws.{tidy_space}
-use Rattle.theorems.specs.WireRule.{after_tidy}
+use Rattle.theorems.proofs.WireRule.{after_tidy}
 use Rattle.theorems.specs.Works.{works_of}
 use Rattle.theorems.specs.Conditions.{CutRefused, TidySays, PortIs, block_port, cut_dead, cut_hidden, hidden_port, no_port}
 use Rattle.theorems.specs.PortCases.{port_is, seen_block_port, seen_hidden_port, seen_none}
-use Rattle.theorems.specs.CallLaw.{CallLaw, whole}
+use Rattle.theorems.proofs.CallLaw.{CallLaw, whole}
 
 module _ {m : MultiPortGraph} {M : Model} (f : Fine m M) (p : ℕ) where
   tidy_is : (v : Port) → seen m p ≡ v → tidy_port m p ≡ tidy_seen m p v

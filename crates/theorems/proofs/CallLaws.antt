@@ -22,21 +22,21 @@ use Rattle.multi_tables.specs.declared.answers.Refusal.TheVariants.{NoRoom}
 use Rattle.multiportgraph.specs.Graph.{empty_graph}
 use Rattle.theorems.specs.History.{step, entered, State, next, run_from, run_from_under, run, run_under}
 use Rattle.multiportgraph.specs.LinkCutLaws.{fine_empty}
-use Rattle.theorems.specs.WireRule.{Rel, rel_start}
+use Rattle.theorems.proofs.WireRule.{Rel, rel_start}
 use Rattle.multiportgraph.specs.Space.{room_of, after_works, overflows}
 use Rattle.multiportgraph.specs.SpaceLaws.{Spaced, room_is}
 use Rattle.theorems.specs.Works.{works_of}
 use Rattle.theorems.specs.Conditions.{Accepted, Condition, RefusedBy, leaves_prepared}
-use Rattle.theorems.specs.CallLaw.{CallLaw}
-use Rattle.theorems.specs.AddCall.{add_call}
-use Rattle.theorems.specs.RemoveCall.{remove_call}
-use Rattle.theorems.specs.SetCall.{set_call}
-use Rattle.theorems.specs.CutCall.{cut_call}
-use Rattle.theorems.specs.CutSubCall.{cut_sub_call}
-use Rattle.theorems.specs.TidyCall.{tidy_call}
-use Rattle.theorems.specs.LinkCall.{link_call}
-use Rattle.theorems.specs.LinkCleanCall.{link_clean_call}
-use Rattle.theorems.specs.LinkSubCall.{link_sub_call}
+use Rattle.theorems.proofs.CallLaw.{CallLaw}
+use Rattle.theorems.proofs.AddCall.{add_call}
+use Rattle.theorems.proofs.RemoveCall.{remove_call}
+use Rattle.theorems.proofs.SetCall.{set_call}
+use Rattle.theorems.proofs.CutCall.{cut_call}
+use Rattle.theorems.proofs.CutSubCall.{cut_sub_call}
+use Rattle.theorems.proofs.TidyCall.{tidy_call}
+use Rattle.theorems.proofs.LinkCall.{link_call}
+use Rattle.theorems.proofs.LinkCleanCall.{link_clean_call}
+use Rattle.theorems.proofs.LinkSubCall.{link_sub_call}
 
 -- an answer is one or the other
 cut_or_refused : (v : CutAnswer) → (((s : SubportIndex) × (x : PortPlace) × (v ≡ cutting.Found s x)) ⊎ (v ≡ cutting.Nothing)) ⊎ ((r : Refusal) × (v ≡ cutting.Refused r))

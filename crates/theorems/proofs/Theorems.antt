@@ -31,7 +31,7 @@ use Rattle.theorems.specs.Claims.{WireRule, Link, by_ports, by_ports_clean, link
 use Rattle.theorems.specs.AnswerClaims.{AnswersItsWire, AnswersAreWires}
 use Rattle.theorems.specs.PlaceClaims.{PlacesAreWires}
 use Rattle.theorems.specs.TidyClaims.{PlacesKept, WalksKept, LeftByWires, FoundAgain}
-use Rattle.theorems.specs.TidyHistory as tidy
+use Rattle.theorems.proofs.TidyHistory as tidy
 use Rattle.theorems.specs.ListingClaims.{wire_from, Exactly, InBook, OverSides, OutOfRange, FarNodes, NotOwnOutput}
 use Rattle.theorems.specs.Conditions.{RefusedBy, Accepted, Condition, leaves_prepared}
 use Rattle.theorems.specs.Bench as bench
@@ -39,19 +39,19 @@ use Rattle.theorems.specs.Bench.{asked_all, asked_under, expected_all, bench_lin
 use Rattle.theorems.specs.NumberTable as numbers
 use Rattle.theorems.specs.NumberTable.{refusals, refusal_table, answers, answer_table, Cursors, walk_answers, walk_table}
 use Rattle.theorems.specs.Runs as runs
-use Rattle.theorems.specs.CallLaws as every
-use Rattle.theorems.specs.LinkCleanCall as clean
-use Rattle.theorems.specs.TheoremProofs as proofs
-use Rattle.theorems.specs.AnswerWires as answered
-use Rattle.theorems.specs.ListingWires as listed
-use Rattle.theorems.specs.PlaceWires as placed
-use Rattle.theorems.specs.KeptPorts as kept
-use Rattle.theorems.specs.MovePlaces as moved
+use Rattle.theorems.proofs.CallLaws as every
+use Rattle.theorems.proofs.LinkCleanCall as clean
+use Rattle.theorems.proofs.TheoremProofs as proofs
+use Rattle.theorems.proofs.AnswerWires as answered
+use Rattle.theorems.proofs.ListingWires as listed
+use Rattle.theorems.proofs.PlaceWires as placed
+use Rattle.theorems.proofs.KeptPorts as kept
+use Rattle.theorems.proofs.MovePlaces as moved
 use Rattle.theorems.specs.MoveClaims.{told_events, told_places, hidden_told, given_back, SplitAsBefore}
-use Rattle.theorems.specs.WiresHeld as cursor
+use Rattle.theorems.proofs.WiresHeld as cursor
 use Rattle.theorems.specs.CursorClaims.{Beyond, FirstOf, holding, lies_beyond}
-use Rattle.theorems.specs.HistoryCounts as counts
-use Rattle.theorems.specs.FanOutWires as fans
+use Rattle.theorems.proofs.HistoryCounts as counts
+use Rattle.theorems.proofs.FanOutWires as fans
 use Rattle.multi_tables.specs.declared.answers.SubportIndex.{SubportIndex}
 use Rattle.multi_tables.specs.declared.answers.SubportLink.{SubportLink}
 use Rattle.multiportgraph.specs.declared.iter.Wires.{Wires}

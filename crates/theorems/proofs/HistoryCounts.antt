@@ -17,10 +17,10 @@ use Rattle.port_tables.specs.Listing.{Apart, member_map, map_member, rising_map,
 use Rattle.multiportgraph.specs.WalkRule.{walk_is_listing, walked_is_wires, walked_once}
 use Rattle.multiportgraph.specs.WellFormed.{BlockIs}
 use Rattle.multiportgraph.specs.Ends.{ports_of_side_lem}
-use Rattle.theorems.specs.PortListing.{ListsBlocks, blocks_as_many, blocks_list, both_sides, by_blocks_lists, lists_as_long, ascending_lists, visible_ports_ascending}
+use Rattle.theorems.proofs.PortListing.{ListsBlocks, blocks_as_many, blocks_list, both_sides, by_blocks_lists, lists_as_long, ascending_lists, visible_ports_ascending}
 use Rattle.multiportgraph.specs.CountLaws.{visible_nodes_lem, visible_links_lem}
-use Rattle.theorems.specs.WireRule.{OtherNode, Rel}
-use Rattle.theorems.specs.CallLaws.{rel_run}
+use Rattle.theorems.proofs.WireRule.{OtherNode, Rel}
+use Rattle.theorems.proofs.CallLaws.{rel_run}
 use Rattle.multiportgraph.specs.declared.multiportgraph.MultiPortGraph.{MultiPortGraph}
 use Rattle.port_tables.specs.Places.{Wire}
 use Rattle.theorems.specs.Claims.{ports_of_block, ports_in_book, count}

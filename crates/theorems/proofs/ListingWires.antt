@@ -36,9 +36,9 @@ use Rattle.multi_tables.specs.declared.answers.SubportIndex.{SubportIndex}
 use Rattle.multi_tables.specs.declared.answers.SubportLink.{SubportLink}
 use Rattle.theorems.specs.Book.{Call, Block, Book, spot_of}
 use Rattle.theorems.specs.History.{run}
-use Rattle.theorems.specs.WireRule.{Rel, Right, past_block, spot_of_lem}
-use Rattle.theorems.specs.CallLaws.{rel_run}
-use Rattle.theorems.specs.PortListing.{blocks_list, side_listed, side_has}
+use Rattle.theorems.proofs.WireRule.{Rel, Right, past_block, spot_of_lem}
+use Rattle.theorems.proofs.CallLaws.{rel_run}
+use Rattle.theorems.proofs.PortListing.{blocks_list, side_listed, side_has}
 use Rattle.theorems.specs.Cursors.{rising_as}
 use Rattle.theorems.specs.WalkStepLaws.{link_offset, port_links_rise}
 use Rattle.theorems.specs.BlockWalkLaws.{Ahead, block_links_rise}

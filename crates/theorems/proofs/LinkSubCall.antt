@@ -30,14 +30,14 @@ use Rattle.multiportgraph.specs.Cases.{link_refused, link_inner, link_second_end
 use Rattle.multi_tables.specs.NamedEnds.{taken_first, taken_second}
 use Rattle.multiportgraph.specs.CaseLaws.{link_sub_cases, link_sub_taken}
 use Rattle.multiportgraph.specs.LinkCutLaws.{link_sub_law}
-use Rattle.theorems.specs.WireRule.{after_link_sub}
+use Rattle.theorems.proofs.WireRule.{after_link_sub}
 use Rattle.multiportgraph.specs.SpaceLaws.{link_sub_space}
 use Rattle.theorems.specs.Works.{works_of}
 use Rattle.theorems.specs.Conditions.{Lacks, LinkSays, LinkSubRefused, OfBlock, OfHidden, Offsets, PortIs, Taken, block_port, hidden_port, no_port, sub_first_dead, sub_first_hidden, sub_first_lacks, sub_first_linked, sub_offsets, sub_one_side, sub_second_dead, sub_second_hidden, sub_second_lacks, sub_second_linked, sub_wired}
 use Rattle.theorems.specs.PortCases.{end_is_lem, is_end, is_lacking, lacks_is, not_lacking, port_is, seen_block_port, seen_hidden_port, seen_none}
 use Rattle.theorems.specs.TakenLaws.{free_so, so_free, so_taken, taken_so}
-use Rattle.theorems.specs.CallLaw.{CallLaw, whole}
-use Rattle.theorems.specs.LinkCall.{block_not_hidden, dead_not_hidden, sides_differ}
+use Rattle.theorems.proofs.CallLaw.{CallLaw, whole}
+use Rattle.theorems.proofs.LinkCall.{block_not_hidden, dead_not_hidden, sides_differ}
 
 -- Linking subports.
 

@@ -53,13 +53,13 @@ use Rattle.theorems.specs.Book.{Call, Book, tidy_call, spot_of}
 use Rattle.theorems.specs.History.{State, Stepped, step, next, run}
 use Rattle.theorems.specs.Works.{works_of}
 use Rattle.theorems.specs.Conditions.{RefusedBy, CutRefused, cut_dead, cut_hidden}
-use Rattle.theorems.specs.WireRule.{Rel, has_end_touches, touches_has_end}
-use Rattle.theorems.specs.CallLaws.{rel_run, rel_step, call_space, call_room_after, step_kept}
-use Rattle.theorems.specs.TidyCall.{tidy_refused_lem}
+use Rattle.theorems.proofs.WireRule.{Rel, has_end_touches, touches_has_end}
+use Rattle.theorems.proofs.CallLaws.{rel_run, rel_step, call_space, call_room_after, step_kept}
+use Rattle.theorems.proofs.TidyCall.{tidy_refused_lem}
 use Rattle.theorems.specs.ListingClaims.{InBook}
-use Rattle.theorems.specs.ListingWires.{block_booked, spot_back}
+use Rattle.theorems.proofs.ListingWires.{block_booked, spot_back}
 use Rattle.theorems.specs.TidyClaims.{PlacesKept, WalksKept, LeftByWires, FoundAgain}
-use Rattle.theorems.specs.TidyWalks.{walks_kept}
+use Rattle.theorems.proofs.TidyWalks.{walks_kept}
 
 -- What stays.
 

@@ -13,9 +13,9 @@ use Rattle.port_tables.specs.Places.{Wire}
 use Rattle.port_tables.specs.declared.release.Release.TheVariants.{Two}
 use Rattle.theorems.specs.Book.{Call}
 use Rattle.theorems.specs.History.{State, next, run, run_from, run_from_under, run_under}
-use Rattle.theorems.specs.CallLaws.{empty_kept, rel_run, run_kept, step_kept}
+use Rattle.theorems.proofs.CallLaws.{empty_kept, rel_run, run_kept, step_kept}
 use Rattle.theorems.specs.ReleaseClaims.{start}
-use Rattle.theorems.specs.ReleaseRuns.{step_keeps}
+use Rattle.theorems.proofs.ReleaseRuns.{step_keeps}
 use Rattle.theorems.specs.ReleaseHidden.{OnOutputs}
 use Rattle.theorems.specs.ReleaseInputs.{input_whole, one_wire, step_on}
 

@@ -39,8 +39,8 @@ use Rattle.multiportgraph.specs.Ends as ends
 use Rattle.multiportgraph.specs.ScanLaws.{side_in_row, side_links_in_row}
 use Rattle.theorems.specs.BookLaws.{total_zeros}
 use Rattle.multiportgraph.specs.CountLaws.{visible_nodes_lem}
-use Rattle.theorems.specs.PortListing.{blocks_list}
-use Rattle.theorems.specs.WireRule.{seen_live}
+use Rattle.theorems.proofs.PortListing.{blocks_list}
+use Rattle.theorems.proofs.WireRule.{seen_live}
 use Rattle.multiportgraph.specs.declared.multiportgraph.MultiPortGraph.{MultiPortGraph}
 use Rattle.multi_tables.specs.declared.answers.Refusal.{Refusal}
 use Rattle.multi_tables.specs.declared.answers.Refusal.TheVariants.{UnknownNode, HiddenNode, UnknownPort, HiddenPort}

@@ -37,9 +37,9 @@ use Rattle.theorems.specs.PortCases.{port_is, seen_block_port, seen_hidden_port,
 use Rattle.theorems.specs.TakenLaws.{free_so, so_free, so_taken, taken_so}
 use Rattle.theorems.specs.LinkLaw as law
 use Rattle.theorems.specs.LinkLaw.{link_says_if, nothing_left}
-use Rattle.theorems.specs.WireRule.{after_link}
-use Rattle.theorems.specs.CallLaw.{CallLaw, whole}
-use Rattle.theorems.specs.LinkCall.{block_not_hidden, dead_not_hidden, link_refuses, links_otherwise, sides_differ, sides_same, wired_seen}
+use Rattle.theorems.proofs.WireRule.{after_link}
+use Rattle.theorems.proofs.CallLaw.{CallLaw, whole}
+use Rattle.theorems.proofs.LinkCall.{block_not_hidden, dead_not_hidden, link_refuses, links_otherwise, sides_differ, sides_same, wired_seen}
 
 -- On any graph: a link of ports that is accepted is the link that leaves no stub, and the other way round.
 module _ (m : MultiPortGraph) (a b : ℕ) (x y : SubportIndex) where

@@ -27,11 +27,11 @@ use Rattle.multiportgraph.specs.Ends.{owner_of_lem, port_of_lem, count_of_lem, s
 use Rattle.multiportgraph.specs.Wires.{is_block, blocks, ports_of_side, subports_of_port, subports_of_side, wire_of, side_links, all_wires, is_beyond, first_item, wires_beyond, wires_seen, step_wires, walk_by, walked_on, walk_wires}
 use Rattle.multiportgraph.specs.Walks.{is_seen}
 use Rattle.port_tables.specs.Listing.{member_filter, member_flat_map, flat_map_member, member_map, member_range, filter_flat_map, flat_map_beyond, filter_all, rising_filter, rising_map, rising_flat_map, range_rises}
-use Rattle.theorems.specs.PortListing.{blocks_list, side_listed}
+use Rattle.theorems.proofs.PortListing.{blocks_list, side_listed}
 use Rattle.theorems.specs.WalkStepLaws.{less}
 use Rattle.theorems.specs.Book.{Call}
 use Rattle.theorems.specs.History.{run}
-use Rattle.theorems.specs.CallLaws.{run_kept}
+use Rattle.theorems.proofs.CallLaws.{run_kept}
 use Rattle.theorems.specs.CursorClaims.{block_of_item, Beyond, later_offset, later_port, later_block, FirstOf, holding, lies_beyond}
 use Rattle.multiportgraph.specs.declared.multiportgraph.MultiPortGraph.{MultiPortGraph}
 use Rattle.multi_tables.specs.declared.answers.SubportIndex.{SubportIndex}

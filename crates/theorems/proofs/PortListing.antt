@@ -24,7 +24,7 @@ use Rattle.multiportgraph.specs.Walks.{is_seen, all_ports, ports_by_block}
 use Rattle.multiportgraph.specs.WellFormed.{inner#, Fine, BlockIs, Seen}
 use Rattle.multiportgraph.specs.Ends as ends
 use Rattle.port_tables.specs.Listing.{Apart, member_left, member_right, member_append, member_filter, filter_member, member_flat_map, flat_map_member, member_map, map_member, member_range, range_member, rising_append, rising_filter, rising_flat_map, rising_map, range_rises, partners}
-use Rattle.theorems.specs.WireRule.{seen_live}
+use Rattle.theorems.proofs.WireRule.{seen_live}
 use Rattle.multiportgraph.specs.CountLaws.{visible_ports_lem}
 use Rattle.multiportgraph.specs.declared.multiportgraph.MultiPortGraph.{MultiPortGraph}
 

@@ -55,7 +55,7 @@ use Rattle.multiportgraph.specs.SetLaws.{all_go, resize_loosens, resize_tracks, 
 use Rattle.theorems.specs.MoveClaims.{on_side, positions, positions_down, equal_counts, within_block, dropped_places, kept_places, port_here, is_one_of, far_told, removed_events, moved_events, events_at, told_events, told_places, hidden_told, given_back}
 use Rattle.theorems.specs.Book.{Call}
 use Rattle.theorems.specs.History.{run}
-use Rattle.theorems.specs.CallLaws.{run_kept}
+use Rattle.theorems.proofs.CallLaws.{run_kept}
 use Rattle.multiportgraph.specs.declared.multiportgraph.MultiPortGraph.{MultiPortGraph}
 use Rattle.multi_tables.specs.declared.answers.Refusal.TheVariants.{NoRoom}
 use Rattle.multiportgraph.specs.declared.multiportgraph.SetAnswer.TheVariants as resize

@@ -39,8 +39,8 @@ use Rattle.multiportgraph.specs.declared.iter.NodeLinks.{NodeLinks}
 use Rattle.multiportgraph.specs.declared.iter.NodeConnections.{NodeConnections}
 use Rattle.theorems.specs.ListingClaims.{wire_from}
 use Rattle.theorems.specs.ListedLinks.{LinkIs, own_end, far_end, from_place, link_wire, port_link_lem, port_has_link}
-use Rattle.theorems.specs.PortListing.{blocks_list}
-use Rattle.theorems.specs.ListingWires.{side_link}
+use Rattle.theorems.proofs.PortListing.{blocks_list}
+use Rattle.theorems.proofs.ListingWires.{side_link}
 use Rattle.theorems.specs.WalkStepLaws.{link_offset, port_links_rise}
 use Rattle.theorems.specs.TidyClaims.{WalksKept}
 

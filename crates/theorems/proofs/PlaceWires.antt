@@ -39,15 +39,15 @@ use Rattle.multiportgraph.specs.declared.iter.Wires.{Wires}
 use Rattle.multiportgraph.specs.declared.iter.WiresStep.TheVariants as wires_step
 use Rattle.theorems.specs.Book.{Call, spot_of}
 use Rattle.theorems.specs.History.{State, run}
-use Rattle.theorems.specs.WireRule.{Rel, spot_of_lem}
-use Rattle.theorems.specs.CallLaws.{rel_run}
+use Rattle.theorems.proofs.WireRule.{Rel, spot_of_lem}
+use Rattle.theorems.proofs.CallLaws.{rel_run}
 use Rattle.theorems.specs.AnswerClaims.{wire_between, PortOfBlock, EndThere}
-use Rattle.theorems.specs.AnswerWires.{place_at, asked_linked, asked_far, found_link, found_booked, here, itself, read_plain, cut_linked, cut_free, cut_split, cut_sub_answers}
+use Rattle.theorems.proofs.AnswerWires.{place_at, asked_linked, asked_far, found_link, found_booked, here, itself, read_plain, cut_linked, cut_free, cut_split, cut_sub_answers}
 use Rattle.theorems.specs.ListedLinks.{LinkIs, far_end, from_place, link_wire, port_link_lem}
-use Rattle.theorems.specs.ListingWires.{side_link}
+use Rattle.theorems.proofs.ListingWires.{side_link}
 use Rattle.theorems.specs.BlockWalkLaws.{by_sides_member}
 use Rattle.theorems.specs.WalkHeldLaws.{port_links_give, port_links_give_back, links_give, links_end, connections_give, connections_end}
-use Rattle.theorems.specs.WiresHeld.{wires_give}
+use Rattle.theorems.proofs.WiresHeld.{wires_give}
 use Rattle.theorems.specs.PlaceClaims.{FarStands, OwnPlace, PlacesAreWires}
 
 -- a wire of the book between two subports, and where the second one stands

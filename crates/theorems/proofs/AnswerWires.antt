@@ -43,9 +43,9 @@ use Rattle.theorems.specs.Book.{Call, Book, spot_of, add_wire, read_by}
 use Rattle.theorems.specs.History.{State, next, run}
 use Rattle.theorems.specs.Claims.{Link, by_ports, by_ports_clean, by_subports, linking, LinkedBy}
 use Rattle.theorems.specs.LinkLaw.{LinkDone, link_done_law}
-use Rattle.theorems.specs.LinkCleanCall.{clean_is_link, clean_next, clean_done_law}
-use Rattle.theorems.specs.WireRule.{Rel, OneMore, ports_link, subports_link, seen_live, spot_of_lem, offset_of_lem}
-use Rattle.theorems.specs.CallLaws.{rel_step, rel_run}
+use Rattle.theorems.proofs.LinkCleanCall.{clean_is_link, clean_next, clean_done_law}
+use Rattle.theorems.proofs.WireRule.{Rel, OneMore, ports_link, subports_link, seen_live, spot_of_lem, offset_of_lem}
+use Rattle.theorems.proofs.CallLaws.{rel_step, rel_run}
 use Rattle.theorems.specs.ListedLinks.{end_named_lem}
 use Rattle.theorems.specs.AnswerClaims.{wire_between, first_named, second_named, AnswersItsWire, PortOfBlock, EndThere, SubportThere, asked, cut_answer, EndsFound, AsksTheBook, cut_far, CutsTheBook, AnswersAreWires}
 

@@ -26,9 +26,9 @@ use Rattle.multiportgraph.specs.WalkRule.{walk_ends_lem, walked_is_wires, walked
 use Rattle.multiportgraph.specs.LinkCutLaws.{end_named, CutDone, CutSays, cut_sub_law, LinkSubSays, link_sub_law}
 use Rattle.multiportgraph.specs.SplitLaws.{HasEnd}
 use Rattle.theorems.specs.LinkLaw.{LinkSays, link_says}
-use Rattle.theorems.specs.LinkCleanCall.{clean_says}
-use Rattle.theorems.specs.WireRule.{Rel, OneMore, ports_link, subports_link, seen_live, has_end_touches, touches_has_end}
-use Rattle.theorems.specs.CallLaws.{rel_step, rel_run}
+use Rattle.theorems.proofs.LinkCleanCall.{clean_says}
+use Rattle.theorems.proofs.WireRule.{Rel, OneMore, ports_link, subports_link, seen_live, has_end_touches, touches_has_end}
+use Rattle.theorems.proofs.CallLaws.{rel_step, rel_run}
 use Rattle.multiportgraph.specs.declared.multiportgraph.MultiPortGraph.{MultiPortGraph}
 use Rattle.multi_tables.specs.declared.answers.SubportIndex.{SubportIndex}
 use Rattle.multi_tables.specs.declared.answers.Refusal.{Refusal}

@@ -1,6 +1,4 @@
 -- `multiportgraph::list_wires::list_node` meets its contract: a hidden node, no node, and a block.
-
--- the wires of a slot that is not hidden, as its meta data tell them
 use mathlib.Core.Path.{◌≡◌, sym, ap, ◌∙◌}
 use mathlib.Core.Bool.{false}
 use native.Mathlib.Omega.{arith}
@@ -10,12 +8,17 @@ use Rattle.multiportgraph.specs.ListSteps.{none_written, written_as, slot_hidden
 use Rattle.multiportgraph.proofs.list_wires.list_node.Goals as goal
 use Rattle.multiportgraph.proofs.list_wires.list_node.Goals.{After-meta_in, In-Some}
 
+-- the wires of a slot that is not hidden, as its meta data tell them
 by-meta : (c : After-meta_in) → of_block (side_wires c.args.nodes.now c.args.links.now c.args.owners.now c.args.marks.now c.args.flags.now c.args.node) false c.meta_in.result ≡ node_wires c.args.nodes.now c.args.links.now c.args.owners.now c.args.marks.now c.args.flags.now c.args.node
 unfolding node_wires
 by-meta c = slot_seen _ _ _ _ _ c.wide.ensures c.flagged.ensures _ c.if-flagged.false _ c.meta_in.ensures
 
+by-meta-2 : (c : In-Some) → of_block (side_wires c.args.nodes.now c.args.links.now c.args.owners.now c.args.marks.now c.args.flags.now c.args.node) false c.meta_in.result ≡ node_wires c.args.nodes.now c.args.links.now c.args.owners.now c.args.marks.now c.args.flags.now c.args.node
+unfolding node_wires
+by-meta-2 c = slot_seen _ _ _ _ _ c.wide.ensures c.flagged.ensures _ c.if-flagged.false _ c.meta_in.ensures
+
 block : (c : In-Some) → side_wires c.args.nodes.now c.args.links.now c.args.owners.now c.args.marks.now c.args.flags.now c.args.node c.in-Some.meta ≡ node_wires c.args.nodes.now c.args.links.now c.args.owners.now c.args.marks.now c.args.flags.now c.args.node
-block c = sym (ap (of_block (side_wires c.args.nodes.now c.args.links.now c.args.owners.now c.args.marks.now c.args.flags.now c.args.node) false) c.in-Some.is) ∙ by-meta c.before
+block c = sym (ap (of_block (side_wires c.args.nodes.now c.args.links.now c.args.owners.now c.args.marks.now c.args.flags.now c.args.node) false) c.in-Some.is) ∙ by-meta-2 c
 
 pub returns-then-flagged : goal.returns-then-flagged
 unfolding node_wires

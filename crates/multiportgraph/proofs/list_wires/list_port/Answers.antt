@@ -1,6 +1,4 @@
 -- `multiportgraph::list_wires::list_port` meets its contract: a split port by its hidden node, and a port that is not split.
-
--- the wires of a split port, as its hidden node's meta data tell them
 use mathlib.Core.Path.{◌≡◌, sym, ap, ◌∙◌}
 use native.Mathlib.Omega.{arith}
 use lib.ListN.{length}
@@ -9,11 +7,15 @@ use Rattle.multiportgraph.specs.ListSteps.{none_written, written_as, port_plain,
 use Rattle.multiportgraph.proofs.list_wires.list_port.Goals as goal
 use Rattle.multiportgraph.proofs.list_wires.list_port.Goals.{After-meta_in, After-wide-2, In-Some}
 
+-- the wires of a split port, as its hidden node's meta data tell them
 by_copy : (c : After-meta_in) → copy_wires c.args.nodes.now c.args.links.now c.args.owners.now c.args.flags.now c.args.port c.args.node c.args.position c.meta_in.result ≡ port_wires c.args.nodes.now c.args.links.now c.args.owners.now c.args.marks.now c.args.flags.now c.args.port c.args.node c.args.position
 by_copy c = port_split _ _ _ _ _ _ _ _ _ _ c.wide.ensures c.marked.ensures c.if-marked.true _ _ _ c.wide-then-marked.ensures c.far_in.ensures c.owner_in-hidden.ensures _ c.meta_in.ensures
 
+by_copy-2 : (c : In-Some) → copy_wires c.args.nodes.now c.args.links.now c.args.owners.now c.args.flags.now c.args.port c.args.node c.args.position c.meta_in.result ≡ port_wires c.args.nodes.now c.args.links.now c.args.owners.now c.args.marks.now c.args.flags.now c.args.port c.args.node c.args.position
+by_copy-2 c = port_split _ _ _ _ _ _ _ _ _ _ c.wide.ensures c.marked.ensures c.if-marked.true _ _ _ c.wide-then-marked.ensures c.far_in.ensures c.owner_in-hidden.ensures _ c.meta_in.ensures
+
 split : (c : In-Some) → split_wires c.args.nodes.now c.args.links.now c.args.owners.now c.args.flags.now c.args.port c.args.node c.args.position c.in-Some.copy ≡ port_wires c.args.nodes.now c.args.links.now c.args.owners.now c.args.marks.now c.args.flags.now c.args.port c.args.node c.args.position
-split c = sym (ap (copy_wires c.args.nodes.now c.args.links.now c.args.owners.now c.args.flags.now c.args.port c.args.node c.args.position) c.in-Some.is) ∙ by_copy c.before
+split c = sym (ap (copy_wires c.args.nodes.now c.args.links.now c.args.owners.now c.args.flags.now c.args.port c.args.node c.args.position) c.in-Some.is) ∙ by_copy-2 c
 
 -- the wire of a port that is not split
 plain : (c : After-wide-2) → slot_wire c.args.nodes.now c.args.links.now c.args.owners.now c.args.flags.now (out_end c.args.port 0 c.args.node c.args.position) c.wide-2.result ≡ port_wires c.args.nodes.now c.args.links.now c.args.owners.now c.args.marks.now c.args.flags.now c.args.port c.args.node c.args.position

@@ -12,8 +12,8 @@ use Rattle.multiportgraph.proofs.list_wires.list_side.Goals as goal
 use Rattle.multiportgraph.proofs.list_wires.list_side.Goals.{After-wide16-count, In-loop-position}
 
 -- the wires at each position
-abbrev part : tie.After-wide162 invariant-loop decreases-loop → ℕ → List ℕ
-part c = place_wires c.before.before.before.before.args.nodes.now c.before.before.before.before.args.links.now c.before.before.before.before.args.owners.now c.before.before.before.before.args.marks.now c.before.before.before.before.args.flags.now c.before.before.before.before.args.node (c.before.before.wide.result + c.before.wide16.result)
+abbrev part : (c : After-wide16-count) → ℕ → List ℕ
+part c = place_wires c.args.nodes.now c.args.links.now c.args.owners.now c.args.marks.now c.args.flags.now c.args.node (c.wide.result + c.wide16.result)
 
 -- all of them are those of the side
 whole : (c : After-wide16-count) → flat_map (part c) (range 0 c.wide16-count.result) ≡ side_wires c.args.nodes.now c.args.links.now c.args.owners.now c.args.marks.now c.args.flags.now c.args.node c.args.meta

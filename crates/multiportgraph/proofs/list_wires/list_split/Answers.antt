@@ -11,8 +11,8 @@ use Rattle.multiportgraph.proofs.list_wires.list_split.Goals as goal
 use Rattle.multiportgraph.proofs.list_wires.list_split.Goals.{After-wide16-count}
 
 -- the wire at each offset
-abbrev part : tie.After-wide162 invariant-loop decreases-loop → ℕ → List ℕ
-part c = subport_wire c.before.before.before.before.args.nodes.now c.before.before.before.before.args.links.now c.before.before.before.before.args.owners.now c.before.before.before.before.args.flags.now c.before.before.before.before.args.port c.before.before.before.before.args.node c.before.before.before.before.args.position (c.before.before.wide.result + c.before.wide16.result)
+abbrev part : (c : After-wide16-count) → ℕ → List ℕ
+part c = subport_wire c.args.nodes.now c.args.links.now c.args.owners.now c.args.flags.now c.args.port c.args.node c.args.position (c.wide.result + c.wide16.result)
 
 -- all of them are those of the split port
 whole : (c : After-wide16-count) → flat_map (part c) (range 0 c.wide16-count.result) ≡ split_wires c.args.nodes.now c.args.links.now c.args.owners.now c.args.flags.now c.args.port c.args.node c.args.position c.args.copy

@@ -1,6 +1,4 @@
 -- `multiportgraph::list_wires::wires_lent` meets its contract: a list that is too short, and one that is written.
-
--- the graph that the tables are
 use mathlib.Core.Path.{◌≡◌, sym, ap, ◌∙◌}
 use Prim.Native.Nat.{ℕ, ◌*◌}
 use native.Mathlib.Omega.{arith}
@@ -16,8 +14,9 @@ use Rattle.multiportgraph.specs.declared.list_ends.ListAnswer.TheVariants.{Liste
 use Rattle.multiportgraph.proofs.list_wires.wires_lent.Goals as goal
 use Rattle.multiportgraph.proofs.list_wires.wires_lent.Goals.{After-link_count_lent-count}
 
-abbrev graph : tie.After-link-count-lent → MultiPortGraph
-graph c = multi_in c.before.before.args.nodes.now c.before.before.args.links.now c.before.before.args.owners.now c.before.before.args.heads.now c.before.before.args.marks.now c.before.before.args.flags.now c.before.before.args.totals
+-- the graph that the tables are
+abbrev graph : (c : After-link_count_lent-count) → MultiPortGraph
+graph c = multi_in c.args.nodes.now c.args.links.now c.args.owners.now c.args.heads.now c.args.marks.now c.args.flags.now c.args.totals
 
 -- as many as the walk gives, with eight numbers each
 counted : (c : After-link_count_lent-count) → c.link_count_lent-count.result ≡ length (all_wires (graph c))

@@ -9,10 +9,6 @@ use Rattle.multiportgraph.specs.ListSteps.{listed_as}
 use Rattle.multiportgraph.specs.declared.multiportgraph.MultiPortGraph.{MultiPortGraph}
 use Rattle.multiportgraph.proofs.multiportgraph.MultiPortGraph.list_blocks.Goals as goal
 
-  statement,
-
-}
-
 pub blocks_lent-requires : goal.blocks_lent-requires
 blocks_lent-requires c = subst (λ (m : MultiPortGraph). MultiWf m) (sym (lent_is c.args.self _ c.put_slots.ensures.0 c.node_slots-slots.ensures c.free_heads-heads.ensures c.counts-counts.ensures)) c.requires
 

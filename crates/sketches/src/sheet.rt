@@ -16,7 +16,7 @@ pub const SHEET_ENTRIES: usize = 64;
 // One place more, so that a sheet that is too long can be handed in.
 pub const SHEET_PLACES: usize = 65;
 
-#[derive(Drop)]
+#[derive(Clone, Copy)]
 pub struct SheetLent {
     pub totals: Totals,
     pub answer: SheetAnswer,

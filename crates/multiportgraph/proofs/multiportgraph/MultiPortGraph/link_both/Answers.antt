@@ -2,13 +2,12 @@
 
 -- the second port is still a block's
 use mathlib.Core.Path.{sym, ◌∙◌, ap}
-use mathlib.Core.Logic.{⊎_elim}
 use Rattle.multiportgraph.specs.Cases.{link_second, link_live}
 use Rattle.multiportgraph.specs.HiddenNodes.{prepare}
 use Rattle.multiportgraph.specs.Presumed.{OnBlock}
 use Rattle.multiportgraph.specs.LinkSteps.{is_ready, others_stay, still_wf, both_full, second_full}
 use Rattle.multiportgraph.proofs.multiportgraph.MultiPortGraph.link_both.Goals as goal
-use Rattle.multiportgraph.proofs.multiportgraph.MultiPortGraph.link_both.Goals.{After-middle-1}
+use Rattle.multiportgraph.proofs.multiportgraph.MultiPortGraph.link_both.Goals.{After-middle-1, else-ready, then-ready+else-both}
 
 second-stays : (c : After-middle-1) → OnBlock c.prepare-first.result.graph c.args.b c.args.e
 second-stays c = others_stay c.requires.first c.prepare-first.result c.prepare-first.ensures c.if-ready.true _ _ c.requires.second
@@ -30,7 +29,7 @@ returns-then-both c =
 
 pub returns : goal.returns
 returns c =
-    ⊎_elim
-    (λ w. second_full c.args.self c.args.a c.args.d c.args.b c.args.e c.prepare-first.result c.prepare-first.ensures w.0.taken w.2.result w.2.ensures w.3.left c.link_refused.ensures)
-    (λ w. both_full c.args.self c.args.a c.args.d c.args.b c.args.e c.prepare-first.result c.prepare-first.ensures w.left c.link_refused.ensures)
-    c.if-ready.branch
+    elim c.if-ready.branch [
+      then-ready+else-both w ↦ second_full c.args.self c.args.a c.args.d c.args.b c.args.e c.prepare-first.result c.prepare-first.ensures w.if-ready.true w.prepare-second.result w.prepare-second.ensures w.if-both.false c.link_refused.ensures
+    | else-ready w ↦ both_full c.args.self c.args.a c.args.d c.args.b c.args.e c.prepare-first.result c.prepare-first.ensures w.if-ready.false c.link_refused.ensures
+    ]

@@ -4,8 +4,6 @@ use Rattle.portgraph.specs.LookupSteps.{found_block_fits}
 use Rattle.multiportgraph.specs.CopySteps.{recount_none, recount_gone, recount_moved}
 use Rattle.multiportgraph.proofs.multiportgraph.MultiPortGraph.recounted.Goals as goal
 
-)
-
 pub returns-in_default : goal.returns-in_default
 returns-in_default c =
     recount_none c.args.self c.args.node c.args.graph (sym c.in_default.is ∙ c.node_meta_valid.ensures.0)
@@ -20,6 +18,7 @@ lay_marks-requires c =
     (
   found_block_fits c.args.self.graph c.requires.0 c.args.node c.in-Some.a (sym c.in-Some.is ∙ c.node_meta_valid.ensures.0),
   found_block_fits c.args.graph c.requires.1 c.args.node c.in-Some-node_meta_valid.b (sym c.in-Some-node_meta_valid.is ∙ c.node_meta_valid-2.ensures.0),
+    )
 
 pub returns : goal.returns
 returns c =

@@ -5,10 +5,6 @@ use native.Mathlib.Omega.{arith}
 use Rattle.multiportgraph.specs.BlockSteps.{remove_begun, remove_turn, remove_done, wf_lone_is}
 use Rattle.multiportgraph.proofs.multiportgraph.MultiPortGraph.remove_all.Goals as goal
 
-  statement,
-
-}
-
 pub loop-k-init : goal.loop-k-init
 loop-k-init c = (omega arith, c.requires.0, remove_begun _ c.args.list.now c.args.count)
 

@@ -6,7 +6,7 @@ use Rattle.multiportgraph.specs.Answers.{cut_numbers}
 use Rattle.multiportgraph.proofs.multiportgraph.MultiPortGraph.subport_link.Goals as goal
 
 pub returns-in-At : goal.returns-in-At
-returns-in-At c = with_numbers cut_numbers (read_done c.requires _ _ c.before.before.before.before.before.before.before.before.end_of_lem.ensures c.in-At.is c.wire_in.ensures)
+returns-in-At c = with_numbers cut_numbers (read_done c.requires _ _ c.end_of.ensures c.in-At.is c.wire_in.ensures)
 
 pub returns-in-Refused : goal.returns-in-Refused
 returns-in-Refused c = with_numbers cut_numbers (read_done c.requires _ _ c.end_of.ensures c.in-Refused.is refl)

@@ -1,6 +1,5 @@
 -- `multiportgraph::MultiPortGraph::unsplit_range` meets its contract. Invariant: what is left to do amounts to all that was to do.
 -- Measure: the ports that are left.
-use mathlib.Core.Logic.{⊎_elim}
 use mathlib.Core.Path.{◌≡◌, ◌∙◌}
 use Prim.Native.Nat.{◌+◌}
 use native.Mathlib.Nat.{add-zero, sub-zero}
@@ -8,12 +7,12 @@ use native.Mathlib.Omega.{arith}
 use Rattle.multiportgraph.specs.BlockSteps.{unsplit_turn, unsplit_none, unsplit_done, wf_unsplit_is}
 use Rattle.multiportgraph.specs.HiddenNodes.{unsplit}
 use Rattle.multiportgraph.proofs.multiportgraph.MultiPortGraph.unsplit_range.Goals as goal
-use Rattle.multiportgraph.proofs.multiportgraph.MultiPortGraph.unsplit_range.Goals.{Joined-marked}
+use Rattle.multiportgraph.proofs.multiportgraph.MultiPortGraph.unsplit_range.Goals.{Joined-marked, else-marked, then-marked}
 
 -- one turn: a marked port loses its hidden node, another has none
 unsplit-is : (c : Joined-marked) → c.if-marked.graph ≡ unsplit c.loop-k.graph (c.wide.result + c.loop-k.k)
 unsplit-is c =
-    ⊎_elim (λ w. w.2 ∙ w.1.ensures) (λ w. unsplit_none c.loop-k.graph _ _ _ (omega arith) c.marked.ensures w.0.left w.1) c.if-marked.branch
+    elim c.if-marked.branch [ then-marked w ↦ w.graph-is ∙ w.unsplit-graph.ensures | else-marked w ↦ unsplit_none c.loop-k.graph _ _ _ (omega arith) c.marked.ensures w.if-marked.false w.graph-is ]
 
 pub loop-k-init : goal.loop-k-init
 loop-k-init c = (omega arith, c.requires.0, simp (add-zero, sub-zero))

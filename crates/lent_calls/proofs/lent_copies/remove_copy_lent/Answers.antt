@@ -1,0 +1,10 @@
+-- `lent_calls::lent_copies::remove_copy_lent` meets its contract: the node goes, with its marks, its flag and its counts.
+use Rattle.multiportgraph.specs.LentSteps.{copy_removed_in}
+use Rattle.lent_calls.proofs.lent_copies.remove_copy_lent.Goals as goal
+
+pub remove_node_lent-removed-requires : goal.remove_node_lent-removed-requires
+remove_node_lent-removed-requires c = c.requires.wf
+
+pub returns : goal.returns
+returns c =
+    (copy_removed_in c.args.nodes.now c.args.links.now c.args.owners.now c.args.heads.now c.args.marks.now c.args.flags.now c.args.totals c.requires _ _ _ c.copy_side_in-side.ensures c.port_of_in-copy.ensures c.reverse.ensures.0 c.num_ports_in-count.ensures c.remove_node_lent-removed.ensures.0 c.remove_node_lent-removed.ensures.1 c.wide.ensures c.put_mark.ensures c.wide-2.ensures c.put_mark-2.ensures c.wide-3.ensures c.put_flag.ensures c.less.ensures c.less-2.ensures, c.remove_node_lent-removed.ensures.2)

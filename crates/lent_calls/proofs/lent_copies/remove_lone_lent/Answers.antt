@@ -1,0 +1,10 @@
+-- `lent_calls::lent_copies::remove_lone_lent` meets its contract.
+use Rattle.multiportgraph.specs.LentSteps.{lone_removed_in}
+use Rattle.lent_calls.proofs.lent_copies.remove_lone_lent.Goals as goal
+
+pub remove_copy_lent-requires : goal.remove_copy_lent-requires
+remove_copy_lent-requires c = c.requires
+
+pub returns : goal.returns
+returns c =
+    (lone_removed_in c.args.nodes.now c.args.links.now c.args.owners.now c.args.heads.now c.args.marks.now c.args.flags.now c.args.totals c.requires _ c.copy_side_in-side.ensures c.port_of_in-copy.ensures c.remove_copy_lent.ensures.0, c.remove_copy_lent.ensures.1)

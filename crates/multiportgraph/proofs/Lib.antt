@@ -1,0 +1,2 @@
+-- What several proofs of functions share.
+pub mod RefusedTags

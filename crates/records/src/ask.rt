@@ -19,7 +19,7 @@ use port_tables::index::{NodeIndex, PortIndex};
 use port_tables::release::Release;
 
 // The graph afterwards, and the five words of the answer.
-#[derive(Drop)]
+#[derive(Clone, Copy)]
 pub struct Asked {
     pub graph: MultiPortGraph,
     pub answer: Answer5,

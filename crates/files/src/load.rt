@@ -31,7 +31,7 @@ pub enum LoadAnswer {
 }
 
 // The graph of its own that a load gives, the empty one of the release where it is refused, and the answer.
-#[derive(Drop)]
+#[derive(Clone, Copy)]
 pub struct FileLoaded {
     pub graph: MultiPortGraph,
     pub answer: LoadAnswer,

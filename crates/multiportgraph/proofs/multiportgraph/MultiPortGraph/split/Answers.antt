@@ -13,9 +13,8 @@ returns-in_default c =
     (Declared.tag_of AddAnswer.the_type) (λ n f. refl) (add_refused_tag _ c.in_default.not-Added)
 
 pub split_by-requires : goal.split_by-requires
-split_by-requires c =
-    (
+split_by-requires c = (
   c.requires,
   c.add_node-added.ensures.0 ∙ (λ i. add_node c.args.self.graph (c.copy_incoming.ensures i) (c.copy_outgoing.ensures i)),
   c.in-Added.is,
-    )
+)

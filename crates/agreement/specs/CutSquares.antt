@@ -20,7 +20,8 @@ use Rattle.multiportgraph.specs.Ends.{Hangs, EndOf, split_has_copy, unsplit_is_e
 use Rattle.multiportgraph.specs.HiddenStays.{true_not_false, hidden_below, split_below}
 use Rattle.multiportgraph.specs.LinkCutLaws.{end_is, end_is_here, end_is_same, cut_end_lem, to_same}
 use Rattle.multiportgraph.specs.CopyLaws.{CopyGone, copy_goes, unsplit_split, same_test}
-use Rattle.multiportgraph.specs.CaseLaws.{cut_cases, cut_sub_cases}
+use Rattle.multiportgraph.specs.CaseLaws.{cut_sub_cases}
+use Rattle.multiportgraph.proofs.CutLaws.{cut_cases}
 use Rattle.multiportgraph.specs.Cases.{cut_refused, cut_end, cut_seen}
 use Rattle.multiportgraph.specs.Calls.{cut_port, cut_sub, cut_plain}
 use Rattle.multiportgraph.specs.Graph.{with_graph}

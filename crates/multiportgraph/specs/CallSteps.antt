@@ -1,5 +1,5 @@
 -- What the steps of adding, linking, cutting and reading amount to, over plain values.
-use Rattle.std.specs.Prelude.{◌≡◌, true, false, ℕ, replicate}
+use Rattle.std.specs.Prelude.{◌≡◌, false, ℕ, replicate}
 use Rattle.std.proofs.Common.{sym, ◌∙◌}
 use Rattle.std.proofs.Math.Path.{ap}
 use Rattle.port_tables.specs.Limits.{node_slots, port_slots, present}
@@ -11,20 +11,16 @@ use Rattle.portgraph.specs.declared.portgraph.PortLink.{PortLink}
 use Rattle.portgraph.specs.declared.portgraph.PortUnlinked as lower_unlinked
 use Rattle.portgraph.specs.declared.alloc.NodeAdded as lower_added
 use Rattle.portgraph.specs.declared.alloc.AddAnswer as lower_add
-use Rattle.multiportgraph.specs.Reading.{seen, is_split, standing}
-use Rattle.multi_tables.specs.Forms.{Port, visible, subport#}
+use Rattle.multiportgraph.specs.Reading.{seen, is_split}
+use Rattle.multi_tables.specs.Forms.{visible}
 use Rattle.multiportgraph.specs.Calls.{added_as, add_block, cut_plain, cut_port, add_block_under}
 use Rattle.multiportgraph.specs.WellFormed.{MultiWf}
 use Rattle.multiportgraph.specs.declared.multiportgraph.MultiPortGraph.{MultiPortGraph}
 use Rattle.port_tables.specs.declared.release.Release.{Release}
 use Rattle.multiportgraph.specs.declared.multiportgraph.NodeAdded.{NodeAdded}
-use Rattle.multi_tables.specs.declared.answers.PortPlace.{PortPlace}
-use Rattle.multi_tables.specs.declared.answers.CutAnswer.TheVariants as cutting
 use Rattle.multiportgraph.specs.declared.multiportgraph.PortUnlinked.{PortUnlinked}
 use Rattle.multiportgraph.specs.Graph.{multi, empty_graph, with_graph}
-use Rattle.multiportgraph.specs.Cases.{cut_seen}
-use Rattle.multiportgraph.specs.HiddenNodes.{unsplit}
-use Rattle.multiportgraph.specs.CaseLaws.{add_cases, cut_cases}
+use Rattle.multiportgraph.specs.CaseLaws.{add_cases}
 
 -- the lower graph of a graph of the calls
 pub lower_wf : (m : MultiPortGraph) → MultiWf m → Wf m.graph
@@ -49,14 +45,6 @@ module _ (m : MultiPortGraph) where
 
   -- every wire at a port is cut
   module _ (p : ℕ) where
-    pub cut_port_seen : (s : Port) → seen m p ≡ s → cut_seen m p s ≡ cut_port m p
-    cut_port_seen s e = ap (cut_seen m p) (sym e) ∙ sym (cut_cases m p)
-
-    pub cut_port_split : (n : ℕ) (d : Direction) (r : MultiPortGraph) {x : PortPlace} → seen m p ≡ visible n d → is_split m p ≡ true → r ≡ unsplit m p → x ≡ standing m (subport# p 0)
-        → ◌≡◌ {A = PortUnlinked} (record { graph = r; answer = cutting.Found (subport# p 0) x }) (cut_port m p)
-    unfolding cut_port
-    cut_port_split n d r e s h k = rw (e, s, h, k)
-
     pub cut_port_plain : (n : ℕ) (d : Direction) (u : lower_unlinked.PortUnlinked) (l : PortLink) → seen m p ≡ visible n d → is_split m p ≡ false
         → u ≡ unlink_port m.graph p → u.answer ≡ l → ◌≡◌ {A = PortUnlinked} (record { graph = with_graph m u.graph; answer = cut_plain m l }) (cut_port m p)
     unfolding cut_port

@@ -25,8 +25,8 @@ use Rattle.multi_tables.specs.Forms.{Port, dead, hidden, visible, End, inner, la
 use Rattle.multiportgraph.specs.Graph.{with_graph}
 use Rattle.multiportgraph.specs.HiddenNodes.{Prepared, ready, full, prepare_under}
 use Rattle.multiportgraph.specs.Refusals.{inner_port, end_of, joining, on_one_side, one_linked, refused_below}
-use Rattle.multiportgraph.specs.Calls.{joined, added_as, add_block_under, remove_block, set_counts_under, cut_port, cut_sub, subport_link, link_pair_if, link_clean_if, link_sub_if, tidy_port}
-use Rattle.multiportgraph.specs.Cases.{remove_meta, set_refused, set_meta_under, link_refused, link_prepared, link_second, link_first, link_seen_under, link_inner, link_second_end, link_first_end, link_sub_seen, cut_refused, cut_seen, cut_sub_seen, link_of_seen, link_live_under, link_clean_by, taken_sub_seen, tidy_seen}
+use Rattle.multiportgraph.specs.Calls.{joined, added_as, add_block_under, remove_block, set_counts_under, cut_sub, subport_link, link_pair_if, link_clean_if, link_sub_if, tidy_port}
+use Rattle.multiportgraph.specs.Cases.{remove_meta, set_refused, set_meta_under, link_refused, link_prepared, link_second, link_first, link_seen_under, link_inner, link_second_end, link_first_end, link_sub_seen, cut_refused, cut_sub_seen, link_of_seen, link_live_under, link_clean_by, taken_sub_seen, tidy_seen}
 use Rattle.multi_tables.specs.NamedEnds.{pair_seen, taken_seen, taken_second, taken_first}
 use Rattle.multiportgraph.specs.declared.multiportgraph.MultiPortGraph.{MultiPortGraph}
 use Rattle.multi_tables.specs.declared.answers.SubportIndex.{SubportIndex}
@@ -40,15 +40,6 @@ use Rattle.multi_tables.specs.declared.answers.CutAnswer.TheVariants as cutting
 use Rattle.multi_tables.specs.declared.answers.Refusal.TheVariants.{BadOffset, TooManyPorts, InputWired}
 
 module _ (m : MultiPortGraph) (p : ℕ) where
-  pub cut_cases : cut_port m p ≡ cut_seen m p (seen m p)
-  unfolding cut_port
-  cut_cases = go (seen m p) refl
-    where
-      go : (u : Port) → seen m p ≡ u → cut_port m p ≡ cut_seen m p u
-      go dead e = rw e refl
-      go hidden e = rw e refl
-      go (visible n d) e = rw e refl
-
   pub tidy_cases : tidy_port m p ≡ tidy_seen m p (seen m p)
   unfolding tidy_port
   tidy_cases = go (seen m p) refl

@@ -24,22 +24,16 @@ use Rattle.port_tables.specs.declared.direction.Direction.{Direction}
 use Rattle.port_tables.specs.declared.direction.Direction.TheVariants.{Incoming, Outgoing}
 use Rattle.port_tables.specs.declared.node_entry.NodeMeta.{NodeMeta}
 use Rattle.portgraph.specs.declared.portgraph.PortGraph.{PortGraph}
-use Rattle.portgraph.specs.declared.portgraph.PortLink.{PortLink}
-use Rattle.portgraph.specs.declared.portgraph.PortLink.TheVariants as lower_cut
-use Rattle.multiportgraph.specs.Reading.{is_hidden, is_split, copy_side, copy_node, port_of, seen, standing}
-use Rattle.multi_tables.specs.Forms.{Port, dead, hidden, visible, subport#}
-use Rattle.multiportgraph.specs.Calls.{cut_port, cut_plain}
+use Rattle.multiportgraph.specs.Reading.{is_hidden, is_split, copy_side, copy_node, port_of}
+use Rattle.multi_tables.specs.Forms.{hidden}
 use Rattle.multiportgraph.specs.WellFormed.{copy_place, Fine, Seen, outer, lift, IsEnd, WireIn, SameBlocks, Wiring, subports_of_slot}
-use Rattle.multiportgraph.specs.Ends.{BlockPort, Hangs, port_of_lem, count_of_lem, copy_valid, main_seen, main_back, outer_of_subport, outer_of_block, one_copy, unsplit_no_copy, split_has_copy, block_seen, ends_join_ends, outer_of_unsplit}
+use Rattle.multiportgraph.specs.Ends.{Hangs, port_of_lem, count_of_lem, copy_valid, main_seen, main_back, outer_of_subport, outer_of_block, one_copy, unsplit_no_copy, split_has_copy, ends_join_ends, outer_of_unsplit}
 use Rattle.multiportgraph.specs.HiddenStays.{same_wire, outer_kept, true_or_false, true_not_false, AtCopyLink, Frame, frame_fine, Alike, kept_end, wire_kept, kept_wire}
-use Rattle.multiportgraph.specs.LinkCutLaws.{to_same, end_is_here, CutDone, CutSays, CutSaid, cut_end_lem, end_is, touches_neither, touched_not_out, touched_not_into, at_spot_here, at_spot_is}
+use Rattle.multiportgraph.specs.LinkCutLaws.{to_same, end_is_here, CutDone, cut_end_lem, end_is, touches_neither, touched_not_out, touched_not_into, at_spot_here, at_spot_is}
 use Rattle.multiportgraph.specs.declared.multiportgraph.MultiPortGraph.{MultiPortGraph}
-use Rattle.multi_tables.specs.declared.answers.CutAnswer.TheVariants as cutting
 use Rattle.port_tables.specs.Places.{Place, Wire, touches, at_spot, at_end, spot, flag}
 use Rattle.multiportgraph.specs.Graph.{with_graph}
 use Rattle.multiportgraph.specs.HiddenNodes.{remove_copy, unsplit}
-use Rattle.multiportgraph.specs.Cases.{cut_seen}
-use Rattle.multiportgraph.specs.CaseLaws.{cut_cases}
 
 -- the ports at a place, whatever the offset
 abbrev pub port_at : model.InnerPlace → Place → Bool
@@ -393,7 +387,7 @@ module _ {m : MultiPortGraph} {M : Model} (f : Fine m M) where
               let q : i.main ≡ x = port_at_is x i.main z.pos (ap (port_at x) (sym (outer_of_subport f z i.main h i.joined)) ∙ t) in
               absurd (unsplit_no_copy f x n z.node h (i.joined ∙ ap to q))
 
-  whole_cut : (x : model.InnerPlace) → Seen m M x → is_split m (slot_of M.node x) ≡ false
+  pub whole_cut : (x : model.InnerPlace) → Seen m M x → is_split m (slot_of M.node x) ≡ false
       → CutDone m M (with_graph m (unlink_port m.graph (slot_of M.node x)).graph) (slot_of M.node x) port_at
   whole_cut x sx n =
       let u = outer_of_unsplit f x sx n in
@@ -410,32 +404,7 @@ module _ {m : MultiPortGraph} {M : Model} (f : Fine m M) where
             (λ z ez. ap (λ (v : Place). end_is v (outer m M z)) u.0 ∙ one_end x z sx n ez) c.wires;
       }
 
-  split_cut : (x : model.InnerPlace) → Seen m M x → is_split m (slot_of M.node x) ≡ true → CutDone m M (unsplit m (slot_of M.node x)) (slot_of M.node x) port_at
+  pub split_cut : (x : model.InnerPlace) → Seen m M x → is_split m (slot_of M.node x) ≡ true → CutDone m M (unsplit m (slot_of M.node x)) (slot_of M.node x) port_at
   split_cut x sx t =
       let r = unsplit_gone f x sx t in
       record { x = x; is_seen = sx; at = refl; model = r.0; fine = r.1.fine; blocks = r.1.blocks; wires = r.1.wires }
-
-  -- every wire at the port goes, and nothing else changes; refused, the graph stays
-  pub cut_port_law : (p : ℕ) → CutSays m M p port_at (cut_port m p).graph (cut_port m p).answer
-  cut_port_law p = subst (CutSaid m M p port_at) (sym (cut_cases m p)) (ports (seen m p) refl)
-    where
-      told : (m' : MultiPortGraph) → CutDone m M m' p port_at → (v : PortLink) → CutSays m M p port_at m' (cut_plain m v)
-      told m' d (lower_cut.Linked q) = d
-      told m' d lower_cut.Unlinked = d
-      told m' d (lower_cut.UnknownPort q) = d
-
-      marks : (n : ℕ) (d : Direction) → BlockPort m M p n d → (b : Bool) → is_split m p ≡ b
-          → CutSaid m M p port_at
-          (cond b (record { graph = unsplit m p; answer = cutting.Found (subport# p 0) (standing m (subport# p 0)) })
-          (record { graph = with_graph m (unlink_port m.graph p).graph; answer = cut_plain m (unlink_port m.graph p).answer }))
-      marks n d b true e =
-          subst (λ (c : ℕ). CutDone m M (unsplit m c) c port_at) b.slot (split_cut b.place b.is_seen (ap (is_split m) b.slot ∙ e))
-      marks n d b false e =
-          told (with_graph m (unlink_port m.graph p).graph)
-          (subst (λ (c : ℕ). CutDone m M (with_graph m (unlink_port m.graph c).graph) c port_at) b.slot (whole_cut b.place b.is_seen (ap (is_split m) b.slot ∙ e)))
-          (unlink_port m.graph p).answer
-
-      ports : (v : Port) → seen m p ≡ v → CutSaid m M p port_at (cut_seen m p v)
-      ports dead e = refl
-      ports hidden e = refl
-      ports (visible n d) e = marks n d (block_seen f p n d e) (is_split m p) refl

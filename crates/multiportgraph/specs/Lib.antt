@@ -20,7 +20,8 @@
 -- (MultiWf, in WellFormed over the lower crate's Model). What that says nobody has to believe: the empty graph has it and every call keeps
 -- it, so it holds of every graph of the calls (`run_kept` of `theorems`). These laws a reviewer looks for, of every such graph:
 --   visible_nodes_lem, visible_ports_lem, visible_links_lem, split_one_copy, copy_one_split, no_wire_at_hidden (CountLaws)
---   the work of a call is what it takes and gives back, and 10 is given exactly if a table would grow past its limit (SpaceLaws)
+--   the work of a call is what it takes and gives back, and 10 is given exactly if a table would grow past its limit (SpaceLaws;
+--   for the cut of a port, CutLaws of proofs/)
 --   words_of_graph, tables_fixed (LentGraph): the graph fixes each number of lent tables
 -- They speak in the words of Model (a node is live, a port stands at a place) and, for 10, of Space (the work of a call).
 pub mod Reading

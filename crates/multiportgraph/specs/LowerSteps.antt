@@ -22,12 +22,11 @@ use Rattle.multiportgraph.specs.Reading.{seen, side_of, is_split, end_at}
 use Rattle.multi_tables.specs.Forms.{Port, dead, hidden, visible, End, inner, lacking, subport#, good_offset}
 use Rattle.multiportgraph.specs.Calls.{cut_sub, cut_plain, cut_port, subport_link, link_sub_if, link_pair_if}
 use Rattle.port_tables.specs.Limits.{present}
-use Rattle.multiportgraph.specs.Cases.{cut_refused}
 use Rattle.multiportgraph.specs.Lookups.{direction_seen, direction_of}
 use Rattle.multiportgraph.specs.Graph.{with_graph}
 use Rattle.multiportgraph.specs.WellFormed.{MultiWf}
 use Rattle.multiportgraph.specs.Presumed.{OnBlock}
-use Rattle.multiportgraph.specs.CallSteps.{cut_port_seen, cut_port_plain}
+use Rattle.multiportgraph.specs.CallSteps.{cut_port_plain}
 use Rattle.multi_tables.specs.TableReads.{seen_in, end_in, wire_in, plain_in}
 use Rattle.multiportgraph.specs.TableReadLaws.{seen_read, end_read_off, end_is_port, plain_read_lem}
 use Rattle.multiportgraph.specs.Named.{joined_at, cut_at, read_named, cut_named, prepared_by}
@@ -36,8 +35,7 @@ use Rattle.multiportgraph.specs.NamedLaws.{ReadyEnd, ready_joined, ready_end, ne
 use Rattle.multiportgraph.specs.declared.multiportgraph.MultiPortGraph.{MultiPortGraph}
 use Rattle.multi_tables.specs.declared.answers.SubportIndex.{SubportIndex}
 use Rattle.multiportgraph.specs.declared.lookups.DirectionAnswer.TheVariants as direction_of_lem
-use Rattle.multi_tables.specs.declared.answers.Refusal.{Refusal}
-use Rattle.multi_tables.specs.declared.answers.Refusal.TheVariants.{UnknownPort, HiddenPort, BadOffset, IncompatibleDirections, AlreadyLinked}
+use Rattle.multi_tables.specs.declared.answers.Refusal.TheVariants.{BadOffset, IncompatibleDirections, AlreadyLinked}
 use Rattle.multi_tables.specs.declared.answers.CutAnswer.{CutAnswer}
 use Rattle.multiportgraph.specs.declared.multiportgraph.PortUnlinked.{PortUnlinked}
 use Rattle.multiportgraph.specs.declared.multiportgraph.LinkAnswer.TheVariants as link
@@ -124,15 +122,6 @@ module _ {m : MultiPortGraph} (w : MultiWf m) where
   -- its side is the one that is seen
   pub side_seen : {p : ℕ} {d : Direction} → OnBlock m p d → OnBlock m p (side_of (seen m p))
   side_seen {p} {d} b = record { wf = w; node = b.node; is = b.is ∙ ap (visible b.node) (sym (ap side_of b.is)) }
-
-  pub port_cut_refused : (p : ℕ) {a : Refusal} → direction_of m p ≡ direction_of_lem.Refused a → cut_refused m a ≡ cut_port m p
-  unfolding direction_of
-  port_cut_refused p {a} e = go (seen m p) refl e
-    where
-      go : (s : Port) → seen m p ≡ s → direction_seen p s ≡ direction_of_lem.Refused a → cut_refused m a ≡ cut_port m p
-      go dead t e = let q : UnknownPort (port# p) ≡ a = cc in ap (cut_refused m) (sym q) ∙ cut_port_seen m p dead t
-      go hidden t e = let q : HiddenPort (port# p) ≡ a = cc in ap (cut_refused m) (sym q) ∙ cut_port_seen m p hidden t
-      go (visible n d) t e = absurd (zero_is_not_one (cc))
 
   -- Two ends that are linked.
 

@@ -47,9 +47,9 @@ use Rattle.portgraph.specs.declared.resize.SetAnswer as lower_set_answer
 use Rattle.portgraph.specs.declared.resize.SetAnswer.TheVariants as lower_set
 use Rattle.portgraph.specs.declared.alloc.AddAnswer as lower_add_answer
 use Rattle.portgraph.specs.declared.alloc.AddAnswer.TheVariants as lower_add
-use Rattle.multiportgraph.specs.Calls.{drop_block, remove_block, added_as, add_block, set_as, set_counts, cut_plain, cut_port, cut_sub, link_sub, link_sub_if, set_counts_under, add_block_under, link_pair, link_pair_if, link_clean, link_clean_if, tidy_port}
+use Rattle.multiportgraph.specs.Calls.{drop_block, remove_block, added_as, add_block, set_as, set_counts, cut_sub, link_sub, link_sub_if, set_counts_under, add_block_under, link_pair, link_pair_if, link_clean, link_clean_if, tidy_port}
 use Rattle.multiportgraph.specs.WellFormed.{inner#, copy_place, Fine, Seen, BlockIs, SameBlocks}
-use Rattle.multiportgraph.specs.Reading.{owner_of, copy_side, has_link, port_of, is_hidden, is_split, seen, copy_node, subports, end_at, as_read, standing, far_subport, far_port, subport_at}
+use Rattle.multiportgraph.specs.Reading.{owner_of, copy_side, has_link, port_of, is_hidden, is_split, seen, copy_node, subports, end_at, as_read, far_subport, far_port, subport_at}
 use Rattle.multi_tables.specs.Forms.{Port, dead, hidden, visible, subport#, End, inner, lacking, good_offset}
 use Rattle.multiportgraph.specs.Ends.{Hangs, split_has_copy, block_seen, seen_block, copy_valid, port_of_lem, far_of, owner_of_lem, BlockPort, seen_still}
 use Rattle.multiportgraph.specs.CopyLaws.{copy_goes, unsplit_split, unsplit_whole}
@@ -58,7 +58,7 @@ use Rattle.multiportgraph.specs.Tidy.{subports_left, left_incoming, left_outgoin
 use Rattle.multiportgraph.specs.TidyLaws.{DropWithin, no_change, in_block, left_within}
 use Rattle.multiportgraph.specs.RecountLaws.{Recount, SomeRecount, set_recounts, slot_on_side, place_among}
 use Rattle.multiportgraph.specs.SetLaws.{resize_loosens}
-use Rattle.multiportgraph.specs.Space.{Room, room_of, Work, tidy_works, tidy_seen_works, take_node, take_block, give_node, give_block, block_taken, after_work, after_works, on_the_way, nodes_past, ports_past, nodes_short, ports_short, overflows, add_works, gone_works, split_works, move_works, recount_works, grow_works, reuse_works, prepare_works, second_works, link_seen_works, link_works, link_clean_seen_works, link_clean_works, copies_gone, set_meta_works, set_works, cut_works, cut_seen_works, remove_works, remove_meta_works, told_works}
+use Rattle.multiportgraph.specs.Space.{Room, room_of, Work, tidy_works, tidy_seen_works, take_node, take_block, give_node, give_block, block_taken, after_work, after_works, on_the_way, nodes_past, ports_past, nodes_short, ports_short, overflows, add_works, gone_works, split_works, move_works, recount_works, grow_works, reuse_works, prepare_works, second_works, link_seen_works, link_works, link_clean_seen_works, link_clean_works, copies_gone, set_meta_works, set_works, cut_works, remove_works, remove_meta_works, told_works}
 use Rattle.multiportgraph.specs.declared.multiportgraph.MultiPortGraph.{MultiPortGraph}
 use Rattle.multi_tables.specs.declared.answers.Refusal.{Refusal}
 use Rattle.multi_tables.specs.declared.answers.Refusal.TheVariants.{BadOffset, TooManyPorts, UnknownNode, HiddenNode, MovesTooShort, NoRoom, IncompatibleDirections, InputWired}
@@ -78,11 +78,11 @@ use Rattle.multi_tables.specs.declared.named.NamedPair.{NamedPair}
 use Rattle.multi_tables.specs.declared.named.NamedPair.TheVariants as pair
 use Rattle.multiportgraph.specs.declared.multiportgraph.AddAnswer.TheVariants as add
 use Rattle.multiportgraph.specs.HiddenNodes.{unsplit_range, copies_in, recounted, Prepared, ready, full, copy_incoming, copy_outgoing, split, split_by, split_port, split_graph, lowest_free, more_incoming, more_outgoing, enough, grow, grown_by, reuse, prepare, remove_copy, remove_lone, remove_all, copies_dropped, unsplit, split_under, grow_under, prepare_under, reuse_under}
-use Rattle.multiportgraph.specs.Cases.{remove_refused, remove_meta, link_first, link_second, link_seen, link_refused, set_refused, resized, set_meta, cut_seen, cut_refused, cut_end, cut_sub_seen, link_inner, link_second_end, link_first_end, link_sub_seen, link_live, link_clean_by, taken_sub_seen, tidy_seen}
+use Rattle.multiportgraph.specs.Cases.{remove_refused, remove_meta, link_first, link_second, link_seen, link_refused, set_refused, resized, set_meta, cut_refused, cut_end, cut_sub_seen, link_inner, link_second_end, link_first_end, link_sub_seen, link_live, link_clean_by, taken_sub_seen, tidy_seen}
 use Rattle.multi_tables.specs.NamedEnds.{pair_seen, taken_seen, taken_second, taken_first}
 use Rattle.multiportgraph.specs.Graph.{with_graph}
 use Rattle.multiportgraph.specs.Refusals.{input_taken}
-use Rattle.multiportgraph.specs.CaseLaws.{add_cases, set_cases, link_cases, link_taken, link_clean_cases, link_clean_taken, link_sub_cases, link_sub_taken, cut_cases, cut_sub_cases, remove_cases, tidy_cases}
+use Rattle.multiportgraph.specs.CaseLaws.{add_cases, set_cases, link_cases, link_taken, link_clean_cases, link_clean_taken, link_sub_cases, link_sub_taken, cut_sub_cases, remove_cases, tidy_cases}
 
 -- Lengths never shrink, so what is passed on the way is passed at the end.
 
@@ -312,7 +312,7 @@ pub record Spaced (m : MultiPortGraph) (M : Model) (works : List Work) (refused 
   pub unchanged : refused → m' ≡ m
   pub room_after : overflows (room_of M) works ≡ false → HasRoom m'.graph (after_works (room_of M) works)
 
-spaced_done : {m : MultiPortGraph} {M : Model} {works : List Work} {refused : Type 0} {m' : MultiPortGraph} → (refused → ⊥) → overflows (room_of M) works ≡ false → HasRoom m'.graph (after_works (room_of M) works) → Spaced m M works refused m'
+pub spaced_done : {m : MultiPortGraph} {M : Model} {works : List Work} {refused : Type 0} {m' : MultiPortGraph} → (refused → ⊥) → overflows (room_of M) works ≡ false → HasRoom m'.graph (after_works (room_of M) works) → Spaced m M works refused m'
 spaced_done never e r = record { no_room_iff = (λ c. absurd (never c), λ t. absurd (zero_is_not_one (cc))); unchanged = λ c. absurd (never c); room_after = λ t. r }
 
 spaced_refused : {m : MultiPortGraph} {M : Model} {works : List Work} {refused : Type 0} {m' : MultiPortGraph} → refused → overflows (room_of M) works ≡ true → m' ≡ m → Spaced m M works refused m'
@@ -723,10 +723,10 @@ set_counts_space {m} {M} f n k block i o room few told =
 
 -- a call that does no work
 module _ {m : MultiPortGraph} {M : Model} (f : Fine m M) where
-  own_room : HasRoom m.graph (after_works (room_of M) [])
+  pub own_room : HasRoom m.graph (after_works (room_of M) [])
   own_room = (nothing_taken f 0 0).1
 
-  no_work : {refused : Type 0} {m' : MultiPortGraph} → (refused → ⊥) → HasRoom m'.graph (after_works (room_of M) []) → Spaced m M [] refused m'
+  pub no_work : {refused : Type 0} {m' : MultiPortGraph} → (refused → ⊥) → HasRoom m'.graph (after_works (room_of M) []) → Spaced m M [] refused m'
   no_work never h = spaced_done never (fits f.good) h
 
   -- a node that goes lengthens nothing
@@ -752,7 +752,7 @@ unsplit_room m {r} h p = go (is_split m p)
     go true = gone_node_room h (copy_node m p)
     go false = h
 
-cuts_nothing : (m : MultiPortGraph) (p : ℕ) → is_split m p ≡ false → cut_works m p ≡ []
+pub cuts_nothing : (m : MultiPortGraph) (p : ℕ) → is_split m p ≡ false → cut_works m p ≡ []
 unfolding cut_works
 cuts_nothing m p e = rw e
 
@@ -761,30 +761,6 @@ unfolding tidy_works
 tidies_nothing m p d e = rw e
 
 module _ {m : MultiPortGraph} {M : Model} (f : Fine m M) where
-  pub cut_space : (p : ℕ) → Spaced m M (cut_seen_works m p (seen m p)) ((cut_port m p).answer ≡ cutting.Refused NoRoom) (cut_port m p).graph
-  cut_space p = subst (λ (v : PortUnlinked). Spaced m M (cut_seen_works m p (seen m p)) (v.answer ≡ cutting.Refused NoRoom) v.graph) (sym (cut_cases m p)) (go (seen m p))
-    where
-      plain : (v : PortLink) → cut_plain m v ≡ cutting.Refused NoRoom → ⊥
-      plain (lower_cut.Linked q) e = zero_is_not_one (cc)
-      plain lower_cut.Unlinked e = zero_is_not_one (cc)
-      plain (lower_cut.UnknownPort q) e = zero_is_not_one (cc)
-
-      Says : PortUnlinked → Type 0
-      Says v = Spaced m M (cut_works m p) (v.answer ≡ cutting.Refused NoRoom) v.graph
-
-      port : (b : Bool) → is_split m p ≡ b
-          → Says (cond b (record { graph = unsplit m p; answer = cutting.Found (subport# p 0) (standing m (subport# p 0)) })
-          (record { graph = with_graph m (unlink_port m.graph p).graph; answer = cut_plain m (unlink_port m.graph p).answer }))
-      port true e = spaced_done (λ q. zero_is_not_one (cc)) (cut_fits f p) (unsplit_room m (record { model = M; good = f.good; holds = f.holds; is = refl }) p)
-      port false e =
-          subst (λ (l : List Work). Spaced m M l (cut_plain m (unlink_port m.graph p).answer ≡ cutting.Refused NoRoom) (with_graph m (unlink_port m.graph p).graph)) (sym (cuts_nothing m p e))
-          (no_work f (plain (unlink_port m.graph p).answer) (unlink_keeps_room (own_room f) p))
-
-      go : (s : Port) → Spaced m M (cut_seen_works m p s) ((cut_seen m p s).answer ≡ cutting.Refused NoRoom) (cut_seen m p s).graph
-      go dead = no_work f (λ e. zero_is_not_one (cc)) (own_room f)
-      go hidden = no_work f (λ e. zero_is_not_one (cc)) (own_room f)
-      go (visible n d) = port (is_split m p) refl
-
   pub cut_sub_space : (p o : ℕ) → Spaced m M [] ((cut_sub m p o).answer ≡ cutting.Refused NoRoom) (cut_sub m p o).graph
   cut_sub_space p o = subst (λ (v : PortUnlinked). Spaced m M [] (v.answer ≡ cutting.Refused NoRoom) v.graph) (sym (cut_sub_cases m p o)) (offset (good_offset o))
     where

@@ -23,7 +23,8 @@ use Rattle.multi_tables.specs.EndAnswers.{unplaced}
 use Rattle.multiportgraph.specs.Refusals.{end_of, inner_port}
 use Rattle.multiportgraph.specs.Calls.{link_pair, link_sub, subport_link, cut_plain, cut_port, cut_sub}
 use Rattle.multiportgraph.specs.Cases.{cut_refused, cut_end, cut_sub_seen, link_of_seen}
-use Rattle.multiportgraph.specs.CaseLaws.{cut_cases, cut_sub_cases, subport_link_cases}
+use Rattle.multiportgraph.specs.CaseLaws.{cut_sub_cases, subport_link_cases}
+use Rattle.multiportgraph.proofs.CutLaws.{cut_cases}
 use Rattle.port_tables.specs.Places.{Place, Wire, spot, wire_of_sides, next_offset}
 use Rattle.multiportgraph.specs.Wires.{place_of}
 use Rattle.multiportgraph.specs.WellFormed.{Fine, Seen, lift, outer, IsEnd, WireIn, SameBlocks}

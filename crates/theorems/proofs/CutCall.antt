@@ -17,10 +17,9 @@ use Rattle.multi_tables.specs.declared.answers.CutAnswer.TheVariants as cutting
 use Rattle.multiportgraph.specs.declared.multiportgraph.PortUnlinked.{PortUnlinked}
 use Rattle.port_tables.specs.Places.{at_spot}
 use Rattle.multiportgraph.specs.Cases.{cut_refused, cut_seen}
-use Rattle.multiportgraph.specs.CaseLaws.{cut_cases}
-use Rattle.multiportgraph.specs.CopyLaws.{port_at, cut_port_law}
+use Rattle.multiportgraph.specs.CopyLaws.{port_at}
 use Rattle.theorems.proofs.WireRule.{after_cut}
-use Rattle.multiportgraph.specs.SpaceLaws.{cut_space}
+use Rattle.multiportgraph.proofs.CutLaws.{cut_cases, cut_port_law, cut_space}
 use Rattle.theorems.specs.Works.{works_of}
 use Rattle.theorems.specs.Conditions.{CutRefused, CutSays, PortIs, block_port, cut_dead, cut_hidden, hidden_port, no_port}
 use Rattle.theorems.specs.PortCases.{port_is, seen_block_port, seen_hidden_port, seen_none}

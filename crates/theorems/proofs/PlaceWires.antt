@@ -14,7 +14,8 @@ use Rattle.multiportgraph.specs.Reading.{is_split, seen, end_at, as_read, subpor
 use Rattle.multi_tables.specs.Forms.{Port, dead, hidden, visible, End, inner, lacking, subport#, good_offset}
 use Rattle.multiportgraph.specs.Calls.{subport_link, cut_port}
 use Rattle.multiportgraph.specs.Cases.{link_of_seen, cut_seen}
-use Rattle.multiportgraph.specs.CaseLaws.{cut_cases, subport_link_cases}
+use Rattle.multiportgraph.specs.CaseLaws.{subport_link_cases}
+use Rattle.multiportgraph.proofs.CutLaws.{cut_cases}
 use Rattle.multi_tables.specs.EndAnswers.{unplaced}
 use Rattle.port_tables.specs.Places.{Place, spot, wire_of_sides}
 use Rattle.multiportgraph.specs.Wires.{is_block, blocks, side_links, all_wires, place_of, step_wires, first_item}

@@ -31,7 +31,8 @@ use Rattle.multiportgraph.specs.Refusals.{input_taken, wired_input}
 use Rattle.multiportgraph.specs.Calls.{add_block, added_as, cut_plain, cut_port, cut_sub, link_clean_if, link_pair_if, link_sub_if, remove_block, set_as, set_counts, tidy_port}
 use Rattle.multiportgraph.specs.Cases.{cut_end, cut_refused, cut_seen, cut_sub_seen, link_clean_by, link_first, link_first_end, link_inner, link_live, link_prepared, link_refused, link_second, link_second_end, link_seen, link_sub_seen, remove_meta, set_meta, set_refused, taken_sub_seen, tidy_seen}
 use Rattle.multi_tables.specs.NamedEnds.{pair_seen, taken_first, taken_second, taken_seen}
-use Rattle.multiportgraph.specs.CaseLaws.{add_cases, remove_cases, set_cases, link_cases, link_taken, link_clean_cases, link_clean_taken, link_sub_cases, link_sub_taken, cut_cases, cut_sub_cases, tidy_cases}
+use Rattle.multiportgraph.specs.CaseLaws.{add_cases, remove_cases, set_cases, link_cases, link_taken, link_clean_cases, link_clean_taken, link_sub_cases, link_sub_taken, cut_sub_cases, tidy_cases}
+use Rattle.multiportgraph.proofs.CutLaws.{cut_cases}
 use Rattle.multiportgraph.specs.declared.multiportgraph.MultiPortGraph.{MultiPortGraph}
 use Rattle.port_tables.specs.declared.release.Release.{Release}
 use Rattle.port_tables.specs.declared.release.Release.TheVariants.{One, Two}

@@ -46,7 +46,8 @@ use Rattle.multiportgraph.specs.HiddenNodes.{copies_dropped, recounted, remove_a
 use Rattle.multiportgraph.specs.Tidy.{link_directly}
 use Rattle.multiportgraph.specs.Calls.{add_block, remove_block, set_counts, drop_block, link_sub_if, cut_port, cut_sub}
 use Rattle.multiportgraph.specs.Cases.{cut_end, cut_refused, cut_seen, cut_sub_seen, link_first_end, link_inner, link_refused, link_second_end, link_sub_seen, remove_meta, resized, set_meta, set_refused}
-use Rattle.multiportgraph.specs.CaseLaws.{add_cases, remove_cases, set_cases, link_sub_cases, cut_cases, cut_sub_cases}
+use Rattle.multiportgraph.specs.CaseLaws.{add_cases, remove_cases, set_cases, link_sub_cases, cut_sub_cases}
+use Rattle.multiportgraph.proofs.CutLaws.{cut_cases}
 use Rattle.multiportgraph.specs.declared.multiportgraph.MultiPortGraph.{MultiPortGraph}
 use Rattle.multiportgraph.specs.declared.multiportgraph.NodeAdded.{NodeAdded}
 use Rattle.multiportgraph.specs.declared.multiportgraph.NodeRemoved.{NodeRemoved}

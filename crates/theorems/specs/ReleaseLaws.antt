@@ -33,7 +33,8 @@ use Rattle.multiportgraph.specs.declared.multiportgraph.RemoveAnswer.TheVariants
 use Rattle.multiportgraph.specs.Calls.{add_block_under, remove_block, set_as, set_counts_under, cut_port, cut_sub, cut_plain, drop_block, link_pair_if, link_clean_if, link_sub_if, tidy_port}
 use Rattle.multiportgraph.specs.Cases.{cut_end, cut_refused, cut_seen, remove_refused, cut_sub_seen, link_clean_by, link_first, link_first_end, link_inner, link_live_under, link_prepared, link_refused, link_second, link_second_end, link_seen_under, link_sub_seen, remove_meta, resized, set_meta_under, set_refused, tidy_seen}
 use Rattle.multi_tables.specs.NamedEnds.{pair_seen}
-use Rattle.multiportgraph.specs.CaseLaws.{add_cases, remove_cases, set_cases, link_cases, link_clean_cases, link_sub_cases, cut_cases, cut_sub_cases, tidy_cases}
+use Rattle.multiportgraph.specs.CaseLaws.{add_cases, remove_cases, set_cases, link_cases, link_clean_cases, link_sub_cases, cut_sub_cases, tidy_cases}
+use Rattle.multiportgraph.proofs.CutLaws.{cut_cases}
 use Rattle.multiportgraph.specs.Tidy.{subports_left, drop_subports, link_directly, tidied}
 use Rattle.multiportgraph.specs.declared.multiportgraph.MultiPortGraph.{MultiPortGraph}
 use Rattle.port_tables.specs.declared.release.Release.{Release}

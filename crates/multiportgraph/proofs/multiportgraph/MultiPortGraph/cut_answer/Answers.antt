@@ -1,6 +1,6 @@
 -- `multiportgraph::MultiPortGraph::cut_answer` meets its contract: a split port, and one that is not.
 use mathlib.Core.Path.{refl, sym, ap, ◌∙◌}
-use Rattle.multiportgraph.specs.CallSteps.{cut_port_split}
+use Rattle.multiportgraph.proofs.CutLaws.{cut_port_split}
 use Rattle.multiportgraph.specs.LowerSteps.{port_cut_below}
 use Rattle.multiportgraph.specs.TableReadLaws.{place_read}
 use Rattle.multiportgraph.specs.declared.multiportgraph.PortUnlinked.{PortUnlinked}

@@ -1,19 +1,17 @@
 -- `multiportgraph::multiportgraph::MultiPortGraph::grow` meets its contract: no room, and one subport more.
 
 -- the hidden node as it is read
-use mathlib.Core.Path.{◌≡◌, refl, ◌∙◌}
-use mathlib.Core.Logic.{◌⊎◌, inl, inr}
-use Prim.Native.Nat.{ℕ, ◌≤◌}
+use mathlib.Core.Path.{refl, ◌∙◌}
+use Prim.Native.Nat.{◌≤◌}
 use native.Mathlib.Omega.{arith}
 use Rattle.portgraph.specs.contracts.resize.SetAnswer
-use Rattle.portgraph.specs.declared.resize.SetAnswer.{SetAnswer as LowerAnswer}
-use Rattle.portgraph.specs.declared.resize.SetAnswer.TheVariants as lower_set
 use Rattle.port_tables.specs.Limits.{port_slots}
 use Rattle.multi_tables.specs.TableReadSteps.{subports_bound}
 use Rattle.multiportgraph.specs.TableSteps.{Growing, growing_read, grow_full, grow_told, grow_done}
 use denote.Enum.Declared
 use Rattle.multiportgraph.specs.GrowLaws.{GrowTables, by_first}
 use Rattle.multiportgraph.specs.Reading.{copy_node}
+use Rattle.multiportgraph.proofs.RefusedTags.{set_refused_tag}
 use Rattle.multiportgraph.proofs.multiportgraph.MultiPortGraph.grow.Goals as goal
 use Rattle.multiportgraph.proofs.multiportgraph.MultiPortGraph.grow.Goals.{After-copy_in-hidden, In-Set}
 
@@ -27,14 +25,6 @@ count_fits c = let h = subports_bound c.args.self.graph.port_link c.args.self.gr
 told : (c : In-Set) → GrowTables c.args.self c.args.port c.args.direction (copy_node c.args.self c.args.port) c.copy_in-hidden.result.count c.resized-sized.result.graph
 told c = grow_told (growing c.before.before.before.before) c.grown_incoming-more_in.ensures c.grown_outgoing-more_out.ensures refl c.resized-sized.ensures c.in-Set.is
 
--- what is not done is refused in one of four ways
-refused-tag : (r : LowerAnswer) → ((e : ℕ) → r ≡ lower_set.Set e → ⊥) → (Declared.tag_of SetAnswer.the_type r ≡ 1) ⊎ ((Declared.tag_of SetAnswer.the_type r ≡ 2) ⊎ ((Declared.tag_of SetAnswer.the_type r ≡ 3) ⊎ (Declared.tag_of SetAnswer.the_type r ≡ 4)))
-refused-tag (lower_set.Set e) n = absurd (n e refl)
-refused-tag lower_set.TooManyPorts n = inl refl
-refused-tag lower_set.UnknownNode n = inr (inl refl)
-refused-tag lower_set.MovesTooShort n = inr (inr (inl refl))
-refused-tag lower_set.NoRoom n = inr (inr (inr refl))
-
 pub grown_incoming-more_in-requires : goal.grown_incoming-more_in-requires
 grown_incoming-more_in-requires c = count_fits (goal.at.grown_incoming-more_in-requires c).After-copy_in-hidden
 
@@ -44,7 +34,7 @@ grown_outgoing-more_out-requires c = count_fits (goal.at.grown_outgoing-more_out
 pub returns-in_default : goal.returns-in_default
 returns-in_default c =
     grow_full (growing (goal.at.returns-in_default c).After-copy_in-hidden) c.grown_incoming-more_in.ensures c.grown_outgoing-more_out.ensures refl c.resized-sized.ensures
-    (Declared.tag_of SetAnswer.the_type) (λ e. refl) (refused-tag _ c.in_default.not-Set)
+    (Declared.tag_of SetAnswer.the_type) (λ e. refl) (set_refused_tag _ c.in_default.not-Set)
 
 pub grow_by-requires : goal.grow_by-requires
 grow_by-requires c = (c.requires.block.wf, let f = (told (goal.at.grow_by-requires c).In-Set).few in omega arith)

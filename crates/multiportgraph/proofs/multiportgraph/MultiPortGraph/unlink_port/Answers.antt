@@ -5,7 +5,8 @@ use mathlib.Core.Path.{sym, ◌∙◌}
 use Rattle.port_tables.specs.TableSteps.{with_numbers}
 use Rattle.multiportgraph.specs.Answers.{cut_numbers}
 use Rattle.multiportgraph.specs.Presumed.{OnBlock}
-use Rattle.multiportgraph.specs.LowerSteps.{on_side, side_seen, port_cut_refused}
+use Rattle.multiportgraph.specs.LowerSteps.{on_side, side_seen}
+use Rattle.multiportgraph.proofs.CutLaws.{port_cut_refused}
 use Rattle.multiportgraph.specs.declared.multiportgraph.PortUnlinked.{PortUnlinked}
 use Rattle.multiportgraph.proofs.multiportgraph.MultiPortGraph.unlink_port.Goals as goal
 use Rattle.multiportgraph.proofs.multiportgraph.MultiPortGraph.unlink_port.Goals.{In-Found}

@@ -1,7 +1,7 @@
 -- `lent_calls::lent_blocks::cut_port_lent` meets its contract: a split port, one that is not, and each refusal.
 use mathlib.Core.Bool.{true, false}
 use mathlib.Core.Path.{refl, sym, ◌∙◌}
-use Rattle.multiportgraph.specs.CallSteps.{cut_port_seen, cut_port_split}
+use Rattle.multiportgraph.proofs.CutLaws.{cut_port_seen, cut_port_split}
 use Rattle.multi_tables.specs.FormSteps.{was_dead, was_hidden, was_visible}
 use Rattle.multi_tables.specs.Forms.{dead, hidden}
 use Rattle.multiportgraph.specs.MultiLent.{multi_in}

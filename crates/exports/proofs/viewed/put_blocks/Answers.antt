@@ -1,0 +1,55 @@
+-- `exports::viewed::put_blocks` meets its contract: the listing, and of it the part that is written is laid.
+use native.Mathlib.Omega.{arith}
+use mathlib.Core.Path.{◌≡◌, sym, ap, ◌∙◌}
+use mathlib.Core.List.{List}
+use Prim.Native.Nat.{ℕ, ◌*◌, ◌≤◌}
+use lib.ListN.{length, take}
+use lib.Seq.{sets}
+use Rattle.port_tables.specs.Limits.{node_slots}
+use Rattle.multiportgraph.specs.Calls.{visible_nodes}
+use Rattle.multiportgraph.specs.Listed.{blocks_listed}
+use Rattle.multiportgraph.specs.MultiLent.{multi_in}
+use Rattle.multiportgraph.specs.declared.multiportgraph.MultiPortGraph.{MultiPortGraph}
+use Rattle.records.specs.Words.{bytes_of}
+use Rattle.exports.specs.ViewedSteps.{blocks_taken, blocks_long, blocks_fit}
+use Rattle.exports.proofs.viewed.put_blocks.Goals as goal
+use Rattle.exports.proofs.viewed.put_blocks.Goals.{After-list-2-1, Start}
+
+-- the graph that the tables are
+abbrev graph : (c : Start) → MultiPortGraph
+graph c = multi_in c.args.nodes.now c.args.links.now c.args.owners.now c.args.heads.now c.args.marks.now c.args.flags.now c.args.totals
+
+-- the listing as written, and how many numbers of it are lent
+abbrev list : (c : After-list-2-1) → List ℕ
+list c = c.blocks_lent.new.list
+
+abbrev count : (c : After-list-2-1) → ℕ
+count c = c.node_count_lent-count.result
+
+fits : (c : After-list-2-1) → (4 * count c ≤ length (list c)) × (4 * count c ≤ 4 * node_slots)
+unfolding visible_nodes
+fits c = blocks_fit c.requires.0.fine _ c.node_count_lent-count.ensures c.blocks_lent.ensures.1
+
+lent-long : (c : After-list-2-1) → length (take (4 * count c) (list c)) ≡ 4 * count c
+unfolding visible_nodes
+lent-long c = blocks_long c.requires.0.fine _ c.node_count_lent-count.ensures c.blocks_lent.ensures.1
+
+is-blocks : (c : After-list-2-1) → take (4 * count c) (list c) ≡ blocks_listed (graph c.before.before.before.before.before.before)
+unfolding visible_nodes
+is-blocks c = blocks_taken c.requires.0.fine _ c.node_count_lent-count.ensures c.blocks_lent.ensures.1
+
+pub overflow_mul-end : goal.overflow_mul-end
+overflow_mul-end c = let h = fits (goal.at.overflow_mul-end c).After-list-2-1 in omega (arith, h.1)
+
+pub slice_bounds-list-end : goal.slice_bounds-list-end
+slice_bounds-list-end c = (fits (goal.at.slice_bounds-list-end c).After-list-2-1).0
+
+pub slice_bounds-put_words-end : goal.slice_bounds-put_words-end
+slice_bounds-put_words-end c = sym (lent-long (goal.at.slice_bounds-put_words-end c).After-list-2-1)
+
+pub put_words-requires : goal.put_words-requires
+unfolding visible_nodes
+put_words-requires c = let l = lent-long (goal.at.put_words-requires c).After-list-2-1 in omega (arith, l, c.node_count_lent-count.ensures, c.requires.1)
+
+pub returns : goal.returns
+returns c = c.put_words.ensures ∙ ap (λ (l : List ℕ). sets c.args.view.now c.args.at (bytes_of l)) (is-blocks (goal.at.returns c).After-list-2-1)

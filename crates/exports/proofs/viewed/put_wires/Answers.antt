@@ -1,0 +1,55 @@
+-- `exports::viewed::put_wires` meets its contract: the listing, and of it the part that is written is laid.
+use native.Mathlib.Omega.{arith}
+use mathlib.Core.Path.{◌≡◌, sym, ap, ◌∙◌}
+use mathlib.Core.List.{List}
+use Prim.Native.Nat.{ℕ, ◌*◌, ◌≤◌}
+use lib.ListN.{length, take}
+use lib.Seq.{sets}
+use Rattle.port_tables.specs.Limits.{port_slots}
+use Rattle.multiportgraph.specs.Calls.{visible_links}
+use Rattle.multiportgraph.specs.Listed.{wires_listed}
+use Rattle.multiportgraph.specs.MultiLent.{multi_in}
+use Rattle.multiportgraph.specs.declared.multiportgraph.MultiPortGraph.{MultiPortGraph}
+use Rattle.records.specs.Words.{bytes_of}
+use Rattle.exports.specs.ViewedSteps.{wires_taken, wires_long, wires_fit}
+use Rattle.exports.proofs.viewed.put_wires.Goals as goal
+use Rattle.exports.proofs.viewed.put_wires.Goals.{After-list-2-1, Start}
+
+-- the graph that the tables are
+abbrev graph : (c : Start) → MultiPortGraph
+graph c = multi_in c.args.nodes.now c.args.links.now c.args.owners.now c.args.heads.now c.args.marks.now c.args.flags.now c.args.totals
+
+-- the listing as written, and how many numbers of it are lent
+abbrev list : (c : After-list-2-1) → List ℕ
+list c = c.wires_lent.new.list
+
+abbrev count : (c : After-list-2-1) → ℕ
+count c = c.link_count_lent-count.result
+
+fits : (c : After-list-2-1) → (8 * count c ≤ length (list c)) × (8 * count c ≤ 4 * port_slots)
+unfolding visible_links
+fits c = wires_fit c.requires.0.fine _ c.link_count_lent-count.ensures c.wires_lent.ensures.1
+
+lent-long : (c : After-list-2-1) → length (take (8 * count c) (list c)) ≡ 8 * count c
+unfolding visible_links
+lent-long c = wires_long c.requires.0.fine _ c.link_count_lent-count.ensures c.wires_lent.ensures.1
+
+is-wires : (c : After-list-2-1) → take (8 * count c) (list c) ≡ wires_listed (graph c.before.before.before.before.before.before)
+unfolding visible_links
+is-wires c = wires_taken c.requires.0.fine _ c.link_count_lent-count.ensures c.wires_lent.ensures.1
+
+pub overflow_mul-end : goal.overflow_mul-end
+overflow_mul-end c = let h = fits (goal.at.overflow_mul-end c).After-list-2-1 in omega (arith, h.1)
+
+pub slice_bounds-list-end : goal.slice_bounds-list-end
+slice_bounds-list-end c = (fits (goal.at.slice_bounds-list-end c).After-list-2-1).0
+
+pub slice_bounds-put_words-end : goal.slice_bounds-put_words-end
+slice_bounds-put_words-end c = sym (lent-long (goal.at.slice_bounds-put_words-end c).After-list-2-1)
+
+pub put_words-requires : goal.put_words-requires
+unfolding visible_links
+put_words-requires c = let l = lent-long (goal.at.put_words-requires c).After-list-2-1 in omega (arith, l, c.link_count_lent-count.ensures, c.requires.1)
+
+pub returns : goal.returns
+returns c = c.put_words.ensures ∙ ap (λ (l : List ℕ). sets c.args.view.now c.args.at (bytes_of l)) (is-wires (goal.at.returns c).After-list-2-1)

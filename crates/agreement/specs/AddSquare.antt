@@ -1,5 +1,5 @@
 -- The square of an add: the new block has the name that is due, none of its ports is split, and every other port is as split as it was.
-use Rattle.std.specs.Prelude.{◌≡◌, Bool, true, false, not, ◌||◌, List, [], ◌∷◌, ◌⊎◌, ℕ, suc, ◌+◌, ◌≤◌, ◌<◌, eqb, leb, ltb, length}
+use Rattle.std.specs.Prelude.{◌≡◌, Bool, true, false, not, ◌||◌, List, [], ◌∷◌, ℕ, suc, ◌+◌, ◌≤◌, ◌<◌, eqb, leb, ltb, length}
 use Rattle.std.proofs.Math.Path.{refl, sym, ap, subst}
 use Rattle.std.proofs.Common.{◌∙◌, arith, leb-true, le-leb, ltb-true, ne_eqb}
 use Rattle.std.proofs.Math.Bool.{cond}
@@ -30,7 +30,7 @@ use Rattle.multiportgraph.specs.Reading.{is_hidden, is_split}
 use Rattle.multiportgraph.specs.SetLaws.{SameSplit}
 use Rattle.multiportgraph.specs.declared.multiportgraph.MultiPortGraph.{MultiPortGraph}
 use Rattle.multiportgraph.specs.declared.multiportgraph.NodeAdded.{NodeAdded}
-use Rattle.multi_tables.specs.declared.answers.Refusal.TheVariants.{TooManyPorts, NoRoom}
+use Rattle.multi_tables.specs.declared.answers.Refusal.TheVariants.{NoRoom}
 use Rattle.multiportgraph.specs.declared.multiportgraph.AddAnswer.TheVariants as add
 use Rattle.theorems.specs.Book as book
 use Rattle.theorems.specs.Book.{book_add}

@@ -24,7 +24,6 @@ use Rattle.multi_tables.specs.Forms.{End, inner, lacking}
 use Rattle.multiportgraph.specs.Wires.{place_of}
 use Rattle.multiportgraph.specs.declared.multiportgraph.MultiPortGraph.{MultiPortGraph}
 use Rattle.multi_tables.specs.declared.answers.PortPlace.{PortPlace}
-use Rattle.multi_tables.specs.declared.answers.Refusal.TheVariants.{BadOffset, UnknownPort, UnknownOffset}
 use Rattle.multi_tables.specs.declared.answers.CutAnswer.{CutAnswer}
 use Rattle.theorems.specs.Book.{Book, read_by}
 use Rattle.theorems.specs.BookLaws.{any_touches_lem, none_touches, so_not_false, or_true, or_right}
@@ -32,7 +31,7 @@ use Rattle.theorems.specs.Conditions.{sub_offset, sub_dead, sub_lacks}
 use Rattle.theorems.proofs.CutSubCall.{subport_link_refuses}
 use Rattle.theorems.specs.PortCases.{seen_block_port, is_lacking, end_is_lem}
 use Rattle.theorems.proofs.WireRule.{Rel}
-use Rattle.sketches.specs.Plan.{Far, nothing, far, far_from, is_there, spot_named, offset_read, lacks_offset, port_at}
+use Rattle.sketches.specs.Plan.{nothing, far, far_from, is_there, spot_named, offset_read, lacks_offset, port_at}
 use Rattle.sketches.specs.PlanCalls as sketch
 use Rattle.sketches.specs.PlanCalls.{end_found}
 use Rattle.sketches.specs.PlanNumbers.{reason_number}

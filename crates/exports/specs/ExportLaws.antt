@@ -1,9 +1,8 @@
 -- What the entries over files write is the file of a history, so that every theorem about files speaks of it.
 use Rattle.std.specs.Prelude.{◌≡◌, refl, List, ◌++◌, ℕ, ◌%◌, ◌≤◌, ◌<◌, length, drop}
-use Rattle.std.proofs.Common.{sym, ap, ◌∙◌, subst, arith, eq-eqb, le-leb}
+use Rattle.std.proofs.Common.{ap, arith, eq-eqb, le-leb}
 use Rattle.std.proofs.lemmas.Bool.{lt-leb}
 use Rattle.multiportgraph.specs.Listed.{list_after}
-use Rattle.multiportgraph.specs.declared.multiportgraph.MultiPortGraph.{MultiPortGraph}
 use Rattle.port_tables.specs.declared.release.Release.TheVariants.{One}
 use Rattle.theorems.specs.History.{run}
 use Rattle.records.specs.Words.{requests_of}
@@ -11,7 +10,7 @@ use Rattle.records.specs.Run.{calls_of}
 use Rattle.records.specs.RunLaws.{run_is_history}
 use Rattle.files.specs.Saving.{file_of, save_answer, save_buffer}
 use Rattle.files.specs.FileTheorems.{file_is_short, longest_file_lem}
-use Rattle.exports.specs.Exports.{graph_left, list_whole, refused_with, save_told, save_return, save_written}
+use Rattle.exports.specs.Exports.{graph_left, list_whole, refused_with, save_return, save_written}
 
 -- the graph that a list of requests leaves is that of the history of its calls
 pub graph_of_history : (requests : List ℕ) → graph_left requests ≡ (run One (calls_of (requests_of requests))).graph

@@ -1,6 +1,6 @@
 -- What the entries' proofs cite.
-use Rattle.std.specs.Prelude.{◌≡◌, refl, true, false, List, ℕ, ◌%◌, length}
-use Rattle.std.proofs.Common.{sym, ◌∙◌, eq-eqb, ne_eqb}
+use Rattle.std.specs.Prelude.{◌≡◌, refl, List, ℕ, ◌%◌, length}
+use Rattle.std.proofs.Common.{◌∙◌, eq-eqb, ne_eqb}
 use Rattle.std.proofs.Math.Path.{ap}
 use Rattle.files.specs.Saving.{save_answer, save_buffer}
 use Rattle.files.specs.declared.save.SaveAnswer.{SaveAnswer}

@@ -1,16 +1,16 @@
 -- The requests that are written of a file are the adds and links of its build, so that a list which begins with them goes on from the
 -- graph that a load of the file gives.
-use Rattle.std.specs.Prelude.{◌≡◌, refl, ℕ, zero, suc, ◌+◌, ◌-◌, ◌*◌, ◌/◌, ◌%◌, ◌≤◌, ◌<◌, length, get_or}
+use Rattle.std.specs.Prelude.{◌≡◌, refl, ℕ, zero, suc, ◌+◌, ◌*◌, ◌/◌, ◌%◌, ◌≤◌, length, get_or}
 use Rattle.std.proofs.Common.{sym, ◌∙◌, arith, length-append, get_or-append-add}
 use Rattle.std.proofs.Math.Path.{ap}
-use mathlib.Core.List.{List, [], ◌∷◌, ◌++◌, map, flat_map, append_assoc, append-nil}
+use mathlib.Core.List.{List, [], ◌∷◌, ◌++◌, map, flat_map, append-nil}
 use Rattle.multiportgraph.specs.declared.multiportgraph.MultiPortGraph.{MultiPortGraph}
 use Rattle.port_tables.specs.declared.release.Release.TheVariants.{One}
 use Rattle.theorems.specs.Book.{Call}
 use Rattle.theorems.specs.History.{run}
 use Rattle.records.specs.Words.{word_at, bytes_of, Request, request_at, requests_from, requests_of}
-use Rattle.records.specs.WordLaws.{bytes_append, bytes_long}
-use Rattle.records.specs.Run.{asked, asked_by, after, graph_from, call_then, calls_of, first_graph}
+use Rattle.records.specs.WordLaws.{bytes_long}
+use Rattle.records.specs.Run.{asked, asked_by, after, graph_from, calls_of, first_graph}
 use Rattle.records.specs.RunLaws.{run_is_history}
 use Rattle.files.specs.View.{BlockPorts, RankWire, View}
 use Rattle.files.specs.Layout.{unbytes}
@@ -20,7 +20,7 @@ use Rattle.files.specs.BuildList.{add_pair, link_pair}
 use Rattle.files.specs.ListingSteps.{loaded_few}
 use Rattle.files.specs.declared.load.LoadAnswer.{LoadAnswer}
 use Rattle.files.specs.declared.load.LoadAnswer.TheVariants.{Loaded}
-use Rattle.exports.specs.Exports.{graph_left, add_words, link_words, build_requests, file_requests}
+use Rattle.exports.specs.Exports.{graph_left, build_requests, file_requests}
 use Rattle.exports.specs.LoadedSteps.{pair_requests, build_split, requests_many}
 
 -- Requests read back.

@@ -1,18 +1,16 @@
 -- What the proofs of the entry from files to requests cite.
-use Rattle.std.specs.Prelude.{◌≡◌, Bool, true, false, cond, ℕ, zero, suc, ◌+◌, ◌-◌, ◌*◌, ◌≤◌, ◌<◌, leb, take, replicate}
+use Rattle.std.specs.Prelude.{◌≡◌, cond, ℕ, zero, suc, ◌+◌, ◌-◌, ◌*◌, ◌≤◌, ◌<◌, leb, take, replicate}
 use Rattle.std.proofs.Math.Path.{refl, ap}
-use Rattle.std.proofs.Common.{sym, ◌∙◌, subst, length-drop, length-take, drop-cons, take_all, take_at, drop_at}
+use Rattle.std.proofs.Common.{sym, ◌∙◌, length-drop, take_all, take_at, drop_at}
 use mathlib.Core.List.{List, [], ◌∷◌, ◌++◌, flat_map, append_assoc}
 use native.Mathlib.Omega.{arith}
 use Rattle.std.proofs.Math.ListN.{length, get_or, drop, length-append, length-replicate}
 use Rattle.std.proofs.Math.Seq.{sets, length-sets}
 use Rattle.std.proofs.lemmas.List.Edits.{sets-eq}
-use Rattle.std.proofs.lemmas.List.{take-append-le, drop-append-le}
 use borrow.Author.Tests.{le-leb, lt-leb}
 use Rattle.port_tables.specs.Limits.{node_slots, port_slots}
 use Rattle.port_tables.specs.ResizeLinkSteps.{sets_append}
 use Rattle.multi_tables.specs.EndAnswers.{refusal_numbers}
-use Rattle.multiportgraph.specs.HiddenStays.{true_not_false}
 use Rattle.multiportgraph.specs.Listed.{list_after}
 use Rattle.multiportgraph.specs.ListScans.{Writing}
 use Rattle.multi_tables.specs.declared.answers.Refusal.{Refusal}
@@ -23,7 +21,7 @@ use Rattle.records.specs.WordLaws.{bytes_append, bytes_long}
 use Rattle.records.specs.Run.{five}
 use Rattle.records.specs.Forms.{words5}
 use Rattle.records.specs.declared.answers.Answer5.{Answer5}
-use Rattle.files.specs.View.{BlockPorts, RankWire, View}
+use Rattle.files.specs.View.{BlockPorts, View}
 use Rattle.files.specs.Layout.{unbytes}
 use Rattle.files.specs.Loading.{out_port, in_port, load_answer, load_numbers}
 use Rattle.files.specs.LoadForms.{is_loaded}

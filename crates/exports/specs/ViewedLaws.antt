@@ -5,7 +5,6 @@ use Rattle.std.proofs.Common.{◌∙◌, subst, inl, inr, take_at, drop_at}
 use mathlib.Core.List.{List, [], ◌∷◌, ◌++◌, map, flat_map, append_assoc}
 use native.Mathlib.Omega.{arith}
 use Rattle.std.proofs.Math.ListN.{get_or}
-use Rattle.port_tables.specs.Entries.{ports_on}
 use Rattle.port_tables.specs.Lists.{range, Member, Once, Rising}
 use Rattle.portgraph.specs.Lookups.{num_ports}
 use Rattle.portgraph.specs.Model as model
@@ -18,7 +17,7 @@ use Rattle.multiportgraph.specs.WellFormed.{inner#, Fine, BlockIs, Seen, lift}
 use Rattle.multiportgraph.specs.Listed.{end_numbers, wire_numbers, wires_listed, first_port, block_numbers, blocks_listed}
 use Rattle.port_tables.specs.Listing.{member_map, map_member, member_flat_map, rising_map}
 use Rattle.multiportgraph.specs.ListReads.{blocks_length, wires_length}
-use Rattle.port_tables.specs.Places.{Place, Wire, spot}
+use Rattle.port_tables.specs.Places.{Place, spot}
 use Rattle.multi_tables.specs.Forms.{subport#}
 use Rattle.multiportgraph.specs.WalkRule.{listed_is_wire, wire_is_listed, listed_once}
 use Rattle.multiportgraph.specs.Wires.{blocks, all_wires, side_links, place_of, wire_places, ports_of_side}
@@ -26,7 +25,7 @@ use Rattle.multiportgraph.specs.declared.multiportgraph.MultiPortGraph.{MultiPor
 use Rattle.multi_tables.specs.declared.answers.SubportIndex.{SubportIndex}
 use Rattle.multi_tables.specs.declared.answers.SubportLink.{SubportLink}
 use Rattle.theorems.specs.Book.{Block, Book, spot_of}
-use Rattle.theorems.specs.ListedLinks.{LinkIs, from_place}
+use Rattle.theorems.specs.ListedLinks.{LinkIs}
 use Rattle.theorems.proofs.ListingWires.{side_link}
 use Rattle.theorems.proofs.PortListing.{blocks_list}
 use Rattle.theorems.proofs.WireRule.{Rel, spot_of_lem}

@@ -2,12 +2,9 @@
 use Rattle.std.specs.Prelude.{◌≡◌, refl, List, ◌++◌, ℕ, ◌+◌, ◌*◌, ◌%◌, ◌≤◌, ◌<◌, length, drop}
 use Rattle.std.proofs.Common.{sym, ap, ◌∙◌, subst, arith, eq-eqb, le-leb}
 use Rattle.std.proofs.lemmas.Bool.{lt-leb}
-use Rattle.port_tables.specs.Limits.{node_slots, port_slots}
 use Rattle.multiportgraph.specs.Calls.{visible_nodes, visible_links}
 use Rattle.multiportgraph.specs.Listed.{list_after}
-use Rattle.multiportgraph.specs.declared.multiportgraph.MultiPortGraph.{MultiPortGraph}
 use Rattle.port_tables.specs.declared.release.Release.TheVariants.{One}
-use Rattle.theorems.specs.Book.{Book}
 use Rattle.theorems.proofs.CallLaws.{rel_run}
 use Rattle.theorems.specs.History.{State, run}
 use Rattle.records.specs.Words.{requests_of}
@@ -15,7 +12,7 @@ use Rattle.records.specs.Run.{calls_of}
 use Rattle.exports.specs.Exports.{refused_with, list_whole}
 use Rattle.exports.specs.ExportLaws.{graph_of_history}
 use Rattle.exports.specs.Viewed.{view_bytes, view_told, view_return, view_written}
-use Rattle.exports.specs.ViewedClaims.{Shown, view_read, Shows}
+use Rattle.exports.specs.ViewedClaims.{view_read, Shows}
 use Rattle.exports.specs.ViewedLaws as laws
 use Rattle.exports.specs.ViewedSteps.{view_length, view_most}
 

@@ -1,5 +1,5 @@
 -- When the build of a view is refused: the first block or wire that is not to be had, and why.
-use Rattle.std.specs.Prelude.{◌≡◌, refl, true, ◌⊎◌, ◌↔◌, ℕ, suc, ◌+◌, ◌≤◌, ◌<◌, length}
+use Rattle.std.specs.Prelude.{◌≡◌, refl, ◌⊎◌, ◌↔◌, ℕ, suc, ◌+◌, ◌≤◌, ◌<◌, length}
 use Rattle.std.proofs.Common.{sym, ◌∙◌, arith, length-append}
 use Rattle.std.proofs.Math.Path.{ap, subst}
 use mathlib.Core.List.{List, [], ◌∷◌, ◌++◌, map}
@@ -17,7 +17,6 @@ use Rattle.multiportgraph.specs.WellFormed.{inner#}
 use Rattle.port_tables.specs.Listing.{member_left, member_right}
 use Rattle.port_tables.specs.Places.{Wire}
 use Rattle.multiportgraph.specs.LinkCutLaws.{fine_empty}
-use Rattle.multiportgraph.specs.Space.{room_of, overflows, link_works}
 use Rattle.multiportgraph.specs.SpaceLaws.{link_space}
 use Rattle.multiportgraph.specs.declared.multiportgraph.MultiPortGraph.{MultiPortGraph}
 use Rattle.port_tables.specs.declared.release.Release.{Release}

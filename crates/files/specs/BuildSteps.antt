@@ -1,19 +1,17 @@
 -- What the functions that build a file's wiring cite: calls one after the other, as far as the first that is refused; first ports; and
 -- blocks and wires read where they stand.
-use Rattle.std.specs.Prelude.{◌≡◌, refl, Bool, true, false, ◌&&◌, List, [], ◌∷◌, ◌++◌, map, ℕ, zero, suc, ◌+◌, ◌-◌, ◌*◌, ◌/◌, ◌%◌, ◌≤◌, ◌<◌, eqb, ltb, length, get_or, set, drop, replicate}
+use Rattle.std.specs.Prelude.{◌≡◌, refl, Bool, true, false, ◌&&◌, List, [], ◌∷◌, ◌++◌, map, ℕ, zero, suc, ◌+◌, ◌*◌, ◌%◌, ◌≤◌, ◌<◌, eqb, ltb, length, get_or, set, drop, replicate}
 use Rattle.std.proofs.Math.Path.{sym, ap, subst}
-use Rattle.std.proofs.Common.{◌∙◌, inl, inr, arith, drop_of_length-le, length-set, drop-cons, get_or-set_same, get_or-set_other, ltb-true, eqb-true}
+use Rattle.std.proofs.Common.{◌∙◌, arith, drop_of_length-le, length-set, drop-cons, get_or-set_same, get_or-set_other, ltb-true, eqb-true}
 use Rattle.std.proofs.lemmas.Bool.{eqb-false}
 use Rattle.port_tables.specs.Limits.{node_slots, port_slots, free_lists}
 use Rattle.portgraph.specs.Lent.{node_words}
-use Rattle.portgraph.specs.Model.{Model}
-use Rattle.multiportgraph.specs.Calls.{add_block, link_pair, visible_nodes}
+use Rattle.multiportgraph.specs.Calls.{add_block, link_pair}
 use Rattle.multiportgraph.specs.CountLaws.{visible_nodes_lem}
 use Rattle.multiportgraph.specs.HiddenStays.{true_not_false}
 use Rattle.multiportgraph.specs.Graph.{empty_graph}
 use Rattle.multiportgraph.specs.WellFormed.{MultiWf}
 use Rattle.multiportgraph.specs.LentLaws.{empty_in}
-use Rattle.port_tables.specs.Listing.{length_map}
 use Rattle.multiportgraph.specs.MultiLent.{multi_in, no_totals}
 use Rattle.multiportgraph.specs.declared.lent.Totals.{Totals}
 use Rattle.multiportgraph.specs.declared.multiportgraph.MultiPortGraph.{MultiPortGraph}
@@ -29,7 +27,7 @@ use Rattle.theorems.proofs.HistoryCounts.{visible_nodes_of_history}
 use Rattle.theorems.proofs.CallLaws.{empty_kept, step_kept, rel_run}
 use Rattle.files.specs.View.{BlockPorts, RankWire, View}
 use Rattle.files.specs.Layout.{field_at, block_of, wire_of, units_for, unbytes}
-use Rattle.files.specs.Loading.{every, unit_list, is_laid, units_right, ranks_right, block_at, positions_right, order_right, view_right, first_port, out_port, in_port, add_of, link_of, build_of, after_call, first_refusal, first_refusal_under, graph_if, is_whole, load_answer, load_answer_under, load_graph, load_graph_under}
+use Rattle.files.specs.Loading.{every, is_laid, ranks_right, block_at, positions_right, order_right, view_right, first_port, out_port, in_port, add_of, link_of, build_of, after_call, first_refusal, first_refusal_under, graph_if, is_whole, load_answer, load_answer_under, load_graph, load_graph_under}
 use Rattle.files.specs.LaidLaws.{both_true}
 use Rattle.files.specs.NextSlots.{first_port_first, first_port_next}
 use Rattle.files.specs.ViewLaws.{blocks_few_lem}

@@ -1,9 +1,9 @@
 -- What the leaves over bytes lay and read.
-use Rattle.std.specs.Prelude.{◌≡◌, refl, List, [], ◌∷◌, ◌++◌, ℕ, zero, suc, ◌+◌, ◌*◌, ◌/◌, ◌%◌, ◌≤◌, ◌<◌, length, get_or, set}
-use Rattle.std.proofs.Common.{sym, ap, ◌∙◌, arith}
+use Rattle.std.specs.Prelude.{◌≡◌, List, [], ◌∷◌, ◌++◌, ℕ, suc, ◌+◌, ◌*◌, ◌/◌, ◌%◌, set}
+use Rattle.std.proofs.Common.{◌∙◌, arith}
 use Rattle.std.proofs.lemmas.List.Edits.{sets}
 use Rattle.port_tables.specs.ResizeLinkSteps.{sets_append}
-use Rattle.files.specs.Layout.{Record, field_bytes, word_bytes, field_at, word_at, record_bytes}
+use Rattle.files.specs.Layout.{field_bytes, word_bytes, field_at, word_at, record_bytes}
 use Rattle.files.specs.Forms.{record_of}
 
 pub two_bytes : (l : List ℕ) (i x : ℕ) → set (set l i (x % 256)) (i + 1) (x / 256 % 256) ≡ sets l i (field_bytes x)

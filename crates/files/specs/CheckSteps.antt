@@ -1,11 +1,11 @@
 -- What the functions that hold a file against its layout cite: units from the front, one after the other; what each says by itself; and
 -- how many blocks and wires they have.
-use Rattle.std.specs.Prelude.{◌≡◌, refl, Bool, true, false, cond, not, ◌&&◌, leb, ltb, take}
+use Rattle.std.specs.Prelude.{◌≡◌, refl, Bool, true, false, cond, ◌&&◌, leb, take}
 use Rattle.std.proofs.Math.Path.{sym, ap}
-use Rattle.std.proofs.Common.{◌∙◌, length-append, length-take, drop-cons, drop-drop, get_or-take, take_all, eqb-true, eq-eqb, ne_eqb, leb-true, leb-false, le-leb}
-use Rattle.std.proofs.Math.Bool.{and_assoc, and-true, and-false}
-use mathlib.Core.List.{List, [], ◌∷◌, ◌++◌, map}
-use Prim.Native.Nat.{ℕ, zero, suc, ◌+◌, ◌-◌, ◌*◌, ◌/◌, ◌%◌, ◌≤◌, ◌<◌}
+use Rattle.std.proofs.Common.{◌∙◌, length-append, drop-cons, drop-drop, get_or-take, take_all, eqb-true, eq-eqb, ne_eqb, leb-true, leb-false, le-leb}
+use Rattle.std.proofs.Math.Bool.{and_assoc, and-false}
+use mathlib.Core.List.{List, [], ◌∷◌, map}
+use Prim.Native.Nat.{ℕ, suc, ◌+◌, ◌-◌, ◌*◌, ◌/◌, ◌%◌, ◌≤◌, ◌<◌}
 use native.Mathlib.Omega.{arith}
 use Rattle.std.proofs.Math.Dec.{eqb}
 use Rattle.std.proofs.Math.ListN.{length, get_or, drop, length-drop}
@@ -15,9 +15,9 @@ use Rattle.portgraph.specs.Model.{total}
 use Rattle.portgraph.specs.Sums.{total_same}
 use Rattle.multiportgraph.specs.HiddenStays.{true_not_false}
 use Rattle.port_tables.specs.Listing.{length_map}
-use Rattle.files.specs.View.{BlockPorts, RankWire, View}
+use Rattle.files.specs.View.{View}
 use Rattle.files.specs.Layout.{Record, unit_records, field_at, word_at, sum_of, block_of, wire_of, record_at, records_at, records_of, with_records, with_unit, read_units, unbytes}
-use Rattle.files.specs.Loading.{every, sum_holds, units_in, unit_list, is_whole, kind_of, count_of, of_kind, kinds_right, goes_on, counts_right, zeros_from, block_zeros, zeros_right, units_right}
+use Rattle.files.specs.Loading.{every, sum_holds, units_in, unit_list, is_whole, kind_of, count_of, of_kind, kinds_right, goes_on, counts_right, block_zeros, zeros_right, units_right}
 use Rattle.files.specs.LaidLaws.{both_true, field_taken, records_many}
 use Rattle.files.specs.LoadForms.{next_kind, kind_fits, count_fits, unit_fits, units_fit, ShapeIs}
 

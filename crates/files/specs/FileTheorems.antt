@@ -1,8 +1,8 @@
 -- What is proved of files, in plain order: statements with a sentence each, over every list of calls from the empty graph of either release. The words
 -- stand in Claims, over Saving and the wire book.
-use Rattle.std.specs.Prelude.{◌≡◌, refl, List, ◌↔◌, ℕ, ◌+◌, ◌*◌, ◌/◌, ◌≤◌, ◌<◌, length}
+use Rattle.std.specs.Prelude.{◌≡◌, refl, List, ◌↔◌, ℕ, ◌≤◌, ◌<◌, length}
 use Rattle.std.proofs.Common.{sym, ap, ◌∙◌, subst, arith, le-leb}
-use Rattle.port_tables.specs.Limits.{node_slots, port_slots, node_ports}
+use Rattle.port_tables.specs.Limits.{node_slots, node_ports}
 use Rattle.port_tables.specs.Lists.{Rising}
 use Rattle.multiportgraph.specs.Calls.{visible_nodes, visible_links}
 use Rattle.port_tables.specs.declared.release.Release.{Release}

@@ -1,14 +1,14 @@
 -- Which links of a build give 18: for release 2, those before which a wire already ends at the same input. Between an output and an input
 -- nothing else refuses a link but space.
 use Rattle.std.specs.Prelude.{◌≡◌, refl, Bool, true, false, List, [], ◌∷◌, ◌⊎◌, ℕ, ◌+◌, ◌<◌}
-use Rattle.std.proofs.Common.{sym, ap, ◌∙◌, inl, inr, ⊎_elim, arith}
+use Rattle.std.proofs.Common.{sym, ap, ◌∙◌, inl, inr, arith}
 use Rattle.port_tables.specs.Lists.{Member}
 use Rattle.portgraph.specs.Model as model
 use Rattle.portgraph.specs.Model.{Model}
 use Rattle.portgraph.specs.GoodSlots.{zero_is_not_one, slots_apart}
 use Rattle.port_tables.specs.declared.direction.Direction.TheVariants.{Incoming, Outgoing}
 use Rattle.multiportgraph.specs.Calls.{link_pair}
-use Rattle.multiportgraph.specs.WellFormed.{Fine, inner#, lift, outer, WireIn}
+use Rattle.multiportgraph.specs.WellFormed.{inner#}
 use Rattle.multiportgraph.specs.Ends.{into_side}
 use Rattle.port_tables.specs.Places.{Place, Wire, flag}
 use Rattle.multiportgraph.specs.declared.multiportgraph.MultiPortGraph.{MultiPortGraph}

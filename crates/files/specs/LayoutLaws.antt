@@ -1,12 +1,12 @@
 -- Laws of the layout: how long a file is, and that the view is read back from its bytes, so that equal bytes have equal views.
-use Rattle.std.specs.Prelude.{◌≡◌, refl, Bool, true, false, cond, ℕ, zero, suc, ◌+◌, ◌-◌, ◌*◌, ◌/◌, ◌%◌, ◌≤◌, ◌<◌, eqb, get_or, take, drop, replicate}
+use Rattle.std.specs.Prelude.{◌≡◌, refl, Bool, true, false, ℕ, zero, suc, ◌+◌, ◌-◌, ◌*◌, ◌/◌, ◌%◌, ◌≤◌, ◌<◌, eqb, take, drop, replicate}
 use Rattle.std.proofs.Common.{sym, ap, ◌∙◌, subst, inl, inr, length-append, length-take, length-drop, take-append-drop, drop_at}
 use mathlib.Core.List.{List, [], ◌∷◌, ◌++◌, map, flat_map, append_assoc, append-nil}
 use native.Mathlib.Omega.{arith}
 use Rattle.std.proofs.Math.ListN.{length}
 use Rattle.std.proofs.lemmas.List.{length-replicate}
 use Rattle.port_tables.specs.Lists.{Member}
-use Rattle.port_tables.specs.Listing.{member_left, member_right, member_map, length_map}
+use Rattle.port_tables.specs.Listing.{member_left, member_right, length_map}
 use Rattle.files.specs.View.{BlockPorts, RankWire, View}
 use Rattle.files.specs.Layout.{Record, block_record, wire_record, field_bytes, word_bytes, field_at, record_bytes, unit_records, unit_head, sum_of, unit, units_for, units_from, units_of, bytes_of, file_length, block_of, wire_of, record_at, records_at, records_of, empty_view, with_records, with_unit, read_units, unbytes}
 

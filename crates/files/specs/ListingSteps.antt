@@ -1,11 +1,11 @@
 -- What the functions that list the build of a file cite: pairs of numbers laid one after the other, and the load's answer; and that an
 -- accepted file has few blocks and wires.
 use Rattle.std.proofs.Math.Path.{◌≡◌, refl, sym, ap}
-use Rattle.std.proofs.Common.{◌∙◌, subst, drop_of_length-le, drop-cons, le-leb}
-use Rattle.std.specs.Prelude.{Bool, true, cond, ◌&&◌, leb, get_or, set, take}
+use Rattle.std.proofs.Common.{◌∙◌, drop_of_length-le, drop-cons, le-leb}
+use Rattle.std.specs.Prelude.{Bool, true, cond, get_or, set}
 use Rattle.std.proofs.Math.Bool.{false}
 use mathlib.Core.List.{List, [], ◌∷◌, ◌++◌, map, flat_map}
-use Prim.Native.Nat.{ℕ, zero, suc, ◌+◌, ◌-◌, ◌*◌, ◌/◌, ◌%◌, ◌≤◌, ◌<◌}
+use Prim.Native.Nat.{ℕ, zero, suc, ◌+◌, ◌*◌, ◌/◌, ◌≤◌, ◌<◌}
 use native.Mathlib.Omega.{arith}
 use Rattle.std.proofs.Math.ListN.{length, drop, length-append}
 use Rattle.std.proofs.Math.Seq.{sets, length-sets}
@@ -22,9 +22,9 @@ use Rattle.multiportgraph.specs.declared.multiportgraph.MultiPortGraph.{MultiPor
 use Rattle.port_tables.specs.declared.release.Release.{Release}
 use Rattle.theorems.proofs.CallLaws.{rel_run}
 use Rattle.theorems.specs.History.{run}
-use Rattle.files.specs.View.{BlockPorts, RankWire, View, rank_among, sorted, rank_wire, view_of}
+use Rattle.files.specs.View.{View, rank_among, rank_wire, view_of}
 use Rattle.files.specs.Layout.{field_at, block_of, wire_of, units_for, unbytes}
-use Rattle.files.specs.Loading.{is_whole, is_laid, block_at, view_right, add_of, link_of, out_port, in_port, build_of, first_refusal, load_answer, load_answer_under}
+use Rattle.files.specs.Loading.{is_whole, is_laid, add_of, link_of, out_port, in_port, build_of, first_refusal, load_answer, load_answer_under}
 use Rattle.files.specs.BuildList.{add_pair, link_pair, build_numbers, if_loaded, list_build, build_after}
 use Rattle.files.specs.OrderLaws.{sorted_length}
 use Rattle.files.specs.ViewLaws.{wires_few}

@@ -1,5 +1,5 @@
 -- The words of the theorems about loading: when a build for a release is refused.
-use Rattle.std.specs.Prelude.{◌≡◌, true, List, ◌∷◌, ◌++◌, map, ◌⊎◌, ℕ, suc, ◌+◌, ◌≤◌, ◌<◌, length}
+use Rattle.std.specs.Prelude.{◌≡◌, true, List, ◌∷◌, ◌++◌, map, ◌⊎◌, suc, ◌+◌, ◌≤◌, ◌<◌, length}
 use Rattle.port_tables.specs.Limits.{node_slots, port_slots, node_ports}
 use Rattle.port_tables.specs.Lists.{Member}
 use Rattle.multiportgraph.specs.Graph.{empty_graph}

@@ -1,6 +1,6 @@
 -- The forms in which the code of a load holds what Loading says: what a unit says by itself, before one of a kind; records by their
 -- number, at byte positions; wires one after the other, by their numbers; and what building leaves.
-use Rattle.std.specs.Prelude.{◌≡◌, Bool, true, false, cond, ◌&&◌, List, [], ◌∷◌, ℕ, zero, suc, ◌+◌, ◌*◌, ◌/◌, ◌%◌, ◌≤◌, ◌<◌, eqb, leb, ltb, length, get_or}
+use Rattle.std.specs.Prelude.{◌≡◌, Bool, true, false, cond, ◌&&◌, List, [], ◌∷◌, ℕ, ◌+◌, ◌*◌, ◌/◌, ◌%◌, ◌≤◌, ◌<◌, eqb, leb, length, get_or}
 use Rattle.port_tables.specs.Limits.{node_slots}
 use Rattle.multiportgraph.specs.Graph.{empty_graph}
 use Rattle.multiportgraph.specs.WellFormed.{MultiWf}
@@ -15,7 +15,6 @@ use Rattle.theorems.specs.History.{step, run}
 use Rattle.files.specs.View.{BlockPorts, RankWire, View}
 use Rattle.files.specs.Layout.{Record, field_at, block_of, wire_of, unit_records, units_for, unbytes}
 use Rattle.files.specs.Loading.{kind_of, count_of, unit_list, zeros_right, units_right, ranks_right, block_at, positions_right, view_right, is_laid, first_port, build_of, after_call, first_refusal, graph_if}
-use Rattle.files.specs.Forms.{number_of}
 use Rattle.files.specs.SortSteps.{wire_number}
 use Rattle.files.specs.declared.load.LoadAnswer.{LoadAnswer}
 use Rattle.files.specs.declared.load.LoadAnswer.TheVariants.{Loaded, BadSums, BadLayout, Refused}

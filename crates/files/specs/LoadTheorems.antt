@@ -1,7 +1,7 @@
 -- What is proved of loading, in plain order: statements with a sentence each, over every list of bytes, every list of calls from the
 -- empty graph and either release. The words stand in Loading, Claims and LoadClaims.
-use Rattle.std.specs.Prelude.{◌≡◌, refl, Bool, true, false, cond, List, [], ◌∷◌, ◌++◌, map, ◌↔◌, ◌⊎◌, ℕ}
-use Rattle.std.proofs.Common.{sym, ap, ◌∙◌, subst, inl, inr, ⊎_elim}
+use Rattle.std.specs.Prelude.{◌≡◌, refl, true, false, List, ◌++◌, ◌↔◌, ◌⊎◌, ℕ}
+use Rattle.std.proofs.Common.{sym, ap, ◌∙◌, subst, ⊎_elim}
 use Rattle.multiportgraph.specs.declared.multiportgraph.MultiPortGraph.{MultiPortGraph}
 use Rattle.port_tables.specs.declared.release.Release.{Release}
 use Rattle.port_tables.specs.declared.release.Release.TheVariants.{One, Two}
@@ -9,14 +9,14 @@ use Rattle.multi_tables.specs.declared.answers.Refusal.{Refusal}
 use Rattle.multi_tables.specs.declared.answers.Refusal.TheVariants.{TooManyPorts, NoRoom, InputWired}
 use Rattle.multiportgraph.specs.Graph.{empty_graph}
 use Rattle.theorems.specs.Book.{Call}
-use Rattle.theorems.specs.History.{State, run, run_from}
+use Rattle.theorems.specs.History.{run, run_from}
 use Rattle.theorems.proofs.CallLaws.{rel_run}
 use Rattle.theorems.specs.Runs.{run_append}
 use Rattle.theorems.specs.ReleaseClaims.{for_release}
 use Rattle.files.specs.View.{View, view_of}
 use Rattle.files.specs.Layout.{bytes_of, unbytes}
 use Rattle.files.specs.Saving.{file_of}
-use Rattle.files.specs.Loading.{is_whole, is_laid, build_of, first_refusal, load_answer, load_graph, load_graph_under, graph_if}
+use Rattle.files.specs.Loading.{is_whole, is_laid, build_of, first_refusal, load_answer, load_graph, load_graph_under}
 use Rattle.files.specs.Claims.{SameWiring, Sound, Bytes}
 use Rattle.files.specs.LayoutLaws.{ViewFits, view_read_back}
 use Rattle.files.specs.ViewLaws.{view_fits}
@@ -32,7 +32,6 @@ use Rattle.files.specs.FileTheorems.{same_file_same_wiring, file_read_back}
 use Rattle.files.specs.LoadAnswers as answers
 use Rattle.files.specs.ReleaseFiles as releases
 use Rattle.files.specs.OneWire as one_wire
-use Rattle.files.specs.declared.load.LoadAnswer.{LoadAnswer}
 use Rattle.files.specs.declared.load.LoadAnswer.TheVariants.{Loaded, BadSums, BadLayout, Refused}
 
 -- An accepted load is the history of its adds and links in file order, all accepted, so that every theorem over histories speaks of it;

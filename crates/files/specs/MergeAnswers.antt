@@ -1,5 +1,5 @@
 -- The answers of a merge, case by case.
-use Rattle.std.specs.Prelude.{◌≡◌, refl, Bool, true, false, cond, List, [], ◌∷◌, ◌++◌, map, ◌↔◌, ◌⊎◌, ℕ, ◌+◌, ◌*◌, ◌≤◌, ◌<◌, leb, drop}
+use Rattle.std.specs.Prelude.{◌≡◌, refl, Bool, true, false, List, [], ◌∷◌, ◌++◌, map, ◌⊎◌, ℕ, ◌+◌, ◌*◌, ◌≤◌, leb, drop}
 use Rattle.std.proofs.Common.{sym, ◌∙◌, subst, inl, inr}
 use Rattle.std.proofs.Math.Path.{ap}
 use Rattle.std.proofs.Math.Logic.{⊎_elim}
@@ -8,16 +8,14 @@ use Rattle.std.proofs.Math.ListN.{length}
 use borrow.Author.Tests.{le-leb, lt-leb, leb-true, leb-false}
 use Rattle.port_tables.specs.Limits.{node_slots, port_slots, node_ports}
 use Rattle.port_tables.specs.Lists.{Member}
-use Rattle.multiportgraph.specs.HiddenStays.{true_not_false}
 use Rattle.multiportgraph.specs.Graph.{empty_graph}
 use Rattle.multiportgraph.specs.Listed.{list_after}
 use Rattle.port_tables.specs.Listing.{member_right, member_append, length_map}
 use Rattle.multiportgraph.specs.Wires as graph
 use Rattle.multiportgraph.specs.Wires.{wires_walked}
-use Rattle.port_tables.specs.declared.release.Release.{Release}
 use Rattle.port_tables.specs.declared.release.Release.TheVariants.{One, Two}
 use Rattle.multi_tables.specs.declared.answers.Refusal.{Refusal}
-use Rattle.multi_tables.specs.declared.answers.Refusal.TheVariants.{TooManyPorts, NoRoom, InputWired}
+use Rattle.multi_tables.specs.declared.answers.Refusal.TheVariants.{NoRoom}
 use Rattle.theorems.specs.History.{run}
 use Rattle.theorems.proofs.CallLaws.{rel_run}
 use Rattle.files.specs.View.{BlockPorts, View, rank_among, rank_wire, view_of}
@@ -34,10 +32,9 @@ use Rattle.files.specs.BuildLaws.{built_view}
 use Rattle.files.specs.BuildRefusals.{loaded_or_refused}
 use Rattle.files.specs.LoadAnswers as answers
 use Rattle.files.specs.LoadAnswers.{loaded_parts, parts_loaded, view_small}
-use Rattle.files.specs.Merging.{merged_view, merged_file, layout_answer, unless_refused, result_answer, merge_answer, buffer_if}
-use Rattle.files.specs.MergeLaws.{merged_appends, merged_sound, merged_fits}
+use Rattle.files.specs.Merging.{merged_view, merged_file, layout_answer, result_answer, merge_answer, buffer_if}
+use Rattle.files.specs.MergeLaws.{merged_sound, merged_fits}
 use Rattle.files.specs.MergeClaims.{IsLaid, Loads, MergeTold, first_sums, first_layout, second_sums, second_layout, first_refused, second_refused, result_refused, buffer_short, accepted}
-use Rattle.files.specs.declared.load.LoadAnswer.{LoadAnswer}
 use Rattle.files.specs.declared.load.LoadAnswer.TheVariants as load
 use Rattle.files.specs.declared.merge.MergeAnswer.{MergeAnswer}
 use Rattle.files.specs.declared.merge.MergeAnswer.TheVariants.{Merged, BadSums, BadLayout, Refused, BufferShort}

@@ -1,21 +1,19 @@
 -- The view of two files as one: sorting in is appending, since every rank of the second is larger; the result is sound, fits its fields, and
 -- doesn't depend on the grouping.
-use Rattle.std.specs.Prelude.{◌≡◌, refl, Bool, true, false, cond, List, [], ◌∷◌, ◌++◌, map, ◌⊎◌, ℕ, zero, suc, ◌+◌, ◌*◌, ◌/◌, ◌≤◌, ◌<◌, eqb, ltb, get_or}
+use Rattle.std.specs.Prelude.{◌≡◌, refl, Bool, true, false, cond, List, [], ◌∷◌, ◌++◌, map, ℕ, ◌+◌, ◌≤◌, ◌<◌, eqb, ltb}
 use Rattle.std.proofs.Common.{sym, ap, ◌∙◌, append_assoc, append-nil, inl, inr, arith, length-append, get_or-append-add, eqb-true, eq-eqb, ne_eqb, ltb-true, ltb-false, lt-ltb, le-ltb}
 use Rattle.std.proofs.Math.Path.{subst}
 use Rattle.std.proofs.Math.Logic.{⊎_elim}
 use Rattle.std.proofs.Math.ListN.{length, get_or-append}
 use Rattle.std.proofs.lemmas.Bool.{eqb-false}
-use Rattle.port_tables.specs.Limits.{node_slots, port_slots}
 use Rattle.port_tables.specs.Lists.{Member, Rising}
-use Rattle.port_tables.specs.Listing.{member_left, member_right, member_append, member_map, map_member, length_map, rising_append}
+use Rattle.port_tables.specs.Listing.{member_append, member_map, map_member, rising_append}
 use Rattle.files.specs.View.{BlockPorts, RankWire, View, by_first, is_before, insert, insert_all}
-use Rattle.files.specs.Layout.{Record, block_record, wire_record, bytes_of, unbytes, empty_view}
-use Rattle.files.specs.LayoutLaws.{FieldsFit, ViewFits, view_read_back}
-use Rattle.files.specs.Loading.{is_whole, is_laid, block_at}
+use Rattle.files.specs.Layout.{block_record, wire_record, empty_view}
+use Rattle.files.specs.LayoutLaws.{FieldsFit, ViewFits}
+use Rattle.files.specs.Loading.{block_at}
 use Rattle.files.specs.Claims.{AtMost, Sound}
-use Rattle.files.specs.LaidAgain.{written_laid}
-use Rattle.files.specs.Merging.{raised, merged_view, merged_file}
+use Rattle.files.specs.Merging.{raised, merged_view}
 
 -- Sorting in behind.
 

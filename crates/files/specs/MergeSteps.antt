@@ -1,5 +1,5 @@
 -- What the functions that merge files cite: the records of both as numbers, the result laid and built, and the answers in their order.
-use Rattle.std.specs.Prelude.{◌≡◌, Bool, true, false, cond, ◌&&◌, ℕ, zero, suc, ◌+◌, ◌*◌, ◌≤◌, ◌<◌, get_or, set, take}
+use Rattle.std.specs.Prelude.{◌≡◌, true, false, ℕ, zero, suc, ◌+◌, ◌*◌, ◌≤◌, ◌<◌, get_or, set, take}
 use Rattle.std.proofs.Math.Path.{refl, ap}
 use Rattle.std.proofs.Common.{sym, ◌∙◌, subst, inl, inr, length-append, length-drop, take_at}
 use mathlib.Core.List.{List, [], ◌∷◌, ◌++◌, map, append_assoc, append-nil}
@@ -17,7 +17,7 @@ use Rattle.multiportgraph.specs.Listed.{list_after}
 use Rattle.port_tables.specs.Listing.{length_map, length_range}
 use Rattle.port_tables.specs.declared.release.Release.TheVariants.{One}
 use Rattle.files.specs.View.{BlockPorts, RankWire, View}
-use Rattle.files.specs.Layout.{Record, block_of, block_record, wire_of, wire_record, field_at, units_for, units_of, bytes_of, file_length, unbytes}
+use Rattle.files.specs.Layout.{block_record, wire_record, field_at, units_for, units_of, bytes_of, file_length, unbytes}
 use Rattle.files.specs.LayoutLaws.{FieldsFit, ViewFits, units_length, file_length_lem, view_read_back}
 use Rattle.files.specs.Loading.{is_whole, is_laid, unit_list, units_right, view_right, block_at, build_of, first_refusal, load_answer}
 use Rattle.files.specs.Claims.{Bytes, Sound}

@@ -1,28 +1,27 @@
 -- What is proved of merging, in plain order: statements with a sentence each, over every list of bytes. The words stand in Merging, Loading and
 -- MergeClaims.
-use Rattle.std.specs.Prelude.{◌≡◌, refl, List, [], ◌++◌, map, ◌↔◌, ◌⊎◌, ℕ, ◌≤◌, length, drop}
-use Rattle.std.proofs.Common.{sym, ap, ◌∙◌, subst, inl, inr, ⊎_elim, arith, le-leb}
-use Rattle.multiportgraph.specs.Listed.{list_after}
+use Rattle.std.specs.Prelude.{◌≡◌, List, [], ◌++◌, map, ◌↔◌, ℕ, ◌≤◌, length, drop}
+use Rattle.std.proofs.Common.{sym, ap, ◌∙◌, subst, arith}
 use Rattle.port_tables.specs.declared.release.Release.TheVariants.{One}
 use Rattle.multi_tables.specs.declared.answers.Refusal.{Refusal}
-use Rattle.multi_tables.specs.declared.answers.Refusal.TheVariants.{TooManyPorts, NoRoom}
+use Rattle.multi_tables.specs.declared.answers.Refusal.TheVariants.{NoRoom}
 use Rattle.theorems.specs.History.{run}
-use Rattle.files.specs.View.{View, view_of}
-use Rattle.files.specs.Layout.{bytes_of, unbytes, read_units, empty_view}
+use Rattle.files.specs.View.{View}
+use Rattle.files.specs.Layout.{bytes_of, unbytes, read_units}
 use Rattle.files.specs.Saving.{file_of}
-use Rattle.files.specs.Loading.{is_whole, is_laid, build_of, load_answer}
+use Rattle.files.specs.Loading.{build_of, load_answer}
 use Rattle.files.specs.Claims.{Bytes, longest_file}
 use Rattle.files.specs.WrittenLaws.{laid_written}
 use Rattle.files.specs.SoundLaws.{laid_sound}
 use Rattle.files.specs.BuildLaws.{built_view}
 use Rattle.files.specs.LoadAnswers.{loaded_parts}
-use Rattle.files.specs.Merging.{raised, merged_view, merged_file, result_answer, merge_answer, buffer_if, merge_buffer}
-use Rattle.files.specs.MergeClaims.{IsLaid, Loads, MergeTold, first_sums, first_layout, second_sums, second_layout, first_refused, second_refused, result_refused, buffer_short, accepted}
+use Rattle.files.specs.Merging.{raised, merged_view, merged_file, merge_answer, buffer_if, merge_buffer}
+use Rattle.files.specs.MergeClaims.{IsLaid, Loads, MergeTold, accepted}
 use Rattle.files.specs.MergeLaws as laws
 use Rattle.files.specs.MergeAnswers as answers
 use Rattle.files.specs.declared.load.LoadAnswer.TheVariants as load
 use Rattle.files.specs.declared.merge.MergeAnswer.{MergeAnswer}
-use Rattle.files.specs.declared.merge.MergeAnswer.TheVariants.{Merged, Refused}
+use Rattle.files.specs.declared.merge.MergeAnswer.TheVariants.{Merged}
 
 -- Every answer is given exactly under its condition, the conditions in the order of the request (MergeTold has them).
 pub merge_answers_exactly : (first second buffer : List ℕ) → Bytes first → Bytes second → (r : MergeAnswer) → (merge_answer first second buffer ≡ r) ↔ MergeTold first second buffer r

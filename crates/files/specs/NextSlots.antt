@@ -32,7 +32,7 @@ use Rattle.theorems.proofs.CallLaws.{call_law}
 use Rattle.files.specs.View.{BlockPorts, RankWire}
 use Rattle.files.specs.Loading.{block_at, first_port, out_port, in_port, add_of, after_call, first_refusal, first_refusal_under}
 use Rattle.files.specs.Claims.{rank_in, At}
-use Rattle.files.specs.declared.load.LoadAnswer.TheVariants.{Loaded, Refused}
+use Rattle.files.specs.declared.load.LoadAnswer.TheVariants.{Loaded}
 
 -- One add.
 

@@ -1,9 +1,8 @@
 -- A history of release 2 has no two wires into one input, so its file has none, and a load for release 2 never refuses it with 18.
-use Rattle.std.specs.Prelude.{◌≡◌, refl, Bool, true, false, List, [], ◌∷◌, ◌++◌, ◌⊎◌, ℕ, suc, ◌+◌, ◌<◌, ◌≤◌, get_or}
+use Rattle.std.specs.Prelude.{◌≡◌, refl, Bool, true, false, List, [], ◌∷◌, ◌++◌, ◌⊎◌, ℕ, ◌+◌, ◌<◌, get_or}
 use Rattle.std.proofs.Common.{sym, ap, ◌∙◌, subst, inl, inr, ⊎_elim, arith}
 use Rattle.port_tables.specs.Lists.{Member, Once}
 use Rattle.portgraph.specs.Model.{Model}
-use Rattle.portgraph.specs.GoodSlots.{zero_is_not_one}
 use Rattle.port_tables.specs.Listing.{member_left, member_right}
 use Rattle.port_tables.specs.Places.{Wire, flag}
 use Rattle.multiportgraph.specs.Wires.{blocks}
@@ -20,7 +19,7 @@ use Rattle.theorems.proofs.ReleaseTheorems.{release_two_wires_an_input_once}
 use Rattle.files.specs.View.{RankWire, rank_among, rank_wire, view_of}
 use Rattle.files.specs.Saving.{file_of}
 use Rattle.files.specs.Loading.{load_answer}
-use Rattle.files.specs.Claims.{rank_in, same_wire, how_many, wires_between}
+use Rattle.files.specs.Claims.{rank_in, same_wire, how_many}
 use Rattle.files.specs.OrderLaws.{same_wire_equal, same_wire_self}
 use Rattle.files.specs.RankLaws.{rank_at, rank_booked}
 use Rattle.files.specs.ViewLaws.{wire_fits, wires_viewed}

@@ -1,7 +1,7 @@
 -- Laws of ranks: positions in a list without repeats, and that the rank of a block among the graph's blocks is its rank in the book.
-use Rattle.std.specs.Prelude.{◌≡◌, refl, Bool, true, false, cond, List, [], ◌∷◌, map, ◌⊎◌, ℕ, zero, suc, ◌+◌, ◌≤◌, ◌<◌, eqb, length}
+use Rattle.std.specs.Prelude.{◌≡◌, refl, Bool, true, false, cond, List, [], ◌∷◌, map, ◌⊎◌, ℕ, zero, suc, ◌<◌, eqb, length}
 use Rattle.std.proofs.Math.Path.{sym}
-use Rattle.std.proofs.Common.{ap, ◌∙◌, subst, inl, inr, ⊎_elim, arith, eqb-true, eq-eqb, ne_eqb, lt-ltb, le-ltb}
+use Rattle.std.proofs.Common.{ap, ◌∙◌, subst, inl, inr, arith, eqb-true, eq-eqb, ne_eqb, lt-ltb, le-ltb}
 use Rattle.std.proofs.Math.Dec.{ltb}
 use Rattle.std.proofs.lemmas.Bool.{eqb-false}
 use Rattle.port_tables.specs.Limits.{node_slots}
@@ -10,11 +10,11 @@ use Rattle.portgraph.specs.Model.{Model}
 use Rattle.port_tables.specs.declared.node_entry.NodeMeta.{NodeMeta}
 use Rattle.multiportgraph.specs.Wires.{is_block, blocks}
 use Rattle.multiportgraph.specs.WellFormed.{BlockIs}
-use Rattle.port_tables.specs.Listing.{Apart, member_filter, filter_member, filter_none, member_map, map_member, rising_filter, rising_map, range_rises, length_map}
+use Rattle.port_tables.specs.Listing.{Apart, member_filter, filter_member, filter_none, member_map, map_member, rising_filter, rising_map, range_rises}
 use Rattle.multiportgraph.specs.declared.multiportgraph.MultiPortGraph.{MultiPortGraph}
 use Rattle.theorems.specs.Book.{Block, Book}
 use Rattle.theorems.proofs.WireRule.{OtherNode, Rel}
-use Rattle.theorems.proofs.PortListing.{same_length, rising_apart, blocks_list}
+use Rattle.theorems.proofs.PortListing.{same_length, blocks_list}
 use Rattle.files.specs.View.{rank_among}
 use Rattle.files.specs.Claims.{rank_in, At}
 

@@ -1,12 +1,11 @@
 -- Files and the two releases: a file holds no release, so each may be loaded for either. What loads for release 2 loads for release 1, to the
 -- same wiring; and it loads for release 2 exactly if it loads for release 1 and no two of its wires end at one input.
-use Rattle.std.specs.Prelude.{◌≡◌, true, false, List, [], ◌∷◌, ◌++◌, map, ◌↔◌, ◌⊎◌, ℕ, get_or}
+use Rattle.std.specs.Prelude.{◌≡◌, true, false, List, [], ◌∷◌, map, ◌↔◌, ◌⊎◌, ℕ, get_or}
 use Rattle.std.proofs.Math.Path.{refl, ap}
 use Rattle.std.proofs.Common.{sym, ◌∙◌, subst, inl, inr, arith}
 use Rattle.std.proofs.Math.Bool.{Bool, cond}
 use Rattle.std.proofs.Math.Logic.{⊎_elim}
 use Rattle.port_tables.specs.Lists.{Member}
-use Rattle.portgraph.specs.GoodSlots.{zero_is_not_one}
 use Rattle.multi_tables.specs.EndAnswers.{refusal_numbers}
 use Rattle.multiportgraph.specs.Graph.{empty_graph}
 use Rattle.port_tables.specs.Listing.{member_map, member_append}
@@ -23,14 +22,14 @@ use Rattle.theorems.specs.History.{Stepped, step, run}
 use Rattle.theorems.specs.Conditions.{RefusedBy}
 use Rattle.theorems.specs.ReleaseClaims.{for_release, stepped_for, number_of}
 use Rattle.theorems.proofs.ReleaseRuns.{Gave18, step_either, one_unchecked, unchecked_for}
-use Rattle.files.specs.View.{BlockPorts, RankWire, View}
+use Rattle.files.specs.View.{View}
 use Rattle.files.specs.Layout.{unbytes}
-use Rattle.files.specs.Loading.{add_of, link_of, build_of, after_call, first_refusal, first_refusal_under, is_whole, is_laid, load_answer, load_answer_under, load_graph, load_graph_under, graph_if}
+use Rattle.files.specs.Loading.{add_of, link_of, build_of, after_call, first_refusal, first_refusal_under, is_whole, is_laid, load_answer, load_answer_under, load_graph, load_graph_under}
 use Rattle.files.specs.LoadForms.{graph_after}
 use Rattle.files.specs.BuildSteps.{run_graph}
 use Rattle.files.specs.BuildLaws.{goes_or_stops, refused_not_loaded}
-use Rattle.files.specs.LoadClaims.{SharesInput, BuildRefused}
-use Rattle.files.specs.BuildRefusals.{loaded_or_refused, which_refusal, shared_stops}
+use Rattle.files.specs.LoadClaims.{SharesInput}
+use Rattle.files.specs.BuildRefusals.{which_refusal, shared_stops}
 use Rattle.files.specs.SoundLaws.{laid_sound}
 use Rattle.files.specs.LoadAnswers.{loaded_parts, parts_loaded, build_answers}
 use Rattle.files.specs.declared.load.LoadAnswer.{LoadAnswer}

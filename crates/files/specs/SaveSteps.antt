@@ -1,18 +1,18 @@
 -- From the listings of a graph to its file: ranks off the table, the records of blocks and wires, and the buffer with both kinds of
 -- units in it.
-use Rattle.std.specs.Prelude.{◌≡◌, Bool, ◌⊎◌, leb, set, take}
+use Rattle.std.specs.Prelude.{◌≡◌, Bool, ◌⊎◌, set, take}
 use Rattle.std.proofs.Math.Path.{refl, sym, ap, subst}
-use Rattle.std.proofs.Common.{◌∙◌, subst₂, inl, inr, ⊎_elim, mul-suc, length-append, length-set, length-drop, take_at, get_or-append-add}
+use Rattle.std.proofs.Common.{◌∙◌, subst₂, inl, inr, mul-suc, length-append, length-set, take_at, get_or-append-add}
 use Rattle.std.proofs.Math.Bool.{true, false, cond}
 use mathlib.Core.List.{List, [], ◌∷◌, ◌++◌, map, flat_map, append-nil, append_assoc}
-use Prim.Native.Nat.{ℕ, zero, suc, ◌+◌, ◌-◌, ◌*◌, ◌/◌, ◌%◌, ◌≤◌, ◌<◌}
+use Prim.Native.Nat.{ℕ, zero, suc, ◌+◌, ◌*◌, ◌≤◌, ◌<◌}
 use native.Mathlib.Omega.{arith}
 use Rattle.std.proofs.Math.Dec.{eqb}
 use Rattle.std.proofs.Math.ListN.{length, get_or, drop, get_or-append}
 use Rattle.std.proofs.Math.Seq.{sets, get_or-set_same, get_or-set_other}
 use Rattle.std.proofs.lemmas.List.Edits.{sets-eq}
 use Rattle.std.proofs.lemmas.List.{set_at}
-use borrow.Author.Tests.{eqb-true, eqb-false, eq-eqb, ne_eqb, le-leb, lt-leb}
+use borrow.Author.Tests.{eqb-true, eqb-false, le-leb, lt-leb}
 use Rattle.port_tables.specs.Limits.{node_slots, port_slots, node_ports}
 use Rattle.port_tables.specs.Lists.{range, Member, Rising}
 use Rattle.portgraph.specs.Model.{Model}
@@ -20,11 +20,11 @@ use Rattle.port_tables.specs.ResizeLinkSteps.{sets_append}
 use Rattle.port_tables.specs.declared.direction.Direction.TheVariants.{Incoming, Outgoing}
 use Rattle.port_tables.specs.Places.{Wire}
 use Rattle.multiportgraph.specs.Calls.{visible_nodes, visible_links}
-use Rattle.multiportgraph.specs.WellFormed.{Fine, MultiWf}
+use Rattle.multiportgraph.specs.WellFormed.{Fine}
 use Rattle.multiportgraph.specs.Wires.{blocks, all_wires, wires_walked, wire_places, place_of}
 use Rattle.multiportgraph.specs.Listed.{end_numbers, wire_numbers, wires_listed, block_numbers, blocks_listed, list_after}
 use Rattle.multiportgraph.specs.ListReads.{wires_length, blocks_length}
-use Rattle.port_tables.specs.Listing.{Apart, member_map, map_member, member_range, range_member, length_map, length_range}
+use Rattle.port_tables.specs.Listing.{Apart, member_map, map_member, member_range, length_map, length_range}
 use Rattle.multiportgraph.specs.CountLaws.{visible_nodes_lem, visible_links_lem}
 use Rattle.multiportgraph.specs.declared.multiportgraph.MultiPortGraph.{MultiPortGraph}
 use Rattle.multi_tables.specs.declared.answers.SubportLink.{SubportLink}

@@ -1,6 +1,6 @@
 -- Loops turn by turn: what is left of a loop amounts to the whole.
-use Rattle.std.specs.Prelude.{◌≡◌, refl, List}
-use Prim.Native.Nat.{ℕ, zero, suc, ◌+◌, ◌-◌, ◌≤◌, ◌<◌}
+use Rattle.std.specs.Prelude.{◌≡◌, List}
+use Prim.Native.Nat.{ℕ, suc, ◌+◌, ◌-◌, ◌≤◌, ◌<◌}
 use native.Mathlib.Omega.{arith}
 use Rattle.files.specs.Forms.{turns}
 

@@ -1,8 +1,8 @@
 -- What the functions over units lay: the slots of a unit, its sum, and unit after unit.
-use Rattle.std.specs.Prelude.{◌≡◌, Bool, true, false, ltb, ℕ, zero, suc, ◌+◌, ◌-◌, ◌*◌, ◌/◌, ◌%◌, ◌≤◌, ◌<◌, min, get_or, take, drop}
+use Rattle.std.specs.Prelude.{◌≡◌, Bool, true, false, ltb, ℕ, zero, suc, ◌+◌, ◌-◌, ◌*◌, ◌%◌, ◌≤◌, ◌<◌, min, get_or, take, drop}
 use Rattle.std.proofs.Math.Path.{refl, sym, ap}
-use Rattle.std.proofs.Common.{◌∙◌, subst, ltb-true, ltb-false, length-take, length-drop, drop_of_length-le, drop-cons, drop-drop, length-take-le, get_or-append-add}
-use mathlib.Core.List.{List, [], ◌∷◌, ◌++◌, map, flat_map, append_assoc}
+use Rattle.std.proofs.Common.{◌∙◌, ltb-true, ltb-false, length-take, length-drop, drop_of_length-le, drop-cons, drop-drop, length-take-le, get_or-append-add}
+use mathlib.Core.List.{List, [], ◌++◌, map, flat_map, append_assoc}
 use native.Mathlib.Omega.{arith}
 use Rattle.std.proofs.Math.ListN.{length, replicate, length-append, get_or-eq_default, get_or-map, get_or-append}
 use Rattle.std.proofs.lemmas.List.{replicate-append-replicate}

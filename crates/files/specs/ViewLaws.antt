@@ -1,6 +1,6 @@
 -- Laws of the view of a graph of the calls: its numbers stay within the limits, its counts are those of the graph, and it has the
 -- blocks and the wires of the book.
-use Rattle.std.specs.Prelude.{◌≡◌, refl, Bool, List, [], ◌∷◌, ◌++◌, map, ◌⊎◌, ◌↔◌, ℕ, zero, suc, ◌+◌, ◌*◌, ◌/◌, ◌≤◌, ◌<◌}
+use Rattle.std.specs.Prelude.{◌≡◌, refl, Bool, List, [], ◌∷◌, ◌++◌, map, ◌↔◌, ℕ, ◌+◌, ◌*◌, ◌≤◌, ◌<◌}
 use Rattle.std.proofs.Math.Path.{sym, ap, subst}
 use Rattle.std.proofs.Common.{◌∙◌, inl, inr}
 use Rattle.std.proofs.Math.Bool.{true, false}
@@ -9,22 +9,20 @@ use native.Mathlib.Omega.{arith}
 use Rattle.std.proofs.Math.ListN.{length, length-append}
 use Rattle.port_tables.specs.Limits.{node_slots, port_slots, node_ports}
 use Rattle.port_tables.specs.Lists.{range, Member, Once, Rising}
-use Rattle.port_tables.specs.Entries.{ports_on}
 use Rattle.portgraph.specs.Lookups.{num_ports}
 use Rattle.portgraph.specs.Model as model
 use Rattle.portgraph.specs.Model.{Model, Slots, gone, live, slot_of, count_of}
 use Rattle.portgraph.specs.GoodSlots.{slot_in_range, slots_apart}
 use Rattle.port_tables.specs.declared.direction.Direction.{Direction}
 use Rattle.port_tables.specs.declared.direction.Direction.TheVariants.{Incoming, Outgoing}
-use Rattle.port_tables.specs.declared.node_entry.NodeMeta.{NodeMeta}
 use Rattle.port_tables.specs.Places.{Place, Wire, flag}
-use Rattle.multiportgraph.specs.Wires.{Walked, blocks, all_wires, walked, wires_walked, wire_places}
+use Rattle.multiportgraph.specs.Wires.{Walked, blocks, all_wires, wires_walked, wire_places}
 use Rattle.multiportgraph.specs.Calls.{visible_nodes, visible_links}
-use Rattle.multiportgraph.specs.WellFormed.{Fine, MultiWf, BlockIs, Seen, lift, outer, IsEnd, WireIn}
+use Rattle.multiportgraph.specs.WellFormed.{Fine, outer, IsEnd, WireIn}
 use Rattle.multiportgraph.specs.HiddenStays.{true_not_false}
-use Rattle.multiportgraph.specs.Ends.{OuterOf, count_of_lem, outer_seen, outer_apart, ends_join_ends, wires_by_out, wires_by_into, out_not_into}
-use Rattle.port_tables.specs.Listing.{Apart, apart_below, member_map, member_append, length_map, rising_append, rising_map, range_rises, range_member, partners, length_range}
-use Rattle.multiportgraph.specs.WalkRule.{walk_is_listing, walked_is_wires, walked_once, listed_is_wire, listed_once}
+use Rattle.multiportgraph.specs.Ends.{count_of_lem, outer_seen, ends_join_ends, wires_by_out, wires_by_into, out_not_into}
+use Rattle.port_tables.specs.Listing.{Apart, apart_below, member_map, member_append, length_map, rising_append, rising_map, range_member, partners, length_range}
+use Rattle.multiportgraph.specs.WalkRule.{walk_is_listing, walked_is_wires, walked_once}
 use Rattle.multiportgraph.specs.CountLaws.{visible_nodes_lem, visible_links_lem}
 use Rattle.multiportgraph.specs.declared.multiportgraph.MultiPortGraph.{MultiPortGraph}
 use Rattle.theorems.specs.Book.{Block, Book}

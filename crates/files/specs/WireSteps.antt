@@ -1,15 +1,15 @@
 -- What the functions that hold the wires of a file against its blocks cite.
-use Rattle.std.specs.Prelude.{◌≡◌, refl, Bool, true, false, cond, not, ◌&&◌, List, [], ◌∷◌, ◌⊎◌, ℕ, zero, suc, ◌+◌, ◌-◌, ◌*◌, ◌/◌, ◌%◌, ◌≤◌, ◌<◌, eqb, ltb, length, get_or, drop}
+use Rattle.std.specs.Prelude.{◌≡◌, refl, Bool, true, false, not, ◌&&◌, List, [], ◌∷◌, ℕ, suc, ◌+◌, ◌*◌, ◌/◌, ◌%◌, ◌≤◌, ◌<◌, ltb, length, get_or, drop}
 use Rattle.std.proofs.Math.Path.{sym, ap}
-use Rattle.std.proofs.Common.{◌∙◌, subst, inl, inr, drop-cons, get_or-drop}
+use Rattle.std.proofs.Common.{◌∙◌, inl, inr, drop-cons, get_or-drop}
 use Rattle.std.proofs.Math.Bool.{and_assoc, and-false}
 use native.Mathlib.Omega.{arith}
 use Rattle.std.proofs.Math.Dec.{leb}
 use Rattle.std.proofs.Math.ListN.{drop_of_length-le}
 use borrow.Author.Tests.{ltb-true, ltb-false, lt-ltb, le-ltb, le-leb, lt-leb}
 use Rattle.port_tables.specs.Listing.{map_member}
-use Rattle.files.specs.View.{BlockPorts, RankWire, View, is_before}
-use Rattle.files.specs.Layout.{Record, field_at, units_for, block_of, wire_of, wire_record, record_at, unbytes}
+use Rattle.files.specs.View.{BlockPorts, RankWire, View}
+use Rattle.files.specs.Layout.{field_at, units_for, block_of, wire_of, wire_record, record_at, unbytes}
 use Rattle.files.specs.LayoutLaws.{FieldsFit}
 use Rattle.files.specs.Loading.{every, unit_list, order_right, ranks_right, block_at, positions_right, units_right, view_right}
 use Rattle.files.specs.LaidLaws.{block_placed, wire_placed, all_units}

@@ -1,6 +1,6 @@
 -- What the loops over a block's ports and over listed hidden nodes do, turn by turn, and what the calls that remove or resize a block amount to.
 use Rattle.std.proofs.Math.Path.{◌≡◌, refl, subst}
-use Rattle.std.proofs.Common.{sym, ap, ◌∙◌, zero-add, length-append, drop-cons, le-leb, leb-true, leb-false}
+use Rattle.std.proofs.Common.{sym, ap, ◌∙◌, length-append, drop-cons, le-leb, leb-true, leb-false}
 use Rattle.std.specs.Prelude.{Bool, cond, List, [], ◌∷◌, ◌++◌, get_or, set, length, take, drop, leb}
 use Rattle.std.proofs.Math.Bool.{true, false}
 use Prim.Native.Nat.{ℕ, zero, suc, ◌+◌, ◌-◌, ◌≤◌, ◌<◌, min}

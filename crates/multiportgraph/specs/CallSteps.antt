@@ -13,7 +13,7 @@ use Rattle.portgraph.specs.declared.alloc.NodeAdded as lower_added
 use Rattle.portgraph.specs.declared.alloc.AddAnswer as lower_add
 use Rattle.multiportgraph.specs.Reading.{seen, is_split}
 use Rattle.multi_tables.specs.Forms.{visible}
-use Rattle.multiportgraph.specs.Calls.{added_as, add_block, cut_plain, cut_port, add_block_under}
+use Rattle.multiportgraph.specs.Calls.{added_as, add_block, cut_plain, cut_port}
 use Rattle.multiportgraph.specs.WellFormed.{MultiWf}
 use Rattle.multiportgraph.specs.declared.multiportgraph.MultiPortGraph.{MultiPortGraph}
 use Rattle.port_tables.specs.declared.release.Release.{Release}

@@ -2,7 +2,6 @@
 use Rattle.std.specs.Prelude.{Bool, true, false, cond, List, ℕ, ◌+◌, ◌-◌}
 use Rattle.port_tables.specs.Limits.{Limits, present}
 use Rattle.portgraph.specs.Lookups.{meta_at, port_link}
-use Rattle.port_tables.specs.Entries.{port#}
 use Rattle.portgraph.specs.Calls.{add_node_under, remove_node, link_ports, unlink_port}
 use Rattle.portgraph.specs.Resize.{set_num_ports_under, moves_after_under}
 use Rattle.port_tables.specs.declared.node_entry.NodeMeta.{NodeMeta}

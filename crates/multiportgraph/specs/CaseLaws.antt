@@ -10,7 +10,6 @@ use Rattle.portgraph.specs.Lookups.{meta_at, entry_at}
 use Rattle.portgraph.specs.Calls.{find_slot_under, find_block_under, add_node_under, link_ports}
 use Rattle.portgraph.specs.Resize.{plan_of_under, set_num_ports_under}
 use Rattle.port_tables.specs.ResizeLinks.{round_up, same_counts, fits_inside}
-use Rattle.port_tables.specs.declared.direction.Direction.{Direction}
 use Rattle.port_tables.specs.declared.node_entry.NodeEntry.{NodeEntry}
 use Rattle.port_tables.specs.declared.node_entry.NodeEntry.TheVariants as node_variants
 use Rattle.port_tables.specs.declared.node_entry.MaybeNodeMeta.{MaybeNodeMeta}
@@ -20,7 +19,7 @@ use Rattle.portgraph.specs.declared.portgraph.LinkAnswer as lower_link_answer
 use Rattle.portgraph.specs.declared.portgraph.LinkAnswer.TheVariants as lower_link
 use Rattle.portgraph.specs.declared.alloc.Found.{Found}
 use Rattle.portgraph.specs.declared.alloc.Found.TheVariants as found
-use Rattle.multiportgraph.specs.Reading.{side_of, is_hidden, is_split, seen, end_at, as_read}
+use Rattle.multiportgraph.specs.Reading.{side_of, is_hidden, seen, end_at, as_read}
 use Rattle.multi_tables.specs.Forms.{Port, dead, hidden, visible, End, inner, lacking, good_offset}
 use Rattle.multiportgraph.specs.Graph.{with_graph}
 use Rattle.multiportgraph.specs.HiddenNodes.{Prepared, ready, full, prepare_under}
@@ -31,11 +30,6 @@ use Rattle.multi_tables.specs.NamedEnds.{pair_seen, taken_seen, taken_second, ta
 use Rattle.multiportgraph.specs.declared.multiportgraph.MultiPortGraph.{MultiPortGraph}
 use Rattle.multi_tables.specs.declared.answers.SubportIndex.{SubportIndex}
 use Rattle.multiportgraph.specs.declared.multiportgraph.NodeAdded.{NodeAdded}
-use Rattle.multiportgraph.specs.declared.multiportgraph.NodeRemoved.{NodeRemoved}
-use Rattle.multiportgraph.specs.declared.multiportgraph.PortsSet.{PortsSet}
-use Rattle.multiportgraph.specs.declared.multiportgraph.PortsLinked.{PortsLinked}
-use Rattle.multiportgraph.specs.declared.multiportgraph.PortUnlinked.{PortUnlinked}
-use Rattle.multi_tables.specs.declared.answers.CutAnswer.{CutAnswer}
 use Rattle.multi_tables.specs.declared.answers.CutAnswer.TheVariants as cutting
 use Rattle.multi_tables.specs.declared.answers.Refusal.TheVariants.{BadOffset, TooManyPorts, InputWired}
 

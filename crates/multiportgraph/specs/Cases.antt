@@ -2,7 +2,6 @@
 use Rattle.std.specs.Prelude.{false, cond, ℕ}
 use Rattle.port_tables.specs.Limits.{Limits, present}
 use Rattle.port_tables.specs.Entries.{same_side, port#}
-use Rattle.portgraph.specs.Lookups.{port_link}
 use Rattle.portgraph.specs.Calls.{link_ports, unlink_port}
 use Rattle.portgraph.specs.Resize.{set_num_ports_under}
 use Rattle.port_tables.specs.declared.direction.Direction.{Direction}

@@ -1,5 +1,5 @@
 -- What the leaves over one table compute, and what the lookups of the lower graph amount to, as the code's steps need it.
-use Rattle.std.specs.Prelude.{◌≡◌, Bool, cond, ℕ, min, length}
+use Rattle.std.specs.Prelude.{◌≡◌, Bool, cond, ℕ, length}
 use Rattle.std.proofs.Math.Path.{sym, ap}
 use Rattle.std.proofs.Common.{◌∙◌}
 use borrow.Author.Tests.{eq-eqb, ne_eqb}

@@ -13,7 +13,7 @@ use Rattle.port_tables.specs.Limits.{node_slots, port_slots}
 use Rattle.port_tables.specs.Entries.{reversed, ports_on}
 use Rattle.portgraph.specs.Model as model
 use Rattle.portgraph.specs.Model.{Model, nowhere, to, Slots, gone, live, Good, Holds, Valid, slot_of, ports_of, count_of, total}
-use Rattle.portgraph.specs.Meaning.{remove_model, unlink_model, at_node, upd}
+use Rattle.portgraph.specs.Meaning.{remove_model, unlink_model, at_node}
 use Rattle.portgraph.specs.Lookups.{num_ports}
 use Rattle.portgraph.specs.Calls.{remove_node, unlink_port}
 use Rattle.portgraph.specs.Sums.{total_one, drop_kept, drop_joined, drop_there, upd_other, upd_same}
@@ -25,7 +25,6 @@ use Rattle.port_tables.specs.declared.direction.Direction.TheVariants.{Incoming,
 use Rattle.port_tables.specs.declared.node_entry.NodeMeta.{NodeMeta}
 use Rattle.portgraph.specs.declared.portgraph.PortGraph.{PortGraph}
 use Rattle.multiportgraph.specs.Reading.{is_hidden, is_split, copy_side, copy_node, port_of}
-use Rattle.multi_tables.specs.Forms.{hidden}
 use Rattle.multiportgraph.specs.WellFormed.{copy_place, Fine, Seen, outer, lift, IsEnd, WireIn, SameBlocks, Wiring, subports_of_slot}
 use Rattle.multiportgraph.specs.Ends.{Hangs, port_of_lem, count_of_lem, copy_valid, main_seen, main_back, outer_of_subport, outer_of_block, one_copy, unsplit_no_copy, split_has_copy, ends_join_ends, outer_of_unsplit}
 use Rattle.multiportgraph.specs.HiddenStays.{same_wire, outer_kept, true_or_false, true_not_false, AtCopyLink, Frame, frame_fine, Alike, kept_end, wire_kept, kept_wire}

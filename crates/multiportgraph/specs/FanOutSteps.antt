@@ -1,9 +1,9 @@
 -- Steps of fan-out over plain values: a turn of each count, and that what the tables tell is how many wires the graph has.
-use Rattle.std.specs.Prelude.{◌≡◌, Bool, cond}
+use Rattle.std.specs.Prelude.{◌≡◌, Bool}
 use Rattle.std.proofs.Math.Path.{refl, sym, ap}
 use Rattle.std.proofs.Common.{◌∙◌}
 use Rattle.std.proofs.Math.Bool.{true, false}
-use mathlib.Core.List.{List, ◌++◌, map, flat_map}
+use mathlib.Core.List.{List, flat_map}
 use Prim.Native.Nat.{ℕ, zero, suc, ◌+◌, ◌-◌, min}
 use native.Mathlib.Omega.{arith}
 use Rattle.std.proofs.Math.Dec.{eqb}
@@ -21,7 +21,6 @@ use Rattle.multi_tables.specs.Forms.{visible, subport#, wire_to, sum_of}
 use Rattle.multiportgraph.specs.WellFormed.{MultiWf}
 use Rattle.multiportgraph.specs.CodeForms.{block_found}
 use Rattle.multi_tables.specs.TableReads.{far_in, count_beside, first_beside, subports_in, wire_in}
-use Rattle.multi_tables.specs.TableReadSteps.{up_bound}
 use Rattle.multiportgraph.specs.Wires.{ports_of_side}
 use Rattle.multiportgraph.specs.Walks.{fan_out, block_fan_out, port_links, ports_of_node}
 use Rattle.multiportgraph.specs.Lookups.{counted, port_fan_out, node_fan_out}
@@ -33,7 +32,6 @@ use Rattle.multiportgraph.specs.ScanReads.{mark_told, count_plain, links_whole, 
 use Rattle.multi_tables.specs.FanOutScans.{linked_at, linked_up, wires_at_in, fan_out_in}
 use Rattle.multiportgraph.specs.declared.multiportgraph.MultiPortGraph.{MultiPortGraph}
 use Rattle.multi_tables.specs.declared.answers.Refusal.{Refusal}
-use Rattle.multi_tables.specs.declared.answers.SubportLink.{SubportLink}
 use Rattle.multiportgraph.specs.declared.lookups.BlockFound.TheVariants as block_found_lem
 use Rattle.multiportgraph.specs.declared.lookups.CountAnswer.TheVariants as count_of
 use Rattle.multi_tables.specs.FanOutScanSteps.{beside_is_up, sum_same, up_first}

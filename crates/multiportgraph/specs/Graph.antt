@@ -1,11 +1,9 @@
 -- A graph from its parts: every definition that gives another graph does it by these, and no other record of a graph is written. None of
 -- them changes the release.
-use Rattle.std.specs.Prelude.{Bool, false, List, ℕ, ◌-◌, replicate}
+use Rattle.std.specs.Prelude.{Bool, false, List, ℕ, replicate}
 use Rattle.port_tables.specs.Limits.{node_slots, port_slots}
 use Rattle.portgraph.specs.Calls.{new_graph}
 use Rattle.portgraph.specs.declared.portgraph.PortGraph.{PortGraph}
-use Rattle.multiportgraph.specs.Reading.{subports}
-use Rattle.multi_tables.specs.Forms.{hidden}
 use Rattle.multiportgraph.specs.declared.multiportgraph.MultiPortGraph.{MultiPortGraph}
 use Rattle.port_tables.specs.declared.release.Release.{Release}
 

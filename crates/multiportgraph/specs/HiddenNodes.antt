@@ -16,11 +16,8 @@ use Rattle.portgraph.specs.declared.alloc.AddAnswer.TheVariants as lower_add
 use Rattle.portgraph.specs.declared.resize.SetAnswer as lower_set_answer
 use Rattle.portgraph.specs.declared.resize.SetAnswer.TheVariants as lower_set
 use Rattle.multiportgraph.specs.Reading.{far_port, has_link, port_of, is_split, copy_node, subports, copy_side}
-use Rattle.multi_tables.specs.Forms.{hidden, inner, lay_marks}
+use Rattle.multi_tables.specs.Forms.{lay_marks}
 use Rattle.multiportgraph.specs.declared.multiportgraph.MultiPortGraph.{MultiPortGraph}
-use Rattle.multi_tables.specs.declared.answers.Refusal.TheVariants.{TooManyPorts, UnknownNode, MovesTooShort, NoRoom}
-use Rattle.multiportgraph.specs.declared.multiportgraph.AddAnswer.{AddAnswer}
-use Rattle.multiportgraph.specs.declared.multiportgraph.SetAnswer.{SetAnswer}
 use Rattle.multiportgraph.specs.Graph.{with_graph, with_marks, with_hidden, with_subports}
 
 -- the hidden node of a split port goes, with every link at it; neither port is marked any more

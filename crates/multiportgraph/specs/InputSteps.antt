@@ -12,10 +12,9 @@ use Rattle.multiportgraph.specs.Reading.{seen, end_at}
 use Rattle.multi_tables.specs.Forms.{Port, dead, hidden, visible, subport#, good_offset, taken_under}
 use Rattle.multi_tables.specs.TableReads.{end_in}
 use Rattle.multiportgraph.specs.WellFormed.{MultiWf}
-use Rattle.multiportgraph.specs.Walks.{fan_out}
 use Rattle.multiportgraph.specs.FanOutSteps.{wires_told}
 use Rattle.multiportgraph.specs.TableReadLaws.{seen_read, end_read_off}
-use Rattle.multiportgraph.specs.Refusals.{wired_side, wired_seen, wired_input, input_taken}
+use Rattle.multiportgraph.specs.Refusals.{wired_seen, wired_input, input_taken}
 use Rattle.multiportgraph.specs.Calls.{link_pair_if, link_clean_if, link_sub_if, link_pair, link_clean, link_sub}
 use Rattle.multiportgraph.specs.Graph.{with_graph}
 use Rattle.multiportgraph.specs.Presumed.{OnBlock, BothOnBlock}
@@ -25,7 +24,7 @@ use Rattle.multiportgraph.specs.Named.{link_by, linked_by}
 use Rattle.multiportgraph.specs.NamedLaws.{sub_of_named, call_of_need, clean_done, first_on_block, both_on_blocks}
 use Rattle.multiportgraph.specs.LowerSteps.{subs_joined_below, ports_joined_below}
 use Rattle.multiportgraph.specs.CaseLaws.{link_taken, link_clean_taken, link_sub_taken}
-use Rattle.multi_tables.specs.TakenInputs.{wired_at, wired_port, wired_in, taken_in, taken_sub_in, taken_ports_in, link_need_under, pair_named_under, link_named_under}
+use Rattle.multi_tables.specs.TakenInputs.{wired_port, wired_in, taken_in, taken_sub_in, taken_ports_in, link_need_under, pair_named_under, link_named_under}
 use Rattle.multiportgraph.specs.declared.multiportgraph.MultiPortGraph.{MultiPortGraph}
 use Rattle.multi_tables.specs.declared.answers.SubportIndex.{SubportIndex}
 use Rattle.multiportgraph.specs.declared.multiportgraph.LinkAnswer.{LinkAnswer}

@@ -1,55 +1,34 @@
 -- Resizing a block and splitting a port over lent tables leave the graph, and give the answer, that their definitions say.
-use Rattle.std.specs.Prelude.{◌≡◌, refl, Bool, true, false, cond, List, ◌⊎◌, ℕ, ◌+◌, ◌-◌, ◌≤◌, leb, length, take}
+use Rattle.std.specs.Prelude.{◌≡◌, refl, Bool, true, false, cond, List, ◌⊎◌, ℕ, ◌+◌, ◌-◌, ◌≤◌, leb}
 use Rattle.std.proofs.Common.{sym, ap, ◌∙◌, subst, ⊎_elim, arith}
-use Rattle.std.proofs.lemmas.List.Edits.{sets}
-use Rattle.std.proofs.Math.Seq.{length-sets}
 use Rattle.port_tables.specs.Limits.{node_slots, port_slots, node_ports}
 use Rattle.port_tables.specs.Tables.{at, link_count}
-use Rattle.portgraph.specs.Lookups.{meta_at}
 use Rattle.portgraph.specs.Model.{Wf}
 use Rattle.portgraph.specs.Calls.{add_found, find_slot, find_block, add_node, add_node_under}
-use Rattle.portgraph.specs.Resize.{set_num_ports, moves_after}
-use Rattle.portgraph.specs.ResizeLaws.{wf_set}
 use Rattle.portgraph.specs.SlotHolds.{wf_add}
 use Rattle.portgraph.specs.Lent.{graph_in}
-use Rattle.port_tables.specs.NodeWords.{meta_in}
-use Rattle.portgraph.specs.LentSteps.{meta_read}
 use Rattle.port_tables.specs.declared.direction.Direction.{Direction}
 use Rattle.port_tables.specs.declared.direction.Direction.TheVariants.{Incoming, Outgoing}
 use Rattle.port_tables.specs.declared.index.PortIndex.{PortIndex}
 use Rattle.port_tables.specs.declared.index.NodeIndex.{NodeIndex}
-use Rattle.port_tables.specs.declared.node_entry.NodeMeta.{NodeMeta}
-use Rattle.port_tables.specs.declared.node_entry.MaybeNodeMeta.{MaybeNodeMeta}
-use Rattle.port_tables.specs.declared.node_entry.MaybeNodeMeta.TheVariants as maybe_meta
 use Rattle.port_tables.specs.declared.lent.Counts.{Counts}
 use Rattle.portgraph.specs.declared.portgraph.PortGraph.{PortGraph}
 use Rattle.portgraph.specs.declared.alloc.Found.{Found}
 use Rattle.portgraph.specs.declared.alloc.Found.TheVariants as found
 use Rattle.portgraph.specs.declared.alloc.AddAnswer as lower_add
 use Rattle.portgraph.specs.declared.alloc.AddAnswer.TheVariants as lower_add_variants
-use Rattle.portgraph.specs.declared.resize.SetAnswer as lower_set
-use Rattle.portgraph.specs.declared.resize.SetAnswer.TheVariants as lower_set_variants
-use Rattle.portgraph.specs.declared.resize.PortsSet as lower_sized
-use Rattle.multiportgraph.specs.Reading.{seen}
-use Rattle.multiportgraph.specs.Calls.{set_as, set_counts, moves_told}
 use Rattle.multiportgraph.specs.CodeForms.{prepared_as}
 use Rattle.multi_tables.specs.Forms.{put_flag}
-use Rattle.multi_tables.specs.MarkLaws.{length_lay_marks}
-use Rattle.multiportgraph.specs.BlockSteps.{loose_removed, set_answered, block_in_lem, copies_dropped_few}
 use Rattle.multiportgraph.specs.PrepareSteps.{lower_wf, split_full}
 use Rattle.multiportgraph.specs.SplitLaws.{SplitTables}
 use Rattle.multiportgraph.specs.TableSteps.{split_told, split_done}
 use Rattle.multi_tables.specs.TableReads.{hang_on, copy_at, subports_at}
-use Rattle.multiportgraph.specs.MultiLent.{multi_in, totals_counts, totals_links, Sound, FitsIf, Resizes}
-use Rattle.multiportgraph.specs.LentSteps.{set_kept, set_parts, found_fits}
+use Rattle.multiportgraph.specs.MultiLent.{multi_in, totals_counts, totals_links}
 use Rattle.multiportgraph.specs.declared.multiportgraph.MultiPortGraph.{MultiPortGraph}
-use Rattle.multi_tables.specs.declared.answers.Refusal.TheVariants.{NoRoom}
-use Rattle.multiportgraph.specs.declared.multiportgraph.SetAnswer.{SetAnswer}
 use Rattle.multiportgraph.specs.declared.prepare.Prepared.{Prepared}
 use Rattle.multiportgraph.specs.declared.lent.Totals.{Totals}
 use Rattle.multiportgraph.specs.Graph.{with_graph}
-use Rattle.multiportgraph.specs.HiddenNodes.{copies_dropped, recounted, marks_moved, remove_all, copy_incoming, copy_outgoing, split}
-use Rattle.multiportgraph.specs.Cases.{resized}
+use Rattle.multiportgraph.specs.HiddenNodes.{copy_incoming, copy_outgoing, split}
 use Rattle.multiportgraph.specs.Presumed.{LinkedPort}
 
 -- Splitting.

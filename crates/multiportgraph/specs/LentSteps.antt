@@ -1,7 +1,7 @@
 -- Each call over lent tables leaves the graph, and gives the answer, that its definition says.
-use Rattle.std.specs.Prelude.{◌≡◌, refl, Bool, true, false, cond, List, [], ◌∷◌, ◌⊎◌, ℕ, zero, suc, ◌+◌, ◌-◌, eqb, get_or}
+use Rattle.std.specs.Prelude.{◌≡◌, refl, Bool, true, false, cond, List, ◌∷◌, ◌⊎◌, ℕ, zero, suc, ◌+◌, ◌-◌, get_or}
 use Rattle.std.proofs.Math.Path.{sym, ap}
-use Rattle.std.proofs.Common.{◌∙◌, subst, inl, inr, ⊎_elim, arith}
+use Rattle.std.proofs.Common.{◌∙◌, subst, ⊎_elim, arith}
 use borrow.Author.Tests.{eq-eqb, ne_eqb}
 use Rattle.port_tables.specs.Limits.{node_slots, port_slots}
 use Rattle.port_tables.specs.Entries.{reversed, port_entry}
@@ -33,7 +33,7 @@ use Rattle.portgraph.specs.declared.alloc.RemoveAnswer as lower_remove
 use Rattle.portgraph.specs.declared.alloc.NodeRemoved as lower_removed
 use Rattle.portgraph.specs.declared.resize.SetAnswer as lower_set
 use Rattle.portgraph.specs.declared.resize.SetAnswer.TheVariants as lower_set_variants
-use Rattle.multiportgraph.specs.Reading.{port_number, is_hidden, is_split, copy_node}
+use Rattle.multiportgraph.specs.Reading.{port_number, is_hidden, is_split}
 use Rattle.multi_tables.specs.Forms.{subport#, flag_at, put_flag, lay_marks}
 use Rattle.multi_tables.specs.TableReads.{far_in, owner_in, wire_in, wire_end_in}
 use Rattle.multiportgraph.specs.Calls.{added_as, add_block, remove_block, cut_port, cut_sub, link_sub_if, subport_link}

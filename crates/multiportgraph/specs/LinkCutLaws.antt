@@ -1,6 +1,6 @@
 -- The empty graph; adding a block; linking two free ends; cutting an end; the calls on subports.
 -- Each leaves a fine graph, with blocks and wires as said.
-use Rattle.std.specs.Prelude.{◌≡◌, refl, Bool, true, false, cond, ◌||◌, List, [], ◌∷◌, ◌⊎◌, ℕ, zero, ◌+◌, ◌-◌, ◌*◌, ◌≤◌, eqb, leb, ltb, length, get_or, replicate}
+use Rattle.std.specs.Prelude.{◌≡◌, refl, Bool, true, false, cond, ◌||◌, List, [], ◌∷◌, ◌⊎◌, ℕ, ◌+◌, ◌-◌, ◌*◌, ◌≤◌, eqb, leb, ltb, length, get_or, replicate}
 use Rattle.std.proofs.Common.{sym, ◌∙◌, ap, subst, inl, inr, ⊎_elim, arith, eq-eqb, eqb-true, leb-true, ltb-true, ltb-false}
 use Rattle.std.proofs.lemmas.List.{length-replicate, get_or-replicate}
 use Rattle.std.proofs.Math.ListN.{get_or-eq_default}
@@ -31,7 +31,7 @@ use Rattle.portgraph.specs.declared.portgraph.LinkAnswer as lower_link_answer
 use Rattle.portgraph.specs.declared.portgraph.LinkAnswer.TheVariants as lower_link
 use Rattle.multiportgraph.specs.Reading.{is_hidden, is_split, copy_side, seen, end_at, as_read, far_subport}
 use Rattle.multi_tables.specs.Forms.{Port, dead, hidden, visible, End, inner, lacking, good_offset}
-use Rattle.multiportgraph.specs.Calls.{add_block, added_as, link_sub, link_sub_if, cut_sub, add_block_under}
+use Rattle.multiportgraph.specs.Calls.{add_block, added_as, link_sub, link_sub_if, cut_sub}
 use Rattle.multiportgraph.specs.WellFormed.{copy_place, Fine, BlockIs, Seen, outer, lift, IsEnd, WireIn, SameBlocks, Wiring, SameWires, none}
 use Rattle.multiportgraph.specs.Ends.{BlockPort, EndOf, block_seen, end_read, ends_join_ends, outer_apart}
 use Rattle.multiportgraph.specs.HiddenStays.{same_wire, Alike, end_kept, kept_end, wire_kept, kept_wire, true_or_false, true_not_false, Frame, plain_frame, frame_fine, outer_kept, hidden_below, split_below}

@@ -1,18 +1,14 @@
 -- What the code's steps of a link amount to: the ends that are prepared, and each refusal.
 use Rattle.std.specs.Prelude.{◌≡◌, refl, Bool, true, false, cond, ℕ, ◌+◌, ◌<◌}
 use Rattle.std.proofs.Common.{sym, ◌∙◌, ap, subst}
-use Rattle.port_tables.specs.Tables.{at}
-use Rattle.portgraph.specs.Lookups.{meta_at}
 use Rattle.port_tables.specs.Entries.{port#, same_side}
 use Rattle.portgraph.specs.Calls.{link_ports}
 use Rattle.portgraph.specs.GoodSlots.{slot_in_block, zero_is_not_one}
 use Rattle.portgraph.specs.Model.{first_of, side_start, count_of}
 use Rattle.port_tables.specs.declared.direction.Direction.{Direction}
 use Rattle.port_tables.specs.declared.index.NodeIndex.{NodeIndex}
-use Rattle.port_tables.specs.declared.node_entry.NodeMeta.{NodeMeta}
-use Rattle.port_tables.specs.declared.node_entry.MaybeNodeMeta.TheVariants as maybe_meta
 use Rattle.portgraph.specs.declared.portgraph.PortsLinked as lower
-use Rattle.multiportgraph.specs.Reading.{seen, is_split, copy_node}
+use Rattle.multiportgraph.specs.Reading.{seen}
 use Rattle.multi_tables.specs.Forms.{Port, dead, hidden, visible, subport#, seen_as}
 use Rattle.multiportgraph.specs.HiddenNodes as hiding
 use Rattle.multiportgraph.specs.CodeForms.{prepared_as}
@@ -29,7 +25,7 @@ use Rattle.multiportgraph.specs.declared.prepare.Prepared.{Prepared}
 use Rattle.multiportgraph.specs.Graph.{with_graph}
 use Rattle.multiportgraph.specs.HiddenNodes.{prepare}
 use Rattle.multiportgraph.specs.Cases.{link_refused, link_prepared, link_second, link_first, link_live}
-use Rattle.multiportgraph.specs.Presumed.{OnBlock, LinkedPort, SplitPort, BothOnBlock, GrowPort, FirstReady}
+use Rattle.multiportgraph.specs.Presumed.{OnBlock}
 
 -- what a prepared end is
 pub is_ready : (m : MultiPortGraph) (p : hiding.Prepared) (r : Prepared) → r ≡ prepared_as m p → r.ready ≡ true → p ≡ hiding.ready r.graph r.port r.offset

@@ -7,7 +7,7 @@ use Rattle.std.proofs.Math.Bool.{true, false, cond}
 use Rattle.std.proofs.Math.Dec.{eqb}
 use Rattle.port_tables.specs.Tables.{at}
 use Rattle.port_tables.specs.Entries.{same_side, port#}
-use Rattle.portgraph.specs.Lookups.{port_at, port_link}
+use Rattle.portgraph.specs.Lookups.{port_at}
 use Rattle.portgraph.specs.LookupSteps.{unlink_live}
 use Rattle.portgraph.specs.Calls.{link_ports, unlink_port}
 use Rattle.portgraph.specs.GoodSlots.{zero_is_not_one}
@@ -27,10 +27,10 @@ use Rattle.multiportgraph.specs.Graph.{with_graph}
 use Rattle.multiportgraph.specs.WellFormed.{MultiWf}
 use Rattle.multiportgraph.specs.Presumed.{OnBlock}
 use Rattle.multiportgraph.specs.CallSteps.{cut_port_plain}
-use Rattle.multi_tables.specs.TableReads.{seen_in, end_in, wire_in, plain_in}
+use Rattle.multi_tables.specs.TableReads.{seen_in, wire_in, plain_in}
 use Rattle.multiportgraph.specs.TableReadLaws.{seen_read, end_read_off, end_is_port, plain_read_lem}
 use Rattle.multiportgraph.specs.Named.{joined_at, cut_at, read_named, cut_named, prepared_by}
-use Rattle.multi_tables.specs.NamedEnds.{end_or, end_seen, end_named, free_ends, second_or, second_seen, second_end, first_or, first_end, both_seen, link_named, read_in, end_need_in, second_ready, both_ready, first_ready, first_need, both_need, link_seen, link_need}
+use Rattle.multi_tables.specs.NamedEnds.{end_or, end_seen, end_named, free_ends, second_or, second_seen, second_end, first_or, first_end, both_seen, link_named, read_in, end_need_in, both_ready, first_ready, first_need, both_need, link_seen, link_need}
 use Rattle.multiportgraph.specs.NamedLaws.{ReadyEnd, ready_joined, ready_end, need_law, link_of_named, cut_of_named, cut_done, link_done, call_done}
 use Rattle.multiportgraph.specs.declared.multiportgraph.MultiPortGraph.{MultiPortGraph}
 use Rattle.multi_tables.specs.declared.answers.SubportIndex.{SubportIndex}

@@ -1,5 +1,5 @@
 -- How a port number is read: live or not, hidden or not, split or not, and which end a subport is.
-use Rattle.std.specs.Prelude.{Bool, true, false, cond, [], ℕ, ◌-◌, eqb, ltb, get_or}
+use Rattle.std.specs.Prelude.{Bool, true, false, cond, ℕ, eqb, ltb, get_or}
 use Rattle.portgraph.specs.Lookups.{port_at, port_link, port_node, port_index, port_offset, num_ports}
 use Rattle.port_tables.specs.Entries.{node#, port#}
 use Rattle.port_tables.specs.declared.direction.Direction.{Direction}

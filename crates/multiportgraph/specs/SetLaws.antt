@@ -35,7 +35,7 @@ use Rattle.portgraph.specs.declared.portgraph.PortGraph.{PortGraph}
 use Rattle.portgraph.specs.declared.resize.SetAnswer as lower_set_answer
 use Rattle.portgraph.specs.declared.resize.SetAnswer.TheVariants as lower_set
 use Rattle.multiportgraph.specs.Reading.{is_hidden, is_split, copy_side, copy_node, port_number, port_of, subports}
-use Rattle.multiportgraph.specs.Calls.{set_as, set_counts, set_counts_under}
+use Rattle.multiportgraph.specs.Calls.{set_as, set_counts}
 use Rattle.multiportgraph.specs.WellFormed.{inner#, copy_place, Fine, Marked, copy_port, main_port_lem, BlockIs, Seen, outer, IsEnd, Wiring, subports_of_slot}
 use Rattle.multiportgraph.specs.Ends.{Hangs, hangs, one_copy, split_has_copy, copy_valid, main_seen, outer_of_subport, outer_of_block}
 use Rattle.multiportgraph.specs.HiddenStays.{copy_side_is, true_not_false}
@@ -44,9 +44,8 @@ use Rattle.multiportgraph.specs.declared.multiportgraph.MultiPortGraph.{MultiPor
 use Rattle.multiportgraph.specs.declared.multiportgraph.PortsSet.{PortsSet}
 use Rattle.multi_tables.specs.declared.answers.Refusal.{Refusal}
 use Rattle.multi_tables.specs.declared.answers.Refusal.TheVariants.{TooManyPorts, UnknownNode, HiddenNode}
-use Rattle.multiportgraph.specs.declared.multiportgraph.SetAnswer.{SetAnswer}
 use Rattle.multiportgraph.specs.declared.multiportgraph.SetAnswer.TheVariants as resize
-use Rattle.port_tables.specs.Places.{Place, Wire, touches, of_dropped, flag}
+use Rattle.port_tables.specs.Places.{Wire, touches, of_dropped, flag}
 use Rattle.multiportgraph.specs.HiddenNodes.{recounted, copies_in, copies_dropped, remove_copy, remove_lone, remove_all}
 use Rattle.multiportgraph.specs.Cases.{resized, set_meta}
 use Rattle.multiportgraph.specs.CaseLaws.{set_cases}

@@ -2,7 +2,7 @@
 -- gives back without any limit, and the works of each call, in order, up to the answer that it reaches.
 use Rattle.std.specs.Prelude.{Bool, cond, ◌||◌, ℕ, ◌+◌, ◌*◌, eqb, leb, ltb}
 use mathlib.Core.List.{List, [], ◌∷◌, ◌++◌, flat_map}
-use Rattle.port_tables.specs.Limits.{node_slots, port_slots, node_ports}
+use Rattle.port_tables.specs.Limits.{node_slots, port_slots}
 use Rattle.portgraph.specs.Model.{Model}
 use Rattle.portgraph.specs.Meaning as meaning
 use Rattle.port_tables.specs.Entries.{same_side}
@@ -13,7 +13,7 @@ use Rattle.port_tables.specs.declared.direction.Direction.{Direction}
 use Rattle.port_tables.specs.declared.node_entry.NodeMeta.{NodeMeta}
 use Rattle.port_tables.specs.declared.node_entry.MaybeNodeMeta.{MaybeNodeMeta}
 use Rattle.port_tables.specs.declared.node_entry.MaybeNodeMeta.TheVariants as maybe_meta
-use Rattle.multiportgraph.specs.Reading.{has_link, is_hidden, is_split, seen, copy_node, subports}
+use Rattle.multiportgraph.specs.Reading.{has_link, is_split, seen, copy_node, subports}
 use Rattle.multi_tables.specs.Forms.{Port, dead, hidden, visible}
 use Rattle.multiportgraph.specs.Refusals.{input_taken}
 use Rattle.multiportgraph.specs.declared.multiportgraph.MultiPortGraph.{MultiPortGraph}

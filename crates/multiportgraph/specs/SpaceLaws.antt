@@ -21,7 +21,7 @@ use Rattle.portgraph.specs.ResizeSteps.{round_up_reaches, round_up_positive, rou
 use Rattle.portgraph.specs.ResizeLaws.{plan_live, plan_where, set_law, set_too_many, set_moves_too_short, none_beyond}
 use Rattle.portgraph.specs.InsideHolds.{inside_holds}
 use Rattle.portgraph.specs.AnewHolds.{anew_holds}
-use Rattle.portgraph.specs.GoodSlots.{zero_is_not_one, upd_elim, upd_other, slot_in_block, slots_apart, joined_is_valid}
+use Rattle.portgraph.specs.GoodSlots.{zero_is_not_one, upd_elim, upd_other, slots_apart, joined_is_valid}
 use Rattle.portgraph.specs.Sums.{drop_kept}
 use Rattle.portgraph.specs.LinkHolds.{LinkSays, UnlinkSays, link_law, unlink_law}
 use Rattle.portgraph.specs.SlotHolds.{slot_room, block_room, add_where, add_law, place_holds, remove_slots, remove_law, free_holds}
@@ -47,7 +47,7 @@ use Rattle.portgraph.specs.declared.resize.SetAnswer as lower_set_answer
 use Rattle.portgraph.specs.declared.resize.SetAnswer.TheVariants as lower_set
 use Rattle.portgraph.specs.declared.alloc.AddAnswer as lower_add_answer
 use Rattle.portgraph.specs.declared.alloc.AddAnswer.TheVariants as lower_add
-use Rattle.multiportgraph.specs.Calls.{drop_block, remove_block, added_as, add_block, set_as, set_counts, cut_sub, link_sub, link_sub_if, set_counts_under, add_block_under, link_pair, link_pair_if, link_clean, link_clean_if, tidy_port}
+use Rattle.multiportgraph.specs.Calls.{drop_block, remove_block, added_as, add_block, set_as, set_counts, cut_sub, link_sub, link_sub_if, set_counts_under, link_pair, link_pair_if, link_clean, link_clean_if, tidy_port}
 use Rattle.multiportgraph.specs.WellFormed.{inner#, copy_place, Fine, Seen, BlockIs, SameBlocks}
 use Rattle.multiportgraph.specs.Reading.{owner_of, copy_side, has_link, port_of, is_hidden, is_split, seen, copy_node, subports, end_at, as_read, far_subport, far_port, subport_at}
 use Rattle.multi_tables.specs.Forms.{Port, dead, hidden, visible, subport#, End, inner, lacking, good_offset}

@@ -39,7 +39,7 @@ use Rattle.multiportgraph.specs.Reading.{is_hidden, is_split, copy_side, port_of
 use Rattle.multiportgraph.specs.Needs.{need_of}
 use Rattle.multiportgraph.specs.NeedStays.{Alike, alike_same, alike_linked, need_alike}
 use Rattle.multi_tables.specs.TableReads.{far_in, hang_on, copy_at, subports_at}
-use Rattle.multiportgraph.specs.WellFormed.{inner#, copy_place, Copy, Marked, copy_port, main_port_lem, Fine, Seen, lift, lift_far, outer, IsEnd, WireIn, SameBlocks, none, SameWires, subports_of_slot}
+use Rattle.multiportgraph.specs.WellFormed.{inner#, copy_place, Copy, Marked, copy_port, main_port_lem, Fine, Seen, lift, lift_far, outer, IsEnd, WireIn, SameBlocks, SameWires, subports_of_slot}
 use Rattle.multiportgraph.specs.Ends.{ends_join_ends, unsplit_no_copy, outer_of_subport, outer_of_block}
 use Rattle.multiportgraph.specs.HiddenStays.{same_wire}
 use Rattle.multiportgraph.specs.declared.multiportgraph.MultiPortGraph.{MultiPortGraph}

@@ -1,20 +1,18 @@
 -- Steps of the walk over the subports of a block, over plain values.
 use Rattle.std.proofs.Math.Path.{◌≡◌, refl, sym, ap}
-use Rattle.std.proofs.Common.{◌∙◌, inl, inr, le-leb, ltb-true, ltb-false, leb-true, leb-false}
-use Rattle.std.specs.Prelude.{Bool, false, cond, leb, ltb}
+use Rattle.std.proofs.Common.{◌∙◌, le-leb, ltb-true, ltb-false, leb-true, leb-false}
+use Rattle.std.specs.Prelude.{Bool, false, leb, ltb}
 use Rattle.std.proofs.Math.Bool.{true}
 use mathlib.Core.List.{List, [], ◌∷◌, ◌++◌, map}
 use Prim.Native.Nat.{ℕ, zero, suc, ◌+◌, ◌-◌, ◌≤◌, ◌<◌, min}
 use native.Mathlib.Omega.{arith}
 use Rattle.std.proofs.lemmas.Bool.{lt-leb}
 use Rattle.port_tables.specs.Limits.{port_slots}
-use Rattle.port_tables.specs.Lists.{range, filter, on_first, Member}
+use Rattle.port_tables.specs.Lists.{range, filter, on_first}
 use Rattle.portgraph.specs.Lookups.{meta_at}
 use Rattle.port_tables.specs.Entries.{ports_from, ports_to}
 use Rattle.port_tables.specs.declared.direction.Direction.{Direction}
-use Rattle.port_tables.specs.declared.direction.Direction.TheVariants.{Outgoing}
 use Rattle.port_tables.specs.declared.sides.Sides.{Sides}
-use Rattle.port_tables.specs.declared.sides.Sides.TheVariants.{One}
 use Rattle.port_tables.specs.declared.node_entry.NodeMeta.{NodeMeta}
 use Rattle.port_tables.specs.declared.node_entry.MaybeNodeMeta.TheVariants as maybe_meta
 use Rattle.multiportgraph.specs.Reading.{is_hidden, is_split, seen, subports}
@@ -22,11 +20,9 @@ use Rattle.multi_tables.specs.Forms.{Port, dead, hidden, visible, subport#}
 use Rattle.multiportgraph.specs.WellFormed.{MultiWf}
 use Rattle.multi_tables.specs.TableReads.{seen_in}
 use Rattle.multiportgraph.specs.TableReadLaws.{seen_read}
-use Rattle.multiportgraph.specs.Wires.{ports_of_side}
-use Rattle.multiportgraph.specs.Walks.{both_seen, ports_of_node, subports_of, subport_beyond, step_subports}
-use Rattle.port_tables.specs.Listing.{member_range}
-use Rattle.multiportgraph.specs.ScanLaws.{subports_seen, subports_at, subports_from_to, subport_past, subports_on, subports_end, subports_of_split, subports_of_plain, split_subports_rest, plain_subports_rest, block_not_hidden, row_fits, port_seen_there, ports_in_row, block_subports_all, block_subports_rest, block_subports_none}
-use Rattle.multiportgraph.specs.LookupSteps.{start_at, block_at, meta_is, fan_out_at}
+use Rattle.multiportgraph.specs.Walks.{both_seen, subports_of, subport_beyond, step_subports}
+use Rattle.multiportgraph.specs.ScanLaws.{subports_seen, subports_at, subports_from_to, subport_past, subports_on, subports_end, subports_of_split, subports_of_plain, split_subports_rest, plain_subports_rest, block_not_hidden, row_fits, block_subports_all, block_subports_rest, block_subports_none}
+use Rattle.multiportgraph.specs.LookupSteps.{block_at, meta_is}
 use Rattle.multi_tables.specs.Scans.{span_count}
 use Rattle.multiportgraph.specs.ScanReads.{count_split, count_plain}
 use Rattle.multiportgraph.specs.WalkScans.{held_in, first_subport, subport_port, port_subports_by, port_subports_in, subports_rest, subports_beyond}

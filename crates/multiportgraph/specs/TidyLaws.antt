@@ -1,13 +1,13 @@
 -- Tidying a port: what is left of its hidden node, that every wire and every block stays where it is, that tidying again changes
 -- nothing, and that nothing is taken for it.
-use Rattle.std.specs.Prelude.{◌≡◌, Bool, List, [], ◌∷◌, ◌⊎◌, eqb, ltb}
+use Rattle.std.specs.Prelude.{◌≡◌, Bool, [], ◌∷◌, ◌⊎◌, eqb, ltb}
 use Rattle.std.proofs.Math.Path.{refl, ap, subst, transport}
 use Rattle.std.proofs.Common.{sym, ◌∙◌, inl, inr, ⊎_elim}
 use Rattle.std.proofs.Math.Bool.{true, false, cond}
 use Prim.Native.Nat.{ℕ, zero, suc, ◌+◌, ◌-◌, ◌*◌, ◌≤◌, ◌<◌}
 use native.Mathlib.Omega.{arith}
 use Rattle.std.proofs.Math.ListN.{set}
-use borrow.Author.Tests.{ltb-true, ltb-false, lt-ltb, le-ltb, eq-eqb, eqb-true}
+use borrow.Author.Tests.{ltb-true, ltb-false, lt-ltb, eq-eqb, eqb-true}
 use Rattle.port_tables.specs.Limits.{node_slots, node_ports}
 use Rattle.port_tables.specs.Entries.{reversed, ports_on, meta_of}
 use Rattle.portgraph.specs.Lookups.{num_ports, meta_at}
@@ -32,18 +32,18 @@ use Rattle.portgraph.specs.declared.resize.SetAnswer.TheVariants as lower_set
 use Rattle.portgraph.specs.declared.resize.PortsSet.{PortsSet}
 use Rattle.multiportgraph.specs.Reading.{far_port, has_link, port_of, is_hidden, is_split, copy_side, copy_node, subports, subport_at, seen}
 use Rattle.multi_tables.specs.Forms.{Port, dead, hidden, visible}
-use Rattle.multiportgraph.specs.WellFormed.{inner#, copy_place, Fine, Seen, lift, outer, IsEnd, WireIn, SameBlocks, SameWires, subports_of_slot}
-use Rattle.multiportgraph.specs.Ends.{BlockPort, Hangs, side_cases, port_of_lem, count_of_lem, linked_is, unlinked_is, far_of, block_seen, seen_block, seen_still, end_side, ends_join_ends, hangs, one_copy, split_has_copy, unsplit_is_end, outer_of_block, wire_at}
+use Rattle.multiportgraph.specs.WellFormed.{inner#, copy_place, Fine, Seen, outer, IsEnd, WireIn, SameBlocks, SameWires, subports_of_slot}
+use Rattle.multiportgraph.specs.Ends.{BlockPort, Hangs, port_of_lem, count_of_lem, linked_is, unlinked_is, far_of, block_seen, seen_block, seen_still, end_side, ends_join_ends, hangs, one_copy, split_has_copy, unsplit_is_end, outer_of_block, wire_at}
 use Rattle.multiportgraph.specs.HiddenStays.{same_wire, true_not_false, end_kept, outer_kept, slot_alike, split_below}
 use Rattle.multi_tables.specs.MarkLaws.{lay_same}
 use Rattle.multiportgraph.specs.LinkCutLaws.{Joined, join_ends, to_same, nowhere_not_to, touches_neither}
 use Rattle.multiportgraph.specs.CopyLaws.{port_at, CopyGone, copy_goes, copy_frame, copy_alike, hidden_other, end_elsewhere, unsplit_split}
-use Rattle.multiportgraph.specs.RecountLaws.{SomeRecount, Recount, set_recounts, number_cases, counted, copy_place_same, same_wires, recount_ends, recount_fine, recount_blocks}
+use Rattle.multiportgraph.specs.RecountLaws.{SomeRecount, set_recounts, number_cases, counted, copy_place_same, same_wires, recount_ends, recount_fine, recount_blocks}
 use Rattle.multiportgraph.specs.declared.multiportgraph.MultiPortGraph.{MultiPortGraph}
 use Rattle.multiportgraph.specs.declared.multiportgraph.TidyAnswer.{TidyAnswer}
 use Rattle.multiportgraph.specs.declared.multiportgraph.TidyAnswer.TheVariants as tidying
 use Rattle.multiportgraph.specs.declared.multiportgraph.PortTidied.{PortTidied}
-use Rattle.port_tables.specs.Places.{Place, Wire, touches, wire_of_sides}
+use Rattle.port_tables.specs.Places.{Wire, touches, wire_of_sides}
 use Rattle.multiportgraph.specs.Graph.{with_graph, with_marks, with_subports}
 use Rattle.multiportgraph.specs.HiddenNodes.{enough, recounted, remove_copy, unsplit}
 use Rattle.multiportgraph.specs.Calls.{tidy_port}

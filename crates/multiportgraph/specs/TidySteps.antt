@@ -1,9 +1,9 @@
 -- What the code's steps of a tidy amount to.
-use Rattle.std.specs.Prelude.{◌≡◌, Bool, List, ◌⊎◌, eqb, ltb}
+use Rattle.std.specs.Prelude.{◌≡◌, Bool, List, eqb}
 use Rattle.std.proofs.Math.Path.{refl, sym, ap, transport}
-use Rattle.std.proofs.Common.{◌∙◌, subst, inl, inr, ⊎_elim, eq-eqb, ne_eqb, lt-ltb, le-ltb}
+use Rattle.std.proofs.Common.{◌∙◌, subst, eq-eqb, ne_eqb, lt-ltb, le-ltb}
 use Rattle.std.proofs.Math.Bool.{true, false, cond}
-use Prim.Native.Nat.{ℕ, zero, suc, ◌+◌, ◌-◌, ◌*◌, ◌≤◌, ◌<◌}
+use Prim.Native.Nat.{ℕ, zero, suc, ◌+◌, ◌-◌, ◌≤◌, ◌<◌}
 use native.Mathlib.Omega.{arith}
 use Rattle.std.proofs.Math.ListN.{set}
 use Rattle.port_tables.specs.Limits.{port_slots}
@@ -17,13 +17,12 @@ use Rattle.portgraph.specs.Model.{Model, Wf, Far, nowhere, to, Slots, Valid, slo
 use Rattle.portgraph.specs.GoodSlots.{slot_in_range, zero_is_not_one}
 use Rattle.portgraph.specs.PlaceLaws.{link_none, link_to}
 use Rattle.port_tables.specs.declared.direction.Direction.{Direction}
-use Rattle.port_tables.specs.declared.direction.Direction.TheVariants.{Incoming, Outgoing}
 use Rattle.portgraph.specs.declared.portgraph.PortGraph.{PortGraph}
 use Rattle.portgraph.specs.declared.portgraph.PortsLinked.{PortsLinked}
 use Rattle.portgraph.specs.declared.resize.PortsSet.{PortsSet}
 use Rattle.multiportgraph.specs.Reading.{far_port, has_link, port_of, is_split, copy_node, subports, subport_at, seen}
 use Rattle.multi_tables.specs.Forms.{Port, dead, hidden, visible, put_flag}
-use Rattle.multiportgraph.specs.WellFormed.{inner#, Fine, Seen}
+use Rattle.multiportgraph.specs.WellFormed.{inner#, Fine}
 use Rattle.multiportgraph.specs.Ends.{BlockPort, Hangs, block_seen, split_has_copy, port_of_lem, linked_is, unlinked_is, far_of}
 use Rattle.multiportgraph.specs.Graph.{multi, with_graph, with_subports}
 use Rattle.multiportgraph.specs.CodeForms.{linked_from}

@@ -1,7 +1,7 @@
 -- Every other walk of 01: the list that it gives, and the step of its cursor on any graph.
 -- A step gives the next item of the present listing beyond the port and offset held; a cursor whose node or port is gone or
 -- hidden ends the walk.
-use Rattle.std.specs.Prelude.{Bool, true, false, cond, ℕ, zero, suc, ◌-◌, eqb, leb, ltb, length}
+use Rattle.std.specs.Prelude.{Bool, true, false, cond, ℕ, suc, ◌-◌, eqb, leb, ltb, length}
 use mathlib.Core.List.{List, [], ◌++◌, flat_map, map}
 use Rattle.port_tables.specs.Limits.{port_slots}
 use Rattle.port_tables.specs.Lists.{on_first, on_last, range, filter}
@@ -13,7 +13,7 @@ use Rattle.port_tables.specs.declared.direction.Direction.{Direction}
 use Rattle.port_tables.specs.declared.direction.Direction.TheVariants.{Incoming, Outgoing}
 use Rattle.port_tables.specs.declared.sides.Sides.{Sides}
 use Rattle.port_tables.specs.declared.sides.Sides.TheVariants.{One, Both}
-use Rattle.multiportgraph.specs.Reading.{owner_of, is_hidden, is_split, seen, subports}
+use Rattle.multiportgraph.specs.Reading.{owner_of, is_hidden, seen}
 use Rattle.multi_tables.specs.Forms.{Port, dead, hidden, visible, sum_of}
 use Rattle.multiportgraph.specs.Wires.{is_block, blocks, ports_of_side, subports_of_side, subports_of_port, side_links, wire_of, is_beyond}
 use Rattle.multiportgraph.specs.declared.multiportgraph.MultiPortGraph.{MultiPortGraph}

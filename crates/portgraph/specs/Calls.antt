@@ -1,5 +1,5 @@
 -- Adding and removing nodes, linking and unlinking ports: answer and graph of each call, and each answer's number and values in 01.
-use Rattle.std.specs.Prelude.{Bool, true, false, cond, List, [], ◌∷◌, ℕ, ◌+◌, ◌-◌, eqb, leb, ltb, get_or, set, replicate}
+use Rattle.std.specs.Prelude.{cond, List, [], ◌∷◌, ℕ, ◌+◌, ◌-◌, eqb, leb, ltb, set, replicate}
 use Rattle.port_tables.specs.Limits.{node_slots, port_slots, node_ports, free_lists, Limits, present}
 use Rattle.port_tables.specs.Entries.{fresh_slot, free_slot_of, node_slot_of, next_of, set_prev, side_number, node#, port#, meta_of, same_side}
 use Rattle.port_tables.specs.Tables.{at, fill_range, head_at, put_head, own_block, link_both, cut, cut_range, cut_count, link_count, chain_block}
@@ -11,8 +11,6 @@ use Rattle.port_tables.specs.declared.node_entry.NodeEntry.TheVariants as node_v
 use Rattle.port_tables.specs.declared.port_entry.PortEntry.{PortEntry}
 use Rattle.port_tables.specs.declared.port_entry.PortEntry.TheVariants as port_variants
 use Rattle.portgraph.specs.declared.portgraph.PortGraph.{PortGraph}
-use Rattle.portgraph.specs.declared.portgraph.PortLink.{PortLink}
-use Rattle.portgraph.specs.declared.portgraph.PortLink.TheVariants as link_variants
 use Rattle.portgraph.specs.declared.portgraph.LinkAnswer.{LinkAnswer}
 use Rattle.portgraph.specs.declared.portgraph.LinkAnswer.TheVariants as linked
 use Rattle.portgraph.specs.declared.portgraph.PortsLinked.{PortsLinked}

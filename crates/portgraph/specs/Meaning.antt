@@ -1,8 +1,7 @@
 -- What each call does, said of the model: which places are linked, which node slot and which block are taken or given back.
 -- No table stands here. The laws of each call say that its tables then stand for the model given here.
-use Rattle.std.specs.Prelude.{◌≡◌, Bool, false, cond, List, [], ◌∷◌, ℕ, zero, suc, ◌+◌, ◌-◌, ◌*◌, ◌≤◌, ◌<◌, eqb, leb, ltb}
-use Rattle.port_tables.specs.Limits.{node_slots, port_slots, node_ports}
-use Rattle.portgraph.specs.Model.{Model, Far, nowhere, to, Slots, gone, live, Who, held, idle, unused, InnerPlace}
+use Rattle.std.specs.Prelude.{Bool, false, cond, List, [], ◌∷◌, ℕ, ◌+◌, eqb, leb, ltb}
+use Rattle.portgraph.specs.Model.{Model, Far, nowhere, to, gone, live, Who, held, idle, InnerPlace}
 use Rattle.port_tables.specs.declared.node_entry.NodeMeta.{NodeMeta}
 use Rattle.port_tables.specs.Entries.{meta_of, new_count, same_side}
 

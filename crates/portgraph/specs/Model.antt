@@ -1,5 +1,5 @@
 -- What a graph means, apart from its tables: which nodes there are, which place is linked with which, and who holds each slot.
-use Rattle.std.specs.Prelude.{◌≡◌, Bool, true, false, cond, List, [], ◌∷◌, ◌⊎◌, ℕ, zero, suc, ◌+◌, ◌-◌, ◌≤◌, ◌<◌, eqb, leb, ltb, length, get_or}
+use Rattle.std.specs.Prelude.{◌≡◌, cond, List, [], ◌∷◌, ℕ, zero, suc, ◌+◌, ◌≤◌, ◌<◌, ltb, length, get_or}
 use Rattle.port_tables.specs.Limits.{node_slots, port_slots, node_ports, free_lists}
 use Rattle.port_tables.specs.Lists.{Member, Once}
 use Rattle.port_tables.specs.Entries.{owner_number, fresh_slot, ports_on}

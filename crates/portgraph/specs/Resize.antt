@@ -1,11 +1,11 @@
 -- Changing a node's counts: where a new block is taken, what happens to links and owners, and the move list.
-use Rattle.std.specs.Prelude.{true, cond, List, [], ◌∷◌, ◌++◌, ℕ, ◌+◌, ◌-◌, ◌*◌, leb, ltb, get_or, set, length}
+use Rattle.std.specs.Prelude.{cond, List, [], ◌∷◌, ◌++◌, ℕ, ◌+◌, ◌-◌, ◌*◌, leb, ltb, set, length}
 use Rattle.std.proofs.lemmas.List.Edits.{sets}
 use Rattle.port_tables.specs.Limits.{node_ports, Limits, present}
 use Rattle.port_tables.specs.Entries.{node_slot_of, meta_of}
-use Rattle.port_tables.specs.Tables.{at, fill_range, head_at, put_head, own_block, cut_range, cut_count, chain_block, move_up_events, shift_events}
+use Rattle.port_tables.specs.Tables.{fill_range, head_at, put_head, own_block, cut_range, cut_count, chain_block, move_up_events, shift_events}
 use Rattle.portgraph.specs.Lookups.{entry_at}
-use Rattle.portgraph.specs.Calls.{find_block, find_block_under, head_after, grown}
+use Rattle.portgraph.specs.Calls.{find_block_under, head_after, grown}
 use Rattle.port_tables.specs.declared.node_entry.NodeMeta.{NodeMeta}
 use Rattle.port_tables.specs.declared.node_entry.NodeEntry.{NodeEntry}
 use Rattle.port_tables.specs.declared.node_entry.NodeEntry.TheVariants as node_variants

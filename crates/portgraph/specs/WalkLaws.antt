@@ -25,7 +25,6 @@ use Rattle.port_tables.specs.declared.node_entry.MaybeNodeMeta.TheVariants as ma
 use Rattle.portgraph.specs.declared.portgraph.PortGraph.{PortGraph}
 use Rattle.port_tables.specs.declared.sides.Sides.{Sides}
 use Rattle.port_tables.specs.declared.sides.Sides.TheVariants.{One, Both}
-use Rattle.portgraph.specs.declared.iter.Nodes.{Nodes}
 use Rattle.portgraph.specs.declared.iter.NodesStep.{NodesStep}
 use Rattle.portgraph.specs.declared.iter.NodesStep.TheVariants as nodes_step
 use Rattle.portgraph.specs.declared.iter.NodePorts.{NodePorts}

@@ -1,10 +1,9 @@
 -- Walks: for any cursor a step gives the next item of the present listing beyond what the cursor holds.
 -- A cursor holds the number given last, one higher than it; 0 at the start. It ends where what it holds is gone.
-use Rattle.std.specs.Prelude.{Bool, true, false, cond, List, [], ◌∷◌, ℕ, zero, suc, ◌-◌, max, eqb, ltb, get_or}
+use Rattle.std.specs.Prelude.{Bool, true, cond, List, [], ◌∷◌, ℕ, zero, suc, ◌-◌, max, eqb, ltb, get_or}
 use Rattle.port_tables.specs.Limits.{node_slots}
 use Rattle.port_tables.specs.Entries.{fresh_slot, is_node, node#, port#, ports_from, ports_to}
 use Rattle.portgraph.specs.Lookups.{meta_at, contains_node, contains_port, port_offset, offset_numbers}
-use Rattle.port_tables.specs.declared.direction.Direction.{Direction}
 use Rattle.port_tables.specs.declared.index.NodeIndex.{NodeIndex}
 use Rattle.port_tables.specs.declared.index.MaybePortOffset.{MaybePortOffset}
 use Rattle.port_tables.specs.declared.index.MaybePortOffset.TheVariants as maybe_offset
@@ -13,7 +12,6 @@ use Rattle.port_tables.specs.declared.node_entry.MaybeNodeMeta.{MaybeNodeMeta}
 use Rattle.port_tables.specs.declared.node_entry.MaybeNodeMeta.TheVariants as maybe_meta
 use Rattle.portgraph.specs.declared.portgraph.PortGraph.{PortGraph}
 use Rattle.port_tables.specs.declared.sides.Sides.{Sides}
-use Rattle.portgraph.specs.declared.iter.Nodes.{Nodes}
 use Rattle.portgraph.specs.declared.iter.NodesStep.{NodesStep}
 use Rattle.portgraph.specs.declared.iter.NodesStep.TheVariants as nodes_step
 use Rattle.portgraph.specs.declared.iter.NodePorts.{NodePorts}

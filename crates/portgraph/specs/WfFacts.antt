@@ -1,14 +1,14 @@
 -- What the code takes from a well-formed graph: blocks lie within the tables, and counts are far from wrapping.
-use Rattle.std.specs.Prelude.{◌≡◌, refl, List, [], ◌∷◌, ◌⊎◌, ℕ, zero, suc, ◌+◌, ◌-◌, ◌*◌, ◌≤◌, ◌<◌, length}
-use Rattle.std.proofs.Common.{sym, ap, ◌∙◌, inl, inr, arith}
+use Rattle.std.specs.Prelude.{◌≡◌, refl, List, [], ◌∷◌, ℕ, ◌+◌, ◌-◌, ◌*◌, ◌≤◌, ◌<◌}
+use Rattle.std.proofs.Common.{sym, ap, ◌∙◌, inl, arith}
 use Rattle.port_tables.specs.Limits.{node_slots, port_slots, node_ports}
 use Rattle.port_tables.specs.Lists.{Member}
-use Rattle.port_tables.specs.Tables.{at, head_at}
+use Rattle.port_tables.specs.Tables.{head_at}
 use Rattle.portgraph.specs.Lookups.{entry_at}
-use Rattle.portgraph.specs.Model.{Model, Good, Holds, Wf, Slots, gone, live, slots_at, slots_of_entry, number_of_first, Chain, count_of, ports_of, is_live, total, links_out}
+use Rattle.portgraph.specs.Model.{Wf, Slots, gone, live, slots_of_entry, number_of_first, Chain, count_of, ports_of, is_live}
 use Rattle.port_tables.specs.ResizeLinks.{BlockFits}
 use Rattle.portgraph.specs.Sums.{total_bound, links_bound}
-use Rattle.port_tables.specs.declared.direction.Direction.TheVariants.{Incoming, Outgoing}
+use Rattle.port_tables.specs.declared.direction.Direction.TheVariants.{Outgoing}
 use Rattle.port_tables.specs.declared.node_entry.NodeMeta.{NodeMeta}
 use Rattle.port_tables.specs.declared.node_entry.NodeEntry.TheVariants as node_variants
 use Rattle.portgraph.specs.declared.portgraph.PortGraph.{PortGraph}

@@ -23,7 +23,7 @@ use Rattle.portgraph.specs.declared.alloc.Found.TheVariants as found
 use Rattle.portgraph.specs.declared.resize.SetAnswer as lower_set_answer
 use Rattle.portgraph.specs.declared.resize.SetAnswer.TheVariants as lower_set
 use Rattle.multiportgraph.specs.Reading.{is_hidden}
-use Rattle.multiportgraph.specs.Calls.{set_as, set_counts, visible_nodes, visible_ports, visible_links, set_counts_under}
+use Rattle.multiportgraph.specs.Calls.{set_as, set_counts, visible_nodes, visible_ports, visible_links}
 use Rattle.theorems.specs.Book.{add_call, remove_call, set_call, link_call, link_sub_call, cut_call, cut_sub_call}
 use Rattle.multiportgraph.specs.WellFormed.{MultiWf}
 use Rattle.multiportgraph.specs.PrepareSteps.{lower_wf}

@@ -1,6 +1,6 @@
 -- A record run is of release 1, so no answer of a run is 18.
 use Rattle.std.specs.Prelude.{◌≡◌, refl, List, [], ◌∷◌, ℕ, get_or}
-use Rattle.std.proofs.Common.{sym, ap, ◌∙◌, arith}
+use Rattle.std.proofs.Common.{◌∙◌, arith}
 use Rattle.portgraph.specs.Model.{Model}
 use Rattle.multiportgraph.specs.Answers.{cut_numbers}
 use Rattle.multi_tables.specs.EndAnswers.{refusal_numbers}

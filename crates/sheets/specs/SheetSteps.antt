@@ -9,7 +9,6 @@ use Rattle.theorems.proofs.CallLaws.{step_kept}
 use Rattle.sheets.specs.declared.sheet.SheetEntry.{SheetEntry}
 use Rattle.sheets.specs.declared.sheet.SheetLinked.{SheetLinked}
 use Rattle.sheets.specs.declared.sheet.SheetAnswer.TheVariants.{Done, TooManyEntries}
-use Rattle.sheets.specs.declared.held.HeldLinked.{HeldLinked}
 use Rattle.sheets.specs.Held.{link_first}
 use Rattle.sheets.specs.Sheets.{no_entry, entry_at, entry_linked, graph_after, answered, too_many, link_sheet, sheet_after, sheet_numbers}
 

@@ -29,7 +29,6 @@ use Rattle.theorems.proofs.Theorems as calls
 use Rattle.theorems.proofs.ReleaseTheorems as releases
 use Rattle.sheets.specs.declared.sheet.SheetEntry.{SheetEntry}
 use Rattle.sheets.specs.declared.sheet.SheetAnswer.TheVariants.{TooManyEntries}
-use Rattle.sheets.specs.declared.held.HeldLinked.{HeldLinked}
 use Rattle.sheets.specs.Sheets.{ports_of, entry_at, sheet_entries, sheet_numbers, link_sheet, sheet_after}
 use Rattle.sheets.specs.Held.{link_held}
 use Rattle.sheets.specs.SheetHistory.{Item, whole_sheet, next_item, run_items, links_of, calls_of}

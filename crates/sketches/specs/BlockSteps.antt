@@ -1,11 +1,11 @@
 -- Adding, removing and resizing over the tables.
-use Rattle.std.specs.Prelude.{◌≡◌, refl, Bool, true, false, cond, not, ◌||◌, List, [], ◌∷◌, map, ℕ, zero, suc, ◌+◌, ◌≤◌, ◌<◌, eqb, leb, ltb, length}
+use Rattle.std.specs.Prelude.{◌≡◌, refl, Bool, true, false, not, ◌||◌, List, ◌∷◌, map, ℕ, suc, ◌+◌, ◌≤◌, ◌<◌, eqb, leb, ltb, length}
 use Rattle.std.proofs.Common.{sym, ap, ◌∙◌, subst, add-one, arith, le-leb, lt-ltb, le-ltb, leb-false}
 use Rattle.std.proofs.lemmas.Bool.{lt-leb}
 use Rattle.port_tables.specs.Lists.{filter}
 use Rattle.port_tables.specs.Limits.{node_slots, port_slots, node_ports}
 use Rattle.port_tables.specs.Listing.{length_map}
-use Rattle.port_tables.specs.Places.{Place, Wire, of_node, of_dropped, without}
+use Rattle.port_tables.specs.Places.{Place, of_node, of_dropped, without}
 use Rattle.sketches.specs.Plan.{PlanBlock, Plan, has_block, ports_in_all}
 use Rattle.sketches.specs.PlanCalls.{most_adds, Sketched, leaves, add_block, remove_block, recount, set_counts}
 use Rattle.sketches.specs.PlanNumbers.{add_numbers, done_numbers}
@@ -20,7 +20,6 @@ use Rattle.sketches.specs.declared.rows.Row.{Row}
 use Rattle.sketches.specs.declared.totals.Totals.{Totals}
 use Rattle.sketches.specs.declared.tests.EndTest.TheVariants as ask
 use Rattle.sketches.specs.declared.tests.Test.TheVariants as test
-use Rattle.sketches.specs.declared.sketch.Reason.{Reason}
 use Rattle.sketches.specs.declared.sketch.Reason.TheVariants.{TooManyPorts, UnknownBlock, NoRoom}
 use Rattle.sketches.specs.declared.sketch.AddAnswer.{AddAnswer}
 use Rattle.sketches.specs.declared.sketch.AddAnswer.TheVariants as add

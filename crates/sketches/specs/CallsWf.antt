@@ -1,20 +1,20 @@
 -- Every call keeps what holds of a plan.
 use Rattle.std.proofs.Math.Path.{◌≡◌, refl, ap}
 use Rattle.std.proofs.Common.{sym, ◌∙◌, subst, inl, inr, ⊎_elim, arith}
-use Rattle.std.specs.Prelude.{Bool, not, ◌||◌, ◌⊎◌, ℕ, zero, suc, ◌+◌, ◌≤◌, ◌<◌, max, leb, ltb, length}
+use Rattle.std.specs.Prelude.{Bool, not, ◌||◌, ℕ, zero, suc, ◌+◌, ◌≤◌, ◌<◌, max, leb, ltb, length}
 use Rattle.std.proofs.Math.Bool.{true, false, cond}
 use mathlib.Core.List.{List, [], ◌∷◌, map}
 use Rattle.std.proofs.Math.Dec.{eqb}
-use borrow.Author.Tests.{eqb-true, eqb-false, eq-eqb, ne_eqb, leb-true, leb-false, ltb-true, ltb-false, not-true, not-false}
-use Rattle.port_tables.specs.Lists.{filter, Member, Rising}
+use borrow.Author.Tests.{eqb-true, eqb-false, eq-eqb, ne_eqb, leb-false, ltb-false, not-true}
+use Rattle.port_tables.specs.Lists.{filter, Member}
 use Rattle.port_tables.specs.Limits.{node_slots, port_slots, node_ports}
-use Rattle.port_tables.specs.Entries.{same_side, new_count}
+use Rattle.port_tables.specs.Entries.{new_count}
 use Rattle.port_tables.specs.declared.direction.Direction.{Direction}
 use Rattle.port_tables.specs.declared.direction.Direction.TheVariants.{Incoming, Outgoing}
-use Rattle.port_tables.specs.Places.{Place, Wire, Spot, at_spot, at_end, of_node, of_dropped, touches, wire_of_sides, without, any_touches, lowest_unwired, next_offset}
+use Rattle.port_tables.specs.Places.{Place, Wire, Spot, at_spot, at_end, of_node, of_dropped, touches, wire_of_sides, without, any_touches, lowest_unwired}
 use Rattle.port_tables.specs.Listing.{member_filter, member_map, length_map, rising_filter}
-use Rattle.sketches.specs.Plan.{PlanBlock, Plan, with_splits, with_wires, has_block, ports_on_side, ports_in_all, spot_named, is_there, subports_among, subports_of, set_subports, offset_read, lacks_offset, end#, place_named, input_taken, far_from, above_end, above_wired, offset_ready, subports_ready, ready}
-use Rattle.sketches.specs.PlanCalls.{most_adds, most_wires, Sketched, leaves, add_block, remove_block, recount, set_counts, is_full, with_wire, both_linked, link_ports, link_clean, is_wired, bad_offset, link_subports, cut_port, subport_link, is_refused, cut_subport, tidied, tidy_port}
+use Rattle.sketches.specs.Plan.{PlanBlock, Plan, with_splits, with_wires, has_block, ports_on_side, ports_in_all, spot_named, is_there, subports_among, subports_of, set_subports, offset_read, lacks_offset, place_named, above_end, above_wired, offset_ready, subports_ready, ready}
+use Rattle.sketches.specs.PlanCalls.{most_adds, most_wires, leaves, add_block, remove_block, recount, set_counts, with_wire, both_linked, tidied}
 use Rattle.sketches.specs.PlanWf.{PlanWf, most_subports, Elsewhere, filter_shorter, subports_wf}
 use Rattle.sketches.specs.declared.sketch.SketchPort.{SketchPort}
 use Rattle.sketches.specs.declared.sketch.Reason.TheVariants.{TooManyPorts, UnknownBlock, NoRoom}

@@ -1,5 +1,5 @@
 -- Counts and fan-outs over the tables.
-use Rattle.std.specs.Prelude.{◌≡◌, refl, Bool, true, false, cond, List, [], ◌∷◌, map, ℕ, length}
+use Rattle.std.specs.Prelude.{◌≡◌, Bool, true, false, List, map, ℕ, length}
 use Rattle.std.proofs.Common.{sym, ◌∙◌}
 use Rattle.std.proofs.Math.Path.{ap}
 use Rattle.std.proofs.Math.Dec.{eqb}
@@ -8,7 +8,7 @@ use Rattle.port_tables.specs.declared.direction.Direction.TheVariants.{Outgoing}
 use Rattle.port_tables.specs.Places.{Wire, touches, at_spot}
 use Rattle.port_tables.specs.Listing.{length_map}
 use Rattle.sketches.specs.Plan.{Plan, has_block, spot_named, is_there}
-use Rattle.sketches.specs.PlanLists.{links_of_port, links_of_side, block_count, port_count, wire_count, port_fan_out, block_fan_out}
+use Rattle.sketches.specs.PlanLists.{block_count, port_count, wire_count, port_fan_out, block_fan_out}
 use Rattle.sketches.specs.Rows.{rows_in, wire_of, hits}
 use Rattle.sketches.specs.RowReads.{filter_map}
 use Rattle.sketches.specs.SketchTables.{plan_in}
@@ -19,7 +19,6 @@ use Rattle.sketches.specs.declared.tests.EndTest.TheVariants as ask
 use Rattle.sketches.specs.declared.tests.Test.TheVariants as test
 use Rattle.sketches.specs.declared.sketch.SketchPort.{SketchPort}
 use Rattle.sketches.specs.declared.sketch.Reason.TheVariants.{UnknownBlock, UnknownPort}
-use Rattle.sketches.specs.declared.sketch.CountAnswer.{CountAnswer}
 use Rattle.sketches.specs.declared.sketch.CountAnswer.TheVariants as count
 
 abbrev pub counts_of : Plan → SketchCounts

@@ -1,18 +1,18 @@
 -- Cutting, looking up and tidying over the tables.
 use Rattle.std.proofs.Math.Path.{◌≡◌, refl, ap, subst}
 use Rattle.std.proofs.Common.{sym, ◌∙◌, inl, inr, arith}
-use Rattle.std.specs.Prelude.{Bool, not, ℕ, zero, suc, ◌+◌, ◌-◌, ◌≤◌, ◌<◌, eqb, leb, length}
+use Rattle.std.specs.Prelude.{Bool, not, ℕ, suc, ◌-◌, ◌≤◌, ◌<◌}
 use Rattle.std.proofs.Math.Bool.{true, false, cond}
 use mathlib.Core.List.{List, [], ◌∷◌, map}
 use borrow.Author.Tests.{le-leb, lt-leb, eq-eqb, ne_eqb}
 use Rattle.port_tables.specs.Lists.{filter, Member}
 use Rattle.port_tables.specs.Places.{Place, Wire, touches, at_spot, at_end, without}
 use Rattle.sketches.specs.Plan.{Plan, with_wires, spot_named, is_there, subports_of, set_subports, offset_read, lacks_offset, Far, nothing, far, far_from, above_wired}
-use Rattle.sketches.specs.PlanCalls.{Sketched, leaves, bad_offset, port_found, end_found, cut_port, subport_link, is_refused, cut_subport, tidied, tidy_port}
+use Rattle.sketches.specs.PlanCalls.{leaves, bad_offset, port_found, end_found, cut_port, subport_link, is_refused, cut_subport, tidied, tidy_port}
 use Rattle.sketches.specs.PlanNumbers.{done_numbers, cut_numbers, found_numbers}
-use Rattle.sketches.specs.PlanWf.{PlanWf, most_subports, subports_wf}
+use Rattle.sketches.specs.PlanWf.{most_subports}
 use Rattle.sketches.specs.CallsWf.{cut_wf, above_within, tidied_within}
-use Rattle.sketches.specs.Rows.{row_slots, Table, rows_in, row_at, splits_in, wires_in, wire_of, place_in, end_hits, hits, missed, newest_hit}
+use Rattle.sketches.specs.Rows.{Table, rows_in, row_at, splits_in, wires_in, wire_of, place_in, end_hits, hits, missed, newest_hit}
 use Rattle.sketches.specs.RowSteps.{newest_none, newest_some}
 use Rattle.sketches.specs.RowReads.{wires_left}
 use Rattle.sketches.specs.BlockSteps.{leaves_as, tables_wf}
@@ -32,7 +32,6 @@ use Rattle.sketches.specs.declared.sketch.SketchPort.{SketchPort}
 use Rattle.sketches.specs.declared.sketch.SketchEnd.{SketchEnd}
 use Rattle.sketches.specs.declared.sketch.Reason.{Reason}
 use Rattle.sketches.specs.declared.sketch.Reason.TheVariants.{BadOffset, UnknownPort, UnknownOffset}
-use Rattle.sketches.specs.declared.sketch.DoneAnswer.{DoneAnswer}
 use Rattle.sketches.specs.declared.sketch.DoneAnswer.TheVariants as done
 use Rattle.sketches.specs.declared.sketch.PortAnswer.{PortAnswer}
 use Rattle.sketches.specs.declared.sketch.PortAnswer.TheVariants as port

@@ -1,14 +1,13 @@
 -- Linking two ends over the tables: what is refused before any change, then one more wire.
-use Rattle.std.specs.Prelude.{◌≡◌, refl, Bool, true, false, cond, not, ◌||◌, List, [], ◌∷◌, map, ℕ, zero, suc, ◌+◌, ◌≤◌, ◌<◌, eqb, leb, ltb, length}
-use Rattle.std.proofs.Common.{sym, ap, ◌∙◌, subst, arith, leb-true, leb-false, eq-eqb, ne_eqb, ltb-true, ltb-false}
+use Rattle.std.specs.Prelude.{◌≡◌, refl, Bool, true, false, cond, not, ◌||◌, List, ℕ, ◌+◌, ◌<◌, leb, ltb, length}
+use Rattle.std.proofs.Common.{sym, ap, ◌∙◌, arith, leb-true, leb-false, eq-eqb, ne_eqb, ltb-true, ltb-false}
 use Rattle.port_tables.specs.Entries.{same_side}
 use Rattle.port_tables.specs.Places.{wire_of_sides}
 use Rattle.sketches.specs.Plan.{Plan, is_there, input_taken, place_named, end#, subports_of, offset_read, lacks_offset}
 use Rattle.sketches.specs.PlanCalls.{most_wires, Sketched, leaves, with_wire, is_full, is_wired, bad_offset, link_subports}
 use Rattle.sketches.specs.PlanNumbers.{link_numbers}
-use Rattle.sketches.specs.PlanWf.{PlanWf, most_subports}
-use Rattle.sketches.specs.CallsWf.{or_false, wire_wf, read_within}
-use Rattle.sketches.specs.Rows.{row_slots, Table, put_row, wires_in, wire_of}
+use Rattle.sketches.specs.CallsWf.{wire_wf, read_within}
+use Rattle.sketches.specs.Rows.{row_slots, put_row, wire_of}
 use Rattle.sketches.specs.Offsets.{length_wires}
 use Rattle.sketches.specs.BlockSteps.{leaves_as, tables_wf}
 use Rattle.sketches.specs.LinkSteps.{wire_laid, refused_with, refused_as}

@@ -1,23 +1,22 @@
 -- Linking two ports over the tables.
-use Rattle.std.specs.Prelude.{◌≡◌, refl, Bool, true, false, cond, not, List, [], ◌∷◌, map, ℕ, zero, suc, ◌+◌, ◌≤◌, ◌<◌, eqb, leb, ltb, length}
+use Rattle.std.specs.Prelude.{◌≡◌, refl, Bool, true, false, cond, List, ◌∷◌, map, ℕ, ◌+◌, ◌≤◌, ◌<◌, ltb, length}
 use Rattle.std.proofs.Common.{sym, ap, ◌∙◌, subst, arith}
 use borrow.Author.Tests.{le-leb, lt-leb}
 use Rattle.port_tables.specs.Entries.{same_side}
 use Rattle.port_tables.specs.declared.direction.Direction.{Direction}
 use Rattle.port_tables.specs.declared.direction.Direction.TheVariants.{Incoming, Outgoing}
-use Rattle.port_tables.specs.Places.{Place, Wire, at_spot, wire_of_sides, any_touches}
+use Rattle.port_tables.specs.Places.{Wire, at_spot, wire_of_sides, any_touches}
 use Rattle.port_tables.specs.declared.release.Release.{Release}
 use Rattle.port_tables.specs.declared.release.Release.TheVariants as release
 use Rattle.sketches.specs.Plan.{Plan, with_wires, ports_on_side, spot_named, is_there, wired_side, taken_under, input_taken, place_named, end#, offset_ready, ready}
 use Rattle.sketches.specs.PlanCalls.{most_wires, Sketched, leaves, with_wire, both_linked, link_ports, link_clean}
 use Rattle.sketches.specs.PlanNumbers.{link_numbers}
-use Rattle.sketches.specs.PlanWf.{PlanWf, most_subports}
-use Rattle.sketches.specs.CallsWf.{ready_wf, ready_wires, ready_there, linked_wf, offset_within}
-use Rattle.sketches.specs.Rows.{row_slots, Table, rows_in, put_row, blocks_in, wires_in, wire_of}
+use Rattle.sketches.specs.CallsWf.{ready_wires, ready_there, linked_wf, offset_within}
+use Rattle.sketches.specs.Rows.{row_slots, Table, put_row, blocks_in, wires_in, wire_of}
 use Rattle.sketches.specs.RowSteps.{row_added, length_put}
 use Rattle.sketches.specs.Offsets.{length_wires}
 use Rattle.sketches.specs.BlockSteps.{leaves_as, tables_wf}
-use Rattle.sketches.specs.SplitSteps.{IsPlan, wires_within}
+use Rattle.sketches.specs.SplitSteps.{IsPlan}
 use Rattle.sketches.specs.SketchTables.{plan_in, held_wires, SketchWf, Leaves}
 use Rattle.sketches.specs.declared.rows.Row.{Row}
 use Rattle.sketches.specs.declared.totals.Totals.{Totals}

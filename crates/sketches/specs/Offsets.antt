@@ -1,12 +1,12 @@
 -- The offsets of a port that are wired, as marks: the lowest unwired offset is the lowest without a mark.
-use Rattle.std.specs.Prelude.{◌≡◌, refl, Bool, true, false, cond, not, ◌||◌, List, [], ◌∷◌, map, eqb, ltb, length, get_or, set, replicate}
+use Rattle.std.specs.Prelude.{◌≡◌, refl, Bool, true, false, cond, ◌||◌, List, [], ◌∷◌, eqb, ltb, length, get_or, set, replicate}
 use Rattle.std.proofs.Common.{sym, ap, ◌∙◌, subst, add-one, length-set, get_or-set_same, get_or-set_other, eqb-true, ltb-false}
 use Prim.Native.Nat.{ℕ, zero, suc, ◌+◌, ◌-◌, ◌≤◌, ◌<◌}
 use native.Mathlib.Omega.{arith}
 use Rattle.std.proofs.lemmas.List.{length-replicate, get_or-replicate}
 use Rattle.std.proofs.lemmas.Bool.{eqb-false}
 use Rattle.port_tables.specs.Listing.{length_map}
-use Rattle.port_tables.specs.Places.{Place, Wire, Spot, at_spot, at_end, touches, any_touches, lowest_unwired, next_offset}
+use Rattle.port_tables.specs.Places.{Place, Wire, Spot, at_spot, at_end, any_touches, lowest_unwired}
 use Rattle.sketches.specs.Plan.{above_end, above_wired}
 use Rattle.sketches.specs.Rows.{row_slots, rows_in, row_at, wire_of, wires_in}
 use Rattle.sketches.specs.declared.rows.Row.{Row}

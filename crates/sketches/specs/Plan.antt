@@ -1,11 +1,11 @@
 -- What a sketch holds: the release that it is made for, how many adds were accepted, the blocks, for each split port how many subports it has, and
 -- the wires between places. The newest stands first in each list. Places and wires are the book's, with the name of a block for its node.
-use Rattle.std.specs.Prelude.{Bool, true, false, cond, not, List, [], ◌∷◌, ℕ, suc, ◌+◌, max, eqb, leb, ltb, length}
+use Rattle.std.specs.Prelude.{Bool, true, false, cond, not, List, [], ◌∷◌, ℕ, suc, ◌+◌, max, eqb, leb, ltb}
 use Rattle.port_tables.specs.Lists.{filter}
 use Rattle.port_tables.specs.Entries.{new_count}
 use Rattle.port_tables.specs.declared.direction.Direction.{Direction}
 use Rattle.port_tables.specs.declared.direction.Direction.TheVariants.{Incoming, Outgoing}
-use Rattle.port_tables.specs.Places.{Place, Wire, Spot, spot, at_spot, touches, any_touches, next_offset}
+use Rattle.port_tables.specs.Places.{Place, Wire, Spot, spot, at_spot, any_touches, next_offset}
 use Rattle.port_tables.specs.declared.release.Release.{Release}
 use Rattle.port_tables.specs.declared.release.Release.TheVariants as release
 use Rattle.sketches.specs.declared.sketch.SketchPort.{SketchPort}

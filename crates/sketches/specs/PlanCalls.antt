@@ -1,16 +1,12 @@
 -- Each call: its refusals in their order, else what is done. 10 is tested last, so that it is given only where the call would otherwise be
 -- accepted. A link of ports that is refused with 11 or 12 keeps what was made ready, as the kit does.
-use Rattle.std.specs.Prelude.{Bool, true, false, cond, not, ◌||◌, List, [], ◌∷◌, map, ℕ, suc, ◌+◌, ◌-◌, eqb, leb, ltb, length}
+use Rattle.std.specs.Prelude.{Bool, true, false, cond, not, ◌||◌, List, [], ◌∷◌, map, ℕ, suc, ◌+◌, eqb, leb, ltb, length}
 use Rattle.port_tables.specs.Lists.{filter}
 use Rattle.port_tables.specs.Limits.{node_slots, port_slots, node_ports}
-use Rattle.port_tables.specs.Entries.{same_side, new_count}
-use Rattle.port_tables.specs.declared.direction.Direction.{Direction}
-use Rattle.port_tables.specs.declared.direction.Direction.TheVariants.{Incoming, Outgoing}
-use Rattle.port_tables.specs.Places.{Place, Wire, Spot, spot, at_spot, at_end, of_node, of_dropped, wire_of_sides, without, any_touches}
-use Rattle.sketches.specs.Plan.{PlanBlock, Plan, with_splits, with_wires, has_block, ports_on_side, ports_in_all, spot_named, is_there, subports_of, set_subports, offset_read, lacks_offset, end#, port_at, end_at_place, place_named, input_taken, Far, nothing, far, far_from, above_wired, offset_ready, ready}
+use Rattle.port_tables.specs.Entries.{same_side}
+use Rattle.port_tables.specs.Places.{Place, at_spot, at_end, of_node, of_dropped, wire_of_sides, without, any_touches}
+use Rattle.sketches.specs.Plan.{PlanBlock, Plan, with_wires, has_block, ports_in_all, spot_named, is_there, subports_of, set_subports, offset_read, lacks_offset, end#, port_at, end_at_place, place_named, input_taken, Far, nothing, far, far_from, above_wired, offset_ready, ready}
 use Rattle.sketches.specs.declared.sketch.SketchPort.{SketchPort}
-use Rattle.sketches.specs.declared.sketch.SketchEnd.{SketchEnd}
-use Rattle.sketches.specs.declared.sketch.Reason.{Reason}
 use Rattle.sketches.specs.declared.sketch.Reason.TheVariants.{BadOffset, TooManyPorts, UnknownBlock, UnknownPort, UnknownOffset, NoRoom, UnknownSecondPort, SameSide, AlreadyLinked, InputWired}
 use Rattle.sketches.specs.declared.sketch.AddAnswer.{AddAnswer}
 use Rattle.sketches.specs.declared.sketch.AddAnswer.TheVariants as add

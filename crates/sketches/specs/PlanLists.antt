@@ -1,12 +1,12 @@
 -- What each walk lists, the counts and the fan-outs. Wires are listed as wires; a program prints the end that a walk is about first.
-use Rattle.std.specs.Prelude.{Bool, true, false, cond, not, ℕ, zero, suc, eqb, length}
-use mathlib.Core.List.{List, [], ◌∷◌, ◌++◌, map, flat_map}
+use Rattle.std.specs.Prelude.{Bool, false, cond, not, ℕ, zero, suc, eqb, length}
+use mathlib.Core.List.{List, [], ◌∷◌, map, flat_map}
 use Rattle.port_tables.specs.Lists.{filter, range}
 use Rattle.port_tables.specs.Entries.{same_side}
 use Rattle.port_tables.specs.declared.direction.Direction.{Direction}
-use Rattle.port_tables.specs.declared.direction.Direction.TheVariants.{Incoming, Outgoing}
+use Rattle.port_tables.specs.declared.direction.Direction.TheVariants.{Outgoing}
 use Rattle.port_tables.specs.Places.{Place, Wire, at_spot, touches, end_on, far_from}
-use Rattle.sketches.specs.Plan.{PlanBlock, Plan, has_block, ports_on_side, ports_in_all, spot_named, is_there, subports_of, end#}
+use Rattle.sketches.specs.Plan.{Plan, has_block, ports_on_side, ports_in_all, spot_named, is_there, subports_of, end#}
 use Rattle.sketches.specs.declared.sketch.SketchPort.{SketchPort}
 use Rattle.sketches.specs.declared.sketch.SketchEnd.{SketchEnd}
 use Rattle.sketches.specs.declared.sketch.Reason.TheVariants.{UnknownBlock, UnknownPort}

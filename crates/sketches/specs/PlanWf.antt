@@ -1,8 +1,8 @@
 -- What holds of a plan after every call: the limits, that a split port is there and stands once, and how high offsets are. It follows that there are
 -- never more split ports than ports, and that an offset fits 16 bits.
-use Rattle.std.specs.Prelude.{◌≡◌, refl, Bool, true, false, cond, not, List, [], ◌∷◌, ◌++◌, map, ◌⊎◌, ℕ, zero, suc, ◌+◌, ◌≤◌, ◌<◌, eqb, ltb, length}
-use Rattle.std.proofs.Common.{sym, ap, ◌∙◌, subst, inl, inr, ⊎_elim, arith, length-append, eqb-true, eq-eqb, ne_eqb, ltb-true}
-use Rattle.std.proofs.lemmas.Bool.{eqb-false, not-true}
+use Rattle.std.specs.Prelude.{◌≡◌, refl, Bool, true, false, cond, not, List, [], ◌∷◌, ◌++◌, map, ℕ, suc, ◌≤◌, ◌<◌, eqb, length}
+use Rattle.std.proofs.Common.{sym, ◌∙◌, subst, ⊎_elim, arith, length-append, eqb-true, eq-eqb, ltb-true}
+use Rattle.std.proofs.lemmas.Bool.{not-true}
 use Rattle.port_tables.specs.Lists.{filter, range, Member, Rising}
 use Rattle.port_tables.specs.Limits.{node_slots, port_slots}
 use Rattle.port_tables.specs.Entries.{same_side, new_count}
@@ -11,7 +11,7 @@ use Rattle.port_tables.specs.declared.direction.Direction.TheVariants.{Incoming,
 use Rattle.port_tables.specs.Places.{Place, Wire, Spot, spot, at_spot}
 use Rattle.port_tables.specs.Listing.{member_left, member_right, member_filter, member_map, map_member, range_member, length_map, rising_filter, rising_map, Apart, partners, length_range}
 use Rattle.port_tables.specs.declared.release.Release.{Release}
-use Rattle.sketches.specs.Plan.{PlanBlock, Plan, empty_plan, with_splits, has_block, ports_on_side, ports_in_all, spot_named, is_there, subports_of, set_subports}
+use Rattle.sketches.specs.Plan.{PlanBlock, Plan, empty_plan, with_splits, ports_on_side, ports_in_all, spot_named, is_there, subports_of, set_subports}
 use Rattle.sketches.specs.PlanCalls.{most_wires}
 use Rattle.sketches.specs.declared.sketch.SketchPort.{SketchPort}
 

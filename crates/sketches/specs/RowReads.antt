@@ -1,11 +1,11 @@
 -- What is found among the rows of a table is what the definitions read off the lists.
-use Rattle.std.specs.Prelude.{◌≡◌, refl, Bool, true, false, cond, not, List, [], ◌∷◌, map, ℕ, eqb, length}
-use Rattle.std.proofs.Common.{sym, ap, ◌∙◌}
+use Rattle.std.specs.Prelude.{◌≡◌, refl, Bool, true, false, cond, not, List, [], ◌∷◌, map, ℕ, eqb}
+use Rattle.std.proofs.Common.{ap}
 use Rattle.port_tables.specs.Lists.{filter}
 use Rattle.port_tables.specs.Entries.{new_count}
 use Rattle.port_tables.specs.declared.direction.Direction.{Direction}
 use Rattle.port_tables.specs.declared.direction.Direction.TheVariants.{Incoming, Outgoing}
-use Rattle.port_tables.specs.Places.{Place, Wire, at_spot, touches, any_touches, without}
+use Rattle.port_tables.specs.Places.{at_spot, touches, any_touches, without}
 use Rattle.sketches.specs.Plan.{PlanBlock, has_block, ports_on_side, spot_named, subports_among}
 use Rattle.sketches.specs.Rows.{block_of, split_of, wire_of, end_hits, hits, missed, newest_of, is_there_any}
 use Rattle.sketches.specs.declared.rows.Row.{Row}

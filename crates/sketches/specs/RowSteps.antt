@@ -1,5 +1,5 @@
 -- Turns of the loops over a table, and what a store of a row leaves.
-use Rattle.std.specs.Prelude.{◌≡◌, Bool, cond, not, eqb, leb, set}
+use Rattle.std.specs.Prelude.{◌≡◌, Bool, cond, not, eqb, set}
 use Rattle.std.proofs.Math.Path.{refl, sym, ap, subst}
 use Rattle.std.proofs.Common.{◌∙◌, length-set, get_or-set_same, get_or-set_other}
 use Rattle.std.proofs.Math.Bool.{true, false}

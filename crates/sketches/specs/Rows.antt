@@ -1,6 +1,5 @@
 -- The tables of a sketch as lists: the rows of a table, newest first, and what a row stands for.
 use Rattle.std.specs.Prelude.{◌≡◌, Bool, true, false, cond, not, List, [], ◌∷◌, map, ℕ, zero, suc, ◌+◌, ◌*◌, eqb, leb, length, get_or, set}
-use Rattle.port_tables.specs.Lists.{filter}
 use Rattle.port_tables.specs.declared.direction.Direction.{Direction}
 use Rattle.port_tables.specs.declared.direction.Direction.TheVariants.{Incoming, Outgoing}
 use Rattle.port_tables.specs.Places.{Place, Wire, at_spot, at_end, of_node, of_dropped, touches, end_on, far_from}

@@ -1,10 +1,10 @@
 -- A sheet over the tables: the entries that are left, on the tables as they are, amount to the whole.
-use Rattle.std.specs.Prelude.{◌≡◌, refl, Bool, true, false, cond, List, [], ◌∷◌, ◌++◌, ℕ, zero, suc, ◌+◌, ◌-◌, ◌≤◌, ◌<◌, min, ltb, length, get_or, take, set, replicate}
-use Rattle.std.proofs.Common.{sym, ap, ◌∙◌, subst, append_assoc, append-nil, add-one, arith, length-set, take-suc-set, lt-ltb, le-ltb}
+use Rattle.std.specs.Prelude.{◌≡◌, refl, List, [], ◌∷◌, ◌++◌, ℕ, zero, suc, ◌+◌, ◌-◌, ◌≤◌, ◌<◌, min, length, get_or, take, set, replicate}
+use Rattle.std.proofs.Common.{sym, ap, ◌∙◌, append_assoc, append-nil, add-one, arith, length-set, take-suc-set, lt-ltb, le-ltb}
 use Rattle.std.proofs.lemmas.List.{length-replicate}
 use Rattle.port_tables.specs.declared.direction.Direction.TheVariants.{Incoming}
 use Rattle.sketches.specs.Plan.{Plan, end#}
-use Rattle.sketches.specs.PlanCalls.{Sketched, leaves, link_ports, sheet_entries, sheet_plan, sheet_answered, sheet}
+use Rattle.sketches.specs.PlanCalls.{leaves, link_ports, sheet_entries, sheet_plan, sheet_answered, sheet}
 use Rattle.sketches.specs.PlanNumbers.{link_numbers, sheet_numbers}
 use Rattle.sketches.specs.BlockSteps.{leaves_as}
 use Rattle.sketches.specs.SketchTables.{plan_in, SketchWf, Leaves}
@@ -15,7 +15,6 @@ use Rattle.sketches.specs.declared.sketch.SheetEntry.{SheetEntry}
 use Rattle.sketches.specs.declared.sketch.Reason.TheVariants.{NoRoom}
 use Rattle.sketches.specs.declared.sketch.LinkAnswer.{LinkAnswer}
 use Rattle.sketches.specs.declared.sketch.LinkAnswer.TheVariants as link
-use Rattle.sketches.specs.declared.sketch.SheetAnswer.{SheetAnswer}
 use Rattle.sketches.specs.declared.sketch.SheetAnswer.TheVariants as sheets
 
 abbrev pub sheet_places : ℕ

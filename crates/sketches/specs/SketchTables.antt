@@ -1,7 +1,7 @@
 -- The tables of a sketch and its numbers as a plan, and what a call promises: the plan that it leaves, its answer and the numbers of that, by the
 -- call's definition. What every call presumes and keeps is `SketchWf`.
 use Rattle.std.specs.Prelude.{◌≡◌, refl, List, ℕ}
-use Rattle.std.proofs.Common.{sym, ap, ◌∙◌, subst}
+use Rattle.std.proofs.Common.{sym, subst}
 use Rattle.port_tables.specs.declared.release.Release.{Release}
 use Rattle.sketches.specs.Plan.{Plan, empty_plan}
 use Rattle.sketches.specs.PlanCalls.{Sketched}

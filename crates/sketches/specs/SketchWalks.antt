@@ -1,20 +1,20 @@
 -- What a step of each walk gives.
-use Rattle.std.specs.Prelude.{◌≡◌, refl, Bool, true, false, cond, List, [], ◌∷◌, map, eqb, leb, ltb}
-use Rattle.std.proofs.Common.{sym, ◌∙◌, subst, inl, inr}
+use Rattle.std.specs.Prelude.{◌≡◌, refl, Bool, true, false, cond, List, ◌∷◌, eqb, leb, ltb}
+use Rattle.std.proofs.Common.{sym, ◌∙◌, inl, inr}
 use Rattle.std.proofs.Math.Path.{ap}
 use Prim.Native.Nat.{ℕ, zero, suc, ◌+◌, ◌-◌, ◌≤◌, ◌<◌, min}
 use native.Mathlib.Omega.{arith}
 use Rattle.std.proofs.Math.Numerals.{add-one}
 use borrow.Author.Tests.{eqb-true, eqb-false, eq-eqb, ne_eqb, leb-true, leb-false, le-leb, lt-leb, lt-ltb, le-ltb}
-use Rattle.port_tables.specs.Lists.{filter, Member}
+use Rattle.port_tables.specs.Lists.{Member}
 use Rattle.port_tables.specs.Places.{Wire}
 use Rattle.port_tables.specs.Listing.{map_member}
-use Rattle.sketches.specs.Plan.{Plan, ports_on_side, is_there, has_block, subports_of, end#, end_at_place}
+use Rattle.sketches.specs.Plan.{Plan, ports_on_side, subports_of, end#, end_at_place}
 use Rattle.sketches.specs.PlanLists.{port_on}
 use Rattle.sketches.specs.PlanWf.{PlanWf, most_subports}
 use Rattle.sketches.specs.CallsWf.{subports_within}
-use Rattle.sketches.specs.Rows.{row_at, rows_in, blocks_in, wires_in, wire_of, hits, newest_hit, oldest_hit}
-use Rattle.sketches.specs.SketchTables.{plan_in, SketchWf}
+use Rattle.sketches.specs.Rows.{row_at, rows_in, wire_of, hits, newest_hit, oldest_hit}
+use Rattle.sketches.specs.SketchTables.{SketchWf}
 use Rattle.sketches.specs.declared.rows.Row.{Row}
 use Rattle.sketches.specs.declared.totals.Totals.{Totals}
 use Rattle.sketches.specs.declared.tests.Test.{Test}

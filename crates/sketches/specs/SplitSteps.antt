@@ -1,5 +1,5 @@
 -- The number of subports of a port over the table of split ports.
-use Rattle.std.specs.Prelude.{◌≡◌, refl, Bool, true, false, cond, not, List, [], ◌∷◌, map, ℕ, zero, suc, ◌+◌, ◌≤◌, ◌<◌, max, eqb, length}
+use Rattle.std.specs.Prelude.{◌≡◌, refl, Bool, true, false, cond, not, List, ◌∷◌, map, ℕ, ◌+◌, ◌≤◌, ◌<◌, max, eqb, length}
 use Rattle.std.proofs.Common.{sym, ap, ◌∙◌, add-one, arith, eq-eqb, ne_eqb}
 use Rattle.std.proofs.Math.Path.{subst}
 use Rattle.port_tables.specs.Lists.{filter}
@@ -10,8 +10,8 @@ use Rattle.port_tables.specs.Listing.{length_map}
 use Rattle.port_tables.specs.Places.{Place, at_spot}
 use Rattle.sketches.specs.Plan.{Plan, with_splits, spot_named, is_there, subports_among, subports_of, set_subports, offset_ready, subports_ready, ready}
 use Rattle.sketches.specs.PlanCalls.{most_wires}
-use Rattle.sketches.specs.PlanWf.{PlanWf, most_subports, splits_set, splits_fit, subports_wf}
-use Rattle.sketches.specs.CallsWf.{ready_wf, offset_within, ready_within, subports_within}
+use Rattle.sketches.specs.PlanWf.{most_subports, splits_set, splits_fit, subports_wf}
+use Rattle.sketches.specs.CallsWf.{offset_within, ready_within, subports_within}
 use Rattle.sketches.specs.Rows.{row_slots, Table, rows_in, put_row, splits_in, split_of, side_of, missed}
 use Rattle.sketches.specs.RowSteps.{row_added, length_put}
 use Rattle.sketches.specs.RowReads.{splits_left}

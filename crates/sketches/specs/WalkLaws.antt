@@ -1,7 +1,7 @@
 -- What is left of a walk: from its start that is the whole list, each step takes one item from the front or from the back, and where a step gives the end
 -- nothing is left. So a walk gives each item once, from either end, and ends.
 use Rattle.std.proofs.Math.Path.{◌≡◌, refl, ap}
-use Rattle.std.proofs.Common.{sym, ◌∙◌, subst}
+use Rattle.std.proofs.Common.{sym, ◌∙◌}
 use Rattle.std.specs.Prelude.{Bool, not, eqb}
 use Rattle.std.proofs.Math.Bool.{true, false, cond}
 use mathlib.Core.List.{List, [], ◌∷◌, ◌++◌, map, map-map, append-nil}
@@ -10,17 +10,15 @@ use native.Mathlib.Omega.{arith}
 use Rattle.std.proofs.Math.Dec.{leb}
 use borrow.Author.Tests.{eqb-true, eqb-false, le-leb, lt-leb, leb-true, leb-false}
 use Rattle.port_tables.specs.Lists.{filter}
-use Rattle.port_tables.specs.Entries.{same_side}
 use Rattle.port_tables.specs.declared.direction.Direction.{Direction}
-use Rattle.port_tables.specs.declared.direction.Direction.TheVariants.{Outgoing}
-use Rattle.port_tables.specs.Places.{Place, Wire, touches, at_spot, end_on, far_from}
+use Rattle.port_tables.specs.Places.{Wire, touches, at_spot, end_on, far_from}
 use Rattle.port_tables.specs.Listing.{filter_append, filter_same, filter_all}
-use Rattle.sketches.specs.Plan.{PlanBlock, Plan, spot_named}
+use Rattle.sketches.specs.Plan.{PlanBlock, spot_named}
 use Rattle.sketches.specs.PlanLists.{links_of_port, links_of_side, is_own_output, neighbours_of_side, connections, block_names}
 use Rattle.sketches.specs.Rows.{row_at, rows_in, block_of, wire_of, hits, newest_hit, oldest_hit}
 use Rattle.sketches.specs.RowReads.{filter_map}
 use Rattle.sketches.specs.SketchTables.{plan_in}
-use Rattle.sketches.specs.SketchWalks.{whole_walk, wire_held, wire_below, wire_above, block_below, next_wire, previous_wire, next_block, newest_high, oldest_high}
+use Rattle.sketches.specs.SketchWalks.{whole_walk, wire_held, wire_below, wire_above, block_below, next_wire, previous_wire, next_block, newest_high}
 use Rattle.sketches.specs.declared.rows.Row.{Row}
 use Rattle.sketches.specs.declared.totals.Totals.{Totals}
 use Rattle.sketches.specs.declared.tests.EndTest.TheVariants as ask

@@ -1,13 +1,12 @@
 -- The blocks read off the tables are those of the model that the tables stand for; so every slot of the used length lies in one of them,
 -- and the listing has them end to end.
-use Rattle.std.specs.Prelude.{◌≡◌, Bool, cond, ◌⊎◌, ltb, length, get_or, replicate}
+use Rattle.std.specs.Prelude.{◌≡◌, Bool, cond, ltb, length, get_or, replicate}
 use Rattle.std.proofs.Math.Path.{refl, ap}
 use Rattle.std.proofs.Common.{sym, ◌∙◌, subst, inl, inr, arith}
 use Rattle.std.proofs.Math.Bool.{true, false}
-use mathlib.Core.List.{List, [], ◌∷◌, ◌++◌, flat_map, map}
+use mathlib.Core.List.{List, [], ◌∷◌, flat_map}
 use Rattle.std.proofs.Math.Logic.{⊎_elim}
 use Prim.Native.Nat.{ℕ, zero, suc, ◌+◌, ◌-◌, ◌≤◌, ◌<◌}
-use Rattle.std.proofs.Math.Decide.{ℕ_discrete}
 use Rattle.std.proofs.Math.Dec.{eqb}
 use Rattle.std.proofs.lemmas.List.{length-replicate}
 use borrow.Author.Tests.{eqb-true, eqb-false, eq-eqb, ne_eqb, ltb-true, ltb-false}
@@ -15,17 +14,17 @@ use Rattle.port_tables.specs.Limits.{node_slots, port_slots, node_ports}
 use Rattle.port_tables.specs.Lists.{Member, Once, Rising, range}
 use Rattle.port_tables.specs.Tables.{at, put, head_at, Within}
 use Rattle.portgraph.specs.Lookups.{meta_at}
-use Rattle.portgraph.specs.Model.{Model, Slots, gone, live, Who, held, idle, unused, Good, Holds, Chain}
-use Rattle.portgraph.specs.GoodSlots.{zero_is_not_one, same_held, held_not_idle, free_block_of_one}
+use Rattle.portgraph.specs.Model.{Model, live, Who, held, idle, unused, Good, Holds, Chain}
+use Rattle.portgraph.specs.GoodSlots.{same_held, held_not_idle, free_block_of_one}
 use Rattle.portgraph.specs.TableLaws.{length_put, at_put_same, at_put_other, at_inside, at_outside}
 use Rattle.portgraph.specs.PlaceLaws.{meta_of_node, node_of_meta}
 use Rattle.port_tables.specs.declared.node_entry.NodeMeta.{NodeMeta}
 use Rattle.port_tables.specs.declared.node_entry.MaybeNodeMeta.{MaybeNodeMeta}
 use Rattle.port_tables.specs.declared.node_entry.MaybeNodeMeta.TheVariants as maybe_meta
 use Rattle.portgraph.specs.declared.portgraph.PortGraph.{PortGraph}
-use Rattle.port_tables.specs.Listing.{Apart, apart_below, member_left, member_right, member_append, member_flat_map, flat_map_member, member_map, map_member, member_range, range_member, range_rises, rising_append, rising_flat_map, rising_map}
-use Rattle.slots.specs.Blocks.{Holder, by_node, free, SlotBlock, slot_block, block_of_meta, node_holds, held_blocks, chained, free_of, listed_free, free_blocks, blocks_of, holder_number, size_of, holder_of_block, laid, sizes_laid, holders_laid, walk_blocks, slot_list}
-use Rattle.slots.specs.SlotClaims.{InBlock, Tiles, SlotsAccounted, SlotsListed}
+use Rattle.port_tables.specs.Listing.{Apart, apart_below, member_left, member_right, member_append, member_flat_map, flat_map_member, member_map, map_member, range_member, range_rises, rising_append, rising_flat_map, rising_map}
+use Rattle.slots.specs.Blocks.{Holder, by_node, free, SlotBlock, slot_block, node_holds, held_blocks, chained, free_of, listed_free, free_blocks, blocks_of, holder_number, size_of, holder_of_block, laid, sizes_laid, holders_laid, slot_list}
+use Rattle.slots.specs.SlotClaims.{InBlock, SlotsAccounted, SlotsListed}
 use Rattle.slots.specs.TileLaws.{walk_tiles, walk_gives, tiles_rise, tiles_add}
 
 -- Lists without repeats.

@@ -1,17 +1,15 @@
 -- Every call of the multiport graph keeps the blocks: it is made of calls of the single-link graph, each of which does. A new call is its
 -- row in step_leads.
-use Rattle.std.specs.Prelude.{◌≡◌, Bool, true, false, cond, List, [], ◌∷◌, ◌++◌, ℕ, zero, suc, ◌+◌, ltb}
+use Rattle.std.specs.Prelude.{◌≡◌, Bool, true, false, cond, List, [], ◌∷◌, ℕ, zero, suc, ◌+◌, ltb}
 use Rattle.std.proofs.Math.Path.{refl, transport}
 use Rattle.std.proofs.Common.{sym, ap, ◌∙◌, subst, ltb-true}
 use Rattle.port_tables.specs.Limits.{present}
-use Rattle.port_tables.specs.Entries.{reversed}
 use Rattle.portgraph.specs.Lookups.{meta_at, num_ports}
 use Rattle.portgraph.specs.Model as model
 use Rattle.portgraph.specs.Model.{Model, slot_of}
 use Rattle.portgraph.specs.Calls.{add_node, link_ports, unlink_port}
 use Rattle.portgraph.specs.Resize.{set_num_ports}
 use Rattle.port_tables.specs.declared.direction.Direction.{Direction}
-use Rattle.port_tables.specs.declared.node_entry.NodeMeta.{NodeMeta}
 use Rattle.port_tables.specs.declared.node_entry.MaybeNodeMeta.{MaybeNodeMeta}
 use Rattle.port_tables.specs.declared.node_entry.MaybeNodeMeta.TheVariants as maybe_meta
 use Rattle.portgraph.specs.declared.portgraph.PortGraph.{PortGraph}
@@ -32,7 +30,7 @@ use Rattle.multiportgraph.specs.WellFormed.{Fine, Seen}
 use Rattle.multiportgraph.specs.Ends.{BlockPort, Hangs, block_seen, split_has_copy}
 use Rattle.multiportgraph.specs.declared.multiportgraph.PortTidied.{PortTidied}
 use Rattle.multiportgraph.specs.HiddenNodes.{remove_copy, unsplit, unsplit_range, remove_lone, remove_all, recounted, copies_dropped, Prepared, ready, full, copy_incoming, copy_outgoing, split_graph, split_port, split_by, split_under, lowest_free, more_incoming, more_outgoing, enough, grown_by, grow_under, reuse_under, prepare_under, prepare}
-use Rattle.multiportgraph.specs.Refusals.{Line, checked, add_refusals, remove_refusals, set_refusals, link_refusals, link_clean_refusals, link_sub_refusals, cut_refusals, subport_refusals, prepared_graph, prepared_port, first_end, second_end, input_taken, end_of, joining}
+use Rattle.multiportgraph.specs.Refusals.{Line, checked, add_refusals, remove_refusals, set_refusals, link_refusals, link_clean_refusals, link_sub_refusals, cut_refusals, subport_refusals, prepared_graph, first_end, second_end, input_taken, end_of, joining}
 use Rattle.multiportgraph.specs.Calls.{add_block_under, added_as, remove_block, drop_block, drop_meta, set_counts_under, resized_meta, set_as, link_pair_if, link_clean_if, both_linked, link_sub_if, joined, cut_port, cut_plain, cut_sub, tidy_port}
 use Rattle.multiportgraph.specs.declared.multiportgraph.MultiPortGraph.{MultiPortGraph}
 use Rattle.multi_tables.specs.declared.answers.SubportIndex.{SubportIndex}

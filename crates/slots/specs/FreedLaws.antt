@@ -1,17 +1,16 @@
 -- A free block of the size asked for is found: the used length does not grow. And what the works of a history free and no later one takes
 -- is free at its end.
-use Rattle.std.specs.Prelude.{◌≡◌, refl, Bool, true, false, cond, ◌||◌, ◌⊎◌, ℕ, zero, suc, ◌+◌, ◌≤◌, ◌<◌, eqb, leb, ltb, length, get_or}
-use Rattle.std.proofs.Common.{sym, ◌∙◌, ap, subst, inl, inr, ⊎_elim, arith, length-append, eqb-true, eq-eqb, ltb-true, le-ltb}
+use Rattle.std.specs.Prelude.{◌≡◌, refl, Bool, true, false, cond, ℕ, suc, ◌+◌, ◌≤◌, ◌<◌, eqb, leb, ltb, length, get_or}
+use Rattle.std.proofs.Common.{sym, ◌∙◌, ap, subst, ⊎_elim, arith, eqb-true, ltb-true, le-ltb}
 use mathlib.Core.List.{List, [], ◌∷◌, ◌++◌, flat_map}
 use Rattle.std.proofs.lemmas.Bool.{eqb-false}
 use Rattle.port_tables.specs.Limits.{node_slots, port_slots, node_ports}
 use Rattle.port_tables.specs.Lists.{Member}
 use Rattle.portgraph.specs.Lookups.{meta_at}
-use Rattle.portgraph.specs.Model.{Model, Good, Holds, number_of_first}
-use Rattle.portgraph.specs.Meaning as meaning
-use Rattle.portgraph.specs.Meaning.{upd, first_or, rest, growth}
+use Rattle.portgraph.specs.Model.{Model, Holds, number_of_first}
+use Rattle.portgraph.specs.Meaning.{rest, growth}
 use Rattle.port_tables.specs.Entries.{same_side}
-use Rattle.portgraph.specs.GoodSlots.{zero_is_not_one, upd_same, upd_elim}
+use Rattle.portgraph.specs.GoodSlots.{zero_is_not_one}
 use Rattle.port_tables.specs.declared.direction.Direction.{Direction}
 use Rattle.port_tables.specs.declared.node_entry.NodeMeta.{NodeMeta}
 use Rattle.port_tables.specs.declared.node_entry.MaybeNodeMeta.{MaybeNodeMeta}
@@ -19,14 +18,14 @@ use Rattle.port_tables.specs.declared.node_entry.MaybeNodeMeta.TheVariants as ma
 use Rattle.port_tables.specs.ResizeLinks.{same_counts, fits_inside}
 use Rattle.multiportgraph.specs.Reading.{is_hidden, is_split, has_link, copy_node, subports, seen}
 use Rattle.multi_tables.specs.Forms.{Port, dead, hidden, visible}
-use Rattle.multiportgraph.specs.HiddenNodes.{copies_in, copies_dropped, lowest_free, Prepared, ready, full, prepare}
+use Rattle.multiportgraph.specs.HiddenNodes.{copies_in, copies_dropped, Prepared, ready, full, prepare}
 use Rattle.multiportgraph.specs.Refusals.{input_taken}
 use Rattle.multiportgraph.specs.Tidy.{subports_left}
 use Rattle.multiportgraph.specs.Answers.{add_numbers, remove_numbers, set_numbers, link_numbers, cut_numbers, tidy_numbers}
 use Rattle.multi_tables.specs.EndAnswers.{refusal_numbers}
 use Rattle.multiportgraph.specs.WellFormed.{Fine}
-use Rattle.multiportgraph.specs.Space.{Room, room_of, Work, take_node, take_block, give_node, give_block, block_taken, after_work, after_works, nodes_short, ports_short, nodes_past, ports_past, overflows, add_works, gone_works, copies_gone, move_works, recount_works, set_meta_works, set_works, split_works, grow_works, reuse_works, prepare_works, second_works, link_seen_works, link_works, link_clean_seen_works, link_clean_works, remove_meta_works, remove_works, cut_works, told_works, cut_seen_works, tidy_works, tidy_seen_works}
-use Rattle.multiportgraph.specs.SpaceLaws.{nodes_short_at_end, ports_short_at_end, overflows_at_end, after_append, room_of_graph}
+use Rattle.multiportgraph.specs.Space.{Room, room_of, Work, take_node, take_block, give_node, give_block, block_taken, after_work, after_works, nodes_short, ports_short, overflows, add_works, gone_works, copies_gone, move_works, recount_works, set_meta_works, set_works, split_works, grow_works, reuse_works, prepare_works, second_works, link_seen_works, link_works, link_clean_seen_works, link_clean_works, remove_meta_works, remove_works, cut_works, told_works, cut_seen_works, tidy_works, tidy_seen_works}
+use Rattle.multiportgraph.specs.SpaceLaws.{nodes_short_at_end, ports_short_at_end, after_append, room_of_graph}
 use Rattle.multiportgraph.specs.declared.multiportgraph.MultiPortGraph.{MultiPortGraph}
 use Rattle.multi_tables.specs.declared.answers.Refusal.{Refusal}
 use Rattle.multi_tables.specs.declared.answers.Refusal.TheVariants.{BadOffset, TooManyPorts, UnknownNode, HiddenNode, MovesTooShort, UnknownPort, HiddenPort, UnknownOffset, NoRoom, UnknownSecondPort, IncompatibleDirections, AlreadyLinked, InputWired}
@@ -40,11 +39,11 @@ use Rattle.multi_tables.specs.declared.answers.CutAnswer.TheVariants as cutting
 use Rattle.multiportgraph.specs.declared.multiportgraph.TidyAnswer.TheVariants as tidying
 use Rattle.theorems.specs.Book as book
 use Rattle.theorems.specs.Book.{Call, AnswerOf, Book}
-use Rattle.theorems.specs.History.{State, step, numbers_of, run_from, run_from_under, entered}
+use Rattle.theorems.specs.History.{step, numbers_of, run_from, run_from_under, entered}
 use Rattle.theorems.specs.Works.{works_of}
 use Rattle.theorems.specs.Conditions.{RefusedBy}
 use Rattle.theorems.proofs.CallLaws.{call_law, call_space, call_room_after}
-use Rattle.slots.specs.SlotClaims.{blocks_asked, asks_node, AsksOnly, answers_ten, LacksNode, NeverForPorts, works_done, works_along, Takes, Untaken, FreedSince, freed_by, freed_later}
+use Rattle.slots.specs.SlotClaims.{blocks_asked, asks_node, AsksOnly, answers_ten, LacksNode, NeverForPorts, works_done, works_along, Untaken, FreedSince, freed_by, freed_later}
 use Rattle.slots.specs.KeptLaws.{given_stays, given_is, taken_or_left}
 
 -- The used length of the port table.

@@ -1,6 +1,6 @@
 -- Proofs of the theorems about slots: of any graph of the calls, then of every history, which a graph in hand always is.
-use Rattle.std.specs.Prelude.{◌≡◌, refl, Bool, true, false, List, [], ◌∷◌, ◌++◌, map, ◌⊎◌, ℕ, ◌+◌, ◌≤◌, ◌<◌, leb, length}
-use Rattle.std.proofs.Common.{sym, ◌∙◌, ap, subst, inl, inr, ⊎_elim, arith, leb-true, leb-false}
+use Rattle.std.specs.Prelude.{◌≡◌, refl, Bool, true, false, List, [], ◌∷◌, ◌++◌, ℕ, leb, length}
+use Rattle.std.proofs.Common.{sym, ◌∙◌, ap, subst, leb-true, leb-false}
 use Rattle.port_tables.specs.Lists.{Member}
 use Rattle.portgraph.specs.Lookups.{port_link}
 use Rattle.port_tables.specs.Entries.{port#}
@@ -11,12 +11,11 @@ use Rattle.portgraph.specs.PlaceLaws.{port_link_to}
 use Rattle.port_tables.specs.declared.direction.Direction.{Direction}
 use Rattle.port_tables.specs.declared.index.PortIndex.{PortIndex}
 use Rattle.portgraph.specs.declared.portgraph.PortGraph.{PortGraph}
-use Rattle.portgraph.specs.declared.portgraph.PortLink.{PortLink}
 use Rattle.portgraph.specs.declared.portgraph.PortLink.TheVariants.{Linked}
 use Rattle.multiportgraph.specs.Graph.{empty_graph}
-use Rattle.multiportgraph.specs.Reading.{is_hidden, is_split, port_of, copy_side, seen}
+use Rattle.multiportgraph.specs.Reading.{is_hidden, is_split, copy_side, seen}
 use Rattle.multi_tables.specs.Forms.{visible}
-use Rattle.multiportgraph.specs.WellFormed.{Fine, MultiWf, copy_place, Seen}
+use Rattle.multiportgraph.specs.WellFormed.{Fine, MultiWf, copy_place}
 use Rattle.multiportgraph.specs.LinkCutLaws.{fine_empty}
 use Rattle.multiportgraph.specs.Ends.{block_seen, seen_block, split_has_copy, one_copy, copy_valid, port_of_lem, main_seen}
 use Rattle.multiportgraph.specs.Space.{Room}
@@ -24,7 +23,7 @@ use Rattle.port_tables.specs.Listing.{member_map, map_member}
 use Rattle.multiportgraph.specs.declared.multiportgraph.MultiPortGraph.{MultiPortGraph}
 use Rattle.port_tables.specs.declared.release.Release.{Release}
 use Rattle.theorems.specs.Book.{Call, empty_book}
-use Rattle.theorems.specs.History.{State, step, next, run, run_from, run_from_under, run_under}
+use Rattle.theorems.specs.History.{State, step, run, run_from_under, run_under}
 use Rattle.theorems.proofs.CallLaws.{run_kept, step_kept}
 use Rattle.theorems.specs.Runs.{run_next, run_append}
 use Rattle.sheets.specs.Sheets.{link_sheet, sheet_entries}
@@ -36,11 +35,11 @@ use Rattle.files.specs.Loading.{build_of, load_answer, load_graph}
 use Rattle.files.specs.LoadTheorems.{load_is_history, refused_load_is_empty}
 use Rattle.files.specs.declared.load.LoadAnswer.{LoadAnswer}
 use Rattle.files.specs.declared.load.LoadAnswer.TheVariants.{Loaded, BadSums, BadLayout, Refused}
-use Rattle.slots.specs.Blocks.{Holder, by_node, free, SlotBlock, slot_block, blocks_of, slot_list}
-use Rattle.slots.specs.SlotClaims.{Cut, cut_of, cuts_of, SlotsAccounted, SlotsListed, OneForOne, HangsOn, OfBlock, AsksOnly, NeverForPorts, FreedSince, empty_room, works_along}
+use Rattle.slots.specs.Blocks.{Holder, by_node, free, slot_block, blocks_of, slot_list}
+use Rattle.slots.specs.SlotClaims.{Cut, cut_of, cuts_of, SlotsAccounted, SlotsListed, OneForOne, HangsOn, AsksOnly, NeverForPorts, FreedSince, empty_room, works_along}
 use Rattle.slots.specs.SlotHistory.{Item, one_call, whole_sheet, one_load, after_item, after_items, in_hand, after_calls}
 use Rattle.slots.specs.TileLaws.{tiles_cuts, cuts_go_on}
-use Rattle.slots.specs.BlockLaws.{slots_accounted, slots_listed, in_blocks, Has}
+use Rattle.slots.specs.BlockLaws.{slots_accounted, slots_listed, in_blocks}
 use Rattle.slots.specs.KeptLaws.{KeepsBlocks, LeadsOn, leads_same, leads_then}
 use Rattle.slots.specs.CallKeeps.{step_leads}
 use Rattle.slots.specs.FreedLaws.{never_for_ports, along, freed_is_free}

@@ -1,20 +1,20 @@
 -- No block is ever split or joined: a block of a graph is a block afterwards, whoever has it. First what each change of the single-link
 -- graph does to the blocks of its model; then every call of it; then every call of the multiport graph, which is made of these.
-use Rattle.std.specs.Prelude.{◌≡◌, refl, Bool, true, false, cond, List, [], ◌∷◌, ◌++◌, ◌⊎◌, ℕ, zero, suc, ◌+◌, ◌*◌, ◌≤◌, ◌<◌, eqb, leb, ltb}
+use Rattle.std.specs.Prelude.{◌≡◌, refl, Bool, true, false, cond, List, [], ◌∷◌, ◌⊎◌, ℕ, ◌+◌, ◌*◌, ◌≤◌, ◌<◌, eqb, leb, ltb}
 use Rattle.std.proofs.Common.{sym, ◌∙◌, ap, subst, inl, inr, ⊎_elim, arith, eqb-true, ne_eqb, leb-true, ltb-true}
 use Rattle.std.proofs.lemmas.Bool.{eqb-false}
-use Rattle.port_tables.specs.Limits.{node_slots, port_slots, node_ports, present}
+use Rattle.port_tables.specs.Limits.{node_slots, port_slots, node_ports}
 use Rattle.port_tables.specs.Lists.{Member}
-use Rattle.portgraph.specs.Model.{Model, InnerPlace, Slots, gone, live, Good, Holds, Wf}
+use Rattle.portgraph.specs.Model.{Model, Slots, gone, live, Good, Holds, Wf}
 use Rattle.portgraph.specs.Meaning.{upd, first_or, rest, growth, next_slot, next_block, give_block, add_model, remove_model, link_model, unlink_model, resize_model, move_model}
 use Rattle.port_tables.specs.Entries.{meta_of}
 use Rattle.portgraph.specs.GoodSlots.{zero_is_not_one, gone_not_live, upd_elim, upd_same, upd_other, give_elim}
 use Rattle.portgraph.specs.GoodLaws.{next_slot_gone, good_add, good_remove, good_resize, good_move}
 use Rattle.portgraph.specs.Calls.{add_node, remove_node, link_ports, unlink_port}
-use Rattle.portgraph.specs.Resize.{Plan, set_num_ports, set_by, refuse}
+use Rattle.portgraph.specs.Resize.{set_num_ports, set_by, refuse}
 use Rattle.port_tables.specs.ResizeLinks.{round_up, same_counts, fits_inside}
 use Rattle.portgraph.specs.ResizeSteps.{round_up_reaches, round_up_positive, round_up_fits}
-use Rattle.portgraph.specs.ResizeLaws.{plan_live, plan_slots, plan_where, set_law, wf_set}
+use Rattle.portgraph.specs.ResizeLaws.{plan_live, plan_where, set_law, wf_set}
 use Rattle.portgraph.specs.InsideHolds.{inside_holds}
 use Rattle.portgraph.specs.AnewHolds.{anew_holds}
 use Rattle.portgraph.specs.LinkHolds.{LinkSays, UnlinkSays, link_law, unlink_law, wf_link, wf_unlink}

@@ -1,12 +1,12 @@
 -- Steps of the loops that lay blocks, and of the walk that lists them, over plain values.
-use Rattle.std.specs.Prelude.{◌≡◌, Bool, true, false, cond, eqb, ltb, length, get_or, replicate, set}
+use Rattle.std.specs.Prelude.{◌≡◌, Bool, true, false, ltb, length, replicate, set}
 use Rattle.std.proofs.Math.Path.{refl, sym, ap}
-use Rattle.std.proofs.Common.{◌∙◌, length-append, eq-eqb, ne_eqb, ltb-true, ltb-false}
-use mathlib.Core.List.{List, [], ◌∷◌, ◌++◌, flat_map, map}
+use Rattle.std.proofs.Common.{◌∙◌, eq-eqb, ne_eqb, ltb-true, ltb-false}
+use mathlib.Core.List.{List, [], ◌∷◌, ◌++◌, flat_map}
 use Prim.Native.Nat.{ℕ, zero, suc, ◌+◌, ◌-◌, ◌*◌, ◌≤◌, ◌<◌}
 use native.Mathlib.Omega.{arith}
-use Rattle.std.proofs.Math.Seq.{sets, length-sets}
-use Rattle.port_tables.specs.Limits.{node_slots, port_slots, node_ports, free_lists}
+use Rattle.std.proofs.Math.Seq.{sets}
+use Rattle.port_tables.specs.Limits.{node_slots, port_slots, free_lists}
 use Rattle.port_tables.specs.Lists.{range}
 use Rattle.port_tables.specs.Tables.{at, put, head_at}
 use Rattle.port_tables.specs.ResizeLinkSteps.{sets_append}
@@ -23,8 +23,8 @@ use Rattle.multiportgraph.specs.WellFormed.{MultiWf}
 use Rattle.multiportgraph.specs.MultiLent.{multi_in}
 use Rattle.multiportgraph.specs.declared.lent.Totals.{Totals}
 use Rattle.multiportgraph.specs.declared.multiportgraph.MultiPortGraph.{MultiPortGraph}
-use Rattle.slots.specs.Blocks.{Holder, by_node, free, SlotBlock, slot_block, node_holds, held_blocks, chained, free_of, listed_free, free_blocks, blocks_of, holder_number, holder_of, size_of, holder_of_block, laid, sizes_laid, holders_laid, walk_blocks, slot_list, slot_numbers, block_numbers}
-use Rattle.slots.specs.Forms.{list_numbers, list_in, taken_in, list_from, free_in, LaysBoth}
+use Rattle.slots.specs.Blocks.{free, SlotBlock, slot_block, node_holds, held_blocks, chained, free_of, free_blocks, holder_number, holder_of, size_of, holder_of_block, laid, sizes_laid, holders_laid, walk_blocks, slot_list, slot_numbers, block_numbers}
+use Rattle.slots.specs.Forms.{list_in, taken_in, list_from, free_in, LaysBoth}
 
 -- Laying.
 

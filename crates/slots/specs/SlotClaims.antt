@@ -18,7 +18,7 @@ use Rattle.multiportgraph.specs.declared.multiportgraph.MultiPortGraph.{MultiPor
 use Rattle.theorems.specs.Book.{Call, AnswerOf}
 use Rattle.theorems.specs.History.{step, numbers_of}
 use Rattle.theorems.specs.Works.{works_of}
-use Rattle.slots.specs.Blocks.{Holder, by_node, free, SlotBlock, slot_block, blocks_of, slot_list}
+use Rattle.slots.specs.Blocks.{SlotBlock, blocks_of, slot_list}
 
 -- a slot lies in a block
 abbrev pub InBlock : SlotBlock → ℕ → Type 0

@@ -1,5 +1,5 @@
 -- One small history and its listing, number by number: first slot, size, and 0 for a free block or one higher than the node.
-use Rattle.std.specs.Prelude.{◌≡◌, refl, ℕ}
+use Rattle.std.specs.Prelude.{◌≡◌, refl}
 use mathlib.Core.List.{List, [], ◌∷◌, ◌++◌, map, flat_map}
 use Rattle.port_tables.specs.Lists.{range, filter}
 use Rattle.port_tables.specs.Tables.{at, put, head_at}

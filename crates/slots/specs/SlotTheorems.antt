@@ -2,10 +2,9 @@
 -- SlotHistory; the proofs in the files that each line names.
 --
 -- The graph in hand comes of any list of calls, sheets and loads from the empty graph of a release, refused ones included.
-use Rattle.std.specs.Prelude.{◌≡◌, List, [], ◌∷◌, ◌++◌, ℕ}
+use Rattle.std.specs.Prelude.{◌≡◌, List, ◌++◌, ℕ}
 use Rattle.port_tables.specs.Lists.{Member}
 use Rattle.multiportgraph.specs.Graph.{empty_graph}
-use Rattle.multiportgraph.specs.WellFormed.{MultiWf}
 use Rattle.multiportgraph.specs.declared.multiportgraph.MultiPortGraph.{MultiPortGraph}
 use Rattle.port_tables.specs.declared.release.Release.{Release}
 use Rattle.theorems.specs.Book.{Call}

@@ -1,7 +1,7 @@
 -- What the calls on wires answer is what the book has: a link answers the ends of the wire that it enters, and a cut or a question
 -- answers the other end of the wire at the end named.
 -- Statements: link_answers_the_wire, answers_are_wires, linked_ends_are_found; their words stand first.
-use Rattle.std.specs.Prelude.{◌≡◌, Bool, true, false, cond, List, ◌∷◌, ◌↔◌, ℕ, ◌+◌, ◌≤◌, ◌<◌}
+use Rattle.std.specs.Prelude.{◌≡◌, Bool, true, false, cond, List, ◌∷◌, ℕ, ◌+◌, ◌<◌}
 use Rattle.std.proofs.Math.Path.{refl, sym, ap}
 use Rattle.std.proofs.Common.{◌∙◌, subst, inl, inr, arith, lt-ltb}
 use Rattle.port_tables.specs.Lists.{Member}
@@ -48,7 +48,7 @@ use Rattle.theorems.proofs.LinkCleanCall.{clean_is_link, clean_next, clean_done_
 use Rattle.theorems.proofs.WireRule.{Rel, OneMore, ports_link, subports_link, seen_live, spot_of_lem, offset_of_lem}
 use Rattle.theorems.proofs.CallLaws.{rel_step, rel_run}
 use Rattle.theorems.specs.ListedLinks.{end_named_lem}
-use Rattle.theorems.specs.AnswerClaims.{wire_between, first_named, second_named, AnswersItsWire, PortOfBlock, EndThere, SubportThere, asked, cut_answer, EndsFound, AsksTheBook, cut_far, CutsTheBook, AnswersAreWires}
+use Rattle.theorems.specs.AnswerClaims.{wire_between, AnswersItsWire, PortOfBlock, EndThere, SubportThere, asked, cut_answer, EndsFound, AsksTheBook, cut_far, CutsTheBook, AnswersAreWires}
 
 -- Places after a link.
 

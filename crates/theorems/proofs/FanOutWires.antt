@@ -1,6 +1,6 @@
 -- Fan-out against the book: how many of its wires end at a port, and how many leave a block.
-use Rattle.std.specs.Prelude.{◌≡◌, refl, Bool, true, false, List, [], ◌∷◌, map, ℕ, eqb, length}
-use Rattle.std.proofs.Common.{sym, ap, ◌∙◌, subst, inl, inr, arith, eq-eqb, eqb-true}
+use Rattle.std.specs.Prelude.{◌≡◌, refl, Bool, true, List, [], ◌∷◌, map, ℕ, eqb, length}
+use Rattle.std.proofs.Common.{sym, ap, ◌∙◌, inl, inr, arith, eq-eqb, eqb-true}
 use Rattle.port_tables.specs.Lists.{Member, Once}
 use Rattle.port_tables.specs.declared.release.Release.{Release}
 use Rattle.multiportgraph.specs.WellFormed.{inner#}
@@ -18,7 +18,6 @@ use Rattle.theorems.specs.Claims.{count, FanOutIsWires}
 use Rattle.theorems.specs.ListingClaims.{wire_from, Exactly, InBook}
 use Rattle.theorems.specs.BookLaws.{same_count_among}
 use Rattle.theorems.proofs.CallLaws.{rel_run}
-use Rattle.theorems.proofs.WireRule.{Rel}
 use Rattle.theorems.proofs.StartLaws.{port_fan_out_found, node_fan_out_found}
 use Rattle.theorems.proofs.ListingWires.{block_booked, spot_back, listings_are_wires_of_side, listings_are_wires_of_port}
 

@@ -29,7 +29,6 @@ use Rattle.multiportgraph.specs.declared.multiportgraph.SetAnswer.{SetAnswer}
 use Rattle.multiportgraph.specs.declared.multiportgraph.SetAnswer.TheVariants as resize
 use Rattle.multiportgraph.specs.declared.multiportgraph.PortsSet.{PortsSet}
 use Rattle.multiportgraph.specs.Cases.{set_refused, resized, set_meta}
-use Rattle.multiportgraph.specs.HiddenNodes.{full}
 use Rattle.multiportgraph.specs.CaseLaws.{set_cases}
 use Rattle.multiportgraph.specs.SetLaws.{set_counts_law, set_refused_law}
 use Rattle.theorems.proofs.WireRule.{after_set}

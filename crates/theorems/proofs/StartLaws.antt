@@ -5,12 +5,12 @@ use Rattle.std.specs.Prelude.{◌≡◌, Bool, ◌⊎◌, ◌↔◌, ℕ, ◌≤
 use Rattle.std.proofs.Math.Path.{refl, sym, ap}
 use Rattle.std.proofs.Common.{◌∙◌, subst, inl, inr, arith, length-append}
 use Rattle.std.proofs.Math.Bool.{true, false, cond}
-use mathlib.Core.List.{List, [], ◌∷◌, flat_map, map}
+use mathlib.Core.List.{List, [], ◌∷◌, flat_map}
 use Rattle.std.proofs.Math.Dec.{eqb}
 use Rattle.std.proofs.Math.ListN.{length}
 use borrow.Author.Tests.{le-ltb, eqb-true, eq-eqb}
 use Rattle.port_tables.specs.Limits.{node_slots}
-use Rattle.port_tables.specs.Lists.{range, Member}
+use Rattle.port_tables.specs.Lists.{Member}
 use Rattle.port_tables.specs.Entries.{ports_on, node#, port#}
 use Rattle.portgraph.specs.Lookups.{contains_node, is_some, num_ports, count_in, capacity_in, node_port_capacity, port_index, port_in}
 use Rattle.portgraph.specs.Model as model

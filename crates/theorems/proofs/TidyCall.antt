@@ -1,5 +1,5 @@
 -- Tidying a port: its bundle.
-use Rattle.std.specs.Prelude.{◌≡◌, refl, ℕ}
+use Rattle.std.specs.Prelude.{◌≡◌, ℕ}
 use Rattle.std.proofs.Common.{sym, ◌∙◌, ap, subst}
 use Rattle.portgraph.specs.Model.{Model}
 use Rattle.multiportgraph.specs.Reading.{seen}

@@ -1,22 +1,20 @@
 -- Proofs about tidies in histories.
-use Rattle.std.specs.Prelude.{◌≡◌, Bool, true, false, cond, ◌⊎◌, eqb, leb, ltb}
+use Rattle.std.specs.Prelude.{◌≡◌, Bool, true, false, cond, ◌⊎◌, leb}
 use Rattle.std.proofs.Math.Path.{refl, transport}
 use Rattle.std.proofs.Common.{sym, ◌∙◌, ap, subst, inl, inr, ⊎_elim, arith}
 use mathlib.Core.List.{List, [], ◌∷◌}
 use Prim.Native.Nat.{ℕ, ◌+◌, ◌-◌, ◌≤◌, ◌<◌}
-use borrow.Author.Tests.{le-leb, le-ltb, lt-ltb, eq-eqb, ne_eqb}
+use borrow.Author.Tests.{le-leb, le-ltb, lt-ltb, ne_eqb}
 use Rattle.port_tables.specs.Limits.{node_slots, port_slots, node_ports, present}
 use Rattle.portgraph.specs.Lookups.{meta_at, num_ports}
-use Rattle.port_tables.specs.Entries.{node#, port#, ports_on}
+use Rattle.port_tables.specs.Entries.{node#, ports_on}
 use Rattle.portgraph.specs.Model as model
 use Rattle.portgraph.specs.Model.{Model, Good, Slots, live, to, count_of, slot_of}
-use Rattle.portgraph.specs.Meaning as meaning
-use Rattle.portgraph.specs.Meaning.{upd, rest, first_or, growth, next_slot, next_block}
+use Rattle.portgraph.specs.Meaning.{upd, rest, growth}
 use Rattle.portgraph.specs.Sums.{upd_same, upd_other}
 use Rattle.portgraph.specs.GoodSlots.{zero_is_not_one, upd_elim}
 use Rattle.portgraph.specs.SlotHolds.{add_law, add_where, slot_room, block_room}
 use Rattle.portgraph.specs.PlaceLaws.{node_of_meta}
-use Rattle.portgraph.specs.Calls.{add_node}
 use Rattle.port_tables.specs.declared.direction.Direction.{Direction}
 use Rattle.port_tables.specs.declared.direction.Direction.TheVariants.{Incoming, Outgoing}
 use Rattle.port_tables.specs.declared.node_entry.NodeMeta.{NodeMeta}
@@ -33,10 +31,10 @@ use Rattle.multiportgraph.specs.Ends.{BlockPort, split_has_copy, unsplit_no_copy
 use Rattle.multiportgraph.specs.HiddenStays.{true_not_false, true_or_false}
 use Rattle.multiportgraph.specs.WalkRule.{same_wires_same_list}
 use Rattle.multiportgraph.specs.Wires.{wires_walked, ports_walked}
-use Rattle.multiportgraph.specs.Space.{Room, room_of, Work, take_node, take_block, give_node, give_block, after_work, after_works, overflows, gone_works, tidy_works, tidy_seen_works}
-use Rattle.multiportgraph.specs.SpaceLaws.{Spaced, room_of_graph, overfull, overflows_at_end}
+use Rattle.multiportgraph.specs.Space.{Room, room_of, Work, take_node, take_block, give_node, give_block, after_work, after_works, overflows, tidy_works}
+use Rattle.multiportgraph.specs.SpaceLaws.{room_of_graph, overfull, overflows_at_end}
 use Rattle.multiportgraph.specs.Tidy.{subports_left, tidied}
-use Rattle.multiportgraph.specs.TidyLaws.{TidyDone, TidySays, TidyLeft, SameBlock, tidy_port_law, tidy_left, left_linked, tidy_again, tidied_split}
+use Rattle.multiportgraph.specs.TidyLaws.{TidySays, TidyLeft, SameBlock, tidy_port_law, tidy_left, left_linked, tidy_again, tidied_split}
 use Rattle.multiportgraph.specs.SplitLaws.{HasEnd, end_of_wire, wire_of_end}
 use Rattle.multiportgraph.specs.declared.multiportgraph.MultiPortGraph.{MultiPortGraph}
 use Rattle.port_tables.specs.declared.release.Release.{Release}
@@ -48,15 +46,13 @@ use Rattle.multiportgraph.specs.declared.multiportgraph.PortTidied.{PortTidied}
 use Rattle.multiportgraph.specs.declared.multiportgraph.NodeAdded.{NodeAdded}
 use Rattle.multiportgraph.specs.declared.multiportgraph.AddAnswer.TheVariants as add
 use Rattle.port_tables.specs.Places.{Place, Wire, spot, at_end, touches}
-use Rattle.theorems.specs.Book as book
-use Rattle.theorems.specs.Book.{Call, Book, tidy_call, spot_of}
+use Rattle.theorems.specs.Book.{Call, tidy_call, spot_of}
 use Rattle.theorems.specs.History.{State, Stepped, step, next, run}
 use Rattle.theorems.specs.Works.{works_of}
 use Rattle.theorems.specs.Conditions.{RefusedBy, CutRefused, cut_dead, cut_hidden}
 use Rattle.theorems.proofs.WireRule.{Rel, has_end_touches, touches_has_end}
 use Rattle.theorems.proofs.CallLaws.{rel_run, rel_step, call_space, call_room_after, step_kept}
 use Rattle.theorems.proofs.TidyCall.{tidy_refused_lem}
-use Rattle.theorems.specs.ListingClaims.{InBook}
 use Rattle.theorems.proofs.ListingWires.{block_booked, spot_back}
 use Rattle.theorems.specs.TidyClaims.{PlacesKept, WalksKept, LeftByWires, FoundAgain}
 use Rattle.theorems.proofs.TidyWalks.{walks_kept}

@@ -43,7 +43,7 @@ use Rattle.multi_tables.specs.declared.answers.CutAnswer.{CutAnswer}
 use Rattle.multi_tables.specs.declared.answers.CutAnswer.TheVariants as cutting
 use Rattle.multiportgraph.specs.declared.multiportgraph.TidyAnswer.{TidyAnswer}
 use Rattle.multiportgraph.specs.declared.multiportgraph.TidyAnswer.TheVariants as tidying
-use Rattle.multiportgraph.specs.TidyLaws.{TidyDone, TidySays}
+use Rattle.multiportgraph.specs.TidyLaws.{TidySays}
 use Rattle.multiportgraph.specs.Wires.{ports_walked}
 use Rattle.port_tables.specs.declared.release.Release.{Release}
 use Rattle.multiportgraph.specs.Graph.{empty_graph}

@@ -1,5 +1,5 @@
 -- 01's bench wiring, cases A to K, as one table with one claim; and smallest inputs of resizes, of fan-out, of wires into an input and of tidies.
-use Rattle.std.specs.Prelude.{◌≡◌, refl, ℕ, suc, ◌+◌, length, replicate, cond}
+use Rattle.std.specs.Prelude.{◌≡◌, refl, ℕ, suc, length, replicate, cond}
 use mathlib.Core.List.{List, [], ◌∷◌, ◌++◌, flat_map}
 use Rattle.port_tables.specs.Limits.{no_port}
 use Rattle.port_tables.specs.Entries.{node#}
@@ -10,7 +10,7 @@ use Rattle.multiportgraph.specs.Calls.{subport_link, visible_nodes, visible_port
 use Rattle.multiportgraph.specs.Wires.{subports_of_side, step_wires, wires_walked}
 use Rattle.multiportgraph.specs.Walks.{step_subports}
 use Rattle.multiportgraph.specs.Lookups.{port_fan_out, node_fan_out, count_numbers}
-use Rattle.theorems.specs.Book.{Call, add_call, remove_call, set_call, link_call, link_clean_call, link_sub_call, cut_call, cut_sub_call, AnswerOf, tidy_call}
+use Rattle.theorems.specs.Book.{Call, add_call, remove_call, set_call, link_call, link_clean_call, link_sub_call, cut_call, cut_sub_call, tidy_call}
 use Rattle.theorems.specs.History.{step, numbers_of}
 use Rattle.multiportgraph.specs.declared.multiportgraph.MultiPortGraph.{MultiPortGraph}
 use Rattle.port_tables.specs.declared.release.Release.{Release}
@@ -21,7 +21,7 @@ use Rattle.multiportgraph.specs.declared.iter.WiresStep.TheVariants as wires_ste
 use Rattle.multiportgraph.specs.declared.iter.NodeSubportsStep.{NodeSubportsStep}
 use Rattle.multiportgraph.specs.declared.iter.NodeSubportsStep.TheVariants as subports_step
 use Rattle.multiportgraph.specs.Graph.{empty_graph}
-use Rattle.multiportgraph.specs.Answers.{add_numbers, remove_numbers, set_numbers, link_numbers, cut_numbers}
+use Rattle.multiportgraph.specs.Answers.{cut_numbers}
 
 -- What a line asks: a call, or a look at the graph.
 pub data Ask : Type 0 where

@@ -6,15 +6,13 @@ use Rattle.std.proofs.Math.Bool.{true, false}
 use mathlib.Core.List.{List, [], ◌∷◌}
 use Rattle.std.proofs.lemmas.Bool.{eqb-false}
 use Rattle.port_tables.specs.Lists.{range, filter, Member, Once}
-use Rattle.port_tables.specs.Entries.{same_side}
 use Rattle.portgraph.specs.Model.{total}
-use Rattle.portgraph.specs.Sums.{total_same, same_side_refl, same_side_true}
+use Rattle.portgraph.specs.Sums.{total_same}
 use Rattle.port_tables.specs.declared.direction.Direction.{Direction}
 use Rattle.port_tables.specs.declared.direction.Direction.TheVariants.{Incoming, Outgoing}
-use Rattle.theorems.specs.Book.{Block, spot_among}
-use Rattle.port_tables.specs.Places.{without, any_touches, lowest_unwired, next_offset, Place, Wire, Spot, spot, at_spot, at_end, touches, flag}
+use Rattle.theorems.specs.Book.{spot_among}
+use Rattle.port_tables.specs.Places.{without, any_touches, lowest_unwired, next_offset, Place, Wire, Spot, spot, at_end, touches, flag}
 use Rattle.port_tables.specs.Listing.{member_filter, filter_member, in_wires, wire_member}
-use Rattle.multiportgraph.specs.HiddenStays.{true_not_false}
 use Rattle.multiportgraph.specs.LinkCutLaws.{end_is_same}
 use Rattle.theorems.specs.Claims.{count}
 

@@ -1,18 +1,14 @@
 -- Histories: lists of calls from the empty graph, each on the graph that the last one left, with the book beside it.
-use Rattle.std.specs.Prelude.{◌≡◌, Bool, true, List, [], ◌∷◌, ◌++◌, map, ◌⊎◌, ℕ, ◌+◌, ◌-◌, eqb}
+use Rattle.std.specs.Prelude.{Bool, List, [], ◌∷◌, ℕ}
 use Rattle.port_tables.specs.Limits.{Limits, present}
-use Rattle.port_tables.specs.Lists.{Member, Once, filter}
-use Rattle.port_tables.specs.declared.direction.Direction.TheVariants.{Incoming, Outgoing}
 use Rattle.multiportgraph.specs.Reading.{is_split}
 use Rattle.multiportgraph.specs.Calls.{add_block_under, remove_block, set_counts_under, link_sub, cut_port, cut_sub, tidy_port, link_pair_under, link_clean_under}
 use Rattle.multiportgraph.specs.Answers.{add_numbers, remove_numbers, set_numbers, link_numbers, cut_numbers, tidy_numbers}
-use Rattle.multiportgraph.specs.Wires.{subports_of_side, walked, wires_walked, is_first, ports_walked}
+use Rattle.multiportgraph.specs.Wires.{ports_walked}
 use Rattle.theorems.specs.Book as book
 use Rattle.theorems.specs.Book.{Call, AnswerOf, Book, empty_book, book_answer}
 use Rattle.multiportgraph.specs.declared.multiportgraph.MultiPortGraph.{MultiPortGraph}
 use Rattle.port_tables.specs.declared.release.Release.{Release}
-use Rattle.multi_tables.specs.declared.answers.SubportIndex.{SubportIndex}
-use Rattle.port_tables.specs.Places.{Wire}
 use Rattle.multiportgraph.specs.Graph.{empty_graph}
 
 pub record Stepped (c : Call) : Type 0 where

@@ -1,5 +1,5 @@
 -- 01's numbers of every refusal with what it carries, and of every kind of answer, as one table with one claim.
-use Rattle.std.specs.Prelude.{◌≡◌, refl, List, [], ◌∷◌, ◌++◌, map, ℕ}
+use Rattle.std.specs.Prelude.{◌≡◌, refl, List, [], ◌∷◌, map, ℕ}
 use Rattle.port_tables.specs.Entries.{node#, port#}
 use Rattle.port_tables.specs.declared.direction.Direction.TheVariants.{Incoming, Outgoing}
 use Rattle.multi_tables.specs.Forms.{subport#}

@@ -1,12 +1,12 @@
 -- Under release 2 no input is split: every hidden node hangs on an output. A hidden node comes where a linked port is prepared, and a
 -- link that names a linked input is refused before.
-use Rattle.std.specs.Prelude.{◌≡◌, Bool, ◌⊎◌, eqb, ltb, length}
+use Rattle.std.specs.Prelude.{◌≡◌, Bool, eqb, ltb, length}
 use Rattle.std.proofs.Math.Path.{refl, ap}
 use Rattle.std.proofs.Common.{sym, ◌∙◌, subst, arith, get_or-set_other, ltb-true}
 use Rattle.std.proofs.Math.Bool.{true, false, cond, not}
 use mathlib.Core.List.{[], ◌++◌, flat_map}
 use Rattle.std.proofs.Math.Logic.{⊎_elim}
-use Prim.Native.Nat.{ℕ, ◌+◌, ◌-◌, ◌≤◌}
+use Prim.Native.Nat.{ℕ, ◌-◌, ◌≤◌}
 use Rattle.port_tables.specs.Limits.{present}
 use Rattle.port_tables.specs.Entries.{reversed, same_side}
 use Rattle.portgraph.specs.Lookups.{num_ports, port_link}

@@ -2,7 +2,7 @@
 -- exactly if it has a wire.
 use Rattle.std.specs.Prelude.{◌≡◌, Bool, ◌⊎◌, ℕ, suc, eqb, length}
 use Rattle.std.proofs.Math.Path.{refl, ap}
-use Rattle.std.proofs.Common.{sym, ◌∙◌, subst, arith, ne_eqb}
+use Rattle.std.proofs.Common.{sym, ◌∙◌, arith, ne_eqb}
 use Rattle.std.proofs.Math.Bool.{true, false, cond, not}
 use mathlib.Core.List.{List, [], ◌∷◌}
 use Rattle.std.proofs.Math.Logic.{inl, inr, ⊎_elim}
@@ -16,7 +16,7 @@ use Rattle.multiportgraph.specs.Reading.{seen}
 use Rattle.multi_tables.specs.Forms.{visible, taken_under}
 use Rattle.multiportgraph.specs.Refusals.{wired_side, wired_seen, wired_input, input_taken}
 use Rattle.multiportgraph.specs.Walks.{port_links, fan_out}
-use Rattle.port_tables.specs.Places.{Place, Wire, spot, at_spot, end_on}
+use Rattle.port_tables.specs.Places.{Wire, spot, at_spot, end_on}
 use Rattle.multiportgraph.specs.Wires.{place_of}
 use Rattle.multiportgraph.specs.WellFormed.{Fine, Seen, lift, WireIn}
 use Rattle.multiportgraph.specs.LinkCutLaws.{at_spot_here}

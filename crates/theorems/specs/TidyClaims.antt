@@ -1,5 +1,5 @@
 -- What is said of a tidy: what stays, and that what it gives back is found again.
-use Rattle.std.specs.Prelude.{◌≡◌, true, false, List, [], ◌∷◌, ℕ, ◌+◌, ◌-◌, ◌≤◌, ◌<◌}
+use Rattle.std.specs.Prelude.{◌≡◌, true, false, [], ◌∷◌, ℕ, ◌+◌, ◌-◌, ◌≤◌, ◌<◌}
 use Rattle.port_tables.specs.Lists.{Member}
 use Rattle.portgraph.specs.Lookups.{num_ports}
 use Rattle.port_tables.specs.Entries.{node#}

@@ -18,7 +18,6 @@ use Rattle.multi_tables.specs.Forms.{Port, dead, hidden, visible}
 use Rattle.multiportgraph.specs.Wires.{is_block, blocks, step_wires, wires_seen, first_item, all_wires}
 use Rattle.multiportgraph.specs.Walks.{is_seen, held_seen, both_seen, between, node_held, blocks_left, step_nodes, step_nodes_back, all_ports, ports_left, step_all_ports, step_all_ports_back, ports_of_node, step_node_ports, subports_of, subport_beyond, step_subports, port_links_seen, port_links, links_left, step_front, step_back, node_links, link_beyond, links_item, step_links, neighbour_links, neighbours_item, step_neighbours, connections, connections_item, step_connections}
 use Rattle.port_tables.specs.Listing.{member_filter}
-use Rattle.theorems.specs.Cursors.{front, back}
 use Rattle.multiportgraph.specs.declared.multiportgraph.MultiPortGraph.{MultiPortGraph}
 use Rattle.multi_tables.specs.declared.answers.SubportIndex.{SubportIndex}
 use Rattle.multi_tables.specs.declared.answers.SubportLink.{SubportLink}

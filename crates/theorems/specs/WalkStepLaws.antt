@@ -20,7 +20,7 @@ use Rattle.multiportgraph.specs.Wires.{is_block, blocks, subports_of_port, wire_
 use Rattle.multiportgraph.specs.Walks.{Start, started, refused, is_seen, held_seen, between, node_held, blocks_left, step_nodes, step_nodes_back, all_ports, ports_left, step_all_ports, step_all_ports_back, port_links_seen, port_links, links_left, step_front, step_back, start_at_port, port_links_from, start_port_links}
 use Rattle.port_tables.specs.Listing.{Apart, member_filter, filter_all, rising_filter, rising_flat_map, rising_map, range_rises}
 use Rattle.multiportgraph.specs.ScanLaws.{wire_stands}
-use Rattle.theorems.specs.Cursors.{Turns, turns, rising_apart, Stepped, item, end, walk, From, front, back, walk_ends, take_ends, backwards, Listed, Fronts, Backs, walk_front, walk_back, walk_ends_lem, first_map, last_map, map_same, walk_nothing, ends_nothing}
+use Rattle.theorems.specs.Cursors.{Turns, turns, rising_apart, Stepped, item, end, walk, From, walk_ends, take_ends, backwards, Listed, Fronts, Backs, walk_front, walk_back, walk_ends_lem, first_map, last_map, map_same, walk_nothing, ends_nothing}
 use Rattle.multiportgraph.specs.declared.multiportgraph.MultiPortGraph.{MultiPortGraph}
 use Rattle.multi_tables.specs.declared.answers.SubportIndex.{SubportIndex}
 use Rattle.multi_tables.specs.declared.answers.SubportLink.{SubportLink}

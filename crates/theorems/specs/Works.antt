@@ -1,5 +1,5 @@
 -- The works of every call, in order; none where it is refused before 10.
-use Rattle.std.specs.Prelude.{cond, List, [], ℕ, ◌+◌, leb}
+use Rattle.std.specs.Prelude.{cond, List, [], ◌+◌, leb}
 use Rattle.port_tables.specs.Limits.{node_ports}
 use Rattle.portgraph.specs.Lookups.{meta_at}
 use Rattle.multiportgraph.specs.Reading.{is_hidden, seen}

@@ -1,12 +1,12 @@
 -- What the functions that answer of a graph cite: the listing of its wires, the answer off the settled tables, a path, and orders.
 use Rattle.std.proofs.Math.Path.{◌≡◌, refl, sym, ap}
-use Rattle.std.proofs.Common.{◌∙◌, subst, length-set, length-drop, drop_of_length-le, drop-cons, drop-set-lt, get_or-set_same, take_all, eq-eqb, ne_eqb, le-leb, lt-ltb, le-ltb}
-use Rattle.std.specs.Prelude.{Bool, true, false, cond, ◌&&◌, eqb, leb, ltb, length, take, drop}
+use Rattle.std.proofs.Common.{◌∙◌, length-set, length-drop, drop_of_length-le, drop-cons, drop-set-lt, get_or-set_same, take_all, eq-eqb, ne_eqb, le-leb, lt-ltb, le-ltb}
+use Rattle.std.specs.Prelude.{Bool, true, false, ltb, length, take, drop}
 use mathlib.Core.List.{List, [], ◌∷◌, ◌++◌, map}
 use Prim.Native.Nat.{ℕ, zero, suc, ◌+◌, ◌-◌, ◌*◌, ◌/◌, ◌≤◌, ◌<◌}
 use native.Mathlib.Omega.{arith}
 use Rattle.std.proofs.Math.ListN.{get_or, set}
-use Rattle.std.proofs.Math.Seq.{take-length, paste, paste-zero, paste-suc}
+use Rattle.std.proofs.Math.Seq.{take-length, paste, paste-suc}
 use Rattle.std.proofs.lemmas.Bool.{lt-leb}
 use Rattle.port_tables.specs.Limits.{node_slots, port_slots}
 use Rattle.port_tables.specs.Lists.{Member, Rising, range}
@@ -20,7 +20,6 @@ use Rattle.multiportgraph.specs.Listed.{wires_listed, blocks_listed, list_after}
 use Rattle.multiportgraph.specs.Lookups.{counted, capacity_of}
 use Rattle.multiportgraph.specs.Walks.{Start, started, refused, start_at_node}
 use Rattle.multiportgraph.specs.Wires.{blocks}
-use Rattle.multiportgraph.specs.declared.lookups.CountAnswer.{CountAnswer}
 use Rattle.multiportgraph.specs.declared.lookups.CountAnswer.TheVariants as count_of
 use Rattle.multiportgraph.specs.declared.multiportgraph.MultiPortGraph.{MultiPortGraph}
 use Rattle.multi_tables.specs.declared.answers.Refusal.{Refusal}
@@ -30,11 +29,11 @@ use Rattle.files.specs.Forms.{node_listed, nodes_of, blocks_in}
 use Rattle.files.specs.RankLaws.{blocks_rise}
 use Rattle.files.specs.SaveSteps.{listing_taken, listed_blocks, listed_wires, nodes_are}
 use Rattle.timing.specs.Longest.{Feed, feeds_in, feeders, time_in, longest_among, longest_timed, longest_from, longest_of, longest_numbers}
-use Rattle.timing.specs.Settling.{feed_at, feeds_listed, zeros, settled, path_back, path_among}
+use Rattle.timing.specs.Settling.{feeds_listed, zeros, settled, path_back, path_among}
 use Rattle.timing.specs.RunOrder.{run_order}
 use Rattle.timing.specs.RunOrderLaws.{right_length, right_named, right_forward, found_right, run_order_right, right_run_order}
 use Rattle.timing.specs.TimingClaims.{RightOrder}
-use Rattle.timing.specs.Naming.{marked, Named, named, all_forward}
+use Rattle.timing.specs.Naming.{marked, named, all_forward}
 use Rattle.timing.specs.Path.{if_longest, listed_by, path_of, path_listed, path_after}
 use Rattle.timing.specs.SettleSteps.{listed_next, listed_end, feeds_next, feeds_end, feed_one_more}
 use Rattle.timing.specs.StartLaws.{FeedsFit, zeros_long, zeros_read, answer_settled}

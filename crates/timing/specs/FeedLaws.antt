@@ -1,7 +1,7 @@
 -- Laws of a graph's feeds: they are what a listing of its wires says, they stand by ascending source, and they run between blocks.
-use Rattle.std.specs.Prelude.{◌≡◌, ◌⊎◌, ℕ, zero, suc, ◌+◌, ◌*◌, ◌/◌, ◌≤◌, ◌<◌}
+use Rattle.std.specs.Prelude.{◌≡◌, ℕ, suc, ◌+◌, ◌*◌, ◌/◌, ◌<◌}
 use Rattle.std.proofs.Math.Path.{refl, ap, subst}
-use Rattle.std.proofs.Common.{sym, ◌∙◌, inl, inr, get_or-append-add}
+use Rattle.std.proofs.Common.{sym, ◌∙◌, get_or-append-add}
 use mathlib.Core.List.{List, [], ◌∷◌, ◌++◌, map, flat_map, append_assoc}
 use Rattle.std.proofs.Math.Logic.{⊎_elim}
 use native.Mathlib.Omega.{arith}
@@ -9,7 +9,6 @@ use Rattle.std.proofs.Math.ListN.{length, get_or, length-append}
 use Rattle.port_tables.specs.Limits.{node_slots}
 use Rattle.port_tables.specs.Lists.{Member, Rising, range}
 use Rattle.portgraph.specs.Model.{Model}
-use Rattle.port_tables.specs.Places.{Wire}
 use Rattle.multiportgraph.specs.WellFormed.{Fine}
 use Rattle.multiportgraph.specs.Listed.{end_numbers, wire_numbers, wires_listed}
 use Rattle.multiportgraph.specs.ListReads.{wires_length}

@@ -1,9 +1,9 @@
 -- A path that has the largest sum, as the code finds it: of several there may be it gives one. That it is one is `path_is_longest` of
 -- TimingTheorems.
-use Rattle.std.specs.Prelude.{List, [], ℕ, length}
+use Rattle.std.specs.Prelude.{List, ℕ, length}
 use Rattle.multiportgraph.specs.Listed.{list_after}
 use Rattle.multiportgraph.specs.declared.multiportgraph.MultiPortGraph.{MultiPortGraph}
-use Rattle.timing.specs.Longest.{Feed, feeds_in, longest_among, longest_of}
+use Rattle.timing.specs.Longest.{feeds_in, longest_of}
 use Rattle.timing.specs.Settling.{path_among}
 use Rattle.timing.specs.declared.answers.LongestAnswer.{LongestAnswer}
 use Rattle.timing.specs.declared.answers.LongestAnswer.TheVariants.{Longest, Refused, BadTimes, Cycle}

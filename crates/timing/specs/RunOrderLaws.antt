@@ -1,13 +1,13 @@
 -- Laws of run orders: the tests say what they are named for; what the table of places says; and some order is right exactly if no cycle
 -- reaches a block.
-use Rattle.std.specs.Prelude.{◌≡◌, refl, Bool, true, false, cond, not, ◌&&◌, ◌||◌, List, [], ◌∷◌, ◌++◌, ◌⊎◌, ◌↔◌, ℕ, zero, suc, ◌+◌, ◌≤◌, ◌<◌, eqb, length, get_or, set}
+use Rattle.std.specs.Prelude.{◌≡◌, refl, Bool, true, false, cond, not, ◌&&◌, ◌||◌, List, [], ◌∷◌, ◌⊎◌, ℕ, suc, ◌+◌, ◌≤◌, ◌<◌, eqb, length, get_or, set}
 use Rattle.std.proofs.Common.{sym, ap, ◌∙◌, subst, inl, inr, ⊎_elim, arith, length-set, get_or-set_same, get_or-set_other}
 use Rattle.std.proofs.Math.Dec.{ltb}
 use Rattle.std.proofs.Math.ListN.{get_or-eq_default}
-use borrow.Author.Tests.{eqb-true, eqb-false, eq-eqb, ne_eqb, ltb-true, ltb-false, lt-ltb, le-ltb, not-true}
+use borrow.Author.Tests.{eqb-true, eq-eqb, ltb-true, ltb-false, lt-ltb, not-true}
 use Rattle.port_tables.specs.Lists.{Member, Rising, Once, filter}
 use Rattle.multiportgraph.specs.HiddenStays.{true_not_false}
-use Rattle.port_tables.specs.Listing.{Apart, member_filter, filter_member, partners}
+use Rattle.port_tables.specs.Listing.{Apart, filter_member, partners}
 use Rattle.files.specs.Loading.{every}
 use Rattle.files.specs.LaidLaws.{both_true}
 use Rattle.files.specs.SoundLaws.{every_item, item_every}

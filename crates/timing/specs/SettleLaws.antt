@@ -1,28 +1,27 @@
 -- Laws of settling: what holds after each wire and each block that is done; so a block is settled exactly if no walk of as many wires as
 -- there are slots comes to it, with the largest sum, and the path found has this sum.
-use Rattle.std.specs.Prelude.{◌≡◌, Bool, cond, not, ◌&&◌, ◌||◌, ◌⊎◌, eqb, ltb, set, drop, replicate}
+use Rattle.std.specs.Prelude.{◌≡◌, Bool, cond, not, ◌&&◌, ◌||◌, ◌⊎◌, eqb, ltb, set, drop}
 use Rattle.std.proofs.Math.Path.{refl, sym, ap, subst}
 use Rattle.std.proofs.Common.{◌∙◌}
 use Rattle.std.proofs.Math.Bool.{true, false}
 use mathlib.Core.List.{List, [], ◌∷◌, ◌++◌, append_assoc, append-nil}
 use Rattle.std.proofs.Math.Logic.{inl, inr, ⊎_elim}
-use Prim.Native.Nat.{ℕ, zero, suc, ◌+◌, ◌-◌, ◌≤◌, ◌<◌, max}
+use Prim.Native.Nat.{ℕ, zero, suc, ◌+◌, ◌-◌, ◌≤◌, ◌<◌}
 use native.Mathlib.Omega.{arith}
 use Rattle.std.proofs.Math.Dec.{leb}
-use Rattle.std.proofs.Math.ListN.{length, get_or, length-append, length-set, get_or-eq_default}
-use Rattle.std.proofs.lemmas.List.{length-replicate, get_or-replicate}
+use Rattle.std.proofs.Math.ListN.{length, get_or, length-append, length-set}
 use Rattle.std.proofs.Math.Seq.{get_or-set_same, get_or-set_other, get_or_at}
-use borrow.Author.Tests.{eqb-true, eqb-false, eq-eqb, ne_eqb, ltb-true, ltb-false, lt-ltb, le-ltb, leb-true, leb-false}
+use borrow.Author.Tests.{eqb-true, eqb-false, eq-eqb, ne_eqb, lt-ltb, le-ltb, leb-true, leb-false}
 use Rattle.port_tables.specs.Limits.{node_slots}
-use Rattle.port_tables.specs.Lists.{Member, Rising, range, filter}
+use Rattle.port_tables.specs.Lists.{Member, Rising}
 use Rattle.port_tables.specs.Places.{flag}
 use Rattle.multiportgraph.specs.HiddenStays.{true_not_false}
-use Rattle.port_tables.specs.Listing.{Apart, apart_below, member_append, member_left, member_right, member_filter, filter_member, rising_append, rising_filter, range_rises, member_range, range_member}
-use Rattle.timing.specs.Longest.{Feed, feeders, any_of, largest_of, comes, largest_sum, time_in}
+use Rattle.port_tables.specs.Listing.{Apart, apart_below, member_append, member_left, member_right, rising_append}
+use Rattle.timing.specs.Longest.{Feed, feeders, largest_of, comes, largest_sum, time_in}
 use Rattle.timing.specs.RunOrder.{is_in}
 use Rattle.timing.specs.TimingClaims.{Leads, sum_along}
 use Rattle.timing.specs.WalkLaws.{Fed, none_any, any_none, some_any, largest_is, largest_same, comes_less, comes_fewer}
-use Rattle.timing.specs.Settling.{Tables, zeros, waits_of, pushed, push_ready, start_tables, wire_done, run_done, block_done, settle, path_back}
+use Rattle.timing.specs.Settling.{Tables, pushed, wire_done, run_done, block_done, settle, path_back}
 
 -- Counts.
 

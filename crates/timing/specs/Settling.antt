@@ -1,8 +1,8 @@
 -- How the code finds the largest sums, in one pass over the wires: a block is settled once every wire into it comes from a settled block.
 -- What the passes come to is what Longest says (SettleLaws); nobody has to believe them.
-use Rattle.std.specs.Prelude.{Bool, true, false, cond, not, ◌&&◌, ◌||◌, List, [], ◌∷◌, ◌++◌, map, ℕ, zero, suc, ◌+◌, ◌-◌, ◌*◌, ◌/◌, ◌≤◌, eqb, leb, ltb, length, get_or, set, take, drop, replicate}
+use Rattle.std.specs.Prelude.{cond, List, [], ◌∷◌, ◌++◌, map, ℕ, zero, suc, ◌+◌, ◌-◌, ◌*◌, ◌/◌, ◌≤◌, eqb, leb, ltb, length, get_or, set, take, drop, replicate}
 use Rattle.port_tables.specs.Limits.{node_slots}
-use Rattle.port_tables.specs.Lists.{range, filter}
+use Rattle.port_tables.specs.Lists.{range}
 use Rattle.timing.specs.Longest.{Feed, time_in}
 
 -- Which block feeds which, read off a listing of wires with eight numbers each.

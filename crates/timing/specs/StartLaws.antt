@@ -1,26 +1,25 @@
 -- Laws of the tables that settling begins with: the wires into each block are counted, the first wire out of each is found, and what holds
 -- of settling holds at the start.
-use Rattle.std.specs.Prelude.{◌≡◌, Bool, true, false, not, ◌&&◌, ◌||◌, ◌⊎◌, eqb, leb, ltb, length, set, drop, replicate}
+use Rattle.std.specs.Prelude.{◌≡◌, Bool, true, false, ◌&&◌, ◌⊎◌, eqb, ltb, length, set, drop, replicate}
 use Rattle.std.proofs.Math.Path.{refl, subst}
 use Rattle.std.proofs.Common.{sym, ap, ◌∙◌, inl, inr, ⊎_elim, length-append, length-set, get_or-set_same, get_or-set_other}
 use Rattle.std.proofs.Math.Bool.{cond}
 use mathlib.Core.List.{List, [], ◌∷◌, ◌++◌, append_assoc, append-nil}
-use Prim.Native.Nat.{ℕ, zero, suc, ◌+◌, ◌-◌, ◌≤◌, ◌<◌}
+use Prim.Native.Nat.{ℕ, zero, suc, ◌+◌, ◌≤◌, ◌<◌}
 use native.Mathlib.Omega.{arith}
-use Rattle.std.proofs.Math.ListN.{get_or, get_or-eq_default}
-use Rattle.std.proofs.lemmas.List.{length-replicate, get_or-replicate}
+use Rattle.std.proofs.Math.ListN.{get_or}
+use Rattle.std.proofs.lemmas.List.{length-replicate}
 use Rattle.std.proofs.Math.Seq.{drop-append_seam}
-use borrow.Author.Tests.{eqb-true, eqb-false, eq-eqb, ne_eqb, ltb-true, ltb-false, lt-ltb}
+use borrow.Author.Tests.{eqb-true, eqb-false, eq-eqb, ne_eqb, lt-ltb}
 use Rattle.port_tables.specs.Limits.{node_slots}
 use Rattle.port_tables.specs.Lists.{Member, Rising, range, filter}
 use Rattle.port_tables.specs.Places.{flag}
-use Rattle.port_tables.specs.Listing.{Apart, member_right, member_filter, filter_member, rising_filter, range_rises, member_range, range_member, length_range}
+use Rattle.port_tables.specs.Listing.{Apart, member_filter, filter_member, rising_filter, range_rises, member_range, range_member, length_range}
 use Rattle.theorems.proofs.PortListing.{rising_apart}
 use Rattle.timing.specs.Longest.{Feed, feeders, comes, largest_sum, longest_among, time_in}
 use Rattle.timing.specs.RunOrder.{is_in}
-use Rattle.timing.specs.Settling.{Tables, zeros, waits_of, firsts_of, pushed, push_ready, start_tables, wire_done, run_done, settle, settled}
+use Rattle.timing.specs.Settling.{Tables, zeros, waits_of, firsts_of, pushed, push_ready, start_tables, wire_done, run_done, settled}
 use Rattle.timing.specs.SettleLaws.{into, waiting, group, InOrder, Settling, Settled, waiting_none, member_feeders, same_or_not, settle_ends, settled_comes, unsettled_comes, settled_sum}
-use Rattle.timing.specs.declared.answers.LongestAnswer.{LongestAnswer}
 use Rattle.timing.specs.declared.answers.LongestAnswer.TheVariants.{Longest, Cycle}
 
 pub zeros_long : length zeros ≡ node_slots

@@ -8,11 +8,10 @@ use Rattle.port_tables.specs.Lists.{Member, range}
 use Rattle.portgraph.specs.Model.{Model}
 use Rattle.multiportgraph.specs.WellFormed.{Fine}
 use Rattle.port_tables.specs.Listing.{member_filter}
-use Rattle.port_tables.specs.Places.{Wire}
 use Rattle.multiportgraph.specs.Wires.{is_block, blocks}
 use Rattle.multi_tables.specs.declared.answers.Refusal.{Refusal}
 use Rattle.port_tables.specs.declared.release.Release.{Release}
-use Rattle.theorems.specs.Book.{Call, Book}
+use Rattle.theorems.specs.Book.{Call}
 use Rattle.theorems.proofs.CallLaws.{rel_run}
 use Rattle.theorems.specs.History.{run}
 use Rattle.theorems.specs.ListingClaims.{InBook}

@@ -7,7 +7,7 @@ use native.Mathlib.Omega.{arith}
 use Rattle.std.proofs.Math.Dec.{eqb}
 use Rattle.std.proofs.Math.ListN.{length}
 use Rattle.std.proofs.Math.Seq.{set_out}
-use borrow.Author.Tests.{eqb-true, eqb-false, eq-eqb, ne_eqb, ltb-true, ltb-false}
+use borrow.Author.Tests.{eqb-true, eq-eqb, ne_eqb, ltb-true, ltb-false}
 use Rattle.port_tables.specs.Limits.{node_slots}
 use Rattle.port_tables.specs.Lists.{Member, Rising, filter}
 use Rattle.portgraph.specs.Model.{Model}
@@ -24,15 +24,14 @@ use Rattle.theorems.proofs.StartLaws.{start_at_node_starts}
 use Rattle.timing.specs.Longest.{Feed, feed_of, feeds_in, feeders, comes, largest_sum, time_in, longest_among, longest_timed, longest_from, longest_of}
 use Rattle.timing.specs.RunOrder.{is_in, run_order}
 use Rattle.timing.specs.Path.{path_of}
-use Rattle.timing.specs.TimingClaims.{Feeds, Leads, WalkTo, CycleReaches, sum_along, Before, RightOrder}
-use Rattle.timing.specs.WalkLaws.{Fed, leads_by, member_or_not, cycle_reaches_comes, comes_cycle_reaches, walk_short, walk_apart, sum_above, sum_some}
+use Rattle.timing.specs.TimingClaims.{Feeds, Leads, sum_along}
+use Rattle.timing.specs.WalkLaws.{Fed, member_or_not, walk_short, walk_apart, sum_above, sum_some}
 use Rattle.timing.specs.Settling.{settled, path_back, path_among}
-use Rattle.timing.specs.SettleLaws.{feed#, in_member, member_in, same_or_not, feeders_member, member_feeders, settled_comes, unsettled_comes, settled_sum, path_found}
+use Rattle.timing.specs.SettleLaws.{feed#, in_member, member_in, same_or_not, feeders_member, member_feeders, unsettled_comes, settled_sum, path_found}
 use Rattle.timing.specs.StartLaws.{all_settled}
 use Rattle.timing.specs.FeedLaws.{feeds_rise, feeders_below, feeders_between, block_below}
-use Rattle.timing.specs.RunOrderLaws.{once_apart, apart_once, ordered_before, before_filter, right_order_no_cycle, run_order_right, right_run_order}
+use Rattle.timing.specs.RunOrderLaws.{apart_once, ordered_before, before_filter, right_run_order}
 use Rattle.timing.specs.AnswerSteps.{started_below}
-use Rattle.timing.specs.declared.answers.LongestAnswer.{LongestAnswer}
 use Rattle.timing.specs.declared.answers.LongestAnswer.TheVariants.{Longest, Refused, BadTimes, Cycle}
 
 -- The answer by cases.

@@ -1,8 +1,8 @@
 -- Laws of walks: a block is come to along any number of wires exactly if a cycle reaches it, and the largest sum is that of some walk, and
 -- of none larger.
-use Rattle.std.specs.Prelude.{◌≡◌, Bool, false, cond, ◌||◌, ◌⊎◌, eqb}
+use Rattle.std.specs.Prelude.{◌≡◌, Bool, false, ◌||◌, ◌⊎◌, eqb}
 use Rattle.std.proofs.Math.Path.{refl, subst}
-use Rattle.std.proofs.Common.{sym, ap, ◌∙◌, inl, inr, ⊎_elim, eqb-true, eq-eqb, ne_eqb}
+use Rattle.std.proofs.Common.{sym, ap, ◌∙◌, inl, inr, ⊎_elim, eqb-true}
 use Rattle.std.proofs.Math.Bool.{true}
 use mathlib.Core.List.{List, [], ◌∷◌, ◌++◌}
 use Prim.Native.Nat.{ℕ, zero, suc, ◌+◌, ◌-◌, ◌≤◌, ◌<◌, max}
@@ -11,7 +11,7 @@ use Rattle.std.proofs.Math.ListN.{length, length-append}
 use Rattle.std.proofs.lemmas.Bool.{eqb-false}
 use Rattle.port_tables.specs.Lists.{Member, Rising}
 use Rattle.multiportgraph.specs.HiddenStays.{true_not_false}
-use Rattle.port_tables.specs.Listing.{Apart, apart_below, member_append}
+use Rattle.port_tables.specs.Listing.{Apart, apart_below}
 use Rattle.timing.specs.Longest.{Feed, feeders, any_of, largest_of, comes, largest_sum}
 use Rattle.timing.specs.TimingClaims.{Leads, CycleReaches, sum_along}
 

@@ -2,7 +2,7 @@
 use Rattle.console_parts.proofs.store.folder_len.Given as goal
 
 abbrev pub invariant-loop-len : goal.invariant-loop-len
-invariant-loop-len l =    Unit {0}
+invariant-loop-len l = Unit {0}
 
 abbrev pub decreases-loop-len : goal.decreases-loop-len
 decreases-loop-len l = l.len

@@ -5,7 +5,7 @@ use lib.ListN.{length}
 use Rattle.console_parts.proofs.store.put_text.Given as goal
 
 abbrev pub invariant-loop-i : goal.invariant-loop-i
-invariant-loop-i l =    length l.path ≡ length l.initial.path
+invariant-loop-i l = length l.path ≡ length l.initial.path
 
 abbrev pub decreases-loop-i : goal.decreases-loop-i
 decreases-loop-i l = length l.text - l.i

@@ -59,8 +59,8 @@ loop-rest-smaller c = let h = fits (goal.at.loop-rest-smaller c).In-loop-rest in
 pub loop-rest-preserved : goal.loop-rest-preserved
 loop-rest-preserved c =
     rw (rest_is c.loop-rest.rest.now) (elim c.if-field_at-eq1.branch [
-      then-field_at-eq1 w ↦ shape_blocks c.loop-rest.invariant c.loop-rest-test.true c.next_kind-next.ensures (sym c.if-not-unit_right.false ∙ c.unit_right.ensures) c.field_at.ensures.value c.field_at-count.ensures.value w.if-field_at-eq1.true w.blocks-is w.wires-is
-    | else-field_at-eq1 w ↦ shape_wires c.loop-rest.invariant c.loop-rest-test.true c.next_kind-next.ensures (sym c.if-not-unit_right.false ∙ c.unit_right.ensures) c.field_at.ensures.value c.field_at-count.ensures.value w.if-field_at-eq1.false w.blocks-is w.wires-is
+      | then-field_at-eq1 w ↦ shape_blocks c.loop-rest.invariant c.loop-rest-test.true c.next_kind-next.ensures (sym c.if-not-unit_right.false ∙ c.unit_right.ensures) c.field_at.ensures.value c.field_at-count.ensures.value w.if-field_at-eq1.true w.blocks-is w.wires-is
+      | else-field_at-eq1 w ↦ shape_wires c.loop-rest.invariant c.loop-rest-test.true c.next_kind-next.ensures (sym c.if-not-unit_right.false ∙ c.unit_right.ensures) c.field_at.ensures.value c.field_at-count.ensures.value w.if-field_at-eq1.false w.blocks-is w.wires-is
     ])
 
 pub returns : goal.returns

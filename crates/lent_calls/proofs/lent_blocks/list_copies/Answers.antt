@@ -20,12 +20,12 @@ loop-k-init c = (omega arith, omega arith, (copies_begun _ _ _ _ c.args.list.now
 pub loop-k-preserved : goal.loop-k-preserved
 loop-k-preserved c =
     elim c.if-marked.branch [
-      then-marked w ↦
-        let x = copies_turn_split (multi_in c.args.nodes.now c.args.links.now c.args.owners.now c.args.heads.now c.args.marks.now c.args.flags.now (no_totals One)) c.args.first c.loop-k.k c.args.count c.loop-k-test.true c.loop-k.list _ c.loop-k.place _ _ c.args.at (split_told (multi_in c.args.nodes.now c.args.links.now c.args.owners.now c.args.heads.now c.args.marks.now c.args.flags.now (no_totals One)) _ _ _ _ c.requires.0.marks_long refl c.marked.ensures w.if-marked.true) (w.copy_node_in.ensures ∙ copy_node_read c.args.nodes.now c.args.links.now c.args.owners.now c.args.heads.now c.args.marks.now c.args.flags.now (no_totals One) _) (w.list-is ∙ w.store.ensures) w.place-is c.loop-k.invariant.1 in
-        (omega arith, x.0, x.1 ∙ c.loop-k.invariant.2, x.2 ∙ c.loop-k.invariant.3)
-    | else-marked w ↦
-        let x = copies_turn_plain (multi_in c.args.nodes.now c.args.links.now c.args.owners.now c.args.heads.now c.args.marks.now c.args.flags.now (no_totals One)) c.args.first c.loop-k.k c.args.count c.loop-k-test.true c.loop-k.list _ c.loop-k.place _ c.args.at (split_told (multi_in c.args.nodes.now c.args.links.now c.args.owners.now c.args.heads.now c.args.marks.now c.args.flags.now (no_totals One)) _ _ _ _ c.requires.0.marks_long refl c.marked.ensures w.if-marked.false) w.list-is w.place-is c.loop-k.invariant.1 in
-        (omega arith, x.0, x.1 ∙ c.loop-k.invariant.2, x.2 ∙ c.loop-k.invariant.3)
+      | then-marked w ↦
+          let x = copies_turn_split (multi_in c.args.nodes.now c.args.links.now c.args.owners.now c.args.heads.now c.args.marks.now c.args.flags.now (no_totals One)) c.args.first c.loop-k.k c.args.count c.loop-k-test.true c.loop-k.list _ c.loop-k.place _ _ c.args.at (split_told (multi_in c.args.nodes.now c.args.links.now c.args.owners.now c.args.heads.now c.args.marks.now c.args.flags.now (no_totals One)) _ _ _ _ c.requires.0.marks_long refl c.marked.ensures w.if-marked.true) (w.copy_node_in.ensures ∙ copy_node_read c.args.nodes.now c.args.links.now c.args.owners.now c.args.heads.now c.args.marks.now c.args.flags.now (no_totals One) _) (w.list-is ∙ w.store.ensures) w.place-is c.loop-k.invariant.1 in
+          (omega arith, x.0, x.1 ∙ c.loop-k.invariant.2, x.2 ∙ c.loop-k.invariant.3)
+      | else-marked w ↦
+          let x = copies_turn_plain (multi_in c.args.nodes.now c.args.links.now c.args.owners.now c.args.heads.now c.args.marks.now c.args.flags.now (no_totals One)) c.args.first c.loop-k.k c.args.count c.loop-k-test.true c.loop-k.list _ c.loop-k.place _ c.args.at (split_told (multi_in c.args.nodes.now c.args.links.now c.args.owners.now c.args.heads.now c.args.marks.now c.args.flags.now (no_totals One)) _ _ _ _ c.requires.0.marks_long refl c.marked.ensures w.if-marked.false) w.list-is w.place-is c.loop-k.invariant.1 in
+          (omega arith, x.0, x.1 ∙ c.loop-k.invariant.2, x.2 ∙ c.loop-k.invariant.3)
     ]
 
 pub shape_of-list : goal.shape_of-list

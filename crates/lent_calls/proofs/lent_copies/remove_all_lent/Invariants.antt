@@ -8,7 +8,7 @@ use Rattle.multiportgraph.specs.HiddenNodes.{remove_all}
 use Rattle.lent_calls.proofs.lent_copies.remove_all_lent.Given as goal
 
 abbrev pub invariant-loop-k : goal.invariant-loop-k
-invariant-loop-k l =    (l.k ≤ l.count) × Sound (multi_in l.nodes l.links l.owners l.heads l.marks l.flags l.left)
+invariant-loop-k l = (l.k ≤ l.count) × Sound (multi_in l.nodes l.links l.owners l.heads l.marks l.flags l.left)
     × (remove_all (multi_in l.nodes l.links l.owners l.heads l.marks l.flags l.left) (take (l.count - l.k) (drop l.k l.list)) ≡ remove_all (multi_in l.initial.nodes l.initial.links l.initial.owners l.initial.heads l.initial.marks l.initial.flags l.initial.left) (take l.count l.list))
     × StaysCanonical l.initial.nodes l.nodes
 

@@ -7,7 +7,7 @@ use Rattle.multiportgraph.specs.HiddenNodes.{unsplit_range}
 use Rattle.lent_calls.proofs.lent_copies.unsplit_range_lent.Given as goal
 
 abbrev pub invariant-loop-k : goal.invariant-loop-k
-invariant-loop-k l =    (l.k ≤ l.count) × Sound (multi_in l.nodes l.links l.owners l.heads l.marks l.flags l.left)
+invariant-loop-k l = (l.k ≤ l.count) × Sound (multi_in l.nodes l.links l.owners l.heads l.marks l.flags l.left)
     × (unsplit_range (multi_in l.nodes l.links l.owners l.heads l.marks l.flags l.left) (l.first + l.k) (l.count - l.k) ≡ unsplit_range (multi_in l.initial.nodes l.initial.links l.initial.owners l.initial.heads l.initial.marks l.initial.flags l.initial.left) l.first l.count)
     × StaysCanonical l.initial.nodes l.nodes
 

@@ -7,8 +7,7 @@ use Rattle.portgraph.specs.Lent.{count_ports}
 use Rattle.lent_portgraph.proofs.lent_resize.take_block.Goals as goal
 
 pub returns : goal.returns
-returns c =
-    (
-      ap (count_ports c.args.counts) (c.grown.ensures ∙ ap (λ (h : ℕ). grown h c.args.counts.port_len c.args.size) c.head_at-head.ensures),
-      c.put_head.ensures ∙ ap (put_head c.args.heads.now c.args.size) (c.rest_of.ensures ∙ (λ i. rest_of (c.head_at-head.ensures i) (c.at.ensures i))),
-    )
+returns c = (
+  ap (count_ports c.args.counts) (c.grown.ensures ∙ ap (λ (h : ℕ). grown h c.args.counts.port_len c.args.size) c.head_at-head.ensures),
+  c.put_head.ensures ∙ ap (put_head c.args.heads.now c.args.size) (c.rest_of.ensures ∙ (λ i. rest_of (c.head_at-head.ensures i) (c.at.ensures i))),
+)

@@ -6,7 +6,7 @@ use Rattle.port_tables.specs.Lists.{range}
 use Rattle.multiportgraph.proofs.list_blocks.list_slots.Given as goal
 
 abbrev pub invariant-loop-node : goal.invariant-loop-node
-invariant-loop-node l =    (l.node ≤ l.len)
+invariant-loop-node l = (l.node ≤ l.len)
     × Writing l.initial.list 0 (flat_map (node_block l.nodes l.flags) (range 0 l.len)) l.list l.next (flat_map (node_block l.nodes l.flags) (range l.node (l.len - l.node)))
 
 abbrev pub decreases-loop-node : goal.decreases-loop-node

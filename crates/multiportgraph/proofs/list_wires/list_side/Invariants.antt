@@ -6,9 +6,9 @@ use Rattle.multiportgraph.specs.ListScans.{place_wires, Writing}
 use Rattle.multiportgraph.proofs.list_wires.list_side.Given as goal
 
 abbrev pub invariant-loop-position : goal.invariant-loop-position
-invariant-loop-position l =    (l.position ≤ l.count)
+invariant-loop-position l = (l.position ≤ l.count)
     × Writing l.initial.list l.place (flat_map (place_wires l.nodes l.links l.owners l.marks l.flags l.node l.first) (range 0 l.count)) l.list l.next
     (flat_map (place_wires l.nodes l.links l.owners l.marks l.flags l.node l.first) (range l.position (l.count - l.position)))
 
 abbrev pub decreases-loop-position : goal.decreases-loop-position
-decreases-loop-position l =    l.count - l.position
+decreases-loop-position l = l.count - l.position

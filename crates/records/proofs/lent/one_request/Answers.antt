@@ -27,16 +27,16 @@ overflow_cast-wires c = omega (arith, links_fit _ c.requires)
 
 pub returns-in-Add : goal.returns-in-Add
 returns-in-Add c = (
-      answered c.requires (ap meant c.in-Add.is) (c.add_words.ensures ∙ ap (λ x. five (add_numbers x)) c.add_lent-added.ensures.1)
-          c.add_lent-added.ensures.0,
-      c.add_lent-added.ensures.2,
+  answered c.requires (ap meant c.in-Add.is) (c.add_words.ensures ∙ ap (λ x. five (add_numbers x)) c.add_lent-added.ensures.1)
+      c.add_lent-added.ensures.0,
+  c.add_lent-added.ensures.2,
 )
 
 pub returns-in-Remove : goal.returns-in-Remove
 returns-in-Remove c = (
-      answered c.requires (ap meant c.in-Remove.is) (c.remove_words.ensures ∙ ap (λ x. five (remove_numbers x)) c.remove_lent-removed.ensures.1)
-          c.remove_lent-removed.ensures.0,
-      c.remove_lent-removed.ensures.2,
+  answered c.requires (ap meant c.in-Remove.is) (c.remove_words.ensures ∙ ap (λ x. five (remove_numbers x)) c.remove_lent-removed.ensures.1)
+      c.remove_lent-removed.ensures.0,
+  c.remove_lent-removed.ensures.2,
 )
 
 pub returns-in-Resize : goal.returns-in-Resize
@@ -45,9 +45,9 @@ returns-in-Resize c =
 
 pub returns-in-Link : goal.returns-in-Link
 returns-in-Link c = (
-      answered c.requires (ap meant c.in-Link.is) (c.link_words.ensures ∙ ap (λ x. five (link_numbers x)) c.link_lent-linked.ensures.1)
-          c.link_lent-linked.ensures.0,
-      c.link_lent-linked.ensures.2,
+  answered c.requires (ap meant c.in-Link.is) (c.link_words.ensures ∙ ap (λ x. five (link_numbers x)) c.link_lent-linked.ensures.1)
+      c.link_lent-linked.ensures.0,
+  c.link_lent-linked.ensures.2,
 )
 
 pub returns-in-Unlink : goal.returns-in-Unlink
@@ -56,9 +56,9 @@ returns-in-Unlink c =
 
 pub returns-in-LinkSubports : goal.returns-in-LinkSubports
 returns-in-LinkSubports c = (
-      answered c.requires (ap meant c.in-LinkSubports.is) (c.link_words-in-LinkSubports.ensures ∙ ap (λ x. five (link_numbers x)) c.link_sub_lent-linked.ensures.1)
-          c.link_sub_lent-linked.ensures.0,
-      untouched c.link_sub_lent-linked.ensures.2,
+  answered c.requires (ap meant c.in-LinkSubports.is) (c.link_words-in-LinkSubports.ensures ∙ ap (λ x. five (link_numbers x)) c.link_sub_lent-linked.ensures.1)
+      c.link_sub_lent-linked.ensures.0,
+  untouched c.link_sub_lent-linked.ensures.2,
 )
 
 pub returns-in-UnlinkSubport : goal.returns-in-UnlinkSubport

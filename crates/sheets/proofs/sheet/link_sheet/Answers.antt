@@ -1,5 +1,5 @@
 -- `sheet::link_sheet` meets its contract: one entry more is done, and what all leave.
-use Rattle.std.proofs.Common.{List, ℕ, ◌≡◌, ◌+◌, ◌-◌, ◌*◌, ◌<◌, ◌≤◌, suc, length, arith, ap, sym, subst, ◌∙◌, lt-ltb}
+use Rattle.std.proofs.Common.{List, ℕ, ◌≡◌, ◌+◌, ◌-◌, ◌<◌, ◌≤◌, suc, length, arith, ap, sym, subst, ◌∙◌}
 use Rattle.std.proofs.Math.ListN.{set, length-set}
 use Rattle.std.proofs.lemmas.List.{get_or_default}
 use Rattle.std.proofs.lemmas.Bool.{le-ltb}
@@ -21,12 +21,11 @@ turned : (all : Sheet) (m : MultiPortGraph) (es : List SheetEntry) (i : ℕ) →
 unfolding Turned
 turned all m es i w h f =
     let l = length-set es i (entry_linked m (entry_at es i)).entry in
-    let k : suc (length es - (i + 1)) ≡ length es - i = omega arith in
-    (
+    let k : suc (length es - (i + 1)) ≡ length es - i = omega arith in (
       entry_kept m (entry_at es i) w,
       omega (arith, l),
       ap (λ (n : ℕ). finish (n - (i + 1)) (i + 1) (entry_linked m (entry_at es i)).graph (set es i (entry_linked m (entry_at es i)).entry)) l
-      ∙ (finish_one (length es - (i + 1)) i m es ∙ (ap (λ (n : ℕ). finish n i m es) k ∙ f)),
+          ∙ (finish_one (length es - (i + 1)) i m es ∙ (ap (λ (n : ℕ). finish n i m es) k ∙ f)),
     )
 
 pub loop-i-preserved : goal.loop-i-preserved

@@ -16,10 +16,9 @@ loop-i-init c = (omega arith, omega arith, refl)
 pub loop-i-preserved : goal.loop-i-preserved
 loop-i-preserved c =
     let e = c.hits.ensures ∙ ap (hits c.args.test) c.row_at.ensures in
-    elim c.if-hits.branch
-    [
-        then-hits w ↦ (omega arith, omega arith, w.n-is ∙ one_more_hit (hits c.args.test) _ _ _ (sym e ∙ w.if-hits.true) c.loop-i.invariant.2)
-        | else-hits w ↦ (omega arith, omega arith, w.n-is ∙ (c.loop-i.invariant.2 ∙ sym (ap length (none_more_hit (hits c.args.test) _ _ (sym e ∙ w.if-hits.false)))))
+    elim c.if-hits.branch [
+      | then-hits w ↦ (omega arith, omega arith, w.n-is ∙ one_more_hit (hits c.args.test) _ _ _ (sym e ∙ w.if-hits.true) c.loop-i.invariant.2)
+      | else-hits w ↦ (omega arith, omega arith, w.n-is ∙ (c.loop-i.invariant.2 ∙ sym (ap length (none_more_hit (hits c.args.test) _ _ (sym e ∙ w.if-hits.false)))))
     ]
 
 pub returns : goal.returns

@@ -12,10 +12,9 @@ loop-i-init c = closing_begins _ _ _ c.requires.1
 
 pub loop-i-preserved : goal.loop-i-preserved
 loop-i-preserved c =
-    elim c.if-not-hits.branch
-    [
-        then-not-hits w ↦ closing_keeps _ _ _ _ _ _ _ _ _ c.requires.0 c.loop-i-test.true c.loop-i.invariant c.row_at-row.ensures (ap not (sym c.hits.ensures ∙ w.if-not-hits.true)) (w.table-is ∙ w.put_row.ensures) w.kept-is
-        | else-not-hits w ↦ closing_drops _ _ _ _ _ _ _ _ c.loop-i-test.true c.loop-i.invariant (sym (ap (missed c.args.test) c.row_at-row.ensures) ∙ ap not (sym c.hits.ensures ∙ w.if-not-hits.false)) w.table-is w.kept-is
+    elim c.if-not-hits.branch [
+      | then-not-hits w ↦ closing_keeps _ _ _ _ _ _ _ _ _ c.requires.0 c.loop-i-test.true c.loop-i.invariant c.row_at-row.ensures (ap not (sym c.hits.ensures ∙ w.if-not-hits.true)) (w.table-is ∙ w.put_row.ensures) w.kept-is
+      | else-not-hits w ↦ closing_drops _ _ _ _ _ _ _ _ c.loop-i-test.true c.loop-i.invariant (sym (ap (missed c.args.test) c.row_at-row.ensures) ∙ ap not (sym c.hits.ensures ∙ w.if-not-hits.false)) w.table-is w.kept-is
     ]
 
 pub returns : goal.returns

@@ -13,9 +13,9 @@ returns-then-next-eq0 c = list_done _ _ _ _ c.loop-count.invariant.1 c.if-next-e
 
 pub loop-count-preserved : goal.loop-count-preserved
 loop-count-preserved c = (
-      omega (arith, c.loop-count-test.true),
-      list_turn _ c.loop-count.next _ c.loop-count.count _ c.wide.result _ c.loop-count.invariant.1 c.if-next-eq0.false
-          c.loop-count-test.true refl c.lay_block.ensures c.wide.ensures c.at-next.ensures,
+  omega (arith, c.loop-count-test.true),
+  list_turn _ c.loop-count.next _ c.loop-count.count _ c.wide.result _ c.loop-count.invariant.1 c.if-next-eq0.false
+      c.loop-count-test.true refl c.lay_block.ensures c.wide.ensures c.at-next.ensures,
 )
 
 pub returns : goal.returns

@@ -7,7 +7,7 @@ use Rattle.slots.specs.LaySteps.{Left}
 use Rattle.slots.proofs.laying.lay_list.Given as goal
 
 abbrev pub invariant-loop-count : goal.invariant-loop-count
-invariant-loop-count l =    (l.count ≤ port_slots) × Left (list_from l.links l.head l.size port_slots) (list_from l.links l.next l.size (port_slots - l.count)) l.initial.sizes l.initial.holders l.sizes l.holders
+invariant-loop-count l = (l.count ≤ port_slots) × Left (list_from l.links l.head l.size port_slots) (list_from l.links l.next l.size (port_slots - l.count)) l.initial.sizes l.initial.holders l.sizes l.holders
 
 abbrev pub decreases-loop-count : goal.decreases-loop-count
 decreases-loop-count l = port_slots - l.count

@@ -10,9 +10,9 @@ loop-size-init c = (omega arith, omega arith, free_begun _ _ _ _)
 
 pub loop-size-preserved : goal.loop-size-preserved
 loop-size-preserved c = (
-      omega arith,
-      omega (arith, c.loop-size-test.true),
-      range_turn _ c.loop-size.size free_lists c.loop-size.invariant.2 (omega (arith, c.loop-size-test.true)) (from_head _ _ c.loop-size.size _ c.head_at-head.ensures c.lay_list.ensures),
+  omega arith,
+  omega (arith, c.loop-size-test.true),
+  range_turn _ c.loop-size.size free_lists c.loop-size.invariant.2 (omega (arith, c.loop-size-test.true)) (from_head _ _ c.loop-size.size _ c.head_at-head.ensures c.lay_list.ensures),
 )
 
 pub returns : goal.returns

@@ -10,7 +10,7 @@ use Rattle.slots.specs.LaySteps.{Left}
 use Rattle.slots.proofs.laying.lay_lists.Given as goal
 
 abbrev pub invariant-loop-size : goal.invariant-loop-size
-invariant-loop-size l =    (1 ≤ l.size) × (l.size ≤ free_lists)
+invariant-loop-size l = (1 ≤ l.size) × (l.size ≤ free_lists)
     × Left (free_in l.links l.heads) (flat_map (λ k. list_from l.links (head_at l.heads k) k port_slots) (range l.size (free_lists - l.size))) l.initial.sizes l.initial.holders l.sizes l.holders
 
 abbrev pub decreases-loop-size : goal.decreases-loop-size

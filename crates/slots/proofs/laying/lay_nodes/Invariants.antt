@@ -11,7 +11,7 @@ use Rattle.slots.specs.LaySteps.{Left}
 use Rattle.slots.proofs.laying.lay_nodes.Given as goal
 
 abbrev pub invariant-loop-n : goal.invariant-loop-n
-invariant-loop-n l =    (l.n ≤ node_slots) × Left (taken_in l.nodes) (flat_map (λ i. node_holds i (meta_in l.nodes i)) (range l.n (node_slots - l.n))) l.initial.sizes l.initial.holders l.sizes l.holders
+invariant-loop-n l = (l.n ≤ node_slots) × Left (taken_in l.nodes) (flat_map (λ i. node_holds i (meta_in l.nodes i)) (range l.n (node_slots - l.n))) l.initial.sizes l.initial.holders l.sizes l.holders
 
 abbrev pub decreases-loop-n : goal.decreases-loop-n
 decreases-loop-n l = node_slots - l.n

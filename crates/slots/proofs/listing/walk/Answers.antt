@@ -26,10 +26,10 @@ overflow_add-slot c =
 
 pub loop-count-preserved : goal.loop-count-preserved
 loop-count-preserved c = (
-      omega (arith, c.loop-count-test.true),
-      walk_turn _ _ c.loop-count.slot c.loop-count.count _ _ c.wide-slot.result c.loop-count.invariant.1 c.loop-count-test.true
-          c.at-size.ensures c.if-size-eq0.false c.at-holder.ensures
-          c.put_three.ensures c.wide-slot.ensures,
+  omega (arith, c.loop-count-test.true),
+  walk_turn _ _ c.loop-count.slot c.loop-count.count _ _ c.wide-slot.result c.loop-count.invariant.1 c.loop-count-test.true
+      c.at-size.ensures c.if-size-eq0.false c.at-holder.ensures
+      c.put_three.ensures c.wide-slot.ensures,
 )
 
 pub returns : goal.returns

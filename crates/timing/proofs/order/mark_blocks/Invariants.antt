@@ -7,7 +7,7 @@ use Rattle.timing.specs.Naming.{marked}
 use Rattle.timing.proofs.order.mark_blocks.Given as goal
 
 abbrev pub invariant-loop-i : goal.invariant-loop-i
-invariant-loop-i l =    (length l.places ≡ length l.initial.places) × (marked (drop l.i (nodes_of l.listed)) l.places ≡ marked (nodes_of l.listed) l.initial.places)
+invariant-loop-i l = (length l.places ≡ length l.initial.places) × (marked (drop l.i (nodes_of l.listed)) l.places ≡ marked (nodes_of l.listed) l.initial.places)
 
 abbrev pub decreases-loop-i : goal.decreases-loop-i
 decreases-loop-i l = l.count - l.i

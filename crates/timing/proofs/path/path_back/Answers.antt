@@ -17,9 +17,9 @@ shape_of-back-then-from-eq0 c = ap length c.store.ensures ∙ simp length-set c.
 
 pub returns-then-from-eq0 : goal.returns-then-from-eq0
 returns-then-from-eq0 c = (
-      c.loop-k.invariant.0,
-      path_laid c.args.origin.now c.loop-k.back c.loop-k.k c.loop-k.n (omega arith) c.store.ensures
-          ∙ (path_stops c.args.origin.now c.loop-k.k c.loop-k.n (drop (c.loop-k.k + 1) c.loop-k.back) (sym (c.at-from.ensures ∙ ap (λ (x : ℕ). get_or c.args.origin.now x 0) c.wide.ensures) ∙ c.if-from-eq0.true) ∙ c.loop-k.invariant.2),
+  c.loop-k.invariant.0,
+  path_laid c.args.origin.now c.loop-k.back c.loop-k.k c.loop-k.n (omega arith) c.store.ensures
+      ∙ (path_stops c.args.origin.now c.loop-k.k c.loop-k.n (drop (c.loop-k.k + 1) c.loop-k.back) (sym (c.at-from.ensures ∙ ap (λ (x : ℕ). get_or c.args.origin.now x 0) c.wide.ensures) ∙ c.if-from-eq0.true) ∙ c.loop-k.invariant.2),
 )
 
 pub loop-k-preserved : goal.loop-k-preserved

@@ -17,10 +17,10 @@ push_if_ready-tail-requires c = (c.loop-n.invariant.0, omega arith, c.loop-n-tes
 
 pub loop-n-preserved : goal.loop-n-preserved
 loop-n-preserved c = (
-      c.push_if_ready-tail.ensures.0,
-      omega arith,
-      ap (push_ready c.args.waits.now (range (c.loop-n.n + 1) (node_slots - (c.loop-n.n + 1)))) c.push_if_ready-tail.ensures.1
-          ∙ (ready_turn c.args.waits.now (take c.loop-n.tail c.loop-n.queue) node_slots c.loop-n.n c.loop-n-test.true ∙ c.loop-n.invariant.2),
+  c.push_if_ready-tail.ensures.0,
+  omega arith,
+  ap (push_ready c.args.waits.now (range (c.loop-n.n + 1) (node_slots - (c.loop-n.n + 1)))) c.push_if_ready-tail.ensures.1
+      ∙ (ready_turn c.args.waits.now (take c.loop-n.tail c.loop-n.queue) node_slots c.loop-n.n c.loop-n-test.true ∙ c.loop-n.invariant.2),
 )
 
 pub shape_of-queue : goal.shape_of-queue

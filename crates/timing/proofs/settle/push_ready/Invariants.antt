@@ -9,7 +9,7 @@ use Rattle.timing.specs.Settling.{push_ready}
 use Rattle.timing.proofs.settle.push_ready.Given as goal
 
 abbrev pub invariant-loop-n : goal.invariant-loop-n
-invariant-loop-n l =    (l.tail ≤ node_slots) × (length l.queue ≡ length l.initial.queue) × (push_ready l.waits (range l.n (node_slots - l.n)) (take l.tail l.queue) ≡ push_ready l.waits (range 0 node_slots) [])
+invariant-loop-n l = (l.tail ≤ node_slots) × (length l.queue ≡ length l.initial.queue) × (push_ready l.waits (range l.n (node_slots - l.n)) (take l.tail l.queue) ≡ push_ready l.waits (range 0 node_slots) [])
 
 abbrev pub decreases-loop-n : goal.decreases-loop-n
 decreases-loop-n l = node_slots - l.n

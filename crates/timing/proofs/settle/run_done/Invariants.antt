@@ -7,7 +7,7 @@ use Rattle.timing.specs.Settling.{feeds_listed, tables_of, run_done}
 use Rattle.timing.proofs.settle.run_done.Given as goal
 
 abbrev pub invariant-loop-i : goal.invariant-loop-i
-invariant-loop-i l =    (l.next ≤ node_slots) × (length l.waits ≡ length l.initial.waits) × (length l.best ≡ length l.initial.best) × (length l.origin ≡ length l.initial.origin) × (length l.queue ≡ length l.initial.queue)
+invariant-loop-i l = (l.next ≤ node_slots) × (length l.waits ≡ length l.initial.waits) × (length l.best ≡ length l.initial.best) × (length l.origin ≡ length l.initial.origin) × (length l.queue ≡ length l.initial.queue)
     × (run_done l.block l.sum (drop l.i (feeds_listed l.ends)) (tables_of l.waits l.best l.origin l.queue l.next) ≡ run_done l.block l.sum (drop l.from (feeds_listed l.ends)) (tables_of l.initial.waits l.initial.best l.initial.origin l.initial.queue l.tail))
 
 abbrev pub decreases-loop-i : goal.decreases-loop-i

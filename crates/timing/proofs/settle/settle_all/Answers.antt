@@ -42,6 +42,6 @@ shape_of-queue c = c.loop-head.invariant.4
 
 pub returns : goal.returns
 returns c = (
-      settle_end (feeds_listed c.args.ends.now) c.args.firsts.now c.args.times.now c.loop-head.waits c.loop-head.best c.loop-head.origin c.loop-head.queue c.loop-head.tail c.loop-head.head (omega arith) c.loop-head.invariant.0 node_slots c.loop-head-test.false ∙ c.loop-head.invariant.7,
-      bounded_more c.loop-head.best c.loop-head.head node_slots c.loop-head.invariant.5 c.loop-head.invariant.6,
+  settle_end (feeds_listed c.args.ends.now) c.args.firsts.now c.args.times.now c.loop-head.waits c.loop-head.best c.loop-head.origin c.loop-head.queue c.loop-head.tail c.loop-head.head (omega arith) c.loop-head.invariant.0 node_slots c.loop-head-test.false ∙ c.loop-head.invariant.7,
+  bounded_more c.loop-head.best c.loop-head.head node_slots c.loop-head.invariant.5 c.loop-head.invariant.6,
 )

@@ -7,7 +7,7 @@ use Rattle.timing.specs.Settling.{feeds_listed, tables_of, settle, Bounded}
 use Rattle.timing.proofs.settle.settle_all.Given as goal
 
 abbrev pub invariant-loop-head : goal.invariant-loop-head
-invariant-loop-head l =    (l.tail ≤ node_slots) × (length l.waits ≡ length l.initial.waits) × (length l.best ≡ length l.initial.best) × (length l.origin ≡ length l.initial.origin) × (length l.queue ≡ length l.initial.queue) × (l.head ≤ node_slots) × Bounded l.best l.head
+invariant-loop-head l = (l.tail ≤ node_slots) × (length l.waits ≡ length l.initial.waits) × (length l.best ≡ length l.initial.best) × (length l.origin ≡ length l.initial.origin) × (length l.queue ≡ length l.initial.queue) × (l.head ≤ node_slots) × Bounded l.best l.head
     × (settle (feeds_listed l.ends) l.firsts l.times (node_slots - l.head) l.head (tables_of l.waits l.best l.origin l.queue l.tail) ≡ settle (feeds_listed l.ends) l.firsts l.times node_slots 0 (tables_of l.initial.waits l.initial.best l.initial.origin l.initial.queue l.start))
 
 abbrev pub decreases-loop-head : goal.decreases-loop-head

@@ -20,13 +20,13 @@ pub loop-k-preserved : goal.loop-k-preserved
 loop-k-preserved c =
     let s = long (goal.at.loop-k-preserved c).Start in
     elim c.if-marked.branch [
-      then-marked+then-place-lt-NODE_PORTS w ↦
-        let x = copies_turn_split c.args.self c.args.first c.loop-k.k c.args.count c.loop-k-test.true c.loop-k.list _ c.loop-k.place _ _ c.args.at (split_told c.args.self _ _ _ _ s refl c.marked.ensures w.if-marked.true) w.copy_node_of.ensures w.list-is w.place-is c.loop-k.invariant.1 in
-        (omega arith, x.0, x.1 ∙ c.loop-k.invariant.2, x.2 ∙ c.loop-k.invariant.3)
-    | then-marked+else-place-lt-NODE_PORTS w ↦ absurd (omega (arith, w.if-place-lt-NODE_PORTS.false))
-    | else-marked w ↦
-        let x = copies_turn_plain c.args.self c.args.first c.loop-k.k c.args.count c.loop-k-test.true c.loop-k.list _ c.loop-k.place _ c.args.at (split_told c.args.self _ _ _ _ s refl c.marked.ensures w.if-marked.false) w.list-is w.place-is c.loop-k.invariant.1 in
-        (omega arith, x.0, x.1 ∙ c.loop-k.invariant.2, x.2 ∙ c.loop-k.invariant.3)
+      | then-marked+then-place-lt-NODE_PORTS w ↦
+          let x = copies_turn_split c.args.self c.args.first c.loop-k.k c.args.count c.loop-k-test.true c.loop-k.list _ c.loop-k.place _ _ c.args.at (split_told c.args.self _ _ _ _ s refl c.marked.ensures w.if-marked.true) w.copy_node_of.ensures w.list-is w.place-is c.loop-k.invariant.1 in
+          (omega arith, x.0, x.1 ∙ c.loop-k.invariant.2, x.2 ∙ c.loop-k.invariant.3)
+      | then-marked+else-place-lt-NODE_PORTS w ↦ absurd (omega (arith, w.if-place-lt-NODE_PORTS.false))
+      | else-marked w ↦
+          let x = copies_turn_plain c.args.self c.args.first c.loop-k.k c.args.count c.loop-k-test.true c.loop-k.list _ c.loop-k.place _ c.args.at (split_told c.args.self _ _ _ _ s refl c.marked.ensures w.if-marked.false) w.list-is w.place-is c.loop-k.invariant.1 in
+          (omega arith, x.0, x.1 ∙ c.loop-k.invariant.2, x.2 ∙ c.loop-k.invariant.3)
     ]
 
 pub returns : goal.returns

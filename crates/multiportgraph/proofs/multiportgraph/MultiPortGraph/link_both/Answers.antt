@@ -30,6 +30,6 @@ returns-then-both c =
 pub returns : goal.returns
 returns c =
     elim c.if-ready.branch [
-      then-ready+else-both w ↦ second_full c.args.self c.args.a c.args.d c.args.b c.args.e c.prepare-first.result c.prepare-first.ensures w.if-ready.true w.prepare-second.result w.prepare-second.ensures w.if-both.false c.link_refused.ensures
-    | else-ready w ↦ both_full c.args.self c.args.a c.args.d c.args.b c.args.e c.prepare-first.result c.prepare-first.ensures w.if-ready.false c.link_refused.ensures
+      | then-ready+else-both w ↦ second_full c.args.self c.args.a c.args.d c.args.b c.args.e c.prepare-first.result c.prepare-first.ensures w.if-ready.true w.prepare-second.result w.prepare-second.ensures w.if-both.false c.link_refused.ensures
+      | else-ready w ↦ both_full c.args.self c.args.a c.args.d c.args.b c.args.e c.prepare-first.result c.prepare-first.ensures w.if-ready.false c.link_refused.ensures
     ]

@@ -14,11 +14,10 @@ returns-in_default-node_meta_valid c =
     (sym c.in-Some.is ∙ c.node_meta_valid.ensures.0) (sym c.in_default-node_meta_valid.is ∙ c.node_meta_valid-2.ensures.0)
 
 pub lay_marks-requires : goal.lay_marks-requires
-lay_marks-requires c =
-    (
+lay_marks-requires c = (
   found_block_fits c.args.self.graph c.requires.0 c.args.node c.in-Some.a (sym c.in-Some.is ∙ c.node_meta_valid.ensures.0),
   found_block_fits c.args.graph c.requires.1 c.args.node c.in-Some-node_meta_valid.b (sym c.in-Some-node_meta_valid.is ∙ c.node_meta_valid-2.ensures.0),
-    )
+)
 
 pub returns : goal.returns
 returns c =

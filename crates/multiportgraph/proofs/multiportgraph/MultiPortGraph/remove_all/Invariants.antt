@@ -8,7 +8,7 @@ use Rattle.multiportgraph.specs.HiddenNodes.{remove_all}
 use Rattle.multiportgraph.proofs.multiportgraph.MultiPortGraph.remove_all.Given as goal
 
 abbrev pub invariant-loop-k : goal.invariant-loop-k
-invariant-loop-k l =    (l.k ≤ l.count) × Wf l.graph.graph × (remove_all l.graph (take (l.count - l.k) (drop l.k l.list)) ≡ remove_all l.initial.graph (take l.count l.list))
+invariant-loop-k l = (l.k ≤ l.count) × Wf l.graph.graph × (remove_all l.graph (take (l.count - l.k) (drop l.k l.list)) ≡ remove_all l.initial.graph (take l.count l.list))
 
 abbrev pub decreases-loop-k : goal.decreases-loop-k
 decreases-loop-k l = l.count - l.k

@@ -7,7 +7,7 @@ use Rattle.multiportgraph.specs.HiddenNodes.{unsplit_range}
 use Rattle.multiportgraph.proofs.multiportgraph.MultiPortGraph.unsplit_range.Given as goal
 
 abbrev pub invariant-loop-k : goal.invariant-loop-k
-invariant-loop-k l =    (l.k ≤ l.count) × Wf l.graph.graph × (unsplit_range l.graph (l.first + l.k) (l.count - l.k) ≡ unsplit_range l.initial.graph l.first l.count)
+invariant-loop-k l = (l.k ≤ l.count) × Wf l.graph.graph × (unsplit_range l.graph (l.first + l.k) (l.count - l.k) ≡ unsplit_range l.initial.graph l.first l.count)
 
 abbrev pub decreases-loop-k : goal.decreases-loop-k
 decreases-loop-k l = l.count - l.k

@@ -10,14 +10,9 @@ bash setup.sh
 log=$(mktemp)
 work=$(mktemp -d)
 trap 'rm -rf "$log" "$work"' EXIT
-made() { # NAME of a program: proved and made, and put into target/bin; what rt says is shown only if it fails
-  (cd "../crates/$1" && rt run </dev/null) >"$log" 2>&1 || { tail -n 20 "$log"; echo "rt run of $1 failed"; exit 1; }
-  mkdir -p ../target/bin
-  cp "../crates/$1/out/$1" "../target/bin/$1"
-}
 bash library.sh
-[ -n "${KANHTREV_WIRING:-}" ] || [[ " $* " == *" --records-only "* ]] || made wiring
-[ -n "${KANHTREV_SKETCH:-}" ] || [[ " $* " == *" --records-only "* ]] || made sketch
+[ -n "${KANHTREV_WIRING:-}" ] || [[ " $* " == *" --records-only "* ]] || bash programs.sh wiring
+[ -n "${KANHTREV_SKETCH:-}" ] || [[ " $* " == *" --records-only "* ]] || bash programs.sh sketch
 status=0
 cargo test --offline --release --workspace 2>&1 | tee "$log" || status=1
 one() { # NAME, WORDS of a command: counted as a test of its own

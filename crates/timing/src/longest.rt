@@ -50,7 +50,9 @@ fn longest_timed(graph: MultiPortGraph, times: &[u16], block: usize) -> LongestA
     longest_among(&ends[..end], times, block)
 }
 
-// The largest sum of times along wires ending at the block, its own time included. The list has a time in microseconds for each node slot.
+// The largest sum of times along wires ending at the block, its own time included. The list has a time in microseconds for each node slot. Not inlined: the copies of the graph here then do
+// not lie on the stack while a caller makes the graph.
+#[inline(never)]
 pub fn longest(graph: MultiPortGraph, block: NodeIndex, times: &[u16]) -> LongestAnswer
     requires { MultiWf graph }
     ensures { (result ≡ longest_of graph block.0 times.now) × (longest_numbers result ≡ longest_numbers (longest_of graph block.0 times.now)) }
@@ -107,7 +109,8 @@ fn path_timed(graph: MultiPortGraph, times: &[u16], block: u32, list: &mut [u32]
 }
 
 // Lists a path that has the largest sum, from its first block to the one named, at the start of a list that the caller lends: 1,024 numbers
-// are enough. A list that is too short for the path stays as it is.
+// are enough. A list that is too short for the path stays as it is. Not inlined, as above.
+#[inline(never)]
 pub fn path(graph: MultiPortGraph, block: NodeIndex, times: &[u16], list: &mut [u32]) -> PathListed
     requires { MultiWf graph }
     ensures { (result ≡ path_listed graph block.0 times.now) × (list.new ≡ path_after graph block.0 times.now list.old)

@@ -99,14 +99,14 @@ pub type Block = Vec<String>;
 /// A console: what it writes for a script.
 pub type Console<'a> = dyn Fn(&[Command]) -> Result<Vec<Block>, String> + 'a;
 
-/// Where the program is: `KANHTREV_WIRING`, or where `rt check` writes it.
+/// Where the program is: `KANHTREV_WIRING`, or where `host/programs.sh` puts it.
 pub fn program() -> Result<PathBuf, String> {
     let made = || Path::new(env!("CARGO_MANIFEST_DIR")).join("../../target/bin/wiring");
     let path = env::var_os("KANHTREV_WIRING").map_or_else(made, PathBuf::from);
     match path.is_file() {
         true => Ok(path),
         false => Err(format!(
-            "there is no program {}: run `rt check wiring` at the root of the repository, or give --records-only",
+            "there is no program {}: run `bash host/programs.sh` at the root of the repository, or give --records-only",
             path.display()
         )),
     }

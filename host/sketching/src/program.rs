@@ -35,7 +35,7 @@ fn said(line: &str) -> Option<Result<Vec<u32>, u32>> {
 }
 
 impl Program {
-    /// The program of this name: that of the variable, or what `rt check` made.
+    /// The program of this name: that of the variable, or what `host/programs.sh` made.
     pub fn path(name: &str) -> Result<PathBuf, String> {
         let made = || Path::new(env!("CARGO_MANIFEST_DIR")).join("../../target/bin").join(name);
         let variable = format!("KANHTREV_{}", name.to_uppercase());
@@ -43,7 +43,7 @@ impl Program {
         if path.is_file() {
             return Ok(path);
         }
-        Err(format!("there is no program {}: run `rt check {name}` at the root of the repository", path.display()))
+        Err(format!("there is no program {}: run `bash host/programs.sh {name}` at the root of the repository", path.display()))
     }
 
     pub fn start(path: &Path) -> Result<Self, String> {

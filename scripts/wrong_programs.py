@@ -182,8 +182,8 @@ def in_words(errors):
 
 
 def check(top, crate):
-    """Runs the check. Answers whether all is proved, the errors of the compiler, of proof files and of open goals (file, line, words), and what
-    it says of each function."""
+    """Runs the check. Answers whether all is proved, the errors of the compiler, of proof files and of open goals (file, line, words), and for each
+    function what it says of it, and by each goal that a proof file answers and the code does not have the goals that it has, likest first."""
     folder = os.path.join(top, "crates", crate)
     run = subprocess.run(["rt", "check"] + JOBS, cwd=folder, stdout=subprocess.PIPE, stderr=subprocess.STDOUT, text=True, errors="replace")
     out = run.stdout
@@ -198,9 +198,17 @@ def check(top, crate):
     # the goals that the search leaves: the name first, as in errors
     opened = [(path, line, re.sub(r"^(.*?) \((`[^`]*`)\)", r"\2: \1", said)) for path, line, said in found(r"^note: (?:\./)?(src/\S+\.rt):(\d+):\d+: it is not proved that (.*)")]
     told = dict(re.findall(r"^fn %s::(\S+): (.*)" % crate, out, re.M))
-    if run.returncode not in (0, 1, 3) or run.returncode and not (compiler or prover or opened):
+    # (these wait for the proof of a function that is called)
+    told.update((name, "not tried") for name in re.findall(r"^note: `search` has not tried the goals of `%s::(\S+)`" % crate, out, re.M))
+    if run.returncode not in (0, 1, 3) or run.returncode and not (compiler or prover or opened or set(told.values()) - {"proved"}):
         sys.exit("the check of %s failed:\n%s" % (crate, out[-3000:]))
-    return run.returncode == 0, compiler, prover, opened, told
+    asked, name = {}, ""
+    for line in out.split("\n"):
+        function, gone = re.match(r"fn %s::(\S+): " % crate, line), re.match(r"help: `Goals` has no `([^`]*)`; rattle asks for (.*?)(?:;|$)", line)
+        name = function.group(1) if function else name
+        if gone:
+            asked.setdefault(name, {})[gone.group(1)] = re.findall(r"`([^`]*)`", gone.group(2))
+    return run.returncode == 0, compiler, prover, opened, told, asked
 
 
 def proof_of(edit):
@@ -217,30 +225,34 @@ def kind_of(goal):
 
 def goals_gone(errors):
     """The goals that a proof file answers, and the code does not have."""
-    return list(dict.fromkeys(re.findall(r"module `[^`]*\.Goals` has no `([^`]*)`", "\n".join(errors))))
+    return list(dict.fromkeys(re.findall(r"module `[^`]*\.Goals` has no `([a-z][^`]*)`", "\n".join(errors))))
 
 
-def give_names(top, edit, errors, goals):
-    """Gives the proof files of a function the names of its goals in the edited code. Answers whether it could."""
-    gone = goals_gone(errors)
-    new = list(dict.fromkeys(goal_of(said) for said in goals))
-    new = [name for name in new if kind_of(name) in map(kind_of, gone)]
-    if edit.given or not gone or list(map(kind_of, gone)) != list(map(kind_of, new)):
+def proofs_of(top, edit):
+    folders = os.walk(os.path.join(top, "crates", edit.crate, "proofs"))
+    return [os.path.join(at, name) for at, _, names in folders for name in names if (at + "/").endswith(proof_of(edit))]
+
+
+def give_names(top, edit, asked):
+    """Finds names of its goals in the edited code for the proof files of a function. Answers whether it could."""
+    answered = re.findall(r"^(?:pub )?([\w'-]+) :", "\n".join(map(read, proofs_of(top, edit))), re.M)
+    if edit.given:
         return False
-    edit.given = dict(zip(gone, new))
+    for gone, names in asked.items() if asked else ():
+        name = next((n for n in names if kind_of(n) == kind_of(gone) and n not in answered and n not in edit.given.values()), "")
+        if name:
+            edit.given[gone] = name
     # what a goal's name says of conditions stands in the names of facts too
-    for old, name in zip(gone, new):
+    for old, name in list(edit.given.items()):
         old, name = (re.sub(r"^.*?-(?:then|else)-", "", word) for word in (old, name))
         edit.given.setdefault(old, name)
-    return True
+    return bool(edit.given)
 
 
 def put_names(top, edit):
-    for at, _, names in os.walk(os.path.join(top, "crates", edit.crate, "proofs")):
-        for name in names if (at + "/").endswith(proof_of(edit)) else ():
-            words = "|".join(re.escape(word) for word in sorted(edit.given, key=len, reverse=True))
-            text = read(os.path.join(at, name))
-            write(os.path.join(at, name), re.sub(r"(?<![\w'])(?:%s)(?![\w'-])" % words, lambda m: edit.given[m.group()], text))
+    words = "|".join(re.escape(word) for word in sorted(edit.given, key=len, reverse=True))
+    for path in proofs_of(top, edit):
+        write(path, re.sub(r"(?<![\w'])(?:%s)(?![\w'-])" % words, lambda m: edit.given[m.group()], read(path)))
 
 
 def try_functions(top, crate, edits):
@@ -263,7 +275,7 @@ def try_functions(top, crate, edits):
         for e in batch:
             if e.given:
                 put_names(top, e)
-        _, compiler, prover, opened, told = check(top, crate)
+        _, compiler, prover, opened, told, asked = check(top, crate)
         left, moved, places = [], False, functions(top, crate)
         strange = [p for p, _, said in prover if facts([said]) and not any(proof_of(e) in p for e in batch)]
         for e in batch:
@@ -271,7 +283,7 @@ def try_functions(top, crate, edits):
             stops = [said for p, line, said in compiler if os.path.samefile(p, path) and start < line <= end + 1]
             errors = [said for p, _, said in prover if proof_of(e) in p]
             goals = [said for p, line, said in opened if os.path.samefile(p, path) and head < line <= end + 1]
-            state = next((said for name, said in told.items() if ("::" + name).endswith("::" + e.place)), "")
+            state, names = (next((said for name, said in of.items() if ("::" + name).endswith("::" + e.place)), "") for of in (told, asked))
             fits = not any(MISFIT.search(said) for said in errors)
             # of a goal whose answer has another name the search says nothing
             shown = [said for said in goals if fits or FALSE in said or goals_gone(errors) and kind_of(goal_of(said)) not in map(kind_of, goals_gone(errors))]
@@ -279,11 +291,15 @@ def try_functions(top, crate, edits):
                 e.tell("BAD EDIT", "does not compile: " + stops[0])
             elif facts(errors) or shown:
                 e.judge(shown + errors)
-            elif not fits and give_names(top, e, errors, goals):
+            elif state == "not tried":
+                left.append(e)
+            elif not fits and give_names(top, e, names):
                 left.append(e)
                 moved = True
             elif errors:
                 e.judge(errors)
+            elif state.startswith("could not tell"):
+                e.tell("BAD EDIT", "the prover gave no verdict")
             elif state == "proved":
                 e.judge([])
             else:

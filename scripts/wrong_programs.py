@@ -27,6 +27,7 @@ is tried once more. An edit of which a check says no more than that a function t
 import os
 import re
 import shutil
+import signal
 import subprocess
 import sys
 import tempfile
@@ -48,6 +49,8 @@ PROMISED = [("port_tables", "NodeWordSteps"), ("portgraph", "LentWords"), ("mult
 
 # Flags of rt check.
 JOBS = []
+# Seconds that a check of a damaged definition has: a search in a law may go on and on where the law has become false.
+SECONDS = 1200
 
 
 class Edit:
@@ -181,12 +184,24 @@ def in_words(errors):
     return name + (": " + said if said else "")
 
 
-def check(top, crate):
+class NoVerdict(Exception):
+    pass
+
+
+def check(top, crate, seconds=None):
     """Runs the check. Answers whether all is proved, the errors of the compiler, of proof files and of open goals (file, line, words), and for each
     function what it says of it, and by each goal that a proof file answers and the code does not have the goals that it has, likest first."""
     folder = os.path.join(top, "crates", crate)
-    run = subprocess.run(["rt", "check"] + JOBS, cwd=folder, stdout=subprocess.PIPE, stderr=subprocess.STDOUT, text=True, errors="replace")
-    out = run.stdout
+    words = ["rt", "check"] + JOBS
+    run = subprocess.Popen(words, cwd=folder, stdout=subprocess.PIPE, stderr=subprocess.STDOUT, text=True, errors="replace", start_new_session=True)
+    try:
+        out = run.communicate(timeout=seconds)[0]
+    except BaseException as stopped:
+        os.killpg(run.pid, signal.SIGTERM)
+        run.wait()
+        if isinstance(stopped, subprocess.TimeoutExpired):
+            raise NoVerdict
+        raise
     with open(os.path.join(top, "log"), "a", encoding="utf-8") as f:
         f.write(out)
 
@@ -381,8 +396,13 @@ def try_definitions(top, crate, edits):
         kept = read(path)
         if e.put(top):
             prover = []
-            for c in above:
-                prover = prover or check(top, c)[2]
+            try:
+                for c in above:
+                    prover = prover or check(top, c, SECONDS)[2]
+            except NoVerdict:
+                e.tell("BAD EDIT", "no verdict in %d seconds" % SECONDS)
+                write(path, kept)
+                continue
             stops = [said for p, line, said in prover if os.path.samefile(p, path) and start < line <= end + 1]
             first = [law_of(p, said) for p, _, said in prover if facts([said])]
             if stops:

@@ -3,10 +3,12 @@
 set -euo pipefail
 cd "$(dirname "$0")/../crates"
 lines() {
-    local crate=$1 file total=0
+    local crate=$1 file part total=0
     shift
     for file in "$@"; do
-        total=$((total + $(grep -cvE '^(use |pub mod )|^ *(--.*)?$' "$crate/specs/$file.antt")))
+        # theorems stand in proofs/, where the laws that they rest on stand
+        if [ -f "$crate/specs/$file.antt" ]; then part=specs; else part=proofs; fi
+        total=$((total + $(grep -cvE '^(use |pub mod )|^ *(--.*)?$' "$crate/$part/$file.antt")))
     done
     printf '%-16s%5d  %s\n' "$crate" "$total" "$*"
 }

@@ -1,5 +1,5 @@
 #!/usr/bin/env python3
-"""tour.py [WIRING [SKETCH]]: holds the sessions of the documents against the programs (target/bin/wiring, target/bin/sketch) and the gate.
+"""tour.py [WIRING [SKETCH]]: holds the sessions of the documents against the programs (crates/wiring/out/wiring, crates/sketch/out/sketch) and the gate.
 
 A session is what stands in blocks of text: a command behind '> ', then its answer; three blanks or more begin a remark. All of docs/TOUR.md is one
 session of WIRING; its commands and answers must stand in one run in crates/wiring/stdin and stdout, so that the gate runs them. README.md has a session
@@ -43,7 +43,7 @@ def within(part, whole):
     return any(whole[i:i + len(part)] == part for i in range(len(whole) - len(part) + 1))
 
 
-programs = [os.path.abspath(word) for word in sys.argv[1:]] + [os.path.join(top, "target/bin", name) for name in ("wiring", "sketch")][len(sys.argv) - 1:]
+programs = [os.path.abspath(word) for word in sys.argv[1:]] + [os.path.join(top, "crates", name, "out", name) for name in ("wiring", "sketch")][len(sys.argv) - 1:]
 tour = sum(blocks("docs/TOUR.md"), [])
 hold("docs/TOUR.md", tour, programs[0])
 for session, program in zip(blocks("README.md"), programs):

@@ -5,17 +5,18 @@ set -euo pipefail
 cd "$(dirname "$0")/.."
 work=$(mktemp -d)
 trap 'rm -rf "$work"' EXIT
-cp -r crates crates.txt "$work"
-if [ -d target ]; then cp -r target "$work"; fi
+# what these two rest on and no more; what is proved of them already rt takes over from here
+tar -c --exclude=out crates/port_tables crates/portgraph | tar -x -C "$work"
+grep -E '^(port_tables|portgraph):' crates.txt > "$work/crates.txt"
 failed=0
 # CRATE CALL INDEX WORDS: a crate with one function, whose check has to say WORDS
 try() {
     local said
     mkdir -p "$work/crates/$1/src"
-    printf 'use port_tables::index::%s;\nuse portgraph::portgraph::PortGraph;\npub fn asked(g: PortGraph, index: %s) -> bool { g.%s(index) }\n' \
+    printf '#![tactic(auto)]\n\nuse port_tables::index::%s;\nuse portgraph::portgraph::PortGraph;\n\npub fn asked(g: PortGraph, index: %s) -> bool {\n    g.%s(index)\n}\n' \
         "$3" "$3" "$2" > "$work/crates/$1/src/lib.rt"
     printf '%s: portgraph port_tables\n' "$1" >> "$work/crates.txt"
-    said=$(cd "$work" && rt dev "$1" 2>&1) || true
+    said=$(cd "$work/crates/$1" && rt check 2>&1) || true
     if grep -aqF "$4" <<< "$said"; then
         echo "$2 of a $3: $4"
     else

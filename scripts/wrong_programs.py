@@ -34,7 +34,7 @@ import tempfile
 
 ROOT = os.path.dirname(os.path.dirname(os.path.abspath(__file__)))
 COVERED = ("port_tables", "portgraph", "multi_tables", "multiportgraph", "lent_portgraph", "lent_calls", "lent_ends", "lent_linking", "records", "sheets", "files")
-COVERED += ("exports", "sketches", "timing", "slots")
+COVERED += ("exports", "sketches", "timing", "slots", "records_c", "exports_c")
 # Errors that rest on others, and errors of a proof file that speaks of goals or of facts on the way that the code does not have.
 FOLLOWS = re.compile(r"which (?:was not admitted|was rejected|is not proved)")
 MISFIT = re.compile(r"that can be named from here|has no field|not in scope|has no `|: module `")
@@ -146,7 +146,11 @@ def functions(top, crate):
             if fn:
                 last = lines.index(fn.group(1) + "}", i)
                 first = next(k for k in range(i, last) if lines[k].endswith("{") and not lines[k].startswith(fn.group(1) + "    "))
-                found["%s::%s" % (owner, fn.group(3))] = os.path.join(src, name), fn.group(2) == "pub ", i, first, last
+                # an item begins at the attributes above it, and that is where a check says what it ensures
+                head = i
+                while head and re.match(r" *(#\[|//)", lines[head - 1]):
+                    head -= 1
+                found["%s::%s" % (owner, fn.group(3))] = os.path.join(src, name), fn.group(2) == "pub ", head, first, last
     return found
 
 
@@ -226,8 +230,13 @@ def check(top, crate, seconds=None):
     return run.returncode == 0, compiler, prover, opened, told, asked
 
 
+def named(edit):
+    """The place as the check names it: a function of the root file has no module."""
+    return edit.place[5:] if edit.place.startswith("lib::") else edit.place
+
+
 def proof_of(edit):
-    return "/%s/" % edit.place.replace("::", "/")
+    return "/%s/" % named(edit).replace("::", "/")
 
 
 def goal_of(said):
@@ -276,7 +285,9 @@ def try_functions(top, crate, edits):
         sys.exit("%s is not proved without edits" % crate)
     folder, kept = os.path.join(top, "crates", crate), os.path.join(top, "kept")
     shutil.rmtree(kept, ignore_errors=True)
-    for part in ("src", "proofs"):
+    # a crate whose functions the check proves alone has no proofs/
+    parts = [part for part in ("src", "proofs") if os.path.isdir(os.path.join(folder, part))]
+    for part in parts:
         shutil.copytree(os.path.join(folder, part), os.path.join(kept, part))
     batch = []
     while edits or batch:
@@ -298,7 +309,7 @@ def try_functions(top, crate, edits):
             stops = [said for p, line, said in compiler if os.path.samefile(p, path) and start < line <= end + 1]
             errors = [said for p, _, said in prover if proof_of(e) in p]
             goals = [said for p, line, said in opened if os.path.samefile(p, path) and head < line <= end + 1]
-            state, names = (next((said for name, said in of.items() if ("::" + name).endswith("::" + e.place)), "") for of in (told, asked))
+            state, names = (next((said for name, said in of.items() if ("::" + name).endswith("::" + named(e))), "") for of in (told, asked))
             fits = not any(MISFIT.search(said) for said in errors)
             # of a goal whose answer has another name the search says nothing
             shown = [said for said in goals if fits or FALSE in said or goals_gone(errors) and kind_of(goal_of(said)) not in map(kind_of, goals_gone(errors))]
@@ -322,7 +333,7 @@ def try_functions(top, crate, edits):
         if strange or left and left == batch and not moved:
             sys.exit("errors outside the edits: %s" % (strange or compiler or [told.get(e.place) for e in left]))
         batch = left
-        for part in ("src", "proofs"):
+        for part in parts:
             shutil.rmtree(os.path.join(folder, part))
             shutil.copytree(os.path.join(kept, part), os.path.join(folder, part))
 

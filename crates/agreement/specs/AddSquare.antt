@@ -1,5 +1,5 @@
 -- The square of an add: the new block has the name that is due, none of its ports is split, and every other port is as split as it was.
-use Rattle.std.specs.Prelude.{◌≡◌, Bool, true, false, not, ◌||◌, List, [], ◌∷◌, ℕ, suc, ◌+◌, ◌≤◌, ◌<◌, eqb, leb, ltb, length}
+use Rattle.std.specs.Prelude.{◌≡◌, Bool, true, false, not, ◌||◌, List, [], ◌∷◌, ℕ, suc, ◌+◌, ◌≤◌, ◌<◌, eqb, leb, ltb, length, Result, Ok, Err}
 use Rattle.std.proofs.Math.Path.{refl, sym, ap, subst}
 use Rattle.std.proofs.Common.{◌∙◌, arith, leb-true, le-leb, ltb-true, ne_eqb}
 use Rattle.std.proofs.Math.Bool.{cond}
@@ -31,7 +31,6 @@ use Rattle.multiportgraph.specs.SetLaws.{SameSplit}
 use Rattle.multiportgraph.specs.declared.multiportgraph.MultiPortGraph.{MultiPortGraph}
 use Rattle.multiportgraph.specs.declared.multiportgraph.NodeAdded.{NodeAdded}
 use Rattle.multi_tables.specs.declared.answers.Refusal.TheVariants.{NoRoom}
-use Rattle.multiportgraph.specs.declared.multiportgraph.AddAnswer.TheVariants as add
 use Rattle.theorems.specs.Book as book
 use Rattle.theorems.specs.Book.{book_add}
 use Rattle.theorems.specs.BookLaws.{so_not_false}
@@ -42,8 +41,6 @@ use Rattle.sketches.specs.PlanCalls.{Sketched, leaves, most_adds}
 use Rattle.sketches.specs.PlanNumbers.{reason_number}
 use Rattle.sketches.specs.declared.sketch.SketchPort.{SketchPort}
 use Rattle.sketches.specs.declared.sketch.Reason.TheVariants as reason
-use Rattle.sketches.specs.declared.sketch.AddAnswer as sketch_add_answer
-use Rattle.sketches.specs.declared.sketch.AddAnswer.TheVariants as sketch_add
 use Rattle.agreement.specs.Meaning.{Naming, Both, named_add, add_plan, means_add}
 use Rattle.agreement.specs.Agreement.{AddAlike, HasRoom}
 use Rattle.agreement.specs.Alike.{Alike, subports_at, name_of}
@@ -52,6 +49,7 @@ use Rattle.agreement.specs.Names.{naming, renamed, renamed_same}
 use Rattle.agreement.specs.Standing.{block_had, wires_named}
 use Rattle.agreement.specs.PlanLaws.{among_none}
 use Rattle.agreement.specs.KeptSplits.{split_kept, same_subports, same_slot, any_model}
+use Rattle.sketches.specs.declared.sketch.Reason.{Reason}
 
 -- The graph after an add that has room.
 
@@ -130,7 +128,7 @@ module _ {b : Both} {M : Model} (a : Alike b M) where
     abbrev m : MultiPortGraph
     m = b.kit.graph
 
-    abbrev Left : NodeAdded → Sketched sketch_add_answer.AddAnswer → Type 0
+    abbrev Left : NodeAdded → Sketched (Result ℕ Reason) → Type 0
     Left w v =
         AddAlike (named_add b.names b.plan.adds w.answer) w.answer v.answer
         × ((M' : Model) × Alike (record { kit = record { graph = w.graph; book = book_add b.kit.book i o w.answer }; names = named_add b.names b.plan.adds w.answer; plan = v.plan }) M')
@@ -194,7 +192,7 @@ module _ {b : Both} {M : Model} (a : Alike b M) where
 
       grown_alike : Alike
           (record {
-            kit = record { graph = graph; book = book_add b.kit.book i o (add.Added (node# (next_slot M)) (port# (next_block M (i + o)))) };
+            kit = record { graph = graph; book = book_add b.kit.book i o (Ok (node# (next_slot M), port# (next_block M (i + o)))) };
             names = names;
             plan = plan_grown;
           })
@@ -252,7 +250,7 @@ module _ {b : Both} {M : Model} (a : Alike b M) where
 
     plan_is : (x y : Bool) → leb (i + o) node_ports ≡ x → full ≡ y →
         sketch.add_block b.plan i o
-        ≡ cond (not x) (leaves b.plan (sketch_add.Refused reason.TooManyPorts)) (cond y (leaves b.plan (sketch_add.Refused reason.NoRoom)) (leaves plan_grown (sketch_add.Added b.plan.adds)))
+        ≡ cond (not x) (leaves b.plan (Err reason.TooManyPorts)) (cond y (leaves b.plan (Err reason.NoRoom)) (leaves plan_grown (Ok b.plan.adds)))
     unfolding sketch.add_block
     plan_is x y p q = rw (p, q) refl
 
@@ -260,14 +258,14 @@ module _ {b : Both} {M : Model} (a : Alike b M) where
     unfolding reason_number
     add_left room = go (leb (i + o) node_ports) (slot_room M) (block_room M (i + o)) full refl refl refl refl
       where
-        both : {w : NodeAdded} {v : Sketched sketch_add_answer.AddAnswer} → add_block m i o ≡ w → sketch.add_block b.plan i o ≡ v → Left w v → Left (add_block m i o) (sketch.add_block b.plan i o)
+        both : {w : NodeAdded} {v : Sketched (Result ℕ Reason)} → add_block m i o ≡ w → sketch.add_block b.plan i o ≡ v → Left w v → Left (add_block m i o) (sketch.add_block b.plan i o)
         both {w} {v} p q l = subst (λ (u : NodeAdded). Left u (sketch.add_block b.plan i o)) (sym p) (subst (Left w) (sym q) l)
 
         go : (x y z t : Bool) → leb (i + o) node_ports ≡ x → slot_room M ≡ y → block_room M (i + o) ≡ z → full ≡ t → Left (add_block m i o) (sketch.add_block b.plan i o)
         go false y z t p q r s = both (add_is false y z p q r) (plan_is false t p s) ((_, refl), (M, a))
         go true false z t p q r s = absurd (room.kit (ap (λ (v : NodeAdded). v.answer) (add_is true false z p q r)))
         go true true false t p q r s = absurd (room.kit (ap (λ (v : NodeAdded). v.answer) (add_is true true false p q r)))
-        go true true true true p q r s = absurd (room.sketched (ap (λ (v : Sketched sketch_add_answer.AddAnswer). v.answer) (plan_is true true p s)))
+        go true true true true p q r s = absurd (room.sketched (ap (λ (v : Sketched (Result ℕ Reason)). v.answer) (plan_is true true p s)))
         go true true true false p q r s =
             let e = add_is true true true p q r in
             let small = leb-true (i + o) node_ports p in
@@ -278,7 +276,7 @@ module _ {b : Both} {M : Model} (a : Alike b M) where
             both e (plan_is true false p s) (inl refl, (d.model, grown_alike small node_room port_room d))
 
     -- where the engine has room, the plan with the new block is alike, whatever the sketch says
-    pub grown_if : i + o ≤ node_ports → ((add_block m i o).answer ≡ add.Refused NoRoom → ⊥) → (c : Both) × (c.plan ≡ plan_grown) × ((N : Model) × Alike c N)
+    pub grown_if : i + o ≤ node_ports → ((add_block m i o).answer ≡ Err NoRoom → ⊥) → (c : Both) × (c.plan ≡ plan_grown) × ((N : Model) × Alike c N)
     grown_if small room = go (slot_room M) (block_room M (i + o)) refl refl
       where
         few : leb (i + o) node_ports ≡ true

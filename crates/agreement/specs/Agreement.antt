@@ -1,7 +1,7 @@
 -- What it is for an answer of the engine and one of the sketch, and for the two as they stand, to be alike. Left out of the comparison is what document 02
 -- lists: listing order, steps of a cursor older than the last change, numbers that a refusal carries, and the offset that the cut of a whole port
 -- answers; the sketch has no move list and no event count.
-use Rattle.std.specs.Prelude.{◌≡◌, Bool, true, false, cond, List, [], ◌∷◌, map, ℕ}
+use Rattle.std.specs.Prelude.{◌≡◌, Bool, true, false, cond, List, [], ◌∷◌, map, ℕ, Option, Some, None, Result, Ok, Err}
 use Rattle.port_tables.specs.Lists.{Member, Once}
 use Rattle.portgraph.specs.Lookups.{num_ports}
 use Rattle.port_tables.specs.declared.direction.Direction.{Direction}
@@ -20,20 +20,6 @@ use Rattle.multi_tables.specs.declared.answers.Refusal.{Refusal}
 use Rattle.multi_tables.specs.declared.answers.Refusal.TheVariants.{NoRoom, MovesTooShort}
 use Rattle.multi_tables.specs.declared.answers.PortPlace.{PortPlace}
 use Rattle.multi_tables.specs.declared.answers.SubportIndex.{SubportIndex}
-use Rattle.multiportgraph.specs.declared.multiportgraph.AddAnswer as add_answer
-use Rattle.multiportgraph.specs.declared.multiportgraph.AddAnswer.TheVariants as add
-use Rattle.multiportgraph.specs.declared.multiportgraph.RemoveAnswer as remove_answer
-use Rattle.multiportgraph.specs.declared.multiportgraph.SetAnswer as set_answer
-use Rattle.multiportgraph.specs.declared.multiportgraph.RemoveAnswer.TheVariants as remove
-use Rattle.multiportgraph.specs.declared.multiportgraph.SetAnswer.TheVariants as resize
-use Rattle.multiportgraph.specs.declared.multiportgraph.TidyAnswer as tidy_answer
-use Rattle.multiportgraph.specs.declared.multiportgraph.TidyAnswer.TheVariants as tidying
-use Rattle.multiportgraph.specs.declared.multiportgraph.LinkAnswer.{LinkAnswer}
-use Rattle.multiportgraph.specs.declared.multiportgraph.LinkAnswer.TheVariants as link
-use Rattle.multi_tables.specs.declared.answers.CutAnswer.{CutAnswer}
-use Rattle.multi_tables.specs.declared.answers.CutAnswer.TheVariants as cutting
-use Rattle.multiportgraph.specs.declared.lookups.CountAnswer.{CountAnswer}
-use Rattle.multiportgraph.specs.declared.lookups.CountAnswer.TheVariants as count_of
 use Rattle.theorems.specs.Book as book
 use Rattle.theorems.specs.Book.{Call, AnswerOf, spot_of}
 use Rattle.theorems.specs.History.{step}
@@ -47,19 +33,9 @@ use Rattle.sketches.specs.declared.sketch.SketchPort.{SketchPort}
 use Rattle.sketches.specs.declared.sketch.SketchEnd.{SketchEnd}
 use Rattle.sketches.specs.declared.sketch.Reason.{Reason}
 use Rattle.sketches.specs.declared.sketch.Reason.TheVariants as reason
-use Rattle.sketches.specs.declared.sketch.AddAnswer as sketch_add_answer
-use Rattle.sketches.specs.declared.sketch.AddAnswer.TheVariants as sketch_add
-use Rattle.sketches.specs.declared.sketch.DoneAnswer.{DoneAnswer}
-use Rattle.sketches.specs.declared.sketch.DoneAnswer.TheVariants as done
-use Rattle.sketches.specs.declared.sketch.LinkAnswer as sketch_link_answer
-use Rattle.sketches.specs.declared.sketch.LinkAnswer.TheVariants as sketch_link
-use Rattle.sketches.specs.declared.sketch.PortAnswer.{PortAnswer}
-use Rattle.sketches.specs.declared.sketch.PortAnswer.TheVariants as port
-use Rattle.sketches.specs.declared.sketch.EndAnswer as sketch_end_answer
-use Rattle.sketches.specs.declared.sketch.EndAnswer.TheVariants as sketch_end
-use Rattle.sketches.specs.declared.sketch.CountAnswer as sketch_count_answer
-use Rattle.sketches.specs.declared.sketch.CountAnswer.TheVariants as sketch_count
 use Rattle.agreement.specs.Meaning.{PlanCall, add_plan, remove_plan, set_plan, link_plan, link_clean_plan, link_sub_plan, cut_plan, cut_sub_plan, tidy_plan, PlanAnswerOf, plan_step, Naming, Both, Pair, PortMeans, BlockMeans, Means, means_add, means_remove, means_set, means_link, means_link_clean, means_link_sub, means_cut, means_cut_sub, means_tidy}
+use Rattle.port_tables.specs.declared.index.NodeIndex.{NodeIndex}
+use Rattle.port_tables.specs.declared.index.PortIndex.{PortIndex}
 
 -- Answers.
 
@@ -81,41 +57,41 @@ SamePort b p x = (n : ℕ) × (spot_of b.kit.book.blocks p ≡ spot n x.side x.p
 abbrev pub EndMeans : Both → SubportIndex → SketchEnd → Type 0
 EndMeans b s x = SamePort b s.port.0 x.port × (s.subport_offset ≡ x.offset)
 
-abbrev pub LinkAlike : Both → LinkAnswer → sketch_link_answer.LinkAnswer → Type 0
-LinkAlike b (link.Linked s t) (sketch_link.Linked x y) = EndMeans b s x × EndMeans b t y
-LinkAlike b (link.Linked s t) (sketch_link.Refused q) = ⊥
-LinkAlike b (link.Refused r) (sketch_link.Linked x y) = ⊥
-LinkAlike b (link.Refused r) (sketch_link.Refused q) = SameNumber r q
+abbrev pub LinkAlike : Both → Result (SubportIndex × SubportIndex) Refusal → Result (SketchEnd × SketchEnd) Reason → Type 0
+LinkAlike b (Ok (s, t)) (Ok (x, y)) = EndMeans b s x × EndMeans b t y
+LinkAlike b (Ok (s, t)) (Err q) = ⊥
+LinkAlike b (Err r) (Ok (x, y)) = ⊥
+LinkAlike b (Err r) (Err q) = SameNumber r q
 
 -- of a whole port: the place without the offset
-abbrev pub CutAlike : List Naming → CutAnswer → PortAnswer → Type 0
-CutAlike l (cutting.Found s x) (port.Found y) = StandsAt l x y
-CutAlike l (cutting.Found s x) port.Nothing = ⊥
-CutAlike l (cutting.Found s x) (port.Refused q) = ⊥
-CutAlike l cutting.Nothing (port.Found y) = ⊥
-CutAlike l cutting.Nothing port.Nothing = Unit {0}
-CutAlike l cutting.Nothing (port.Refused q) = ⊥
-CutAlike l (cutting.Refused r) (port.Found y) = ⊥
-CutAlike l (cutting.Refused r) port.Nothing = ⊥
-CutAlike l (cutting.Refused r) (port.Refused q) = SameNumber r q
+abbrev pub CutAlike : List Naming → Result (Option (SubportIndex × PortPlace)) Refusal → Result (Option SketchPort) Reason → Type 0
+CutAlike l (Ok (Some (s, x))) (Ok (Some y)) = StandsAt l x y
+CutAlike l (Ok (Some (s, x))) (Ok None) = ⊥
+CutAlike l (Ok (Some (s, x))) (Err q) = ⊥
+CutAlike l (Ok None) (Ok (Some y)) = ⊥
+CutAlike l (Ok None) (Ok None) = Unit {0}
+CutAlike l (Ok None) (Err q) = ⊥
+CutAlike l (Err r) (Ok (Some y)) = ⊥
+CutAlike l (Err r) (Ok None) = ⊥
+CutAlike l (Err r) (Err q) = SameNumber r q
 
 -- at an end: the place with the offset
-abbrev pub EndAlike : List Naming → CutAnswer → sketch_end_answer.EndAnswer → Type 0
-EndAlike l (cutting.Found s x) (sketch_end.Found y) = StandsAt l x y.port × (s.subport_offset ≡ y.offset)
-EndAlike l (cutting.Found s x) sketch_end.Nothing = ⊥
-EndAlike l (cutting.Found s x) (sketch_end.Refused q) = ⊥
-EndAlike l cutting.Nothing (sketch_end.Found y) = ⊥
-EndAlike l cutting.Nothing sketch_end.Nothing = Unit {0}
-EndAlike l cutting.Nothing (sketch_end.Refused q) = ⊥
-EndAlike l (cutting.Refused r) (sketch_end.Found y) = ⊥
-EndAlike l (cutting.Refused r) sketch_end.Nothing = ⊥
-EndAlike l (cutting.Refused r) (sketch_end.Refused q) = SameNumber r q
+abbrev pub EndAlike : List Naming → Result (Option (SubportIndex × PortPlace)) Refusal → Result (Option SketchEnd) Reason → Type 0
+EndAlike l (Ok (Some (s, x))) (Ok (Some y)) = StandsAt l x y.port × (s.subport_offset ≡ y.offset)
+EndAlike l (Ok (Some (s, x))) (Ok None) = ⊥
+EndAlike l (Ok (Some (s, x))) (Err q) = ⊥
+EndAlike l (Ok None) (Ok (Some y)) = ⊥
+EndAlike l (Ok None) (Ok None) = Unit {0}
+EndAlike l (Ok None) (Err q) = ⊥
+EndAlike l (Err r) (Ok (Some y)) = ⊥
+EndAlike l (Err r) (Ok None) = ⊥
+EndAlike l (Err r) (Err q) = SameNumber r q
 
-abbrev pub CountAlike : CountAnswer → sketch_count_answer.CountAnswer → Type 0
-CountAlike (count_of.Count n) (sketch_count.Count k) = n ≡ k
-CountAlike (count_of.Count n) (sketch_count.Refused q) = ⊥
-CountAlike (count_of.Refused r) (sketch_count.Count k) = ⊥
-CountAlike (count_of.Refused r) (sketch_count.Refused q) = SameNumber r q
+abbrev pub CountAlike : Result ℕ Refusal → Result ℕ Reason → Type 0
+CountAlike (Ok n) (Ok k) = n ≡ k
+CountAlike (Ok n) (Err q) = ⊥
+CountAlike (Err r) (Ok k) = ⊥
+CountAlike (Err r) (Err q) = SameNumber r q
 
 -- Wires.
 
@@ -134,29 +110,29 @@ pub record WiresAlike (l : List Naming) (kit sketched : List Wire) : Type 0 wher
 
 -- What each pair of calls answers.
 
-abbrev pub AddAlike : List Naming → add_answer.AddAnswer → sketch_add_answer.AddAnswer → Type 0
-AddAlike l (add.Added n p) (sketch_add.Added k) = Member (record { node = n.0; name = k }) l
-AddAlike l (add.Added n p) (sketch_add.Refused q) = ⊥
-AddAlike l (add.Refused r) (sketch_add.Added k) = ⊥
-AddAlike l (add.Refused r) (sketch_add.Refused q) = SameNumber r q
+abbrev pub AddAlike : List Naming → Result (NodeIndex × PortIndex) Refusal → Result ℕ Reason → Type 0
+AddAlike l (Ok (n, p)) (Ok k) = Member (record { node = n.0; name = k }) l
+AddAlike l (Ok (n, p)) (Err q) = ⊥
+AddAlike l (Err r) (Ok k) = ⊥
+AddAlike l (Err r) (Err q) = SameNumber r q
 
-abbrev pub RemoveAlike : remove_answer.RemoveAnswer → DoneAnswer → Type 0
-RemoveAlike remove.Removed done.Done = Unit {0}
-RemoveAlike remove.Removed (done.Refused q) = ⊥
-RemoveAlike (remove.Refused r) done.Done = ⊥
-RemoveAlike (remove.Refused r) (done.Refused q) = SameNumber r q
+abbrev pub RemoveAlike : Result (Unit {0}) Refusal → Result (Unit {0}) Reason → Type 0
+RemoveAlike (Ok tt) (Ok u) = Unit {0}
+RemoveAlike (Ok tt) (Err q) = ⊥
+RemoveAlike (Err r) (Ok u) = ⊥
+RemoveAlike (Err r) (Err q) = SameNumber r q
 
-abbrev pub SetAlike : set_answer.SetAnswer → DoneAnswer → Type 0
-SetAlike (resize.Set e) done.Done = Unit {0}
-SetAlike (resize.Set e) (done.Refused q) = ⊥
-SetAlike (resize.Refused r) done.Done = ⊥
-SetAlike (resize.Refused r) (done.Refused q) = SameNumber r q
+abbrev pub SetAlike : Result ℕ Refusal → Result (Unit {0}) Reason → Type 0
+SetAlike (Ok e) (Ok u) = Unit {0}
+SetAlike (Ok e) (Err q) = ⊥
+SetAlike (Err r) (Ok u) = ⊥
+SetAlike (Err r) (Err q) = SameNumber r q
 
-abbrev pub TidyAlike : tidy_answer.TidyAnswer → DoneAnswer → Type 0
-TidyAlike tidying.Tidied done.Done = Unit {0}
-TidyAlike tidying.Tidied (done.Refused q) = ⊥
-TidyAlike (tidying.Refused r) done.Done = ⊥
-TidyAlike (tidying.Refused r) (done.Refused q) = SameNumber r q
+abbrev pub TidyAlike : Result (Unit {0}) Refusal → Result (Unit {0}) Reason → Type 0
+TidyAlike (Ok tt) (Ok u) = Unit {0}
+TidyAlike (Ok tt) (Err q) = ⊥
+TidyAlike (Err r) (Ok u) = ⊥
+TidyAlike (Err r) (Err q) = SameNumber r q
 
 -- the names that an add's answer is read with are those after the call
 abbrev pub AnswersAlike : (b after : Both) {c : Call} {k : PlanCall} → Means b c k → AnswerOf c → PlanAnswerOf k → Type 0
@@ -172,15 +148,15 @@ AnswersAlike b after (means_tidy p x m) v u = TidyAlike v u
 
 -- an answer of the sketch is this refusal
 abbrev pub PlanRefusedBy : (k : PlanCall) → PlanAnswerOf k → Reason → Type 0
-PlanRefusedBy (add_plan i o) v r = v ≡ sketch_add.Refused r
-PlanRefusedBy (remove_plan n) v r = v ≡ done.Refused r
-PlanRefusedBy (set_plan n i o) v r = v ≡ done.Refused r
-PlanRefusedBy (link_plan x y) v r = v ≡ sketch_link.Refused r
-PlanRefusedBy (link_clean_plan x y) v r = v ≡ sketch_link.Refused r
-PlanRefusedBy (link_sub_plan x o y s) v r = v ≡ sketch_link.Refused r
-PlanRefusedBy (cut_plan x) v r = v ≡ port.Refused r
-PlanRefusedBy (cut_sub_plan x o) v r = v ≡ sketch_end.Refused r
-PlanRefusedBy (tidy_plan x) v r = v ≡ done.Refused r
+PlanRefusedBy (add_plan i o) v r = v ≡ Err r
+PlanRefusedBy (remove_plan n) v r = v ≡ Err r
+PlanRefusedBy (set_plan n i o) v r = v ≡ Err r
+PlanRefusedBy (link_plan x y) v r = v ≡ Err r
+PlanRefusedBy (link_clean_plan x y) v r = v ≡ Err r
+PlanRefusedBy (link_sub_plan x o y s) v r = v ≡ Err r
+PlanRefusedBy (cut_plan x) v r = v ≡ Err r
+PlanRefusedBy (cut_sub_plan x o) v r = v ≡ Err r
+PlanRefusedBy (tidy_plan x) v r = v ≡ Err r
 
 -- a call names no hidden node and none of its ports
 abbrev pub NotHidden : MultiPortGraph → ℕ → Type 0

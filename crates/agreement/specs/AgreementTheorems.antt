@@ -1,5 +1,5 @@
 -- What is proved of the engine and the sketch together (document 02, Req 11). Words: Meaning, Agreement, Histories.
-use Rattle.std.specs.Prelude.{◌≡◌, List, [], map, ℕ, ◌*◌, ◌≤◌, ◌<◌, length}
+use Rattle.std.specs.Prelude.{◌≡◌, List, [], map, ℕ, ◌*◌, ◌≤◌, ◌<◌, length, Ok}
 use Rattle.multi_tables.specs.declared.answers.Refusal.TheVariants.{NoRoom, MovesTooShort}
 use Rattle.port_tables.specs.declared.release.Release.{Release}
 use Rattle.theorems.specs.Book.{Call}
@@ -7,7 +7,6 @@ use Rattle.theorems.specs.Conditions.{RefusedBy}
 use Rattle.theorems.specs.History.{step, run}
 use Rattle.sketches.specs.Plan.{ports_in_all}
 use Rattle.sketches.specs.PlanCalls.{add_block}
-use Rattle.sketches.specs.declared.sketch.AddAnswer.TheVariants as add
 use Rattle.sketches.specs.declared.sketch.Reason.TheVariants as reason
 use Rattle.agreement.specs.Meaning.{PlanCall, plan_step, Pair, start, Means}
 use Rattle.agreement.specs.Agreement.{NamesNoHidden, PlanRefusedBy}
@@ -58,6 +57,6 @@ pub names_are_adds : (release : Release) (items : List PairItem) → (after (sta
 names_are_adds = counts.names_are_adds
 
 -- and an add that it then accepts answers that number as the name: a block is named by how many adds were accepted before it, so no name is given again.
-pub added_name : (release : Release) (items : List PairItem) (i o k : ℕ) → (add_block (after (start release) items).plan i o).answer ≡ add.Added k →
+pub added_name : (release : Release) (items : List PairItem) (i o k : ℕ) → (add_block (after (start release) items).plan i o).answer ≡ Ok k →
     k ≡ accepted_adds (start release) items
 added_name = counts.added_name

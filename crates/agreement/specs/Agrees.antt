@@ -1,5 +1,5 @@
 -- Every history that is asked for: both agree, from the squares of all pairs of calls.
-use Rattle.std.specs.Prelude.{◌≡◌, refl, Bool, cond, List, [], ◌∷◌, ◌++◌, ◌<◌, ◌≤◌, length}
+use Rattle.std.specs.Prelude.{◌≡◌, refl, Bool, cond, List, [], ◌∷◌, ◌++◌, ◌<◌, ◌≤◌, length, Result, Ok, Err}
 use Rattle.std.proofs.Math.Path.{sym, subst}
 use Rattle.std.proofs.Common.{◌∙◌, ap, arith}
 use Rattle.std.proofs.Math.Bool.{true, false}
@@ -21,8 +21,6 @@ use Rattle.sheets.specs.Theorems.{sheet_is_links, too_long_counts_nothing}
 use Rattle.sheets.specs.declared.sheet.SheetEntry.{SheetEntry}
 use Rattle.sketches.specs.Plan.{Plan}
 use Rattle.sketches.specs.PlanCalls.{Sketched, leaves, sheet_entries, sheet_plan, sheet_answered, sheet}
-use Rattle.sketches.specs.declared.sketch.SheetAnswer as plan_answer
-use Rattle.sketches.specs.declared.sketch.SheetAnswer.TheVariants as plan_sheet
 use Rattle.agreement.specs.Meaning.{PlanCall, Both, start, next_both, Means, means_add, means_remove, means_set, means_link, means_link_clean, means_link_sub, means_cut, means_cut_sub, means_tidy}
 use Rattle.agreement.specs.Histories.{PlanEntry, PairItem, calls, sheets, next_item, after, entry_pair, MeantEntries, MeantSheet, MeantItem, Meant, EntriesAlike, SheetsAlike, AnsweredAlike, Agreed}
 use Rattle.agreement.specs.Alike.{Alike}
@@ -36,6 +34,7 @@ use Rattle.agreement.specs.LinkSubSquare.{link_sub_square}
 use Rattle.agreement.specs.CutSquares.{cut_square, cut_sub_square}
 use Rattle.agreement.specs.TidySquare.{tidy_square}
 use Rattle.agreement.specs.LooksWalks.{looks_alike}
+use Rattle.sketches.specs.declared.sketch.TooManyEntries.{TooManyEntries}
 
 -- all squares
 pub square : {b : Both} {M : Model} {c : Call} {k : PlanCall} (means : Means b c k) → Square b M means
@@ -70,8 +69,8 @@ start_alike release =
 -- Sheets.
 
 -- a sheet of the sketch, by whether it is too long
-abbrev tested : Plan → List PlanEntry → Bool → Sketched plan_answer.SheetAnswer
-tested K ps t = cond t (leaves K plan_sheet.TooManyEntries) (leaves (sheet_plan K ps) plan_sheet.Done)
+abbrev tested : Plan → List PlanEntry → Bool → Sketched (Result (Unit {0}) TooManyEntries)
+tested K ps t = cond t (leaves K (Err (record {}))) (leaves (sheet_plan K ps) (Ok tt))
 
 -- both after the links of a sheet, made one at a time
 linked : Both → List SheetEntry → List PlanEntry → Both

@@ -1,5 +1,5 @@
 -- What an end is linked with: the far end of its wire is the first that the sketch finds, under the names; so both answer alike where an end is asked.
-use Rattle.std.specs.Prelude.{◌≡◌, Bool, cond, not, ◌||◌, List, [], ◌∷◌, ◌⊎◌, ℕ, ◌≤◌, ltb}
+use Rattle.std.specs.Prelude.{◌≡◌, Bool, cond, not, ◌||◌, List, [], ◌∷◌, ◌⊎◌, ℕ, ◌≤◌, ltb, Err, Option, Result}
 use Rattle.std.proofs.Math.Path.{refl, ap, subst}
 use Rattle.std.proofs.Common.{sym, ◌∙◌, inl, inr, ⊎_elim, arith, lt-ltb, ltb-true, ltb-false}
 use Rattle.std.proofs.Math.Bool.{true, false}
@@ -10,7 +10,6 @@ use Rattle.portgraph.specs.Model.{Model, nowhere, to, slot_of}
 use Rattle.portgraph.specs.PlaceLaws.{port_link_to, port_link_none}
 use Rattle.port_tables.specs.declared.direction.Direction.{Direction}
 use Rattle.port_tables.specs.declared.direction.Direction.TheVariants.{Incoming, Outgoing}
-use Rattle.portgraph.specs.declared.portgraph.PortLink.{PortLink}
 use Rattle.multiportgraph.specs.WellFormed.{Fine, Seen, lift, outer, IsEnd, WireIn}
 use Rattle.multiportgraph.specs.Ends.{EndOf, other_side, outer_seen, outer_apart, ends_join_ends, subport_of_lem, outer_of_block, outer_of_subport, unsplit_no_copy}
 use Rattle.multiportgraph.specs.HiddenStays.{true_not_false}
@@ -24,7 +23,6 @@ use Rattle.multi_tables.specs.Forms.{End, inner, lacking}
 use Rattle.multiportgraph.specs.Wires.{place_of}
 use Rattle.multiportgraph.specs.declared.multiportgraph.MultiPortGraph.{MultiPortGraph}
 use Rattle.multi_tables.specs.declared.answers.PortPlace.{PortPlace}
-use Rattle.multi_tables.specs.declared.answers.CutAnswer.{CutAnswer}
 use Rattle.theorems.specs.Book.{Book, read_by}
 use Rattle.theorems.specs.BookLaws.{any_touches_lem, none_touches, so_not_false, or_true, or_right}
 use Rattle.theorems.specs.Conditions.{sub_offset, sub_dead, sub_lacks}
@@ -37,12 +35,15 @@ use Rattle.sketches.specs.PlanCalls.{end_found}
 use Rattle.sketches.specs.PlanNumbers.{reason_number}
 use Rattle.sketches.specs.declared.sketch.SketchPort.{SketchPort}
 use Rattle.sketches.specs.declared.sketch.Reason.TheVariants as reason
-use Rattle.sketches.specs.declared.sketch.EndAnswer.TheVariants as sketch_end
 use Rattle.agreement.specs.Meaning.{Both, PortMeans}
 use Rattle.agreement.specs.Agreement.{StandsAt, EndAlike}
 use Rattle.agreement.specs.Alike.{Alike, place_renamed}
 use Rattle.agreement.specs.Names.{naming, HasName, SameTest, name_of_lem, same_end, far_renamed, far_renamed_lem}
 use Rattle.agreement.specs.Standing.{PortHere, PortGone, here#, port_meant, wires_named, seen_name, offset_read_lem, lacks_so, lacks_not}
+use Rattle.port_tables.specs.declared.index.PortIndex.{PortIndex}
+use Rattle.portgraph.specs.declared.portgraph.NoSuchPort.{NoSuchPort}
+use Rattle.multi_tables.specs.declared.answers.Refusal.{Refusal}
+use Rattle.multi_tables.specs.declared.answers.SubportIndex.{SubportIndex}
 
 -- The first far end that a list of wires has.
 
@@ -209,7 +210,7 @@ module _ {b : Both} {M : Model} (a : Alike b M) where
       found_alike : EndAlike b.names (far_subport b.kit.graph (port_link b.kit.graph.graph q)) (end_found (far_from plan_test b.plan.wires))
       found_alike = go (M.join e.end) refl
         where
-          link_at : (v : PortLink) → port_link b.kit.graph.graph (slot_of M.node e.end) ≡ v → port_link b.kit.graph.graph q ≡ v
+          link_at : (v : Result (Option PortIndex) NoSuchPort) → port_link b.kit.graph.graph (slot_of M.node e.end) ≡ v → port_link b.kit.graph.graph q ≡ v
           link_at v k = ap (port_link b.kit.graph.graph) (sym e.slot) ∙ k
 
           go : (v : model.Far) → M.join e.end ≡ v → EndAlike b.names (far_subport b.kit.graph (port_link b.kit.graph.graph q)) (end_found (far_from plan_test b.plan.wires))
@@ -230,7 +231,7 @@ module _ {b : Both} {M : Model} (a : Alike b M) where
   asked_alike p o x means = start (ltb o 65535) refl (port_meant a p x means)
     where
       lacks : (h : PortHere b M p x) → o ≤ 65534 → (t : Bool) → lacks_offset b.plan x o ≡ t →
-          EndAlike b.names (subport_link b.kit.graph p o) (cond t (sketch_end.Refused reason.UnknownOffset) (end_found (far_from (at_end (spot_named x) (offset_read b.plan x o)) b.plan.wires)))
+          EndAlike b.names (subport_link b.kit.graph p o) (cond t (Err reason.UnknownOffset) (end_found (far_from (at_end (spot_named x) (offset_read b.plan x o)) b.plan.wires)))
       lacks h small true l = rw (subport_link_refuses a.rel.fine p o _ (sub_lacks small (here# h) (h.is_seen, h.slot) (lacks_so a h o l))) (_, refl)
       lacks h small false l = ends (end_at b.kit.graph p x.side o) refl
         where
@@ -240,12 +241,12 @@ module _ {b : Both} {M : Model} (a : Alike b M) where
           ends (inner q) e =
               let g : subport_link b.kit.graph p o ≡ far_subport b.kit.graph (port_link b.kit.graph.graph q) = subport_link_cases b.kit.graph p o
               ∙ rw (lt-ltb o 65535 (omega arith), seen_block_port a.rel.fine p (here# h) (h.is_seen, h.slot), e) refl in
-              subst (λ (v : CutAnswer). EndAlike b.names v (end_found (far_from (at_end (spot_named x) (offset_read b.plan x o)) b.plan.wires))) (sym g)
+              subst (λ (v : Result (Option (SubportIndex × PortPlace)) Refusal). EndAlike b.names v (end_found (far_from (at_end (spot_named x) (offset_read b.plan x o)) b.plan.wires))) (sym g)
               (found_alike h o q (end_is_lem a.rel.fine p (here# h) o q (h.is_seen, h.slot) e))
 
       start : (t : Bool) → ltb o 65535 ≡ t → PortHere b M p x ⊎ PortGone b M p x →
           EndAlike b.names (subport_link b.kit.graph p o)
-          (cond (not t) (sketch_end.Refused reason.BadOffset) (cond (not (is_there b.plan x)) (sketch_end.Refused reason.UnknownPort) (cond (lacks_offset b.plan x o) (sketch_end.Refused reason.UnknownOffset) (end_found (far_from (at_end (spot_named x) (offset_read b.plan x o)) b.plan.wires)))))
+          (cond (not t) (Err reason.BadOffset) (cond (not (is_there b.plan x)) (Err reason.UnknownPort) (cond (lacks_offset b.plan x o) (Err reason.UnknownOffset) (end_found (far_from (at_end (spot_named x) (offset_read b.plan x o)) b.plan.wires)))))
       start false e k = let l = ltb-false o 65535 e in rw (subport_link_refuses a.rel.fine p o _ (sub_offset (omega arith))) (_, refl)
       start true e (inl h) = let l = ltb-true o 65535 e in rw h.there (lacks h (omega arith) (lacks_offset b.plan x o) refl)
       start true e (inr g) = let l = ltb-true o 65535 e in rw (g.1, subport_link_refuses a.rel.fine p o _ (sub_dead (omega arith) g.0)) (_, refl)

@@ -1,5 +1,5 @@
 -- The squares of the two cuts: at an end, and of every wire at a port.
-use Rattle.std.specs.Prelude.{◌≡◌, refl, true, not, [], map, ◌⊎◌, ℕ, ◌≤◌, eqb, ltb}
+use Rattle.std.specs.Prelude.{◌≡◌, refl, true, not, [], map, ◌⊎◌, ℕ, ◌≤◌, eqb, ltb, Option, Some, None, Result, Ok, Err}
 use Rattle.std.proofs.Common.{sym, ◌∙◌, subst, inl, inr, arith, lt-ltb, ltb-true, ltb-false, ne_eqb}
 use Rattle.std.proofs.Math.Path.{ap}
 use Rattle.std.proofs.Math.Bool.{Bool, false, cond}
@@ -13,8 +13,6 @@ use Rattle.portgraph.specs.Model as model
 use Rattle.portgraph.specs.Model.{Model, nowhere, to, gone, slot_of}
 use Rattle.portgraph.specs.PlaceLaws.{port_link_to, port_link_none}
 use Rattle.portgraph.specs.declared.portgraph.PortGraph.{PortGraph}
-use Rattle.portgraph.specs.declared.portgraph.PortLink.{PortLink}
-use Rattle.portgraph.specs.declared.portgraph.PortLink.TheVariants as lower_cut
 use Rattle.multiportgraph.specs.WellFormed.{copy_place, Fine, Seen, outer, IsEnd, SameBlocks, Wiring}
 use Rattle.multiportgraph.specs.Ends.{Hangs, EndOf, split_has_copy, unsplit_is_end, ends_join_ends}
 use Rattle.multiportgraph.specs.HiddenStays.{true_not_false, hidden_below, split_below}
@@ -34,8 +32,6 @@ use Rattle.multiportgraph.specs.declared.multiportgraph.MultiPortGraph.{MultiPor
 use Rattle.multi_tables.specs.declared.answers.PortPlace.{PortPlace}
 use Rattle.multiportgraph.specs.declared.multiportgraph.PortUnlinked.{PortUnlinked}
 use Rattle.multi_tables.specs.declared.answers.Refusal.{Refusal}
-use Rattle.multi_tables.specs.declared.answers.CutAnswer.{CutAnswer}
-use Rattle.multi_tables.specs.declared.answers.CutAnswer.TheVariants as cutting
 use Rattle.theorems.specs.Book as book
 use Rattle.theorems.specs.Book.{spot_of, read_by, book_cut}
 use Rattle.theorems.proofs.AnswerWires.{cut_sub_answers, place_at}
@@ -51,10 +47,6 @@ use Rattle.sketches.specs.PlanCalls.{Sketched, leaves, is_refused, port_found}
 use Rattle.sketches.specs.PlanNumbers.{reason_number}
 use Rattle.sketches.specs.declared.sketch.SketchPort.{SketchPort}
 use Rattle.sketches.specs.declared.sketch.Reason.TheVariants as reason
-use Rattle.sketches.specs.declared.sketch.PortAnswer.{PortAnswer}
-use Rattle.sketches.specs.declared.sketch.PortAnswer.TheVariants as port
-use Rattle.sketches.specs.declared.sketch.EndAnswer as sketch_end_answer
-use Rattle.sketches.specs.declared.sketch.EndAnswer.TheVariants as sketch_end
 use Rattle.agreement.specs.Meaning.{Both, PortMeans, means_cut, means_cut_sub}
 use Rattle.agreement.specs.Agreement.{StandsAt, CutAlike, EndAlike}
 use Rattle.agreement.specs.Alike.{Alike, subports_at, wire_renamed}
@@ -65,6 +57,11 @@ use Rattle.agreement.specs.PlanLaws.{set_release, set_adds, set_blocks, set_wire
 use Rattle.agreement.specs.KeptSplits.{split_kept, same_subports, same_slot}
 use Rattle.agreement.specs.Carry.{alike_after, subports_set, set_there}
 use Rattle.agreement.specs.Asked.{same_tests, asked_alike, far_stands, far_of_end, far_of_free, whole_here, whole_only}
+use Rattle.sketches.specs.declared.sketch.Reason.{Reason}
+use Rattle.sketches.specs.declared.sketch.SketchEnd.{SketchEnd}
+use Rattle.port_tables.specs.declared.index.PortIndex.{PortIndex}
+use Rattle.portgraph.specs.declared.portgraph.NoSuchPort.{NoSuchPort}
+use Rattle.multi_tables.specs.declared.answers.SubportIndex.{SubportIndex}
 
 -- Cutting an end keeps every port as split as it was.
 
@@ -98,15 +95,15 @@ module _ {b : Both} {M : Model} (a : Alike b M) (p o : ℕ) (x : SketchPort) whe
   plan_cut = with_wires b.plan (without (at_end (spot_named x) (offset_read b.plan x o)) b.plan.wires)
 
   -- what is left by a cut that answers w, where the sketch answers u
-  abbrev Left : PortUnlinked → sketch_end_answer.EndAnswer → Type 0
+  abbrev Left : PortUnlinked → Result (Option SketchEnd) Reason → Type 0
   Left w u =
       (M' : Model) × Alike
       (record { kit = record { graph = w.graph; book = book_cut b.kit.book entry w.answer }; names = b.names; plan = cond (is_refused u) b.plan plan_cut }) M'
 
-  left_refused : (r : Refusal) (u : sketch_end_answer.EndAnswer) → EndAlike b.names (cutting.Refused r) u → Left (cut_refused m r) u
-  left_refused r (sketch_end.Found y) e = absurd e
-  left_refused r sketch_end.Nothing e = absurd e
-  left_refused r (sketch_end.Refused q) e = (M, a)
+  left_refused : (r : Refusal) (u : Result (Option SketchEnd) Reason) → EndAlike b.names (Err r) u → Left (cut_refused m r) u
+  left_refused r (Ok (Some y)) e = absurd e
+  left_refused r (Ok None) e = absurd e
+  left_refused r (Err q) e = (M, a)
 
   module _ (h : PortHere b M p x) (q : ℕ) (e : EndOf m M (here# h) o q) where
     abbrev graph : MultiPortGraph
@@ -138,20 +135,20 @@ module _ {b : Both} {M : Model} (a : Alike b M) (p o : ℕ) (x : SketchPort) whe
         (λ y s k i. a.subports y s (naming y.node k) i refl ∙ sym (same_subports m M _ model' y (cut_keeps_splits a.rel.fine e.end e.is_end y s)))
         a.splits_there wires_left)
 
-    left_done : (v : PortLink) (u : sketch_end_answer.EndAnswer) → EndAlike b.names (far_subport m v) u → Left (record { graph = graph; answer = far_subport m v }) u
-    left_done (lower_cut.Linked c) (sketch_end.Found y) l = (model', done)
-    left_done (lower_cut.Linked c) sketch_end.Nothing l = absurd l
-    left_done (lower_cut.Linked c) (sketch_end.Refused r) l = absurd l
-    left_done lower_cut.Unlinked (sketch_end.Found y) l = absurd l
-    left_done lower_cut.Unlinked sketch_end.Nothing l = (model', done)
-    left_done lower_cut.Unlinked (sketch_end.Refused r) l = absurd l
-    left_done (lower_cut.UnknownPort c) (sketch_end.Found y) l = absurd l
-    left_done (lower_cut.UnknownPort c) sketch_end.Nothing l = (model', done)
-    left_done (lower_cut.UnknownPort c) (sketch_end.Refused r) l = absurd l
+    left_done : (v : Result (Option PortIndex) NoSuchPort) (u : Result (Option SketchEnd) Reason) → EndAlike b.names (far_subport m v) u → Left (record { graph = graph; answer = far_subport m v }) u
+    left_done (Ok (Some c)) (Ok (Some y)) l = (model', done)
+    left_done (Ok (Some c)) (Ok None) l = absurd l
+    left_done (Ok (Some c)) (Err r) l = absurd l
+    left_done (Ok None) (Ok (Some y)) l = absurd l
+    left_done (Ok None) (Ok None) l = (model', done)
+    left_done (Ok None) (Err r) l = absurd l
+    left_done (Err c) (Ok (Some y)) l = absurd l
+    left_done (Err c) (Ok None) l = (model', done)
+    left_done (Err c) (Err r) l = absurd l
 
   -- whatever is answered, alike
   abbrev LeftBy : PortUnlinked → Type 0
-  LeftBy w = (u : sketch_end_answer.EndAnswer) → EndAlike b.names w.answer u → Left w u
+  LeftBy w = (u : Result (Option SketchEnd) Reason) → EndAlike b.names w.answer u → Left w u
 
   cut_left : PortMeans b p x → LeftBy (cut_sub m p o)
   cut_left means = start (ltb o 65535) refl (port_meant a p x means)
@@ -174,7 +171,7 @@ module _ {b : Both} {M : Model} (a : Alike b M) (p o : ℕ) (x : SketchPort) whe
 pub cut_sub_square : {b : Both} {M : Model} (p o : ℕ) (x : SketchPort) (means : PortMeans b p x) → Square b M (means_cut_sub p o x means)
 unfolding sketch.cut_subport
 cut_sub_square {b} {M} p o x means a room =
-    let k = subst (λ (v : CutAnswer). EndAlike b.names v (sketch.subport_link b.plan x o)) (sym (cut_sub_answers b.kit.graph p o)) (asked_alike a p o x means) in
+    let k = subst (λ (v : Result (Option (SubportIndex × PortPlace)) Refusal). EndAlike b.names v (sketch.subport_link b.plan x o)) (sym (cut_sub_answers b.kit.graph p o)) (asked_alike a p o x means) in
     let l = cut_left a p o x means (sketch.subport_link b.plan x o) k in
     record { answers = k; model = l.0; alike = l.1 }
 
@@ -241,7 +238,7 @@ module _ {b : Both} {M : Model} (a : Alike b M) (p : ℕ) (x : SketchPort) where
   abbrev rest : Plan
   rest = with_wires b.plan (without (at_spot (spot_named x)) b.plan.wires)
 
-  abbrev WholeLeft : PortUnlinked → Sketched PortAnswer → Type 0
+  abbrev WholeLeft : PortUnlinked → Sketched (Result (Option SketchPort) Reason) → Type 0
   WholeLeft w v =
       CutAlike b.names w.answer v.answer
       × ((M' : Model) × Alike (record { kit = record { graph = w.graph; book = book_cut b.kit.book spot_entry w.answer }; names = b.names; plan = v.plan }) M')
@@ -270,7 +267,7 @@ module _ {b : Both} {M : Model} (a : Alike b M) (p : ℕ) (x : SketchPort) where
         (set_release rest x 0) release (set_adds rest x 0) (set_blocks rest x 0) (subports_set a h rest refl 0 g M' now others) (set_there a h rest refl 0) rest_wires
 
     split_left : is_split kit_graph p ≡ true →
-        WholeLeft (record { graph = unsplit kit_graph p; answer = cutting.Found (subport# p 0) (standing kit_graph (subport# p 0)) }) (leaves (set_subports rest x 0) (port.Found x))
+        WholeLeft (record { graph = unsplit kit_graph p; answer = Ok (Some (subport# p 0, standing kit_graph (subport# p 0))) }) (leaves (set_subports rest x 0) (Ok (Some x)))
     split_left t =
         let f = a.rel.fine in
         let e : is_split kit_graph (slot_of M.node (here# h)) ≡ true = ap (is_split kit_graph) h.slot ∙ t in
@@ -328,18 +325,18 @@ module _ {b : Both} {M : Model} (a : Alike b M) (p : ℕ) (x : SketchPort) where
                 let l = far_plan ∙ ap (far_renamed b.names _ (at_spot (spot_named x)) spot_tests) (far_of_end a.rel (here# h) end _ (whole_here f (here# h) h.is_seen) (whole_only f (here# h) n) y j) in
                 rw (k, l) (far_stands a y (ends_join_ends f (here# h) y end j))
 
-        answered : (v : PortLink) → (unlink_port kit_graph.graph p).answer ≡ v →
+        answered : (v : Result (Option PortIndex) NoSuchPort) → (unlink_port kit_graph.graph p).answer ≡ v →
             WholeLeft (record { graph = with_graph kit_graph (unlink_port kit_graph.graph p).graph; answer = cut_plain kit_graph v }) (leaves (set_subports rest x 0) (port_found (far_from (at_spot (spot_named x)) b.plan.wires)))
-        answered (lower_cut.Linked q) e = (rw (sym (cut_link kit_graph.graph p) ∙ e) at alike, (_, left))
-        answered lower_cut.Unlinked e = (rw (sym (cut_link kit_graph.graph p) ∙ e) at alike, (_, left))
-        answered (lower_cut.UnknownPort q) e = (rw (sym (cut_link kit_graph.graph p) ∙ e) at alike, (_, left))
+        answered (Ok (Some q)) e = (rw (sym (cut_link kit_graph.graph p) ∙ e) at alike, (_, left))
+        answered (Ok None) e = (rw (sym (cut_link kit_graph.graph p) ∙ e) at alike, (_, left))
+        answered (Err q) e = (rw (sym (cut_link kit_graph.graph p) ∙ e) at alike, (_, left))
 
   plan_cut_lem : is_there b.plan x ≡ true → (t : Bool) → eqb (subports_of b.plan x) 0 ≡ t →
-      sketch.cut_port b.plan x ≡ leaves (set_subports rest x 0) (cond t (port_found (far_from (at_spot (spot_named x)) b.plan.wires)) (port.Found x))
+      sketch.cut_port b.plan x ≡ leaves (set_subports rest x 0) (cond t (port_found (far_from (at_spot (spot_named x)) b.plan.wires)) (Ok (Some x)))
   unfolding sketch.cut_port
   plan_cut_lem there t e =
-      ap (λ (u : Bool). cond (not u) (leaves b.plan (port.Refused reason.UnknownPort)) (leaves (set_subports rest x 0) (cond (eqb (subports_of b.plan x) 0) (port_found (far_from (at_spot (spot_named x)) b.plan.wires)) (port.Found x)))) there
-      ∙ ap (λ (u : Bool). leaves (set_subports rest x 0) (cond u (port_found (far_from (at_spot (spot_named x)) b.plan.wires)) (port.Found x))) e
+      ap (λ (u : Bool). cond (not u) (leaves b.plan (Err reason.UnknownPort)) (leaves (set_subports rest x 0) (cond (eqb (subports_of b.plan x) 0) (port_found (far_from (at_spot (spot_named x)) b.plan.wires)) (Ok (Some x))))) there
+      ∙ ap (λ (u : Bool). leaves (set_subports rest x 0) (cond u (port_found (far_from (at_spot (spot_named x)) b.plan.wires)) (Ok (Some x)))) e
 
   whole_left : PortMeans b p x → WholeLeft (cut_port kit_graph p) (sketch.cut_port b.plan x)
   unfolding sketch.cut_port reason_number
@@ -348,7 +345,7 @@ module _ {b : Both} {M : Model} (a : Alike b M) (p : ℕ) (x : SketchPort) where
       -- the engine's cut of a port of a block, by its mark
       whole : Bool → PortUnlinked
       whole t =
-          cond t (record { graph = unsplit kit_graph p; answer = cutting.Found (subport# p 0) (standing kit_graph (subport# p 0)) })
+          cond t (record { graph = unsplit kit_graph p; answer = Ok (Some (subport# p 0, standing kit_graph (subport# p 0))) })
           (record { graph = with_graph kit_graph (unlink_port kit_graph.graph p).graph; answer = cut_plain kit_graph (unlink_port kit_graph.graph p).answer })
 
       away : PortGone b M p x → WholeLeft (cut_port kit_graph p) (sketch.cut_port b.plan x)

@@ -1,6 +1,6 @@
 -- Histories of both: calls of each that mean the same, and wiring sheets with as many entries, one after the other. What is asked of a history, and what
 -- is claimed of it. A sheet is judged entry by entry: what an entry names is read when it is its turn.
-use Rattle.std.specs.Prelude.{◌≡◌, List, [], ◌∷◌, ℕ, ◌+◌, ◌<◌, ◌≤◌, length}
+use Rattle.std.specs.Prelude.{◌≡◌, List, [], ◌∷◌, ℕ, ◌+◌, ◌<◌, ◌≤◌, length, Result, Ok, Err}
 use Rattle.multi_tables.specs.declared.answers.Refusal.TheVariants.{NoRoom, MovesTooShort}
 use Rattle.theorems.specs.Book as book
 use Rattle.theorems.specs.Book.{Call}
@@ -12,10 +12,9 @@ use Rattle.sheets.specs.declared.sheet.SheetEntry.{SheetEntry}
 use Rattle.sketches.specs.PlanCalls as sketch
 use Rattle.sketches.specs.PlanNumbers as number
 use Rattle.sketches.specs.declared.sketch.SheetEntry as plan_entry
-use Rattle.sketches.specs.declared.sketch.AddAnswer.{AddAnswer}
-use Rattle.sketches.specs.declared.sketch.AddAnswer.TheVariants as add
 use Rattle.agreement.specs.Meaning.{PlanCall, add_plan, remove_plan, set_plan, link_plan, link_clean_plan, link_sub_plan, cut_plan, cut_sub_plan, tidy_plan, PlanAnswerOf, plan_step, Both, Pair, next_both, PortMeans, Means}
 use Rattle.agreement.specs.Agreement.{AnswersAlike, LinkAlike, NamesNoHidden, HasRoom, LooksAlike}
+use Rattle.sketches.specs.declared.sketch.Reason.{Reason}
 
 -- an entry of a sheet of the sketch
 abbrev pub PlanEntry : Type 0
@@ -37,9 +36,9 @@ after b [] = b
 after b (i ∷ l) = after (next_item b i) l
 
 -- How many adds the sketch accepts, along a list of items.
-abbrev pub adds_of : AddAnswer → ℕ
-adds_of (add.Added n) = 1
-adds_of (add.Refused r) = 0
+abbrev pub adds_of : Result ℕ Reason → ℕ
+adds_of (Ok n) = 1
+adds_of (Err r) = 0
 
 abbrev pub call_adds : (k : PlanCall) → PlanAnswerOf k → ℕ
 call_adds (add_plan i o) v = adds_of v

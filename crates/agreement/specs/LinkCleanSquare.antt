@@ -1,5 +1,5 @@
 -- The square of a link that leaves no stub: 7, 18, 11, 12 in the same places and nothing left by them; accepted, it is the link of ports.
-use Rattle.std.specs.Prelude.{◌≡◌, Bool, ◌⊎◌, ℕ}
+use Rattle.std.specs.Prelude.{◌≡◌, Bool, ◌⊎◌, ℕ, Result, Err}
 use Rattle.std.proofs.Math.Path.{refl, transport}
 use Rattle.std.proofs.Common.{sym, ◌∙◌, ap, inl, inr}
 use Rattle.std.proofs.Math.Bool.{true, false}
@@ -23,8 +23,6 @@ use Rattle.sketches.specs.Plan.{input_taken}
 use Rattle.sketches.specs.PlanCalls as sketch
 use Rattle.sketches.specs.PlanCalls.{Sketched, leaves, is_full, both_linked}
 use Rattle.sketches.specs.PlanNumbers.{reason_number}
-use Rattle.sketches.specs.declared.sketch.LinkAnswer.{LinkAnswer}
-use Rattle.sketches.specs.declared.sketch.LinkAnswer.TheVariants as sketch_link
 use Rattle.sketches.specs.declared.sketch.Reason.TheVariants as reason
 use Rattle.sketches.specs.declared.sketch.SketchPort.{SketchPort}
 use Rattle.agreement.specs.Meaning.{Both, PortMeans, link_clean_plan, means_link_clean}
@@ -35,20 +33,22 @@ use Rattle.agreement.specs.Standing.{PortHere, PortGone, here#, port_meant}
 use Rattle.agreement.specs.LinkTests.{taken_alike}
 use Rattle.agreement.specs.LinkSteps.{LinkResult, prepare_alike, second_prepared, accepted_result}
 use Rattle.agreement.specs.LinkSquare.{none_hidden}
+use Rattle.sketches.specs.declared.sketch.Reason.{Reason}
+use Rattle.sketches.specs.declared.sketch.SketchEnd.{SketchEnd}
 
 module _ {b : Both} {M : Model} (a : Alike b M) (p q : ℕ) (x y : SketchPort) (first : PortMeans b p x) (second : PortMeans b q y)
     (room : HasRoom b (pair (book.link_clean_call p q) (link_clean_plan x y))) where
   abbrev m : MultiPortGraph
   m = b.kit.graph
 
-  abbrev Result : PortsLinked → Sketched LinkAnswer → Type 0
-  Result = LinkResult b (book_link b.kit.book p q)
+  abbrev Outcome : PortsLinked → Sketched (Result (SketchEnd × SketchEnd) Reason) → Type 0
+  Outcome = LinkResult b (book_link b.kit.book p q)
 
   abbrev Done : Type 0
-  Done = Result (link_clean m p q) (sketch.link_clean b.plan x y)
+  Done = Outcome (link_clean m p q) (sketch.link_clean b.plan x y)
 
-  so : (v : PortsLinked) (w : Sketched LinkAnswer) → link_clean m p q ≡ v → sketch.link_clean b.plan x y ≡ w → Result v w → Done
-  so v w e g r = transport (λ i. Result (sym e i) (sym g i)) r
+  so : (v : PortsLinked) (w : Sketched (Result (SketchEnd × SketchEnd) Reason)) → link_clean m p q ≡ v → sketch.link_clean b.plan x y ≡ w → Outcome v w → Done
+  so v w e g r = transport (λ i. Outcome (sym e i) (sym g i)) r
 
   -- both ports are of blocks, and 18 is not given
   module _ (h : PortHere b M p x) (k : PortHere b M q y) (free : Taken m M p q → ⊥) (untaken : input_taken b.plan x y ≡ false) where
@@ -68,8 +68,8 @@ module _ {b : Both} {M : Model} (a : Alike b M) (p q : ℕ) (x y : SketchPort) (
       linked : (m₁ m₂ : MultiPortGraph) (u o v r : ℕ) → prepare m p x.side ≡ hiding.ready m₁ u o → prepare m₁ q y.side ≡ hiding.ready m₂ v r → (full : Bool) → is_full b.plan ≡ full → Done
       unfolding sketch.link_clean
       linked m₁ m₂ u o v r e g true i =
-          let z : sketch.link_clean b.plan x y ≡ leaves b.plan (sketch_link.Refused reason.NoRoom) = rw (h.there, untaken, k.there, c, i) refl in
-          absurd (room.sketched (ap (λ (w : Sketched LinkAnswer). w.answer) z))
+          let z : sketch.link_clean b.plan x y ≡ leaves b.plan (Err reason.NoRoom) = rw (h.there, untaken, k.there, c, i) refl in
+          absurd (room.sketched (ap (λ (w : Sketched (Result (SketchEnd × SketchEnd) Reason)). w.answer) z))
       linked m₁ m₂ u o v r e g false i =
           let s = prepare_alike a h m₁ u o e in
           let t = second_prepared a s k m₂ v r g in
@@ -89,19 +89,19 @@ module _ {b : Both} {M : Model} (a : Alike b M) (p q : ℕ) (x y : SketchPort) (
     unfolding sketch.link_clean reason_number
     sides false c = first_end c (prepare m p x.side) refl
     sides true c =
-        so _ (leaves b.plan (sketch_link.Refused reason.SameSide))
+        so _ (leaves b.plan (Err reason.SameSide))
         (clean_refuses a.rel.fine p q _ (clean_one_side (here# h) (here# k) at_first at_second free (same_side_is x.side y.side c)))
         (rw (h.there, untaken, k.there, c) refl) ((_, refl), (M, a))
 
   wired : (h : PortHere b M p x) (k : PortHere b M q y ⊎ PortGone b M q y) (taken : Bool) → kit.input_taken m p q ≡ taken → input_taken b.plan x y ≡ taken → Done
   unfolding sketch.link_clean reason_number
   wired h k true e t =
-      so _ (leaves b.plan (sketch_link.Refused reason.InputWired))
+      so _ (leaves b.plan (Err reason.InputWired))
       (clean_refuses a.rel.fine p q _ (clean_wired (here# h) (h.is_seen, h.slot) (none_hidden a q y k) (so_taken a.rel.fine p q e)))
       (rw (h.there, t) refl) ((_, refl), (M, a))
   wired h (inl k) false e t = sides h k (so_free a.rel.fine p q e) t (same_side x.side y.side) refl
   wired h (inr g) false e t =
-      so _ (leaves b.plan (sketch_link.Refused reason.UnknownSecondPort))
+      so _ (leaves b.plan (Err reason.UnknownSecondPort))
       (clean_refuses a.rel.fine p q _ (clean_second_dead (here# h) (h.is_seen, h.slot) g.0 (so_free a.rel.fine p q e)))
       (rw (h.there, t, g.1) refl) ((_, refl), (M, a))
 
@@ -109,7 +109,7 @@ module _ {b : Both} {M : Model} (a : Alike b M) (p q : ℕ) (x y : SketchPort) (
   unfolding sketch.link_clean reason_number
   done (inl h) k = wired h k (kit.input_taken m p q) refl (taken_alike a p q x y (inl h) k)
   done (inr g) k =
-      so _ (leaves b.plan (sketch_link.Refused reason.UnknownPort)) (clean_refuses a.rel.fine p q _ (clean_first_dead g.0)) (rw g.1 refl) ((_, refl), (M, a))
+      so _ (leaves b.plan (Err reason.UnknownPort)) (clean_refuses a.rel.fine p q _ (clean_first_dead g.0)) (rw g.1 refl) ((_, refl), (M, a))
 
 pub link_clean_square : {b : Both} {M : Model} (p q : ℕ) (x y : SketchPort) (first : PortMeans b p x) (second : PortMeans b q y) → Square b M (means_link_clean p q x y first second)
 link_clean_square p q x y first second a room =

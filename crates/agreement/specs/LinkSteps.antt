@@ -1,6 +1,6 @@
 -- An engine and a sketch that are alike stay so where an end of a port is prepared in both, and where two ends are linked in both; from these, what
 -- a link that is accepted leaves.
-use Rattle.std.specs.Prelude.{◌≡◌, refl, List, [], ◌∷◌, map, ℕ}
+use Rattle.std.specs.Prelude.{◌≡◌, refl, List, [], ◌∷◌, map, ℕ, Result, Ok}
 use Rattle.std.proofs.Math.Path.{sym, transport}
 use Rattle.std.proofs.Common.{◌∙◌, ap, subst, inl, inr}
 use Rattle.port_tables.specs.Limits.{present}
@@ -22,8 +22,6 @@ use Rattle.multiportgraph.specs.LinkCutLaws.{Joined, join_ends}
 use Rattle.multiportgraph.specs.PrepareLaws.{prepare_law}
 use Rattle.multiportgraph.specs.SplitLaws.{HasEnd, KeptEnd, PreparedEnd, end_of_wire}
 use Rattle.multiportgraph.specs.declared.multiportgraph.MultiPortGraph.{MultiPortGraph}
-use Rattle.multiportgraph.specs.declared.multiportgraph.LinkAnswer.{LinkAnswer}
-use Rattle.multiportgraph.specs.declared.multiportgraph.LinkAnswer.TheVariants as link
 use Rattle.multiportgraph.specs.declared.multiportgraph.PortsLinked.{PortsLinked}
 use Rattle.theorems.specs.Book.{Book, with_wires, spot_of, add_wire, book_link}
 use Rattle.theorems.specs.History.{State}
@@ -32,7 +30,6 @@ use Rattle.theorems.specs.ReleaseLaws.{prepare_for}
 use Rattle.theorems.proofs.WireRule.{spot_of_lem, rel_same, rel_linked}
 use Rattle.sketches.specs.Plan.{Plan, spot_named, subports_of, place_named, subports_ready, offset_ready, ready}
 use Rattle.sketches.specs.PlanCalls.{Sketched, both_linked, with_wire}
-use Rattle.sketches.specs.declared.sketch.LinkAnswer as sketch_answer
 use Rattle.sketches.specs.declared.sketch.SketchPort.{SketchPort}
 use Rattle.agreement.specs.Meaning.{Both}
 use Rattle.agreement.specs.Agreement.{LinkAlike}
@@ -43,6 +40,10 @@ use Rattle.agreement.specs.PlanLaws.{set_release, set_adds, set_blocks, set_wire
 use Rattle.agreement.specs.Carry.{there_by_blocks, seen_still, slot_still, alike_after, subports_set, set_there}
 use Rattle.agreement.specs.PreparedSubports.{prepared_subports, linked_subports}
 use Rattle.agreement.specs.LinkTests.{next_alike, ready_offset}
+use Rattle.sketches.specs.declared.sketch.Reason.{Reason}
+use Rattle.sketches.specs.declared.sketch.SketchEnd.{SketchEnd}
+use Rattle.multi_tables.specs.declared.answers.Refusal.{Refusal}
+use Rattle.multi_tables.specs.declared.answers.SubportIndex.{SubportIndex}
 
 -- a port that both have, after a call that keeps the blocks
 unfoldable pub still_here : {b : Both} {M : Model} {p : ℕ} {x : SketchPort} → Alike b M → PortHere b M p x → (kit : State) (K : Plan) {M' : Model} → Fine kit.graph M' →
@@ -189,7 +190,7 @@ module _ {b : Both} {M : Model} {p q : ℕ} {x y : SketchPort} (a : Alike b M) (
 
 -- What a link answers and leaves on both.
 
-abbrev pub LinkResult : Both → (LinkAnswer → Book) → PortsLinked → Sketched sketch_answer.LinkAnswer → Type 0
+abbrev pub LinkResult : Both → (Result (SubportIndex × SubportIndex) Refusal → Book) → PortsLinked → Sketched (Result (SketchEnd × SketchEnd) Reason) → Type 0
 LinkResult b enter v w =
     LinkAlike b v.answer w.answer × ((M : Model) × Alike (record { kit = record { graph = v.graph; book = enter v.answer }; names = b.names; plan = w.plan }) M)
 
@@ -264,7 +265,7 @@ module _ {b : Both} {M : Model} {p q : ℕ} {x y : SketchPort} (a : Alike b M) (
 
   -- the link is accepted
   pub accepted_result : (x.side ≡ y.side → ⊥) →
-      LinkResult b (book_link b.kit.book p q) (record { graph = with_graph m₂ (link_ports m₂.graph u v).graph; answer = link.Linked (subport# p o) (subport# q r) }) (both_linked b.plan x y)
+      LinkResult b (book_link b.kit.book p q) (record { graph = with_graph m₂ (link_ports m₂.graph u v).graph; answer = Ok (subport# p o, subport# q r) }) (both_linked b.plan x y)
   unfolding free_ends
   accepted_result opposite =
       let slot₁ : slot_of t.model.node s.end.z ≡ u = (kept_first opposite).slot ∙ s.end.slot in

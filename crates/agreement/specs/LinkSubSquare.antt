@@ -1,5 +1,5 @@
 -- The square of a link of subports: 2, 7, 9, 18, 11, 12, 13 in the same places; accepted, both ends as read and one wire more.
-use Rattle.std.specs.Prelude.{◌≡◌, Bool, [], ◌∷◌, ◌⊎◌, ℕ, ◌≤◌, ◌<◌, ltb}
+use Rattle.std.specs.Prelude.{◌≡◌, Bool, [], ◌∷◌, ◌⊎◌, ℕ, ◌≤◌, ◌<◌, ltb, Result, Ok, Err}
 use Rattle.std.proofs.Math.Path.{refl, sym, transport}
 use Rattle.std.proofs.Common.{◌∙◌, ap, subst, inl, inr, arith}
 use Rattle.std.proofs.Math.Bool.{true, false}
@@ -20,7 +20,6 @@ use Rattle.multi_tables.specs.Forms.{End, inner, lacking}
 use Rattle.multiportgraph.specs.Refusals as kit
 use Rattle.multiportgraph.specs.declared.multiportgraph.MultiPortGraph.{MultiPortGraph}
 use Rattle.multiportgraph.specs.declared.multiportgraph.PortsLinked.{PortsLinked}
-use Rattle.multiportgraph.specs.declared.multiportgraph.LinkAnswer as kit_answer
 use Rattle.theorems.specs.Book as book
 use Rattle.theorems.specs.Book.{Book, with_wires, spot_of, add_wire, read_by, book_link_sub}
 use Rattle.theorems.specs.Conditions.{Lacks, OfBlock, Offsets, Taken, sub_first_dead, sub_first_lacks, sub_first_linked, sub_offsets, sub_one_side, sub_second_dead, sub_second_lacks, sub_second_linked, sub_wired}
@@ -32,8 +31,6 @@ use Rattle.sketches.specs.Plan.{input_taken, lacks_offset, offset_read, end#}
 use Rattle.sketches.specs.PlanCalls as sketch
 use Rattle.sketches.specs.PlanCalls.{Sketched, leaves, is_full, is_wired, with_wire}
 use Rattle.sketches.specs.PlanNumbers.{reason_number}
-use Rattle.sketches.specs.declared.sketch.LinkAnswer.{LinkAnswer}
-use Rattle.sketches.specs.declared.sketch.LinkAnswer.TheVariants as sketch_link
 use Rattle.sketches.specs.declared.sketch.Reason.TheVariants as reason
 use Rattle.sketches.specs.declared.sketch.SketchPort.{SketchPort}
 use Rattle.agreement.specs.Meaning.{Both, PortMeans, link_sub_plan, means_link_sub}
@@ -44,6 +41,10 @@ use Rattle.agreement.specs.Standing.{PortHere, PortGone, here#, port_meant, offs
 use Rattle.agreement.specs.LinkTests.{taken_alike, wired_linked, unwired_free}
 use Rattle.agreement.specs.LinkSteps.{spot_here, LinkResult, FreeEnds, join_alike}
 use Rattle.agreement.specs.LinkSquare.{none_hidden}
+use Rattle.sketches.specs.declared.sketch.Reason.{Reason}
+use Rattle.sketches.specs.declared.sketch.SketchEnd.{SketchEnd}
+use Rattle.multi_tables.specs.declared.answers.Refusal.{Refusal}
+use Rattle.multi_tables.specs.declared.answers.SubportIndex.{SubportIndex}
 
 -- an end that is not lacking
 pub end_there : {b : Both} {M : Model} {p : ℕ} {x : SketchPort} (a : Alike b M) (h : PortHere b M p x) (o : ℕ) → (Lacks b.kit.graph M (here# h) o → ⊥) →
@@ -59,17 +60,17 @@ module _ {b : Both} {M : Model} (a : Alike b M) (p o q r : ℕ) (x y : SketchPor
   abbrev m : MultiPortGraph
   m = b.kit.graph
 
-  abbrev enter : kit_answer.LinkAnswer → Book
+  abbrev enter : Result (SubportIndex × SubportIndex) Refusal → Book
   enter v = book_link_sub b.kit.book p o q r v (is_split m p ∷ is_split m q ∷ [])
 
-  abbrev Result : PortsLinked → Sketched LinkAnswer → Type 0
-  Result = LinkResult b enter
+  abbrev Outcome : PortsLinked → Sketched (Result (SketchEnd × SketchEnd) Reason) → Type 0
+  Outcome = LinkResult b enter
 
   abbrev Done : Type 0
-  Done = Result (link_sub m p o q r) (sketch.link_subports b.plan x o y r)
+  Done = Outcome (link_sub m p o q r) (sketch.link_subports b.plan x o y r)
 
-  so : (v : PortsLinked) (w : Sketched LinkAnswer) → link_sub m p o q r ≡ v → sketch.link_subports b.plan x o y r ≡ w → Result v w → Done
-  so v w e g s = transport (λ i. Result (sym e i) (sym g i)) s
+  so : (v : PortsLinked) (w : Sketched (Result (SketchEnd × SketchEnd) Reason)) → link_sub m p o q r ≡ v → sketch.link_subports b.plan x o y r ≡ w → Outcome v w → Done
+  so v w e g s = transport (λ i. Outcome (sym e i) (sym g i)) s
 
   module _ (good-first : ltb o 65535 ≡ true) (good-second : ltb r 65535 ≡ true) where
     offsets : Offsets o r
@@ -126,15 +127,15 @@ module _ {b : Both} {M : Model} (a : Alike b M) (p o q r : ℕ) (x y : SketchPor
             linked : (full : Bool) → is_full b.plan ≡ full → Done
             unfolding sketch.link_subports as_read free_ends
             linked true i =
-                let z : sketch.link_subports b.plan x o y r ≡ leaves b.plan (sketch_link.Refused reason.NoRoom) =
+                let z : sketch.link_subports b.plan x o y r ≡ leaves b.plan (Err reason.NoRoom) =
                 rw (good-first, good-second, h.there, there, k.there, there-too, untaken, c, w₁, w₂, i) refl in
-                absurd (room.sketched (ap (λ (w : Sketched LinkAnswer). w.answer) z))
+                absurd (room.sketched (ap (λ (w : Sketched (Result (SketchEnd × SketchEnd) Reason)). w.answer) z))
             linked false i =
                 let d = offset_read_lem a h o in
                 let s = offset_read_lem a k r in
                 so _
                 (leaves (with_wire b.plan x (offset_read b.plan x o) y (offset_read b.plan y r))
-                (sketch_link.Linked (end# x (offset_read b.plan x o)) (end# y (offset_read b.plan y r))))
+                (Ok (end# x (offset_read b.plan x o), end# y (offset_read b.plan y r))))
                 (links_sub_otherwise a.rel.fine p o q r offsets (here# h) (here# k) u v at_first at_second e g free opposite (unwired_free a h o u e w₁) (unwired_free a k r v g w₂))
                 (rw (good-first, good-second, h.there, there, k.there, there-too, untaken, c, w₁, w₂, i) refl) (
                   (((h.node, spot_here a h, h.named), sym d), ((k.node, spot_here a k, k.named), sym s)),
@@ -149,11 +150,11 @@ module _ {b : Both} {M : Model} (a : Alike b M) (p o q r : ℕ) (x y : SketchPor
           unfolding sketch.link_subports reason_number
           wires false false w₁ w₂ = linked w₁ w₂ (is_full b.plan) refl
           wires true t w₁ w₂ =
-              so _ (leaves b.plan (sketch_link.Refused reason.AlreadyLinked))
+              so _ (leaves b.plan (Err reason.AlreadyLinked))
               (link_sub_refuses a.rel.fine p o q r _ (sub_first_linked offsets (here# h) (here# k) u v at_first at_second e g free opposite (wired_linked a h o u e w₁)))
               (rw (good-first, good-second, h.there, there, k.there, there-too, untaken, c, w₁) refl) ((_, refl), (M, a))
           wires false true w₁ w₂ =
-              so _ (leaves b.plan (sketch_link.Refused reason.AlreadyLinked))
+              so _ (leaves b.plan (Err reason.AlreadyLinked))
               (link_sub_refuses a.rel.fine p o q r _
               (sub_second_linked offsets (here# h) (here# k) u v at_first at_second e g free opposite (unwired_free a h o u e w₁) (wired_linked a k r v g w₂)))
               (rw (good-first, good-second, h.there, there, k.there, there-too, untaken, c, w₁, w₂) refl) ((_, refl), (M, a))
@@ -163,7 +164,7 @@ module _ {b : Both} {M : Model} (a : Alike b M) (p o q r : ℕ) (x y : SketchPor
         unfolding sketch.link_subports reason_number
         sides false c = wires c (is_wired b.plan x o) (is_wired b.plan y r) refl refl
         sides true c =
-            so _ (leaves b.plan (sketch_link.Refused reason.SameSide))
+            so _ (leaves b.plan (Err reason.SameSide))
             (link_sub_refuses a.rel.fine p o q r _ (sub_one_side offsets (here# h) (here# k) u v at_first at_second e g free (same_side_is x.side y.side c)))
             (rw (good-first, good-second, h.there, there, k.there, there-too, untaken, c) refl) ((_, refl), (M, a))
 
@@ -175,7 +176,7 @@ module _ {b : Both} {M : Model} (a : Alike b M) (p o q r : ℕ) (x y : SketchPor
           let g = end_there a k r (lacks_not a k r there-too) in
           sides k there-too (so_free a.rel.fine p q e) t f.0 g.0 f.1 g.1 (same_side x.side y.side) refl
       wired k there-too true e t =
-          so _ (leaves b.plan (sketch_link.Refused reason.InputWired))
+          so _ (leaves b.plan (Err reason.InputWired))
           (link_sub_refuses a.rel.fine p o q r _
           (sub_wired offsets (here# h) at_first (none_hidden a q y (inl k)) has_first only (so_taken a.rel.fine p q e)))
           (rw (good-first, good-second, h.there, there, k.there, there-too, t) refl) ((_, refl), (M, a))
@@ -190,7 +191,7 @@ module _ {b : Both} {M : Model} (a : Alike b M) (p o q r : ℕ) (x y : SketchPor
       unfolding sketch.link_subports reason_number
       second_there k false s = wired k s (kit.input_taken m p q) refl (taken_alike a p q x y (inl h) (inl k))
       second_there k true s =
-          so _ (leaves b.plan (sketch_link.Refused reason.UnknownOffset))
+          so _ (leaves b.plan (Err reason.UnknownOffset))
           (link_sub_refuses a.rel.fine p o q r _ (sub_second_lacks offsets (here# h) (here# k) at_first (k.is_seen, k.slot) has_first (lacks_so a k r s)))
           (rw (good-first, good-second, h.there, there, k.there, s) refl) ((_, refl), (M, a))
 
@@ -198,12 +199,12 @@ module _ {b : Both} {M : Model} (a : Alike b M) (p o q r : ℕ) (x y : SketchPor
       second_gone : (g : PortGone b M q y) (taken : Bool) → kit.input_taken m p q ≡ taken → input_taken b.plan x y ≡ taken → Done
       unfolding sketch.link_subports reason_number
       second_gone g true e t =
-          so _ (leaves b.plan (sketch_link.Refused reason.InputWired))
+          so _ (leaves b.plan (Err reason.InputWired))
           (link_sub_refuses a.rel.fine p o q r _
           (sub_wired offsets (here# h) at_first (none_hidden a q y (inr g)) has_first (λ z s l. g.0 z s.0.0 s.1) (so_taken a.rel.fine p q e)))
           (rw (good-first, good-second, h.there, there, g.1, t) refl) ((_, refl), (M, a))
       second_gone g false e t =
-          so _ (leaves b.plan (sketch_link.Refused reason.UnknownSecondPort))
+          so _ (leaves b.plan (Err reason.UnknownSecondPort))
           (link_sub_refuses a.rel.fine p o q r _ (sub_second_dead offsets (here# h) at_first g.0 has_first (so_free a.rel.fine p q e)))
           (rw (good-first, good-second, h.there, there, g.1, t) refl) ((_, refl), (M, a))
 
@@ -211,7 +212,7 @@ module _ {b : Both} {M : Model} (a : Alike b M) (p o q r : ℕ) (x y : SketchPor
     first_there : (h : PortHere b M p x) (k : PortHere b M q y ⊎ PortGone b M q y) (s : Bool) → lacks_offset b.plan x o ≡ s → Done
     unfolding sketch.link_subports reason_number
     first_there h k true s =
-        so _ (leaves b.plan (sketch_link.Refused reason.UnknownOffset))
+        so _ (leaves b.plan (Err reason.UnknownOffset))
         (link_sub_refuses a.rel.fine p o q r _ (sub_first_lacks offsets (here# h) (h.is_seen, h.slot) (none_hidden a q y k) (lacks_so a h o s)))
         (rw (good-first, good-second, h.there, s) refl) ((_, refl), (M, a))
     first_there h (inl k) false s = second_there h s k (lacks_offset b.plan y r) refl
@@ -221,7 +222,7 @@ module _ {b : Both} {M : Model} (a : Alike b M) (p o q r : ℕ) (x y : SketchPor
     unfolding sketch.link_subports reason_number
     ports (inl h) k = first_there h k (lacks_offset b.plan x o) refl
     ports (inr g) k =
-        so _ (leaves b.plan (sketch_link.Refused reason.UnknownPort)) (link_sub_refuses a.rel.fine p o q r _ (sub_first_dead offsets g.0))
+        so _ (leaves b.plan (Err reason.UnknownPort)) (link_sub_refuses a.rel.fine p o q r _ (sub_first_dead offsets g.0))
         (rw (good-first, good-second, g.1) refl) ((_, refl), (M, a))
 
   -- 2
@@ -229,11 +230,11 @@ module _ {b : Both} {M : Model} (a : Alike b M) (p o q r : ℕ) (x y : SketchPor
   unfolding sketch.link_subports reason_number
   done true true s t = ports s t (port_meant a p x first) (port_meant a q y second)
   done false t s k =
-      so _ (leaves b.plan (sketch_link.Refused reason.BadOffset))
+      so _ (leaves b.plan (Err reason.BadOffset))
       (link_sub_refuses a.rel.fine p o q r _ (sub_offsets (λ n. let i = n.0 in let l : 65535 ≤ o = ltb-false _ _ s in omega arith)))
       (rw s refl) ((_, refl), (M, a))
   done true false s t =
-      so _ (leaves b.plan (sketch_link.Refused reason.BadOffset))
+      so _ (leaves b.plan (Err reason.BadOffset))
       (link_sub_refuses a.rel.fine p o q r _ (sub_offsets (λ n. let i = n.1 in let l : 65535 ≤ r = ltb-false _ _ t in omega arith)))
       (rw (s, t) refl) ((_, refl), (M, a))
 

@@ -1,27 +1,23 @@
 -- Which call of the sketch means which call of the engine. A block of the engine has its number, which is used again after a removal; in the sketch its
 -- name is how many adds were accepted before it, which is never used again. Between them stands the list of names, kept along the history.
-use Rattle.std.specs.Prelude.{◌≡◌, false, not, List, [], ◌∷◌, ℕ, eqb}
+use Rattle.std.specs.Prelude.{◌≡◌, false, not, List, [], ◌∷◌, ℕ, eqb, Option, Result, Ok, Err}
 use Rattle.port_tables.specs.Lists.{filter, Member}
 use Rattle.portgraph.specs.Lookups.{contains_node}
 use Rattle.port_tables.specs.Places.{spot}
 use Rattle.multiportgraph.specs.Reading.{seen}
 use Rattle.multi_tables.specs.Forms.{dead}
 use Rattle.port_tables.specs.declared.release.Release.{Release}
-use Rattle.multiportgraph.specs.declared.multiportgraph.AddAnswer.{AddAnswer}
-use Rattle.multiportgraph.specs.declared.multiportgraph.AddAnswer.TheVariants as add
-use Rattle.multiportgraph.specs.declared.multiportgraph.RemoveAnswer.{RemoveAnswer}
-use Rattle.multiportgraph.specs.declared.multiportgraph.RemoveAnswer.TheVariants as remove
 use Rattle.theorems.specs.Book as book
 use Rattle.theorems.specs.Book.{Call, AnswerOf, spot_of}
 use Rattle.theorems.specs.History.{State, step, next, run}
 use Rattle.sketches.specs.Plan.{Plan, empty_plan, has_block, is_there}
 use Rattle.sketches.specs.PlanCalls.{Sketched, add_block, remove_block, set_counts, link_ports, link_clean, link_subports, cut_port, cut_subport, tidy_port}
 use Rattle.sketches.specs.declared.sketch.SketchPort.{SketchPort}
-use Rattle.sketches.specs.declared.sketch.AddAnswer as sketch_add
-use Rattle.sketches.specs.declared.sketch.DoneAnswer.{DoneAnswer}
-use Rattle.sketches.specs.declared.sketch.LinkAnswer as sketch_link
-use Rattle.sketches.specs.declared.sketch.PortAnswer.{PortAnswer}
-use Rattle.sketches.specs.declared.sketch.EndAnswer as sketch_end
+use Rattle.sketches.specs.declared.sketch.Reason.{Reason}
+use Rattle.sketches.specs.declared.sketch.SketchEnd.{SketchEnd}
+use Rattle.port_tables.specs.declared.index.NodeIndex.{NodeIndex}
+use Rattle.port_tables.specs.declared.index.PortIndex.{PortIndex}
+use Rattle.multi_tables.specs.declared.answers.Refusal.{Refusal}
 
 -- Calls of the sketch that change it.
 pub data PlanCall : Type 0 where
@@ -36,15 +32,15 @@ pub data PlanCall : Type 0 where
   tidy_plan : SketchPort → PlanCall
 
 abbrev pub PlanAnswerOf : PlanCall → Type 0
-PlanAnswerOf (add_plan i o) = sketch_add.AddAnswer
-PlanAnswerOf (remove_plan n) = DoneAnswer
-PlanAnswerOf (set_plan n i o) = DoneAnswer
-PlanAnswerOf (link_plan x y) = sketch_link.LinkAnswer
-PlanAnswerOf (link_clean_plan x y) = sketch_link.LinkAnswer
-PlanAnswerOf (link_sub_plan x o y r) = sketch_link.LinkAnswer
-PlanAnswerOf (cut_plan x) = PortAnswer
-PlanAnswerOf (cut_sub_plan x o) = sketch_end.EndAnswer
-PlanAnswerOf (tidy_plan x) = DoneAnswer
+PlanAnswerOf (add_plan i o) = Result ℕ Reason
+PlanAnswerOf (remove_plan n) = Result (Unit {0}) Reason
+PlanAnswerOf (set_plan n i o) = Result (Unit {0}) Reason
+PlanAnswerOf (link_plan x y) = Result (SketchEnd × SketchEnd) Reason
+PlanAnswerOf (link_clean_plan x y) = Result (SketchEnd × SketchEnd) Reason
+PlanAnswerOf (link_sub_plan x o y r) = Result (SketchEnd × SketchEnd) Reason
+PlanAnswerOf (cut_plan x) = Result (Option SketchPort) Reason
+PlanAnswerOf (cut_sub_plan x o) = Result (Option SketchEnd) Reason
+PlanAnswerOf (tidy_plan x) = Result (Unit {0}) Reason
 
 abbrev pub plan_step : Plan → (k : PlanCall) → Sketched (PlanAnswerOf k)
 plan_step K (add_plan i o) = add_block K i o
@@ -74,13 +70,13 @@ abbrev pub start : Release → Both
 start release = record { kit = run release []; names = []; plan = empty_plan release }
 
 -- an add that the engine accepts gives its block the name that is due in the sketch; a removal takes a name out
-abbrev pub named_add : List Naming → ℕ → AddAnswer → List Naming
-named_add l name (add.Added n p) = record { node = n.0; name = name } ∷ l
-named_add l name (add.Refused r) = l
+abbrev pub named_add : List Naming → ℕ → Result (NodeIndex × PortIndex) Refusal → List Naming
+named_add l name (Ok (n, p)) = record { node = n.0; name = name } ∷ l
+named_add l name (Err r) = l
 
-abbrev pub named_remove : List Naming → ℕ → RemoveAnswer → List Naming
-named_remove l n remove.Removed = filter (λ (x : Naming). not (eqb x.node n)) l
-named_remove l n (remove.Refused r) = l
+abbrev pub named_remove : List Naming → ℕ → Result (Unit {0}) Refusal → List Naming
+named_remove l n (Ok tt) = filter (λ (x : Naming). not (eqb x.node n)) l
+named_remove l n (Err r) = l
 
 abbrev pub names_after : List Naming → ℕ → (c : Call) → AnswerOf c → List Naming
 names_after l name (book.add_call i o) v = named_add l name v

@@ -1,5 +1,5 @@
 -- Names are counts: what a sketch keeps as its number of adds is how many it accepted, and an accepted add answers it as the name.
-use Rattle.std.specs.Prelude.{◌≡◌, Bool, not, ◌||◌, List, [], ◌∷◌, map, eqb, leb, ltb, length}
+use Rattle.std.specs.Prelude.{◌≡◌, Bool, not, ◌||◌, List, [], ◌∷◌, map, eqb, leb, ltb, length, Result, Ok, Err}
 use Rattle.std.proofs.Math.Path.{refl}
 use Rattle.std.proofs.Common.{◌∙◌}
 use Rattle.std.proofs.Math.Bool.{true, false, cond}
@@ -14,12 +14,11 @@ use Rattle.sketches.specs.Plan.{Plan, has_block, ports_in_all, spot_named, is_th
 use Rattle.sketches.specs.PlanCalls as sketch
 use Rattle.sketches.specs.PlanCalls.{Sketched, leaves}
 use Rattle.sketches.specs.declared.sketch.SketchPort.{SketchPort}
-use Rattle.sketches.specs.declared.sketch.AddAnswer.{AddAnswer}
-use Rattle.sketches.specs.declared.sketch.AddAnswer.TheVariants as add
 use Rattle.sketches.specs.declared.sketch.Reason.TheVariants as reason
 use Rattle.agreement.specs.Meaning.{PlanCall, add_plan, remove_plan, set_plan, link_plan, link_clean_plan, link_sub_plan, cut_plan, cut_sub_plan, tidy_plan, PlanAnswerOf, plan_step, Both, start}
 use Rattle.agreement.specs.Histories.{PlanEntry, PairItem, calls, sheets, next_item, after, adds_of, call_adds, item_adds, accepted_adds}
 use Rattle.agreement.specs.PlanLaws.{set_adds}
+use Rattle.sketches.specs.declared.sketch.Reason.{Reason}
 
 either : {A : Type 0} (t : Bool) (u v : Sketched A) (n : ℕ) → u.plan.adds ≡ n → v.plan.adds ≡ n → (cond t u v).plan.adds ≡ n
 either true u v n p q = p
@@ -59,18 +58,18 @@ module _ (K : Plan) where
     add_adds = go too_wide full _ refl
       where
         go : (t u : Bool) (l : Plan) → l.adds ≡ suc K.adds →
-            (cond {A = Sketched AddAnswer} t (leaves K (add.Refused reason.TooManyPorts)) (cond u (leaves K (add.Refused reason.NoRoom)) (leaves l (add.Added K.adds)))).plan.adds
-            ≡ K.adds + adds_of (cond {A = Sketched AddAnswer} t (leaves K (add.Refused reason.TooManyPorts)) (cond u (leaves K (add.Refused reason.NoRoom)) (leaves l (add.Added K.adds)))).answer
+            (cond {A = Sketched (Result ℕ Reason)} t (leaves K (Err reason.TooManyPorts)) (cond u (leaves K (Err reason.NoRoom)) (leaves l (Ok K.adds)))).plan.adds
+            ≡ K.adds + adds_of (cond {A = Sketched (Result ℕ Reason)} t (leaves K (Err reason.TooManyPorts)) (cond u (leaves K (Err reason.NoRoom)) (leaves l (Ok K.adds)))).answer
         go true u l e = omega arith
         go false true l e = omega arith
         go false false l e = omega arith
 
-    pub add_name : (k : ℕ) → (sketch.add_block K i o).answer ≡ add.Added k → k ≡ K.adds
+    pub add_name : (k : ℕ) → (sketch.add_block K i o).answer ≡ Ok k → k ≡ K.adds
     unfolding sketch.add_block too_wide full
     add_name k = go too_wide full _
       where
         go : (t u : Bool) (l : Plan) →
-            (cond {A = Sketched AddAnswer} t (leaves K (add.Refused reason.TooManyPorts)) (cond u (leaves K (add.Refused reason.NoRoom)) (leaves l (add.Added K.adds)))).answer ≡ add.Added k →
+            (cond {A = Sketched (Result ℕ Reason)} t (leaves K (Err reason.TooManyPorts)) (cond u (leaves K (Err reason.NoRoom)) (leaves l (Ok K.adds)))).answer ≡ Ok k →
             k ≡ K.adds
         go true u l q = absurd (zero_is_not_one (cc))
         go false true l q = absurd (zero_is_not_one (cc))
@@ -114,9 +113,9 @@ module _ (K : Plan) where
   pub one_add : (k : PlanCall) → (plan_step K k).plan.adds ≤ suc K.adds
   one_add k = let e = call_adds_lem k in let f = few k (plan_step K k).answer in omega arith
     where
-      one : (v : AddAnswer) → adds_of v ≤ 1
-      one (add.Added n) = omega arith
-      one (add.Refused r) = omega arith
+      one : (v : Result ℕ Reason) → adds_of v ≤ 1
+      one (Ok n) = omega arith
+      one (Err r) = omega arith
 
       few : (k : PlanCall) (v : PlanAnswerOf k) → call_adds k v ≤ 1
       few (add_plan i o) v = one v
@@ -153,6 +152,6 @@ after_adds b (i ∷ items) = let e = item_adds_lem b i in let r = after_adds (ne
 pub names_are_adds : (release : Release) (items : List PairItem) → (after (start release) items).plan.adds ≡ accepted_adds (start release) items
 names_are_adds release items = let e = after_adds (start release) items in omega arith
 
-pub added_name : (release : Release) (items : List PairItem) (i o k : ℕ) → (sketch.add_block (after (start release) items).plan i o).answer ≡ add.Added k →
+pub added_name : (release : Release) (items : List PairItem) (i o k : ℕ) → (sketch.add_block (after (start release) items).plan i o).answer ≡ Ok k →
     k ≡ accepted_adds (start release) items
 added_name release items i o k e = add_name (after (start release) items).plan i o k e ∙ names_are_adds release items

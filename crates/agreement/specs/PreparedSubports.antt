@@ -1,8 +1,9 @@
 -- What preparing an end of a port does to subports: every other port keeps its number, and the port itself has the number that the sketch gives it.
 -- A link between two inner ends changes no number.
+use Rattle.theorems.specs.Pairs.{ok_pair}
 use Rattle.std.proofs.Math.Path.{◌≡◌, refl, sym, ap, subst}
 use Rattle.std.proofs.Common.{◌∙◌}
-use Rattle.std.specs.Prelude.{Bool, List, ◌⊎◌, leb}
+use Rattle.std.specs.Prelude.{Bool, List, ◌⊎◌, leb, Some, Result, Ok, Err}
 use Rattle.std.proofs.Math.Bool.{true, false, cond}
 use Rattle.std.proofs.Math.Logic.{inl, inr}
 use Prim.Native.Nat.{ℕ, suc, ◌+◌, ◌<◌}
@@ -27,13 +28,8 @@ use Rattle.port_tables.specs.declared.index.NodeIndex.{NodeIndex}
 use Rattle.port_tables.specs.declared.index.PortIndex.{PortIndex}
 use Rattle.port_tables.specs.declared.node_entry.NodeMeta.{NodeMeta}
 use Rattle.port_tables.specs.declared.node_entry.NodeSlot.{NodeSlot}
-use Rattle.port_tables.specs.declared.node_entry.MaybeNodeMeta.TheVariants as maybe_meta
 use Rattle.portgraph.specs.declared.portgraph.PortGraph.{PortGraph}
 use Rattle.portgraph.specs.declared.alloc.NodeAdded.{NodeAdded}
-use Rattle.portgraph.specs.declared.alloc.AddAnswer.{AddAnswer}
-use Rattle.portgraph.specs.declared.alloc.AddAnswer.TheVariants as lower_add
-use Rattle.portgraph.specs.declared.resize.SetAnswer.{SetAnswer}
-use Rattle.portgraph.specs.declared.resize.SetAnswer.TheVariants as lower_set
 use Rattle.multiportgraph.specs.Reading.{is_hidden, is_split, has_link, port_of, port_number, copy_node, subports}
 use Rattle.multiportgraph.specs.WellFormed.{inner#, copy_place, Fine, Seen, lift, IsEnd}
 use Rattle.multiportgraph.specs.Graph.{with_graph}
@@ -49,6 +45,10 @@ use Rattle.sketches.specs.Plan.{subports_ready}
 use Rattle.agreement.specs.Alike.{subports_at}
 use Rattle.agreement.specs.KeptSplits.{split_kept, same_subports}
 use Rattle.agreement.specs.Carry.{seen_still, slot_still}
+use Rattle.portgraph.specs.declared.alloc.AddError.{AddError}
+use Rattle.portgraph.specs.declared.resize.SetError.{SetError}
+use Rattle.portgraph.specs.declared.alloc.AddError.TheVariants as add_error
+use Rattle.portgraph.specs.declared.resize.SetError.TheVariants as set_error
 
 -- A node that is added to the lower graph.
 
@@ -65,7 +65,7 @@ record NodeTaken (g' : PortGraph) (M : Model) (c i o : ℕ) : Type 0 where
 
 module _ {g : PortGraph} {M : Model} (good : Good M) (holds : Holds g M) (i o : ℕ) where
   abbrev Taken : NodeAdded → Type 0
-  Taken r = (c : NodeIndex) (first : PortIndex) → r.answer ≡ lower_add.Added c first → NodeTaken r.graph M c.0 i o
+  Taken r = (c : NodeIndex) (first : PortIndex) → r.answer ≡ Ok (c, first) → NodeTaken r.graph M c.0 i o
 
   node_taken : Taken (add_node g i o)
   node_taken = subst Taken (sym (add_law good holds i o)) (go (leb (i + o) node_ports) (slot_room M) (block_room M (i + o)) refl refl refl)
@@ -75,7 +75,7 @@ module _ {g : PortGraph} {M : Model} (good : Good M) (holds : Holds g M) (i o : 
           let small = leb-true _ _ p in
           let nodes = leb-true _ _ q in
           let ports = leb-true _ _ r in
-          let n : next_slot M ≡ c.0 = cc in
+          let n : next_slot M ≡ c.0 = ap (λ (k : NodeIndex). k.0) (ok_pair e).0 in
           let k : NodeMeta = meta_of (next_block M (i + o)) i o (i + o) in
           subst (λ (s : ℕ). NodeTaken (add_where g M i o true true true).graph M s i o) n
           (record {
@@ -121,7 +121,7 @@ module _ {m : MultiPortGraph} {M : Model} (f : Fine m M) (v : model.InnerPlace) 
       ∙ (ap (λ (c : ℕ). copy_need m v.side c (meta_at m.graph c)) h.copy_is ∙ ap (copy_need m v.side h.copy) here))
       (ltb (lowest_free m.graph h.copy v.side 0 (ports_on k.meta v.side)) (ports_on k.meta v.side)) refl
     where
-      by : (k : NodeMeta) → M.node h.copy ≡ live k → need_of m (slot_of M.node v) v.side ≡ copy_need m v.side h.copy (maybe_meta.Some k) →
+      by : (k : NodeMeta) → M.node h.copy ≡ live k → need_of m (slot_of M.node v) v.side ≡ copy_need m v.side h.copy (Some k) →
           (b : Bool) → ltb (lowest_free m.graph h.copy v.side 0 (ports_on k v.side)) (ports_on k v.side) ≡ b → HasFree h.copy ⊎ HasNone h.copy
       by k here is true e =
           let low : ℕ = lowest_free m.graph h.copy v.side 0 (ports_on k v.side) in
@@ -297,10 +297,10 @@ module _ {m : MultiPortGraph} {M : Model} (f : Fine m M) (x : model.InnerPlace) 
   unfolding split_under split_port
   split_changes y plain linked e = go (add_node m.graph (copy_incoming x.side) (copy_outgoing x.side)).answer refl e
     where
-      go : (a : AddAnswer) → (add_node m.graph (copy_incoming x.side) (copy_outgoing x.side)).answer ≡ a → split_by m (slot_of M.node x) x.side (add_node m.graph (copy_incoming x.side) (copy_outgoing x.side)).graph a ≡ ready m' q o → OneChanged m M x M' q o
-      go lower_add.TooManyPorts a w = absurd (zero_is_not_one (cc))
-      go lower_add.NoRoom a w = absurd (zero_is_not_one (cc))
-      go (lower_add.Added c first) a w =
+      go : (a : Result (NodeIndex × PortIndex) AddError) → (add_node m.graph (copy_incoming x.side) (copy_outgoing x.side)).answer ≡ a → split_by m (slot_of M.node x) x.side (add_node m.graph (copy_incoming x.side) (copy_outgoing x.side)).graph a ≡ ready m' q o → OneChanged m M x M' q o
+      go (Err add_error.TooManyPorts) a w = absurd (zero_is_not_one (cc))
+      go (Err add_error.NoRoom) a w = absurd (zero_is_not_one (cc))
+      go (Ok (c, first)) a w =
           let t = node_taken f.good f.holds (copy_incoming x.side) (copy_outgoing x.side) c first a in
           let g : PortGraph = (add_node m.graph (copy_incoming x.side) (copy_outgoing x.side)).graph in
           let tables = split_tables f x y sx linked (add_node m.graph (copy_incoming x.side) (copy_outgoing x.side)) refl c first a in
@@ -327,12 +327,12 @@ module _ {m : MultiPortGraph} {M : Model} (f : Fine m M) (x : model.InnerPlace) 
   unfolding grow_under recounted
   grow_changes t h e = go (growth# m h.copy x.side).answer refl e
     where
-      go : (a : SetAnswer) → (growth# m h.copy x.side).answer ≡ a → grown_by m h.copy x.side (growth# m h.copy x.side).graph a ≡ ready m' q o → OneChanged m M x M' q o
-      go lower_set.TooManyPorts k w = absurd (zero_is_not_one (cc))
-      go lower_set.UnknownNode k w = absurd (zero_is_not_one (cc))
-      go lower_set.MovesTooShort k w = absurd (zero_is_not_one (cc))
-      go lower_set.NoRoom k w = absurd (zero_is_not_one (cc))
-      go (lower_set.Set i) k w =
+      go : (a : Result ℕ SetError) → (growth# m h.copy x.side).answer ≡ a → grown_by m h.copy x.side (growth# m h.copy x.side).graph a ≡ ready m' q o → OneChanged m M x M' q o
+      go (Err set_error.TooManyPorts) k w = absurd (zero_is_not_one (cc))
+      go (Err set_error.UnknownNode) k w = absurd (zero_is_not_one (cc))
+      go (Err set_error.MovesTooShort) k w = absurd (zero_is_not_one (cc))
+      go (Err set_error.NoRoom) k w = absurd (zero_is_not_one (cc))
+      go (Ok i) k w =
           let s = set_recounts f.good f.holds h.copy _ _ enough i k in
           let r = s.is in
           let g : PortGraph = (growth# m h.copy x.side).graph in

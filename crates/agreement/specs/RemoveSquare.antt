@@ -1,5 +1,5 @@
 -- The square of a removal: the block goes in both, with its name, its split ports and every wire at it.
-use Rattle.std.specs.Prelude.{◌≡◌, refl, Bool, true, false, cond, List, [], ◌∷◌, ℕ, ◌<◌, eqb, ltb}
+use Rattle.std.specs.Prelude.{◌≡◌, refl, Bool, true, false, cond, List, [], ◌∷◌, ℕ, ◌<◌, eqb, ltb, Result, Ok}
 use Rattle.std.proofs.Math.Path.{sym, ap}
 use Rattle.std.proofs.Common.{◌∙◌, subst}
 use Rattle.std.proofs.Math.Bool.{not}
@@ -20,7 +20,6 @@ use Rattle.multiportgraph.specs.LinkCutLaws.{touched_not_out, touched_not_into, 
 use Rattle.port_tables.specs.Places.{Place, spot, of_node, without}
 use Rattle.multiportgraph.specs.declared.multiportgraph.MultiPortGraph.{MultiPortGraph}
 use Rattle.multiportgraph.specs.declared.multiportgraph.NodeRemoved.{NodeRemoved}
-use Rattle.multiportgraph.specs.declared.multiportgraph.RemoveAnswer.TheVariants as remove
 use Rattle.theorems.specs.Book as book
 use Rattle.theorems.specs.Book.{book_remove}
 use Rattle.theorems.specs.BookLaws.{not_so_true, stayed_wire}
@@ -33,7 +32,6 @@ use Rattle.sketches.specs.Plan.{Plan, PlanBlock, ports_on_side, is_there, subpor
 use Rattle.sketches.specs.PlanCalls as sketch
 use Rattle.sketches.specs.PlanCalls.{Sketched}
 use Rattle.sketches.specs.PlanNumbers.{reason_number}
-use Rattle.sketches.specs.declared.sketch.DoneAnswer.{DoneAnswer}
 use Rattle.agreement.specs.Meaning.{Naming, Both, BlockMeans, named_remove, means_remove}
 use Rattle.agreement.specs.Agreement.{RemoveAlike}
 use Rattle.agreement.specs.Alike.{Alike, Apart, OtherName, subports_at, name_of}
@@ -43,6 +41,7 @@ use Rattle.agreement.specs.Standing.{BlockHere, BlockGone, block_meant, wires_na
 use Rattle.agreement.specs.PlanLaws.{among_kept}
 use Rattle.agreement.specs.KeptSplits.{any_model}
 use Rattle.agreement.specs.RemoveSplits.{removal_splits}
+use Rattle.sketches.specs.declared.sketch.Reason.{Reason}
 
 -- a name that stays
 name_left : (l : List Naming) (n c : ℕ) → (c ≡ n → ⊥) → name_of (filter (λ (x : Naming). not (eqb x.node n)) l) c ≡ name_of l c
@@ -75,7 +74,7 @@ module _ {b : Both} {M : Model} (a : Alike b M) (n k : ℕ) where
   abbrev m : MultiPortGraph
   m = b.kit.graph
 
-  abbrev Left : NodeRemoved → Sketched DoneAnswer → Type 0
+  abbrev Left : NodeRemoved → Sketched (Result (Unit {0}) Reason) → Type 0
   Left w v =
       RemoveAlike w.answer v.answer
       × ((M' : Model) × Alike (record { kit = record { graph = w.graph; book = book_remove b.kit.book n w.answer }; names = named_remove b.names n w.answer; plan = v.plan }) M')
@@ -130,7 +129,7 @@ module _ {b : Both} {M : Model} (a : Alike b M) (n k : ℕ) where
         (λ z t. ap not (ne_eqb z.node k (λ q. other_name x r.0 r.1 (sym (at_spot_is x.name y.side y.pos z t).0 ∙ q))))
         ∙ (a.subports y s' x r.0 e ∙ sym (any_model g fine.holds d.fine.holds y ∙ others y s' o.1))
 
-    left_alike : Alike (record { kit = record { graph = g; book = book_remove b.kit.book n remove.Removed }; names = names_left; plan = plan_left }) d.model
+    left_alike : Alike (record { kit = record { graph = g; book = book_remove b.kit.book n (Ok tt) }; names = names_left; plan = plan_left }) d.model
     unfolding is_there
     left_alike =
         record {
@@ -176,7 +175,7 @@ module _ {b : Both} {M : Model} (a : Alike b M) (n k : ℕ) where
       here : BlockHere b M n k → Left (remove_block m n) (sketch.remove_block b.plan k)
       here h =
           let f = a.rel.fine in
-          let is : remove_block m n ≡ record { graph = drop_block m n h.meta; answer = remove.Removed } =
+          let is : remove_block m n ≡ record { graph = drop_block m n h.meta; answer = Ok tt } =
           remove_cases m n ∙ (ap (remove_meta m n) (meta_of_node f.good f.holds n h.meta h.block.1) ∙ rw h.block.0) in
           let d = drop_block_done f n h.meta h.block in
           let r = removal_splits f n h.meta h.block in

@@ -1,6 +1,6 @@
 -- The square of a resize: the block has the counts named in both, wires and split ports at dropped positions go, a port that stays is as split as it was, and
 -- a new one is not split.
-use Rattle.std.specs.Prelude.{◌≡◌, Bool, cond, List, [], ◌∷◌, map, ◌⊎◌, ℕ, ◌+◌, ◌≤◌, ◌<◌, leb, take, drop}
+use Rattle.std.specs.Prelude.{◌≡◌, Bool, cond, List, [], ◌∷◌, map, ◌⊎◌, ℕ, ◌+◌, ◌≤◌, ◌<◌, leb, take, drop, Result, Ok, Err}
 use Rattle.std.proofs.Math.Path.{refl, sym, ap, subst}
 use Rattle.std.proofs.Common.{◌∙◌, inl, inr, ⊎_elim}
 use Rattle.std.proofs.Math.Bool.{true, false, not}
@@ -19,8 +19,6 @@ use Rattle.portgraph.specs.Resize.{set_num_ports}
 use Rattle.port_tables.specs.declared.direction.Direction.{Direction}
 use Rattle.port_tables.specs.declared.node_entry.NodeMeta.{NodeMeta}
 use Rattle.portgraph.specs.declared.portgraph.PortGraph.{PortGraph}
-use Rattle.portgraph.specs.declared.resize.SetAnswer as lower_set_answer
-use Rattle.portgraph.specs.declared.resize.SetAnswer.TheVariants as lower_set
 use Rattle.multiportgraph.specs.Calls.{set_counts, set_as}
 use Rattle.multiportgraph.specs.Cases.{resized, set_meta, set_refused}
 use Rattle.multiportgraph.specs.CaseLaws.{set_cases}
@@ -39,8 +37,6 @@ use Rattle.multiportgraph.specs.declared.multiportgraph.MultiPortGraph.{MultiPor
 use Rattle.multiportgraph.specs.declared.multiportgraph.PortsSet.{PortsSet}
 use Rattle.multi_tables.specs.declared.answers.Refusal.{Refusal}
 use Rattle.multi_tables.specs.declared.answers.Refusal.TheVariants.{TooManyPorts, MovesTooShort, NoRoom}
-use Rattle.multiportgraph.specs.declared.multiportgraph.SetAnswer as set_answer
-use Rattle.multiportgraph.specs.declared.multiportgraph.SetAnswer.TheVariants as resize
 use Rattle.theorems.specs.Book as book
 use Rattle.theorems.specs.Book.{not_block, book_set}
 use Rattle.theorems.specs.BookLaws.{not_so_true, so_not_false}
@@ -53,8 +49,6 @@ use Rattle.sketches.specs.PlanCalls as sketch
 use Rattle.sketches.specs.PlanCalls.{Sketched, leaves, recount}
 use Rattle.sketches.specs.PlanNumbers.{reason_number}
 use Rattle.sketches.specs.declared.sketch.Reason.TheVariants as reason
-use Rattle.sketches.specs.declared.sketch.DoneAnswer.{DoneAnswer}
-use Rattle.sketches.specs.declared.sketch.DoneAnswer.TheVariants as done
 use Rattle.agreement.specs.Meaning.{Naming, Both, BlockMeans, set_plan, means_set}
 use Rattle.agreement.specs.Agreement.{SetAlike, HasRoom}
 use Rattle.agreement.specs.Alike.{Alike, OtherName, subports_at}
@@ -64,12 +58,15 @@ use Rattle.agreement.specs.Standing.{BlockHere, BlockGone, block_meant, wires_na
 use Rattle.agreement.specs.PlanLaws.{among_kept, among_none}
 use Rattle.agreement.specs.KeptSplits.{any_model, same_subports}
 use Rattle.agreement.specs.AddSquare.{there_of_block}
+use Rattle.sketches.specs.declared.sketch.Reason.{Reason}
+use Rattle.portgraph.specs.declared.resize.SetError.TheVariants as set_error
+use Rattle.portgraph.specs.declared.resize.SetError.{SetError}
 
 -- In the engine: links after an accepted resize were there before.
 
 module _ {m : MultiPortGraph} {M : Model} (f : Fine m M) (n i o room : ℕ) (k : NodeMeta) (b : BlockIs m M n k) where
   abbrev JoinsWere : PortsSet → Type 0
-  JoinsWere s = (e : ℕ) → s.answer ≡ resize.Set e → (N : Model) × Fine s.graph N × ((x y : model.InnerPlace) → N.join x ≡ to y → M.join x ≡ to y)
+  JoinsWere s = (e : ℕ) → s.answer ≡ Ok e → (N : Model) × Fine s.graph N × ((x y : model.InnerPlace) → N.join x ≡ to y → M.join x ≡ to y)
 
   joins_were : JoinsWere (set_counts m n i o room)
   joins_were =
@@ -91,13 +88,13 @@ module _ {m : MultiPortGraph} {M : Model} (f : Fine m M) (n i o room : ℕ) (k :
               let z = all_go (copies_dropped m k i o) (resize_loosens f n k b.0 b.1 i o r') (resize_tracks f n k b.0 b.1 i o r') in
               (z.model', z.fine, z.tracks.was)
 
-      lower : (t : lower_set_answer.SetAnswer) → (set_num_ports m.graph n i o room).answer ≡ t →
+      lower : (t : Result ℕ SetError) → (set_num_ports m.graph n i o room).answer ≡ t →
           JoinsWere (record { graph = resized m n k i o (set_num_ports m.graph n i o room).graph t; answer = set_as t })
-      lower (lower_set.Set e) q x p = done (set_num_ports m.graph n i o room).graph (set_recounts f.good f.holds n i o room e q)
-      lower lower_set.TooManyPorts q x p = absurd (zero_is_not_one (cc))
-      lower lower_set.UnknownNode q x p = absurd (zero_is_not_one (cc))
-      lower lower_set.MovesTooShort q x p = absurd (zero_is_not_one (cc))
-      lower lower_set.NoRoom q x p = absurd (zero_is_not_one (cc))
+      lower (Ok e) q x p = done (set_num_ports m.graph n i o room).graph (set_recounts f.good f.holds n i o room e q)
+      lower (Err set_error.TooManyPorts) q x p = absurd (zero_is_not_one (cc))
+      lower (Err set_error.UnknownNode) q x p = absurd (zero_is_not_one (cc))
+      lower (Err set_error.MovesTooShort) q x p = absurd (zero_is_not_one (cc))
+      lower (Err set_error.NoRoom) q x p = absurd (zero_is_not_one (cc))
 
       few : (t : Bool) → JoinsWere (cond t (set_meta m n i o room (meta_at m.graph n)) (set_refused m TooManyPorts))
       few true = rw (meta_of_node f.good f.holds n k b.1, b.0) (lower (set_num_ports m.graph n i o room).answer refl)
@@ -153,7 +150,7 @@ module _ {b : Both} {M : Model} (a : Alike b M) (n k i o : ℕ) where
         wires = without (of_dropped k i o) b.plan.wires;
       }
 
-  abbrev Left : PortsSet → Sketched DoneAnswer → Type 0
+  abbrev Left : PortsSet → Sketched (Result (Unit {0}) Reason) → Type 0
   Left w v =
       SetAlike w.answer v.answer
       × ((M' : Model) × Alike (record { kit = record { graph = w.graph; book = book_set b.kit.book n i o w.answer (ports_walked w.graph n) }; names = b.names; plan = v.plan }) M')
@@ -269,7 +266,7 @@ module _ {b : Both} {M : Model} (a : Alike b M) (n k i o : ℕ) where
         go true e l t = lt-ltb s.pos (new_count i o s.side) (not_dropped k i o s l (eqb-true s.node k e))
         go false e l t = t
 
-    set_alike : (e : ℕ) → Alike (record { kit = record { graph = g; book = book_set b.kit.book n i o (resize.Set e) (ports_walked g n) }; names = b.names; plan = plan_set }) d.model'
+    set_alike : (e : ℕ) → Alike (record { kit = record { graph = g; book = book_set b.kit.book n i o (Ok e) (ports_walked g n) }; names = b.names; plan = plan_set }) d.model'
     set_alike e =
         record {
           rel =
@@ -303,13 +300,13 @@ module _ {b : Both} {M : Model} (a : Alike b M) (n k i o : ℕ) where
 
   plan_is : (x y z : Bool) → leb (i + o) node_ports ≡ x → has_block b.plan.blocks k ≡ y → ltb port_slots (ports_in_all (map (recount k i o) b.plan.blocks)) ≡ z →
       sketch.set_counts b.plan k i o
-      ≡ cond (not x) (leaves b.plan (done.Refused reason.TooManyPorts)) (cond (not y) (leaves b.plan (done.Refused reason.UnknownBlock)) (cond z (leaves b.plan (done.Refused reason.NoRoom)) (leaves plan_set done.Done)))
+      ≡ cond (not x) (leaves b.plan (Err reason.TooManyPorts)) (cond (not y) (leaves b.plan (Err reason.UnknownBlock)) (cond z (leaves b.plan (Err reason.NoRoom)) (leaves plan_set (Ok tt))))
   unfolding sketch.set_counts
   plan_is x y z p q r = rw (p, q, r) refl
 
   -- an accepted or spaceless refusal of a block that is there
-  refused_not : (room : ℕ) → i + o ≤ node_ports → BlockHere b M n k → (r : Refusal) → ((set_counts m n i o room).answer ≡ resize.Refused MovesTooShort → ⊥) → ((set_counts m n i o room).answer ≡ resize.Refused NoRoom → ⊥) →
-      (set_counts m n i o room).answer ≡ resize.Refused r → SetRefused m M n i o room r → ⊥
+  refused_not : (room : ℕ) → i + o ≤ node_ports → BlockHere b M n k → (r : Refusal) → ((set_counts m n i o room).answer ≡ Err MovesTooShort → ⊥) → ((set_counts m n i o room).answer ≡ Err NoRoom → ⊥) →
+      (set_counts m n i o room).answer ≡ Err r → SetRefused m M n i o room r → ⊥
   refused_not room small h r moves space e (set_many l) = omega arith
   refused_not room small h r moves space e (set_gone l q) = let z = h.block.1 in zero_is_not_one (cc)
   refused_not room small h r moves space e (set_hidden l q) = true_not_false q h.block.0
@@ -317,13 +314,13 @@ module _ {b : Both} {M : Model} (a : Alike b M) (n k i o : ℕ) where
   refused_not room small h r moves space e (set_full l c d q z) = space e
 
   -- where the engine resizes, the plan with the new counts is alike, whatever the sketch says
-  pub set_if : (room : ℕ) → i + o ≤ node_ports → BlockHere b M n k → ((set_counts m n i o room).answer ≡ resize.Refused MovesTooShort → ⊥) → ((set_counts m n i o room).answer ≡ resize.Refused NoRoom → ⊥) →
+  pub set_if : (room : ℕ) → i + o ≤ node_ports → BlockHere b M n k → ((set_counts m n i o room).answer ≡ Err MovesTooShort → ⊥) → ((set_counts m n i o room).answer ≡ Err NoRoom → ⊥) →
       (c : Both) × (c.plan ≡ plan_set) × ((N : Model) × Alike c N)
   set_if room small h moves space = go (set_counts m n i o room).answer refl
     where
-      go : (v : set_answer.SetAnswer) → (set_counts m n i o room).answer ≡ v → (c : Both) × (c.plan ≡ plan_set) × ((N : Model) × Alike c N)
-      go (resize.Refused r) e = absurd (refused_not room small h r moves space e (set_refused_lem a.rel.fine n i o room r e))
-      go (resize.Set c) e =
+      go : (v : Result ℕ Refusal) → (set_counts m n i o room).answer ≡ v → (c : Both) × (c.plan ≡ plan_set) × ((N : Model) × Alike c N)
+      go (Err r) e = absurd (refused_not room small h r moves space e (set_refused_lem a.rel.fine n i o room r e))
+      go (Ok c) e =
           let f = a.rel.fine in
           let w = joins_were f n i o room h.meta h.block c e in
           let d = set_counts_law f n i o room c e in
@@ -333,24 +330,24 @@ module _ {b : Both} {M : Model} (a : Alike b M) (n k i o : ℕ) where
   unfolding reason_number
   set_left room means space = go (leb (i + o) node_ports) (ltb port_slots (ports_in_all (map (recount k i o) b.plan.blocks))) (set_counts m n i o room).answer refl refl refl (block_meant a n k means)
     where
-      both : {w : PortsSet} {v : Sketched DoneAnswer} → set_counts m n i o room ≡ w → sketch.set_counts b.plan k i o ≡ v → Left w v → Left (set_counts m n i o room) (sketch.set_counts b.plan k i o)
+      both : {w : PortsSet} {v : Sketched (Result (Unit {0}) Reason)} → set_counts m n i o room ≡ w → sketch.set_counts b.plan k i o ≡ v → Left w v → Left (set_counts m n i o room) (sketch.set_counts b.plan k i o)
       both {w} {v} p q l = subst (λ (u : PortsSet). Left u (sketch.set_counts b.plan k i o)) (sym p) (subst (Left w) (sym q) l)
 
-      answered : (v : set_answer.SetAnswer) → (set_counts m n i o room).answer ≡ v → set_counts m n i o room ≡ record { graph = (set_counts m n i o room).graph; answer = v }
+      answered : (v : Result ℕ Refusal) → (set_counts m n i o room).answer ≡ v → set_counts m n i o room ≡ record { graph = (set_counts m n i o room).graph; answer = v }
       answered v e = λ t. record { graph = (set_counts m n i o room).graph; answer = e t }
 
-      go : (x z : Bool) (v : set_answer.SetAnswer) → leb (i + o) node_ports ≡ x → ltb port_slots (ports_in_all (map (recount k i o) b.plan.blocks)) ≡ z → (set_counts m n i o room).answer ≡ v →
+      go : (x z : Bool) (v : Result ℕ Refusal) → leb (i + o) node_ports ≡ x → ltb port_slots (ports_in_all (map (recount k i o) b.plan.blocks)) ≡ z → (set_counts m n i o room).answer ≡ v →
           BlockHere b M n k ⊎ BlockGone b M n k → Left (set_counts m n i o room) (sketch.set_counts b.plan k i o)
       go false z v p q e c = both (set_refuses a.rel.fine n i o room _ (set_many (leb-false _ _ p))) (plan_is false _ z p refl q) ((_, refl), (M, a))
       go true z v p q e (inr c) =
           both (set_refuses a.rel.fine n i o room _ (set_gone (leb-true _ _ p) c.0)) (plan_is true false z p c.1 q) ((_, refl), (M, a))
-      go true z (resize.Refused r) p q e (inl h) = absurd (refused_not room (leb-true (i + o) node_ports p) h r space.moves space.kit e (set_refused_lem a.rel.fine n i o room r e))
-      go true true (resize.Set c) p q e (inl h) = absurd (space.sketched (ap (λ (v : Sketched DoneAnswer). v.answer) (plan_is true true true p h.there q)))
-      go true false (resize.Set c) p q e (inl h) =
+      go true z (Err r) p q e (inl h) = absurd (refused_not room (leb-true (i + o) node_ports p) h r space.moves space.kit e (set_refused_lem a.rel.fine n i o room r e))
+      go true true (Ok c) p q e (inl h) = absurd (space.sketched (ap (λ (v : Sketched (Result (Unit {0}) Reason)). v.answer) (plan_is true true true p h.there q)))
+      go true false (Ok c) p q e (inl h) =
           let f = a.rel.fine in
           let w = joins_were f n i o room h.meta h.block c e in
           let d = set_counts_law f n i o room c e in
-          both (answered (resize.Set c) e) (plan_is true true false p h.there q)
+          both (answered (Ok c) e) (plan_is true true false p h.there q)
           (tt, (d.model', set_alike h (set_counts m n i o room).graph (step_keeps m (book.set_call n i o room)) d w.0 w.1 w.2 c))
 
 pub set_square : {b : Both} {M : Model} (n k i o room : ℕ) (means : BlockMeans b n k) → Square b M (means_set n k i o room means)

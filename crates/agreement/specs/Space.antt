@@ -1,6 +1,6 @@
 -- Space: a sketch that is alike has at most 1,024 blocks, 3,072 ports of blocks and 1,536 wires, so where the engine does not refuse a call for space the
 -- sketch does not either, but for the count of adds.
-use Rattle.std.specs.Prelude.{◌≡◌, not, ◌||◌, List, [], ◌∷◌, map, ◌⊎◌, ℕ, ◌+◌, ◌*◌, ◌≤◌, ◌<◌, eqb, length}
+use Rattle.std.specs.Prelude.{◌≡◌, not, ◌||◌, List, [], ◌∷◌, map, ◌⊎◌, ℕ, ◌+◌, ◌*◌, ◌≤◌, ◌<◌, eqb, length, Option, Some, Result, Ok, Err}
 use Rattle.std.proofs.Math.Path.{refl}
 use Rattle.std.proofs.Common.{sym, ◌∙◌, ap, subst, inl, inr, ⊎_elim, arith, leb-true, le-ltb}
 use Rattle.std.proofs.Math.Bool.{Bool, true, false, cond}
@@ -23,8 +23,6 @@ use Rattle.multiportgraph.specs.Walks.{all_ports, is_seen}
 use Rattle.multiportgraph.specs.Wires.{blocks, is_block}
 use Rattle.multiportgraph.specs.declared.multiportgraph.MultiPortGraph.{MultiPortGraph}
 use Rattle.multi_tables.specs.declared.answers.Refusal.TheVariants.{NoRoom, MovesTooShort}
-use Rattle.multiportgraph.specs.declared.multiportgraph.AddAnswer.TheVariants as add
-use Rattle.multiportgraph.specs.declared.multiportgraph.SetAnswer.TheVariants as resize
 use Rattle.theorems.specs.Book as book
 use Rattle.theorems.specs.Book.{Call}
 use Rattle.theorems.specs.Conditions.{RefusedBy}
@@ -35,16 +33,6 @@ use Rattle.sketches.specs.PlanCalls as sketch
 use Rattle.sketches.specs.PlanCalls.{Sketched, leaves, most_adds, is_full, is_wired, bad_offset, recount, port_found, end_found}
 use Rattle.sketches.specs.declared.sketch.SketchPort.{SketchPort}
 use Rattle.sketches.specs.declared.sketch.Reason.TheVariants as reason
-use Rattle.sketches.specs.declared.sketch.AddAnswer as sketch_add_answer
-use Rattle.sketches.specs.declared.sketch.AddAnswer.TheVariants as sketch_add
-use Rattle.sketches.specs.declared.sketch.DoneAnswer.{DoneAnswer}
-use Rattle.sketches.specs.declared.sketch.DoneAnswer.TheVariants as done
-use Rattle.sketches.specs.declared.sketch.LinkAnswer.{LinkAnswer}
-use Rattle.sketches.specs.declared.sketch.LinkAnswer.TheVariants as link
-use Rattle.sketches.specs.declared.sketch.PortAnswer.{PortAnswer}
-use Rattle.sketches.specs.declared.sketch.PortAnswer.TheVariants as port
-use Rattle.sketches.specs.declared.sketch.EndAnswer.{EndAnswer}
-use Rattle.sketches.specs.declared.sketch.EndAnswer.TheVariants as end
 use Rattle.agreement.specs.Meaning.{PlanCall, plan_step, Both, Means, means_add, means_remove, means_set, means_link, means_link_clean, means_link_sub, means_cut, means_cut_sub, means_tidy}
 use Rattle.agreement.specs.Agreement.{PlanRefusedBy}
 use Rattle.agreement.specs.Alike.{Alike, wire_renamed}
@@ -52,6 +40,8 @@ use Rattle.agreement.specs.Standing.{BlockHere, BlockGone, block_meant}
 use Rattle.agreement.specs.AddSquare as add_square
 use Rattle.agreement.specs.SetSquare as set_square
 use Rattle.agreement.specs.LooksCounts.{same_nodes_count, same_ports_count}
+use Rattle.sketches.specs.declared.sketch.Reason.{Reason}
+use Rattle.sketches.specs.declared.sketch.SketchEnd.{SketchEnd}
 
 -- How much there can be.
 
@@ -151,46 +141,46 @@ module _ {b : Both} {M : Model} (a : Alike b M) where
 -- The calls of the sketch, where there is room for wires.
 
 -- an answer that is no refusal
-abbrev Linked : Sketched LinkAnswer → Type 0
-Linked v = v.answer ≡ link.Refused reason.NoRoom → ⊥
+abbrev Linked : Sketched (Result (SketchEnd × SketchEnd) Reason) → Type 0
+Linked v = v.answer ≡ Err reason.NoRoom → ⊥
 
 module _ (K : Plan) where
-  links_fit : is_full K ≡ false → (x y : SketchPort) → (sketch.link_ports K x y).answer ≡ link.Refused reason.NoRoom → ⊥
+  links_fit : is_full K ≡ false → (x y : SketchPort) → (sketch.link_ports K x y).answer ≡ Err reason.NoRoom → ⊥
   unfolding sketch.link_ports
   links_fit room x y = rw room (go (is_there K x) (input_taken K x y) (is_there K y) (same_side x.side y.side))
     where
       go : (c d e g : Bool) →
-          (cond {A = Sketched LinkAnswer} (not c) (leaves K (link.Refused reason.UnknownPort)) (cond d (leaves K (link.Refused reason.InputWired)) (cond (not e) (leaves (ready K x) (link.Refused reason.UnknownSecondPort))
-          (cond g (leaves (ready (ready K x) y) (link.Refused reason.SameSide)) (sketch.both_linked K x y))))).answer ≡ link.Refused reason.NoRoom → ⊥
+          (cond {A = Sketched (Result (SketchEnd × SketchEnd) Reason)} (not c) (leaves K (Err reason.UnknownPort)) (cond d (leaves K (Err reason.InputWired)) (cond (not e) (leaves (ready K x) (Err reason.UnknownSecondPort))
+          (cond g (leaves (ready (ready K x) y) (Err reason.SameSide)) (sketch.both_linked K x y))))).answer ≡ Err reason.NoRoom → ⊥
       go false d e g q = zero_is_not_one (cc)
       go true true e g q = zero_is_not_one (cc)
       go true false false g q = zero_is_not_one (cc)
       go true false true true q = zero_is_not_one (cc)
       go true false true false q = zero_is_not_one (cc)
 
-  clean_fits : is_full K ≡ false → (x y : SketchPort) → (sketch.link_clean K x y).answer ≡ link.Refused reason.NoRoom → ⊥
+  clean_fits : is_full K ≡ false → (x y : SketchPort) → (sketch.link_clean K x y).answer ≡ Err reason.NoRoom → ⊥
   unfolding sketch.link_clean
   clean_fits room x y = rw room (go (is_there K x) (input_taken K x y) (is_there K y) (same_side x.side y.side))
     where
       go : (c d e g : Bool) →
-          (cond {A = Sketched LinkAnswer} (not c) (leaves K (link.Refused reason.UnknownPort)) (cond d (leaves K (link.Refused reason.InputWired)) (cond (not e) (leaves K (link.Refused reason.UnknownSecondPort))
-          (cond g (leaves K (link.Refused reason.SameSide)) (sketch.both_linked K x y))))).answer ≡ link.Refused reason.NoRoom → ⊥
+          (cond {A = Sketched (Result (SketchEnd × SketchEnd) Reason)} (not c) (leaves K (Err reason.UnknownPort)) (cond d (leaves K (Err reason.InputWired)) (cond (not e) (leaves K (Err reason.UnknownSecondPort))
+          (cond g (leaves K (Err reason.SameSide)) (sketch.both_linked K x y))))).answer ≡ Err reason.NoRoom → ⊥
       go false d e g q = zero_is_not_one (cc)
       go true true e g q = zero_is_not_one (cc)
       go true false false g q = zero_is_not_one (cc)
       go true false true true q = zero_is_not_one (cc)
       go true false true false q = zero_is_not_one (cc)
 
-  subports_fit : is_full K ≡ false → (x : SketchPort) (o : ℕ) (y : SketchPort) (r : ℕ) → (sketch.link_subports K x o y r).answer ≡ link.Refused reason.NoRoom → ⊥
+  subports_fit : is_full K ≡ false → (x : SketchPort) (o : ℕ) (y : SketchPort) (r : ℕ) → (sketch.link_subports K x o y r).answer ≡ Err reason.NoRoom → ⊥
   unfolding sketch.link_subports
   subports_fit room x o y r =
       rw room
       (go (bad_offset o || bad_offset r) (is_there K x) (lacks_offset K x o || cond (is_there K y) (lacks_offset K y r) false) (input_taken K x y) (is_there K y) (same_side x.side y.side) (is_wired K x o || is_wired K y r) _ (λ q. zero_is_not_one (cc)))
     where
-      go : (a b c d e g h : Bool) (v : Sketched LinkAnswer) → Linked v →
-          (cond {A = Sketched LinkAnswer} a (leaves K (link.Refused reason.BadOffset)) (cond (not b) (leaves K (link.Refused reason.UnknownPort)) (cond c (leaves K (link.Refused reason.UnknownOffset))
-          (cond d (leaves K (link.Refused reason.InputWired)) (cond (not e) (leaves K (link.Refused reason.UnknownSecondPort)) (cond g (leaves K (link.Refused reason.SameSide))
-          (cond h (leaves K (link.Refused reason.AlreadyLinked)) v))))))).answer ≡ link.Refused reason.NoRoom → ⊥
+      go : (a b c d e g h : Bool) (v : Sketched (Result (SketchEnd × SketchEnd) Reason)) → Linked v →
+          (cond {A = Sketched (Result (SketchEnd × SketchEnd) Reason)} a (leaves K (Err reason.BadOffset)) (cond (not b) (leaves K (Err reason.UnknownPort)) (cond c (leaves K (Err reason.UnknownOffset))
+          (cond d (leaves K (Err reason.InputWired)) (cond (not e) (leaves K (Err reason.UnknownSecondPort)) (cond g (leaves K (Err reason.SameSide))
+          (cond h (leaves K (Err reason.AlreadyLinked)) v))))))).answer ≡ Err reason.NoRoom → ⊥
       go true b c d e g h v l q = zero_is_not_one (cc)
       go false false c d e g h v l q = zero_is_not_one (cc)
       go false true true d e g h v l q = zero_is_not_one (cc)
@@ -201,51 +191,51 @@ module _ (K : Plan) where
       go false true false false true false false v l q = l q
 
   -- other calls need none
-  removal_fits : (n : ℕ) → (sketch.remove_block K n).answer ≡ done.Refused reason.NoRoom → ⊥
+  removal_fits : (n : ℕ) → (sketch.remove_block K n).answer ≡ Err reason.NoRoom → ⊥
   unfolding sketch.remove_block
   removal_fits n = go (has_block K.blocks n) _
     where
-      go : (t : Bool) (l : Plan) → (cond {A = Sketched DoneAnswer} (not t) (leaves K (done.Refused reason.UnknownBlock)) (leaves l done.Done)).answer ≡ done.Refused reason.NoRoom → ⊥
+      go : (t : Bool) (l : Plan) → (cond {A = Sketched (Result (Unit {0}) Reason)} (not t) (leaves K (Err reason.UnknownBlock)) (leaves l (Ok tt))).answer ≡ Err reason.NoRoom → ⊥
       go true l q = zero_is_not_one (cc)
       go false l q = zero_is_not_one (cc)
 
-  cut_fits : (x : SketchPort) → (sketch.cut_port K x).answer ≡ port.Refused reason.NoRoom → ⊥
+  cut_fits : (x : SketchPort) → (sketch.cut_port K x).answer ≡ Err reason.NoRoom → ⊥
   unfolding sketch.cut_port
   cut_fits x = go (is_there K x) (eqb (subports_of K x) 0) (far_from (at_spot (spot_named x)) K.wires) _
     where
-      go : (c d : Bool) (w : Far) (l : Plan) → (cond {A = Sketched PortAnswer} (not c) (leaves K (port.Refused reason.UnknownPort)) (leaves l (cond d (port_found w) (port.Found x)))).answer ≡ port.Refused reason.NoRoom → ⊥
+      go : (c d : Bool) (w : Far) (l : Plan) → (cond {A = Sketched (Result (Option SketchPort) Reason)} (not c) (leaves K (Err reason.UnknownPort)) (leaves l (cond d (port_found w) (Ok (Some x))))).answer ≡ Err reason.NoRoom → ⊥
       go false d w l q = zero_is_not_one (cc)
       go true true nothing l q = zero_is_not_one (cc)
       go true true (far z) l q = zero_is_not_one (cc)
       go true false w l q = zero_is_not_one (cc)
 
-  asked_fits : (x : SketchPort) (o : ℕ) → sketch.subport_link K x o ≡ end.Refused reason.NoRoom → ⊥
+  asked_fits : (x : SketchPort) (o : ℕ) → sketch.subport_link K x o ≡ Err reason.NoRoom → ⊥
   unfolding sketch.subport_link
   asked_fits x o = go (bad_offset o) (is_there K x) (lacks_offset K x o) (far_from (at_end (spot_named x) (offset_read K x o)) K.wires)
     where
-      go : (c d e : Bool) (w : Far) → cond {A = EndAnswer} c (end.Refused reason.BadOffset) (cond (not d) (end.Refused reason.UnknownPort) (cond e (end.Refused reason.UnknownOffset) (end_found w))) ≡ end.Refused reason.NoRoom → ⊥
+      go : (c d e : Bool) (w : Far) → cond {A = Result (Option SketchEnd) Reason} c (Err reason.BadOffset) (cond (not d) (Err reason.UnknownPort) (cond e (Err reason.UnknownOffset) (end_found w))) ≡ Err reason.NoRoom → ⊥
       go true d e w q = zero_is_not_one (cc)
       go false false e w q = zero_is_not_one (cc)
       go false true true w q = zero_is_not_one (cc)
       go false true false nothing q = zero_is_not_one (cc)
       go false true false (far z) q = zero_is_not_one (cc)
 
-  cut_sub_fits : (x : SketchPort) (o : ℕ) → (sketch.cut_subport K x o).answer ≡ end.Refused reason.NoRoom → ⊥
+  cut_sub_fits : (x : SketchPort) (o : ℕ) → (sketch.cut_subport K x o).answer ≡ Err reason.NoRoom → ⊥
   unfolding sketch.cut_subport
   cut_sub_fits x o = asked_fits x o
 
-  tidy_fits : (x : SketchPort) → (sketch.tidy_port K x).answer ≡ done.Refused reason.NoRoom → ⊥
+  tidy_fits : (x : SketchPort) → (sketch.tidy_port K x).answer ≡ Err reason.NoRoom → ⊥
   unfolding sketch.tidy_port
   tidy_fits x = go (is_there K x) _
     where
-      go : (t : Bool) (l : Plan) → (cond {A = Sketched DoneAnswer} (not t) (leaves K (done.Refused reason.UnknownPort)) (leaves l done.Done)).answer ≡ done.Refused reason.NoRoom → ⊥
+      go : (t : Bool) (l : Plan) → (cond {A = Sketched (Result (Unit {0}) Reason)} (not t) (leaves K (Err reason.UnknownPort)) (leaves l (Ok tt))).answer ≡ Err reason.NoRoom → ⊥
       go true l q = zero_is_not_one (cc)
       go false l q = zero_is_not_one (cc)
 
 -- Adds and resizes.
 
 module _ {b : Both} {M : Model} (a : Alike b M) where
-  add_fits : (i o : ℕ) → ((step b.kit.graph (book.add_call i o)).answer ≡ add.Refused NoRoom → ⊥) → b.plan.adds < most_adds → (sketch.add_block b.plan i o).answer ≡ sketch_add.Refused reason.NoRoom → ⊥
+  add_fits : (i o : ℕ) → ((step b.kit.graph (book.add_call i o)).answer ≡ Err NoRoom → ⊥) → b.plan.adds < most_adds → (sketch.add_block b.plan i o).answer ≡ Err reason.NoRoom → ⊥
   unfolding sketch.add_block ports_in_all
   add_fits i o room few = go (leb (i + o) node_ports) refl
     where
@@ -262,13 +252,13 @@ module _ {b : Both} {M : Model} (a : Alike b M) where
           rw (lt-leb most_adds b.plan.adds few, lt-leb node_slots (length b.plan.blocks) (omega arith), le-ltb port_slots (ports_in_all b.plan.blocks + (i + o)) (omega arith)) refl
 
       go : (t : Bool) → leb (i + o) node_ports ≡ t →
-          (cond {A = Sketched sketch_add_answer.AddAnswer} (not t) (leaves b.plan (sketch_add.Refused reason.TooManyPorts)) (cond full (leaves b.plan (sketch_add.Refused reason.NoRoom)) (leaves (add_square.plan_grown a i o) (sketch_add.Added b.plan.adds)))).answer
-          ≡ sketch_add.Refused reason.NoRoom → ⊥
+          (cond {A = Sketched (Result ℕ Reason)} (not t) (leaves b.plan (Err reason.TooManyPorts)) (cond full (leaves b.plan (Err reason.NoRoom)) (leaves (add_square.plan_grown a i o) (Ok b.plan.adds)))).answer
+          ≡ Err reason.NoRoom → ⊥
       go false e = λ q. zero_is_not_one (cc)
       go true e = rw (roomy (leb-true (i + o) node_ports e)) (λ q. zero_is_not_one (cc))
 
-  set_fits : (n k i o room : ℕ) → BlockHere b M n k ⊎ BlockGone b M n k → ((step b.kit.graph (book.set_call n i o room)).answer ≡ resize.Refused MovesTooShort → ⊥) →
-      ((step b.kit.graph (book.set_call n i o room)).answer ≡ resize.Refused NoRoom → ⊥) → (sketch.set_counts b.plan k i o).answer ≡ done.Refused reason.NoRoom → ⊥
+  set_fits : (n k i o room : ℕ) → BlockHere b M n k ⊎ BlockGone b M n k → ((step b.kit.graph (book.set_call n i o room)).answer ≡ Err MovesTooShort → ⊥) →
+      ((step b.kit.graph (book.set_call n i o room)).answer ≡ Err NoRoom → ⊥) → (sketch.set_counts b.plan k i o).answer ≡ Err reason.NoRoom → ⊥
   unfolding sketch.set_counts
   set_fits n k i o room means moves space = go means (leb (i + o) node_ports) refl
     where
@@ -283,19 +273,19 @@ module _ {b : Both} {M : Model} (a : Alike b M) where
           le-ltb port_slots (ports_in_all (map (recount k i o) b.plan.blocks)) (omega arith)
 
       last : (t y : Bool) (l : Plan) → y ≡ false →
-          (cond {A = Sketched DoneAnswer} (not t) (leaves b.plan (done.Refused reason.UnknownBlock)) (cond y (leaves b.plan (done.Refused reason.NoRoom)) (leaves l done.Done))).answer ≡ done.Refused reason.NoRoom → ⊥
+          (cond {A = Sketched (Result (Unit {0}) Reason)} (not t) (leaves b.plan (Err reason.UnknownBlock)) (cond y (leaves b.plan (Err reason.NoRoom)) (leaves l (Ok tt)))).answer ≡ Err reason.NoRoom → ⊥
       last false y l e q = zero_is_not_one (cc)
       last true false l e q = zero_is_not_one (cc)
       last true true l e q = zero_is_not_one (cc)
 
       gone : (y : Bool) (l : Plan) → has_block b.plan.blocks k ≡ false →
-          (cond {A = Sketched DoneAnswer} (not (has_block b.plan.blocks k)) (leaves b.plan (done.Refused reason.UnknownBlock)) (cond y (leaves b.plan (done.Refused reason.NoRoom)) (leaves l done.Done))).answer ≡ done.Refused reason.NoRoom → ⊥
+          (cond {A = Sketched (Result (Unit {0}) Reason)} (not (has_block b.plan.blocks k)) (leaves b.plan (Err reason.UnknownBlock)) (cond y (leaves b.plan (Err reason.NoRoom)) (leaves l (Ok tt)))).answer ≡ Err reason.NoRoom → ⊥
       gone y l e = rw e (λ q. zero_is_not_one (cc))
 
       go : BlockHere b M n k ⊎ BlockGone b M n k → (t : Bool) → leb (i + o) node_ports ≡ t →
-          (cond {A = Sketched DoneAnswer} (not t) (leaves b.plan (done.Refused reason.TooManyPorts))
-          (cond (not (has_block b.plan.blocks k)) (leaves b.plan (done.Refused reason.UnknownBlock)) (cond full (leaves b.plan (done.Refused reason.NoRoom)) (leaves (set_square.plan_set a n k i o) done.Done)))).answer
-          ≡ done.Refused reason.NoRoom → ⊥
+          (cond {A = Sketched (Result (Unit {0}) Reason)} (not t) (leaves b.plan (Err reason.TooManyPorts))
+          (cond (not (has_block b.plan.blocks k)) (leaves b.plan (Err reason.UnknownBlock)) (cond full (leaves b.plan (Err reason.NoRoom)) (leaves (set_square.plan_set a n k i o) (Ok tt))))).answer
+          ≡ Err reason.NoRoom → ⊥
       go means false e = λ q. zero_is_not_one (cc)
       go (inl h) true e = last (has_block b.plan.blocks k) full (set_square.plan_set a n k i o) (roomy h (leb-true (i + o) node_ports e))
       go (inr g) true e = gone full (set_square.plan_set a n k i o) g.1

@@ -1,5 +1,5 @@
 -- The square of a tidy: the sketch keeps the subports up to the highest wired one, as the engine does up to the last linked one.
-use Rattle.std.specs.Prelude.{◌≡◌, refl, Bool, true, false, not, List, [], ◌∷◌, ℕ, zero, suc, ◌≤◌, ◌<◌, max, eqb, ltb}
+use Rattle.std.specs.Prelude.{◌≡◌, refl, Bool, true, false, not, List, [], ◌∷◌, ℕ, zero, suc, ◌≤◌, ◌<◌, max, eqb, ltb, Result, Ok, Err}
 use Rattle.std.proofs.Common.{sym, ◌∙◌, subst, inl, inr, arith, eqb-true, ltb-true, ltb-false}
 use Rattle.std.proofs.Math.Path.{ap}
 use Rattle.std.proofs.Math.Bool.{cond}
@@ -22,7 +22,6 @@ use Rattle.multiportgraph.specs.Tidy as kit
 use Rattle.multiportgraph.specs.TidyLaws.{tidied_done, LastLinked, empty_above}
 use Rattle.multiportgraph.specs.declared.multiportgraph.MultiPortGraph.{MultiPortGraph}
 use Rattle.multiportgraph.specs.declared.multiportgraph.PortTidied.{PortTidied}
-use Rattle.multiportgraph.specs.declared.multiportgraph.TidyAnswer.TheVariants as tidying
 use Rattle.portgraph.specs.GoodSlots.{same_place_lem}
 use Rattle.theorems.specs.Book as book
 use Rattle.theorems.specs.Book.{Book}
@@ -38,8 +37,6 @@ use Rattle.sketches.specs.PlanCalls.{Sketched, leaves}
 use Rattle.sketches.specs.PlanNumbers.{reason_number}
 use Rattle.sketches.specs.declared.sketch.SketchPort.{SketchPort}
 use Rattle.sketches.specs.declared.sketch.Reason.TheVariants as reason
-use Rattle.sketches.specs.declared.sketch.DoneAnswer.{DoneAnswer}
-use Rattle.sketches.specs.declared.sketch.DoneAnswer.TheVariants as done
 use Rattle.agreement.specs.Meaning.{Naming, Both, PortMeans, means_tidy}
 use Rattle.agreement.specs.Agreement.{TidyAlike}
 use Rattle.agreement.specs.Alike.{Alike, Apart, subports_at}
@@ -51,6 +48,7 @@ use Rattle.agreement.specs.KeptSplits.{any_model}
 use Rattle.agreement.specs.Carry.{alike_after, subports_set, set_there}
 use Rattle.agreement.specs.Asked.{wire_there}
 use Rattle.agreement.specs.TidySplits.{tidied_subports}
+use Rattle.sketches.specs.declared.sketch.Reason.{Reason}
 
 -- One more than the highest wired offset at a spot.
 
@@ -183,7 +181,7 @@ module _ {b : Both} {M : Model} (a : Alike b M) (p : ℕ) (x : SketchPort) where
   abbrev m : MultiPortGraph
   m = b.kit.graph
 
-  abbrev Left : PortTidied → Sketched DoneAnswer → Type 0
+  abbrev Left : PortTidied → Sketched (Result (Unit {0}) Reason) → Type 0
   Left w v =
       TidyAlike w.answer v.answer × ((M' : Model) × Alike (record { kit = record { graph = w.graph; book = b.kit.book }; names = b.names; plan = v.plan }) M')
 
@@ -197,7 +195,7 @@ module _ {b : Both} {M : Model} (a : Alike b M) (p : ℕ) (x : SketchPort) where
         ∙ (above_renamed b.names a.apart h.node x.block h.named x.side x.position b.kit.book.wires (wires_named a)
         ∙ above_is a.rel (here# h) k last l h.is_seen)
 
-    tidied_left : is_split m p ≡ true → Left (record { graph = kit.tidied m p x.side; answer = tidying.Tidied }) (leaves (set_subports b.plan x counted) done.Done)
+    tidied_left : is_split m p ≡ true → Left (record { graph = kit.tidied m p x.side; answer = Ok tt }) (leaves (set_subports b.plan x counted) (Ok tt))
     tidied_left t =
         let f = a.rel.fine in
         let e : is_split m (slot_of M.node (here# h)) ≡ true = ap (is_split m) h.slot ∙ t in
@@ -219,14 +217,14 @@ module _ {b : Both} {M : Model} (a : Alike b M) (p : ℕ) (x : SketchPort) where
           ),
         )
       where
-        is : is_split m p ≡ true → tidy_port m p ≡ record { graph = kit.tidied m p x.side; answer = tidying.Tidied }
-        is t = tidy_cases m p ∙ (ap (tidy_seen m p) (seen_block_port a.rel.fine p (here# h) (h.is_seen, h.slot)) ∙ ap (λ (c : Bool). record { graph = cond c (kit.tidied m p x.side) m; answer = tidying.Tidied }) t)
+        is : is_split m p ≡ true → tidy_port m p ≡ record { graph = kit.tidied m p x.side; answer = Ok tt }
+        is t = tidy_cases m p ∙ (ap (tidy_seen m p) (seen_block_port a.rel.fine p (here# h) (h.is_seen, h.slot)) ∙ ap (λ (c : Bool). record { graph = cond c (kit.tidied m p x.side) m; answer = Ok tt }) t)
 
-  plan_is : is_there b.plan x ≡ true → (t : Bool) → eqb (subports_of b.plan x) 0 ≡ t → sketch.tidy_port b.plan x ≡ leaves (cond t b.plan (set_subports b.plan x counted)) done.Done
+  plan_is : is_there b.plan x ≡ true → (t : Bool) → eqb (subports_of b.plan x) 0 ≡ t → sketch.tidy_port b.plan x ≡ leaves (cond t b.plan (set_subports b.plan x counted)) (Ok tt)
   unfolding sketch.tidy_port
   plan_is there t e =
-      ap (λ (u : Bool). cond (not u) (leaves b.plan (done.Refused reason.UnknownPort)) (leaves (cond (eqb (subports_of b.plan x) 0) b.plan (set_subports b.plan x counted)) done.Done)) there
-      ∙ ap (λ (u : Bool). leaves (cond u b.plan (set_subports b.plan x counted)) done.Done) e
+      ap (λ (u : Bool). cond (not u) (leaves b.plan (Err reason.UnknownPort)) (leaves (cond (eqb (subports_of b.plan x) 0) b.plan (set_subports b.plan x counted)) (Ok tt))) there
+      ∙ ap (λ (u : Bool). leaves (cond u b.plan (set_subports b.plan x counted)) (Ok tt)) e
 
   tidy_left : PortMeans b p x → Left (tidy_port m p) (sketch.tidy_port b.plan x)
   unfolding sketch.tidy_port reason_number
@@ -238,12 +236,12 @@ module _ {b : Both} {M : Model} (a : Alike b M) (p : ℕ) (x : SketchPort) where
       here : PortHere b M p x → Left (tidy_port m p) (sketch.tidy_port b.plan x)
       here h = go (is_split m p) refl
         where
-          is : (t : Bool) → is_split m p ≡ t → tidy_port m p ≡ record { graph = cond t (kit.tidied m p x.side) m; answer = tidying.Tidied }
+          is : (t : Bool) → is_split m p ≡ t → tidy_port m p ≡ record { graph = cond t (kit.tidied m p x.side) m; answer = Ok tt }
           is t e =
               tidy_cases m p
-              ∙ (ap (tidy_seen m p) (seen_block_port a.rel.fine p (here# h) (h.is_seen, h.slot)) ∙ ap (λ (c : Bool). record { graph = cond c (kit.tidied m p x.side) m; answer = tidying.Tidied }) e)
+              ∙ (ap (tidy_seen m p) (seen_block_port a.rel.fine p (here# h) (h.is_seen, h.slot)) ∙ ap (λ (c : Bool). record { graph = cond c (kit.tidied m p x.side) m; answer = Ok tt }) e)
 
-          both : {w : PortTidied} {v : Sketched DoneAnswer} → tidy_port m p ≡ w → sketch.tidy_port b.plan x ≡ v → Left w v → Left (tidy_port m p) (sketch.tidy_port b.plan x)
+          both : {w : PortTidied} {v : Sketched (Result (Unit {0}) Reason)} → tidy_port m p ≡ w → sketch.tidy_port b.plan x ≡ v → Left w v → Left (tidy_port m p) (sketch.tidy_port b.plan x)
           both {w} {v} p q l = subst (λ (u : PortTidied). Left u (sketch.tidy_port b.plan x)) (sym p) (subst (Left w) (sym q) l)
 
           go : (t : Bool) → is_split m p ≡ t → Left (tidy_port m p) (sketch.tidy_port b.plan x)

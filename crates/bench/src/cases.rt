@@ -1,45 +1,31 @@
 // The cases A to K. A request is a code with its arguments, an answer 0 or the refusal with its values.
 ghost use Rattle.multiportgraph.specs.WellFormed.{MultiWf};
 
-use crate::state::State;
-
-const ADD: u32 = 1;
-
-const REMOVE: u32 = 2;
-
-const RESIZE: u32 = 3;
-
-const LINK: u32 = 4;
-
-const UNLINK: u32 = 5;
-
-const SUBPORT_LINK: u32 = 8;
-
-const COUNTS: u32 = 9;
+use crate::state::{Code, State};
 
 // Node 0 with outgoing port 0, and node 1 with incoming ports 1 and 2.
 fn start() -> State
     ensures { MultiWf result.graph }
 {
     State::new()
-        .asked([ADD, 0, 1, 0, 0], [0, 0, 0, 0, 0])
-        .asked([ADD, 2, 0, 0, 0], [0, 1, 1, 0, 0])
+        .asked(Code::Add, [0, 1, 0, 0], [0, 0, 0, 0, 0])
+        .asked(Code::Add, [2, 0, 0, 0], [0, 1, 1, 0, 0])
 }
 
 fn after_a() -> State
     ensures { MultiWf result.graph }
 {
     start()
-        .asked([LINK, 0, 1, 0, 0], [0, 0, 0, 1, 0])
-        .asked([COUNTS, 0, 0, 0, 0], [0, 2, 3, 1, 0])
+        .asked(Code::Link, [0, 1, 0, 0], [0, 0, 0, 1, 0])
+        .asked(Code::Counts, [0, 0, 0, 0], [0, 2, 3, 1, 0])
 }
 
 fn after_b() -> State
     ensures { MultiWf result.graph }
 {
     after_a()
-        .asked([LINK, 0, 2, 0, 0], [0, 0, 1, 2, 0])
-        .asked([COUNTS, 0, 0, 0, 0], [0, 2, 3, 2, 0])
+        .asked(Code::Link, [0, 2, 0, 0], [0, 0, 1, 2, 0])
+        .asked(Code::Counts, [0, 0, 0, 0], [0, 2, 3, 2, 0])
 }
 
 pub(crate) fn case_a() -> bool {
@@ -54,83 +40,79 @@ pub(crate) fn case_b() -> bool {
 
 pub(crate) fn case_c() -> bool {
     let state = after_b()
-        .asked([LINK, 0, 2, 0, 0], [0, 0, 2, 2, 1])
-        .asked([COUNTS, 0, 0, 0, 0], [0, 2, 3, 3, 0])
-        .asked([SUBPORT_LINK, 0, 1, 0, 0], [0, 1, 2, 0, 0]);
+        .asked(Code::Link, [0, 2, 0, 0], [0, 0, 2, 2, 1])
+        .asked(Code::Counts, [0, 0, 0, 0], [0, 2, 3, 3, 0])
+        .asked(Code::SubportLink, [0, 1, 0, 0], [0, 1, 2, 0, 0]);
     state.good
 }
 
 pub(crate) fn case_d() -> bool {
     let state = after_a()
-        .asked([LINK, 1, 2, 0, 0], [12, 4, 2, 0, 0])
-        .listed(1, &[1, 0, 1, 1, 2, 0])
+        .asked(Code::Link, [1, 2, 0, 0], [12, 4, 2, 0, 0])
+        .listed(1, &[(1, 0), (1, 1), (2, 0)])
         .wired(1);
     state.good
 }
 
 pub(crate) fn case_e() -> bool {
     let first = after_b()
-        .asked([UNLINK, 0, 0, 0, 0], [0, 1, 0, 0, 0])
+        .asked(Code::Unlink, [0, 0, 0, 0], [0, 1, 0, 0, 0])
         .wired(0);
-    let second = after_b().asked([UNLINK, 2, 0, 0, 0], [0, 1, 5, 0, 0]);
+    let second = after_b().asked(Code::Unlink, [2, 0, 0, 0], [0, 1, 5, 0, 0]);
     both(first, second)
 }
 
 pub(crate) fn case_f() -> bool {
-    let first = after_a().asked([SUBPORT_LINK, 1, 5, 0, 0], [0, 1, 0, 0, 0]);
-    let second = after_b().asked([SUBPORT_LINK, 0, 2, 0, 0], [9, 0, 0, 0, 0]);
+    let first = after_a().asked(Code::SubportLink, [1, 5, 0, 0], [0, 1, 0, 0, 0]);
+    let second = after_b().asked(Code::SubportLink, [0, 2, 0, 0], [9, 0, 0, 0, 0]);
     both(first, second)
 }
 
 // Each link on a graph of its own.
 pub(crate) fn case_g() -> bool {
-    let first = start().asked([LINK, 0, 0, 0, 0], [12, 0, 0, 1, 0]);
-    let second = start().asked([LINK, 0, 9, 0, 0], [11, 9, 0, 0, 0]);
-    let third = start().asked([LINK, 9, 0, 0, 0], [7, 9, 0, 0, 0]);
-    if both(first, second) {
-        third.good
-    } else {
-        false
-    }
+    let first = start().asked(Code::Link, [0, 0, 0, 0], [12, 0, 0, 1, 0]);
+    let second = start().asked(Code::Link, [0, 9, 0, 0], [11, 9, 0, 0, 0]);
+    let third = start().asked(Code::Link, [9, 0, 0, 0], [7, 9, 0, 0, 0]);
+    both(first, second) && third.good
 }
 
 pub(crate) fn case_h() -> bool {
     let state = after_b()
-        .asked([REMOVE, 2, 0, 0, 0], [5, 0, 0, 0, 0])
-        .asked([REMOVE, 7, 0, 0, 0], [4, 0, 0, 0, 0]);
+        .asked(Code::Remove, [2, 0, 0, 0], [5, 0, 0, 0, 0])
+        .asked(Code::Remove, [7, 0, 0, 0], [4, 0, 0, 0, 0]);
     state.good
 }
 
 pub(crate) fn case_i() -> bool {
     let state = start()
-        .asked([RESIZE, 0, 0, 0, 0], [0, 1, 0, 0, 0])
-        .asked([ADD, 0, 1, 0, 0], [0, 2, 0, 0, 0]);
+        .asked(Code::Resize, [0, 0, 0, 0], [0, 1, 0, 0, 0])
+        .asked(Code::Add, [0, 1, 0, 0], [0, 2, 0, 0, 0]);
     state.good
 }
 
 pub(crate) fn case_j() -> bool {
     let state = State::new()
-        .asked([ADD, 512, 512, 0, 0], [0, 0, 0, 0, 0])
-        .asked([ADD, 512, 512, 0, 0], [0, 1, 1024, 0, 0])
-        .asked([ADD, 0, 1, 0, 0], [0, 2, 2048, 0, 0])
-        .asked([ADD, 512, 512, 0, 0], [10, 0, 0, 0, 0])
-        .asked([ADD, 0, 0, 0, 0], [0, 3, 0, 0, 0])
-        .asked([ADD, 512, 513, 0, 0], [3, 0, 0, 0, 0]);
+        .asked(Code::Add, [512, 512, 0, 0], [0, 0, 0, 0, 0])
+        .asked(Code::Add, [512, 512, 0, 0], [0, 1, 1024, 0, 0])
+        .asked(Code::Add, [0, 1, 0, 0], [0, 2, 2048, 0, 0])
+        .asked(Code::Add, [512, 512, 0, 0], [10, 0, 0, 0, 0])
+        .asked(Code::Add, [0, 0, 0, 0], [0, 3, 0, 0, 0])
+        .asked(Code::Add, [512, 513, 0, 0], [3, 0, 0, 0, 0]);
     state.good
 }
 
 pub(crate) fn case_k() -> bool {
     let state = State::new()
-        .asked([ADD, 1, 1, 0, 0], [0, 0, 0, 0, 0])
-        .asked([ADD, 0, 2, 0, 0], [0, 1, 2, 0, 0])
-        .asked([LINK, 2, 0, 0, 0], [0, 2, 0, 0, 0])
-        .asked([LINK, 3, 0, 0, 0], [0, 3, 0, 0, 1])
+        .asked(Code::Add, [1, 1, 0, 0], [0, 0, 0, 0, 0])
+        .asked(Code::Add, [0, 2, 0, 0], [0, 1, 2, 0, 0])
+        .asked(Code::Link, [2, 0, 0, 0], [0, 2, 0, 0, 0])
+        .asked(Code::Link, [3, 0, 0, 0], [0, 3, 0, 0, 1])
         .resized(0, 0, 1, 2, &[0, 1, 6, 1, 0, 0])
         .wired(0)
-        .unsplit(0, 0);
+        .listed(0, &[(0, 0)]);
     state.good
 }
 
 fn both(first: State, second: State) -> bool {
-    if first.good { second.good } else { false }
+    first.good && second.good
 }

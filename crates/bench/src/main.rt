@@ -6,25 +6,22 @@ mod cases;
 mod looks;
 mod state;
 
-// One letter's line.
-fn show(rt: &impl Print, letter: u8, good: bool) {
-    let _ = if good {
-        rt.write_all(&[letter, b' ', b'o', b'k', b'\n'])
-    } else {
-        rt.write_all(&[letter, b' ', b'b', b'a', b'd', b'\n'])
-    };
+// One letter's line. What cannot be written is left out.
+fn show(rt: &impl Print, letter: char, good: bool) {
+    let word = if good { "ok" } else { "bad" };
+    let _ = println!(rt; "{letter} {word}");
 }
 
 fn main(rt: HostRuntime) {
-    show(&rt, b'A', cases::case_a());
-    show(&rt, b'B', cases::case_b());
-    show(&rt, b'C', cases::case_c());
-    show(&rt, b'D', cases::case_d());
-    show(&rt, b'E', cases::case_e());
-    show(&rt, b'F', cases::case_f());
-    show(&rt, b'G', cases::case_g());
-    show(&rt, b'H', cases::case_h());
-    show(&rt, b'I', cases::case_i());
-    show(&rt, b'J', cases::case_j());
-    show(&rt, b'K', cases::case_k());
+    show(&rt, 'A', cases::case_a());
+    show(&rt, 'B', cases::case_b());
+    show(&rt, 'C', cases::case_c());
+    show(&rt, 'D', cases::case_d());
+    show(&rt, 'E', cases::case_e());
+    show(&rt, 'F', cases::case_f());
+    show(&rt, 'G', cases::case_g());
+    show(&rt, 'H', cases::case_h());
+    show(&rt, 'I', cases::case_i());
+    show(&rt, 'J', cases::case_j());
+    show(&rt, 'K', cases::case_k());
 }

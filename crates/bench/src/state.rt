@@ -1,8 +1,9 @@
 // A graph with the answers that it gave so far, each held to the one expected.
 ghost use Rattle.multiportgraph.specs.WellFormed.{MultiWf};
 
-use crate::looks::{has_wires, lists, lists_one};
-use multiportgraph::multiportgraph::{MultiPortGraph, SetAnswer};
+use crate::looks::{has_wires, lists};
+use multi_tables::answers::{Refusal, SubportLink};
+use multiportgraph::multiportgraph::MultiPortGraph;
 use port_tables::release::Release;
 use records::answers::Answer5;
 use records::ask::{ask, empty, resize};
@@ -14,40 +15,28 @@ pub struct State {
     pub good: bool,
 }
 
-// Whether an answer has these five words.
-fn is_answer(answer: Answer5, words: [u32; 5]) -> bool {
-    if answer.a != words[0] {
-        return false;
-    }
-    if answer.b != words[1] {
-        return false;
-    }
-    if answer.c != words[2] {
-        return false;
-    }
-    if answer.d != words[3] {
-        return false;
-    }
-    answer.e == words[4]
+// The requests, with their codes.
+#[derive(Clone, Copy)]
+pub(crate) enum Code {
+    Add = 1,
+    Remove = 2,
+    Resize = 3,
+    Link = 4,
+    Unlink = 5,
+    SubportLink = 8,
+    Counts = 9,
 }
 
-// Whether a move list has these six numbers.
-fn are_moves(moves: &[u32; 6], numbers: &[u32; 6]) -> bool {
-    let mut at: usize = 0;
-    while at < 6 {
-        if moves[at] != numbers[at] {
-            return false;
-        }
-        at += 1;
-    }
-    true
+// Whether an answer has these five words.
+fn is_answer(answer: Answer5, words: [u32; 5]) -> bool {
+    [answer.a, answer.b, answer.c, answer.d, answer.e] == words
 }
 
 // Whether a resize was done with so many events.
-fn was_set(answer: SetAnswer, count: usize) -> bool {
+fn was_set(answer: Result<usize, Refusal>, count: usize) -> bool {
     match answer {
-        SetAnswer::Set(events) => events == count,
-        SetAnswer::Refused(_) => false,
+        Ok(events) => events == count,
+        Err(_) => false,
     }
 }
 
@@ -67,21 +56,18 @@ impl State {
         requires { MultiWf self.graph }
         ensures { MultiWf result.graph }
     {
-        if !holds {
-            self.good = false;
-        }
+        self.good = self.good && holds;
         self
     }
 
     // A request, a code with its arguments, and its answer: 0 or the refusal, then values.
-    pub(crate) fn asked(self, request: [u32; 5], words: [u32; 5]) -> Self
+    pub(crate) fn asked(self, code: Code, arguments: [u32; 4], words: [u32; 5]) -> Self
         requires { MultiWf self.graph }
         ensures { MultiWf result.graph }
     {
         let graph = self.graph;
-        let told = ask(
-            graph, request[0], request[1], request[2], request[3], request[4],
-        );
+        let [a, b, c, d] = arguments;
+        let told = ask(graph, code as u32, a, b, c, d);
         let after = told.graph;
         let answer = told.answer;
         let state = State {
@@ -112,18 +98,16 @@ impl State {
             graph: after,
             good: self.good,
         };
-        state
-            .with(was_set(answer, events))
-            .with(are_moves(&moves, numbers))
+        state.with(was_set(answer, events)).with(moves == *numbers)
     }
 
-    // The three subports of a node, a port and an offset each.
-    pub(crate) fn listed(self, node: u32, numbers: &[u32; 6]) -> Self
+    // The subports of a node, a port and an offset each.
+    pub(crate) fn listed(self, node: u32, subports: &[(u32, u32)]) -> Self
         requires { MultiWf self.graph }
         ensures { MultiWf result.graph }
     {
         let graph = self.graph;
-        self.with(lists(graph, node, numbers))
+        self.with(lists(graph, node, subports))
     }
 
     // The number of all wires.
@@ -133,14 +117,5 @@ impl State {
     {
         let graph = self.graph;
         self.with(has_wires(graph, count))
-    }
-
-    // The one port of a node, which is not split.
-    pub(crate) fn unsplit(self, node: u32, port: u32) -> Self
-        requires { MultiWf self.graph }
-        ensures { MultiWf result.graph }
-    {
-        let graph = self.graph;
-        self.with(lists_one(graph, node, port))
     }
 }

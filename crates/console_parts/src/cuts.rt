@@ -1,38 +1,28 @@
 // Cuts, and what a subport is linked with: the end that is found, and where it stands.
 ghost use Rattle.multiportgraph.specs.WellFormed.{MultiWf};
 
-use crate::orders::UNLINK;
+use crate::orders::{Command, Order};
 use crate::replies::show_refusal;
-use lines::orders::Order;
 use lines::show::Line;
-use multi_tables::answers::{CutAnswer, SubportIndex};
+use multi_tables::answers::{PortPlace, Refusal, SubportIndex};
 use multiportgraph::multiportgraph::{MultiPortGraph, PortUnlinked};
-use port_tables::direction::Direction;
 use port_tables::index::PortIndex;
 use records::ask::{cut_port, cut_subport};
 
-// 0 incoming, 1 outgoing.
-pub(crate) fn side_number(side: Direction) -> u32 {
-    match side {
-        Direction::Incoming => 0,
-        Direction::Outgoing => 1,
-    }
-}
-
-fn show_found(rt: &impl Print, answer: CutAnswer) {
+fn show_found(rt: &impl Print, answer: Result<Option<(SubportIndex, PortPlace)>, Refusal>) {
     match answer {
-        CutAnswer::Found(end, place) => {
+        Ok(Some((end, place))) => {
             let side = place.side;
             Line::of(b"ok 1")
                 .number(end.port.0)
                 .number(end.subport_offset as u32)
                 .number(place.node.0)
-                .number(side_number(side))
+                .number(side.index())
                 .number(place.position as u32)
                 .write(rt);
         }
-        CutAnswer::Nothing => Line::of(b"ok 0 0 0").write(rt),
-        CutAnswer::Refused(refusal) => show_refusal(rt, refusal),
+        Ok(None) => Line::of(b"ok 0 0 0").write(rt),
+        Err(refusal) => show_refusal(rt, refusal),
     }
 }
 
@@ -40,7 +30,7 @@ fn unlinked(graph: MultiPortGraph, order: Order) -> PortUnlinked
     requires { MultiWf graph }
     ensures { MultiWf result.graph }
 {
-    if order.command == UNLINK {
+    if order.command == Command::Unlink {
         return cut_port(graph, order.number(0));
     }
     cut_subport(graph, order.number(0), order.offset(1))

@@ -1,42 +1,40 @@
 // A file read whole, and the wiring that it holds.
 ghost use Rattle.multiportgraph.specs.WellFormed.{MultiWf};
 
-use crate::replies::{show_refusal, show_refusal_number};
-use crate::store::{path_of, put_text, show_failure};
-use files::load::{LoadAnswer, load};
-use lines::orders::Order;
+use crate::orders::Order;
+use crate::replies::{Reason, show_refusal, show_refusal_number};
+use crate::store::{path_of, show_failure};
+use files::load::{LoadError, load};
 use lines::show::write_bytes;
-use lines::text::{Span, next_word, part};
+use lines::text::{next_word, part};
 use multiportgraph::multiportgraph::MultiPortGraph;
 use std::fs::Files;
 use std::io::{ErrorKind, Read};
 use std::{fs, io};
 
-// The most bytes of a file that is read, and of one read of it.
-pub(crate) const FILE_ROOM: usize = 65536;
+// Room for the most bytes of a file that is read, and for one more, which shows that there are more.
+pub(crate) const FILE_ROOM: usize = 65537;
 
-const CHUNK: usize = 4096;
-
-// Reads a file to its end, and tells how many bytes it has.
-fn read_all<I: Read>(file: &mut I, buffer: &mut [u8]) -> io::Result<usize> {
-    let mut chunk = [0u8; CHUNK];
+// Reads a file to its end.
+// Stays a while: each read says itself how far it came. Stays beside the `read_full` of a replay, which takes what came before a failed read; here that is an error.
+fn read_all<'a, I: Read>(file: &mut I, buffer: &'a mut [u8]) -> io::Result<&'a [u8]> {
     let mut len: usize = 0;
-    while len <= FILE_ROOM {
-        let count = file.read(&mut chunk)?;
+    while len < buffer.len() {
+        let count = file.read(&mut buffer[len..])?;
         if count == 0 {
-            return Ok(len);
+            return Ok(&buffer[..len]);
         }
-        if FILE_ROOM - len < count {
-            return Err(io::Error::from(ErrorKind::FileTooLarge));
-        }
-        put_text(buffer, len, &chunk[..count]);
         len += count;
     }
     Err(io::Error::from(ErrorKind::FileTooLarge))
 }
 
 // Reads the file of a name.
-pub(crate) fn read_file(rt: &impl Files, name: &[u8], buffer: &mut [u8]) -> io::Result<usize> {
+pub(crate) fn read_file<'a>(
+    rt: &impl Files,
+    name: &[u8],
+    buffer: &'a mut [u8],
+) -> io::Result<&'a [u8]> {
     let mut file = fs::open(rt, path_of(name)?)?;
     read_all(&mut file, buffer)
 }
@@ -54,30 +52,29 @@ pub fn load_from(
 {
     let name = part(text, next_word(text, order.from));
     let mut buffer = [0u8; FILE_ROOM];
-    let len = match read_file(rt, name, &mut buffer) {
-        Ok(len) => len,
+    let bytes = match read_file(rt, name, &mut buffer) {
+        Ok(bytes) => bytes,
         Err(error) => {
             show_failure(rt, b"cannot read ", name, error);
             return graph;
         }
     };
-    let bytes = part(&buffer, Span { from: 0, to: len });
     let loaded = load(graph.release(), bytes);
     let answer = loaded.answer;
     match answer {
-        LoadAnswer::Loaded => {
+        Ok(()) => {
             write_bytes(rt, b"ok\n");
             loaded.graph
         }
-        LoadAnswer::BadSums => {
-            show_refusal_number(rt, 16);
+        Err(LoadError::BadSums) => {
+            show_refusal_number(rt, Reason::BadSums);
             graph
         }
-        LoadAnswer::BadLayout => {
-            show_refusal_number(rt, 17);
+        Err(LoadError::BadLayout) => {
+            show_refusal_number(rt, Reason::BadLayout);
             graph
         }
-        LoadAnswer::Refused(refusal) => {
+        Err(LoadError::Refused(refusal)) => {
             show_refusal(rt, refusal);
             graph
         }

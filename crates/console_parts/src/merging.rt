@@ -1,17 +1,17 @@
 // Two files as one, under a third name.
 use crate::fetch::{FILE_ROOM, read_file};
-use crate::replies::{show_refusal, show_refusal_number};
+use crate::orders::Order;
+use crate::replies::{Reason, show_refusal, show_refusal_number};
 use crate::store::{show_failure, write_wiring};
-use files::merge::{MergeAnswer, merge};
+use files::merge::{MergeError, merge};
 use files::save::LONGEST_FILE;
-use lines::orders::Order;
 use lines::text::{Span, next_word, part};
 use std::fs::Files;
 
-// Reads the file of a name, and tells how many bytes it has, or says why it cannot be read.
-fn fetch(rt: &(impl Files + Print), name: &[u8], buffer: &mut [u8]) -> Option<usize> {
+// Reads the file of a name, or says why it cannot be read.
+fn fetch<'a>(rt: &(impl Files + Print), name: &[u8], buffer: &'a mut [u8]) -> Option<&'a [u8]> {
     match read_file(rt, name, buffer) {
-        Ok(len) => Some(len),
+        Ok(bytes) => Some(bytes),
         Err(error) => {
             show_failure(rt, b"cannot read ", name, error);
             None
@@ -23,13 +23,13 @@ fn fetch(rt: &(impl Files + Print), name: &[u8], buffer: &mut [u8]) -> Option<us
 fn merge_read<'a>(rt: &(impl Files + Print), first: &'a [u8], second: &'a [u8], name: &'a [u8]) {
     let mut result = [0u8; LONGEST_FILE];
     match merge(first, second, &mut result) {
-        MergeAnswer::Merged(len) => {
+        Ok(len) => {
             write_wiring(rt, name, part(&result, Span { from: 0, to: len }));
         }
-        MergeAnswer::BadSums => show_refusal_number(rt, 16),
-        MergeAnswer::BadLayout => show_refusal_number(rt, 17),
-        MergeAnswer::Refused(refusal) => show_refusal(rt, refusal),
-        MergeAnswer::BufferShort => show_refusal_number(rt, 15),
+        Err(MergeError::BadSums) => show_refusal_number(rt, Reason::BadSums),
+        Err(MergeError::BadLayout) => show_refusal_number(rt, Reason::BadLayout),
+        Err(MergeError::Refused(refusal)) => show_refusal(rt, refusal),
+        Err(MergeError::BufferShort) => show_refusal_number(rt, Reason::BufferShort),
     }
 }
 
@@ -39,17 +39,12 @@ pub fn merge_as(rt: &(impl Files + Print), order: Order, text: &[u8]) {
     let second = next_word(text, first.to);
     let third = next_word(text, second.to);
     let mut buffer = [0u8; FILE_ROOM];
-    let Some(len) = fetch(rt, part(text, first), &mut buffer) else {
+    let Some(bytes) = fetch(rt, part(text, first), &mut buffer) else {
         return;
     };
     let mut buffer_2 = [0u8; FILE_ROOM];
-    let Some(len_2) = fetch(rt, part(text, second), &mut buffer_2) else {
+    let Some(bytes_2) = fetch(rt, part(text, second), &mut buffer_2) else {
         return;
     };
-    merge_read(
-        rt,
-        part(&buffer, Span { from: 0, to: len }),
-        part(&buffer_2, Span { from: 0, to: len_2 }),
-        part(text, third),
-    );
+    merge_read(rt, bytes, bytes_2, part(text, third));
 }

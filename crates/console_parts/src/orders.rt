@@ -1,126 +1,108 @@
-// What a line asks for: the commands, by number, and a row for each that says how it is typed.
-use lines::orders::{Order, order_by};
+// What a line asks for: the commands, and how each is typed.
+use lines::orders::order_by;
 use lines::rows::row_of;
 use lines::text::next_word;
 
-// A command's number is the line of its row, from 1; the requests have their codes.
-pub const ADD: u32 = 1;
+// The requests have their codes.
+#[derive(Clone, Copy, PartialEq, Eq)]
+pub enum Command {
+    Add = 1,
+    Remove,
+    Resize,
+    Link,
+    Unlink,
+    LinkSub,
+    UnlinkSub,
+    SubLink,
+    Counts,
+    FanOut,
+    BlockFanOut,
+    Blocks,
+    Subports,
+    Links,
+    Back,
+    NodeLinks,
+    Neighbours,
+    Connections,
+    Wires,
+    Places,
+    Sheet,
+    LinkClean,
+    Save,
+    Load,
+    New,
+    Tidy,
+    Slots,
+    Help,
+    Quit,
+    Merge,
+    Time,
+    Longest,
+    Path,
+    RunOrder,
+}
 
-pub const REMOVE: u32 = 2;
+// A command with its numbers. Stays without its text, which goes beside it: most commands need the numbers alone, and names are words of the text.
+pub type Order = lines::orders::Order<Command>;
 
-pub const RESIZE: u32 = 3;
-
-pub const LINK: u32 = 4;
-
-pub const UNLINK: u32 = 5;
-
-pub const LINKSUB: u32 = 6;
-
-pub const UNLINKSUB: u32 = 7;
-
-pub const SUBLINK: u32 = 8;
-
-pub const COUNTS: u32 = 9;
-
-pub const FANOUT: u32 = 10;
-
-pub const BLOCKFANOUT: u32 = 11;
-
-pub const BLOCKS: u32 = 12;
-
-pub(crate) const SUBPORTS: u32 = 13;
-
-pub(crate) const LINKS: u32 = 14;
-
-pub(crate) const BACK: u32 = 15;
-
-pub(crate) const NODELINKS: u32 = 16;
-
-pub(crate) const NEIGHBOURS: u32 = 17;
-
-pub(crate) const CONNECTIONS: u32 = 18;
-
-pub const WIRES: u32 = 19;
-
-pub const PLACES: u32 = 20;
-
-pub const SHEET: u32 = 21;
-
-pub const LINKCLEAN: u32 = 22;
-
-pub const SAVE: u32 = 23;
-
-pub const LOAD: u32 = 24;
-
-pub const NEW: u32 = 25;
-
-pub const TIDY: u32 = 26;
-
-pub const SLOTS: u32 = 27;
-
-pub const HELP: u32 = 28;
-
-pub const QUIT: u32 = 29;
-
-pub const MERGE: u32 = 30;
-
-pub const TIME: u32 = 31;
-
-pub const LONGEST: u32 = 32;
-
-pub const PATH: u32 = 33;
-
-pub const RUNORDER: u32 = 34;
+const COMMANDS: [(Command, &'static [u8]); 34] = [
+    (Command::Add, b"add IN OUT"),
+    (Command::Remove, b"remove N"),
+    (Command::Resize, b"resize N IN OUT"),
+    (Command::Link, b"link A B"),
+    (Command::Unlink, b"unlink P"),
+    (Command::LinkSub, b"linksub P O Q R"),
+    (Command::UnlinkSub, b"unlinksub P O"),
+    (Command::SubLink, b"sublink P O"),
+    (Command::Counts, b"counts"),
+    (Command::FanOut, b"fanout P"),
+    (Command::BlockFanOut, b"blockfanout N"),
+    (Command::Blocks, b"blocks"),
+    (Command::Subports, b"subports N SIDE"),
+    (Command::Links, b"links P"),
+    (Command::Back, b"back P"),
+    (Command::NodeLinks, b"nodelinks N SIDE LO HI"),
+    (Command::Neighbours, b"neighbours N SIDE FLAG"),
+    (Command::Connections, b"connections N M"),
+    (Command::Wires, b"wires"),
+    (Command::Places, b"places"),
+    (Command::Sheet, b"sheet A B A B .."),
+    (Command::LinkClean, b"linkclean A B"),
+    (Command::Save, b"save NAME"),
+    (Command::Load, b"load NAME"),
+    (Command::New, b"new RELEASE"),
+    (Command::Tidy, b"tidy P"),
+    (Command::Slots, b"slots"),
+    (Command::Help, b"help"),
+    (Command::Quit, b"quit"),
+    (Command::Merge, b"merge NAME NAME NAME"),
+    (Command::Time, b"time SLOT MICROSECONDS"),
+    (Command::Longest, b"longest N"),
+    (Command::Path, b"path N"),
+    (Command::RunOrder, b"runorder N N .."),
+];
 
 // How many numbers an entry of a command's list has; 0 where it has no list.
-fn entry_size(command: u32) -> usize {
+fn entry_size(command: Command) -> usize {
     match command {
-        SHEET => 2,
-        RUNORDER => 1,
+        Command::Sheet => 2,
+        Command::RunOrder => 1,
         _ => 0,
     }
 }
 
-// The order of a line that was heard.
-pub fn order_of(rt: &impl Print, text: &[u8], line: u64) -> Order {
-    let table = b"\
-add IN OUT
-remove N
-resize N IN OUT
-link A B
-unlink P
-linksub P O Q R
-unlinksub P O
-sublink P O
-counts
-fanout P
-blockfanout N
-blocks
-subports N SIDE
-links P
-back P
-nodelinks N SIDE LO HI
-neighbours N SIDE FLAG
-connections N M
-wires
-places
-sheet A B A B ..
-linkclean A B
-save NAME
-load NAME
-new RELEASE
-tidy P
-slots
-help
-quit
-merge NAME NAME NAME
-time SLOT MICROSECONDS
-longest N
-path N
-runorder N N ..
-";
+// The order of a line that was heard; where it is none, what is wrong with it is said. Stays in both consoles: commands and list sizes are each one's own, and the rest is
+// `order_by`.
+pub fn order_of(rt: &impl Print, text: &[u8], line: u64) -> Option<Order> {
     let first = next_word(text, 0);
-    let row = row_of(table, text, first);
-    let size = entry_size(row.number);
-    order_by(rt, table, row, size, text, first.to, line)
+    let (command, usage) = row_of(rt, &COMMANDS, text, first, line)?;
+    order_by(
+        rt,
+        command,
+        usage,
+        entry_size(command),
+        text,
+        first.to,
+        line,
+    )
 }

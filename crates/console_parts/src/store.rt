@@ -2,12 +2,11 @@
 // is there.
 ghost use Rattle.multiportgraph.specs.WellFormed.{MultiWf};
 
-use crate::replies::{show_number, show_refusal_number};
-use files::save::{LONGEST_FILE, SaveAnswer, save};
-use lines::orders::Order;
-use lines::reading::put_byte;
+use crate::orders::Order;
+use crate::replies::{Reason, show_number, show_refusal_number};
+use files::save::{BufferShort, LONGEST_FILE, save};
 use lines::show::write_bytes;
-use lines::text::{Span, byte_at, next_word, part};
+use lines::text::{Span, next_word, part};
 use multiportgraph::multiportgraph::MultiPortGraph;
 use std::fs::{Files, OpenFile, OpenOptions, Permissions};
 use std::io::{ErrorKind, Write};
@@ -17,8 +16,8 @@ use std::{fs, io, str};
 // The longest path of the system, with its end.
 const PATH_MAX: usize = 4096;
 
-// The length of the name under which a file is made, and how many such names there are: it ends in six digits.
-const MADE_NAME: usize = 14;
+// The name under which a file is made, and how many such names there are: it ends in six digits.
+const MADE_NAME: &'static [u8] = b".wiring-XXXXXX";
 
 const DIGITS: usize = 6;
 
@@ -28,7 +27,7 @@ const MADE_NAMES: u32 = 1000000;
 const EIO: i32 = 5;
 
 // The system's reason, in plain words.
-fn show_reason(rt: &impl Print, error: io::Error) {
+fn show_system(rt: &impl Print, error: io::Error) {
     if let Some(EIO) = error.raw_os_error() {
         write_bytes(rt, b"the disk does not answer as it should");
         return;
@@ -53,42 +52,20 @@ pub(crate) fn show_failure(rt: &impl Print, what: &[u8], name: &[u8], error: io:
     write_bytes(rt, what);
     write_bytes(rt, name);
     write_bytes(rt, b"  # ");
-    show_reason(rt, error);
+    show_system(rt, error);
     write_bytes(rt, b"\n");
 }
 
 // A name as a path, which is text: no other file can be asked for.
 pub(crate) fn path_of(name: &[u8]) -> io::Result<&str> {
-    match str::from_utf8(name) {
-        Ok(path) => Ok(path),
-        Err(_) => Err(io::Error::from(ErrorKind::InvalidInput)),
-    }
+    str::from_utf8(name).map_err(|_| io::Error::from(ErrorKind::InvalidInput))
 }
 
-// The length of a path's folder, with the slash after it; 0 for none.
-fn folder_len(path: &[u8]) -> usize {
-    let mut len = path.len();
-    while 0 < len {
-        if byte_at(path, len - 1) == b'/' {
-            return len;
-        }
-        len -= 1;
-    }
-    0
-}
-
-// Copies a text into a path from a place on.
-pub(crate) fn put_text(path: &mut [u8], at: usize, text: &[u8]) {
-    let mut i: usize = 0;
-    while i < text.len() {
-        if path.len() <= at {
-            return;
-        }
-        if path.len() - at <= i {
-            return;
-        }
-        put_byte(path, at + i, byte_at(text, i));
-        i += 1;
+// A path's folder, with the slash after it; empty for none.
+fn folder_of(path: &[u8]) -> &[u8] {
+    match path.iter().rposition(|byte| *byte == b'/') {
+        Some(at) => &path[..=at],
+        None => &[],
     }
 }
 
@@ -113,13 +90,11 @@ fn sync_folder(rt: &impl Files, folder: &[u8]) {
     }
 }
 
-// Puts the last digits of a number before a place of a path.
-fn put_digits(path: &mut [u8], end: usize, number: u32) {
+// Puts the last digits of a number at the end of a path.
+fn put_digits(path: &mut [u8], number: u32) {
     let mut left = number;
-    for count in 1..DIGITS + 1 {
-        if count <= end {
-            put_byte(path, end - count, b'0' + (left % 10) as u8);
-        }
+    for place in path.iter_mut().rev().take(DIGITS) {
+        *place = b'0' + (left % 10) as u8;
         left /= 10;
     }
 }
@@ -131,11 +106,11 @@ fn open_new<R: Files>(rt: &R, path: &[u8]) -> io::Result<R::File> {
     options.open(rt, path_of(path)?)
 }
 
-// Makes a file under a new name, which ends what is given of a path: the first number in its last places that no file has.
-fn make_file<R: Files>(rt: &R, path: &mut [u8], len: usize) -> io::Result<R::File> {
+// Makes a file under a new name: the first number in the last places of a path that no file has.
+fn make_file<R: Files>(rt: &R, path: &mut [u8]) -> io::Result<R::File> {
     for number in 0..MADE_NAMES {
-        put_digits(path, len, number);
-        match open_new(rt, part(path, Span { from: 0, to: len })) {
+        put_digits(path, number);
+        match open_new(rt, path) {
             Ok(file) => return Ok(file),
             Err(error) => {
                 if error.kind() != ErrorKind::AlreadyExists {
@@ -171,21 +146,21 @@ fn settle(rt: &impl Files, filled: io::Result<()>, made: &[u8], name: &[u8]) -> 
 
 // Writes a file; where that fails, the file of that name is as it was.
 fn write_file(rt: &impl Files, name: &[u8], bytes: &[u8]) -> io::Result<()> {
-    let end = folder_len(name);
-    let folder = part(name, Span { from: 0, to: end });
-    if PATH_MAX - MADE_NAME < end {
+    let folder = folder_of(name);
+    let end = folder.len();
+    if PATH_MAX - MADE_NAME.len() < end {
         return Err(io::Error::from(ErrorKind::InvalidFilename));
     }
-    let mut path = [0u8; PATH_MAX];
-    let len = end + MADE_NAME;
-    put_text(&mut path, 0, folder);
-    put_text(&mut path, end, b".wiring-XXXXXX");
-    let mut file = make_file(rt, &mut path, len)?;
+    let mut room = [0u8; PATH_MAX];
+    let path = &mut room[..end + MADE_NAME.len()];
+    path[..end].copy_from_slice(folder);
+    path[end..].copy_from_slice(MADE_NAME);
+    let mut file = make_file(rt, path)?;
     // A disk that knows no such rights refuses this, which does no harm.
     let _ = file.set_permissions(Permissions::from_mode(0o644));
     let filled = fill_file(&mut file, bytes);
     drop(file);
-    settle(rt, filled, part(&path, Span { from: 0, to: len }), name)?;
+    settle(rt, filled, path, name)?;
     sync_folder(rt, folder);
     Ok(())
 }
@@ -205,9 +180,9 @@ pub fn save_as(rt: &(impl Files + Print), graph: MultiPortGraph, order: Order, t
     let name = part(text, next_word(text, order.from));
     let mut buffer = [0u8; LONGEST_FILE];
     match save(graph, &mut buffer) {
-        SaveAnswer::Saved(len) => {
+        Ok(len) => {
             write_wiring(rt, name, part(&buffer, Span { from: 0, to: len }));
         }
-        SaveAnswer::BufferShort => show_refusal_number(rt, 15),
+        Err(BufferShort) => show_refusal_number(rt, Reason::BufferShort),
     }
 }

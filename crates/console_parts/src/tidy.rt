@@ -1,10 +1,10 @@
 // A port is tidied: no wire changes its place.
 ghost use Rattle.multiportgraph.specs.WellFormed.{MultiWf};
 
+use crate::orders::Order;
 use crate::replies::show_refusal;
-use lines::orders::Order;
 use lines::show::write_bytes;
-use multiportgraph::multiportgraph::{MultiPortGraph, TidyAnswer};
+use multiportgraph::multiportgraph::MultiPortGraph;
 use records::ask::tidy_port;
 
 // A command that tidies a port.
@@ -15,8 +15,8 @@ pub fn tidy(rt: &impl Print, graph: MultiPortGraph, order: Order) -> MultiPortGr
     let done = tidy_port(graph, order.number(0));
     let answer = done.answer;
     match answer {
-        TidyAnswer::Tidied => write_bytes(rt, b"ok\n"),
-        TidyAnswer::Refused(refusal) => show_refusal(rt, refusal),
+        Ok(()) => write_bytes(rt, b"ok\n"),
+        Err(refusal) => show_refusal(rt, refusal),
     }
     done.graph
 }

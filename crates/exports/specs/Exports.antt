@@ -1,5 +1,5 @@
 -- What the entries over files return and leave in the lent buffer. They are of release 1, as record runs are.
-use Rattle.std.specs.Prelude.{Bool, cond, ℕ, ◌+◌, ◌%◌, eqb, leb, length, get_or}
+use Rattle.std.specs.Prelude.{Bool, cond, ℕ, ◌+◌, ◌%◌, eqb, leb, length, get_or, Result, Ok, Err}
 use mathlib.Core.List.{List, [], ◌∷◌, ◌++◌, flat_map}
 use Rattle.multiportgraph.specs.declared.multiportgraph.MultiPortGraph.{MultiPortGraph}
 use Rattle.port_tables.specs.declared.release.Release.TheVariants.{One}
@@ -12,10 +12,9 @@ use Rattle.files.specs.Loading.{out_port, in_port, load_answer, load_numbers}
 use Rattle.files.specs.BuildList.{if_loaded}
 use Rattle.files.specs.Merging.{merge_answer, merge_numbers}
 use Rattle.files.specs.Saving.{save_answer, save_buffer}
-use Rattle.files.specs.declared.merge.MergeAnswer.{MergeAnswer}
-use Rattle.files.specs.declared.merge.MergeAnswer.TheVariants as merge
-use Rattle.files.specs.declared.save.SaveAnswer.{SaveAnswer}
-use Rattle.files.specs.declared.save.SaveAnswer.TheVariants.{Saved, BufferShort}
+use Rattle.files.specs.declared.merge.MergeError.{MergeError}
+use Rattle.files.specs.declared.merge.MergeError.TheVariants as merge
+use Rattle.files.specs.declared.save.BufferShort.{BufferShort}
 
 -- a refusal is told above every length
 abbrev pub refused_with : ℕ → ℕ
@@ -29,9 +28,9 @@ graph_left requests = graph_from first_graph (requests_of requests)
 unfoldable pub list_whole : List ℕ → Bool
 list_whole requests = eqb (length requests % 20) 0
 
-abbrev pub save_told : SaveAnswer → ℕ
-save_told (Saved n) = n
-save_told BufferShort = refused_with 15
+abbrev pub save_told : Result ℕ BufferShort → ℕ
+save_told (Ok n) = n
+save_told (Err e) = refused_with 15
 
 unfoldable pub save_return : List ℕ → List ℕ → ℕ
 save_return requests file = cond (list_whole requests) (save_told (save_answer (graph_left requests) file)) (refused_with 1)
@@ -66,12 +65,12 @@ records_written file requests = if_loaded (load_answer One file) (list_after (fi
 
 -- Two files as one: the length of the result, or the number of what merging answers. The buffer is as merging leaves it.
 
-abbrev pub merge_told : MergeAnswer → ℕ
-merge_told (merge.Merged n) = n
-merge_told merge.BadSums = refused_with (get_or (merge_numbers merge.BadSums) 0 0)
-merge_told merge.BadLayout = refused_with (get_or (merge_numbers merge.BadLayout) 0 0)
-merge_told (merge.Refused r) = refused_with (get_or (merge_numbers (merge.Refused r)) 0 0)
-merge_told merge.BufferShort = refused_with (get_or (merge_numbers merge.BufferShort) 0 0)
+abbrev pub merge_told : Result ℕ MergeError → ℕ
+merge_told (Ok n) = n
+merge_told (Err merge.BadSums) = refused_with (get_or (merge_numbers (Err merge.BadSums)) 0 0)
+merge_told (Err merge.BadLayout) = refused_with (get_or (merge_numbers (Err merge.BadLayout)) 0 0)
+merge_told (Err (merge.Refused r)) = refused_with (get_or (merge_numbers (Err (merge.Refused r))) 0 0)
+merge_told (Err merge.BufferShort) = refused_with (get_or (merge_numbers (Err merge.BufferShort)) 0 0)
 
 unfoldable pub merge_return : List ℕ → List ℕ → List ℕ → ℕ
 merge_return first second file = merge_told (merge_answer first second file)

@@ -1,6 +1,6 @@
 -- The requests that are written of a file are the adds and links of its build, so that a list which begins with them goes on from the
 -- graph that a load of the file gives.
-use Rattle.std.specs.Prelude.{◌≡◌, refl, ℕ, zero, suc, ◌+◌, ◌*◌, ◌/◌, ◌%◌, ◌≤◌, length, get_or}
+use Rattle.std.specs.Prelude.{◌≡◌, refl, ℕ, zero, suc, ◌+◌, ◌*◌, ◌/◌, ◌%◌, ◌≤◌, length, get_or, Result, Ok, is_ok}
 use Rattle.std.proofs.Common.{sym, ◌∙◌, arith, length-append, get_or-append-add}
 use Rattle.std.proofs.Math.Path.{ap}
 use mathlib.Core.List.{List, [], ◌∷◌, ◌++◌, map, flat_map, append-nil}
@@ -15,11 +15,9 @@ use Rattle.records.specs.RunLaws.{run_is_history}
 use Rattle.files.specs.View.{BlockPorts, RankWire, View}
 use Rattle.files.specs.Layout.{unbytes}
 use Rattle.files.specs.Loading.{out_port, in_port, add_of, link_of, build_of, load_answer, graph_if, load_graph, load_graph_under}
-use Rattle.files.specs.LoadForms.{is_loaded}
 use Rattle.files.specs.BuildList.{add_pair, link_pair}
 use Rattle.files.specs.ListingSteps.{loaded_few}
-use Rattle.files.specs.declared.load.LoadAnswer.{LoadAnswer}
-use Rattle.files.specs.declared.load.LoadAnswer.TheVariants.{Loaded}
+use Rattle.files.specs.declared.load.LoadError.{LoadError}
 use Rattle.exports.specs.Exports.{graph_left, build_requests, file_requests}
 use Rattle.exports.specs.LoadedSteps.{pair_requests, build_split, requests_many}
 
@@ -134,11 +132,11 @@ unfolding graph_from
 graph_append m [] k = refl
 graph_append m (q ∷ l) k = graph_append (after m (asked q)) l k
 
-loaded_graph : (file : List ℕ) → load_answer One file ≡ Loaded → load_graph One file ≡ (run One (build_of (unbytes file))).graph
+loaded_graph : (file : List ℕ) → load_answer One file ≡ Ok tt → load_graph One file ≡ (run One (build_of (unbytes file))).graph
 unfolding load_graph_under
-loaded_graph file e = ap (λ (a : LoadAnswer). graph_if One a (run One (build_of (unbytes file))).graph) e
+loaded_graph file e = ap (λ (a : Result (Unit {0}) LoadError). graph_if One a (run One (build_of (unbytes file))).graph) e
 
-module _ (file : List ℕ) (accepted : load_answer One file ≡ Loaded) where
+module _ (file : List ℕ) (accepted : load_answer One file ≡ Ok tt) where
   -- A list that begins with the requests of an accepted file goes on from the graph that its load gives,
   pub list_goes_on_from_the_load : (more : List ℕ) → graph_left (file_requests file ++ more) ≡ graph_from (load_graph One file) (requests_of more)
   list_goes_on_from_the_load more =
@@ -157,7 +155,7 @@ module _ (file : List ℕ) (accepted : load_answer One file ≡ Loaded) where
   pub requests_are_short : length (file_requests file) ≤ 51200
   requests_are_short =
       let v = unbytes file in
-      let f = loaded_few One file (ap is_loaded accepted) in
+      let f = loaded_few One file (ap is_ok accepted) in
       let a = ap length (build_split v) ∙ length-append (pair_requests 1 (flat_map add_pair v.blocks)) (pair_requests 4 (flat_map (link_pair v.blocks) v.wires)) in
       let b = requests_many 1 add_pair (λ x. refl) v.blocks in
       let c = requests_many 4 (link_pair v.blocks) (λ x. refl) v.wires in

@@ -1,22 +1,22 @@
 -- What the proofs of the entries for times cite.
-use Rattle.std.specs.Prelude.{◌≡◌, List, ℕ, ◌%◌, ◌≤◌, ◌<◌, length}
+use Rattle.std.specs.Prelude.{◌≡◌, List, ℕ, ◌%◌, ◌≤◌, ◌<◌, length, Result, Ok}
 use Rattle.std.proofs.Math.Path.{refl, ap}
 use Rattle.std.proofs.Common.{eq-eqb, ne_eqb, le-leb}
 use Rattle.std.proofs.lemmas.Bool.{lt-leb}
 use Rattle.multiportgraph.specs.declared.multiportgraph.MultiPortGraph.{MultiPortGraph}
 use Rattle.timing.specs.Longest.{longest_of}
 use Rattle.timing.specs.Path.{path_listed, path_after}
-use Rattle.timing.specs.declared.answers.LongestAnswer.TheVariants.{Longest}
+use Rattle.timing.specs.declared.answers.LongestError.{LongestError}
 use Rattle.timing.specs.declared.answers.PathListed.{PathListed}
 use Rattle.exports.specs.Exports.{refused_with, graph_left, list_whole}
 use Rattle.exports.specs.Timed.{longest_told, longest_return, path_told, path_return, path_written}
 
 -- A path with a sum: its blocks, or 15.
-module _ (p : PathListed) (room s : ℕ) (found : p.answer ≡ Longest s) where
-  pub path_short : room < p.blocks → refused_with 15 ≡ path_told p room
+module _ {x : Result PathListed LongestError} (p : PathListed) (room : ℕ) (found : x ≡ Ok p) where
+  pub path_short : room < p.blocks → refused_with 15 ≡ path_told x room
   path_short h = rw (found, lt-leb p.blocks room h) refl
 
-  pub path_fits : p.blocks ≤ room → p.blocks ≡ path_told p room
+  pub path_fits : p.blocks ≤ room → p.blocks ≡ path_told x room
   path_fits h = rw (found, le-leb p.blocks room h) refl
 
 -- The entry for the sum.

@@ -28,8 +28,8 @@ use Rattle.exports.specs.Viewed.{view_words, view_bytes, view_told, view_return,
 
 -- Words laid one after the other.
 
-pub words_begin : (l : List ℕ) (at : ℕ) (words : List ℕ) → Writing l at (bytes_of words) l at (bytes_of (drop 0 words))
-words_begin l at words = record { counted = refl; same = refl; long = refl }
+pub words_begin : (l : List ℕ) (at : ℕ) (words : List ℕ) → Writing l at (bytes_of words) l (at + 4 * 0) (bytes_of (drop 0 words))
+words_begin l at words = let e : at + 4 * 0 ≡ at = omega arith in record { counted = omega arith; same = ap (λ (p : ℕ). sets l p (bytes_of words)) e; long = refl }
 
 module _ (words : List ℕ) (i : ℕ) {l₀ l : List ℕ} {at p : ℕ} (w : Writing l₀ at (bytes_of words) l p (bytes_of (drop i words))) where
   none_left : length words ≤ i → bytes_of (drop i words) ≡ []
@@ -58,8 +58,8 @@ module _ (words : List ℕ) (i : ℕ) {l₀ l : List ℕ} {at p : ℕ} (w : Writ
     pub word_fits : at + 4 * length words ≤ length l₀ → p + 4 ≤ length l
     word_fits k = let a = w.counted in let b = counted_on in let c = w.long in let d = bytes_long words in omega arith
 
-    pub word_turn : {l' : List ℕ} → l' ≡ sets l p (bytes_of (get_or words i 0 ∷ [])) → Writing l₀ at (bytes_of words) l' (p + 4) (bytes_of (drop (i + 1) words))
-    word_turn {l'} e =
+    pub word_turn : {l' : List ℕ} {next : ℕ} → next ≡ p + 4 → l' ≡ sets l p (bytes_of (get_or words i 0 ∷ [])) → Writing l₀ at (bytes_of words) l' next (bytes_of (drop (i + 1) words))
+    word_turn {l'} {next} q e =
         let u = bytes_of (get_or words i 0 ∷ []) in
         let a = w.counted in
         let b = counted_on in
@@ -67,7 +67,7 @@ module _ (words : List ℕ) (i : ℕ) {l₀ l : List ℕ} {at p : ℕ} (w : Writ
         record {
           counted = omega arith;
           same =
-              (λ j. sets (e j) (p + sym n j) (bytes_of (drop (i + 1) words)))
+              (λ j. sets (e j) ((q ∙ ap (λ (k : ℕ). p + k) (sym n)) j) (bytes_of (drop (i + 1) words)))
               ∙ (sets_append l p u (bytes_of (drop (i + 1) words)) ∙ (ap (sets l p) (sym word_on) ∙ w.same));
           long = ap length e ∙ (length-sets l p u ∙ w.long);
         }

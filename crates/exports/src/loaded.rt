@@ -1,26 +1,16 @@
 // A file in, the adds and links that build its wiring out, as requests.
-ghost use Rattle.std.specs.Prelude.{◌≡◌, [], ◌∷◌, ◌+◌, ◌≤◌, length, get_or};
+ghost use Rattle.std.specs.Prelude.{◌≡◌, [], ◌∷◌, ◌+◌, ◌≤◌, length, get_or, Err};
 ghost use Rattle.std.proofs.lemmas.List.Edits.{sets};
 ghost use Rattle.records.specs.Words.{bytes_of};
 ghost use Rattle.files.specs.Loading.{load_numbers};
-ghost use Rattle.exports.specs.Exports.{records_return, records_written};
+ghost use Rattle.exports.specs.Exports.{refused_with, records_return, records_written};
 ghost use Rattle.exports.specs.LoadedSteps.{pair_requests};
 
+use crate::told::{BAD_LAYOUT, BAD_SUMS, BUFFER_SHORT, refusal_told};
 use files::listing::{BUILD_NUMBERS, list_build};
-use files::load::LoadAnswer;
+use files::load::LoadError;
 use port_tables::release::Release;
-use records::answers::refusal_words;
-
-// Lays a word's four bytes from a byte position on.
-pub(crate) fn put_word(bytes: &mut [u8], i: usize, word: u32)
-    requires { i + 4 ≤ length bytes.old }
-    ensures { bytes.new ≡ sets bytes.old i (bytes_of (word ∷ [])) }
-{
-    bytes[i] = (word % 256) as u8;
-    bytes[i + 1] = (word / 256 % 256) as u8;
-    bytes[i + 2] = (word / 65536 % 256) as u8;
-    bytes[i + 3] = (word / 16777216) as u8;
-}
+use records::words::put_word;
 
 // Lays a request of two arguments.
 fn put_request(requests: &mut [u8], at: usize, code: u32, a: u32, b: u32)
@@ -40,28 +30,26 @@ fn put_requests(requests: &mut [u8], at: usize, code: u32, numbers: &[u32]) -> u
     ensures { (result ≡ at + length (pair_requests code numbers.now))
         × (requests.new ≡ sets requests.old at (pair_requests code numbers.now)) }
 {
-    let mut next = at;
-    let mut rest = numbers;
-    while 1 < rest.len() {
-        put_request(requests, next, code, rest[0], rest[1]);
-        next += 20;
-        rest = &rest[2..];
+    for k in 0..numbers.len() / 2 {
+        put_request(
+            requests,
+            at + 20 * k,
+            code,
+            numbers[2 * k],
+            numbers[2 * k + 1],
+        );
     }
-    next
+    at + 20 * (numbers.len() / 2)
 }
 
-// 01's number of a load's answer; 0 for an accepted one.
-fn load_number(answer: LoadAnswer) -> u64
-    ensures { result ≡ get_or (load_numbers answer) 0 0 }
+// A refused load, as one number.
+fn error_told(error: LoadError) -> u64
+    ensures { result ≡ refused_with (get_or (load_numbers (Err error)) 0 0) }
 {
-    match answer {
-        LoadAnswer::Loaded => 0,
-        LoadAnswer::BadSums => 16,
-        LoadAnswer::BadLayout => 17,
-        LoadAnswer::Refused(refusal) => {
-            let words = refusal_words(refusal);
-            words.a as u64
-        }
+    match error {
+        LoadError::BadSums => BAD_SUMS,
+        LoadError::BadLayout => BAD_LAYOUT,
+        LoadError::Refused(refusal) => refusal_told(refusal),
     }
 }
 
@@ -73,17 +61,15 @@ pub fn records_of_file(file: &[u8], requests: &mut [u8]) -> u64
         × (requests.new ≡ records_written file.now requests.old) }
 {
     let mut numbers = [0u32; BUILD_NUMBERS];
-    let listed = list_build(Release::One, file, &mut numbers);
-    let answer = listed.answer;
-    let number = load_number(answer);
-    if number != 0 {
-        return 4294967296 + number;
-    }
+    let listed = match list_build(Release::One, file, &mut numbers) {
+        Ok(listed) => listed,
+        Err(error) => return error_told(error),
+    };
     let blocks = listed.blocks;
     let wires = listed.wires;
     let size = 20 * (blocks + wires);
     if requests.len() < size {
-        return 4294967311;
+        return BUFFER_SHORT;
     }
     let first = 2 * blocks;
     let last = 2 * (blocks + wires);

@@ -3,22 +3,19 @@ ghost use Rattle.std.specs.Prelude.{◌≡◌};
 ghost use Rattle.files.specs.Merging.{merge_buffer};
 ghost use Rattle.exports.specs.Exports.{merge_told, merge_return};
 
-use files::merge::{MergeAnswer, merge};
-use records::answers::refusal_words;
+use crate::told::{BAD_LAYOUT, BAD_SUMS, BUFFER_SHORT, refusal_told};
+use files::merge::{MergeError, merge};
 
 // What merging comes to, as one number.
-fn merge_told(answer: MergeAnswer) -> u64
+fn merge_told(answer: Result<usize, MergeError>) -> u64
     ensures { result ≡ merge_told answer }
 {
     match answer {
-        MergeAnswer::Merged(size) => size as u64,
-        MergeAnswer::BadSums => 4294967312,
-        MergeAnswer::BadLayout => 4294967313,
-        MergeAnswer::Refused(refusal) => {
-            let words = refusal_words(refusal);
-            4294967296 + words.a as u64
-        }
-        MergeAnswer::BufferShort => 4294967311,
+        Ok(size) => size as u64,
+        Err(MergeError::BadSums) => BAD_SUMS,
+        Err(MergeError::BadLayout) => BAD_LAYOUT,
+        Err(MergeError::Refused(refusal)) => refusal_told(refusal),
+        Err(MergeError::BufferShort) => BUFFER_SHORT,
     }
 }
 

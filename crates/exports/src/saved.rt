@@ -2,20 +2,18 @@
 ghost use Rattle.std.specs.Prelude.{◌≡◌};
 ghost use Rattle.exports.specs.Exports.{save_told, save_return, save_written};
 
-use files::save::{SaveAnswer, save_lent};
-use multiportgraph::lent::no_totals;
-use port_tables::index::{FREE_LISTS, NODE_SLOTS, PORT_SLOTS};
-use port_tables::lent::NODE_WORDS;
+use crate::left::Left;
+use crate::told::{BAD_LENGTH, BUFFER_SHORT};
+use files::save::{BufferShort, save_lent};
 use port_tables::release::Release;
-use records::lent::run_tables;
 
 // What saving comes to, as one number.
-fn save_told(answer: SaveAnswer) -> u64
+fn save_told(answer: Result<usize, BufferShort>) -> u64
     ensures { result ≡ save_told answer }
 {
     match answer {
-        SaveAnswer::Saved(size) => size as u64,
-        SaveAnswer::BufferShort => 4294967311,
+        Ok(size) => size as u64,
+        Err(BufferShort) => BUFFER_SHORT,
     }
 }
 
@@ -26,25 +24,18 @@ pub fn save_records(requests: &[u8], file: &mut [u8]) -> u64
         × (file.new ≡ save_written requests.now file.old) }
 {
     if requests.len() % 20 != 0 {
-        return 4294967297;
+        return BAD_LENGTH;
     }
-    let mut nodes = [0u32; NODE_WORDS];
-    let mut links = [0u32; PORT_SLOTS];
-    let mut owners = [0u32; PORT_SLOTS];
-    let mut heads = [0u32; FREE_LISTS];
-    let mut marks = [false; PORT_SLOTS];
-    let mut flags = [false; NODE_SLOTS];
-    let totals = run_tables(
-        &mut nodes,
-        &mut links,
-        &mut owners,
-        &mut heads,
-        &mut marks,
-        &mut flags,
-        no_totals(Release::One),
-        requests,
-    );
+    let mut left = Left::new(Release::One);
+    left.run(requests);
     save_told(save_lent(
-        &nodes, &links, &owners, &heads, &marks, &flags, totals, file,
+        &left.nodes,
+        &left.links,
+        &left.owners,
+        &left.heads,
+        &left.marks,
+        &left.flags,
+        left.totals,
+        file,
     ))
 }

@@ -1,74 +1,70 @@
 // A list of requests and a time for each node slot in; out the largest sum of times along wires that end at a block, or a path that has it.
-ghost use Rattle.std.specs.Prelude.{◌≡◌};
+ghost use Rattle.std.specs.Prelude.{◌≡◌, Err};
 ghost use Rattle.multiportgraph.specs.WellFormed.{MultiWf};
 ghost use Rattle.exports.specs.Exports.{graph_left};
 ghost use Rattle.exports.specs.Timed.{longest_told, longest_return, path_told, path_return, path_written};
 
-use multiportgraph::lent::no_totals;
+use crate::left::Left;
+use crate::told::{BAD_LENGTH, BAD_TIMES, BUFFER_SHORT, CYCLE, refusal_told};
 use multiportgraph::lent_graph::graph_of_tables;
 use multiportgraph::multiportgraph::MultiPortGraph;
-use port_tables::index::{FREE_LISTS, NODE_SLOTS, NodeIndex, PORT_SLOTS};
-use port_tables::lent::NODE_WORDS;
+use port_tables::index::NodeIndex;
 use port_tables::release::Release;
-use records::answers::refusal_words;
-use records::lent::run_tables;
-use timing::answers::{LongestAnswer, PathListed};
+use timing::answers::{LongestError, PathListed};
 use timing::longest::{longest, path};
 
-// The graph that a list of requests leaves.
+// The graph that a list of requests leaves. Not inlined: the tables then do not lie on the stack while its wires are walked.
+#[inline(never)]
 fn graph_left(requests: &[u8]) -> MultiPortGraph
     ensures { (result ≡ graph_left requests.now) × MultiWf result }
 {
-    let mut nodes = [0u32; NODE_WORDS];
-    let mut links = [0u32; PORT_SLOTS];
-    let mut owners = [0u32; PORT_SLOTS];
-    let mut heads = [0u32; FREE_LISTS];
-    let mut marks = [false; PORT_SLOTS];
-    let mut flags = [false; NODE_SLOTS];
-    let totals = run_tables(
-        &mut nodes,
-        &mut links,
-        &mut owners,
-        &mut heads,
-        &mut marks,
-        &mut flags,
-        no_totals(Release::One),
-        requests,
-    );
-    graph_of_tables(&nodes, &links, &owners, &heads, &marks, &flags, totals)
+    let mut left = Left::new(Release::One);
+    left.run(requests);
+    graph_of_tables(
+        &left.nodes,
+        &left.links,
+        &left.owners,
+        &left.heads,
+        &left.marks,
+        &left.flags,
+        left.totals,
+    )
+}
+
+// A question without a largest sum, as one number.
+fn error_told(error: LongestError) -> u64
+    ensures { result ≡ longest_told (Err error) }
+{
+    match error {
+        LongestError::Refused(refusal) => refusal_told(refusal),
+        LongestError::BadTimes => BAD_TIMES,
+        LongestError::Cycle => CYCLE,
+    }
 }
 
 // What a question for the largest sum comes to, as one number.
-fn longest_told(answer: LongestAnswer) -> u64
+fn longest_told(answer: Result<u32, LongestError>) -> u64
     ensures { result ≡ longest_told answer }
 {
     match answer {
-        LongestAnswer::Longest(sum) => sum as u64,
-        LongestAnswer::Refused(refusal) => {
-            let words = refusal_words(refusal);
-            4294967296 + words.a as u64
-        }
-        LongestAnswer::BadTimes => 4294967315,
-        LongestAnswer::Cycle => 4294967316,
+        Ok(sum) => sum as u64,
+        Err(error) => error_told(error),
     }
 }
 
 // What a question for a path comes to, as one number: its blocks, or 15 if there is no room for so many.
-fn path_told(listed: PathListed, room: usize) -> u64
+fn path_told(listed: Result<PathListed, LongestError>, room: usize) -> u64
     ensures { result ≡ path_told listed room }
 {
-    let blocks = listed.blocks;
-    let answer = listed.answer;
-    match answer {
-        LongestAnswer::Longest(_) => {
+    match listed {
+        Ok(path) => {
+            let blocks = path.blocks;
             if room < blocks {
-                return 4294967311;
+                return BUFFER_SHORT;
             }
             blocks as u64
         }
-        LongestAnswer::Refused(_) => longest_told(answer),
-        LongestAnswer::BadTimes => longest_told(answer),
-        LongestAnswer::Cycle => longest_told(answer),
+        Err(error) => error_told(error),
     }
 }
 
@@ -79,7 +75,7 @@ pub fn longest_of_records<'a>(requests: &'a [u8], times: &'a [u16], block: u32) 
     ensures { result ≡ longest_return requests.now times.now block }
 {
     if requests.len() % 20 != 0 {
-        return 4294967297;
+        return BAD_LENGTH;
     }
     longest_told(longest(graph_left(requests), NodeIndex(block), times))
 }
@@ -96,7 +92,7 @@ pub fn path_of_records<'a>(
         × (list.new ≡ path_written requests.now times.now block list.old) }
 {
     if requests.len() % 20 != 0 {
-        return 4294967297;
+        return BAD_LENGTH;
     }
     let room = list.len();
     path_told(

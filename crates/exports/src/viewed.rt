@@ -2,20 +2,20 @@
 ghost use Rattle.std.specs.Prelude.{◌≡◌, [], ◌∷◌, ◌+◌, ◌*◌, ◌≤◌, length};
 ghost use Rattle.std.proofs.lemmas.List.Edits.{sets};
 ghost use Rattle.multiportgraph.specs.WellFormed.{MultiWf};
-ghost use Rattle.multiportgraph.specs.MultiLent.{multi_in};
 ghost use Rattle.multiportgraph.specs.Calls.{visible_nodes, visible_links};
 ghost use Rattle.multiportgraph.specs.Listed.{blocks_listed, wires_listed, list_after};
 ghost use Rattle.records.specs.Words.{bytes_of};
+ghost use Rattle.exports.specs.Left.{graph_in};
 ghost use Rattle.exports.specs.Viewed.{view_bytes, view_told, view_return, view_written};
 
-use crate::loaded::put_word;
-use multiportgraph::lent::{Totals, link_count_lent, no_totals, node_count_lent};
+use crate::left::Left;
+use crate::told::{BAD_LENGTH, BUFFER_SHORT};
+use multiportgraph::lent::{link_count_lent, node_count_lent};
 use multiportgraph::list_blocks::blocks_lent;
 use multiportgraph::list_wires::wires_lent;
-use port_tables::index::{FREE_LISTS, NODE_SLOTS, PORT_SLOTS};
-use port_tables::lent::NODE_WORDS;
+use port_tables::index::{NODE_SLOTS, PORT_SLOTS};
 use port_tables::release::Release;
-use records::lent::run_tables;
+use records::words::put_word;
 
 // So many words the blocks take at most, and the wires, of which each has two port slots.
 const BLOCK_WORDS: usize = 4 * NODE_SLOTS;
@@ -27,89 +27,74 @@ fn put_words(bytes: &mut [u8], at: usize, words: &[u32])
     requires { at + 4 * length words.now ≤ length bytes.old }
     ensures { bytes.new ≡ sets bytes.old at (bytes_of words.now) }
 {
-    let mut next = at;
-    let mut i: usize = 0;
-    while i < words.len() {
-        put_word(bytes, next, words[i]);
-        next += 4;
-        i += 1;
+    for (i, word) in words.iter().enumerate() {
+        put_word(bytes, at + 4 * i, *word);
     }
 }
 
 // Lays the blocks of lent tables from a byte position on.
-fn put_blocks<'a>(
-    nodes: &'a [u32; NODE_WORDS],
-    links: &'a [u32; PORT_SLOTS],
-    owners: &'a [u32; PORT_SLOTS],
-    heads: &'a [u32; FREE_LISTS],
-    marks: &'a [bool; PORT_SLOTS],
-    flags: &'a [bool; NODE_SLOTS],
-    totals: Totals,
-    view: &mut [u8],
-    at: usize,
-)
-    requires { MultiWf (multi_in nodes.now links.now owners.now heads.now marks.now flags.now totals)
-        × (at + 16 * visible_nodes (multi_in nodes.now links.now owners.now heads.now marks.now flags.now totals) ≤ length view.old) }
-    ensures { view.new ≡ sets view.old at (bytes_of (blocks_listed (multi_in nodes.now links.now owners.now heads.now marks.now flags.now totals))) }
+fn put_blocks(left: &Left, view: &mut [u8], at: usize)
+    requires { MultiWf (graph_in left.now)
+        × (at + 16 * visible_nodes (graph_in left.now) ≤ length view.old) }
+    ensures { view.new ≡ sets view.old at (bytes_of (blocks_listed (graph_in left.now))) }
 {
     let mut list = [0u32; BLOCK_WORDS];
-    let count = node_count_lent(totals);
-    blocks_lent(nodes, links, owners, heads, marks, flags, totals, &mut list);
+    let count = node_count_lent(left.totals);
+    // The list is long enough, so all are written.
+    let _ = blocks_lent(
+        &left.nodes,
+        &left.links,
+        &left.owners,
+        &left.heads,
+        &left.marks,
+        &left.flags,
+        left.totals,
+        &mut list,
+    );
     let end = 4 * count;
     put_words(view, at, &list[..end]);
 }
 
 // Lays the wires of lent tables from a byte position on.
-fn put_wires<'a>(
-    nodes: &'a [u32; NODE_WORDS],
-    links: &'a [u32; PORT_SLOTS],
-    owners: &'a [u32; PORT_SLOTS],
-    heads: &'a [u32; FREE_LISTS],
-    marks: &'a [bool; PORT_SLOTS],
-    flags: &'a [bool; NODE_SLOTS],
-    totals: Totals,
-    view: &mut [u8],
-    at: usize,
-)
-    requires { MultiWf (multi_in nodes.now links.now owners.now heads.now marks.now flags.now totals)
-        × (at + 32 * visible_links (multi_in nodes.now links.now owners.now heads.now marks.now flags.now totals) ≤ length view.old) }
-    ensures { view.new ≡ sets view.old at (bytes_of (wires_listed (multi_in nodes.now links.now owners.now heads.now marks.now flags.now totals))) }
+fn put_wires(left: &Left, view: &mut [u8], at: usize)
+    requires { MultiWf (graph_in left.now)
+        × (at + 32 * visible_links (graph_in left.now) ≤ length view.old) }
+    ensures { view.new ≡ sets view.old at (bytes_of (wires_listed (graph_in left.now))) }
 {
     let mut list = [0u32; WIRE_WORDS];
-    let count = link_count_lent(totals);
-    wires_lent(nodes, links, owners, heads, marks, flags, totals, &mut list);
+    let count = link_count_lent(left.totals);
+    // The list is long enough, so all are written.
+    let _ = wires_lent(
+        &left.nodes,
+        &left.links,
+        &left.owners,
+        &left.heads,
+        &left.marks,
+        &left.flags,
+        left.totals,
+        &mut list,
+    );
     let end = 8 * count;
     put_words(view, at, &list[..end]);
 }
 
 // Writes the view of lent tables and answers its length, or 4,294,967,296 and 15 if the buffer is too short, which then stays as it was.
-fn view_in<'a>(
-    nodes: &'a [u32; NODE_WORDS],
-    links: &'a [u32; PORT_SLOTS],
-    owners: &'a [u32; PORT_SLOTS],
-    heads: &'a [u32; FREE_LISTS],
-    marks: &'a [bool; PORT_SLOTS],
-    flags: &'a [bool; NODE_SLOTS],
-    totals: Totals,
-    view: &mut [u8],
-) -> u64
-    requires { MultiWf (multi_in nodes.now links.now owners.now heads.now marks.now flags.now totals) }
-    ensures { (result ≡ view_told (multi_in nodes.now links.now owners.now heads.now marks.now flags.now totals) view.old)
-        × (view.new ≡ list_after (view_bytes (multi_in nodes.now links.now owners.now heads.now marks.now flags.now totals)) view.old) }
+fn view_in(left: &Left, view: &mut [u8]) -> u64
+    requires { MultiWf (graph_in left.now) }
+    ensures { (result ≡ view_told (graph_in left.now) view.old)
+        × (view.new ≡ list_after (view_bytes (graph_in left.now)) view.old) }
 {
-    let blocks = node_count_lent(totals);
-    let wires = link_count_lent(totals);
+    let blocks = node_count_lent(left.totals);
+    let wires = link_count_lent(left.totals);
     let second = 8 + 16 * blocks;
     let size = second + 32 * wires;
     if view.len() < size {
-        return 4294967311;
+        return BUFFER_SHORT;
     }
     put_word(view, 0, blocks as u32);
     put_word(view, 4, wires as u32);
-    put_blocks(nodes, links, owners, heads, marks, flags, totals, view, 8);
-    put_wires(
-        nodes, links, owners, heads, marks, flags, totals, view, second,
-    );
+    put_blocks(left, view, 8);
+    put_wires(left, view, second);
     size as u64
 }
 
@@ -122,25 +107,9 @@ pub fn view_of_records(requests: &[u8], view: &mut [u8]) -> u64
         × (view.new ≡ view_written requests.now view.old) }
 {
     if requests.len() % 20 != 0 {
-        return 4294967297;
+        return BAD_LENGTH;
     }
-    let mut nodes = [0u32; NODE_WORDS];
-    let mut links = [0u32; PORT_SLOTS];
-    let mut owners = [0u32; PORT_SLOTS];
-    let mut heads = [0u32; FREE_LISTS];
-    let mut marks = [false; PORT_SLOTS];
-    let mut flags = [false; NODE_SLOTS];
-    let totals = run_tables(
-        &mut nodes,
-        &mut links,
-        &mut owners,
-        &mut heads,
-        &mut marks,
-        &mut flags,
-        no_totals(Release::One),
-        requests,
-    );
-    view_in(
-        &nodes, &links, &owners, &heads, &marks, &flags, totals, view,
-    )
+    let mut left = Left::new(Release::One);
+    left.run(requests);
+    view_in(&left, view)
 }

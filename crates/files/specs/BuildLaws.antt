@@ -1,5 +1,5 @@
 -- Laws of building: a view whose adds and links are all accepted is the view of the graph that they build.
-use Rattle.std.specs.Prelude.{◌≡◌, refl, Bool, List, [], ◌∷◌, ◌++◌, map, ◌⊎◌, ℕ, zero, suc, ◌+◌, ◌<◌, ltb, length, get_or}
+use Rattle.std.specs.Prelude.{◌≡◌, refl, Bool, List, [], ◌∷◌, ◌++◌, map, ◌⊎◌, ℕ, zero, suc, ◌+◌, ◌<◌, ltb, length, get_or, Result, Ok, Err}
 use Rattle.std.proofs.Common.{sym, ap, ◌∙◌, subst, inl, inr, ⊎_elim, arith}
 use Rattle.port_tables.specs.Lists.{range, filter, Member}
 use Rattle.portgraph.specs.Model.{Model, Slots, count_of, first_of, side_start}
@@ -12,9 +12,6 @@ use Rattle.port_tables.specs.Places.{Wire, spot, flag, next_offset}
 use Rattle.multiportgraph.specs.declared.multiportgraph.MultiPortGraph.{MultiPortGraph}
 use Rattle.port_tables.specs.declared.release.Release.{Release}
 use Rattle.multi_tables.specs.declared.answers.SubportIndex.{SubportIndex}
-use Rattle.multiportgraph.specs.declared.multiportgraph.AddAnswer.TheVariants as add
-use Rattle.multiportgraph.specs.declared.multiportgraph.LinkAnswer.{LinkAnswer}
-use Rattle.multiportgraph.specs.declared.multiportgraph.LinkAnswer.TheVariants as link
 use Rattle.multi_tables.specs.declared.answers.Refusal.{Refusal}
 use Rattle.theorems.specs.Book as book
 use Rattle.theorems.specs.Book.{Call, AnswerOf, Block, Book, empty_book, spot_of, add_wire, book_link}
@@ -32,18 +29,18 @@ use Rattle.files.specs.RankLaws.{same_positions}
 use Rattle.files.specs.ViewLaws.{blocks_viewed, wires_viewed}
 use Rattle.files.specs.WiringLaws.{wires_rise}
 use Rattle.files.specs.NextSlots.{block_from, NextSlots, next_slots}
-use Rattle.files.specs.declared.load.LoadAnswer.{LoadAnswer}
-use Rattle.files.specs.declared.load.LoadAnswer.TheVariants.{Loaded, Refused}
+use Rattle.files.specs.declared.load.LoadError.{LoadError}
+use Rattle.files.specs.declared.load.LoadError.TheVariants.{Refused}
 
 -- The first refusal of a list of calls.
 
 -- an answer lets the list go on, or it is a refusal and stops it
 pub goes_or_stops : (c : Call) (v : AnswerOf c) →
-    ((rest : LoadAnswer) → after_call c v rest ≡ rest) ⊎ ((r : Refusal) × RefusedBy c v r × ((rest : LoadAnswer) → after_call c v rest ≡ Refused r))
-goes_or_stops (book.add_call i o) (add.Added n p) = inl (λ rest. refl)
-goes_or_stops (book.add_call i o) (add.Refused r) = inr (r, refl, λ rest. refl)
-goes_or_stops (book.link_call a b) (link.Linked s t) = inl (λ rest. refl)
-goes_or_stops (book.link_call a b) (link.Refused r) = inr (r, refl, λ rest. refl)
+    ((rest : Result (Unit {0}) LoadError) → after_call c v rest ≡ rest) ⊎ ((r : Refusal) × RefusedBy c v r × ((rest : Result (Unit {0}) LoadError) → after_call c v rest ≡ Err (Refused r)))
+goes_or_stops (book.add_call i o) (Ok (n, p)) = inl (λ rest. refl)
+goes_or_stops (book.add_call i o) (Err r) = inr (r, refl, λ rest. refl)
+goes_or_stops (book.link_call a b) (Ok (s, t)) = inl (λ rest. refl)
+goes_or_stops (book.link_call a b) (Err r) = inr (r, refl, λ rest. refl)
 goes_or_stops (book.remove_call n) v = inl (λ rest. refl)
 goes_or_stops (book.set_call n i o room) v = inl (λ rest. refl)
 goes_or_stops (book.link_clean_call a b) v = inl (λ rest. refl)
@@ -52,11 +49,11 @@ goes_or_stops (book.cut_call p) v = inl (λ rest. refl)
 goes_or_stops (book.cut_sub_call p o) v = inl (λ rest. refl)
 goes_or_stops (book.tidy_call p) v = inl (λ rest. refl)
 
-pub refused_not_loaded : (r : Refusal) → Refused r ≡ Loaded → ⊥
+pub refused_not_loaded : (r : Refusal) → ◌≡◌ {A = Result (Unit {0}) LoadError} (Err (Refused r)) (Ok tt) → ⊥
 refused_not_loaded r e = zero_is_not_one (cc)
 
 -- all of two lists are accepted: all of the first, and then all of the second
-pub accepted_apart : (s : State) (a b : List Call) → first_refusal s.graph (a ++ b) ≡ Loaded → (first_refusal s.graph a ≡ Loaded) × (first_refusal (run_from s a).graph b ≡ Loaded)
+pub accepted_apart : (s : State) (a b : List Call) → first_refusal s.graph (a ++ b) ≡ Ok tt → (first_refusal s.graph a ≡ Ok tt) × (first_refusal (run_from s a).graph b ≡ Ok tt)
 unfolding first_refusal_under run_from_under
 accepted_apart s [] b e = (refl, e)
 accepted_apart s (c ∷ a) b e =
@@ -146,14 +143,14 @@ abbrev alike : (ℕ → ℕ) → RankWire → Wire → Bool
 alike rank x w = same_wire (rank_wire rank w) x
 
 module _ (s : State) {M : Model} (r : Rel s.graph M s.book) (bs : List BlockPorts) (has : HasAll bs s.book) (w : RankWire) (runs : Runs bs w)
-    (x y : SubportIndex) (q : (step s.graph (link_of bs w)).answer ≡ link.Linked x y) where
+    (x y : SubportIndex) (q : (step s.graph (link_of bs w)).answer ≡ Ok (x, y)) where
   linked_blocks : (next s (link_of bs w)).book.blocks ≡ s.book.blocks
-  linked_blocks = ap (λ (a : LinkAnswer). (book_link s.book (out_port bs w) (in_port bs w) a).blocks) q
+  linked_blocks = ap (λ (a : Result (SubportIndex × SubportIndex) Refusal). (book_link s.book (out_port bs w) (in_port bs w) a).blocks) q
 
   linked_count : (rank : ℕ → ℕ) → rank w.source ≡ w.source → rank w.target ≡ w.target → (z : RankWire) →
       count (alike rank z) (next s (link_of bs w)).book.wires ≡ flag (same_wire w z) + count (alike rank z) s.book.wires
   linked_count rank a b z =
-      let e = ap (λ (v : LinkAnswer). (book_link s.book (out_port bs w) (in_port bs w) v).wires) q in
+      let e = ap (λ (v : Result (SubportIndex × SubportIndex) Refusal). (book_link s.book (out_port bs w) (in_port bs w) v).wires) q in
       let f = source_spot r bs has w runs in
       let g = target_spot r bs has w runs in
       let o = next_offset s.book.wires (spot_of s.book.blocks (out_port bs w)) in
@@ -168,18 +165,18 @@ pub record LinksEntered (s : State) (bs : List BlockPorts) (ws : List RankWire) 
   pub wires : (z : RankWire) → count (alike rank z) (run_from s (map (link_of bs) ws)).book.wires ≡ how_many same_wire z ws + count (alike rank z) s.book.wires
 
 pub links_entered : (bs : List BlockPorts) (rank : ℕ → ℕ) → ((n : ℕ) → n < length bs → rank n ≡ n) → (ws : List RankWire) → ((w : RankWire) → Member w ws → Runs bs w) →
-    (s : State) (M : Model) → Rel s.graph M s.book → HasAll bs s.book → first_refusal s.graph (map (link_of bs) ws) ≡ Loaded → LinksEntered s bs ws rank
+    (s : State) (M : Model) → Rel s.graph M s.book → HasAll bs s.book → first_refusal s.graph (map (link_of bs) ws) ≡ Ok tt → LinksEntered s bs ws rank
 unfolding first_refusal_under run_from_under
 links_entered bs rank same [] runs s M r has e = record { blocks = refl; wires = λ z. omega arith }
 links_entered bs rank same (w ∷ ws) runs s M r has e =
     go (links_entered bs rank same ws (λ v i. runs v (inr i)) (next s (link_of bs w))) (step s.graph (link_of bs w)).answer refl e
   where
     go : ((N : Model) → Rel (next s (link_of bs w)).graph N (next s (link_of bs w)).book → HasAll bs (next s (link_of bs w)).book →
-        first_refusal (next s (link_of bs w)).graph (map (link_of bs) ws) ≡ Loaded → LinksEntered (next s (link_of bs w)) bs ws rank) →
-        (a : LinkAnswer) → (step s.graph (link_of bs w)).answer ≡ a →
-        after_call (link_of bs w) a (first_refusal (step s.graph (link_of bs w)).graph (map (link_of bs) ws)) ≡ Loaded → LinksEntered s bs (w ∷ ws) rank
-    go others (link.Refused c) q k = absurd (refused_not_loaded c k)
-    go others (link.Linked x y) q k =
+        first_refusal (next s (link_of bs w)).graph (map (link_of bs) ws) ≡ Ok tt → LinksEntered (next s (link_of bs w)) bs ws rank) →
+        (a : Result (SubportIndex × SubportIndex) Refusal) → (step s.graph (link_of bs w)).answer ≡ a →
+        after_call (link_of bs w) a (first_refusal (step s.graph (link_of bs w)).graph (map (link_of bs) ws)) ≡ Ok tt → LinksEntered s bs (w ∷ ws) rank
+    go others (Err c) q k = absurd (refused_not_loaded c k)
+    go others (Ok (x, y)) q k =
         let here = runs w (inl refl) in
         let b = linked_blocks s r bs has w here x y q in
         let l = rel_step r (link_of bs w) in
@@ -201,12 +198,12 @@ rank_by_blocks B C n e = ap (λ (l : List Block). length (filter (λ (b : Block)
 pub sound_runs : (v : View) → Sound v → (w : RankWire) → Member w v.wires → Runs v.blocks w
 sound_runs v s w i = (s.source w i, s.output w i, s.target w i, s.input w i)
 
-module _ (release : Release) (v : View) (sound : Sound v) (e : first_refusal (empty_graph release) (build_of v) ≡ Loaded) where
-  adds_accepted : first_refusal (empty_graph release) (map add_of v.blocks) ≡ Loaded
+module _ (release : Release) (v : View) (sound : Sound v) (e : first_refusal (empty_graph release) (build_of v) ≡ Ok tt) where
+  adds_accepted : first_refusal (empty_graph release) (map add_of v.blocks) ≡ Ok tt
   unfolding build_of
   adds_accepted = (accepted_apart (record { graph = empty_graph release; book = empty_book }) (map add_of v.blocks) (map (link_of v.blocks) v.wires) e).0
 
-  links_accepted : first_refusal (run release (map add_of v.blocks)).graph (map (link_of v.blocks) v.wires) ≡ Loaded
+  links_accepted : first_refusal (run release (map add_of v.blocks)).graph (map (link_of v.blocks) v.wires) ≡ Ok tt
   unfolding build_of run_under
   links_accepted = (accepted_apart (record { graph = empty_graph release; book = empty_book }) (map add_of v.blocks) (map (link_of v.blocks) v.wires) e).1
 

@@ -1,5 +1,5 @@
 -- When the build of a view is refused: the first block or wire that is not to be had, and why.
-use Rattle.std.specs.Prelude.{◌≡◌, refl, ◌⊎◌, ◌↔◌, ℕ, suc, ◌+◌, ◌≤◌, ◌<◌, length}
+use Rattle.std.specs.Prelude.{◌≡◌, refl, ◌⊎◌, ◌↔◌, ℕ, suc, ◌+◌, ◌≤◌, ◌<◌, length, Result, Ok, Err}
 use Rattle.std.proofs.Common.{sym, ◌∙◌, arith, length-append}
 use Rattle.std.proofs.Math.Path.{ap, subst}
 use mathlib.Core.List.{List, [], ◌∷◌, ◌++◌, map}
@@ -21,11 +21,7 @@ use Rattle.multiportgraph.specs.SpaceLaws.{link_space}
 use Rattle.multiportgraph.specs.declared.multiportgraph.MultiPortGraph.{MultiPortGraph}
 use Rattle.port_tables.specs.declared.release.Release.{Release}
 use Rattle.port_tables.specs.declared.release.Release.TheVariants.{Two}
-use Rattle.multiportgraph.specs.declared.multiportgraph.AddAnswer.{AddAnswer}
-use Rattle.multiportgraph.specs.declared.multiportgraph.AddAnswer.TheVariants as add
 use Rattle.multiportgraph.specs.declared.multiportgraph.NodeAdded.{NodeAdded}
-use Rattle.multiportgraph.specs.declared.multiportgraph.LinkAnswer.{LinkAnswer}
-use Rattle.multiportgraph.specs.declared.multiportgraph.LinkAnswer.TheVariants as link
 use Rattle.multi_tables.specs.declared.answers.Refusal.{Refusal}
 use Rattle.multi_tables.specs.declared.answers.Refusal.TheVariants.{TooManyPorts, NoRoom, InputWired}
 use Rattle.theorems.specs.Book.{Call, AnswerOf, empty_book}
@@ -44,19 +40,22 @@ use Rattle.files.specs.LoadClaims.{with_first, SameInput, SharesInput, BuildRefu
 use Rattle.files.specs.NextSlots.{NoFree, block_from, none_free_at_first, AddsLaid, adds_laid, next_slots}
 use Rattle.files.specs.BuildLaws.{range_known, goes_or_stops, refused_not_loaded, accepted_apart, Runs, HasAll, source_port, target_port, links_entered, sound_runs}
 use Rattle.files.specs.InputLaws.{plain, link_refusals, taken_refused, taken_by, by_taken}
-use Rattle.files.specs.declared.load.LoadAnswer.{LoadAnswer}
-use Rattle.files.specs.declared.load.LoadAnswer.TheVariants.{Loaded, Refused}
+use Rattle.files.specs.declared.load.LoadError.{LoadError}
+use Rattle.files.specs.declared.load.LoadError.TheVariants.{Refused}
+use Rattle.port_tables.specs.declared.index.NodeIndex.{NodeIndex}
+use Rattle.port_tables.specs.declared.index.PortIndex.{PortIndex}
+use Rattle.multi_tables.specs.declared.answers.SubportIndex.{SubportIndex}
 
 -- The first refusal of a list.
 
-same_refusal : {r t : Refusal} → Refused r ≡ Refused t → r ≡ t
+same_refusal : {r t : Refusal} → ◌≡◌ {A = Result (Unit {0}) LoadError} (Err (Refused r)) (Err (Refused t)) → r ≡ t
 same_refusal e = cc
 
-loaded_not_refused : (r : Refusal) → Loaded ≡ Refused r → ⊥
+loaded_not_refused : (r : Refusal) → ◌≡◌ {A = Result (Unit {0}) LoadError} (Ok tt) (Err (Refused r)) → ⊥
 loaded_not_refused r e = zero_is_not_one (cc)
 
 -- a list of calls is accepted or refused
-pub loaded_or_refused : (calls : List Call) (m : MultiPortGraph) → (first_refusal m calls ≡ Loaded) ⊎ ((r : Refusal) × (first_refusal m calls ≡ Refused r))
+pub loaded_or_refused : (calls : List Call) (m : MultiPortGraph) → (first_refusal m calls ≡ Ok tt) ⊎ ((r : Refusal) × (first_refusal m calls ≡ Err (Refused r)))
 unfolding first_refusal_under
 loaded_or_refused [] m = inl refl
 loaded_or_refused (c ∷ l) m =
@@ -66,7 +65,7 @@ loaded_or_refused (c ∷ l) m =
     (goes_or_stops c (step m c).answer)
 
 -- of two lists one after the other
-pub refusal_after : (s : State) (a b : List Call) → first_refusal s.graph a ≡ Loaded → first_refusal s.graph (a ++ b) ≡ first_refusal (run_from s a).graph b
+pub refusal_after : (s : State) (a b : List Call) → first_refusal s.graph a ≡ Ok tt → first_refusal s.graph (a ++ b) ≡ first_refusal (run_from s a).graph b
 unfolding first_refusal_under run_from_under
 refusal_after s [] b e = refl
 refusal_after s (c ∷ a) b e =
@@ -75,7 +74,7 @@ refusal_after s (c ∷ a) b e =
     (λ stops. absurd (refused_not_loaded stops.0 (sym (stops.2 _) ∙ e)))
     (goes_or_stops c (step s.graph c).answer)
 
-pub refusal_before : (s : State) (a b : List Call) (r : Refusal) → first_refusal s.graph a ≡ Refused r → first_refusal s.graph (a ++ b) ≡ Refused r
+pub refusal_before : (s : State) (a b : List Call) (r : Refusal) → first_refusal s.graph a ≡ Err (Refused r) → first_refusal s.graph (a ++ b) ≡ Err (Refused r)
 unfolding first_refusal_under
 refusal_before s [] b r e = absurd (loaded_not_refused r e)
 refusal_before s (c ∷ a) b r e =
@@ -84,8 +83,8 @@ refusal_before s (c ∷ a) b r e =
     (λ stops. stops.2 _ ∙ (sym (stops.2 _) ∙ e))
     (goes_or_stops c (step s.graph c).answer)
 
-refused_apart : (s : State) (a b : List Call) (r : Refusal) → first_refusal s.graph (a ++ b) ≡ Refused r →
-    (first_refusal s.graph a ≡ Refused r) ⊎ ((first_refusal s.graph a ≡ Loaded) × (first_refusal (run_from s a).graph b ≡ Refused r))
+refused_apart : (s : State) (a b : List Call) (r : Refusal) → first_refusal s.graph (a ++ b) ≡ Err (Refused r) →
+    (first_refusal s.graph a ≡ Err (Refused r)) ⊎ ((first_refusal s.graph a ≡ Ok tt) × (first_refusal (run_from s a).graph b ≡ Err (Refused r)))
 refused_apart s a b r e =
     ⊎_elim
     (λ k. inr (k, sym (refusal_after s a b k) ∙ e))
@@ -98,11 +97,11 @@ record Stop {A : Type 0} (f : A → Call) (s : State) (xs : List A) (r : Refusal
   pub item : A
   pub later : List A
   pub is : xs ≡ first ++ (item ∷ later)
-  pub accepted : first_refusal s.graph (map f first) ≡ Loaded
+  pub accepted : first_refusal s.graph (map f first) ≡ Ok tt
   pub refused : RefusedBy (f item) (step (run_from s (map f first)).graph (f item)).answer r
 
 module _ {A : Type 0} (f : A → Call) where
-  first_stop : (xs : List A) (s : State) (r : Refusal) → first_refusal s.graph (map f xs) ≡ Refused r → Stop f s xs r
+  first_stop : (xs : List A) (s : State) (r : Refusal) → first_refusal s.graph (map f xs) ≡ Err (Refused r) → Stop f s xs r
   unfolding first_refusal_under run_from_under
   first_stop [] s r e = absurd (loaded_not_refused r e)
   first_stop (x ∷ xs) s r e =
@@ -132,19 +131,19 @@ module _ {A : Type 0} (f : A → Call) where
   map_append [] b = refl
   map_append (x ∷ a) b = ap (λ (l : List Call). f x ∷ l) (map_append a b)
 
-  stop_refuses : ((x : A) (v : AnswerOf (f x)) (r : Refusal) → RefusedBy (f x) v r → (rest : LoadAnswer) → after_call (f x) v rest ≡ Refused r) →
-      (xs : List A) (s : State) (r : Refusal) → Stop f s xs r → first_refusal s.graph (map f xs) ≡ Refused r
+  stop_refuses : ((x : A) (v : AnswerOf (f x)) (r : Refusal) → RefusedBy (f x) v r → (rest : Result (Unit {0}) LoadError) → after_call (f x) v rest ≡ Err (Refused r)) →
+      (xs : List A) (s : State) (r : Refusal) → Stop f s xs r → first_refusal s.graph (map f xs) ≡ Err (Refused r)
   unfolding first_refusal_under
   stop_refuses stops xs s r t =
       ap (λ (l : List A). first_refusal s.graph (map f l)) t.is
       ∙ (ap (first_refusal s.graph) (map_append t.first (t.item ∷ t.later))
       ∙ (refusal_after s (map f t.first) (map f (t.item ∷ t.later)) t.accepted ∙ stops t.item _ r t.refused _))
 
-add_stops : (b : BlockPorts) (v : AddAnswer) (r : Refusal) → v ≡ add.Refused r → (rest : LoadAnswer) → after_call (add_of b) v rest ≡ Refused r
-add_stops b v r e rest = ap (λ (a : AddAnswer). after_call (add_of b) a rest) e
+add_stops : (b : BlockPorts) (v : Result (NodeIndex × PortIndex) Refusal) (r : Refusal) → v ≡ Err r → (rest : Result (Unit {0}) LoadError) → after_call (add_of b) v rest ≡ Err (Refused r)
+add_stops b v r e rest = ap (λ (a : Result (NodeIndex × PortIndex) Refusal). after_call (add_of b) a rest) e
 
-link_stops : (bs : List BlockPorts) (w : RankWire) (v : LinkAnswer) (r : Refusal) → v ≡ link.Refused r → (rest : LoadAnswer) → after_call (link_of bs w) v rest ≡ Refused r
-link_stops bs w v r e rest = ap (λ (a : LinkAnswer). after_call (link_of bs w) a rest) e
+link_stops : (bs : List BlockPorts) (w : RankWire) (v : Result (SubportIndex × SubportIndex) Refusal) (r : Refusal) → v ≡ Err r → (rest : Result (Unit {0}) LoadError) → after_call (link_of bs w) v rest ≡ Err (Refused r)
+link_stops bs w v r e rest = ap (λ (a : Result (SubportIndex × SubportIndex) Refusal). after_call (link_of bs w) a rest) e
 
 abbrev start : Release → State
 start release = record { graph = empty_graph release; book = empty_book }
@@ -165,7 +164,7 @@ module _ {M : Model} {n p : ℕ} (h : NoFree M n p) (size : ℕ) where
   ends_block : port_slots < p + size → NoBlock M size
   ends_block k = let a = ap (growth size) (h.blocks size) in let b = h.port_len in omega arith
 
-module _ (release : Release) (first : List BlockPorts) (b : BlockPorts) (e : first_refusal (empty_graph release) (map add_of first) ≡ Loaded) where
+module _ (release : Release) (first : List BlockPorts) (b : BlockPorts) (e : first_refusal (empty_graph release) (map add_of first) ≡ Ok tt) where
   before : AddsLaid (start release) 0 0 first
   before = adds_laid first (start release) empty_model 0 0 (fine_empty release) none_free_at_first e
 
@@ -183,7 +182,7 @@ module _ (release : Release) (first : List BlockPorts) (b : BlockPorts) (e : fir
   abbrev AddEnds : Type 0
   AddEnds = (node_slots < suc (length first)) ⊎ (port_slots < first_port first (length first) + (b.incoming + b.outgoing))
 
-  pub add_ends : (r : Refusal) → (add_block (run_from (start release) (map add_of first)).graph b.incoming b.outgoing).answer ≡ add.Refused r →
+  pub add_ends : (r : Refusal) → (add_block (run_from (start release) (map add_of first)).graph b.incoming b.outgoing).answer ≡ Err r →
       ((r ≡ TooManyPorts) × (node_ports < b.incoming + b.outgoing)) ⊎ ((r ≡ NoRoom) × (b.incoming + b.outgoing ≤ node_ports) × AddEnds)
   add_ends r k = go r (add_refused before.fine b.incoming b.outgoing r k)
     where
@@ -193,10 +192,10 @@ module _ (release : Release) (first : List BlockPorts) (b : BlockPorts) (e : fir
       go r (add_full h (inl k)) = inr (refl, h, inl (slot_ends after 0 k))
       go r (add_full h (inr k)) = inr (refl, h, inr (block_ends after (b.incoming + b.outgoing) k))
 
-  many_refused : node_ports < b.incoming + b.outgoing → (add_block (run_from (start release) (map add_of first)).graph b.incoming b.outgoing).answer ≡ add.Refused TooManyPorts
+  many_refused : node_ports < b.incoming + b.outgoing → (add_block (run_from (start release) (map add_of first)).graph b.incoming b.outgoing).answer ≡ Err TooManyPorts
   many_refused h = ap (λ (v : NodeAdded). v.answer) (add_refuses before.fine b.incoming b.outgoing TooManyPorts (add_many h))
 
-  ends_refused : b.incoming + b.outgoing ≤ node_ports → AddEnds → (add_block (run_from (start release) (map add_of first)).graph b.incoming b.outgoing).answer ≡ add.Refused NoRoom
+  ends_refused : b.incoming + b.outgoing ≤ node_ports → AddEnds → (add_block (run_from (start release) (map add_of first)).graph b.incoming b.outgoing).answer ≡ Err NoRoom
   ends_refused h k =
       ap (λ (v : NodeAdded). v.answer)
       (add_refuses before.fine b.incoming b.outgoing NoRoom
@@ -210,13 +209,13 @@ module _ (release : Release) (v : View) (first : List RankWire) where
   unfolding build_of
   part_is = run_append release (map add_of v.blocks) (map (link_of v.blocks) first)
 
-  part_apart : first_refusal (empty_graph release) (build_of (with_first v first)) ≡ Loaded →
-      (first_refusal (empty_graph release) (map add_of v.blocks) ≡ Loaded) × (first_refusal (run release (map add_of v.blocks)).graph (map (link_of v.blocks) first) ≡ Loaded)
+  part_apart : first_refusal (empty_graph release) (build_of (with_first v first)) ≡ Ok tt →
+      (first_refusal (empty_graph release) (map add_of v.blocks) ≡ Ok tt) × (first_refusal (run release (map add_of v.blocks)).graph (map (link_of v.blocks) first) ≡ Ok tt)
   unfolding build_of run_under
   part_apart e = accepted_apart (start release) (map add_of v.blocks) (map (link_of v.blocks) first) e
 
-  part_accepted : first_refusal (empty_graph release) (map add_of v.blocks) ≡ Loaded →
-      first_refusal (run release (map add_of v.blocks)).graph (map (link_of v.blocks) first) ≡ Loaded → first_refusal (empty_graph release) (build_of (with_first v first)) ≡ Loaded
+  part_accepted : first_refusal (empty_graph release) (map add_of v.blocks) ≡ Ok tt →
+      first_refusal (run release (map add_of v.blocks)).graph (map (link_of v.blocks) first) ≡ Ok tt → first_refusal (empty_graph release) (build_of (with_first v first)) ≡ Ok tt
   unfolding build_of run_under
   part_accepted a b = refusal_after (start release) (map add_of v.blocks) (map (link_of v.blocks) first) a ∙ b
 
@@ -226,7 +225,7 @@ record PartBuilt (release : Release) (v : View) (first : List RankWire) : Type 0
   pub entered : (z : RankWire) → count (λ (x : Wire). same_wire (plain x) z) (run release (build_of (with_first v first))).book.wires ≡ how_many same_wire z first
 
 part_built : (release : Release) (v : View) (first : List RankWire) → ((w : RankWire) → Member w first → Runs v.blocks w) →
-    first_refusal (empty_graph release) (build_of (with_first v first)) ≡ Loaded → PartBuilt release v first
+    first_refusal (empty_graph release) (build_of (with_first v first)) ≡ Ok tt → PartBuilt release v first
 part_built release v first runs e =
     let a = part_apart release v first e in
     let s = next_slots release v.blocks a.0 in
@@ -243,7 +242,7 @@ part_built release v first runs e =
 
 -- a wire after the first ones, which are all accepted
 module _ (release : Release) (v : View) (sound : Sound v) (first : List RankWire) (w : RankWire) (later : List RankWire) (is : v.wires ≡ first ++ (w ∷ later))
-    (e : first_refusal (empty_graph release) (build_of (with_first v first)) ≡ Loaded) where
+    (e : first_refusal (empty_graph release) (build_of (with_first v first)) ≡ Ok tt) where
   abbrev state : State
   state = run release (build_of (with_first v first))
 
@@ -269,7 +268,7 @@ module _ (release : Release) (v : View) (sound : Sound v) (first : List RankWire
   TakenHere = Taken state.graph (rel_run release (build_of (with_first v first))).0 (out_port v.blocks w) (in_port v.blocks w)
 
   -- it is refused with 18 or for space,
-  wire_refusals : (r : Refusal) → (link_pair state.graph (out_port v.blocks w) (in_port v.blocks w)).answer ≡ link.Refused r → (TakenHere × (r ≡ InputWired)) ⊎ (r ≡ NoRoom)
+  wire_refusals : (r : Refusal) → (link_pair state.graph (out_port v.blocks w) (in_port v.blocks w)).answer ≡ Err r → (TakenHere × (r ≡ InputWired)) ⊎ (r ≡ NoRoom)
   wire_refusals = link_refusals rel (out_port v.blocks w) (in_port v.blocks w) w.source w.output w.target w.input from into
 
   -- with 18 exactly where one of the first ends at its input, for release 2
@@ -279,7 +278,7 @@ module _ (release : Release) (v : View) (sound : Sound v) (first : List RankWire
       (sym (release_kept release (build_of (with_first v first))) ∙ k.0, k.1.0, k.1.1, (k.1.2, k.1.3))
 
   shared_refused : release ≡ Two → (u : RankWire) → Member u first → SameInput u w →
-      (link_pair state.graph (out_port v.blocks w) (in_port v.blocks w)).answer ≡ link.Refused InputWired
+      (link_pair state.graph (out_port v.blocks w) (in_port v.blocks w)).answer ≡ Err InputWired
   shared_refused two u i (p, q) =
       taken_refused rel (out_port v.blocks w) (in_port v.blocks w) w.source w.output w.target w.input from into
       (by_taken rel (out_port v.blocks w) (in_port v.blocks w) w.source w.output w.target w.input from into first part.entered
@@ -289,9 +288,9 @@ module _ (release : Release) (v : View) (sound : Sound v) (first : List RankWire
 
 module _ (release : Release) (v : View) where
   -- what is refused is a block or a wire
-  build_stops : (r : Refusal) → first_refusal (empty_graph release) (build_of v) ≡ Refused r →
+  build_stops : (r : Refusal) → first_refusal (empty_graph release) (build_of v) ≡ Err (Refused r) →
       Stop add_of (start release) v.blocks r
-      ⊎ ((first_refusal (empty_graph release) (map add_of v.blocks) ≡ Loaded) × Stop (link_of v.blocks) (run release (map add_of v.blocks)) v.wires r)
+      ⊎ ((first_refusal (empty_graph release) (map add_of v.blocks) ≡ Ok tt) × Stop (link_of v.blocks) (run release (map add_of v.blocks)) v.wires r)
   unfolding build_of run_under
   build_stops r e =
       ⊎_elim (λ k. inl (first_stop add_of v.blocks (start release) r k)) (λ k. inr (k.0, first_stop (link_of v.blocks) v.wires (run release (map add_of v.blocks)) r k.1))
@@ -299,15 +298,15 @@ module _ (release : Release) (v : View) where
 
   stops_build : (r : Refusal) →
       Stop add_of (start release) v.blocks r
-      ⊎ ((first_refusal (empty_graph release) (map add_of v.blocks) ≡ Loaded) × Stop (link_of v.blocks) (run release (map add_of v.blocks)) v.wires r) →
-      first_refusal (empty_graph release) (build_of v) ≡ Refused r
+      ⊎ ((first_refusal (empty_graph release) (map add_of v.blocks) ≡ Ok tt) × Stop (link_of v.blocks) (run release (map add_of v.blocks)) v.wires r) →
+      first_refusal (empty_graph release) (build_of v) ≡ Err (Refused r)
   unfolding build_of run_under
   stops_build r (inl t) = refusal_before (start release) (map add_of v.blocks) (map (link_of v.blocks) v.wires) r (stop_refuses add_of add_stops v.blocks (start release) r t)
   stops_build r (inr t) =
       refusal_after (start release) (map add_of v.blocks) (map (link_of v.blocks) v.wires) t.0
       ∙ stop_refuses (link_of v.blocks) (link_stops v.blocks) v.wires (run release (map add_of v.blocks)) r t.1
 
-  wire_refused : Sound v → (r : Refusal) → first_refusal (empty_graph release) (map add_of v.blocks) ≡ Loaded →
+  wire_refused : Sound v → (r : Refusal) → first_refusal (empty_graph release) (map add_of v.blocks) ≡ Ok tt →
       Stop (link_of v.blocks) (run release (map add_of v.blocks)) v.wires r → BuildRefused release v r
   wire_refused sound r a t =
       ⊎_elim
@@ -315,16 +314,16 @@ module _ (release : Release) (v : View) where
       let u = taken_wire release v sound t.first t.item t.later t.is e k.0 in
       subst (BuildRefused release v) (sym k.1) (build_wired t.first t.item t.later t.is e u.0 u.1 u.2 u.3))
       (λ k.
-      let over = (link_space (rel_run release (build_of (with_first v t.first))).1.fine (out_port v.blocks t.item) (in_port v.blocks t.item)).no_room_iff.0 (said ∙ ap link.Refused k) in
+      let over = (link_space (rel_run release (build_of (with_first v t.first))).1.fine (out_port v.blocks t.item) (in_port v.blocks t.item)).no_room_iff.0 (said ∙ ap Err k) in
       subst (BuildRefused release v) (sym k) (build_no_wire t.first t.item t.later t.is e over))
       (wire_refusals release v sound t.first t.item t.later t.is e r said)
     where
-      e : first_refusal (empty_graph release) (build_of (with_first v t.first)) ≡ Loaded
+      e : first_refusal (empty_graph release) (build_of (with_first v t.first)) ≡ Ok tt
       e = part_accepted release v t.first a t.accepted
 
-      said : (link_pair (run release (build_of (with_first v t.first))).graph (out_port v.blocks t.item) (in_port v.blocks t.item)).answer ≡ link.Refused r
+      said : (link_pair (run release (build_of (with_first v t.first))).graph (out_port v.blocks t.item) (in_port v.blocks t.item)).answer ≡ Err r
       said =
-          subst (λ (s : State). (link_pair s.graph (out_port v.blocks t.item) (in_port v.blocks t.item)).answer ≡ link.Refused r)
+          subst (λ (s : State). (link_pair s.graph (out_port v.blocks t.item) (in_port v.blocks t.item)).answer ≡ Err r)
           (sym (part_is release v t.first)) t.refused
 
   block_refused : (r : Refusal) → Stop add_of (start release) v.blocks r → BuildRefused release v r
@@ -336,9 +335,9 @@ module _ (release : Release) (v : View) where
 
   -- a wire that is refused after the first ones stops the build
   wire_stops : (first : List RankWire) (w : RankWire) (later : List RankWire) → v.wires ≡ first ++ (w ∷ later) →
-      first_refusal (empty_graph release) (build_of (with_first v first)) ≡ Loaded → (r : Refusal) →
-      (link_pair (run release (build_of (with_first v first))).graph (out_port v.blocks w) (in_port v.blocks w)).answer ≡ link.Refused r →
-      first_refusal (empty_graph release) (build_of v) ≡ Refused r
+      first_refusal (empty_graph release) (build_of (with_first v first)) ≡ Ok tt → (r : Refusal) →
+      (link_pair (run release (build_of (with_first v first))).graph (out_port v.blocks w) (in_port v.blocks w)).answer ≡ Err r →
+      first_refusal (empty_graph release) (build_of v) ≡ Err (Refused r)
   wire_stops first w later is e r said =
       let a = part_apart release v first e in
       stops_build r
@@ -350,12 +349,12 @@ module _ (release : Release) (v : View) where
           later = later;
           is = is;
           accepted = a.1;
-          refused = subst (λ (s : State). (link_pair s.graph (out_port v.blocks w) (in_port v.blocks w)).answer ≡ link.Refused r) (part_is release v first) said;
+          refused = subst (λ (s : State). (link_pair s.graph (out_port v.blocks w) (in_port v.blocks w)).answer ≡ Err r) (part_is release v first) said;
         },
       ))
 
   -- a build is refused under these conditions,
-  refused_if : Sound v → (r : Refusal) → BuildRefused release v r → first_refusal (empty_graph release) (build_of v) ≡ Refused r
+  refused_if : Sound v → (r : Refusal) → BuildRefused release v r → first_refusal (empty_graph release) (build_of v) ≡ Err (Refused r)
   refused_if sound r (build_many first b later is e h) =
       stops_build TooManyPorts (inl (record { first = first; item = b; later = later; is = is; accepted = e; refused = many_refused release first b e h }))
   refused_if sound r (build_no_block first b later is e h k) =
@@ -365,19 +364,19 @@ module _ (release : Release) (v : View) where
       wire_stops first w later is e NoRoom ((link_space (rel_run release (build_of (with_first v first))).1.fine (out_port v.blocks w) (in_port v.blocks w)).no_room_iff.1 over)
 
   -- and under no others: the first block or wire that is not to be had tells the refusal
-  pub build_refusals : Sound v → (r : Refusal) → (first_refusal (empty_graph release) (build_of v) ≡ Refused r) ↔ BuildRefused release v r
+  pub build_refusals : Sound v → (r : Refusal) → (first_refusal (empty_graph release) (build_of v) ≡ Err (Refused r)) ↔ BuildRefused release v r
   build_refusals sound r = (
     (λ e. ⊎_elim (block_refused r) (λ k. wire_refused sound r k.0 k.1) (build_stops r e)),
     refused_if sound r,
   )
 
 -- where a wire shares its input with one before it the build for release 2 is not accepted
-pub shared_stops : (v : View) → Sound v → SharesInput v.wires → first_refusal (empty_graph Two) (build_of v) ≡ Loaded → ⊥
+pub shared_stops : (v : View) → Sound v → SharesInput v.wires → first_refusal (empty_graph Two) (build_of v) ≡ Ok tt → ⊥
 unfolding build_of run_under
 shared_stops v sound s e =
     let ws = s.first ++ (s.wire ∷ s.later) in
     let a = accepted_apart (start Two) (map add_of v.blocks) (map (link_of v.blocks) v.wires) e in
-    let l = subst (λ (k : List RankWire). first_refusal (run Two (map add_of v.blocks)).graph (map (link_of v.blocks) k) ≡ Loaded) s.is a.1 in
+    let l = subst (λ (k : List RankWire). first_refusal (run Two (map add_of v.blocks)).graph (map (link_of v.blocks) k) ≡ Ok tt) s.is a.1 in
     let b =
     accepted_apart (run Two (map add_of v.blocks)) (map (link_of v.blocks) s.first) (map (link_of v.blocks) (s.wire ∷ s.later))
     (ap (first_refusal (run Two (map add_of v.blocks)).graph) (sym (map_append (link_of v.blocks) s.first (s.wire ∷ s.later))) ∙ l) in
@@ -406,7 +405,7 @@ pub record BlocksFit (bs : List BlockPorts) : Type 0 where
   pub nodes : length bs ≤ node_slots
   pub ports : first_port bs (length bs) ≤ port_slots
 
-pub fitting_added : (release : Release) (bs : List BlockPorts) → BlocksFit bs → first_refusal (empty_graph release) (map add_of bs) ≡ Loaded
+pub fitting_added : (release : Release) (bs : List BlockPorts) → BlocksFit bs → first_refusal (empty_graph release) (map add_of bs) ≡ Ok tt
 fitting_added release bs h = ⊎_elim (λ e. e) (λ k. absurd (never k.0 (first_stop add_of bs (start release) k.0 k.1))) (loaded_or_refused (map add_of bs) (empty_graph release))
   where
     never : (r : Refusal) → Stop add_of (start release) bs r → ⊥
@@ -428,7 +427,7 @@ member_at {A = A} x [] never = absurd never
 member_at x (y ∷ l) (inl e) = (0, e)
 member_at x (y ∷ l) (inr i) = let h = member_at x l i in (suc h.0, h.1)
 
-pub added_fit : (release : Release) (bs : List BlockPorts) → first_refusal (empty_graph release) (map add_of bs) ≡ Loaded → BlocksFit bs
+pub added_fit : (release : Release) (bs : List BlockPorts) → first_refusal (empty_graph release) (map add_of bs) ≡ Ok tt → BlocksFit bs
 added_fit release bs e =
     let s = next_slots release bs e in
     let r = (rel_run release (map add_of bs)).1 in
@@ -447,5 +446,5 @@ added_fit release bs e =
     }
 
 -- The adds of a build are all accepted exactly if its blocks fit.
-pub blocks_added : (release : Release) (bs : List BlockPorts) → (first_refusal (empty_graph release) (map add_of bs) ≡ Loaded) ↔ BlocksFit bs
+pub blocks_added : (release : Release) (bs : List BlockPorts) → (first_refusal (empty_graph release) (map add_of bs) ≡ Ok tt) ↔ BlocksFit bs
 blocks_added release bs = (added_fit release bs, fitting_added release bs)

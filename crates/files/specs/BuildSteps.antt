@@ -1,6 +1,7 @@
 -- What the functions that build a file's wiring cite: calls one after the other, as far as the first that is refused; first ports; and
 -- blocks and wires read where they stand.
-use Rattle.std.specs.Prelude.{◌≡◌, refl, Bool, true, false, ◌&&◌, List, [], ◌∷◌, ◌++◌, map, ℕ, zero, suc, ◌+◌, ◌*◌, ◌%◌, ◌≤◌, ◌<◌, eqb, ltb, length, get_or, set, drop, replicate}
+use Rattle.std.specs.List.{list_all}
+use Rattle.std.specs.Prelude.{◌≡◌, refl, Bool, true, false, cond, ◌&&◌, List, [], ◌∷◌, ◌++◌, map, ℕ, zero, suc, ◌+◌, ◌*◌, ◌%◌, ◌≤◌, ◌<◌, eqb, ltb, length, get_or, set, drop, replicate, Result, Ok, Err, is_ok, IsErrAnd, MatchResult}
 use Rattle.std.proofs.Math.Path.{sym, ap, subst}
 use Rattle.std.proofs.Common.{◌∙◌, arith, drop_of_length-le, length-set, drop-cons, get_or-set_same, get_or-set_other, ltb-true, eqb-true}
 use Rattle.std.proofs.lemmas.Bool.{eqb-false}
@@ -16,10 +17,6 @@ use Rattle.multiportgraph.specs.MultiLent.{multi_in, no_totals}
 use Rattle.multiportgraph.specs.declared.lent.Totals.{Totals}
 use Rattle.multiportgraph.specs.declared.multiportgraph.MultiPortGraph.{MultiPortGraph}
 use Rattle.port_tables.specs.declared.release.Release.{Release}
-use Rattle.multiportgraph.specs.declared.multiportgraph.AddAnswer.{AddAnswer}
-use Rattle.multiportgraph.specs.declared.multiportgraph.AddAnswer.TheVariants as add
-use Rattle.multiportgraph.specs.declared.multiportgraph.LinkAnswer.{LinkAnswer}
-use Rattle.multiportgraph.specs.declared.multiportgraph.LinkAnswer.TheVariants as link
 use Rattle.theorems.specs.Book as book
 use Rattle.theorems.specs.Book.{Call, AnswerOf, Book, empty_book, book_add}
 use Rattle.theorems.specs.History.{step, State, next, run_from, run_from_under, run, run_under}
@@ -27,72 +24,93 @@ use Rattle.theorems.proofs.HistoryCounts.{visible_nodes_of_history}
 use Rattle.theorems.proofs.CallLaws.{empty_kept, step_kept, rel_run}
 use Rattle.files.specs.View.{BlockPorts, RankWire, View}
 use Rattle.files.specs.Layout.{field_at, block_of, wire_of, units_for, unbytes}
-use Rattle.files.specs.Loading.{every, is_laid, ranks_right, block_at, positions_right, order_right, view_right, first_port, out_port, in_port, add_of, link_of, build_of, after_call, first_refusal, first_refusal_under, graph_if, is_whole, load_answer, load_answer_under, load_graph, load_graph_under}
+use Rattle.files.specs.Loading.{unit_list, units_right, is_laid, ranks_right, block_at, positions_right, order_right, view_right, first_port, out_port, in_port, add_of, link_of, build_of, after_call, first_refusal, first_refusal_under, graph_if, is_whole, load_answer, load_answer_under, load_graph, load_graph_under}
 use Rattle.files.specs.LaidLaws.{both_true}
+use Rattle.files.specs.Merging.{layout_answer}
 use Rattle.files.specs.NextSlots.{first_port_first, first_port_next}
 use Rattle.files.specs.ViewLaws.{blocks_few_lem}
-use Rattle.files.specs.LoadForms.{place_of, record_in, no_wire, BlocksRead, WiresRead, ShapeIs, Laid, add_told, link_told, is_loaded, graph_after, StepIs, Built, Firsts, Linkable, BuildIs}
-use Rattle.files.specs.declared.load.LoadAnswer.{LoadAnswer}
-use Rattle.files.specs.declared.load.LoadAnswer.TheVariants.{Loaded, BadSums, BadLayout, Refused}
+use Rattle.files.specs.LoadForms.{place_of, record_in, no_wire, BlocksRead, WiresRead, ShapeIs, Laid, graph_after, StepIs, StepStops, Built, Firsts, Linkable}
+use Rattle.files.specs.declared.load.LoadError.{LoadError}
+use Rattle.files.specs.declared.load.LoadError.TheVariants.{BadSums, BadLayout, Refused}
 use Rattle.files.specs.declared.load.FileLoaded.{FileLoaded}
+use Rattle.port_tables.specs.declared.index.NodeIndex.{NodeIndex}
+use Rattle.port_tables.specs.declared.index.PortIndex.{PortIndex}
+use Rattle.multi_tables.specs.declared.answers.Refusal.{Refusal}
+use Rattle.multi_tables.specs.declared.answers.SubportIndex.{SubportIndex}
+
+-- What a `?` passes on.
+
+pub err_is : {T E : Type 0} {e : E} (r : Result T E) → IsErrAnd r (λ told. told ≡ e) → r ≡ Err e
+err_is (Ok x) h = absurd h
+err_is (Err x) h = ap (λ told. Err told) h
+
+pub err_says : {T E : Type 0} (P : T → Type 0) (Q : E → Type 0) {e : E} (r : Result T E) → IsErrAnd r (λ told. told ≡ e) → Q e → MatchResult r P Q
+err_says P Q (Ok x) h q = absurd h
+err_says P Q (Err x) h q = subst Q (sym h) q
 
 -- One call.
 
-after_loaded : (c : Call) (v : AnswerOf c) (rest : LoadAnswer) → is_loaded (after_call c v Loaded) ≡ true → after_call c v rest ≡ rest
-after_loaded (book.add_call i o) (add.Added n p) rest h = refl
-after_loaded (book.add_call i o) (add.Refused r) rest h = absurd (true_not_false h refl)
+after_loaded : (c : Call) (v : AnswerOf c) (rest : Result (Unit {0}) LoadError) → is_ok (after_call c v (Ok tt)) ≡ true → after_call c v rest ≡ rest
+after_loaded (book.add_call i o) (Ok (n, p)) rest h = refl
+after_loaded (book.add_call i o) (Err r) rest h = absurd (true_not_false h refl)
 after_loaded (book.remove_call n) v rest h = refl
 after_loaded (book.set_call n i o room) v rest h = refl
-after_loaded (book.link_call a b) (link.Linked s t) rest h = refl
-after_loaded (book.link_call a b) (link.Refused r) rest h = absurd (true_not_false h refl)
+after_loaded (book.link_call a b) (Ok (s, t)) rest h = refl
+after_loaded (book.link_call a b) (Err r) rest h = absurd (true_not_false h refl)
 after_loaded (book.link_clean_call a b) v rest h = refl
 after_loaded (book.link_sub_call p o q r) v rest h = refl
 after_loaded (book.cut_call p) v rest h = refl
 after_loaded (book.cut_sub_call p o) v rest h = refl
 after_loaded (book.tidy_call p) v rest h = refl
 
-after_refused : (c : Call) (v : AnswerOf c) (rest : LoadAnswer) → is_loaded (after_call c v Loaded) ≡ false → after_call c v rest ≡ after_call c v Loaded
-after_refused (book.add_call i o) (add.Added n p) rest h = absurd (true_not_false refl h)
-after_refused (book.add_call i o) (add.Refused r) rest h = refl
+after_refused : (c : Call) (v : AnswerOf c) (rest : Result (Unit {0}) LoadError) → is_ok (after_call c v (Ok tt)) ≡ false → after_call c v rest ≡ after_call c v (Ok tt)
+after_refused (book.add_call i o) (Ok (n, p)) rest h = absurd (true_not_false refl h)
+after_refused (book.add_call i o) (Err r) rest h = refl
 after_refused (book.remove_call n) v rest h = absurd (true_not_false refl h)
 after_refused (book.set_call n i o room) v rest h = absurd (true_not_false refl h)
-after_refused (book.link_call a b) (link.Linked s t) rest h = absurd (true_not_false refl h)
-after_refused (book.link_call a b) (link.Refused r) rest h = refl
+after_refused (book.link_call a b) (Ok (s, t)) rest h = absurd (true_not_false refl h)
+after_refused (book.link_call a b) (Err r) rest h = refl
 after_refused (book.link_clean_call a b) v rest h = absurd (true_not_false refl h)
 after_refused (book.link_sub_call p o q r) v rest h = absurd (true_not_false refl h)
 after_refused (book.cut_call p) v rest h = absurd (true_not_false refl h)
 after_refused (book.cut_sub_call p o) v rest h = absurd (true_not_false refl h)
 after_refused (book.tidy_call p) v rest h = absurd (true_not_false refl h)
 
-add_telling : (v : AddAnswer) (i o : ℕ) → add_told v ≡ after_call (book.add_call i o) v Loaded
-add_telling (add.Added n p) i o = refl
-add_telling (add.Refused r) i o = refl
+add_done : {v : Result (NodeIndex × PortIndex) Refusal} {x : NodeIndex × PortIndex} (i o : ℕ) → v ≡ Ok x → after_call (book.add_call i o) v (Ok tt) ≡ Ok tt
+add_done i o h = ap (λ (z : Result (NodeIndex × PortIndex) Refusal). after_call (book.add_call i o) z (Ok tt)) h
 
-link_telling : (v : LinkAnswer) (a b : ℕ) → link_told v ≡ after_call (book.link_call a b) v Loaded
-link_telling (link.Linked s t) a b = refl
-link_telling (link.Refused r) a b = refl
+add_refused : {v : Result (NodeIndex × PortIndex) Refusal} {r : Refusal} (i o : ℕ) → v ≡ Err r → after_call (book.add_call i o) v (Ok tt) ≡ Err (Refused r)
+add_refused i o h = ap (λ (z : Result (NodeIndex × PortIndex) Refusal). after_call (book.add_call i o) z (Ok tt)) h
 
-pub add_stepped : (m m' : MultiPortGraph) (b : BlockPorts) (i o : ℕ) (v : AddAnswer) (a : LoadAnswer) → MultiWf m → i ≡ b.incoming → o ≡ b.outgoing →
-    m' ≡ (add_block m i o).graph → v ≡ (add_block m i o).answer → a ≡ add_told v → StepIs m (add_of b) m' a
-add_stepped m m' b i o v a w p q g e t =
-    let g₂ : m' ≡ (step m (add_of b)).graph = g ∙ (λ j. (add_block m (p j) (q j)).graph) in
-    let e₂ : v ≡ (step m (add_of b)).answer = e ∙ (λ j. (add_block m (p j) (q j)).answer) in
-    record {
-      graph = g₂;
-      told = t ∙ (add_telling v b.incoming b.outgoing ∙ ap (λ (x : AddAnswer). after_call (add_of b) x Loaded) e₂);
-      kept = subst MultiWf (sym g₂) (step_kept m (add_of b) w);
-    }
+link_done : {v : Result (SubportIndex × SubportIndex) Refusal} {x : SubportIndex × SubportIndex} (a b : ℕ) → v ≡ Ok x → after_call (book.link_call a b) v (Ok tt) ≡ Ok tt
+link_done a b h = ap (λ (z : Result (SubportIndex × SubportIndex) Refusal). after_call (book.link_call a b) z (Ok tt)) h
 
-pub link_stepped : (m m' : MultiPortGraph) (blocks : List BlockPorts) (w : RankWire) (x y : ℕ) (v : LinkAnswer) (a : LoadAnswer) → MultiWf m →
-    x ≡ out_port blocks w → y ≡ in_port blocks w → m' ≡ (link_pair m x y).graph → v ≡ (link_pair m x y).answer → a ≡ link_told v → StepIs m (link_of blocks w) m' a
-link_stepped m m' blocks w x y v a wf p q g e t =
-    let g₂ : m' ≡ (step m (link_of blocks w)).graph = g ∙ (λ j. (link_pair m (p j) (q j)).graph) in
-    let e₂ : v ≡ (step m (link_of blocks w)).answer = e ∙ (λ j. (link_pair m (p j) (q j)).answer) in
-    record {
-      graph = g₂;
-      told = t ∙ (link_telling v (out_port blocks w) (in_port blocks w) ∙ ap (λ (z : LinkAnswer). after_call (link_of blocks w) z Loaded) e₂);
-      kept = subst MultiWf (sym g₂) (step_kept m (link_of blocks w) wf);
-    }
+link_refused : {v : Result (SubportIndex × SubportIndex) Refusal} {r : Refusal} (a b : ℕ) → v ≡ Err r → after_call (book.link_call a b) v (Ok tt) ≡ Err (Refused r)
+link_refused a b h = ap (λ (z : Result (SubportIndex × SubportIndex) Refusal). after_call (book.link_call a b) z (Ok tt)) h
+
+module _ (m : MultiPortGraph) (b : BlockPorts) {i o : ℕ} {v : Result (NodeIndex × PortIndex) Refusal} (p : i ≡ b.incoming) (q : o ≡ b.outgoing) (e : v ≡ (add_block m i o).answer) where
+  add_answered : after_call (add_of b) v (Ok tt) ≡ after_call (add_of b) (step m (add_of b)).answer (Ok tt)
+  add_answered = ap (λ (x : Result (NodeIndex × PortIndex) Refusal). after_call (add_of b) x (Ok tt)) (e ∙ (λ j. (add_block m (p j) (q j)).answer))
+
+  pub add_stepped : MultiWf m → {m' : MultiPortGraph} → m' ≡ (add_block m i o).graph → {x : NodeIndex × PortIndex} → v ≡ Ok x → StepIs m (add_of b) m'
+  add_stepped w {m'} g t =
+      let k : m' ≡ (step m (add_of b)).graph = g ∙ (λ j. (add_block m (p j) (q j)).graph) in
+      record { graph = k; told = sym add_answered ∙ add_done b.incoming b.outgoing t; kept = subst MultiWf (sym k) (step_kept m (add_of b) w) }
+
+  pub add_stops : {r : Refusal} → v ≡ Err r → {told : LoadError} → told ≡ Refused r → StepStops m (add_of b) told
+  add_stops t h = sym add_answered ∙ (add_refused b.incoming b.outgoing t ∙ ap Err (sym h))
+
+module _ (m : MultiPortGraph) (blocks : List BlockPorts) (w : RankWire) {x y : ℕ} {v : Result (SubportIndex × SubportIndex) Refusal} (p : x ≡ out_port blocks w) (q : y ≡ in_port blocks w) (e : v ≡ (link_pair m x y).answer) where
+  link_answered : after_call (link_of blocks w) v (Ok tt) ≡ after_call (link_of blocks w) (step m (link_of blocks w)).answer (Ok tt)
+  link_answered = ap (λ (z : Result (SubportIndex × SubportIndex) Refusal). after_call (link_of blocks w) z (Ok tt)) (e ∙ (λ j. (link_pair m (p j) (q j)).answer))
+
+  pub link_stepped : MultiWf m → {m' : MultiPortGraph} → m' ≡ (link_pair m x y).graph → {z : SubportIndex × SubportIndex} → v ≡ Ok z → StepIs m (link_of blocks w) m'
+  link_stepped wf {m'} g t =
+      let k : m' ≡ (step m (link_of blocks w)).graph = g ∙ (λ j. (link_pair m (p j) (q j)).graph) in
+      record { graph = k; told = sym link_answered ∙ link_done (out_port blocks w) (in_port blocks w) t; kept = subst MultiWf (sym k) (step_kept m (link_of blocks w) wf) }
+
+  pub link_stops : {r : Refusal} → v ≡ Err r → {told : LoadError} → told ≡ Refused r → StepStops m (link_of blocks w) told
+  link_stops t h = sym link_answered ∙ (link_refused (out_port blocks w) (in_port blocks w) t ∙ ap Err (sym h))
 
 -- Calls one after the other.
 
@@ -106,11 +124,11 @@ pub build_begins : {m : MultiPortGraph} {calls : List Call} → MultiWf m → Bu
 build_begins w = record { kept = w; told = refl; graph = refl }
 
 module _ {m₀ m : MultiPortGraph} {calls left : List Call} (b : Building m₀ calls m left) where
-  pub build_ends : left ≡ [] → Built m₀ calls m Loaded
+  pub build_ends : left ≡ [] → Built m₀ calls m
   unfolding first_refusal_under graph_after
-  build_ends e = record { told = sym (ap (first_refusal m) e) ∙ b.told; graph = λ h. sym (ap (graph_after m) e) ∙ b.graph; kept = b.kept }
+  build_ends e = record { told = sym b.told ∙ ap (first_refusal m) e; graph = sym (ap (graph_after m) e) ∙ b.graph; kept = b.kept }
 
-  module _ {c : Call} {l : List Call} {m' : MultiPortGraph} {a : LoadAnswer} (e : left ≡ c ∷ l) (s : StepIs m c m' a) where
+  module _ {c : Call} {l : List Call} (e : left ≡ c ∷ l) where
     told_on : first_refusal m left ≡ after_call c (step m c).answer (first_refusal (step m c).graph l)
     unfolding first_refusal_under
     told_on = ap (first_refusal m) e
@@ -119,19 +137,14 @@ module _ {m₀ m : MultiPortGraph} {calls left : List Call} (b : Building m₀ c
     unfolding graph_after
     graph_on = ap (graph_after m) e
 
-    pub build_stops : is_loaded a ≡ false → Built m₀ calls m' a
-    build_stops h =
-        record {
-          told = s.told ∙ (sym (told_on ∙ after_refused c (step m c).answer _ (ap is_loaded (sym s.told) ∙ h)) ∙ b.told);
-          graph = λ k. absurd (true_not_false k h);
-          kept = s.kept;
-        }
+    pub build_stops : {r : LoadError} → StepStops m c r → first_refusal m₀ calls ≡ Err r
+    build_stops h = sym b.told ∙ (told_on ∙ (after_refused c (step m c).answer _ (ap is_ok h) ∙ h))
 
-    pub build_turns : is_loaded a ≡ true → Building m₀ calls m' l
-    build_turns h =
+    pub build_turns : {m' : MultiPortGraph} → StepIs m c m' → Building m₀ calls m' l
+    build_turns s =
         record {
           kept = s.kept;
-          told = ap (λ (x : MultiPortGraph). first_refusal x l) s.graph ∙ (sym (told_on ∙ after_loaded c (step m c).answer _ (ap is_loaded (sym s.told) ∙ h)) ∙ b.told);
+          told = ap (λ (x : MultiPortGraph). first_refusal x l) s.graph ∙ (sym (told_on ∙ after_loaded c (step m c).answer _ (ap is_ok s.told)) ∙ b.told);
           graph = ap (λ (x : MultiPortGraph). graph_after x l) s.graph ∙ (sym graph_on ∙ b.graph);
         }
 
@@ -226,10 +239,10 @@ module _ {bytes : List ℕ} {blocks : ℕ} {table : List ℕ} {next i : ℕ} (re
 
 -- The ports of a wire.
 
-every_at : {A : Type 0} (f : A → Bool) (l : List A) (i : ℕ) (d : A) → every f l ≡ true → i < length l → f (get_or l i d) ≡ true
+every_at : {A : Type 0} (f : A → Bool) (l : List A) (i : ℕ) (d : A) → list_all f l ≡ true → i < length l → f (get_or l i d) ≡ true
 every_at f [] i d e h = absurd (omega arith)
-every_at f (x ∷ l) zero d e h = (both_true (f x) (every f l) e).0
-every_at f (x ∷ l) (suc i) d e h = every_at f l i d (both_true (f x) (every f l) e).1 (omega arith)
+every_at f (x ∷ l) zero d e h = (both_true (f x) (list_all f l) e).0
+every_at f (x ∷ l) (suc i) d e h = every_at f l i d (both_true (f x) (list_all f l) e).1 (omega arith)
 
 pub linkable : {table bytes : List ℕ} {blocks u n i at : ℕ} → Firsts table bytes blocks → BlocksRead bytes blocks → WiresRead bytes u n → view_right (unbytes bytes) ≡ true →
     blocks ≤ node_slots → i < n → at ≡ place_of u i → Linkable table bytes blocks at
@@ -239,8 +252,8 @@ linkable {table} {bytes} {blocks} {u} {n} {i} {at} f b w e few h p =
     let m = w.many in
     let k = b.many in
     let t = w.there i h in
-    let x = both_true (order_right v.wires) (every (ranks_right v.blocks) v.wires && every (positions_right v.blocks) v.wires) e in
-    let y = both_true (every (ranks_right v.blocks) v.wires) (every (positions_right v.blocks) v.wires) x.1 in
+    let x = both_true (order_right v.wires) (list_all (ranks_right v.blocks) v.wires && list_all (positions_right v.blocks) v.wires) e in
+    let y = both_true (list_all (ranks_right v.blocks) v.wires) (list_all (positions_right v.blocks) v.wires) x.1 in
     let z = every_at (ranks_right v.blocks) v.wires i no_wire y.0 (omega arith) in
     let g : get_or v.wires i no_wire ≡ wire_of (record_in bytes at) = w.each i h ∙ ap (λ (q : ℕ). wire_of (record_in bytes q)) (sym p) in
     let r = subst (λ (x : RankWire). (ltb x.source (length v.blocks) && ltb x.target (length v.blocks)) ≡ true) g z in
@@ -270,26 +283,23 @@ module _ {table bytes : List ℕ} {blocks at : ℕ} (l : Linkable table bytes bl
 
 -- A laid file.
 
-pub not_laid : {bytes : List ℕ} {blocks wires : ℕ} {t : Bool} → ShapeIs bytes t blocks wires → t ≡ false → Laid bytes t blocks wires
-unfolding is_laid
-not_laid {bytes} {t = t} s e =
-    record {
-      answer = e ∙ sym (ap (λ (b : Bool). b && view_right (unbytes bytes)) (sym s.units ∙ e));
-      blocks_are = λ h. absurd (true_not_false h e);
-      wires_are = λ h. absurd (true_not_false h e);
-      sound = λ h. absurd (true_not_false h e);
-    }
+module _ (bytes : List ℕ) (w : is_whole bytes ≡ true) where
+  pub units_wrong : units_right (unit_list bytes) ≡ false → layout_answer bytes ≡ Err BadLayout
+  unfolding layout_answer is_laid
+  units_wrong e = rw (w, e) refl
 
-pub laid_is : {bytes : List ℕ} {blocks wires : ℕ} {t r : Bool} → ShapeIs bytes t blocks wires → t ≡ true → BlocksRead bytes blocks → WiresRead bytes (units_for blocks) wires →
-    r ≡ view_right (unbytes bytes) → Laid bytes r blocks wires
-unfolding is_laid
-laid_is {bytes} {r = r} s e b w f =
-    record {
-      answer = f ∙ sym (ap (λ (x : Bool). x && view_right (unbytes bytes)) (sym s.units ∙ e));
-      blocks_are = λ h. b;
-      wires_are = λ h. w;
-      sound = λ h. sym f ∙ h;
-    }
+  module _ {blocks wires : ℕ} (s : ShapeIs bytes blocks wires) where
+    pub view_wrong : false ≡ view_right (unbytes bytes) → layout_answer bytes ≡ Err BadLayout
+    unfolding layout_answer is_laid
+    view_wrong f = let u = s.units in rw (w, u, ← f) refl
+
+    pub laid_is : BlocksRead bytes blocks → WiresRead bytes (units_for blocks) wires → true ≡ view_right (unbytes bytes) → Laid bytes blocks wires
+    unfolding is_laid
+    laid_is b v f = let u = s.units in record { whole = w; answer = rw (u, ← f) refl; blocks_are = b; wires_are = v; sound = sym f }
+
+pub sums_wrong : (bytes : List ℕ) → false ≡ is_whole bytes → layout_answer bytes ≡ Err BadSums
+unfolding layout_answer
+sums_wrong bytes h = rw (← h) refl
 
 -- so few blocks that a few more fit a number of the machine
 pub blocks_short : {bytes : List ℕ} (n : ℕ) → BlocksRead bytes n → n + n ≤ length bytes
@@ -305,33 +315,33 @@ tables_empty release totals e =
     ap (multi_in (replicate node_words 0) (replicate port_slots 0) (replicate port_slots 0) (replicate free_lists 0) (replicate port_slots false) (replicate node_slots false)) e
     ∙ empty_in release
 
-first_append : (m : MultiPortGraph) (a b : List Call) → is_loaded (first_refusal m a) ≡ true → first_refusal m (a ++ b) ≡ first_refusal (graph_after m a) b
+first_append : (m : MultiPortGraph) (a b : List Call) → is_ok (first_refusal m a) ≡ true → first_refusal m (a ++ b) ≡ first_refusal (graph_after m a) b
 unfolding first_refusal_under graph_after
 first_append m [] b h = refl
-first_append m (c ∷ a) b h = go (is_loaded (after_call c (step m c).answer Loaded)) refl (first_append (step m c).graph a b)
+first_append m (c ∷ a) b h = go (is_ok (after_call c (step m c).answer (Ok tt))) refl (first_append (step m c).graph a b)
   where
-    rest : LoadAnswer
+    rest : Result (Unit {0}) LoadError
     rest = first_refusal (step m c).graph a
 
-    go : (t : Bool) → is_loaded (after_call c (step m c).answer Loaded) ≡ t →
-        (is_loaded rest ≡ true → first_refusal (step m c).graph (a ++ b) ≡ first_refusal (graph_after (step m c).graph a) b) →
+    go : (t : Bool) → is_ok (after_call c (step m c).answer (Ok tt)) ≡ t →
+        (is_ok rest ≡ true → first_refusal (step m c).graph (a ++ b) ≡ first_refusal (graph_after (step m c).graph a) b) →
         after_call c (step m c).answer (first_refusal (step m c).graph (a ++ b)) ≡ first_refusal (graph_after (step m c).graph a) b
-    go true e more = after_loaded c (step m c).answer _ e ∙ more (ap is_loaded (sym (after_loaded c (step m c).answer rest e)) ∙ h)
-    go false e more = absurd (true_not_false (ap is_loaded (sym (after_refused c (step m c).answer rest e)) ∙ h) e)
+    go true e more = after_loaded c (step m c).answer _ e ∙ more (ap is_ok (sym (after_loaded c (step m c).answer rest e)) ∙ h)
+    go false e more = absurd (true_not_false (ap is_ok (sym (after_refused c (step m c).answer rest e)) ∙ h) e)
 
-pub first_refused : (m : MultiPortGraph) (a b : List Call) → is_loaded (first_refusal m a) ≡ false → first_refusal m (a ++ b) ≡ first_refusal m a
+pub first_refused : (m : MultiPortGraph) (a b : List Call) → is_ok (first_refusal m a) ≡ false → first_refusal m (a ++ b) ≡ first_refusal m a
 unfolding first_refusal_under
 first_refused m [] b h = absurd (true_not_false refl h)
-first_refused m (c ∷ a) b h = go (is_loaded (after_call c (step m c).answer Loaded)) refl (first_refused (step m c).graph a b)
+first_refused m (c ∷ a) b h = go (is_ok (after_call c (step m c).answer (Ok tt))) refl (first_refused (step m c).graph a b)
   where
-    rest : LoadAnswer
+    rest : Result (Unit {0}) LoadError
     rest = first_refusal (step m c).graph a
 
-    go : (t : Bool) → is_loaded (after_call c (step m c).answer Loaded) ≡ t → (is_loaded rest ≡ false → first_refusal (step m c).graph (a ++ b) ≡ rest) →
+    go : (t : Bool) → is_ok (after_call c (step m c).answer (Ok tt)) ≡ t → (is_ok rest ≡ false → first_refusal (step m c).graph (a ++ b) ≡ rest) →
         after_call c (step m c).answer (first_refusal (step m c).graph (a ++ b)) ≡ after_call c (step m c).answer rest
     go true e more =
         after_loaded c (step m c).answer _ e
-        ∙ (more (ap is_loaded (sym (after_loaded c (step m c).answer rest e)) ∙ h) ∙ sym (after_loaded c (step m c).answer rest e))
+        ∙ (more (ap is_ok (sym (after_loaded c (step m c).answer rest e)) ∙ h) ∙ sym (after_loaded c (step m c).answer rest e))
     go false e more = after_refused c (step m c).answer _ e ∙ sym (after_refused c (step m c).answer rest e)
 
 after_append : (m : MultiPortGraph) (a b : List Call) → graph_after m (a ++ b) ≡ graph_after (graph_after m a) b
@@ -348,38 +358,30 @@ pub run_graph : (release : Release) (calls : List Call) → (run release calls).
 unfolding run_under
 run_graph release calls = run_from_graph (record { graph = empty_graph release; book = empty_book }) calls
 
-graph_refused : (release : Release) (a : LoadAnswer) (m : MultiPortGraph) → is_loaded a ≡ false → empty_graph release ≡ graph_if release a m
-graph_refused release Loaded m h = absurd (true_not_false refl h)
-graph_refused release BadSums m h = refl
-graph_refused release BadLayout m h = refl
-graph_refused release (Refused r) m h = refl
-
-pub is_loaded_lem : (a : LoadAnswer) → is_loaded a ≡ true → a ≡ Loaded
-is_loaded_lem Loaded h = refl
-is_loaded_lem BadSums h = absurd (true_not_false h refl)
-is_loaded_lem BadLayout h = absurd (true_not_false h refl)
-is_loaded_lem (Refused r) h = absurd (true_not_false h refl)
+pub is_loaded : (a : Result (Unit {0}) LoadError) → is_ok a ≡ true → a ≡ Ok tt
+is_loaded (Ok _) h = refl
+is_loaded (Err _) h = absurd (true_not_false h refl)
 
 -- so many adds that are all accepted leave as many blocks in the book
-adds_booked : (s : State) (l : List BlockPorts) → is_loaded (first_refusal s.graph (map add_of l)) ≡ true → length (run_from s (map add_of l)).book.blocks ≡ length l + length s.book.blocks
+adds_booked : (s : State) (l : List BlockPorts) → is_ok (first_refusal s.graph (map add_of l)) ≡ true → length (run_from s (map add_of l)).book.blocks ≡ length l + length s.book.blocks
 unfolding run_from_under first_refusal_under
 adds_booked s [] h = omega arith
 adds_booked s (b ∷ l) h = go (step s.graph (add_of b)).answer refl (adds_booked (next s (add_of b)) l)
   where
-    rest : LoadAnswer
+    rest : Result (Unit {0}) LoadError
     rest = first_refusal (step s.graph (add_of b)).graph (map add_of l)
 
-    go : (v : AddAnswer) → (step s.graph (add_of b)).answer ≡ v →
-        (is_loaded rest ≡ true → length (run_from (next s (add_of b)) (map add_of l)).book.blocks ≡ length l + length (next s (add_of b)).book.blocks) →
+    go : (v : Result (NodeIndex × PortIndex) Refusal) → (step s.graph (add_of b)).answer ≡ v →
+        (is_ok rest ≡ true → length (run_from (next s (add_of b)) (map add_of l)).book.blocks ≡ length l + length (next s (add_of b)).book.blocks) →
         length (run_from (next s (add_of b)) (map add_of l)).book.blocks ≡ suc (length l) + length s.book.blocks
-    go (add.Added n p) e more =
-        let k : is_loaded rest ≡ true = ap (λ (v : AddAnswer). is_loaded (after_call (add_of b) v rest)) (sym e) ∙ h in
+    go (Ok (n, p)) e more =
+        let k : is_ok rest ≡ true = ap (λ (v : Result (NodeIndex × PortIndex) Refusal). is_ok (after_call (add_of b) v rest)) (sym e) ∙ h in
         let r = more k in
-        let t : length (next s (add_of b)).book.blocks ≡ suc (length s.book.blocks) = ap (λ (v : AddAnswer). length (book_add s.book b.incoming b.outgoing v).blocks) e in
+        let t : length (next s (add_of b)).book.blocks ≡ suc (length s.book.blocks) = ap (λ (v : Result (NodeIndex × PortIndex) Refusal). length (book_add s.book b.incoming b.outgoing v).blocks) e in
         omega arith
-    go (add.Refused r) e more = absurd (true_not_false (ap (λ (v : AddAnswer). is_loaded (after_call (add_of b) v rest)) (sym e) ∙ h) refl)
+    go (Err r) e more = absurd (true_not_false (ap (λ (v : Result (NodeIndex × PortIndex) Refusal). is_ok (after_call (add_of b) v rest)) (sym e) ∙ h) refl)
 
-pub adds_few : (release : Release) (l : List BlockPorts) → is_loaded (first_refusal (empty_graph release) (map add_of l)) ≡ true → length l ≤ node_slots
+pub adds_few : (release : Release) (l : List BlockPorts) → is_ok (first_refusal (empty_graph release) (map add_of l)) ≡ true → length l ≤ node_slots
 unfolding run_under
 adds_few release l h =
     let calls = map add_of l in
@@ -397,73 +399,74 @@ module _ (release : Release) (v : View) where
   abbrev links : List Call
   links = map (link_of v.blocks) v.wires
 
-  module _ {m₀ m₁ : MultiPortGraph} {a₁ : LoadAnswer} (start : m₀ ≡ empty_graph release) (added : Built m₀ adds m₁ a₁) where
-    first : Built (empty_graph release) adds m₁ a₁
-    first = subst (λ (m : MultiPortGraph). Built m adds m₁ a₁) start added
-
-    pub blocks_fit_table : is_loaded a₁ ≡ true → length v.blocks ≤ node_slots
-    blocks_fit_table h = adds_few release v.blocks (ap is_loaded (sym first.told) ∙ h)
-
-    -- refused at a block, and at a wire or not
-    pub built_blocks : is_loaded a₁ ≡ false → Built (empty_graph release) (build_of v) m₁ a₁
+  module _ {m₀ : MultiPortGraph} (start : m₀ ≡ empty_graph release) where
+    -- refused at a block,
+    pub built_blocks : {r : LoadError} → first_refusal m₀ adds ≡ Err r → first_refusal (empty_graph release) (build_of v) ≡ Err r
     unfolding build_of
     built_blocks h =
-        record {
-          told = sym (first_refused (empty_graph release) adds links (ap is_loaded (sym first.told) ∙ h) ∙ sym first.told);
-          graph = λ k. absurd (true_not_false k h);
-          kept = first.kept;
-        }
+        let e = ap (λ (m : MultiPortGraph). first_refusal m adds) (sym start) ∙ h in
+        first_refused (empty_graph release) adds links (ap is_ok e) ∙ e
 
-    pub built_wires : is_loaded a₁ ≡ true → {m₂ : MultiPortGraph} {a₂ : LoadAnswer} → Built m₁ links m₂ a₂ → Built (empty_graph release) (build_of v) m₂ a₂
-    unfolding build_of
-    built_wires h second =
-        record {
-          told =
-              sym
-              (first_append (empty_graph release) adds links (ap is_loaded (sym first.told) ∙ h)
-              ∙ (ap (λ (m : MultiPortGraph). first_refusal m links) (sym (first.graph h)) ∙ sym second.told));
-          graph = λ k. second.graph k ∙ (ap (λ (x : MultiPortGraph). graph_after x links) (first.graph h) ∙ sym (after_append (empty_graph release) adds links));
-          kept = second.kept;
-        }
+    module _ {m₁ : MultiPortGraph} (added : Built m₀ adds m₁) where
+      first : Built (empty_graph release) adds m₁
+      first = subst (λ (m : MultiPortGraph). Built m adds m₁) start added
 
--- a build as a load gives it
-module _ (release : Release) (v : View) {m : MultiPortGraph} {a : LoadAnswer} (b : Built (empty_graph release) (build_of v) m a) where
-  pub build_refused : is_loaded a ≡ false → (r : FileLoaded) → r ≡ record { graph = empty_graph release; answer = a } → BuildIs release v r
-  build_refused h r e =
-      record {
-        answer = ap (λ (x : FileLoaded). x.answer) e ∙ b.told;
-        graph = ap (λ (x : FileLoaded). x.graph) e ∙ graph_refused release (first_refusal (empty_graph release) (build_of v)) _ (ap is_loaded (sym b.told) ∙ h);
-        kept = subst MultiWf (sym (ap (λ (x : FileLoaded). x.graph) e)) (empty_kept release);
-      }
+      pub blocks_fit_table : length v.blocks ≤ node_slots
+      blocks_fit_table = adds_few release v.blocks (ap is_ok first.told)
 
-  pub build_done : is_loaded a ≡ true → (m' : MultiPortGraph) → m' ≡ m → BuildIs release v (record { graph = m'; answer = Loaded })
-  build_done k m' e =
-      let t : first_refusal (empty_graph release) (build_of v) ≡ Loaded = sym b.told ∙ is_loaded_lem a k in
-      let g : (run release (build_of v)).graph ≡ m = run_graph release (build_of v) ∙ sym (b.graph k) in
-      record {
-        answer = sym t;
-        graph = e ∙ (sym g ∙ ap (λ (x : LoadAnswer). graph_if release x (run release (build_of v)).graph) (sym t));
-        kept = subst MultiWf (sym e) b.kept;
-      }
+      on : first_refusal (empty_graph release) (adds ++ links) ≡ first_refusal m₁ links
+      on = first_append (empty_graph release) adds links (ap is_ok first.told) ∙ ap (λ (m : MultiPortGraph). first_refusal m links) (sym first.graph)
+
+      -- at a wire,
+      pub stopped_wires : {r : LoadError} → first_refusal m₁ links ≡ Err r → first_refusal (empty_graph release) (build_of v) ≡ Err r
+      unfolding build_of
+      stopped_wires h = on ∙ h
+
+      -- or not
+      pub built_wires : {m₂ : MultiPortGraph} → Built m₁ links m₂ → Built (empty_graph release) (build_of v) m₂
+      unfolding build_of
+      built_wires second =
+          record {
+            told = on ∙ second.told;
+            graph = second.graph ∙ (ap (λ (x : MultiPortGraph). graph_after x links) first.graph ∙ sym (after_append (empty_graph release) adds links));
+            kept = second.kept;
+          }
 
 -- The load.
 
 module _ (release : Release) (bytes : List ℕ) where
-  pub load_bad_sums : false ≡ is_whole bytes → (r : FileLoaded) → r ≡ record { graph = empty_graph release; answer = BadSums } → (r ≡ record { graph = load_graph release bytes; answer = load_answer release bytes }) × MultiWf r.graph
-  unfolding load_graph_under load_answer_under
-  load_bad_sums h r e = (rw (← h) e, subst MultiWf (sym (ap (λ (x : FileLoaded). x.graph) e)) (empty_kept release))
+  pub load_unlaid : {r : LoadError} → layout_answer bytes ≡ Err r → load_answer release bytes ≡ Err r
+  unfolding layout_answer load_answer_under
+  load_unlaid {r} e = go (is_whole bytes) (is_laid bytes) e
+    where
+      go : (w l : Bool) → cond w (cond l (Ok (tt {0})) (Err BadLayout)) (Err BadSums) ≡ Err r →
+          cond w (cond l (first_refusal (empty_graph release) (build_of (unbytes bytes))) (Err BadLayout)) (Err BadSums) ≡ Err r
+      go true true e = absurd (true_not_false refl (ap is_ok e))
+      go true false e = e
+      go false l e = e
 
-  module _ (w : true ≡ is_whole bytes) where
-    pub load_bad_layout : false ≡ is_laid bytes → (r : FileLoaded) → r ≡ record { graph = empty_graph release; answer = BadLayout } → (r ≡ record { graph = load_graph release bytes; answer = load_answer release bytes }) × MultiWf r.graph
-    unfolding load_graph_under load_answer_under
-    load_bad_layout h r e = (rw (← w, ← h) e, subst MultiWf (sym (ap (λ (x : FileLoaded). x.graph) e)) (empty_kept release))
+  -- a refused load gives the empty graph
+  pub load_refused : {r : LoadError} → load_answer release bytes ≡ Err r → (f : FileLoaded) → f ≡ record { graph = empty_graph release; answer = Err r } →
+      (f ≡ record { graph = load_graph release bytes; answer = load_answer release bytes }) × MultiWf f.graph
+  unfolding load_graph_under
+  load_refused {r} e f g =
+      let k : empty_graph release ≡ load_graph release bytes = ap (λ (a : Result (Unit {0}) LoadError). graph_if release a (run release (build_of (unbytes bytes))).graph) (sym e) in
+      (g ∙ (λ j. record { graph = k j; answer = sym e j }), subst MultiWf (sym (ap (λ (x : FileLoaded). x.graph) g)) (empty_kept release))
 
-    pub load_built : true ≡ is_laid bytes → (r : FileLoaded) → BuildIs release (unbytes bytes) r → (r ≡ record { graph = load_graph release bytes; answer = load_answer release bytes }) × MultiWf r.graph
-    unfolding load_graph_under load_answer_under
-    load_built h r b =
-        let g = b.graph in
-        let a = b.answer in
-        (rw (← w, ← h) (λ j. record { graph = g j; answer = a j }), b.kept)
+  module _ {blocks wires : ℕ} (l : Laid bytes blocks wires) where
+    -- the load of a laid file is its build
+    pub load_is_build : load_answer release bytes ≡ first_refusal (empty_graph release) (build_of (unbytes bytes))
+    unfolding load_answer_under
+    load_is_build = let w = l.whole in let a = l.answer in rw (w, a) refl
+
+    pub load_done : {m m' : MultiPortGraph} → Built (empty_graph release) (build_of (unbytes bytes)) m → m' ≡ m →
+        (◌≡◌ {A = FileLoaded} (record { graph = m'; answer = Ok tt }) (record { graph = load_graph release bytes; answer = load_answer release bytes })) × MultiWf m'
+    unfolding load_graph_under
+    load_done {m} {m'} b e =
+        let t : load_answer release bytes ≡ Ok tt = load_is_build ∙ b.told in
+        let g : m' ≡ (run release (build_of (unbytes bytes))).graph = e ∙ (b.graph ∙ sym (run_graph release (build_of (unbytes bytes)))) in
+        let k : m' ≡ load_graph release bytes = g ∙ ap (λ (a : Result (Unit {0}) LoadError). graph_if release a (run release (build_of (unbytes bytes))).graph) (sym t) in
+        ((λ j. record { graph = k j; answer = sym t j }), subst MultiWf (sym e) b.kept)
 
 -- a file of right sums has whole units
 pub whole_length : (bytes : List ℕ) → true ≡ is_whole bytes → length bytes % 512 ≡ 0

@@ -1,23 +1,36 @@
--- What the leaves over bytes lay and read.
-use Rattle.std.specs.Prelude.{◌≡◌, List, [], ◌∷◌, ◌++◌, ℕ, suc, ◌+◌, ◌*◌, ◌/◌, ◌%◌, set}
-use Rattle.std.proofs.Common.{◌∙◌, arith}
-use Rattle.std.proofs.lemmas.List.Edits.{sets}
+-- What the leaves over bytes lay.
+use Rattle.std.specs.Prelude.{◌≡◌, List, [], ◌∷◌, ◌++◌, ℕ, ◌+◌, ◌/◌, ◌%◌, ◌≤◌, length, take, drop}
+use Rattle.std.proofs.Common.{refl, sym, ap, ◌∙◌, append_assoc, arith}
+use Rattle.std.proofs.Math.Seq.{drop-drop}
+use Rattle.std.proofs.lemmas.List.Edits.{sets, sets-eq}
 use Rattle.port_tables.specs.ResizeLinkSteps.{sets_append}
-use Rattle.files.specs.Layout.{field_bytes, word_bytes, field_at, word_at, record_bytes}
+use Rattle.files.specs.Layout.{field_bytes, word_bytes, record_bytes}
 use Rattle.files.specs.Forms.{record_of}
 
-pub two_bytes : (l : List ℕ) (i x : ℕ) → set (set l i (x % 256)) (i + 1) (x / 256 % 256) ≡ sets l i (field_bytes x)
+-- the bytes of a field, and of a word
+pub two_bytes : (x : ℕ) → x % 65536 % 256 ∷ x % 65536 / 256 % 256 ∷ [] ≡ field_bytes x
 unfolding field_bytes
-two_bytes l i x = let e : i + 1 ≡ suc i = omega arith in rw e
+two_bytes x = let e : x % 65536 % 256 ≡ x % 256 = omega arith in let f : x % 65536 / 256 % 256 ≡ x / 256 % 256 = omega arith in rw (e, f) refl
+
+pub four_bytes : (x : ℕ) → x % 4294967296 % 256 ∷ x % 4294967296 / 256 % 256 ∷ x % 4294967296 / 65536 % 256 ∷ x % 4294967296 / 16777216 % 256 ∷ [] ≡ word_bytes x
+unfolding word_bytes field_bytes
+four_bytes x =
+    let a : x % 4294967296 % 256 ≡ x % 65536 % 256 = omega arith in
+    let b : x % 4294967296 / 256 % 256 ≡ x % 65536 / 256 % 256 = omega arith in
+    let c : x % 4294967296 / 65536 % 256 ≡ x / 65536 % 256 = omega arith in
+    let d : x % 4294967296 / 16777216 % 256 ≡ x / 65536 / 256 % 256 = omega arith in
+    rw (a, b, c, d) refl
+
+-- values that take the place of as many are laid
+pub laid : (l part v : List ℕ) (i k : ℕ) → i + length v ≤ length l → part ≡ v → k ≡ length v → take i l ++ (part ++ drop k (drop i l)) ≡ sets l i v
+laid l part v i k h e n =
+    (λ j. take i l ++ (e j ++ drop (n j) (drop i l)))
+    ∙ (ap (λ (r : List ℕ). take i l ++ (v ++ r)) (drop-drop (length v) i l) ∙ (sym (append_assoc (take i l) v (drop (i + length v) l)) ∙ sym (sets-eq v l i h)))
 
 -- a field, then what follows it
 pub field_then : (l : List ℕ) (i x : ℕ) (rest : List ℕ) → sets (sets l i (field_bytes x)) (i + 2) rest ≡ sets l i (field_bytes x ++ rest)
 unfolding field_bytes
 field_then l i x rest = sets_append l i (x % 256 ∷ x / 256 % 256 ∷ []) rest
-
-pub word_laid : (l l₁ l₂ : List ℕ) (i w : ℕ) → l₁ ≡ sets l i (field_bytes (w % 65536)) → l₂ ≡ sets l₁ (i + 2) (field_bytes (w / 65536)) → l₂ ≡ sets l i (word_bytes w)
-unfolding word_bytes
-word_laid l l₁ l₂ i w e f = f ∙ rw e (field_then l i (w % 65536) (field_bytes (w / 65536)))
 
 pub record_laid : (l l₁ l₂ l₃ l₄ : List ℕ) (i x : ℕ) → l₁ ≡ sets l i (field_bytes (x / 281474976710656)) → l₂ ≡ sets l₁ (i + 2) (field_bytes (x / 4294967296 % 65536))
     → l₃ ≡ sets l₂ (i + 4) (field_bytes (x / 65536 % 65536)) → l₄ ≡ sets l₃ (i + 6) (field_bytes (x % 65536)) → l₄ ≡ sets l i (record_bytes (record_of x))
@@ -32,7 +45,3 @@ record_laid l l₁ l₂ l₃ l₄ i x e₁ e₂ e₃ e₄ =
     let q₃ : l₄ ≡ sets l₂ (i + 4) (c ++ d) = e₄ ∙ rw (n₆, e₃) (field_then l₂ (i + 4) (x / 65536 % 65536) d) in
     let q₂ : l₄ ≡ sets l₁ (i + 2) (b ++ (c ++ d)) = q₃ ∙ rw (n₄, e₂) (field_then l₁ (i + 2) (x / 4294967296 % 65536) (c ++ d)) in
     q₂ ∙ rw e₁ (field_then l i (x / 281474976710656) (b ++ (c ++ d)))
-
-pub word_read : (bytes : List ℕ) (i a b : ℕ) → a ≡ field_at bytes i → b ≡ field_at bytes (i + 2) → a + 65536 * b ≡ word_at bytes i
-unfolding word_at
-word_read bytes i a b e f = rw (e, f)

@@ -1,23 +1,23 @@
 -- What the functions that hold a file against its layout cite: units from the front, one after the other; what each says by itself; and
 -- how many blocks and wires they have.
+use Rattle.std.specs.List.{list_all}
 use Rattle.std.specs.Prelude.{◌≡◌, refl, Bool, true, false, cond, ◌&&◌, leb, take}
 use Rattle.std.proofs.Math.Path.{sym, ap}
 use Rattle.std.proofs.Common.{◌∙◌, length-append, drop-cons, drop-drop, get_or-take, take_all, eqb-true, eq-eqb, ne_eqb, leb-true, leb-false, le-leb}
 use Rattle.std.proofs.Math.Bool.{and_assoc, and-false}
-use mathlib.Core.List.{List, [], ◌∷◌, map}
+use mathlib.Core.List.{◌++◌, List, [], ◌∷◌, map}
 use Prim.Native.Nat.{ℕ, suc, ◌+◌, ◌-◌, ◌*◌, ◌/◌, ◌%◌, ◌≤◌, ◌<◌}
 use native.Mathlib.Omega.{arith}
 use Rattle.std.proofs.Math.Dec.{eqb}
 use Rattle.std.proofs.Math.ListN.{length, get_or, drop, length-drop}
-use Rattle.std.proofs.Math.Seq.{get_or-drop}
+use Rattle.std.proofs.Math.Seq.{take_at, drop_at, get_or-drop}
 use Rattle.std.proofs.lemmas.Bool.{eqb-false, lt-leb}
 use Rattle.portgraph.specs.Model.{total}
 use Rattle.portgraph.specs.Sums.{total_same}
-use Rattle.multiportgraph.specs.HiddenStays.{true_not_false}
 use Rattle.port_tables.specs.Listing.{length_map}
 use Rattle.files.specs.View.{View}
 use Rattle.files.specs.Layout.{Record, unit_records, field_at, word_at, sum_of, block_of, wire_of, record_at, records_at, records_of, with_records, with_unit, read_units, unbytes}
-use Rattle.files.specs.Loading.{every, sum_holds, units_in, unit_list, is_whole, kind_of, count_of, of_kind, kinds_right, goes_on, counts_right, block_zeros, zeros_right, units_right}
+use Rattle.files.specs.Loading.{sum_holds, units_in, unit_list, is_whole, kind_of, count_of, of_kind, kinds_right, goes_on, counts_right, block_zeros, zeros_right, units_right}
 use Rattle.files.specs.LaidLaws.{both_true, field_taken, records_many}
 use Rattle.files.specs.LoadForms.{next_kind, kind_fits, count_fits, unit_fits, units_fit, ShapeIs}
 
@@ -64,7 +64,7 @@ rest_is l = let d = length-drop 512 l in take_all (length l - 512) (drop 512 l) 
 
 pub record Summing (file rest : List ℕ) : Type 0 where
   pub whole : length rest % 512 ≡ 0
-  pub same : every sum_holds (unit_list rest) ≡ is_whole file
+  pub same : list_all sum_holds (unit_list rest) ≡ is_whole file
 
 pub odd_file : (file : List ℕ) → (length file % 512 ≡ 0 → ⊥) → false ≡ is_whole file
 unfolding is_whole
@@ -75,19 +75,29 @@ unfolding is_whole
 sums_begin file h = record { whole = h; same = rw (eq-eqb (length file % 512) 0 h) }
 
 module _ {file rest : List ℕ} (s : Summing file rest) where
-  pub sum_wrong : 0 < length rest → sum_holds (take 512 rest) ≡ false → false ≡ is_whole file
-  sum_wrong h e = sym (ap (every sum_holds) (units_on rest h s.whole) ∙ ap (λ (b : Bool). b && every sum_holds (unit_list (drop 512 rest))) e) ∙ s.same
+  module _ (unit next : List ℕ) (e : rest ≡ unit ++ next) (n : length unit ≡ 512) where
+    some : 0 < length rest
+    some = let a = ap length e ∙ length-append unit next in omega arith
 
-  pub sum_right : 0 < length rest → sum_holds (take 512 rest) ≡ true → Summing file (drop 512 rest)
-  sum_right h e =
-      record {
-        whole = whole_on rest h s.whole;
-        same = sym (ap (every sum_holds) (units_on rest h s.whole) ∙ ap (λ (b : Bool). b && every sum_holds (unit_list (drop 512 rest))) e) ∙ s.same;
-      }
+    on : list_all sum_holds (unit_list rest) ≡ (sum_holds unit && list_all sum_holds (unit_list next))
+    on =
+        let a : take 512 rest ≡ unit = ap (take 512) e ∙ take_at unit next 512 n in
+        let b : drop 512 rest ≡ next = ap (drop 512) e ∙ drop_at unit next 512 n in
+        ap (list_all sum_holds) (units_on rest some s.whole) ∙ (λ i. sum_holds (a i) && list_all sum_holds (unit_list (b i)))
 
-  pub sums_end : length rest ≤ 0 → true ≡ is_whole file
+    pub sum_wrong : sum_holds unit ≡ false → false ≡ is_whole file
+    sum_wrong h = sym (on ∙ ap (λ (b : Bool). b && list_all sum_holds (unit_list next)) h) ∙ s.same
+
+    pub sum_right : sum_holds unit ≡ true → Summing file next
+    sum_right h =
+        record {
+          whole = let a = ap length e ∙ length-append unit next in let w = s.whole in omega arith;
+          same = sym (on ∙ ap (λ (b : Bool). b && list_all sum_holds (unit_list next)) h) ∙ s.same;
+        }
+
+  pub sums_end : length rest < 512 → true ≡ is_whole file
   unfolding unit_list units_in
-  sums_end h = ap (λ (l : List ℕ). every sum_holds (unit_list l)) (sym (none_left rest h)) ∙ s.same
+  sums_end h = let w = s.whole in ap (λ (l : List ℕ). list_all sum_holds (unit_list l)) (sym (none_left rest (omega arith))) ∙ s.same
 
 -- Zeros.
 
@@ -98,13 +108,13 @@ module _ (unit : List ℕ) (long : length unit ≡ 512) where
       let e : i + 1 ≡ suc i = omega arith in
       rw (n, drop-cons unit i 0 (omega arith), e)
 
-  pub zero_not : (i : ℕ) (all : Bool) → i < 508 → (get_or unit i 0 ≡ 0 → ⊥) → every (eqb 0) (take (508 - i) (drop i unit)) ≡ all → false ≡ all
+  pub zero_not : (i : ℕ) (all : Bool) → i < 508 → (get_or unit i 0 ≡ 0 → ⊥) → list_all (eqb 0) (take (508 - i) (drop i unit)) ≡ all → false ≡ all
   zero_not i all h k e = sym (rw (zeros_on i h, ne_eqb 0 (get_or unit i 0) (λ z. k (sym z))) refl) ∙ e
 
-  pub zero_next : (i : ℕ) (all : Bool) → i < 508 → get_or unit i 0 ≡ 0 → every (eqb 0) (take (508 - i) (drop i unit)) ≡ all → every (eqb 0) (take (508 - (i + 1)) (drop (i + 1) unit)) ≡ all
+  pub zero_next : (i : ℕ) (all : Bool) → i < 508 → get_or unit i 0 ≡ 0 → list_all (eqb 0) (take (508 - i) (drop i unit)) ≡ all → list_all (eqb 0) (take (508 - (i + 1)) (drop (i + 1) unit)) ≡ all
   zero_next i all h k e = sym (rw (zeros_on i h, eq-eqb 0 (get_or unit i 0) (sym k)) refl) ∙ e
 
-  pub zeros_end : (i : ℕ) (all : Bool) → 508 ≤ i → every (eqb 0) (take (508 - i) (drop i unit)) ≡ all → true ≡ all
+  pub zeros_end : (i : ℕ) (all : Bool) → 508 ≤ i → list_all (eqb 0) (take (508 - i) (drop i unit)) ≡ all → true ≡ all
   zeros_end i all h e = let n : 508 - i ≡ 0 = omega arith in sym (rw n refl) ∙ e
 
   -- the fields behind a record's second
@@ -128,7 +138,7 @@ module _ (unit : List ℕ) (long : length unit ≡ 512) where
       two_zeros (get_or (drop (4 + 8 * i) unit) 4 0 + 256 * get_or (drop (4 + 8 * i) unit) (4 + 1) 0) (get_or (drop (4 + 8 * i) unit) 6 0 + 256 * get_or (drop (4 + 8 * i) unit) (6 + 1) 0)
       ∙ (λ j. eqb ((g 4 ∙ ap at a) j + 256 * (g (4 + 1) ∙ ap at b) j + 65536 * ((g 6 ∙ ap at c) j + 256 * (g (6 + 1) ∙ ap at d) j)) 0)
 
-  module _ (count i : ℕ) (all : Bool) (same : every block_zeros (records_at (count - i) (drop (4 + 8 * i) unit)) ≡ all) where
+  module _ (count i : ℕ) (all : Bool) (same : list_all block_zeros (records_at (count - i) (drop (4 + 8 * i) unit)) ≡ all) where
     records_on : i < count → records_at (count - i) (drop (4 + 8 * i) unit) ≡ record_at (drop (4 + 8 * i) unit) ∷ records_at (count - (i + 1)) (drop (4 + 8 * (i + 1)) unit)
     unfolding records_at
     records_on h =
@@ -139,7 +149,7 @@ module _ (unit : List ℕ) (long : length unit ≡ 512) where
     pub block_zeros_not : i < count → (word_at unit (8 * i + 8) ≡ 0 → ⊥) → false ≡ all
     block_zeros_not h k = sym (rw (records_on h, block_word i, ne_eqb (word_at unit (8 * i + 8)) 0 k) refl) ∙ same
 
-    pub block_zeros_next : i < count → word_at unit (8 * i + 8) ≡ 0 → every block_zeros (records_at (count - (i + 1)) (drop (4 + 8 * (i + 1)) unit)) ≡ all
+    pub block_zeros_next : i < count → word_at unit (8 * i + 8) ≡ 0 → list_all block_zeros (records_at (count - (i + 1)) (drop (4 + 8 * (i + 1)) unit)) ≡ all
     block_zeros_next h k = sym (rw (records_on h, block_word i, eq-eqb (word_at unit (8 * i + 8)) 0 k) refl) ∙ same
 
     pub block_zeros_end : count ≤ i → true ≡ all
@@ -188,12 +198,12 @@ module _ (kind next : ℕ) where
         go false false e = leb-true count unit_records e
 
 module _ (unit : List ℕ) (next kind count : ℕ) (isKind : kind ≡ field_at unit 0) (isCount : count ≡ field_at unit 2) where
-  unit_parts : (k c z b : Bool) → k ≡ kind_fits kind next → c ≡ count_fits kind next count → z ≡ every (eqb 0) (take (508 - (4 + 8 * count)) (drop (4 + 8 * count) unit)) →
-      count ≤ unit_records → b ≡ cond (eqb kind 1) (every block_zeros (records_at count (drop 4 unit))) true → (k && (c && (z && b))) ≡ unit_fits unit next
+  unit_parts : (k c z b : Bool) → k ≡ kind_fits kind next → c ≡ count_fits kind next count → z ≡ list_all (eqb 0) (take (508 - (4 + 8 * count)) (drop (4 + 8 * count) unit)) →
+      count ≤ unit_records → b ≡ cond (eqb kind 1) (list_all block_zeros (records_at count (drop 4 unit))) true → (k && (c && (z && b))) ≡ unit_fits unit next
   unfolding unit_fits zeros_right records_of
   unit_parts k c z b e f g h i =
       let n : 508 - (4 + 8 * count) ≡ 8 * (unit_records - count) = omega arith in
-      let g₂ : z ≡ every (eqb 0) (take (8 * (unit_records - count)) (drop (4 + 8 * count) unit)) = rw n at g in
+      let g₂ : z ≡ list_all (eqb 0) (take (8 * (unit_records - count)) (drop (4 + 8 * count) unit)) = rw n at g in
       rw (← isKind, ← isCount) (λ j. e j && (f j && (g₂ j && i j)))
 
   pub unit_kind_wrong : false ≡ kind_fits kind next → false ≡ unit_fits unit next
@@ -208,11 +218,11 @@ module _ (unit : List ℕ) (next kind count : ℕ) (isKind : kind ≡ field_at u
     pub unit_few : count ≤ 63
     unit_few = count_few kind next count (sym c)
 
-    pub unit_zeros_wrong : false ≡ every (eqb 0) (take (508 - (4 + 8 * count)) (drop (4 + 8 * count) unit)) → false ≡ unit_fits unit next
+    pub unit_zeros_wrong : false ≡ list_all (eqb 0) (take (508 - (4 + 8 * count)) (drop (4 + 8 * count) unit)) → false ≡ unit_fits unit next
     unit_zeros_wrong z = unit_parts true true false _ k c z unit_few refl
 
-    module _ (z : true ≡ every (eqb 0) (take (508 - (4 + 8 * count)) (drop (4 + 8 * count) unit))) where
-      pub unit_of_blocks : (b : Bool) → kind ≡ 1 → b ≡ every block_zeros (records_at count (drop 4 unit)) → b ≡ unit_fits unit next
+    module _ (z : true ≡ list_all (eqb 0) (take (508 - (4 + 8 * count)) (drop (4 + 8 * count) unit))) where
+      pub unit_of_blocks : (b : Bool) → kind ≡ 1 → b ≡ list_all block_zeros (records_at count (drop 4 unit)) → b ≡ unit_fits unit next
       unit_of_blocks b e h = unit_parts true true true b k c z unit_few (h ∙ sym (rw (eq-eqb kind 1 e) refl))
 
       pub unit_of_wires : (kind ≡ 1 → ⊥) → true ≡ unit_fits unit next
@@ -241,12 +251,12 @@ kinds_first u [] = go (eqb (kind_of u) 1) (eqb (kind_of u) 2)
 kinds_first u (v ∷ l) = go (eqb (kind_of u) 1) (eqb (kind_of u) 2) (eqb (kind_of v) 1) refl
   where
     go : (a b e : Bool) → eqb (kind_of v) 1 ≡ e →
-        cond a (cond e (kinds_right l) (every (of_kind 2) (v ∷ l))) (b && every (of_kind 2) (v ∷ l)) ≡ (cond a true (cond e false b) && cond e (kinds_right l) (every (of_kind 2) (v ∷ l)))
+        cond a (cond e (kinds_right l) (list_all (of_kind 2) (v ∷ l))) (b && list_all (of_kind 2) (v ∷ l)) ≡ (cond a true (cond e false b) && cond e (kinds_right l) (list_all (of_kind 2) (v ∷ l)))
     go true b e h = refl
     go false b true h =
         let k = eqb-true (kind_of v) 1 h in
         let g : eqb (kind_of v) 2 ≡ false = ne_eqb (kind_of v) 2 (λ z. omega arith) in
-        ap (λ (t : Bool). b && (t && every (of_kind 2) l)) g ∙ and-false b
+        ap (λ (t : Bool). b && (t && list_all (of_kind 2) l)) g ∙ and-false b
     go false b false h = refl
 
 goes_on_lem : (u : List ℕ) (l : List (List ℕ)) → kind_fits (kind_of u) (next_kind l) ≡ true → goes_on u l ≡ eqb (next_kind l) (kind_of u)
@@ -279,8 +289,8 @@ units_as_fit (u ∷ l) =
     let c = leb (cond (goes_on u l) unit_records 1) n && leb n unit_records in
     let a : counts_right (u ∷ l) ≡ (c && counts_right l) = sym (and_assoc (leb (cond (goes_on u l) unit_records 1) n) (leb n unit_records) (counts_right l)) in
     let s : (k && (c && zeros_right u)) ≡ unit_fits u (next_kind l) = and_under k (c && zeros_right u) _ (λ h. ap (λ (b : Bool). b && zeros_right u) (ap (λ (t : Bool). leb (cond t unit_records 1) n && leb n unit_records) (goes_on_lem u l h) ∙ count_tested (eqb (next_kind l) (kind_of u)) n)) in
-    (λ j. kinds_first u l j && (a j && (zeros_right u && every zeros_right l)))
-    ∙ (and_three k c (zeros_right u) (kinds_right l) (counts_right l) (every zeros_right l) ∙ (λ j. s j && units_as_fit l j))
+    (λ j. kinds_first u l j && (a j && (zeros_right u && list_all zeros_right l)))
+    ∙ (and_three k c (zeros_right u) (kinds_right l) (counts_right l) (list_all zeros_right l) ∙ (λ j. s j && units_as_fit l j))
 
 -- the kind of the next unit
 pub no_next : (rest : List ℕ) → length rest < 1024 → 0 ≡ next_kind (unit_list (drop 512 rest))
@@ -319,7 +329,7 @@ shape_begins file h =
     }
 
 module _ {file rest : List ℕ} {blocks wires : ℕ} (s : Shaping file rest blocks wires) where
-  pub shape_ends : length rest ≤ 0 → ShapeIs file true blocks wires
+  pub shape_ends : length rest ≤ 0 → ShapeIs file blocks wires
   unfolding unit_list units_in units_fit unbytes read_units
   shape_ends h =
       let e = none_left rest h in
@@ -328,9 +338,9 @@ module _ {file rest : List ℕ} {blocks wires : ℕ} (s : Shaping file rest bloc
       let x = s.blocks_many in
       let y = s.wires_many in
       record {
-        units = ap (λ (l : List ℕ). units_fit (unit_list l)) (sym e) ∙ s.same;
-        blocks_many = λ t. omega arith;
-        wires_many = λ t. omega arith;
+        units = sym (ap (λ (l : List ℕ). units_fit (unit_list l)) (sym e) ∙ s.same);
+        blocks_many = omega arith;
+        wires_many = omega arith;
       }
 
   module _ (some : 0 < length rest) where
@@ -338,14 +348,10 @@ module _ {file rest : List ℕ} {blocks wires : ℕ} (s : Shaping file rest bloc
     unfolding units_fit
     fit_on = ap units_fit (units_on rest some s.whole)
 
-    pub shape_broken : {n : ℕ} → n ≡ next_kind (unit_list (drop 512 rest)) → false ≡ unit_fits (take 512 rest) n → ShapeIs file false 0 0
+    pub shape_broken : {n : ℕ} → n ≡ next_kind (unit_list (drop 512 rest)) → false ≡ unit_fits (take 512 rest) n → units_right (unit_list file) ≡ false
     shape_broken e f =
         let g : unit_fits (take 512 rest) (next_kind (unit_list (drop 512 rest))) ≡ false = sym (f ∙ ap (unit_fits (take 512 rest)) e) in
-        record {
-          units = sym (fit_on ∙ ap (λ (b : Bool). b && units_fit (unit_list (drop 512 rest))) g) ∙ s.same;
-          blocks_many = λ t. absurd (true_not_false t refl);
-          wires_many = λ t. absurd (true_not_false t refl);
-        }
+        sym s.same ∙ (fit_on ∙ ap (λ (b : Bool). b && units_fit (unit_list (drop 512 rest))) g)
 
     module _ {n : ℕ} (isNext : n ≡ next_kind (unit_list (drop 512 rest))) (fits : true ≡ unit_fits (take 512 rest) n) where
       unit_fits_lem : unit_fits (take 512 rest) (next_kind (unit_list (drop 512 rest))) ≡ true

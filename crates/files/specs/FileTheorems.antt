@@ -1,6 +1,6 @@
 -- What is proved of files, in plain order: statements with a sentence each, over every list of calls from the empty graph of either release. The words
 -- stand in Claims, over Saving and the wire book.
-use Rattle.std.specs.Prelude.{◌≡◌, refl, List, ◌↔◌, ℕ, ◌≤◌, ◌<◌, length}
+use Rattle.std.specs.Prelude.{◌≡◌, refl, List, ◌↔◌, ℕ, ◌≤◌, ◌<◌, length, Ok}
 use Rattle.std.proofs.Common.{sym, ap, ◌∙◌, subst, arith, le-leb}
 use Rattle.port_tables.specs.Limits.{node_slots, node_ports}
 use Rattle.port_tables.specs.Lists.{Rising}
@@ -17,7 +17,6 @@ use Rattle.files.specs.LayoutLaws as layout
 use Rattle.files.specs.LayoutLaws.{ViewFits}
 use Rattle.files.specs.ViewLaws as views
 use Rattle.files.specs.WiringLaws as wiring
-use Rattle.files.specs.declared.save.SaveAnswer.TheVariants.{Saved}
 
 -- Two histories give equal bytes exactly if they have the same blocks by rank and, between any two ports, as many wires, whatever their releases.
 pub same_file_same_wiring : (one other : Release) (first second : List Call) →
@@ -67,7 +66,7 @@ pub file_is_short : (release : Release) (calls : List Call) → length (file_of 
 file_is_short release calls = views.file_length_most (rel_run release calls).1.fine
 
 -- a buffer of so many bytes is never too short,
-pub never_too_short : (release : Release) (calls : List Call) (buffer : List ℕ) → longest_file ≤ length buffer → save_answer (run release calls).graph buffer ≡ Saved (length (file_of (run release calls).graph))
+pub never_too_short : (release : Release) (calls : List Call) (buffer : List ℕ) → longest_file ≤ length buffer → save_answer (run release calls).graph buffer ≡ Ok (length (file_of (run release calls).graph))
 unfolding save_answer
 never_too_short release calls buffer h =
     let k = file_is_short release calls in

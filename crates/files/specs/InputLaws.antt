@@ -1,6 +1,6 @@
 -- Which links of a build give 18: for release 2, those before which a wire already ends at the same input. Between an output and an input
 -- nothing else refuses a link but space.
-use Rattle.std.specs.Prelude.{◌≡◌, refl, Bool, true, false, List, [], ◌∷◌, ◌⊎◌, ℕ, ◌+◌, ◌<◌}
+use Rattle.std.specs.Prelude.{◌≡◌, refl, Bool, true, false, List, [], ◌∷◌, ◌⊎◌, ℕ, ◌+◌, ◌<◌, Err}
 use Rattle.std.proofs.Common.{sym, ap, ◌∙◌, inl, inr, arith}
 use Rattle.port_tables.specs.Lists.{Member}
 use Rattle.portgraph.specs.Model as model
@@ -13,7 +13,6 @@ use Rattle.multiportgraph.specs.Ends.{into_side}
 use Rattle.port_tables.specs.Places.{Place, Wire, flag}
 use Rattle.multiportgraph.specs.declared.multiportgraph.MultiPortGraph.{MultiPortGraph}
 use Rattle.port_tables.specs.declared.release.Release.TheVariants.{Two}
-use Rattle.multiportgraph.specs.declared.multiportgraph.LinkAnswer.TheVariants as link
 use Rattle.multiportgraph.specs.declared.multiportgraph.PortsLinked.{PortsLinked}
 use Rattle.multi_tables.specs.declared.answers.Refusal.{Refusal}
 use Rattle.multi_tables.specs.declared.answers.Refusal.TheVariants.{NoRoom, InputWired}
@@ -75,10 +74,10 @@ module _ {m : MultiPortGraph} {M : Model} {B : Book} (r : Rel m M B) (a b : ℕ)
         (outgoing_not_incoming
         (ap (λ (p : model.InnerPlace). p.side) (same_port a (inner# n Outgoing i) x s u) ∙ (l ∙ ap (λ (p : model.InnerPlace). p.side) (same_port b y (inner# k Incoming j) z t))))
 
-    pub link_refusals : (c : Refusal) → (link_pair m a b).answer ≡ link.Refused c → (Taken m M a b × (c ≡ InputWired)) ⊎ (c ≡ NoRoom)
+    pub link_refusals : (c : Refusal) → (link_pair m a b).answer ≡ Err c → (Taken m M a b × (c ≡ InputWired)) ⊎ (c ≡ NoRoom)
     link_refusals c e = refusals (link_pair m a b).graph c (link_refused_lem r.fine a b c e)
 
-    pub taken_refused : Taken m M a b → (link_pair m a b).answer ≡ link.Refused InputWired
+    pub taken_refused : Taken m M a b → (link_pair m a b).answer ≡ Err InputWired
     taken_refused w = ap (λ (v : PortsLinked). v.answer) (link_refuses r.fine a b m InputWired (link_wired (inner# n Outgoing i) s (block_not_hidden r.fine b _ t) w))
 
     module _ (ws : List RankWire) (entered : (z : RankWire) → count (λ (w : Wire). same_wire (plain w) z) B.wires ≡ how_many same_wire z ws) where

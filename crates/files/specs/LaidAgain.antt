@@ -1,4 +1,5 @@
 -- What is written is laid: the file of a sound view whose numbers fit fields passes the tests of sums and layout.
+use Rattle.std.specs.List.{list_all}
 use Rattle.std.specs.Prelude.{◌≡◌, Bool, ◌&&◌, length, get_or}
 use Rattle.std.proofs.Math.Path.{refl, sym, ap, subst}
 use Rattle.std.proofs.Common.{◌∙◌, length-append, drop-drop, get_or-drop}
@@ -17,7 +18,7 @@ use Rattle.port_tables.specs.Listing.{member_left, member_right, member_map}
 use Rattle.files.specs.View.{View}
 use Rattle.files.specs.Layout.{Record, block_record, wire_record, field_bytes, word_bytes, field_at, word_at, record_bytes, unit_records, unit_head, sum_of, unit, units_for, units_from, units_of, bytes_of, records_of, unbytes}
 use Rattle.files.specs.LayoutLaws.{AllFit, ViewFits, records_length, head_length, unit_length, taken_few, units_length, unit_then, kind_read, unit_read, units_enough, view_read_back}
-use Rattle.files.specs.Loading.{every, sum_holds, units_in, unit_list, is_whole, kind_of, count_of, of_kind, kinds_right, goes_on, counts_right, zeros_from, block_zeros, zeros_right, units_right, view_right, is_laid}
+use Rattle.files.specs.Loading.{sum_holds, units_in, unit_list, is_whole, kind_of, count_of, of_kind, kinds_right, goes_on, counts_right, zeros_from, block_zeros, zeros_right, units_right, view_right, is_laid}
 use Rattle.files.specs.Claims.{Sound}
 use Rattle.files.specs.LaidLaws.{both_true, field_taken, UnitOf, Units}
 use Rattle.files.specs.WrittenLaws.{sum_taken}
@@ -58,7 +59,7 @@ sum_small l = omega arith
 
 -- A unit.
 
-zeros_pass : (n : ℕ) → every (eqb 0) (replicate n 0) ≡ true
+zeros_pass : (n : ℕ) → list_all (eqb 0) (replicate n 0) ≡ true
 zeros_pass zero = refl
 zeros_pass (suc n) = zeros_pass n
 
@@ -98,13 +99,13 @@ module _ (kind : ℕ) (records : List Record) (few : length records ≤ unit_rec
         let u = unit kind records ++ [] in
         let c = count_read [] in
         let z : zeros_from (4 + 8 * count_of u) u ≡ true =
-        ap (λ (n : ℕ). every (eqb 0) (take (8 * (unit_records - n)) (drop (4 + 8 * n) u))) c ∙ (ap (every (eqb 0)) (unused_read []) ∙ zeros_pass (8 * (unit_records - many))) in
+        ap (λ (n : ℕ). list_all (eqb 0) (take (8 * (unit_records - n)) (drop (4 + 8 * n) u))) c ∙ (ap (list_all (eqb 0)) (unused_read []) ∙ zeros_pass (8 * (unit_records - many))) in
         let k = kind_read kind records [] kindSmall in
         let r = unit_read kind records [] few fit in
-        let y : cond (of_kind 1 u) (every block_zeros (records_of u)) true ≡ true = (λ j. cond (eqb (k j) 1) (every block_zeros (r j)) true) ∙ go (eqb kind 1) refl in
+        let y : cond (of_kind 1 u) (list_all block_zeros (records_of u)) true ≡ true = (λ j. cond (eqb (k j) 1) (list_all block_zeros (r j)) true) ∙ go (eqb kind 1) refl in
         λ j. z j && y j
       where
-        go : (t : Bool) → eqb kind 1 ≡ t → cond t (every block_zeros records) true ≡ true
+        go : (t : Bool) → eqb kind 1 ≡ t → cond t (list_all block_zeros records) true ≡ true
         go true e = item_every block_zeros records (blocks e)
         go false e = refl
 
@@ -141,7 +142,7 @@ module _ (kind : ℕ) (kindSmall : kind < 65536) where
       let d = drop_at (unit kind first) (units_from kind n later ++ l) 512 (unit_length kind first few) in
       subst (Units kind (suc n)) (sym (append_assoc (unit kind first) (units_from kind n later) l)) (u, subst (Units kind n) (sym d) rest)
 
-  sums_again : (n : ℕ) (records : List Record) (l : List ℕ) → every sum_holds (units_in n (units_from kind n records ++ l)) ≡ true
+  sums_again : (n : ℕ) (records : List Record) (l : List ℕ) → list_all sum_holds (units_in n (units_from kind n records ++ l)) ≡ true
   unfolding units_from units_in
   sums_again zero records l = refl
   sums_again (suc n) records l =
@@ -153,12 +154,12 @@ module _ (kind : ℕ) (kindSmall : kind < 65536) where
       let d = drop_at (unit kind first) (units_from kind n later ++ l) 512 (unit_length kind first few) in
       let s = sum_read kind first few in
       let r = sums_again n later l in
-      ap (λ (x : List ℕ). sum_holds (take 512 x) && every sum_holds (units_in n (drop 512 x))) e
-      ∙ ((λ j. sum_holds (t j) && every sum_holds (units_in n (d j))) ∙ (λ j. s j && r j))
+      ap (λ (x : List ℕ). sum_holds (take 512 x) && list_all sum_holds (units_in n (drop 512 x))) e
+      ∙ ((λ j. sum_holds (t j) && list_all sum_holds (units_in n (d j))) ∙ (λ j. s j && r j))
 
 -- What the tests find.
 
-every_kind : (kind n : ℕ) (bytes : List ℕ) → Units kind n bytes → every (of_kind kind) (units_in n bytes) ≡ true
+every_kind : (kind n : ℕ) (bytes : List ℕ) → Units kind n bytes → list_all (of_kind kind) (units_in n bytes) ≡ true
 unfolding units_in
 every_kind kind zero bytes u = refl
 every_kind kind (suc n) bytes u =
@@ -166,7 +167,7 @@ every_kind kind (suc n) bytes u =
     let r = every_kind kind n (drop 512 bytes) u.1 in
     λ j. a j && r j
 
-every_zeros : (kind n : ℕ) (bytes : List ℕ) → Units kind n bytes → every zeros_right (units_in n bytes) ≡ true
+every_zeros : (kind n : ℕ) (bytes : List ℕ) → Units kind n bytes → list_all zeros_right (units_in n bytes) ≡ true
 unfolding units_in
 every_zeros kind zero bytes u = refl
 every_zeros kind (suc n) bytes u =
@@ -179,13 +180,13 @@ module _ (q : ℕ) where
   next_units : (p : ℕ) (bytes : List ℕ) → drop (512 * suc p) bytes ≡ drop (512 * p) (drop 512 bytes)
   next_units p bytes = let z : 512 * suc p ≡ 512 + 512 * p = omega arith in ap (λ (m : ℕ). drop m bytes) z ∙ sym (drop-drop (512 * p) 512 bytes)
 
-  units_before : (p : ℕ) (f : List ℕ → Bool) (bytes : List ℕ) → every f (units_in p bytes) ≡ true → every f (units_in q (drop (512 * p) bytes)) ≡ true → every f (units_in (p + q) bytes) ≡ true
+  units_before : (p : ℕ) (f : List ℕ → Bool) (bytes : List ℕ) → list_all f (units_in p bytes) ≡ true → list_all f (units_in q (drop (512 * p) bytes)) ≡ true → list_all f (units_in (p + q) bytes) ≡ true
   unfolding units_in
   units_before zero f bytes e h = let n : 0 + q ≡ q = omega arith in rw n h
   units_before (suc p) f bytes e h =
       let n : suc p + q ≡ suc (p + q) = omega arith in
-      let k = both_true (f (take 512 bytes)) (every f (units_in p (drop 512 bytes))) e in
-      let r = units_before p f (drop 512 bytes) k.1 (subst (λ (l : List ℕ). every f (units_in q l) ≡ true) (next_units p bytes) h) in
+      let k = both_true (f (take 512 bytes)) (list_all f (units_in p (drop 512 bytes))) e in
+      let r = units_before p f (drop 512 bytes) k.1 (subst (λ (l : List ℕ). list_all f (units_in q l) ≡ true) (next_units p bytes) h) in
       let a = k.0 in
       rw n (λ j. a j && r j)
 
@@ -292,12 +293,12 @@ written_laid v f s =
     let u = units_again 1 (omega arith) p blocks second (units_enough (length blocks)) (units_least (length blocks)) f.0 (λ k r i. block_zeros_lem v r i) in
     let w = subst (Units 2 q) (append-nil second) (units_again 2 (omega arith) q wires [] (units_enough (length wires)) (units_least (length wires)) f.1 (λ k r i. absurd (true_not_false k refl))) in
     let x = sums_again 1 (omega arith) p blocks second in
-    let y = subst (λ (l : List ℕ). every sum_holds (units_in q l) ≡ true) (append-nil second) (sums_again 2 (omega arith) q wires []) in
-    let sums = units_before q p sum_holds (first ++ second) x (subst (λ (l : List ℕ). every sum_holds (units_in q l) ≡ true) (sym d) y) in
+    let y = subst (λ (l : List ℕ). list_all sum_holds (units_in q l) ≡ true) (append-nil second) (sums_again 2 (omega arith) q wires []) in
+    let sums = units_before q p sum_holds (first ++ second) x (subst (λ (l : List ℕ). list_all sum_holds (units_in q l) ≡ true) (sym d) y) in
     let right = parts_right p q (first ++ second) u (subst (Units 2 q) (sym d) w) in
     let whole = eq-eqb (length (first ++ second) % 512) 0 even in
     let seen = ap view_right (view_read_back v f) ∙ sound_right v s in (
-      ap (λ (l : List ℕ). eqb (length l % 512) 0 && every sum_holds (units_in (length l / 512) l)) e ∙ ((λ j. whole j && every sum_holds (units_in (many j) (first ++ second))) ∙ sums),
+      ap (λ (l : List ℕ). eqb (length l % 512) 0 && list_all sum_holds (units_in (length l / 512) l)) e ∙ ((λ j. whole j && list_all sum_holds (units_in (many j) (first ++ second))) ∙ sums),
       ap (λ (l : List ℕ). units_right (units_in (length l / 512) l) && view_right (unbytes (bytes_of v))) e
           ∙ ((λ j. units_right (units_in (many j) (first ++ second)) && view_right (unbytes (bytes_of v))) ∙ (λ j. right j && seen j)),
     )

@@ -1,5 +1,6 @@
 -- What a laid file is: units of kind 1 and then units of kind 2, all but the last of a kind full. So each record stands where its
 -- number says.
+use Rattle.std.specs.List.{list_all}
 use Rattle.std.specs.Prelude.{◌≡◌, refl, Bool, true, false, cond, ◌&&◌, List, [], ◌∷◌, ◌++◌, map, ℕ, zero, suc, ◌+◌, ◌-◌, ◌*◌, ◌/◌, ◌%◌, ◌≤◌, ◌<◌, leb, ltb, length, get_or, take, drop}
 use Rattle.std.proofs.Common.{sym, ap, ◌∙◌, subst, arith, length-append, drop-drop, get_or-take, get_or-append-add, eqb-true, eq-eqb, leb-true, ltb-true, ltb-false}
 use Rattle.std.proofs.Math.ListN.{get_or-append}
@@ -7,7 +8,7 @@ use Rattle.multiportgraph.specs.HiddenStays.{true_not_false}
 use Rattle.port_tables.specs.Listing.{length_map}
 use Rattle.files.specs.View.{BlockPorts, RankWire, View}
 use Rattle.files.specs.Layout.{Record, field_at, unit_records, units_for, block_of, wire_of, record_at, records_at, records_of, read_units, unbytes}
-use Rattle.files.specs.Loading.{every, units_in, unit_list, kind_of, count_of, of_kind, kinds_right, goes_on, counts_right, zeros_right, units_right}
+use Rattle.files.specs.Loading.{units_in, unit_list, kind_of, count_of, of_kind, kinds_right, goes_on, counts_right, zeros_right, units_right}
 
 -- Tests.
 
@@ -215,7 +216,7 @@ first_unit kind p n bytes l k c z s =
       zeros = z;
     }
 
-second_part : (n : ℕ) (bytes : List ℕ) → every (of_kind 2) (units_in n bytes) ≡ true → counts_right (units_in n bytes) ≡ true → every zeros_right (units_in n bytes) ≡ true → Units 2 n bytes
+second_part : (n : ℕ) (bytes : List ℕ) → list_all (of_kind 2) (units_in n bytes) ≡ true → counts_right (units_in n bytes) ≡ true → list_all zeros_right (units_in n bytes) ≡ true → Units 2 n bytes
 unfolding units_in
 second_part zero bytes k c z = tt
 second_part (suc n) bytes k c z =
@@ -226,7 +227,7 @@ second_part (suc n) bytes k c z =
     let later = second_part n (drop 512 bytes) a.1 (count_parts u rest c).2 b.1 in
     (first_unit 2 n n bytes (omega arith) (sym (field_taken 512 0 bytes (omega arith)) ∙ eqb-true _ _ a.0) c b.0 later, later)
 
-pub parts_of : (n : ℕ) (bytes : List ℕ) → kinds_right (units_in n bytes) ≡ true → counts_right (units_in n bytes) ≡ true → every zeros_right (units_in n bytes) ≡ true → Parts n bytes
+pub parts_of : (n : ℕ) (bytes : List ℕ) → kinds_right (units_in n bytes) ≡ true → counts_right (units_in n bytes) ≡ true → list_all zeros_right (units_in n bytes) ≡ true → Parts n bytes
 unfolding units_in kinds_right
 parts_of zero bytes k c z = record { first = 0; second = 0; whole = refl; blocks = tt; wires = tt }
 parts_of (suc n) bytes k c z = go (of_kind 1 (take 512 bytes)) refl k (parts_of n (drop 512 bytes))
@@ -234,10 +235,10 @@ parts_of (suc n) bytes k c z = go (of_kind 1 (take 512 bytes)) refl k (parts_of 
     rest : List (List ℕ)
     rest = units_in n (drop 512 bytes)
 
-    go : (t : Bool) → of_kind 1 (take 512 bytes) ≡ t → cond t (kinds_right rest) (every (of_kind 2) (take 512 bytes ∷ rest)) ≡ true →
-        (kinds_right rest ≡ true → counts_right rest ≡ true → every zeros_right rest ≡ true → Parts n (drop 512 bytes)) → Parts (suc n) bytes
+    go : (t : Bool) → of_kind 1 (take 512 bytes) ≡ t → cond t (kinds_right rest) (list_all (of_kind 2) (take 512 bytes ∷ rest)) ≡ true →
+        (kinds_right rest ≡ true → counts_right rest ≡ true → list_all zeros_right rest ≡ true → Parts n (drop 512 bytes)) → Parts (suc n) bytes
     go true e k more =
-        let b = both_true (zeros_right (take 512 bytes)) (every zeros_right rest) z in
+        let b = both_true (zeros_right (take 512 bytes)) (list_all zeros_right rest) z in
         let s = more k (count_parts (take 512 bytes) rest c).2 b.1 in
         let w = s.whole in
         let d : drop (512 * s.first) (drop 512 bytes) ≡ drop (512 * suc s.first) bytes =

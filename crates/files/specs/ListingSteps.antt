@@ -2,7 +2,7 @@
 -- accepted file has few blocks and wires.
 use Rattle.std.proofs.Math.Path.{◌≡◌, refl, sym, ap}
 use Rattle.std.proofs.Common.{◌∙◌, drop_of_length-le, drop-cons, le-leb}
-use Rattle.std.specs.Prelude.{Bool, true, cond, get_or, set}
+use Rattle.std.specs.Prelude.{Bool, true, cond, get_or, set, Result, Ok, Err, is_ok, IsErrAnd}
 use Rattle.std.proofs.Math.Bool.{false}
 use mathlib.Core.List.{List, [], ◌∷◌, ◌++◌, map, flat_map}
 use Prim.Native.Nat.{ℕ, zero, suc, ◌+◌, ◌*◌, ◌/◌, ◌≤◌, ◌<◌}
@@ -25,15 +25,15 @@ use Rattle.theorems.specs.History.{run}
 use Rattle.files.specs.View.{View, rank_among, rank_wire, view_of}
 use Rattle.files.specs.Layout.{field_at, block_of, wire_of, units_for, unbytes}
 use Rattle.files.specs.Loading.{is_whole, is_laid, add_of, link_of, out_port, in_port, build_of, first_refusal, load_answer, load_answer_under}
-use Rattle.files.specs.BuildList.{add_pair, link_pair, build_numbers, if_loaded, list_build, build_after}
+use Rattle.files.specs.BuildList.{add_pair, link_pair, build_numbers, list_build, build_after}
 use Rattle.files.specs.OrderLaws.{sorted_length}
 use Rattle.files.specs.ViewLaws.{wires_few}
 use Rattle.files.specs.SoundLaws.{laid_sound}
 use Rattle.files.specs.BuildLaws.{built_view}
-use Rattle.files.specs.LoadForms.{place_of, record_in, no_wire, BlocksRead, WiresRead, Laid, is_loaded, Firsts, Linked}
-use Rattle.files.specs.BuildSteps.{adds_few, first_refused, is_loaded_lem}
-use Rattle.files.specs.declared.load.LoadAnswer.{LoadAnswer}
-use Rattle.files.specs.declared.load.LoadAnswer.TheVariants.{Loaded, BadSums, BadLayout, Refused}
+use Rattle.files.specs.LoadForms.{place_of, record_in, no_wire, BlocksRead, WiresRead, Laid, Firsts, Linked}
+use Rattle.files.specs.BuildSteps.{err_is, is_loaded, adds_few, first_refused}
+use Rattle.files.specs.declared.load.LoadError.{LoadError}
+use Rattle.files.specs.declared.load.LoadError.TheVariants.{BadSums, BadLayout}
 use Rattle.files.specs.declared.listing.BuildListed.{BuildListed}
 
 pub two_numbers : (l : List ℕ) (i a b : ℕ) → set (set l i a) (i + 1) b ≡ sets l i (a ∷ b ∷ [])
@@ -88,9 +88,9 @@ link_turn {bytes} {numbers = numbers} {k = k} r p h e x y q g =
     let m = r.many in
     pairs_turn p no_wire (omega arith) (r.each _ h ∙ ap (λ (q : ℕ). wire_of (record_in bytes q)) (sym e)) refl q (g ∙ (λ j. sets numbers k (x j ∷ y j ∷ [])))
 
-module _ {bytes : List ℕ} {n w : ℕ} (l : Laid bytes true n w) where
+module _ {bytes : List ℕ} {n w : ℕ} (l : Laid bytes n w) where
   pub laid_linked : {table : List ℕ} → n ≤ node_slots → Firsts table bytes n → Linked table bytes n (units_for n) w
-  laid_linked few f = record { firsts = f; read = l.blocks_are refl; wires_are = l.wires_are refl; sound = l.sound refl; few = few }
+  laid_linked few f = record { firsts = f; read = l.blocks_are; wires_are = l.wires_are; sound = l.sound; few = few }
 
   numbers_long : length (build_numbers (unbytes bytes)) ≡ 2 * (n + w)
   unfolding build_numbers
@@ -99,14 +99,14 @@ module _ {bytes : List ℕ} {n w : ℕ} (l : Laid bytes true n w) where
       let a = pairs_long add_pair (λ b. refl) v.blocks in
       let b = pairs_long (link_pair v.blocks) (λ x. refl) v.wires in
       let c = length-append (flat_map add_pair v.blocks) (flat_map (link_pair v.blocks) v.wires) in
-      let d = (l.blocks_are refl).many in
-      let e = (l.wires_are refl).many in
+      let d = (l.blocks_are).many in
+      let e = (l.wires_are).many in
       omega arith
 
   -- so few records that their numbers can be counted
   pub laid_short : 4 * (n + w) ≤ length bytes + 8
   unfolding units_for
-  laid_short = go n w (l.blocks_are refl) (l.wires_are refl)
+  laid_short = go n w (l.blocks_are) (l.wires_are)
     where
       go : (n w : ℕ) → BlocksRead bytes n → WiresRead bytes ((n + 62) / 63) w → 4 * (n + w) ≤ length bytes + 8
       go zero zero b c = omega arith
@@ -124,7 +124,7 @@ module _ {bytes : List ℕ} {n w : ℕ} (l : Laid bytes true n w) where
       let v = unbytes bytes in
       let a = flat_map add_pair v.blocks in
       let b = flat_map (link_pair v.blocks) v.wires in
-      let m = (l.blocks_are refl).many in
+      let m = (l.blocks_are).many in
       let p = pairs_long add_pair (λ x. refl) v.blocks in
       let z : at ≡ 0 + length a = omega arith in
       let n = numbers_long in
@@ -135,69 +135,44 @@ module _ {bytes : List ℕ} {n w : ℕ} (l : Laid bytes true n w) where
 -- Answers.
 
 module _ (release : Release) (bytes numbers : List ℕ) where
-  pub list_refused : (a : LoadAnswer) → a ≡ load_answer release bytes → is_loaded a ≡ false → (r : BuildListed) → r ≡ record { answer = a; blocks = 0; wires = 0 } → (r ≡ list_build release bytes) × (numbers ≡ build_after release bytes numbers)
+  pub list_refused : {r : LoadError} (a : Result BuildListed LoadError) → IsErrAnd a (λ told. told ≡ r) → load_answer release bytes ≡ Err r → (a ≡ list_build release bytes) × (numbers ≡ build_after release bytes numbers)
   unfolding list_build build_after
-  list_refused a e h r f = (f ∙ go a h e, go₂ a h e)
-    where
-      go : (a : LoadAnswer) → is_loaded a ≡ false → a ≡ load_answer release bytes → ◌≡◌ {A = BuildListed} (record { answer = a; blocks = 0; wires = 0 })
-          (record { answer = load_answer release bytes; blocks = if_loaded (load_answer release bytes) (length (unbytes bytes).blocks) 0; wires = if_loaded (load_answer release bytes) (length (unbytes bytes).wires) 0 })
-      go Loaded h e = absurd (true_not_false refl h)
-      go BadSums h e = rw (← e)
-      go BadLayout h e = rw (← e)
-      go (Refused r) h e = rw (← e)
+  list_refused a h e = rw e (err_is a h, refl)
 
-      go₂ : (a : LoadAnswer) → is_loaded a ≡ false → a ≡ load_answer release bytes → numbers ≡ if_loaded (load_answer release bytes) (list_after (build_numbers (unbytes bytes)) numbers) numbers
-      go₂ Loaded h e = absurd (true_not_false refl h)
-      go₂ BadSums h e = rw (← e)
-      go₂ BadLayout h e = rw (← e)
-      go₂ (Refused r) h e = rw (← e)
-
-  pub list_done : (a : LoadAnswer) (n w : ℕ) (numbers' : List ℕ) → a ≡ load_answer release bytes → is_loaded a ≡ true → n ≡ length (unbytes bytes).blocks → w ≡ length (unbytes bytes).wires →
-      numbers' ≡ list_after (build_numbers (unbytes bytes)) numbers → (record { answer = a; blocks = n; wires = w } ≡ list_build release bytes) × (numbers' ≡ build_after release bytes numbers)
+  pub list_done : {blocks wires : ℕ} → Laid bytes blocks wires → Ok tt ≡ load_answer release bytes → {numbers' : List ℕ} →
+      numbers' ≡ list_after (build_numbers (unbytes bytes)) numbers → (Ok (record { blocks = blocks; wires = wires }) ≡ list_build release bytes) × (numbers' ≡ build_after release bytes numbers)
   unfolding list_build build_after
-  list_done a n w numbers' e h p q g =
-      let f : load_answer release bytes ≡ Loaded = sym e ∙ is_loaded_lem a h in
-      (rw f (λ j. record { answer = (e ∙ f) j; blocks = p j; wires = q j }), rw f g)
-
-module _ (release : Release) (bytes : List ℕ) where
-  pub answer_bad_sums : false ≡ is_whole bytes → BadSums ≡ load_answer release bytes
-  unfolding load_answer_under
-  answer_bad_sums h = rw (← h)
-
-  pub answer_bad_layout : true ≡ is_whole bytes → false ≡ is_laid bytes → BadLayout ≡ load_answer release bytes
-  unfolding load_answer_under
-  answer_bad_layout w h = rw (← w, ← h)
-
-  pub answer_built : true ≡ is_whole bytes → true ≡ is_laid bytes → {a : LoadAnswer} → a ≡ first_refusal (empty_graph release) (build_of (unbytes bytes)) → a ≡ load_answer release bytes
-  unfolding load_answer_under
-  answer_built w h e = rw (← w, ← h) e
+  list_done l e g =
+      let b = l.blocks_are.many in
+      let w = l.wires_are.many in
+      rw (← e) ((λ j. Ok (record { blocks = sym b j; wires = sym w j })), g)
 
 -- Accepted files are small.
 
-pub built_few : (release : Release) (v : View) → is_loaded (first_refusal (empty_graph release) (build_of v)) ≡ true → length v.blocks ≤ node_slots
+pub built_few : (release : Release) (v : View) → is_ok (first_refusal (empty_graph release) (build_of v)) ≡ true → length v.blocks ≤ node_slots
 unfolding build_of
-built_few release v h = adds_few release v.blocks (go (is_loaded (first_refusal (empty_graph release) (map add_of v.blocks))) refl)
+built_few release v h = adds_few release v.blocks (go (is_ok (first_refusal (empty_graph release) (map add_of v.blocks))) refl)
   where
-    go : (t : Bool) → is_loaded (first_refusal (empty_graph release) (map add_of v.blocks)) ≡ t → t ≡ true
+    go : (t : Bool) → is_ok (first_refusal (empty_graph release) (map add_of v.blocks)) ≡ t → t ≡ true
     go true e = refl
-    go false e = absurd (true_not_false h (ap is_loaded (first_refused (empty_graph release) (map add_of v.blocks) (map (link_of v.blocks) v.wires) e) ∙ e))
+    go false e = absurd (true_not_false h (ap is_ok (first_refused (empty_graph release) (map add_of v.blocks) (map (link_of v.blocks) v.wires) e) ∙ e))
 
 view_wires : (m : MultiPortGraph) → length (view_of m).wires ≡ length (wires_walked m)
 unfolding view_of
 view_wires m = sorted_length (map (rank_wire (rank_among (blocks m))) (wires_walked m)) ∙ length_map (rank_wire (rank_among (blocks m))) (wires_walked m)
 
 -- so are the wires: each takes two port slots
-pub loaded_few : (release : Release) (bytes : List ℕ) → is_loaded (load_answer release bytes) ≡ true → (length (unbytes bytes).blocks ≤ node_slots) × (2 * length (unbytes bytes).wires ≤ port_slots)
+pub loaded_few : (release : Release) (bytes : List ℕ) → is_ok (load_answer release bytes) ≡ true → (length (unbytes bytes).blocks ≤ node_slots) × (2 * length (unbytes bytes).wires ≤ port_slots)
 unfolding load_answer_under
 loaded_few release bytes h = go (is_whole bytes) (is_laid bytes) refl h
   where
     v : View
     v = unbytes bytes
 
-    go : (s t : Bool) → is_laid bytes ≡ t → is_loaded (cond s (cond t (first_refusal (empty_graph release) (build_of v)) BadLayout) BadSums) ≡ true → (length v.blocks ≤ node_slots) × (2 * length v.wires ≤ port_slots)
+    go : (s t : Bool) → is_laid bytes ≡ t → is_ok (cond s (cond t (first_refusal (empty_graph release) (build_of v)) (Err BadLayout)) (Err BadSums)) ≡ true → (length v.blocks ≤ node_slots) × (2 * length v.wires ≤ port_slots)
     go true true e k =
         let m = (run release (build_of v)).graph in
-        let a = built_view release v (laid_sound bytes e) (is_loaded_lem (first_refusal (empty_graph release) (build_of v)) k) in
+        let a = built_view release v (laid_sound bytes e) (is_loaded (first_refusal (empty_graph release) (build_of v)) k) in
         let b = wires_few (rel_run release (build_of v)).1.fine in
         let c = view_wires m in
         let d = ap (λ (x : View). length x.wires) a in

@@ -1,5 +1,5 @@
 -- The answers of a load, case by case.
-use Rattle.std.specs.Prelude.{◌≡◌, Bool, true, false, cond, List, ◌∷◌, ◌↔◌, ◌⊎◌, ℕ, ◌+◌, ◌≤◌, ◌<◌}
+use Rattle.std.specs.Prelude.{◌≡◌, Bool, true, false, cond, List, ◌∷◌, ◌↔◌, ◌⊎◌, ℕ, ◌+◌, ◌≤◌, ◌<◌, Result, Ok, Err}
 use Rattle.std.proofs.Math.Path.{refl, ap}
 use Rattle.std.proofs.Common.{sym, subst, inl, inr, ⊎_elim}
 use native.Mathlib.Omega.{arith}
@@ -31,75 +31,73 @@ use Rattle.files.specs.Loading.{is_whole, is_laid, build_of, first_refusal, load
 use Rattle.files.specs.SoundLaws.{laid_sound}
 use Rattle.files.specs.LoadClaims.{SharesInput, BuildRefused, build_many, build_no_block, build_wired, build_no_wire}
 use Rattle.files.specs.BuildRefusals.{loaded_or_refused, build_refusals}
-use Rattle.files.specs.declared.load.LoadAnswer.{LoadAnswer}
-use Rattle.files.specs.declared.load.LoadAnswer.TheVariants.{Loaded, BadSums, BadLayout, Refused}
+use Rattle.files.specs.declared.load.LoadError.{LoadError}
+use Rattle.files.specs.declared.load.LoadError.TheVariants.{BadSums, BadLayout, Refused}
 
 -- Which answer it is, as a number: no answer is another.
-abbrev tag : LoadAnswer → ℕ
-tag Loaded = 0
-tag BadSums = 1
-tag BadLayout = 2
-tag (Refused r) = 3
+abbrev tag : Result (Unit {0}) LoadError → ℕ
+tag (Ok _) = 0
+tag (Err BadSums) = 1
+tag (Err BadLayout) = 2
+tag (Err (Refused r)) = 3
 
 -- the answer by its two tests
-abbrev chosen : Bool → Bool → LoadAnswer → LoadAnswer
-chosen w l x = cond w (cond l x BadLayout) BadSums
+abbrev chosen : Bool → Bool → Result (Unit {0}) LoadError → Result (Unit {0}) LoadError
+chosen w l x = cond w (cond l x (Err BadLayout)) (Err BadSums)
 
 -- a build is accepted or refused
-abbrev Told : LoadAnswer → Type 0
-Told x = (x ≡ Loaded) ⊎ ((r : Refusal) × (x ≡ Refused r))
+abbrev Told : Result (Unit {0}) LoadError → Type 0
+Told x = (x ≡ Ok tt) ⊎ ((r : Refusal) × (x ≡ Err (Refused r)))
 
-told_tag : (x : LoadAnswer) → Told x → (tag x ≡ 0) ⊎ (tag x ≡ 3)
+told_tag : (x : Result (Unit {0}) LoadError) → Told x → (tag x ≡ 0) ⊎ (tag x ≡ 3)
 told_tag x = ⊎_elim (λ e. inl (ap tag e)) (λ k. inr (ap tag k.1))
 
-chosen_loaded : (w l : Bool) (x : LoadAnswer) → chosen w l x ≡ Loaded → (w ≡ true) × (l ≡ true) × (x ≡ Loaded)
+chosen_loaded : (w l : Bool) (x : Result (Unit {0}) LoadError) → chosen w l x ≡ Ok tt → (w ≡ true) × (l ≡ true) × (x ≡ Ok tt)
 chosen_loaded true true x e = (refl, refl, e)
 chosen_loaded true false x e = let h = ap tag e in absurd (omega arith)
 chosen_loaded false l x e = let h = ap tag e in absurd (omega arith)
 
-chosen_refused : (w l : Bool) (x : LoadAnswer) (r : Refusal) → chosen w l x ≡ Refused r → (w ≡ true) × (l ≡ true) × (x ≡ Refused r)
+chosen_refused : (w l : Bool) (x : Result (Unit {0}) LoadError) (r : Refusal) → chosen w l x ≡ Err (Refused r) → (w ≡ true) × (l ≡ true) × (x ≡ Err (Refused r))
 chosen_refused true true x r e = (refl, refl, e)
 chosen_refused true false x r e = let h = ap tag e in absurd (omega arith)
 chosen_refused false l x r e = let h = ap tag e in absurd (omega arith)
 
-chosen_sums : (w l : Bool) (x : LoadAnswer) → Told x → chosen w l x ≡ BadSums → w ≡ false
+chosen_sums : (w l : Bool) (x : Result (Unit {0}) LoadError) → Told x → chosen w l x ≡ Err BadSums → w ≡ false
 chosen_sums true true x t e = let h : tag x ≡ 1 = ap tag e in absurd (⊎_elim (λ (k : tag x ≡ 0). omega arith) (λ (k : tag x ≡ 3). omega arith) (told_tag x t))
 chosen_sums true false x t e = let h = ap tag e in absurd (omega arith)
 chosen_sums false l x t e = refl
 
-chosen_layout : (w l : Bool) (x : LoadAnswer) → Told x → chosen w l x ≡ BadLayout → (w ≡ true) × (l ≡ false)
+chosen_layout : (w l : Bool) (x : Result (Unit {0}) LoadError) → Told x → chosen w l x ≡ Err BadLayout → (w ≡ true) × (l ≡ false)
 chosen_layout true true x t e = let h : tag x ≡ 2 = ap tag e in absurd (⊎_elim (λ (k : tag x ≡ 0). omega arith) (λ (k : tag x ≡ 3). omega arith) (told_tag x t))
 chosen_layout true false x t e = (refl, refl)
 chosen_layout false l x t e = let h = ap tag e in absurd (omega arith)
 
 -- a refused load gives the empty graph
-pub empty_unless : (release : Release) (x : LoadAnswer) (m : MultiPortGraph) → (x ≡ Loaded → ⊥) → graph_if release x m ≡ empty_graph release
-empty_unless release Loaded m not = absurd (not refl)
-empty_unless release BadSums m not = refl
-empty_unless release BadLayout m not = refl
-empty_unless release (Refused r) m not = refl
+pub empty_unless : (release : Release) (x : Result (Unit {0}) LoadError) (m : MultiPortGraph) → (x ≡ Ok tt → ⊥) → graph_if release x m ≡ empty_graph release
+empty_unless release (Ok _) m not = absurd (not refl)
+empty_unless release (Err _) m not = refl
 
 module _ (release : Release) (bytes : List ℕ) where
-  built : LoadAnswer
+  built : Result (Unit {0}) LoadError
   built = first_refusal (empty_graph release) (build_of (unbytes bytes))
 
-  pub loaded_parts : load_answer release bytes ≡ Loaded → (is_whole bytes ≡ true) × (is_laid bytes ≡ true) × (first_refusal (empty_graph release) (build_of (unbytes bytes)) ≡ Loaded)
+  pub loaded_parts : load_answer release bytes ≡ Ok tt → (is_whole bytes ≡ true) × (is_laid bytes ≡ true) × (first_refusal (empty_graph release) (build_of (unbytes bytes)) ≡ Ok tt)
   unfolding load_answer_under
   loaded_parts e = chosen_loaded (is_whole bytes) (is_laid bytes) _ e
 
-  pub parts_loaded : is_whole bytes ≡ true → is_laid bytes ≡ true → first_refusal (empty_graph release) (build_of (unbytes bytes)) ≡ Loaded → load_answer release bytes ≡ Loaded
+  pub parts_loaded : is_whole bytes ≡ true → is_laid bytes ≡ true → first_refusal (empty_graph release) (build_of (unbytes bytes)) ≡ Ok tt → load_answer release bytes ≡ Ok tt
   unfolding load_answer_under
   parts_loaded w l e = rw (w, l) e
 
-  pub sixteen : (load_answer release bytes ≡ BadSums) ↔ (is_whole bytes ≡ false)
+  pub sixteen : (load_answer release bytes ≡ Err BadSums) ↔ (is_whole bytes ≡ false)
   unfolding load_answer_under
   sixteen = (chosen_sums (is_whole bytes) (is_laid bytes) _ (loaded_or_refused (build_of (unbytes bytes)) (empty_graph release)), λ e. rw e refl)
 
-  pub seventeen : (load_answer release bytes ≡ BadLayout) ↔ ((is_whole bytes ≡ true) × (is_laid bytes ≡ false))
+  pub seventeen : (load_answer release bytes ≡ Err BadLayout) ↔ ((is_whole bytes ≡ true) × (is_laid bytes ≡ false))
   unfolding load_answer_under
   seventeen = (chosen_layout (is_whole bytes) (is_laid bytes) _ (loaded_or_refused (build_of (unbytes bytes)) (empty_graph release)), λ (w, l). rw (w, l) refl)
 
-  pub build_answers : (r : Refusal) → (load_answer release bytes ≡ Refused r) ↔ ((is_whole bytes ≡ true) × (is_laid bytes ≡ true) × BuildRefused release (unbytes bytes) r)
+  pub build_answers : (r : Refusal) → (load_answer release bytes ≡ Err (Refused r)) ↔ ((is_whole bytes ≡ true) × (is_laid bytes ≡ true) × BuildRefused release (unbytes bytes) r)
   unfolding load_answer_under
   build_answers r = (
     (λ e.
@@ -138,8 +136,8 @@ module _ {m : MultiPortGraph} {M : Model} (f : Fine m M) where
 
 -- saved by a history of one release, loaded for another or the same
 pub saved_answers : (release other : Release) (calls : List Call) →
-    ((load_answer other (file_of (run release calls).graph) ≡ Loaded) ⊎ (load_answer other (file_of (run release calls).graph) ≡ Refused NoRoom))
-    ⊎ ((load_answer other (file_of (run release calls).graph) ≡ Refused InputWired) × (other ≡ Two) × SharesInput (view_of (run release calls).graph).wires)
+    ((load_answer other (file_of (run release calls).graph) ≡ Ok tt) ⊎ (load_answer other (file_of (run release calls).graph) ≡ Err (Refused NoRoom)))
+    ⊎ ((load_answer other (file_of (run release calls).graph) ≡ Err (Refused InputWired)) × (other ≡ Two) × SharesInput (view_of (run release calls).graph).wires)
 unfolding file_of
 saved_answers release other calls =
     let m = (run release calls).graph in
@@ -149,9 +147,9 @@ saved_answers release other calls =
     let said : unbytes b ≡ view_of m = view_read_back (view_of m) (view_fits f) in
     ⊎_elim
     (λ e. inl (inl (parts_loaded other b w.0 w.1 e)))
-    (λ (k : (r : Refusal) × (first_refusal (empty_graph other) (build_of (unbytes b)) ≡ Refused r)).
+    (λ (k : (r : Refusal) × (first_refusal (empty_graph other) (build_of (unbytes b)) ≡ Err (Refused r))).
     let refused = (build_refusals other (unbytes b) (laid_sound b w.1) k.0).0 k.1 in
-    let told : (r : Refusal) → k.0 ≡ r → load_answer other b ≡ Refused r = λ r e. (build_answers other b r).1 (w.0, w.1, subst (BuildRefused other (unbytes b)) e refused) in
+    let told : (r : Refusal) → k.0 ≡ r → load_answer other b ≡ Err (Refused r) = λ r e. (build_answers other b r).1 (w.0, w.1, subst (BuildRefused other (unbytes b)) e refused) in
     ⊎_elim
     (λ (s : (k.0 ≡ NoRoom) ⊎ ((k.0 ≡ InputWired) × (other ≡ Two) × SharesInput (unbytes b).wires)).
     ⊎_elim (λ (e : k.0 ≡ NoRoom). inl (inr (told NoRoom e)))

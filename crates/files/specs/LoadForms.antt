@@ -1,24 +1,16 @@
 -- The forms in which the code of a load holds what Loading says: what a unit says by itself, before one of a kind; records by their
 -- number, at byte positions; wires one after the other, by their numbers; and what building leaves.
-use Rattle.std.specs.Prelude.{◌≡◌, Bool, true, false, cond, ◌&&◌, List, [], ◌∷◌, ℕ, ◌+◌, ◌*◌, ◌/◌, ◌%◌, ◌≤◌, ◌<◌, eqb, leb, length, get_or}
+use Rattle.std.specs.Prelude.{◌≡◌, Bool, true, false, cond, ◌&&◌, List, [], ◌∷◌, ℕ, ◌+◌, ◌*◌, ◌/◌, ◌%◌, ◌≤◌, ◌<◌, eqb, leb, length, get_or, Ok, Err}
 use Rattle.port_tables.specs.Limits.{node_slots}
-use Rattle.multiportgraph.specs.Graph.{empty_graph}
 use Rattle.multiportgraph.specs.WellFormed.{MultiWf}
-use Rattle.multiportgraph.specs.declared.multiportgraph.AddAnswer.{AddAnswer}
-use Rattle.multiportgraph.specs.declared.multiportgraph.AddAnswer.TheVariants as add
-use Rattle.multiportgraph.specs.declared.multiportgraph.LinkAnswer.{LinkAnswer}
-use Rattle.multiportgraph.specs.declared.multiportgraph.LinkAnswer.TheVariants as link
 use Rattle.multiportgraph.specs.declared.multiportgraph.MultiPortGraph.{MultiPortGraph}
-use Rattle.port_tables.specs.declared.release.Release.{Release}
 use Rattle.theorems.specs.Book.{Call}
-use Rattle.theorems.specs.History.{step, run}
-use Rattle.files.specs.View.{BlockPorts, RankWire, View}
+use Rattle.theorems.specs.History.{step}
+use Rattle.files.specs.View.{BlockPorts, RankWire}
 use Rattle.files.specs.Layout.{Record, field_at, block_of, wire_of, unit_records, units_for, unbytes}
-use Rattle.files.specs.Loading.{kind_of, count_of, unit_list, zeros_right, units_right, ranks_right, block_at, positions_right, view_right, is_laid, first_port, build_of, after_call, first_refusal, graph_if}
+use Rattle.files.specs.Loading.{kind_of, count_of, unit_list, zeros_right, units_right, ranks_right, block_at, positions_right, view_right, is_whole, is_laid, first_port, after_call, first_refusal}
 use Rattle.files.specs.SortSteps.{wire_number}
-use Rattle.files.specs.declared.load.LoadAnswer.{LoadAnswer}
-use Rattle.files.specs.declared.load.LoadAnswer.TheVariants.{Loaded, BadSums, BadLayout, Refused}
-use Rattle.files.specs.declared.load.FileLoaded.{FileLoaded}
+use Rattle.files.specs.declared.load.LoadError.{LoadError}
 
 -- Units.
 
@@ -42,11 +34,11 @@ unfoldable pub units_fit : List (List ℕ) → Bool
 units_fit [] = true
 units_fit (u ∷ l) = unit_fits u (next_kind l) && units_fit l
 
--- the units are right by themselves, or not; how many blocks and wires they then have
-pub record ShapeIs (bytes : List ℕ) (right : Bool) (blocks wires : ℕ) : Type 0 where
-  pub units : right ≡ units_right (unit_list bytes)
-  pub blocks_many : right ≡ true → blocks ≡ length (unbytes bytes).blocks
-  pub wires_many : right ≡ true → wires ≡ length (unbytes bytes).wires
+-- the units are right by themselves, and have so many blocks and wires
+pub record ShapeIs (bytes : List ℕ) (blocks wires : ℕ) : Type 0 where
+  pub units : units_right (unit_list bytes) ≡ true
+  pub blocks_many : blocks ≡ length (unbytes bytes).blocks
+  pub wires_many : wires ≡ length (unbytes bytes).wires
 
 -- Records by their number.
 
@@ -84,45 +76,34 @@ unfoldable pub wires_fit : List BlockPorts → ℕ → List RankWire → Bool
 wires_fit blocks n [] = true
 wires_fit blocks n (w ∷ l) = leb n (wire_number w) && (wire_fits blocks w && wires_fit blocks (wire_number w) l)
 
--- laid as the writer lays a file, or not; then so many blocks and wires, each read where it stands
-pub record Laid (bytes : List ℕ) (right : Bool) (blocks wires : ℕ) : Type 0 where
-  pub answer : right ≡ is_laid bytes
-  pub blocks_are : right ≡ true → BlocksRead bytes blocks
-  pub wires_are : right ≡ true → WiresRead bytes (units_for blocks) wires
-  pub sound : right ≡ true → view_right (unbytes bytes) ≡ true
+-- laid as the writer lays a file, with right sums and so many blocks and wires, each read where it stands
+pub record Laid (bytes : List ℕ) (blocks wires : ℕ) : Type 0 where
+  pub whole : is_whole bytes ≡ true
+  pub answer : is_laid bytes ≡ true
+  pub blocks_are : BlocksRead bytes blocks
+  pub wires_are : WiresRead bytes (units_for blocks) wires
+  pub sound : view_right (unbytes bytes) ≡ true
 
 -- Building.
-
--- an add, and a link, as a load tells it
-abbrev pub add_told : AddAnswer → LoadAnswer
-add_told (add.Added n p) = Loaded
-add_told (add.Refused r) = Refused r
-
-abbrev pub link_told : LinkAnswer → LoadAnswer
-link_told (link.Linked s t) = Loaded
-link_told (link.Refused r) = Refused r
-
-abbrev pub is_loaded : LoadAnswer → Bool
-is_loaded Loaded = true
-is_loaded BadSums = false
-is_loaded BadLayout = false
-is_loaded (Refused r) = false
 
 -- the graph after calls
 unfoldable pub graph_after : MultiPortGraph → List Call → MultiPortGraph
 graph_after m [] = m
 graph_after m (c ∷ l) = graph_after (step m c).graph l
 
--- one call, as a load tells it
-pub record StepIs (m : MultiPortGraph) (c : Call) (m' : MultiPortGraph) (a : LoadAnswer) : Type 0 where
+-- one call that is accepted, and one that is refused, as a load tells it
+pub record StepIs (m : MultiPortGraph) (c : Call) (m' : MultiPortGraph) : Type 0 where
   pub graph : m' ≡ (step m c).graph
-  pub told : a ≡ after_call c (step m c).answer Loaded
+  pub told : after_call c (step m c).answer (Ok tt) ≡ Ok tt
   pub kept : MultiWf m'
 
--- calls, as far as the first that is refused
-pub record Built (m : MultiPortGraph) (calls : List Call) (m' : MultiPortGraph) (a : LoadAnswer) : Type 0 where
-  pub told : a ≡ first_refusal m calls
-  pub graph : is_loaded a ≡ true → m' ≡ graph_after m calls
+abbrev pub StepStops : MultiPortGraph → Call → LoadError → Type 0
+StepStops m c e = after_call c (step m c).answer (Ok tt) ≡ Err e
+
+-- calls that are all accepted
+pub record Built (m : MultiPortGraph) (calls : List Call) (m' : MultiPortGraph) : Type 0 where
+  pub told : first_refusal m calls ≡ Ok tt
+  pub graph : m' ≡ graph_after m calls
   pub kept : MultiWf m'
 
 -- a table of the first ports of blocks
@@ -146,9 +127,3 @@ pub record Linkable (table bytes : List ℕ) (blocks at : ℕ) : Type 0 where
   pub room : at + 8 ≤ length bytes
   pub source : field_at bytes at < blocks
   pub target : field_at bytes (at + 4) < blocks
-
--- what the build of a view gives for a release
-pub record BuildIs (release : Release) (v : View) (r : FileLoaded) : Type 0 where
-  pub answer : r.answer ≡ first_refusal (empty_graph release) (build_of v)
-  pub graph : r.graph ≡ graph_if release (first_refusal (empty_graph release) (build_of v)) (run release (build_of v)).graph
-  pub kept : MultiWf r.graph

@@ -1,6 +1,6 @@
 -- What is proved of loading, in plain order: statements with a sentence each, over every list of bytes, every list of calls from the
 -- empty graph and either release. The words stand in Loading, Claims and LoadClaims.
-use Rattle.std.specs.Prelude.{◌≡◌, refl, true, false, List, ◌++◌, ◌↔◌, ◌⊎◌, ℕ}
+use Rattle.std.specs.Prelude.{◌≡◌, refl, true, false, List, ◌++◌, ◌↔◌, ◌⊎◌, ℕ, Ok, Err}
 use Rattle.std.proofs.Common.{sym, ap, ◌∙◌, subst, ⊎_elim}
 use Rattle.multiportgraph.specs.declared.multiportgraph.MultiPortGraph.{MultiPortGraph}
 use Rattle.port_tables.specs.declared.release.Release.{Release}
@@ -32,28 +32,28 @@ use Rattle.files.specs.FileTheorems.{same_file_same_wiring, file_read_back}
 use Rattle.files.specs.LoadAnswers as answers
 use Rattle.files.specs.ReleaseFiles as releases
 use Rattle.files.specs.OneWire as one_wire
-use Rattle.files.specs.declared.load.LoadAnswer.TheVariants.{Loaded, BadSums, BadLayout, Refused}
+use Rattle.files.specs.declared.load.LoadError.TheVariants.{BadSums, BadLayout, Refused}
 
 -- An accepted load is the history of its adds and links in file order, all accepted, so that every theorem over histories speaks of it;
-pub load_is_history : (release : Release) (bytes : List ℕ) → load_answer release bytes ≡ Loaded →
-    (load_graph release bytes ≡ (run release (build_of (unbytes bytes))).graph) × (first_refusal (empty_graph release) (build_of (unbytes bytes)) ≡ Loaded)
+pub load_is_history : (release : Release) (bytes : List ℕ) → load_answer release bytes ≡ Ok tt →
+    (load_graph release bytes ≡ (run release (build_of (unbytes bytes))).graph) × (first_refusal (empty_graph release) (build_of (unbytes bytes)) ≡ Ok tt)
 unfolding load_graph_under
 load_is_history release bytes e = (rw e refl, (answers.loaded_parts release bytes e).2)
 
 -- a history may begin with a load: what follows goes on from its adds and links.
-pub load_then_calls : (release : Release) (bytes : List ℕ) (calls : List Call) → load_answer release bytes ≡ Loaded →
+pub load_then_calls : (release : Release) (bytes : List ℕ) (calls : List Call) → load_answer release bytes ≡ Ok tt →
     run_from (record { graph = load_graph release bytes; book = (run release (build_of (unbytes bytes))).book }) calls ≡ run release (build_of (unbytes bytes) ++ calls)
 load_then_calls release bytes calls e =
     ap (λ (m : MultiPortGraph). run_from (record { graph = m; book = (run release (build_of (unbytes bytes))).book }) calls) (load_is_history release bytes e).0
     ∙ sym (run_append release (build_of (unbytes bytes)) calls)
 
 -- A refused load gives the empty graph.
-pub refused_load_is_empty : (release : Release) (bytes : List ℕ) → (load_answer release bytes ≡ Loaded → ⊥) → load_graph release bytes ≡ empty_graph release
+pub refused_load_is_empty : (release : Release) (bytes : List ℕ) → (load_answer release bytes ≡ Ok tt → ⊥) → load_graph release bytes ≡ empty_graph release
 unfolding load_graph_under
 refused_load_is_empty release bytes not = answers.empty_unless release (load_answer release bytes) (run release (build_of (unbytes bytes))).graph not
 
 -- A file is accepted exactly if it is what the writer gives for the graph that its adds and links build;
-pub loaded_exactly_written : (release : Release) (bytes : List ℕ) → Bytes bytes → (load_answer release bytes ≡ Loaded) ↔ (file_of (run release (build_of (unbytes bytes))).graph ≡ bytes)
+pub loaded_exactly_written : (release : Release) (bytes : List ℕ) → Bytes bytes → (load_answer release bytes ≡ Ok tt) ↔ (file_of (run release (build_of (unbytes bytes))).graph ≡ bytes)
 unfolding file_of
 loaded_exactly_written release bytes small = (
   (λ e.
@@ -68,12 +68,12 @@ loaded_exactly_written release bytes small = (
 )
 
 -- writing a loaded graph gives the file back;
-pub save_of_load : (release : Release) (bytes : List ℕ) → Bytes bytes → load_answer release bytes ≡ Loaded → file_of (load_graph release bytes) ≡ bytes
+pub save_of_load : (release : Release) (bytes : List ℕ) → Bytes bytes → load_answer release bytes ≡ Ok tt → file_of (load_graph release bytes) ≡ bytes
 save_of_load release bytes small e = ap file_of (load_is_history release bytes e).0 ∙ (loaded_exactly_written release bytes small).0 e
 
 -- loading a saved graph, for its release or another, gives the same blocks by rank and wires between ports, provided that the build is not
 -- refused,
-pub load_of_save : (release other : Release) (calls : List Call) → load_answer other (file_of (run release calls).graph) ≡ Loaded →
+pub load_of_save : (release other : Release) (calls : List Call) → load_answer other (file_of (run release calls).graph) ≡ Ok tt →
     SameWiring (run other (build_of (unbytes (file_of (run release calls).graph)))).book (run release calls).book
 unfolding file_of
 load_of_save release other calls e =
@@ -84,42 +84,42 @@ load_of_save release other calls e =
 
 -- and for its own release it is refused for space if at all: a kit may refuse its own file with 10, and with nothing else;
 pub saved_loads_or_no_room : (release : Release) (calls : List Call) →
-    (load_answer release (file_of (run release calls).graph) ≡ Loaded) ⊎ (load_answer release (file_of (run release calls).graph) ≡ Refused NoRoom)
+    (load_answer release (file_of (run release calls).graph) ≡ Ok tt) ⊎ (load_answer release (file_of (run release calls).graph) ≡ Err (Refused NoRoom))
 saved_loads_or_no_room release calls = one_wire.saved_or_no_room release calls
 
 -- for another also with 18, for release 2, if two of its wires end at one input.
 pub saved_for_another : (release other : Release) (calls : List Call) →
-    ((load_answer other (file_of (run release calls).graph) ≡ Loaded) ⊎ (load_answer other (file_of (run release calls).graph) ≡ Refused NoRoom))
-    ⊎ ((load_answer other (file_of (run release calls).graph) ≡ Refused InputWired) × (other ≡ Two) × SharesInput (view_of (run release calls).graph).wires)
+    ((load_answer other (file_of (run release calls).graph) ≡ Ok tt) ⊎ (load_answer other (file_of (run release calls).graph) ≡ Err (Refused NoRoom)))
+    ⊎ ((load_answer other (file_of (run release calls).graph) ≡ Err (Refused InputWired)) × (other ≡ Two) × SharesInput (view_of (run release calls).graph).wires)
 saved_for_another release other calls = answers.saved_answers release other calls
 
 -- A load for release 2 answers as one for release 1, or with 18;
-pub two_answers_as_one : (bytes : List ℕ) → (load_answer Two bytes ≡ load_answer One bytes) ⊎ (load_answer Two bytes ≡ Refused InputWired)
+pub two_answers_as_one : (bytes : List ℕ) → (load_answer Two bytes ≡ load_answer One bytes) ⊎ (load_answer Two bytes ≡ Err (Refused InputWired))
 two_answers_as_one bytes = releases.two_answers_as_one bytes
 
 -- what loads for release 2 loads for release 1, to the same graph but for the release;
-pub two_loads_one : (bytes : List ℕ) → load_answer Two bytes ≡ Loaded → (load_answer One bytes ≡ Loaded) × (load_graph One bytes ≡ for_release One (load_graph Two bytes))
+pub two_loads_one : (bytes : List ℕ) → load_answer Two bytes ≡ Ok tt → (load_answer One bytes ≡ Ok tt) × (load_graph One bytes ≡ for_release One (load_graph Two bytes))
 two_loads_one bytes = releases.two_loads_one bytes
 
 -- and it loads for release 2 exactly if it loads for release 1 and no two of its wires end at one input.
-pub two_loads_exactly : (bytes : List ℕ) → (load_answer Two bytes ≡ Loaded) ↔ ((load_answer One bytes ≡ Loaded) × (SharesInput (unbytes bytes).wires → ⊥))
+pub two_loads_exactly : (bytes : List ℕ) → (load_answer Two bytes ≡ Ok tt) ↔ ((load_answer One bytes ≡ Ok tt) × (SharesInput (unbytes bytes).wires → ⊥))
 two_loads_exactly bytes = releases.two_loads_exactly bytes
 
 -- The numbers, each exactly under its condition: 16 if the length or a sum is wrong;
-pub sixteen_exactly : (release : Release) (bytes : List ℕ) → (load_answer release bytes ≡ BadSums) ↔ (is_whole bytes ≡ false)
+pub sixteen_exactly : (release : Release) (bytes : List ℕ) → (load_answer release bytes ≡ Err BadSums) ↔ (is_whole bytes ≡ false)
 sixteen_exactly release bytes = answers.sixteen release bytes
 
 -- 17 if not, and the layout is broken;
-pub seventeen_exactly : (release : Release) (bytes : List ℕ) → (load_answer release bytes ≡ BadLayout) ↔ ((is_whole bytes ≡ true) × (is_laid bytes ≡ false))
+pub seventeen_exactly : (release : Release) (bytes : List ℕ) → (load_answer release bytes ≡ Err BadLayout) ↔ ((is_whole bytes ≡ true) × (is_laid bytes ≡ false))
 seventeen_exactly release bytes = answers.seventeen release bytes
 
 -- 3, 10 or 18 if not, as the first add or link that is refused gives it (BuildRefused says when);
 pub build_refused_exactly : (release : Release) (bytes : List ℕ) (r : Refusal) →
-    (load_answer release bytes ≡ Refused r) ↔ ((is_whole bytes ≡ true) × (is_laid bytes ≡ true) × BuildRefused release (unbytes bytes) r)
+    (load_answer release bytes ≡ Err (Refused r)) ↔ ((is_whole bytes ≡ true) × (is_laid bytes ≡ true) × BuildRefused release (unbytes bytes) r)
 build_refused_exactly release bytes r = answers.build_answers release bytes r
 
 -- nothing else, and 18 only for release 2, where a wire of the file ends at the same input as one before it;
-pub three_ten_or_eighteen : (release : Release) (bytes : List ℕ) (r : Refusal) → load_answer release bytes ≡ Refused r →
+pub three_ten_or_eighteen : (release : Release) (bytes : List ℕ) (r : Refusal) → load_answer release bytes ≡ Err (Refused r) →
     ((r ≡ TooManyPorts) ⊎ (r ≡ NoRoom)) ⊎ ((r ≡ InputWired) × (release ≡ Two) × SharesInput (unbytes bytes).wires)
 three_ten_or_eighteen release bytes r e = which_refusal ((build_refused_exactly release bytes r).0 e).2
 

@@ -1,11 +1,10 @@
 -- Req 06: what a file is held to before anything is built from it, the calls that build its wiring, and what a load answers and gives.
 -- A load names the release that it builds for (Req 09); the file holds none.
-use Rattle.std.specs.Prelude.{Bool, true, false, cond, not, ◌&&◌, List, [], ◌∷◌, ◌++◌, map, ℕ, zero, suc, ◌+◌, ◌-◌, ◌*◌, ◌/◌, ◌%◌, eqb, leb, ltb, length, get_or, take, drop}
+use Rattle.std.specs.List.{list_all}
+use Rattle.std.specs.Prelude.{Bool, true, false, cond, not, ◌&&◌, List, [], ◌∷◌, ◌++◌, map, ℕ, zero, suc, ◌+◌, ◌-◌, ◌*◌, ◌/◌, ◌%◌, eqb, leb, ltb, length, get_or, take, drop, Result, Ok, Err}
 use Rattle.port_tables.specs.Limits.{Limits, present}
 use Rattle.multiportgraph.specs.declared.multiportgraph.MultiPortGraph.{MultiPortGraph}
 use Rattle.port_tables.specs.declared.release.Release.{Release}
-use Rattle.multiportgraph.specs.declared.multiportgraph.AddAnswer.TheVariants as add
-use Rattle.multiportgraph.specs.declared.multiportgraph.LinkAnswer.TheVariants as link
 use Rattle.multi_tables.specs.EndAnswers.{refusal_numbers}
 use Rattle.multiportgraph.specs.Graph.{empty_graph}
 use Rattle.theorems.specs.Book as book
@@ -13,13 +12,8 @@ use Rattle.theorems.specs.Book.{Call, AnswerOf}
 use Rattle.theorems.specs.History.{step_under, run_under}
 use Rattle.files.specs.View.{BlockPorts, RankWire, View, is_before}
 use Rattle.files.specs.Layout.{Record, unit_records, field_at, word_at, sum_of, records_of, unbytes}
-use Rattle.files.specs.declared.load.LoadAnswer.{LoadAnswer}
-use Rattle.files.specs.declared.load.LoadAnswer.TheVariants.{Loaded, BadSums, BadLayout, Refused}
-
--- every item of a list passes
-abbrev pub every : {A : Type 0} → (A → Bool) → List A → Bool
-every f [] = true
-every f (x ∷ l) = f x && every f l
+use Rattle.files.specs.declared.load.LoadError.{LoadError}
+use Rattle.files.specs.declared.load.LoadError.TheVariants.{BadSums, BadLayout, Refused}
 
 -- Refusal 16: the length is not a multiple of 512, or a unit's sum is wrong.
 
@@ -36,7 +30,7 @@ unfoldable pub unit_list : List ℕ → List (List ℕ)
 unit_list bytes = units_in (length bytes / 512) bytes
 
 unfoldable pub is_whole : List ℕ → Bool
-is_whole bytes = eqb (length bytes % 512) 0 && every sum_holds (unit_list bytes)
+is_whole bytes = eqb (length bytes % 512) 0 && list_all sum_holds (unit_list bytes)
 
 -- Refusal 17: kinds, counts, zeros, order, ranks or positions break the layout.
 
@@ -52,7 +46,7 @@ of_kind kind unit = eqb (kind_of unit) kind
 
 unfoldable pub kinds_right : List (List ℕ) → Bool
 kinds_right [] = true
-kinds_right (u ∷ l) = cond (of_kind 1 u) (kinds_right l) (every (of_kind 2) (u ∷ l))
+kinds_right (u ∷ l) = cond (of_kind 1 u) (kinds_right l) (list_all (of_kind 2) (u ∷ l))
 
 -- counts: 1 to 63 records, and 63 where another unit of the same kind comes next
 abbrev pub goes_on : List ℕ → List (List ℕ) → Bool
@@ -65,13 +59,13 @@ counts_right (u ∷ l) = leb (cond (goes_on u l) unit_records 1) (count_of u) &&
 
 -- zeros: the unused records of a unit, and the last two fields of a block's record
 abbrev pub zeros_from : ℕ → List ℕ → Bool
-zeros_from i unit = every (eqb 0) (take (8 * (unit_records - count_of unit)) (drop i unit))
+zeros_from i unit = list_all (eqb 0) (take (8 * (unit_records - count_of unit)) (drop i unit))
 
 abbrev pub block_zeros : Record → Bool
 block_zeros r = eqb 0 r.c && eqb 0 r.d
 
 unfoldable pub zeros_right : List ℕ → Bool
-zeros_right unit = zeros_from (4 + 8 * count_of unit) unit && cond (of_kind 1 unit) (every block_zeros (records_of unit)) true
+zeros_right unit = zeros_from (4 + 8 * count_of unit) unit && cond (of_kind 1 unit) (list_all block_zeros (records_of unit)) true
 
 -- order: no wire precedes the one before it
 unfoldable pub order_right : List RankWire → Bool
@@ -92,10 +86,10 @@ positions_right blocks w = ltb w.output (block_at blocks w.source).outgoing && l
 
 -- what the units say by themselves, and what the wires say of the blocks
 unfoldable pub units_right : List (List ℕ) → Bool
-units_right units = kinds_right units && (counts_right units && every zeros_right units)
+units_right units = kinds_right units && (counts_right units && list_all zeros_right units)
 
 unfoldable pub view_right : View → Bool
-view_right v = order_right v.wires && (every (ranks_right v.blocks) v.wires && every (positions_right v.blocks) v.wires)
+view_right v = order_right v.wires && (list_all (ranks_right v.blocks) v.wires && list_all (positions_right v.blocks) v.wires)
 
 unfoldable pub is_laid : List ℕ → Bool
 is_laid bytes = units_right (unit_list bytes) && view_right (unbytes bytes)
@@ -125,11 +119,11 @@ unfoldable pub build_of : View → List Call
 build_of v = map add_of v.blocks ++ map (link_of v.blocks) v.wires
 
 -- the first refusal of a list of adds and links, each on the graph that the last one left; other calls stand in no build
-abbrev pub after_call : (c : Call) → AnswerOf c → LoadAnswer → LoadAnswer
-after_call (book.add_call i o) (add.Added n p) rest = rest
-after_call (book.add_call i o) (add.Refused r) rest = Refused r
-after_call (book.link_call a b) (link.Linked s t) rest = rest
-after_call (book.link_call a b) (link.Refused r) rest = Refused r
+abbrev pub after_call : (c : Call) → AnswerOf c → Result (Unit {0}) LoadError → Result (Unit {0}) LoadError
+after_call (book.add_call i o) (Ok (n, p)) rest = rest
+after_call (book.add_call i o) (Err r) rest = Err (Refused r)
+after_call (book.link_call a b) (Ok (s, t)) rest = rest
+after_call (book.link_call a b) (Err r) rest = Err (Refused r)
 after_call (book.remove_call n) v rest = rest
 after_call (book.set_call n i o room) v rest = rest
 after_call (book.link_clean_call a b) v rest = rest
@@ -138,29 +132,27 @@ after_call (book.cut_call p) v rest = rest
 after_call (book.cut_sub_call p o) v rest = rest
 after_call (book.tidy_call p) v rest = rest
 
-unfoldable pub first_refusal_under : Limits → MultiPortGraph → List Call → LoadAnswer
-first_refusal_under L m [] = Loaded
+unfoldable pub first_refusal_under : Limits → MultiPortGraph → List Call → Result (Unit {0}) LoadError
+first_refusal_under L m [] = Ok tt
 first_refusal_under L m (c ∷ l) = after_call c (step_under L m c).answer (first_refusal_under L (step_under L m c).graph l)
 
-abbrev pub first_refusal : MultiPortGraph → List Call → LoadAnswer
+abbrev pub first_refusal : MultiPortGraph → List Call → Result (Unit {0}) LoadError
 first_refusal = first_refusal_under present
 
 -- The load.
 
 -- 16 over all units before anything else, 17 over the whole file next, then the first add or link that is refused in a graph of the release
-unfoldable pub load_answer_under : Limits → Release → List ℕ → LoadAnswer
+unfoldable pub load_answer_under : Limits → Release → List ℕ → Result (Unit {0}) LoadError
 load_answer_under L release bytes =
-    cond (is_whole bytes) (cond (is_laid bytes) (first_refusal_under L (empty_graph release) (build_of (unbytes bytes))) BadLayout) BadSums
+    cond (is_whole bytes) (cond (is_laid bytes) (first_refusal_under L (empty_graph release) (build_of (unbytes bytes))) (Err BadLayout)) (Err BadSums)
 
-abbrev pub load_answer : Release → List ℕ → LoadAnswer
+abbrev pub load_answer : Release → List ℕ → Result (Unit {0}) LoadError
 load_answer = load_answer_under present
 
 -- the graph of an answer: a refused load gives the empty one of the release
-abbrev pub graph_if : Release → LoadAnswer → MultiPortGraph → MultiPortGraph
-graph_if release Loaded m = m
-graph_if release BadSums m = empty_graph release
-graph_if release BadLayout m = empty_graph release
-graph_if release (Refused r) m = empty_graph release
+abbrev pub graph_if : Release → Result (Unit {0}) LoadError → MultiPortGraph → MultiPortGraph
+graph_if release (Ok _) m = m
+graph_if release (Err _) m = empty_graph release
 
 unfoldable pub load_graph_under : Limits → Release → List ℕ → MultiPortGraph
 load_graph_under L release bytes = graph_if release (load_answer_under L release bytes) (run_under L release (build_of (unbytes bytes))).graph
@@ -169,8 +161,8 @@ abbrev pub load_graph : Release → List ℕ → MultiPortGraph
 load_graph = load_graph_under present
 
 -- 01's numbers of the answer
-abbrev pub load_numbers : LoadAnswer → List ℕ
-load_numbers Loaded = 0 ∷ []
-load_numbers BadSums = 16 ∷ []
-load_numbers BadLayout = 17 ∷ []
-load_numbers (Refused r) = refusal_numbers r
+abbrev pub load_numbers : Result (Unit {0}) LoadError → List ℕ
+load_numbers (Ok _) = 0 ∷ []
+load_numbers (Err BadSums) = 16 ∷ []
+load_numbers (Err BadLayout) = 17 ∷ []
+load_numbers (Err (Refused r)) = refusal_numbers r

@@ -1,5 +1,5 @@
 -- The answers of a merge, case by case.
-use Rattle.std.specs.Prelude.{◌≡◌, refl, Bool, true, false, List, [], ◌∷◌, ◌++◌, map, ◌⊎◌, ℕ, ◌+◌, ◌*◌, ◌≤◌, leb, drop}
+use Rattle.std.specs.Prelude.{◌≡◌, refl, Bool, true, false, List, [], ◌∷◌, ◌++◌, map, ◌⊎◌, ℕ, ◌+◌, ◌*◌, ◌≤◌, leb, drop, Result, Ok, Err}
 use Rattle.std.proofs.Common.{sym, ◌∙◌, subst, inl, inr}
 use Rattle.std.proofs.Math.Path.{ap}
 use Rattle.std.proofs.Math.Logic.{⊎_elim}
@@ -35,9 +35,9 @@ use Rattle.files.specs.LoadAnswers.{loaded_parts, parts_loaded, view_small}
 use Rattle.files.specs.Merging.{merged_view, merged_file, layout_answer, result_answer, merge_answer, buffer_if}
 use Rattle.files.specs.MergeLaws.{merged_sound, merged_fits}
 use Rattle.files.specs.MergeClaims.{IsLaid, Loads, MergeTold, first_sums, first_layout, second_sums, second_layout, first_refused, second_refused, result_refused, buffer_short, accepted}
-use Rattle.files.specs.declared.load.LoadAnswer.TheVariants as load
-use Rattle.files.specs.declared.merge.MergeAnswer.{MergeAnswer}
-use Rattle.files.specs.declared.merge.MergeAnswer.TheVariants.{Merged, BadSums, BadLayout, Refused, BufferShort}
+use Rattle.files.specs.declared.load.LoadError.TheVariants as load
+use Rattle.files.specs.declared.merge.MergeError.{MergeError}
+use Rattle.files.specs.declared.merge.MergeError.TheVariants.{BadSums, BadLayout, Refused, BufferShort}
 
 -- A file that loads.
 
@@ -69,15 +69,15 @@ loaded_small bytes e b i =
 pub said_sound : (bytes : List ℕ) → Loads bytes → Sound (unbytes bytes)
 said_sound bytes e = laid_sound bytes (loaded_parts One bytes e).1
 
-laid_refused : (bytes : List ℕ) → IsLaid bytes → (r : Refusal) → first_refusal (empty_graph One) (build_of (unbytes bytes)) ≡ load.Refused r → load_answer One bytes ≡ load.Refused r
+laid_refused : (bytes : List ℕ) → IsLaid bytes → (r : Refusal) → first_refusal (empty_graph One) (build_of (unbytes bytes)) ≡ Err (load.Refused r) → load_answer One bytes ≡ Err (load.Refused r)
 unfolding load_answer_under
 laid_refused bytes l r e = rw (l.0, l.1) e
 
 -- a laid file loads, or a call of its build is refused
-laid_loads : (bytes : List ℕ) → IsLaid bytes → Loads bytes ⊎ ((r : Refusal) × (load_answer One bytes ≡ load.Refused r))
+laid_loads : (bytes : List ℕ) → IsLaid bytes → Loads bytes ⊎ ((r : Refusal) × (load_answer One bytes ≡ Err (load.Refused r)))
 laid_loads bytes l =
     ⊎_elim (λ e. inl (parts_loaded One bytes l.0 l.1 e))
-    (λ (k : (r : Refusal) × (first_refusal (empty_graph One) (build_of (unbytes bytes)) ≡ load.Refused r)).
+    (λ (k : (r : Refusal) × (first_refusal (empty_graph One) (build_of (unbytes bytes)) ≡ Err (load.Refused r))).
     inr (k.0, laid_refused bytes l k.0 k.1))
     (loaded_or_refused (build_of (unbytes bytes)) (empty_graph One))
 
@@ -118,7 +118,7 @@ module _ (first second : List ℕ) (small : Bytes first) (small₂ : Bytes secon
       omega arith
 
   -- none of its blocks has too many ports: it is refused for space, if at all
-  pub refused_for_space : (r : Refusal) → load_answer One (merged_file first second) ≡ load.Refused r → r ≡ NoRoom
+  pub refused_for_space : (r : Refusal) → load_answer One (merged_file first second) ≡ Err (load.Refused r) → r ≡ NoRoom
   unfolding merged_view
   refused_for_space r told = go ((answers.build_answers One (merged_file first second) r).0 told).2
     where
@@ -139,7 +139,7 @@ module _ (first second : List ℕ) (small : Bytes first) (small₂ : Bytes secon
 
 module _ (first second buffer : List ℕ) where
   -- each condition gives its answer
-  pub told_answer : {r : MergeAnswer} → MergeTold first second buffer r → merge_answer first second buffer ≡ r
+  pub told_answer : {r : Result ℕ MergeError} → MergeTold first second buffer r → merge_answer first second buffer ≡ r
   unfolding merge_answer layout_answer result_answer
   told_answer (first_sums a) = rw a
   told_answer (first_layout a b) = rw (a, b)
@@ -165,11 +165,11 @@ module _ (first second buffer : List ℕ) where
 
   -- and one of the conditions holds
   abbrev Some : Type 0
-  Some = (r : MergeAnswer) × MergeTold first second buffer r
+  Some = (r : Result ℕ MergeError) × MergeTold first second buffer r
 
   some_written : Loads first → Loads second → Loads (merged_file first second) → (t : Bool) → leb (length (merged_file first second)) (length buffer) ≡ t → Some
-  some_written e f g true h = (Merged (length (merged_file first second)), accepted e f g (leb-true (length (merged_file first second)) (length buffer) h))
-  some_written e f g false h = (BufferShort, buffer_short e f g (leb-false (length (merged_file first second)) (length buffer) h))
+  some_written e f g true h = (Ok (length (merged_file first second)), accepted e f g (leb-true (length (merged_file first second)) (length buffer) h))
+  some_written e f g false h = (Err BufferShort, buffer_short e f g (leb-false (length (merged_file first second)) (length buffer) h))
 
   some_loaded : Bytes first → Bytes second → IsLaid first → IsLaid second → Some
   some_loaded small small₂ l k =
@@ -178,20 +178,20 @@ module _ (first second buffer : List ℕ) where
       ⊎_elim
       (λ (f : Loads second).
       ⊎_elim (λ (g : Loads (merged_file first second)). some_written e f g (leb (length (merged_file first second)) (length buffer)) refl)
-      (λ (g : (r : Refusal) × (load_answer One (merged_file first second) ≡ load.Refused r)). (Refused g.0, result_refused e f g.1))
+      (λ (g : (r : Refusal) × (load_answer One (merged_file first second) ≡ Err (load.Refused r))). (Err (Refused g.0), result_refused e f g.1))
       (laid_loads (merged_file first second) (result_is_laid first second small small₂ e f)))
-      (λ (f : (r : Refusal) × (load_answer One second ≡ load.Refused r)). (Refused f.0, second_refused e f.1)) (laid_loads second k))
-      (λ (e : (r : Refusal) × (load_answer One first ≡ load.Refused r)). (Refused e.0, first_refused k e.1)) (laid_loads first l)
+      (λ (f : (r : Refusal) × (load_answer One second ≡ Err (load.Refused r))). (Err (Refused f.0), second_refused e f.1)) (laid_loads second k))
+      (λ (e : (r : Refusal) × (load_answer One first ≡ Err (load.Refused r))). (Err (Refused e.0), first_refused k e.1)) (laid_loads first l)
 
   some_second : Bytes first → Bytes second → IsLaid first → (t : Bool) → is_whole second ≡ t → (s : Bool) → is_laid second ≡ s → Some
   some_second small small₂ l true a true b = some_loaded small small₂ l (a, b)
-  some_second small small₂ l true a false b = (BadLayout, second_layout l a b)
-  some_second small small₂ l false a s b = (BadSums, second_sums l a)
+  some_second small small₂ l true a false b = (Err BadLayout, second_layout l a b)
+  some_second small small₂ l false a s b = (Err BadSums, second_sums l a)
 
   some_first : Bytes first → Bytes second → (t : Bool) → is_whole first ≡ t → (s : Bool) → is_laid first ≡ s → Some
   some_first small small₂ true a true b = some_second small small₂ (a, b) (is_whole second) refl (is_laid second) refl
-  some_first small small₂ true a false b = (BadLayout, first_layout a b)
-  some_first small small₂ false a s b = (BadSums, first_sums a)
+  some_first small small₂ true a false b = (Err BadLayout, first_layout a b)
+  some_first small small₂ false a s b = (Err BadSums, first_sums a)
 
   pub answer_told : Bytes first → Bytes second → MergeTold first second buffer (merge_answer first second buffer)
   answer_told small small₂ =
@@ -200,14 +200,14 @@ module _ (first second buffer : List ℕ) where
 
 -- What an accepted merge had.
 
-pub accepted_parts : {first second buffer : List ℕ} {n : ℕ} → MergeTold first second buffer (Merged n) →
+pub accepted_parts : {first second buffer : List ℕ} {n : ℕ} → MergeTold first second buffer (Ok n) →
     (n ≡ length (merged_file first second)) × (Loads first × Loads second × Loads (merged_file first second) × (length (merged_file first second) ≤ length buffer))
 accepted_parts {first} {second} {buffer} {n} t = go t refl
   where
     Parts : Type 0
     Parts = (n ≡ length (merged_file first second)) × (Loads first × Loads second × Loads (merged_file first second) × (length (merged_file first second) ≤ length buffer))
 
-    go : {r : MergeAnswer} → MergeTold first second buffer r → r ≡ Merged n → Parts
+    go : {r : Result ℕ MergeError} → MergeTold first second buffer r → r ≡ Ok n → Parts
     go (first_sums a) q = let z : ◌≡◌ {A = ℕ} 0 1 = cc in absurd (omega arith)
     go (first_layout a b) q = let z : ◌≡◌ {A = ℕ} 0 1 = cc in absurd (omega arith)
     go (second_sums l a) q = let z : ◌≡◌ {A = ℕ} 0 1 = cc in absurd (omega arith)
@@ -220,12 +220,9 @@ accepted_parts {first} {second} {buffer} {n} t = go t refl
 
 -- The buffer.
 
-pub nothing_unless : (r : MergeAnswer) (result buffer : List ℕ) → ((n : ℕ) → r ≡ Merged n → ⊥) → buffer_if r result buffer ≡ buffer
-nothing_unless (Merged n) result buffer not = absurd (not n refl)
-nothing_unless BadSums result buffer not = refl
-nothing_unless BadLayout result buffer not = refl
-nothing_unless (Refused r) result buffer not = refl
-nothing_unless BufferShort result buffer not = refl
+pub nothing_unless : (r : Result ℕ MergeError) (result buffer : List ℕ) → ((n : ℕ) → r ≡ Ok n → ⊥) → buffer_if r result buffer ≡ buffer
+nothing_unless (Ok n) result buffer not = absurd (not n refl)
+nothing_unless (Err _) result buffer not = refl
 
 pub buffer_filled : (result buffer : List ℕ) (n : ℕ) → n ≡ length result → length result ≤ length buffer → list_after result buffer ≡ result ++ drop n buffer
 unfolding list_after

@@ -1,14 +1,11 @@
--- The forms in which the code of a merge holds what Merging says: the numbers of the records of a file, its ranks raised, and three answers
--- one after the other.
-use Rattle.std.specs.Prelude.{◌≡◌, true, List, ℕ, ◌+◌, ◌<◌, ◌≤◌, set}
+-- The forms in which the code of a merge holds what Merging says: the numbers of the records of a file, its ranks raised; and two laid
+-- files.
+use Rattle.std.specs.Prelude.{List, ℕ, ◌+◌, ◌<◌, ◌≤◌, set}
 use Rattle.port_tables.specs.Limits.{node_slots, port_slots}
 use Rattle.files.specs.Layout.{field_at, block_of, block_record, wire_of, wire_record}
-use Rattle.files.specs.Loading.{is_whole}
 use Rattle.files.specs.Forms.{number_of}
 use Rattle.files.specs.LoadForms.{place_of, record_in, Laid}
 use Rattle.files.specs.Merging.{raised}
-use Rattle.files.specs.declared.load.LoadAnswer.{LoadAnswer}
-use Rattle.files.specs.declared.load.LoadAnswer.TheVariants.{Loaded, BadSums, BadLayout, Refused}
 
 -- the number of a block of a file, in a list from a place on
 abbrev pub block_read : List ℕ → ℕ → ℕ
@@ -34,20 +31,11 @@ RaisedFit bytes unit count raise = (i : ℕ) → i < count → RaisedAt bytes ra
 
 -- two laid files with so many blocks and wires
 pub record BothLaid (first second : List ℕ) (blocks wires blocks₂ wires₂ : ℕ) : Type 0 where
-  pub one_whole : is_whole first ≡ true
-  pub one : Laid first true blocks wires
-  pub two_whole : is_whole second ≡ true
-  pub two : Laid second true blocks₂ wires₂
+  pub one : Laid first blocks wires
+  pub two : Laid second blocks₂ wires₂
 
 -- and these so few as those of files that load
 pub record BothFew (blocks wires blocks₂ wires₂ : ℕ) : Type 0 where
   pub one : blocks ≤ node_slots
   pub two : blocks₂ ≤ node_slots
   pub wires_few : wires + wires₂ ≤ port_slots
-
--- the first of two answers that is a refusal
-abbrev pub first_of : LoadAnswer → LoadAnswer → LoadAnswer
-first_of Loaded rest = rest
-first_of BadSums rest = BadSums
-first_of BadLayout rest = BadLayout
-first_of (Refused r) rest = Refused r

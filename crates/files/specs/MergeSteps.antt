@@ -1,5 +1,5 @@
 -- What the functions that merge files cite: the records of both as numbers, the result laid and built, and the answers in their order.
-use Rattle.std.specs.Prelude.{◌≡◌, true, false, ℕ, zero, suc, ◌+◌, ◌*◌, ◌≤◌, ◌<◌, get_or, set, take}
+use Rattle.std.specs.Prelude.{◌≡◌, true, ℕ, zero, suc, ◌+◌, ◌*◌, ◌≤◌, ◌<◌, get_or, set, take, Result, Ok, Err, IsErrAnd}
 use Rattle.std.proofs.Math.Path.{refl, ap}
 use Rattle.std.proofs.Common.{sym, ◌∙◌, subst, inl, inr, length-append, length-drop, take_at}
 use mathlib.Core.List.{List, [], ◌∷◌, ◌++◌, map, append_assoc, append-nil}
@@ -11,33 +11,28 @@ use Rattle.std.proofs.lemmas.List.{set_at}
 use borrow.Author.Tests.{le-leb, lt-leb}
 use Rattle.port_tables.specs.Lists.{range, Member}
 use Rattle.port_tables.specs.ResizeLinkSteps.{sets_append}
-use Rattle.multiportgraph.specs.HiddenStays.{true_not_false}
-use Rattle.multiportgraph.specs.Graph.{empty_graph}
 use Rattle.multiportgraph.specs.Listed.{list_after}
 use Rattle.port_tables.specs.Listing.{length_map, length_range}
 use Rattle.port_tables.specs.declared.release.Release.TheVariants.{One}
 use Rattle.files.specs.View.{BlockPorts, RankWire, View}
 use Rattle.files.specs.Layout.{block_record, wire_record, field_at, units_for, units_of, bytes_of, file_length, unbytes}
 use Rattle.files.specs.LayoutLaws.{FieldsFit, ViewFits, units_length, file_length_lem, view_read_back}
-use Rattle.files.specs.Loading.{is_whole, is_laid, unit_list, units_right, view_right, block_at, build_of, first_refusal, load_answer}
+use Rattle.files.specs.Loading.{is_whole, is_laid, unit_list, units_right, view_right, block_at, load_answer}
 use Rattle.files.specs.Claims.{Bytes, Sound}
 use Rattle.files.specs.LaidLaws.{both_true}
 use Rattle.files.specs.SoundLaws.{laid_sound, said_fits}
 use Rattle.files.specs.LaidAgain.{written_laid}
 use Rattle.files.specs.Forms.{number_of, record_of, turns}
-use Rattle.files.specs.LoadForms.{place_of, record_in, no_wire, BlocksRead, WiresRead, Laid, is_loaded}
+use Rattle.files.specs.LoadForms.{place_of, record_in, no_wire, BlocksRead, WiresRead, Laid}
 use Rattle.files.specs.SaveSteps.{records_back}
 use Rattle.files.specs.WireSteps.{blocks_read, wires_read}
-use Rattle.files.specs.ListingSteps.{answer_built}
-use Rattle.files.specs.Merging.{raised, merged_view, merged_file, layout_answer, unless_refused, result_answer, merge_answer, buffer_if, merge_buffer}
-use Rattle.files.specs.MergeForms.{block_read, block_read_turn, wire_read, wire_read_turn, RaisedFit, BothLaid, BothFew, first_of}
+use Rattle.files.specs.Merging.{raised, merged_view, merged_file, layout_answer, merge_error, result_answer, merge_answer, buffer_if, merge_buffer}
+use Rattle.files.specs.MergeForms.{block_read, block_read_turn, wire_read, wire_read_turn, RaisedFit, BothLaid, BothFew}
 use Rattle.files.specs.MergeLaws.{map_unraised, map_both, merged_appends, merged_sound, merged_fits}
 use Rattle.files.specs.MergeAnswers.{loaded_few}
-use Rattle.files.specs.declared.load.LoadAnswer.{LoadAnswer}
-use Rattle.files.specs.declared.load.LoadAnswer.TheVariants.{Loaded, BadSums, BadLayout, Refused}
-use Rattle.files.specs.declared.merge.MergeAnswer.{MergeAnswer}
-use Rattle.files.specs.declared.merge.MergeAnswer.TheVariants as merge
-use Rattle.files.specs.declared.merge.MergeAnswer.TheVariants.{Merged, BufferShort}
+use Rattle.files.specs.declared.load.LoadError.{LoadError}
+use Rattle.files.specs.declared.merge.MergeError.{MergeError}
+use Rattle.files.specs.declared.merge.MergeError.TheVariants.{BufferShort}
 
 -- Records as numbers.
 
@@ -183,15 +178,16 @@ member_at (x ∷ l) zero d h = inl refl
 member_at (x ∷ l) (suc i) d h = inr (member_at l i d (omega arith))
 
 -- a file that is laid has so many blocks and wires, each read where it stands
-laid_from : (bytes : List ℕ) (n k : ℕ) → is_laid bytes ≡ true → n ≡ length (unbytes bytes).blocks → k ≡ length (unbytes bytes).wires → Laid bytes true n k
+laid_from : (bytes : List ℕ) (n k : ℕ) → is_whole bytes ≡ true → is_laid bytes ≡ true → n ≡ length (unbytes bytes).blocks → k ≡ length (unbytes bytes).wires → Laid bytes n k
 unfolding is_laid
-laid_from bytes n k e p q =
+laid_from bytes n k w e p q =
     let both = both_true (units_right (unit_list bytes)) (view_right (unbytes bytes)) e in
     record {
-      answer = sym e;
-      blocks_are = λ h. blocks_read bytes both.0 n p;
-      wires_are = λ h. wires_read bytes both.0 (units_for n) k (ap units_for p) q;
-      sound = λ h. both.1;
+      whole = w;
+      answer = e;
+      blocks_are = blocks_read bytes both.0 n p;
+      wires_are = wires_read bytes both.0 (units_for n) k (ap units_for p) q;
+      sound = both.1;
     }
 
 module _ {first second : List ℕ} {blocks wires blocks₂ wires₂ : ℕ} (l : BothLaid first second blocks wires blocks₂ wires₂) where
@@ -205,13 +201,13 @@ module _ {first second : List ℕ} {blocks wires blocks₂ wires₂ : ℕ} (l : 
   w = unbytes second
 
   one_sound : Sound v
-  one_sound = laid_sound first (sym l.one.answer)
+  one_sound = laid_sound first l.one.answer
 
   two_sound : Sound w
-  two_sound = laid_sound second (sym l.two.answer)
+  two_sound = laid_sound second l.two.answer
 
   blocks_many : length v.blocks ≡ blocks
-  blocks_many = (l.one.blocks_are refl).many
+  blocks_many = (l.one.blocks_are).many
 
   appended : merged_view v w ≡ record { blocks = v.blocks ++ w.blocks; wires = v.wires ++ map (raised blocks) w.wires }
   appended =
@@ -221,9 +217,9 @@ module _ {first second : List ℕ} {blocks wires blocks₂ wires₂ : ℕ} (l : 
   counts : (length (merged_view v w).blocks ≡ blocks + blocks₂) × (length (merged_view v w).wires ≡ wires + wires₂)
   counts =
       let a = blocks_many in
-      let b = (l.two.blocks_are refl).many in
-      let c = (l.one.wires_are refl).many in
-      let d = (l.two.wires_are refl).many in
+      let b = (l.two.blocks_are).many in
+      let c = (l.one.wires_are).many in
+      let d = (l.two.wires_are).many in
       let e = length-append v.blocks w.blocks in
       let f = length-append v.wires (map (raised blocks) w.wires) in
       let g = length_map (raised blocks) w.wires in
@@ -252,9 +248,9 @@ module _ {first second : List ℕ} {blocks wires blocks₂ wires₂ : ℕ} (l : 
     -- the second's ranks, raised, fit their fields
     pub raised_fit : RaisedFit second (units_for blocks₂) wires₂ blocks
     raised_fit i h =
-        let r = l.two.wires_are refl in
+        let r = l.two.wires_are in
         let m = r.many in
-        let n = (l.two.blocks_are refl).many in
+        let n = (l.two.blocks_are).many in
         let a = few.one in
         let b = few.two in
         let x = get_or w.wires i no_wire in
@@ -272,19 +268,17 @@ module _ {first second : List ℕ} {blocks wires blocks₂ wires₂ : ℕ} (l : 
           let a = few.one in
           let b = few.two in
           let c = blocks_many in
-          let d = (l.two.blocks_are refl).many in
+          let d = (l.two.blocks_are).many in
           merged_fits one_sound two_sound (said_fits first small) (said_fits second small₂) (omega arith)
 
-      pub result_laid : (is_whole (merged_file first second) ≡ true) × Laid (merged_file first second) true (blocks + blocks₂) (wires + wires₂)
+      pub result_laid : Laid (merged_file first second) (blocks + blocks₂) (wires + wires₂)
       unfolding merged_file
       result_laid =
           let written = written_laid (merged_view v w) fits (merged_sound one_sound two_sound) in
           let said = view_read_back (merged_view v w) fits in
-          let c = counts in (
-            written.0,
-            laid_from (merged_file first second) (blocks + blocks₂) (wires + wires₂) written.1
-                (sym (ap (λ (u : View). length u.blocks) said ∙ c.0)) (sym (ap (λ (u : View). length u.wires) said ∙ c.1)),
-          )
+          let c = counts in
+          laid_from (merged_file first second) (blocks + blocks₂) (wires + wires₂) written.0 written.1 (sym (ap (λ (u : View). length u.blocks) said ∙ c.0))
+          (sym (ap (λ (u : View). length u.wires) said ∙ c.1))
 
 -- so few records fit the longest result
 pub result_fits_longest : {blocks wires blocks₂ wires₂ : ℕ} → BothFew blocks wires blocks₂ wires₂ → file_length (blocks + blocks₂) (wires + wires₂) ≤ 41984
@@ -293,111 +287,82 @@ result_fits_longest few = let a = few.one in let b = few.two in let c = few.wire
 
 -- Loading.
 
--- the load of a laid file is its build
-pub load_is_build : (bytes : List ℕ) {n k : ℕ} → is_whole bytes ≡ true → Laid bytes true n k → first_refusal (empty_graph One) (build_of (unbytes bytes)) ≡ load_answer One bytes
-load_is_build bytes e l = answer_built One bytes (sym e) l.answer refl
-
-pub both_few : {first second : List ℕ} {blocks wires blocks₂ wires₂ : ℕ} → BothLaid first second blocks wires blocks₂ wires₂ → load_answer One first ≡ Loaded → load_answer One second ≡ Loaded →
+pub both_few : {first second : List ℕ} {blocks wires blocks₂ wires₂ : ℕ} → BothLaid first second blocks wires blocks₂ wires₂ → Ok tt ≡ load_answer One first → Ok tt ≡ load_answer One second →
     BothFew blocks wires blocks₂ wires₂
 both_few {first} {second} l e f =
-    let a = loaded_few first e in
-    let b = loaded_few second f in
-    let n = (l.one.blocks_are refl).many in
-    let k = (l.two.blocks_are refl).many in
-    let p = (l.one.wires_are refl).many in
-    let q = (l.two.wires_are refl).many in
+    let a = loaded_few first (sym e) in
+    let b = loaded_few second (sym f) in
+    let n = (l.one.blocks_are).many in
+    let k = (l.two.blocks_are).many in
+    let p = (l.one.wires_are).many in
+    let q = (l.two.wires_are).many in
     record { one = omega arith; two = omega arith; wires_few = omega arith }
 
 -- The answers in their order.
 
-first_refusal_lem : (a rest : LoadAnswer) → is_loaded a ≡ false → a ≡ first_of a rest
-first_refusal_lem Loaded rest h = absurd (true_not_false refl h)
-first_refusal_lem BadSums rest h = refl
-first_refusal_lem BadLayout rest h = refl
-first_refusal_lem (Refused r) rest h = refl
-
--- of three answers the first is a refusal, the second, or neither
-module _ (a b c : LoadAnswer) {x : LoadAnswer} where
-  pub first_first : is_loaded x ≡ false → x ≡ a → x ≡ first_of a (first_of b c)
-  first_first h e = first_refusal_lem x (first_of b c) h ∙ ap (λ (y : LoadAnswer). first_of y (first_of b c)) e
-
-  pub second_first : a ≡ Loaded → is_loaded x ≡ false → x ≡ b → x ≡ first_of a (first_of b c)
-  second_first l h e = first_refusal_lem x c h ∙ (ap (λ (y : LoadAnswer). first_of y c) e ∙ ap (λ (y : LoadAnswer). first_of y (first_of b c)) (sym l))
-
-  pub third_first : a ≡ Loaded → b ≡ Loaded → x ≡ c → x ≡ first_of a (first_of b c)
-  third_first l k e = e ∙ (λ j. first_of (sym l j) (first_of (sym k j) c))
-
-three_refusals : (a b c : LoadAnswer) (rest : MergeAnswer) → unless_refused a (unless_refused b (unless_refused c rest)) ≡ unless_refused (first_of a (first_of b c)) rest
-three_refusals Loaded Loaded c rest = refl
-three_refusals Loaded BadSums c rest = refl
-three_refusals Loaded BadLayout c rest = refl
-three_refusals Loaded (Refused r) c rest = refl
-three_refusals BadSums b c rest = refl
-three_refusals BadLayout b c rest = refl
-three_refusals (Refused r) b c rest = refl
-
--- all three load, where the first refusal is none
-pub none_refused : (a b c : LoadAnswer) → first_of a (first_of b c) ≡ Loaded → (a ≡ Loaded) × (b ≡ Loaded) × (c ≡ Loaded)
-none_refused Loaded Loaded c e = (refl, refl, e)
-none_refused Loaded BadSums c e = absurd (true_not_false (ap is_loaded e) refl)
-none_refused Loaded BadLayout c e = absurd (true_not_false (ap is_loaded e) refl)
-none_refused Loaded (Refused r) c e = absurd (true_not_false (ap is_loaded e) refl)
-none_refused BadSums b c e = absurd (true_not_false (ap is_loaded e) refl)
-none_refused BadLayout b c e = absurd (true_not_false (ap is_loaded e) refl)
-none_refused (Refused r) b c e = absurd (true_not_false (ap is_loaded e) refl)
-
-layout_loaded : (bytes : List ℕ) → is_whole bytes ≡ true → is_laid bytes ≡ true → layout_answer bytes ≡ Loaded
+layout_right : {bytes : List ℕ} {blocks wires : ℕ} → Laid bytes blocks wires → layout_answer bytes ≡ Ok tt
 unfolding layout_answer
-layout_loaded bytes e f = rw (e, f)
+layout_right l = let w = l.whole in let a = l.answer in rw (w, a) refl
 
 module _ (first second buffer : List ℕ) where
   -- answer and buffer together
-  pub merge_done : {r : MergeAnswer} {after : List ℕ} → r ≡ merge_answer first second buffer → after ≡ buffer_if r (merged_file first second) buffer →
+  pub merge_done : {r : Result ℕ MergeError} {after : List ℕ} → r ≡ merge_answer first second buffer → after ≡ buffer_if r (merged_file first second) buffer →
       (r ≡ merge_answer first second buffer) × (after ≡ merge_buffer first second buffer)
   unfolding merge_buffer
-  merge_done e f = (e, f ∙ ap (λ (x : MergeAnswer). buffer_if x (merged_file first second) buffer) e)
+  merge_done e f = (e, f ∙ ap (λ (x : Result ℕ MergeError). buffer_if x (merged_file first second) buffer) e)
 
-  -- laid files: the first refusal of the three loads, or what writing answers
-  pub laid_merge : {blocks wires blocks₂ wires₂ : ℕ} → BothLaid first second blocks wires blocks₂ wires₂ → {a : LoadAnswer} →
-      a ≡ first_of (load_answer One first) (first_of (load_answer One second) (load_answer One (merged_file first second))) →
-      unless_refused a (result_answer (merged_file first second) buffer) ≡ merge_answer first second buffer
+  -- a refusal with the buffer as it was
+  refused : {r : MergeError} (a : Result ℕ MergeError) → IsErrAnd a (λ t. t ≡ r) → merge_answer first second buffer ≡ Err r → (a ≡ merge_answer first second buffer) × (buffer ≡ merge_buffer first second buffer)
+  refused (Ok n) e f = absurd e
+  refused (Err t) e f = merge_done (ap (λ (x : MergeError). Err x) e ∙ sym f) refl
+
+  -- sums and layout, of the first and then of the second,
+  pub first_unlaid : {r : LoadError} {a : Result ℕ MergeError} → layout_answer first ≡ Err r → IsErrAnd a (λ t. t ≡ merge_error r) → (a ≡ merge_answer first second buffer) × (buffer ≡ merge_buffer first second buffer)
   unfolding merge_answer
-  laid_merge l e =
-      let one = layout_loaded first l.one_whole (sym l.one.answer) in
-      let two = layout_loaded second l.two_whole (sym l.two.answer) in
-      ap (λ (x : LoadAnswer). unless_refused x (result_answer (merged_file first second) buffer)) e
-      ∙ (sym (three_refusals (load_answer One first) (load_answer One second) (load_answer One (merged_file first second)) (result_answer (merged_file first second) buffer)) ∙ rw (one, two))
+  first_unlaid h e = refused _ e (rw h refl)
 
-  -- sums and layout, of the first and then of the second
-  pub first_sums : false ≡ is_whole first → (merge.BadSums ≡ merge_answer first second buffer) × (buffer ≡ merge_buffer first second buffer)
-  unfolding merge_answer layout_answer
-  first_sums h = merge_done (rw (← h)) refl
+  pub second_unlaid : {blocks wires : ℕ} → Laid first blocks wires → {r : LoadError} {a : Result ℕ MergeError} → layout_answer second ≡ Err r → IsErrAnd a (λ t. t ≡ merge_error r) →
+      (a ≡ merge_answer first second buffer) × (buffer ≡ merge_buffer first second buffer)
+  unfolding merge_answer
+  second_unlaid l h e = let x = layout_right l in refused _ e (rw (x, h) refl)
 
-  pub first_layout : true ≡ is_whole first → false ≡ is_laid first → (merge.BadLayout ≡ merge_answer first second buffer) × (buffer ≡ merge_buffer first second buffer)
-  unfolding merge_answer layout_answer
-  first_layout w h = merge_done (rw (← w, ← h)) refl
+  module _ {blocks wires blocks₂ wires₂ : ℕ} (l : BothLaid first second blocks wires blocks₂ wires₂) where
+    -- the loads of the first, the second and the result, and writing
+    pub first_unloaded : {r : LoadError} {a : Result ℕ MergeError} → Err r ≡ load_answer One first → IsErrAnd a (λ t. t ≡ merge_error r) →
+        (a ≡ merge_answer first second buffer) × (buffer ≡ merge_buffer first second buffer)
+    unfolding merge_answer
+    first_unloaded h e = let x = layout_right l.one in let y = layout_right l.two in refused _ e (rw (x, y, ← h) refl)
 
-  pub second_sums : true ≡ is_whole first → true ≡ is_laid first → false ≡ is_whole second → (merge.BadSums ≡ merge_answer first second buffer) × (buffer ≡ merge_buffer first second buffer)
-  unfolding merge_answer layout_answer
-  second_sums w l h = merge_done (rw (← w, ← l, ← h)) refl
+    module _ (one : Ok tt ≡ load_answer One first) where
+      pub second_unloaded : {r : LoadError} {a : Result ℕ MergeError} → Err r ≡ load_answer One second → IsErrAnd a (λ t. t ≡ merge_error r) →
+          (a ≡ merge_answer first second buffer) × (buffer ≡ merge_buffer first second buffer)
+      unfolding merge_answer
+      second_unloaded h e = let x = layout_right l.one in let y = layout_right l.two in refused _ e (rw (x, y, ← one, ← h) refl)
 
-  pub second_layout : true ≡ is_whole first → true ≡ is_laid first → true ≡ is_whole second → false ≡ is_laid second → (merge.BadLayout ≡ merge_answer first second buffer) × (buffer ≡ merge_buffer first second buffer)
-  unfolding merge_answer layout_answer
-  second_layout w l x h = merge_done (rw (← w, ← l, ← x, ← h)) refl
+      module _ (two : Ok tt ≡ load_answer One second) where
+        pub result_unloaded : {r : LoadError} {a : Result ℕ MergeError} → Err r ≡ load_answer One (merged_file first second) → IsErrAnd a (λ t. t ≡ merge_error r) →
+            (a ≡ merge_answer first second buffer) × (buffer ≡ merge_buffer first second buffer)
+        unfolding merge_answer
+        result_unloaded h e = let x = layout_right l.one in let y = layout_right l.two in refused _ e (rw (x, y, ← one, ← two, ← h) refl)
+
+        pub result_written : Ok tt ≡ load_answer One (merged_file first second) → {r : Result ℕ MergeError} {after : List ℕ} → r ≡ result_answer (merged_file first second) buffer →
+            after ≡ buffer_if r (merged_file first second) buffer → (r ≡ merge_answer first second buffer) × (after ≡ merge_buffer first second buffer)
+        unfolding merge_answer
+        result_written h e f = let a = layout_right l.one in let b = layout_right l.two in merge_done (rw (a, b, ← one, ← two, ← h) e) f
 
 -- Writing.
 
 module _ (result buffer : List ℕ) (size : ℕ) (sized : size ≡ length result) where
-  pub result_short : length buffer < size → BufferShort ≡ result_answer result buffer
+  pub result_short : length buffer < size → Err BufferShort ≡ result_answer result buffer
   unfolding result_answer
   result_short h = rw (lt-leb (length result) (length buffer) (omega arith))
 
-  pub result_put : size ≤ length buffer → {after : List ℕ} → after ≡ sets buffer 0 result → (Merged size ≡ result_answer result buffer) × (after ≡ buffer_if (Merged size) result buffer)
+  pub result_put : size ≤ length buffer → {after : List ℕ} → after ≡ sets buffer 0 result → (Ok size ≡ result_answer result buffer) × (after ≡ buffer_if (Ok size) result buffer)
   unfolding result_answer list_after
   result_put h e =
       let t = le-leb (length result) (length buffer) (omega arith) in
       let y : 0 + length result ≡ length result = omega arith in
-      (rw t (ap Merged sized), rw t (e ∙ (sets-eq result buffer 0 (omega arith) ∙ ap (λ (k : ℕ). result ++ drop k buffer) y)))
+      (rw t (ap Ok sized), rw t (e ∙ (sets-eq result buffer 0 (omega arith) ∙ ap (λ (k : ℕ). result ++ drop k buffer) y)))
 
   -- as much as was written
   pub result_taken : size ≤ length buffer → {after : List ℕ} → after ≡ sets buffer 0 result → take size after ≡ result

@@ -1,6 +1,6 @@
 -- Adding where no slot is free: an add takes the next node number and the next ports. So a list of adds from the empty graph lays its
 -- blocks one after the other, each with the number of its rank.
-use Rattle.std.specs.Prelude.{◌≡◌, refl, Bool, true, false, cond, List, [], ◌∷◌, map, ◌⊎◌, ℕ, zero, suc, ◌+◌, ◌≤◌, ◌<◌, leb, ltb, length}
+use Rattle.std.specs.Prelude.{◌≡◌, refl, Bool, true, false, cond, List, [], ◌∷◌, map, ◌⊎◌, ℕ, zero, suc, ◌+◌, ◌≤◌, ◌<◌, leb, ltb, length, Ok, Result, Err}
 use Rattle.std.proofs.Common.{sym, ap, ◌∙◌, subst, inl, inr, ⊎_elim, arith, ne_eqb, leb-true, ltb-true, ltb-false, le-ltb}
 use Rattle.port_tables.specs.Limits.{node_slots, port_slots, node_ports, present}
 use Rattle.port_tables.specs.Lists.{range, filter, Member}
@@ -22,8 +22,6 @@ use Rattle.multiportgraph.specs.Space.{Room, room_of, overflows, add_works}
 use Rattle.multiportgraph.specs.SpaceLaws.{Spaced, room_is, room_added, add_space}
 use Rattle.multiportgraph.specs.declared.multiportgraph.MultiPortGraph.{MultiPortGraph}
 use Rattle.port_tables.specs.declared.release.Release.{Release}
-use Rattle.multiportgraph.specs.declared.multiportgraph.AddAnswer.{AddAnswer}
-use Rattle.multiportgraph.specs.declared.multiportgraph.AddAnswer.TheVariants as add
 use Rattle.multiportgraph.specs.declared.multiportgraph.NodeAdded.{NodeAdded}
 use Rattle.multi_tables.specs.declared.answers.Refusal.TheVariants.{NoRoom}
 use Rattle.theorems.specs.Book.{Block, Book, empty_book, book_add}
@@ -32,14 +30,14 @@ use Rattle.theorems.proofs.CallLaws.{call_law}
 use Rattle.files.specs.View.{BlockPorts, RankWire}
 use Rattle.files.specs.Loading.{block_at, first_port, out_port, in_port, add_of, after_call, first_refusal, first_refusal_under}
 use Rattle.files.specs.Claims.{rank_in, At}
-use Rattle.files.specs.declared.load.LoadAnswer.TheVariants.{Loaded}
+use Rattle.multi_tables.specs.declared.answers.Refusal.{Refusal}
 
 -- One add.
 
 module _ {m : MultiPortGraph} {M : Model} (f : Fine m M) (i o : ℕ) where
-  abbrev Next : AddAnswer → Type 0
-  Next (add.Added n p) = (i + o ≤ node_ports) × (n.0 ≡ next_slot M) × (p.0 ≡ next_block M (i + o))
-  Next (add.Refused r) = Unit {0}
+  abbrev Next : Result (NodeIndex × PortIndex) Refusal → Type 0
+  Next (Ok (n, p)) = (i + o ≤ node_ports) × (n.0 ≡ next_slot M) × (p.0 ≡ next_block M (i + o))
+  Next (Err r) = Unit {0}
 
   next_taken : Next (add_block m i o).answer
   next_taken =
@@ -54,11 +52,11 @@ module _ {m : MultiPortGraph} {M : Model} (f : Fine m M) (i o : ℕ) where
       go false e b c = tt
 
   -- what an accepted add answers
-  pub add_takes : (n : NodeIndex) (p : PortIndex) → (add_block m i o).answer ≡ add.Added n p → (i + o ≤ node_ports) × (n.0 ≡ next_slot M) × (p.0 ≡ next_block M (i + o))
+  pub add_takes : (n : NodeIndex) (p : PortIndex) → (add_block m i o).answer ≡ Ok (n, p) → (i + o ≤ node_ports) × (n.0 ≡ next_slot M) × (p.0 ≡ next_block M (i + o))
   add_takes n p e = subst Next e next_taken
 
   -- With no node slot free, and no block of this size, an accepted add gives the next node and the next ports.
-  pub add_takes_next : (n : NodeIndex) (p : PortIndex) → M.free_nodes ≡ [] → M.free_blocks (i + o) ≡ [] → (add_block m i o).answer ≡ add.Added n p →
+  pub add_takes_next : (n : NodeIndex) (p : PortIndex) → M.free_nodes ≡ [] → M.free_blocks (i + o) ≡ [] → (add_block m i o).answer ≡ Ok (n, p) →
       (n.0 ≡ M.node_len) × (0 < i + o → p.0 ≡ M.port_len)
   add_takes_next n p free none e =
       let t = add_takes n p e in (
@@ -67,10 +65,10 @@ module _ {m : MultiPortGraph} {M : Model} (f : Fine m M) (i o : ℕ) where
       )
 
   -- the room after an accepted add is that of the model with the node
-  room_after_add : (n : NodeIndex) (p : PortIndex) (N : Model) → Fine (add_block m i o).graph N → (add_block m i o).answer ≡ add.Added n p → room_of N ≡ room_of (add_model M i o)
+  room_after_add : (n : NodeIndex) (p : PortIndex) (N : Model) → Fine (add_block m i o).graph N → (add_block m i o).answer ≡ Ok (n, p) → room_of N ≡ room_of (add_model M i o)
   room_after_add n p N g e = go (overflows (room_of M) (add_works i o)) refl
     where
-      s : Spaced m M (add_works i o) ((add_block m i o).answer ≡ add.Refused NoRoom) (add_block m i o).graph
+      s : Spaced m M (add_works i o) ((add_block m i o).answer ≡ Err NoRoom) (add_block m i o).graph
       s = add_space f i o (add_takes n p e).0
 
       go : (b : Bool) → overflows (room_of M) (add_works i o) ≡ b → room_of N ≡ room_of (add_model M i o)
@@ -88,7 +86,7 @@ chained_none t h (b ∷ l) c e = let k = c.0 in absurd (omega arith)
 
 -- In a graph of the calls whose tables list no free node slot, and no free block of this size, an accepted add gives the next node and the next ports.
 pub add_gives_next : (m : MultiPortGraph) → MultiWf m → (i o : ℕ) (n : NodeIndex) (p : PortIndex) → m.graph.node_free ≡ 0 → head_at m.graph.port_free (i + o) ≡ 0 →
-    (add_block m i o).answer ≡ add.Added n p → (n.0 ≡ m.graph.node_len) × (0 < i + o → p.0 ≡ m.graph.port_len)
+    (add_block m i o).answer ≡ Ok (n, p) → (n.0 ≡ m.graph.node_len) × (0 < i + o → p.0 ≡ m.graph.port_len)
 add_gives_next m w i o n p free none e =
     let f = w.fine in
     let h = f.holds in
@@ -109,7 +107,7 @@ none_free_at_first = record { nodes = refl; blocks = λ k. refl; node_len = refl
 
 -- an add frees none
 pub none_free_after : {m : MultiPortGraph} {M : Model} → Fine m M → {n p : ℕ} → NoFree M n p → (i o : ℕ) (k : NodeIndex) (q : PortIndex) (N : Model) →
-    Fine (add_block m i o).graph N → (add_block m i o).answer ≡ add.Added k q → NoFree N (suc n) (p + (i + o))
+    Fine (add_block m i o).graph N → (add_block m i o).answer ≡ Ok (k, q) → NoFree N (suc n) (p + (i + o))
 none_free_after {m} {M} f {n} {p} h i o k q N g e =
     let r = room_after_add f i o k q N g e in
     record {
@@ -157,7 +155,7 @@ pub record AddsLaid (s : State) (n p : ℕ) (bs : List BlockPorts) : Type 0 wher
   pub none : NoFree model (n + length bs) (p + first_port bs (length bs))
   pub book : (run_from s (map add_of bs)).book ≡ with_laid n p bs s.book
 
-pub adds_laid : (bs : List BlockPorts) (s : State) (M : Model) (n p : ℕ) → Fine s.graph M → NoFree M n p → first_refusal s.graph (map add_of bs) ≡ Loaded → AddsLaid s n p bs
+pub adds_laid : (bs : List BlockPorts) (s : State) (M : Model) (n p : ℕ) → Fine s.graph M → NoFree M n p → first_refusal s.graph (map add_of bs) ≡ Ok tt → AddsLaid s n p bs
 unfolding run_from_under laid first_port first_refusal_under
 adds_laid [] s M n p f h e =
     record {
@@ -168,10 +166,10 @@ adds_laid [] s M n p f h e =
     }
 adds_laid (b ∷ bs) s M n p f h e = go (adds_laid bs (next s (add_of b))) (step s.graph (add_of b)).answer refl e
   where
-    go : ((N : Model) (n p : ℕ) → Fine (next s (add_of b)).graph N → NoFree N n p → first_refusal (next s (add_of b)).graph (map add_of bs) ≡ Loaded → AddsLaid (next s (add_of b)) n p bs) →
-        (a : AddAnswer) → (step s.graph (add_of b)).answer ≡ a → after_call (add_of b) a (first_refusal (step s.graph (add_of b)).graph (map add_of bs)) ≡ Loaded → AddsLaid s n p (b ∷ bs)
-    go others (add.Refused r) q k = absurd (zero_is_not_one (cc))
-    go others (add.Added x y) q k =
+    go : ((N : Model) (n p : ℕ) → Fine (next s (add_of b)).graph N → NoFree N n p → first_refusal (next s (add_of b)).graph (map add_of bs) ≡ Ok tt → AddsLaid (next s (add_of b)) n p bs) →
+        (a : Result (NodeIndex × PortIndex) Refusal) → (step s.graph (add_of b)).answer ≡ a → after_call (add_of b) a (first_refusal (step s.graph (add_of b)).graph (map add_of bs)) ≡ Ok tt → AddsLaid s n p (b ∷ bs)
+    go others (Err r) q k = absurd (zero_is_not_one (cc))
+    go others (Ok (x, y)) q k =
         let l = (call_law f (add_of b)).leads in
         let t = add_takes_next f b.incoming b.outgoing x y h.nodes (h.blocks (b.incoming + b.outgoing)) q in
         let u = none_free_after f h b.incoming b.outgoing x y l.model l.fine q in
@@ -287,7 +285,7 @@ pub record NextSlots (bs : List BlockPorts) (B : Book) : Type 0 where
   pub nodes_fit : length bs ≤ node_slots
   pub ports_fit : first_port bs (length bs) ≤ port_slots
 
-pub next_slots : (release : Release) (bs : List BlockPorts) → first_refusal (empty_graph release) (map add_of bs) ≡ Loaded → NextSlots bs (run release (map add_of bs)).book
+pub next_slots : (release : Release) (bs : List BlockPorts) → first_refusal (empty_graph release) (map add_of bs) ≡ Ok tt → NextSlots bs (run release (map add_of bs)).book
 unfolding run_under rank_in
 next_slots release bs e =
     let start : (r : ℕ) (b : BlockPorts) → block_from (0 + r) (0 + first_port bs r) b ≡ block_from r (first_port bs r) b =
@@ -330,7 +328,7 @@ pub block_within : (bs : List BlockPorts) (r : ℕ) → r < length bs → first_
 block_within bs r h = let a = first_port_next bs r h in let b = first_port_most bs (suc r) in omega arith
 
 -- where all adds are accepted, the ports that links name are slots of the tables
-module _ (release : Release) (bs : List BlockPorts) (e : first_refusal (empty_graph release) (map add_of bs) ≡ Loaded) (w : RankWire) where
+module _ (release : Release) (bs : List BlockPorts) (e : first_refusal (empty_graph release) (map add_of bs) ≡ Ok tt) (w : RankWire) where
   pub out_port_in_table : w.source < length bs → w.output < (block_at bs w.source).outgoing → out_port bs w < port_slots
   out_port_in_table h k = let a = block_within bs w.source h in let b = (next_slots release bs e).ports_fit in omega arith
 

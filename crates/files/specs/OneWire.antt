@@ -1,5 +1,5 @@
 -- A history of release 2 has no two wires into one input, so its file has none, and a load for release 2 never refuses it with 18.
-use Rattle.std.specs.Prelude.{◌≡◌, refl, Bool, true, false, List, [], ◌∷◌, ◌++◌, ◌⊎◌, ℕ, ◌+◌, ◌<◌, get_or}
+use Rattle.std.specs.Prelude.{◌≡◌, refl, Bool, true, false, List, [], ◌∷◌, ◌++◌, ◌⊎◌, ℕ, ◌+◌, ◌<◌, get_or, Ok, Err}
 use Rattle.std.proofs.Common.{sym, ap, ◌∙◌, subst, inl, inr, ⊎_elim, arith}
 use Rattle.port_tables.specs.Lists.{Member, Once}
 use Rattle.portgraph.specs.Model.{Model}
@@ -27,7 +27,7 @@ use Rattle.files.specs.ViewSound.{at_read}
 use Rattle.files.specs.LoadClaims.{SameInput, SharesInput}
 use Rattle.files.specs.InputLaws.{counted, member_counted}
 use Rattle.files.specs.LoadAnswers.{saved_answers}
-use Rattle.files.specs.declared.load.LoadAnswer.TheVariants.{Loaded, Refused}
+use Rattle.files.specs.declared.load.LoadError.TheVariants.{Refused}
 
 -- a book has no two wires into one input
 abbrev pub OneEach : Book → Type 0
@@ -106,10 +106,10 @@ module _ {m : MultiPortGraph} {M : Model} {B : Book} (r : Rel m M B) (one : OneE
 
 -- so a kit may refuse its own file with 10, and with nothing else
 pub saved_or_no_room : (release : Release) (calls : List Call) →
-    (load_answer release (file_of (run release calls).graph) ≡ Loaded) ⊎ (load_answer release (file_of (run release calls).graph) ≡ Refused NoRoom)
+    (load_answer release (file_of (run release calls).graph) ≡ Ok tt) ⊎ (load_answer release (file_of (run release calls).graph) ≡ Err (Refused NoRoom))
 saved_or_no_room release calls =
     ⊎_elim (λ k. k)
-    (λ (k : (load_answer release (file_of (run release calls).graph) ≡ Refused InputWired) × (release ≡ Two) × SharesInput (view_of (run release calls).graph).wires).
+    (λ (k : (load_answer release (file_of (run release calls).graph) ≡ Err (Refused InputWired)) × (release ≡ Two) × SharesInput (view_of (run release calls).graph).wires).
     absurd
     (view_shares_none (rel_run Two calls).1 (release_two_wires_an_input_once calls)
     (subst (λ (r : Release). SharesInput (view_of (run r calls).graph).wires) k.1 k.2)))

@@ -1,5 +1,5 @@
 -- A build that is refused leaves less than the view says: each call enters one block or wire at most, and a refused one none.
-use Rattle.std.specs.Prelude.{◌≡◌, refl, Bool, true, false, cond, not, List, [], ◌∷◌, map, ℕ, suc, ◌+◌, ◌≤◌, ◌<◌, length}
+use Rattle.std.specs.Prelude.{◌≡◌, refl, Bool, true, false, cond, not, List, [], ◌∷◌, map, ℕ, suc, ◌+◌, ◌≤◌, ◌<◌, length, Err, Option, Some, None, Result, Ok}
 use Rattle.std.proofs.Common.{sym, ap, ◌∙◌, ⊎_elim, arith, length-append}
 use Rattle.port_tables.specs.Lists.{filter}
 use Rattle.portgraph.specs.GoodSlots.{zero_is_not_one}
@@ -7,13 +7,6 @@ use Rattle.multiportgraph.specs.Graph.{empty_graph}
 use Rattle.port_tables.specs.declared.release.Release.{Release}
 use Rattle.port_tables.specs.Listing.{length_map}
 use Rattle.port_tables.specs.Places.{Place, Wire, Spot, nowhere, spot, touches, at_spot, at_end, of_node, of_dropped, without, next_offset}
-use Rattle.multiportgraph.specs.declared.multiportgraph.AddAnswer.TheVariants as add
-use Rattle.multiportgraph.specs.declared.multiportgraph.RemoveAnswer.TheVariants as remove
-use Rattle.multiportgraph.specs.declared.multiportgraph.SetAnswer.TheVariants as resize
-use Rattle.multiportgraph.specs.declared.multiportgraph.LinkAnswer.{LinkAnswer}
-use Rattle.multiportgraph.specs.declared.multiportgraph.LinkAnswer.TheVariants as link
-use Rattle.multi_tables.specs.declared.answers.CutAnswer.{CutAnswer}
-use Rattle.multi_tables.specs.declared.answers.CutAnswer.TheVariants as cutting
 use Rattle.multi_tables.specs.declared.answers.Refusal.{Refusal}
 use Rattle.theorems.specs.Book as book
 use Rattle.theorems.specs.Book.{Call, AnswerOf, Book, empty_book, spot_of, add_wire, read_by, first_mark, second_mark, not_block, book_answer, book_add, book_remove, book_set, book_link, book_link_sub, book_cut}
@@ -25,7 +18,9 @@ use Rattle.files.specs.View.{View, view_of}
 use Rattle.files.specs.Loading.{add_of, link_of, build_of, first_refusal, first_refusal_under}
 use Rattle.files.specs.ViewLaws.{view_blocks, view_wires}
 use Rattle.files.specs.BuildLaws.{goes_or_stops}
-use Rattle.files.specs.declared.load.LoadAnswer.TheVariants.{Refused}
+use Rattle.files.specs.declared.load.LoadError.TheVariants.{Refused}
+use Rattle.multi_tables.specs.declared.answers.SubportIndex.{SubportIndex}
+use Rattle.multi_tables.specs.declared.answers.PortPlace.{PortPlace}
 
 -- blocks and wires of a book
 abbrev pub entries : Book → ℕ
@@ -48,31 +43,31 @@ wire_one l (spot n d i) o (spot k e j) r = omega arith
 without_short : (f : Place → Bool) (l : List Wire) → length (without f l) ≤ length l
 without_short f l = filter_short (λ w. not (touches f w)) l
 
-link_one : (B : Book) (a b : ℕ) (v : LinkAnswer) → entries (book_link B a b v) ≤ suc (entries B)
-link_one B a b (link.Linked s t) =
+link_one : (B : Book) (a b : ℕ) (v : Result (SubportIndex × SubportIndex) Refusal) → entries (book_link B a b v) ≤ suc (entries B)
+link_one B a b (Ok (s, t)) =
     let h = wire_one B.wires (spot_of B.blocks a) (next_offset B.wires (spot_of B.blocks a)) (spot_of B.blocks b) (next_offset B.wires (spot_of B.blocks b)) in
     omega arith
-link_one B a b (link.Refused r) = omega arith
+link_one B a b (Err r) = omega arith
 
-cut_none : (B : Book) (f : Place → Bool) (v : CutAnswer) → entries (book_cut B f v) ≤ suc (entries B)
-cut_none B f (cutting.Found s x) = let h = without_short f B.wires in omega arith
-cut_none B f cutting.Nothing = let h = without_short f B.wires in omega arith
-cut_none B f (cutting.Refused r) = omega arith
+cut_none : (B : Book) (f : Place → Bool) (v : Result (Option (SubportIndex × PortPlace)) Refusal) → entries (book_cut B f v) ≤ suc (entries B)
+cut_none B f (Ok (Some (s, x))) = let h = without_short f B.wires in omega arith
+cut_none B f (Ok None) = let h = without_short f B.wires in omega arith
+cut_none B f (Err r) = omega arith
 
 -- a call enters one at most,
 enters_one : (B : Book) (c : Call) (v : AnswerOf c) (marks : List Bool) (ports : List ℕ) → entries (book_answer B c v marks ports) ≤ suc (entries B)
-enters_one B (book.add_call i o) (add.Added n p) marks ports = omega arith
-enters_one B (book.add_call i o) (add.Refused r) marks ports = omega arith
-enters_one B (book.remove_call n) remove.Removed marks ports = let a = filter_short (not_block n) B.blocks in let b = without_short (of_node n) B.wires in omega arith
-enters_one B (book.remove_call n) (remove.Refused r) marks ports = omega arith
-enters_one B (book.set_call n i o room) (resize.Set e) marks ports = let a = filter_short (not_block n) B.blocks in let b = without_short (of_dropped n i o) B.wires in omega arith
-enters_one B (book.set_call n i o room) (resize.Refused r) marks ports = omega arith
+enters_one B (book.add_call i o) (Ok (n, p)) marks ports = omega arith
+enters_one B (book.add_call i o) (Err r) marks ports = omega arith
+enters_one B (book.remove_call n) (Ok tt) marks ports = let a = filter_short (not_block n) B.blocks in let b = without_short (of_node n) B.wires in omega arith
+enters_one B (book.remove_call n) (Err r) marks ports = omega arith
+enters_one B (book.set_call n i o room) (Ok e) marks ports = let a = filter_short (not_block n) B.blocks in let b = without_short (of_dropped n i o) B.wires in omega arith
+enters_one B (book.set_call n i o room) (Err r) marks ports = omega arith
 enters_one B (book.link_call a b) v marks ports = link_one B a b v
 enters_one B (book.link_clean_call a b) v marks ports = link_one B a b v
-enters_one B (book.link_sub_call p o q t) (link.Linked x y) marks ports =
+enters_one B (book.link_sub_call p o q t) (Ok (x, y)) marks ports =
     let h = wire_one B.wires (spot_of B.blocks p) (read_by (first_mark marks) o) (spot_of B.blocks q) (read_by (second_mark marks) t) in
     omega arith
-enters_one B (book.link_sub_call p o q t) (link.Refused r) marks ports = omega arith
+enters_one B (book.link_sub_call p o q t) (Err r) marks ports = omega arith
 enters_one B (book.cut_call p) v marks ports = cut_none B (at_spot (spot_of B.blocks p)) v
 enters_one B (book.cut_sub_call p o) v marks ports = cut_none B (at_end (spot_of B.blocks p) (read_by (first_mark marks) o)) v
 enters_one B (book.tidy_call p) v marks ports = omega arith
@@ -98,7 +93,7 @@ unfolding run_from_under
 calls_enter [] s = omega arith
 calls_enter (c ∷ l) s = let a = calls_enter l (next s c) in let b = next_enters_one s c in omega arith
 
-pub refused_enter_less : (calls : List Call) (s : State) (r : Refusal) → first_refusal s.graph calls ≡ Refused r → entries (run_from s calls).book < length calls + entries s.book
+pub refused_enter_less : (calls : List Call) (s : State) (r : Refusal) → first_refusal s.graph calls ≡ Err (Refused r) → entries (run_from s calls).book < length calls + entries s.book
 unfolding run_from_under first_refusal_under
 refused_enter_less [] s r e = absurd (zero_is_not_one (cc))
 refused_enter_less (c ∷ l) s r e =
@@ -111,7 +106,7 @@ refused_enter_less (c ∷ l) s r e =
     (goes_or_stops c (step s.graph c).answer)
 
 -- so the view of what a refused build leaves is not the one to be built
-pub partly_built : (release : Release) (v : View) (r : Refusal) → first_refusal (empty_graph release) (build_of v) ≡ Refused r → view_of (run release (build_of v)).graph ≡ v → ⊥
+pub partly_built : (release : Release) (v : View) (r : Refusal) → first_refusal (empty_graph release) (build_of v) ≡ Err (Refused r) → view_of (run release (build_of v)).graph ≡ v → ⊥
 unfolding build_of run_under
 partly_built release v r e same =
     let f = (rel_run release (build_of v)).1.fine in

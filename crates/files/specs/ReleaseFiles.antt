@@ -1,6 +1,6 @@
 -- Files and the two releases: a file holds no release, so each may be loaded for either. What loads for release 2 loads for release 1, to the
 -- same wiring; and it loads for release 2 exactly if it loads for release 1 and no two of its wires end at one input.
-use Rattle.std.specs.Prelude.{◌≡◌, true, false, List, [], ◌∷◌, map, ◌↔◌, ◌⊎◌, ℕ, get_or}
+use Rattle.std.specs.Prelude.{◌≡◌, true, false, List, [], ◌∷◌, map, ◌↔◌, ◌⊎◌, ℕ, get_or, Result, Ok, Err}
 use Rattle.std.proofs.Math.Path.{refl, ap}
 use Rattle.std.proofs.Common.{sym, ◌∙◌, subst, inl, inr, arith}
 use Rattle.std.proofs.Math.Bool.{Bool, cond}
@@ -12,8 +12,6 @@ use Rattle.port_tables.specs.Listing.{member_map, member_append}
 use Rattle.multiportgraph.specs.declared.multiportgraph.MultiPortGraph.{MultiPortGraph}
 use Rattle.port_tables.specs.declared.release.Release.{Release}
 use Rattle.port_tables.specs.declared.release.Release.TheVariants.{One, Two}
-use Rattle.multiportgraph.specs.declared.multiportgraph.AddAnswer.TheVariants as add
-use Rattle.multiportgraph.specs.declared.multiportgraph.LinkAnswer.TheVariants as link
 use Rattle.multi_tables.specs.declared.answers.Refusal.{Refusal}
 use Rattle.multi_tables.specs.declared.answers.Refusal.TheVariants.{BadOffset, TooManyPorts, UnknownNode, HiddenNode, MovesTooShort, UnknownPort, HiddenPort, UnknownOffset, NoRoom, UnknownSecondPort, IncompatibleDirections, AlreadyLinked, InputWired}
 use Rattle.theorems.specs.Book as book
@@ -32,8 +30,8 @@ use Rattle.files.specs.LoadClaims.{SharesInput}
 use Rattle.files.specs.BuildRefusals.{which_refusal, shared_stops}
 use Rattle.files.specs.SoundLaws.{laid_sound}
 use Rattle.files.specs.LoadAnswers.{loaded_parts, parts_loaded, build_answers}
-use Rattle.files.specs.declared.load.LoadAnswer.{LoadAnswer}
-use Rattle.files.specs.declared.load.LoadAnswer.TheVariants.{Loaded, BadSums, BadLayout, Refused}
+use Rattle.files.specs.declared.load.LoadError.{LoadError}
+use Rattle.files.specs.declared.load.LoadError.TheVariants.{BadSums, BadLayout, Refused}
 
 -- Builds on graphs of either release.
 
@@ -65,7 +63,7 @@ refusal_eighteen (IncompatibleDirections p q d) h = absurd (omega arith)
 refusal_eighteen (AlreadyLinked p) h = absurd (omega arith)
 refusal_eighteen InputWired h = refl
 
-first_same : (r : Refusal) → number_of (book.add_call 0 0) (add.Refused r) ≡ get_or (refusal_numbers r) 0 0
+first_same : (r : Refusal) → number_of (book.add_call 0 0) (Err r) ≡ get_or (refusal_numbers r) 0 0
 first_same BadOffset = refl
 first_same TooManyPorts = refl
 first_same UnknownNode = refl
@@ -81,11 +79,11 @@ first_same (AlreadyLinked p) = refl
 first_same InputWired = refl
 
 -- a call of a build that gives 18 stops it with 18
-eighteen_stops : (c : Call) (v : AnswerOf c) → Builds c → number_of c v ≡ 18 → (rest : LoadAnswer) → after_call c v rest ≡ Refused InputWired
-eighteen_stops (book.add_call i o) (add.Added n p) b e rest = absurd (omega arith)
-eighteen_stops (book.add_call i o) (add.Refused r) b e rest = ap Refused (refusal_eighteen r (sym (first_same r) ∙ e))
-eighteen_stops (book.link_call x y) (link.Linked s t) b e rest = absurd (omega arith)
-eighteen_stops (book.link_call x y) (link.Refused r) b e rest = ap Refused (refusal_eighteen r (sym (first_same r) ∙ e))
+eighteen_stops : (c : Call) (v : AnswerOf c) → Builds c → number_of c v ≡ 18 → (rest : Result (Unit {0}) LoadError) → after_call c v rest ≡ Err (Refused InputWired)
+eighteen_stops (book.add_call i o) (Ok (n, p)) b e rest = absurd (omega arith)
+eighteen_stops (book.add_call i o) (Err r) b e rest = ap (λ (x : Refusal). Err (Refused x)) (refusal_eighteen r (sym (first_same r) ∙ e))
+eighteen_stops (book.link_call x y) (Ok (s, t)) b e rest = absurd (omega arith)
+eighteen_stops (book.link_call x y) (Err r) b e rest = ap (λ (x : Refusal). Err (Refused x)) (refusal_eighteen r (sym (first_same r) ∙ e))
 eighteen_stops (book.remove_call n) v b e rest = absurd b
 eighteen_stops (book.set_call n i o room) v b e rest = absurd b
 eighteen_stops (book.link_clean_call x y) v b e rest = absurd b
@@ -104,7 +102,7 @@ all_later c l h x i = h x (inr i)
 
 -- a build is refused with 18, or it goes the same for release 1
 refusals_alike : (l : List Call) → ((c : Call) → Member c l → Builds c) → (m : MultiPortGraph) →
-    (first_refusal m l ≡ Refused InputWired) ⊎ ((first_refusal (for_release One m) l ≡ first_refusal m l) × (first_refusal m l ≡ Loaded → graph_after (for_release One m) l ≡ for_release One (graph_after m l)))
+    (first_refusal m l ≡ Err (Refused InputWired)) ⊎ ((first_refusal (for_release One m) l ≡ first_refusal m l) × (first_refusal m l ≡ Ok tt → graph_after (for_release One m) l ≡ for_release One (graph_after m l)))
 unfolding first_refusal_under graph_after
 refusals_alike [] builds m = inr (refl, λ e. refl)
 refusals_alike (c ∷ l) builds m =
@@ -115,15 +113,15 @@ refusals_alike (c ∷ l) builds m =
   where
     Later : Type 0
     Later =
-        (first_refusal (step m c).graph l ≡ Refused InputWired)
+        (first_refusal (step m c).graph l ≡ Err (Refused InputWired))
         ⊎ ((first_refusal (for_release One (step m c).graph) l ≡ first_refusal (step m c).graph l)
-        × (first_refusal (step m c).graph l ≡ Loaded → graph_after (for_release One (step m c).graph) l ≡ for_release One (graph_after (step m c).graph l)))
+        × (first_refusal (step m c).graph l ≡ Ok tt → graph_after (for_release One (step m c).graph) l ≡ for_release One (graph_after (step m c).graph l)))
 
     Goal : Type 0
     Goal =
-        (after_call c (step m c).answer (first_refusal (step m c).graph l) ≡ Refused InputWired)
+        (after_call c (step m c).answer (first_refusal (step m c).graph l) ≡ Err (Refused InputWired))
         ⊎ ((after_call c (step (for_release One m) c).answer (first_refusal (step (for_release One m) c).graph l) ≡ after_call c (step m c).answer (first_refusal (step m c).graph l))
-        × (after_call c (step m c).answer (first_refusal (step m c).graph l) ≡ Loaded →
+        × (after_call c (step m c).answer (first_refusal (step m c).graph l) ≡ Ok tt →
         graph_after (step (for_release One m) c).graph l ≡ for_release One (graph_after (step m c).graph l)))
 
     goes : step (for_release One m) c ≡ stepped_for One (step m c) → Later → Goal
@@ -137,7 +135,7 @@ refusals_alike (c ∷ l) builds m =
             graph_after (step (for_release One m) c).graph l ≡ for_release One (graph_after (step m c).graph l)
         graphs h = ap (λ (s : Stepped c). graph_after s.graph l) e ∙ h
 
-        either : ((rest : LoadAnswer) → after_call c (step m c).answer rest ≡ rest) ⊎ ((r : Refusal) × RefusedBy c (step m c).answer r × ((rest : LoadAnswer) → after_call c (step m c).answer rest ≡ Refused r)) →
+        either : ((rest : Result (Unit {0}) LoadError) → after_call c (step m c).answer rest ≡ rest) ⊎ ((r : Refusal) × RefusedBy c (step m c).answer r × ((rest : Result (Unit {0}) LoadError) → after_call c (step m c).answer rest ≡ Err (Refused r))) →
             Later → Goal
         either (inl go) (inl h) = inl (go _ ∙ h)
         either (inl go) (inr h) = inr (first ∙ (go _ ∙ (h.0 ∙ sym (go _))), λ k. graphs (h.1 (sym (go _) ∙ k)))
@@ -162,31 +160,31 @@ module _ (bytes : List ℕ) where
   unfolding empty_graph
   for_one = refl
 
-  build_alike : (first_refusal (empty_graph Two) (build_of view) ≡ Refused InputWired)
+  build_alike : (first_refusal (empty_graph Two) (build_of view) ≡ Err (Refused InputWired))
       ⊎ ((first_refusal (empty_graph One) (build_of view) ≡ first_refusal (empty_graph Two) (build_of view))
-      × (first_refusal (empty_graph Two) (build_of view) ≡ Loaded → graph_after (empty_graph One) (build_of view) ≡ for_release One (graph_after (empty_graph Two) (build_of view))))
+      × (first_refusal (empty_graph Two) (build_of view) ≡ Ok tt → graph_after (empty_graph One) (build_of view) ≡ for_release One (graph_after (empty_graph Two) (build_of view))))
   build_alike =
       subst
-      (λ (m : MultiPortGraph). (first_refusal (empty_graph Two) (build_of view) ≡ Refused InputWired)
+      (λ (m : MultiPortGraph). (first_refusal (empty_graph Two) (build_of view) ≡ Err (Refused InputWired))
       ⊎ ((first_refusal m (build_of view) ≡ first_refusal (empty_graph Two) (build_of view))
-      × (first_refusal (empty_graph Two) (build_of view) ≡ Loaded → graph_after m (build_of view) ≡ for_release One (graph_after (empty_graph Two) (build_of view)))))
+      × (first_refusal (empty_graph Two) (build_of view) ≡ Ok tt → graph_after m (build_of view) ≡ for_release One (graph_after (empty_graph Two) (build_of view)))))
       for_one (refusals_alike (build_of view) (build_builds view) (empty_graph Two))
 
   -- a load for release 2 answers as one for release 1, or with 18
-  pub two_answers_as_one : (load_answer Two bytes ≡ load_answer One bytes) ⊎ (load_answer Two bytes ≡ Refused InputWired)
+  pub two_answers_as_one : (load_answer Two bytes ≡ load_answer One bytes) ⊎ (load_answer Two bytes ≡ Err (Refused InputWired))
   unfolding load_answer_under
   two_answers_as_one = go (is_whole bytes) (is_laid bytes)
     where
-      answer : Release → Bool → Bool → LoadAnswer
-      answer release w l = cond w (cond l (first_refusal (empty_graph release) (build_of view)) BadLayout) BadSums
+      answer : Release → Bool → Bool → Result (Unit {0}) LoadError
+      answer release w l = cond w (cond l (first_refusal (empty_graph release) (build_of view)) (Err BadLayout)) (Err BadSums)
 
-      go : (w l : Bool) → (answer Two w l ≡ answer One w l) ⊎ (answer Two w l ≡ Refused InputWired)
+      go : (w l : Bool) → (answer Two w l ≡ answer One w l) ⊎ (answer Two w l ≡ Err (Refused InputWired))
       go true true = ⊎_elim (λ e. inr e) (λ h. inl (sym h.0)) build_alike
       go true false = inl refl
       go false l = inl refl
 
   -- what loads for release 2 loads for release 1, to the same graph but for the release
-  pub two_loads_one : load_answer Two bytes ≡ Loaded → (load_answer One bytes ≡ Loaded) × (load_graph One bytes ≡ for_release One (load_graph Two bytes))
+  pub two_loads_one : load_answer Two bytes ≡ Ok tt → (load_answer One bytes ≡ Ok tt) × (load_graph One bytes ≡ for_release One (load_graph Two bytes))
   unfolding load_graph_under
   two_loads_one e =
       let p = loaded_parts Two bytes e in
@@ -200,7 +198,7 @@ module _ (bytes : List ℕ) where
       build_alike
 
   -- it loads for release 2 exactly if it loads for release 1 and no two of its wires end at one input
-  pub two_loads_exactly : (load_answer Two bytes ≡ Loaded) ↔ ((load_answer One bytes ≡ Loaded) × (SharesInput view.wires → ⊥))
+  pub two_loads_exactly : (load_answer Two bytes ≡ Ok tt) ↔ ((load_answer One bytes ≡ Ok tt) × (SharesInput view.wires → ⊥))
   two_loads_exactly = (
     (λ e.
         let p = loaded_parts Two bytes e in

@@ -1,6 +1,6 @@
 -- From the listings of a graph to its file: ranks off the table, the records of blocks and wires, and the buffer with both kinds of
 -- units in it.
-use Rattle.std.specs.Prelude.{◌≡◌, Bool, ◌⊎◌, set, take}
+use Rattle.std.specs.Prelude.{◌≡◌, Bool, ◌⊎◌, set, take, Ok, Err}
 use Rattle.std.proofs.Math.Path.{refl, sym, ap, subst}
 use Rattle.std.proofs.Common.{◌∙◌, subst₂, inl, inr, mul-suc, length-append, length-set, take_at, get_or-append-add}
 use Rattle.std.proofs.Math.Bool.{true, false, cond}
@@ -39,7 +39,6 @@ use Rattle.files.specs.RankLaws.{at_member, rank_below, blocks_rise}
 use Rattle.files.specs.ViewLaws.{EndFits, walked_places, walked_fits, ports_small, node_in_use, blocks_few_lem, wires_few, file_length_is}
 use Rattle.files.specs.Forms.{number_of, record_of, turns, sorted_numbers, blocks_in, node_listed, block_listed, nodes_of, blocks_of, BlocksFit, rank_turn, block_turn, wires_in, wire_listed, wires_of, rank_read, WiresFit, wire_turn, Listings}
 use Rattle.files.specs.SortSteps.{number_back, wire_number, sorted_as_numbers}
-use Rattle.files.specs.declared.save.SaveAnswer.TheVariants.{Saved, BufferShort}
 
 -- Ranks.
 
@@ -366,19 +365,19 @@ module _ {m : MultiPortGraph} {M : Model} (f : Fine m M) where
       (omega arith, omega arith)
 
 module _ {m : MultiPortGraph} {M : Model} (f : Fine m M) (buffer : List ℕ) (size : ℕ) (sized : size ≡ file_length (visible_nodes m) (visible_links m)) where
-  pub save_short : length buffer < size → (BufferShort ≡ save_answer m buffer) × (buffer ≡ save_buffer m buffer)
+  pub save_short : length buffer < size → (Err (record {}) ≡ save_answer m buffer) × (buffer ≡ save_buffer m buffer)
   unfolding save_answer save_buffer list_after
   save_short h =
       let e = file_length_is f in
       let t = lt-leb (length (file_of m)) (length buffer) (omega arith) in
       (rw t, rw t)
 
-  pub save_answered : size ≤ length buffer → Saved size ≡ save_answer m buffer
+  pub save_answered : size ≤ length buffer → Ok size ≡ save_answer m buffer
   unfolding save_answer
   save_answered h =
       let e = file_length_is f in
       let t = le-leb (length (file_of m)) (length buffer) (omega arith) in
-      rw t (ap Saved (sized ∙ sym e))
+      rw t (ap Ok (sized ∙ sym e))
 
   save_full : (buffer₁ buffer₂ a b : List ℕ) (at : ℕ) → size ≤ length buffer → at ≡ length a → buffer₁ ≡ sets buffer 0 a → buffer₂ ≡ sets buffer₁ at b → a ++ b ≡ file_of m →
       buffer₂ ≡ save_buffer m buffer

@@ -1,4 +1,5 @@
 -- The tests of a view say that it is sound, and what a file says fits its fields.
+use Rattle.std.specs.List.{list_all}
 use Rattle.std.specs.Prelude.{◌≡◌, refl, Bool, true, false, not, ◌&&◌, List, [], ◌∷◌, ◌++◌, map, ℕ, zero, suc, ◌/◌, eqb, ltb, length, drop}
 use Rattle.std.proofs.Common.{sym, ap, ◌∙◌, subst, inl, inr, ⊎_elim, arith, ltb-true, lt-ltb}
 use Rattle.std.proofs.lemmas.Bool.{not-true}
@@ -6,7 +7,7 @@ use Rattle.port_tables.specs.Lists.{Member, Rising}
 use Rattle.port_tables.specs.Listing.{member_append, member_map, map_member}
 use Rattle.files.specs.View.{RankWire, View, is_before}
 use Rattle.files.specs.Layout.{Record, block_record, wire_record, field_at, block_of, wire_of, record_at, records_at, records_of, with_records, read_units, unbytes}
-use Rattle.files.specs.Loading.{every, block_at, order_right, ranks_right, positions_right, unit_list, units_right, view_right, is_laid}
+use Rattle.files.specs.Loading.{block_at, order_right, ranks_right, positions_right, unit_list, units_right, view_right, is_laid}
 use Rattle.files.specs.Claims.{AtMost, Sound, Bytes}
 use Rattle.files.specs.LayoutLaws.{FieldsFit, AllFit, ViewFits}
 use Rattle.files.specs.OrderLaws.{at_most_twice}
@@ -16,12 +17,12 @@ use Rattle.files.specs.WrittenLaws.{bytes_after, field_small}
 -- Tests of all items.
 
 module _ {A : Type 0} (f : A → Bool) where
-  pub every_item : (l : List A) → every f l ≡ true → (x : A) → Member x l → f x ≡ true
+  pub every_item : (l : List A) → list_all f l ≡ true → (x : A) → Member x l → f x ≡ true
   every_item [] e x never = absurd never
-  every_item (y ∷ l) e x (inl p) = ap f p ∙ (both_true (f y) (every f l) e).0
-  every_item (y ∷ l) e x (inr i) = every_item l (both_true (f y) (every f l) e).1 x i
+  every_item (y ∷ l) e x (inl p) = ap f p ∙ (both_true (f y) (list_all f l) e).0
+  every_item (y ∷ l) e x (inr i) = every_item l (both_true (f y) (list_all f l) e).1 x i
 
-  pub item_every : (l : List A) → ((x : A) → Member x l → f x ≡ true) → every f l ≡ true
+  pub item_every : (l : List A) → ((x : A) → Member x l → f x ≡ true) → list_all f l ≡ true
   item_every [] h = refl
   item_every (y ∷ l) h = rw (h y (inl refl)) (item_every l (λ x i. h x (inr i)))
 
@@ -49,8 +50,8 @@ pub right_sound : (v : View) → view_right v ≡ true → Sound v
 unfolding view_right ranks_right positions_right
 right_sound v e =
     let wires = v.wires in
-    let h = both_true (order_right wires) (every (ranks_right v.blocks) wires && every (positions_right v.blocks) wires) e in
-    let k = both_true (every (ranks_right v.blocks) wires) (every (positions_right v.blocks) wires) h.1 in
+    let h = both_true (order_right wires) (list_all (ranks_right v.blocks) wires && list_all (positions_right v.blocks) wires) e in
+    let k = both_true (list_all (ranks_right v.blocks) wires) (list_all (positions_right v.blocks) wires) h.1 in
     let ranks : (w : RankWire) → Member w wires → (ltb w.source (length v.blocks) ≡ true) × (ltb w.target (length v.blocks) ≡ true) =
     λ w i. both_true _ _ (every_item (ranks_right v.blocks) wires k.0 w i) in
     let ports : (w : RankWire) → Member w wires → (ltb w.output (block_at v.blocks w.source).outgoing ≡ true) × (ltb w.input (block_at v.blocks w.target).incoming ≡ true) =

@@ -1,4 +1,5 @@
 -- What the functions that hold the wires of a file against its blocks cite.
+use Rattle.std.specs.List.{list_all}
 use Rattle.std.specs.Prelude.{◌≡◌, refl, Bool, true, false, not, ◌&&◌, List, [], ◌∷◌, ℕ, suc, ◌+◌, ◌*◌, ◌/◌, ◌%◌, ◌≤◌, ◌<◌, ltb, length, get_or, drop}
 use Rattle.std.proofs.Math.Path.{sym, ap}
 use Rattle.std.proofs.Common.{◌∙◌, inl, inr, drop-cons, get_or-drop}
@@ -11,7 +12,7 @@ use Rattle.port_tables.specs.Listing.{map_member}
 use Rattle.files.specs.View.{BlockPorts, RankWire, View}
 use Rattle.files.specs.Layout.{field_at, units_for, block_of, wire_of, wire_record, record_at, unbytes}
 use Rattle.files.specs.LayoutLaws.{FieldsFit}
-use Rattle.files.specs.Loading.{every, unit_list, order_right, ranks_right, block_at, positions_right, units_right, view_right}
+use Rattle.files.specs.Loading.{unit_list, order_right, ranks_right, block_at, positions_right, units_right, view_right}
 use Rattle.files.specs.LaidLaws.{block_placed, wire_placed, all_units}
 use Rattle.files.specs.SoundLaws.{said_fits}
 use Rattle.files.specs.Forms.{number_of}
@@ -129,7 +130,7 @@ unfolding order_right rises
 order_as [] g = refl
 order_as (w ∷ l) g = order_from w l (g w (inl refl)) (λ u i. g u (inr i)) ∙ sym (rw (le-leb 0 (wire_number w) (omega arith)) refl)
 
-wires_as : (blocks : List BlockPorts) (n : ℕ) (l : List RankWire) → wires_fit blocks n l ≡ (rises n l && (every (ranks_right blocks) l && every (positions_right blocks) l))
+wires_as : (blocks : List BlockPorts) (n : ℕ) (l : List RankWire) → wires_fit blocks n l ≡ (rises n l && (list_all (ranks_right blocks) l && list_all (positions_right blocks) l))
 unfolding wires_fit rises wire_fits
 wires_as blocks n [] = refl
 wires_as blocks n (w ∷ l) =
@@ -137,11 +138,11 @@ wires_as blocks n (w ∷ l) =
     let p = positions_right blocks w in
     ap (λ (b : Bool). leb n (wire_number w) && ((r && p) && b)) (wires_as blocks (wire_number w) l)
     ∙ (sym (and_assoc (leb n (wire_number w)) (r && p) _)
-    ∙ sym (and_three (leb n (wire_number w)) r p (rises (wire_number w) l) (every (ranks_right blocks) l) (every (positions_right blocks) l)))
+    ∙ sym (and_three (leb n (wire_number w)) r p (rises (wire_number w) l) (list_all (ranks_right blocks) l) (list_all (positions_right blocks) l)))
 
 view_as : (v : View) → WiresSmall v.wires → wires_fit v.blocks 0 v.wires ≡ view_right v
 unfolding view_right
-view_as v g = wires_as v.blocks 0 v.wires ∙ ap (λ (b : Bool). b && (every (ranks_right v.blocks) v.wires && every (positions_right v.blocks) v.wires)) (sym (order_as v.wires g))
+view_as v g = wires_as v.blocks 0 v.wires ∙ ap (λ (b : Bool). b && (list_all (ranks_right v.blocks) v.wires && list_all (positions_right v.blocks) v.wires)) (sym (order_as v.wires g))
 
 wires_small : (bytes : List ℕ) → ((k : ℕ) → get_or bytes k 0 < 256) → WiresSmall (unbytes bytes).wires
 wires_small bytes h w k = (said_fits bytes h).1 (wire_record w) (map_member wire_record w (unbytes bytes).wires k)

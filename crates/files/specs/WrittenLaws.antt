@@ -1,4 +1,5 @@
 -- A laid file is what is written of the view that it says: fields, records, units and kinds, byte for byte.
+use Rattle.std.specs.List.{list_all}
 use Rattle.std.specs.Prelude.{◌≡◌, refl, Bool, cond, ◌&&◌, eqb, drop}
 use Rattle.std.proofs.Math.Path.{sym, ap, subst}
 use Rattle.std.proofs.Common.{◌∙◌, take_all, take_at, drop_at, drop-drop, take-add, take-take, get_or-drop}
@@ -11,7 +12,7 @@ use Rattle.std.proofs.Math.Seq.{take-nil, drop-cons, length-take-le}
 use borrow.Author.Tests.{eqb-true, eq-eqb}
 use Rattle.portgraph.specs.Sums.{total_same}
 use Rattle.files.specs.Layout.{Record, block_record, wire_record, field_bytes, word_bytes, field_at, word_at, record_bytes, unit_records, unit_head, sum_of, unit, units_for, units_from, units_of, bytes_of, block_of, wire_of, record_at, records_at, records_of, unbytes}
-use Rattle.files.specs.Loading.{every, sum_holds, units_in, unit_list, is_whole, count_of, of_kind, zeros_from, block_zeros, zeros_right, units_right, view_right, is_laid}
+use Rattle.files.specs.Loading.{sum_holds, units_in, unit_list, is_whole, count_of, of_kind, zeros_from, block_zeros, zeros_right, units_right, view_right, is_laid}
 use Rattle.files.specs.Claims.{Bytes}
 use Rattle.files.specs.LaidLaws.{both_true, field_taken, records_many, records_in, UnitOf, Units, units_counted, parts, said}
 
@@ -134,10 +135,10 @@ sum_taken n bytes h = ap (λ (k : ℕ). k % 4294967296) (total_same 127 (λ i. w
 
 -- Units.
 
-zeros_back : (l : List ℕ) → every (eqb 0) l ≡ true → l ≡ replicate (length l) 0
+zeros_back : (l : List ℕ) → list_all (eqb 0) l ≡ true → l ≡ replicate (length l) 0
 zeros_back [] e = refl
 zeros_back (x ∷ l) e =
-    let h = both_true (eqb 0 x) (every (eqb 0) l) e in
+    let h = both_true (eqb 0 x) (list_all (eqb 0) l) e in
     let a = sym (eqb-true 0 x h.0) in
     let r = zeros_back l h.1 in
     λ j. a j ∷ r j
@@ -150,10 +151,10 @@ module _ (kind left : ℕ) (bytes : List ℕ) (u : UnitOf kind left bytes) (b : 
       let f = u.few in
       let e : field_at (take 512 bytes) 2 ≡ c = field_taken 512 2 bytes (omega arith) in
       let z = (both_true _ _ u.zeros).0 in
-      let y : every (eqb 0) (take (8 * (unit_records - c)) (drop (4 + 8 * c) (take 512 bytes))) ≡ true =
-      subst (λ (n : ℕ). every (eqb 0) (take (8 * (unit_records - n)) (drop (4 + 8 * n) (take 512 bytes))) ≡ true) e z in
+      let y : list_all (eqb 0) (take (8 * (unit_records - c)) (drop (4 + 8 * c) (take 512 bytes))) ≡ true =
+      subst (λ (n : ℕ). list_all (eqb 0) (take (8 * (unit_records - n)) (drop (4 + 8 * n) (take 512 bytes))) ≡ true) e z in
       let p = part_taken (8 * (unit_records - c)) (4 + 8 * c) 512 bytes (omega arith) in
-      let x = subst (λ (l : List ℕ). every (eqb 0) l ≡ true) p y in
+      let x = subst (λ (l : List ℕ). list_all (eqb 0) l ≡ true) p y in
       let n = length-drop (4 + 8 * c) bytes in
       let m : length (take (8 * (unit_records - c)) (drop (4 + 8 * c) bytes)) ≡ 8 * (unit_records - c) = length-take-le (8 * (unit_records - c)) (drop (4 + 8 * c) bytes) (omega arith) in
       zeros_back (take (8 * (unit_records - c)) (drop (4 + 8 * c) bytes)) x ∙ ap (λ (k : ℕ). replicate k 0) m
@@ -184,12 +185,12 @@ module _ (kind left : ℕ) (bytes : List ℕ) (u : UnitOf kind left bytes) (b : 
       (λ j. head_back j ++ w j) ∙ parts_joined 508 4 0 bytes
 
 -- so many units of a kind
-units_back : (kind n : ℕ) (bytes : List ℕ) → Units kind n bytes → Bytes bytes → 512 * n ≤ length bytes → every sum_holds (units_in n bytes) ≡ true →
+units_back : (kind n : ℕ) (bytes : List ℕ) → Units kind n bytes → Bytes bytes → 512 * n ≤ length bytes → list_all sum_holds (units_in n bytes) ≡ true →
     units_from kind n (records_in n bytes) ≡ take (512 * n) bytes
 unfolding units_from records_in units_in records_of
 units_back kind zero bytes u b h s = refl
 units_back kind (suc n) bytes u b h s =
-    let t = both_true (sum_holds (take 512 bytes)) (every sum_holds (units_in n (drop 512 bytes))) s in
+    let t = both_true (sum_holds (take 512 bytes)) (list_all sum_holds (units_in n (drop 512 bytes))) s in
     let l = length-drop 512 bytes in
     let z : 512 + 512 * n ≡ 512 * suc n = omega arith in
     let e = unit_back kind n bytes u.0 b (omega arith) t.0 in
@@ -220,51 +221,51 @@ unfolding records_in zeros_right
 blocks_same zero bytes u = refl
 blocks_same (suc n) bytes u = each (records_of bytes) (records_in n (drop 512 bytes)) zeros (blocks_same n (drop 512 bytes) u.1)
   where
-    each : (l m : List Record) → every block_zeros l ≡ true → map block_record (map block_of m) ≡ m → map block_record (map block_of (l ++ m)) ≡ l ++ m
+    each : (l m : List Record) → list_all block_zeros l ≡ true → map block_record (map block_of m) ≡ m → map block_record (map block_of (l ++ m)) ≡ l ++ m
     each [] m e r = r
     each (x ∷ l) m e r =
-        let h = both_true (block_zeros x) (every block_zeros l) e in
+        let h = both_true (block_zeros x) (list_all block_zeros l) e in
         let k = both_true (eqb 0 x.c) (eqb 0 x.d) h.0 in
         let p = eqb-true 0 x.c k.0 in
         let q = eqb-true 0 x.d k.1 in
         let s = each l m h.1 r in
         λ j. record { a = x.a; b = x.b; c = p j; d = q j } ∷ s j
 
-    zeros : every block_zeros (records_of bytes) ≡ true
+    zeros : list_all block_zeros (records_of bytes) ≡ true
     zeros =
-        let z = (both_true (zeros_from (4 + 8 * count_of (take 512 bytes)) (take 512 bytes)) (cond (of_kind 1 (take 512 bytes)) (every block_zeros (records_of (take 512 bytes))) true) u.0.zeros).1 in
+        let z = (both_true (zeros_from (4 + 8 * count_of (take 512 bytes)) (take 512 bytes)) (cond (of_kind 1 (take 512 bytes)) (list_all block_zeros (records_of (take 512 bytes))) true) u.0.zeros).1 in
         let k : of_kind 1 (take 512 bytes) ≡ true = eq-eqb (field_at (take 512 bytes) 0) 1 (field_taken 512 0 bytes (omega arith) ∙ u.0.kind_is) in
-        let y : every block_zeros (records_of (take 512 bytes)) ≡ true = subst (λ (t : Bool). cond t (every block_zeros (records_of (take 512 bytes))) true ≡ true) k z in
-        subst (λ (l : List Record). every block_zeros l ≡ true) (unit_records_lem bytes u.0.few) y
+        let y : list_all block_zeros (records_of (take 512 bytes)) ≡ true = subst (λ (t : Bool). cond t (list_all block_zeros (records_of (take 512 bytes))) true ≡ true) k z in
+        subst (λ (l : List Record). list_all block_zeros l ≡ true) (unit_records_lem bytes u.0.few) y
 
 wires_same : (l : List Record) → map wire_record (map wire_of l) ≡ l
 wires_same [] = refl
 wires_same (r ∷ l) = ap (λ (k : List Record). r ∷ k) (wires_same l)
 
 -- the units of the second kind, after those of the first
-units_after : (p q : ℕ) (f : List ℕ → Bool) (bytes : List ℕ) → every f (units_in (p + q) bytes) ≡ true → (every f (units_in p bytes) ≡ true) × (every f (units_in q (drop (512 * p) bytes)) ≡ true)
+units_after : (p q : ℕ) (f : List ℕ → Bool) (bytes : List ℕ) → list_all f (units_in (p + q) bytes) ≡ true → (list_all f (units_in p bytes) ≡ true) × (list_all f (units_in q (drop (512 * p) bytes)) ≡ true)
 unfolding units_in
-units_after zero q f bytes e = let n : 0 + q ≡ q = omega arith in (refl, subst (λ (k : ℕ). every f (units_in k bytes) ≡ true) n e)
+units_after zero q f bytes e = let n : 0 + q ≡ q = omega arith in (refl, subst (λ (k : ℕ). list_all f (units_in k bytes) ≡ true) n e)
 units_after (suc p) q f bytes e =
     let n : suc p + q ≡ suc (p + q) = omega arith in
-    let h = both_true (f (take 512 bytes)) (every f (units_in (p + q) (drop 512 bytes))) (subst (λ (k : ℕ). every f (units_in k bytes) ≡ true) n e) in
+    let h = both_true (f (take 512 bytes)) (list_all f (units_in (p + q) (drop 512 bytes))) (subst (λ (k : ℕ). list_all f (units_in k bytes) ≡ true) n e) in
     let r = units_after p q f (drop 512 bytes) h.1 in
     let z : 512 + 512 * p ≡ 512 * suc p = omega arith in
     let d = drop-drop (512 * p) 512 bytes ∙ ap (λ (k : ℕ). drop k bytes) z in
-    ((λ j. h.0 j && r.0 j), subst (λ (l : List ℕ). every f (units_in q l) ≡ true) d r.1)
+    ((λ j. h.0 j && r.0 j), subst (λ (l : List ℕ). list_all f (units_in q l) ≡ true) d r.1)
 
 -- a laid file is what is written of its view
 pub laid_written : (b : List ℕ) → Bytes b → is_whole b ≡ true → is_laid b ≡ true → bytes_of (unbytes b) ≡ b
 unfolding is_whole is_laid unit_list bytes_of units_of
 laid_written b bytes w l =
     let e = (both_true (units_right (units_in (length b / 512) b)) (view_right (unbytes b)) l).0 in
-    let h = both_true (eqb (length b % 512) 0) (every sum_holds (units_in (length b / 512) b)) w in
+    let h = both_true (eqb (length b % 512) 0) (list_all sum_holds (units_in (length b / 512) b)) w in
     let s = parts b e in
     let p = s.first in
     let q = s.second in
     let o = s.whole in
     let whole = eqb-true (length b % 512) 0 h.0 in
-    let sums = units_after p q sum_holds b (subst (λ (n : ℕ). every sum_holds (units_in n b) ≡ true) o h.1) in
+    let sums = units_after p q sum_holds b (subst (λ (n : ℕ). list_all sum_holds (units_in n b) ≡ true) o h.1) in
     let after = drop (512 * p) b in
     let d = length-drop (512 * p) b in
     let x : units_from 1 (units_for (length (records_in p b))) (records_in p b) ≡ take (512 * p) b =

@@ -1,59 +1,21 @@
-// Building the wiring of a file over lent tables: its blocks are added in file order, then its wires linked, until one is refused.
-ghost use Rattle.std.specs.Prelude.{◌≡◌, true, map, ◌+◌, ◌≤◌, length};
+// Building the wiring of a file over lent tables: its blocks are added in file order, then its wires linked, until one is refused. The tables stay parameters
+// one by one, as the lent functions below take them.
+ghost use Rattle.std.specs.Prelude.{◌≡◌, true, map, ◌+◌, ◌≤◌, length, MatchResult, Err};
 ghost use Rattle.port_tables.specs.Limits.{node_slots};
 ghost use Rattle.multiportgraph.specs.WellFormed.{MultiWf};
 ghost use Rattle.multiportgraph.specs.MultiLent.{multi_in};
 ghost use Rattle.files.specs.Layout.{block_of, wire_of, unbytes};
-ghost use Rattle.files.specs.Loading.{view_right, add_of, link_of, out_port, in_port};
-ghost use Rattle.files.specs.LoadForms.{record_in, BlocksRead, WiresRead, add_told, link_told, is_loaded, StepIs, Built, Firsts, Linkable};
+ghost use Rattle.files.specs.Loading.{view_right, add_of, link_of, out_port, in_port, first_refusal};
+ghost use Rattle.files.specs.LoadForms.{record_in, BlocksRead, WiresRead, StepIs, StepStops, Built, Firsts, Linkable};
 
 use crate::bytes::field_at;
-use crate::load::LoadAnswer;
+use crate::load::LoadError;
 use crate::wires::place;
 use lent_calls::lent_blocks::add_lent;
 use lent_linking::lent_links::link_lent;
 use multiportgraph::lent::Totals;
-use multiportgraph::multiportgraph::{AddAnswer, LinkAnswer};
 use port_tables::index::{FREE_LISTS, NODE_SLOTS, PORT_SLOTS, PortIndex};
 use port_tables::lent::NODE_WORDS;
-
-// What stands outside the tables afterwards, and the answer.
-#[derive(Clone, Copy)]
-pub(crate) struct BuiltIn {
-    pub totals: Totals,
-    pub answer: LoadAnswer,
-}
-
-// An add as a load tells it.
-fn add_told(answer: AddAnswer) -> LoadAnswer
-    ensures { result ≡ add_told answer }
-{
-    match answer {
-        AddAnswer::Added(_, _) => LoadAnswer::Loaded,
-        AddAnswer::Refused(refusal) => LoadAnswer::Refused(refusal),
-    }
-}
-
-// A link as a load tells it.
-fn link_told(answer: LinkAnswer) -> LoadAnswer
-    ensures { result ≡ link_told answer }
-{
-    match answer {
-        LinkAnswer::Linked(_, _) => LoadAnswer::Loaded,
-        LinkAnswer::Refused(refusal) => LoadAnswer::Refused(refusal),
-    }
-}
-
-pub(crate) fn accepted(answer: LoadAnswer) -> bool
-    ensures { result ≡ is_loaded answer }
-{
-    match answer {
-        LoadAnswer::Loaded => true,
-        LoadAnswer::BadSums => false,
-        LoadAnswer::BadLayout => false,
-        LoadAnswer::Refused(_) => false,
-    }
-}
 
 // Adds the block whose record stands at a byte position.
 fn add_block(
@@ -66,21 +28,17 @@ fn add_block(
     totals: Totals,
     file: &[u8],
     at: usize,
-) -> BuiltIn
+) -> Result<Totals, LoadError>
     requires { MultiWf (multi_in nodes.old links.old owners.old heads.old marks.old flags.old totals) × (at + 8 ≤ length file.now) }
-    ensures { StepIs (multi_in nodes.old links.old owners.old heads.old marks.old flags.old totals) (add_of (block_of (record_in file.now at))) (multi_in nodes.new links.new owners.new heads.new marks.new flags.new result.totals) result.answer }
+    ensures { MatchResult result (λ t. StepIs (multi_in nodes.old links.old owners.old heads.old marks.old flags.old totals) (add_of (block_of (record_in file.now at))) (multi_in nodes.new links.new owners.new heads.new marks.new flags.new t)) (λ e. StepStops (multi_in nodes.old links.old owners.old heads.old marks.old flags.old totals) (add_of (block_of (record_in file.now at))) e) }
 {
     let incoming = field_at(file, at) as usize;
     let outgoing = field_at(file, at + 2) as usize;
     let added = add_lent(
         nodes, links, owners, heads, marks, flags, totals, incoming, outgoing,
     );
-    let after = added.totals;
-    let answer = added.answer;
-    BuiltIn {
-        totals: after,
-        answer: add_told(answer),
-    }
+    added.answer?;
+    Ok(added.totals)
 }
 
 // Adds the blocks of a file.
@@ -94,29 +52,16 @@ pub(crate) fn add_blocks(
     totals: Totals,
     file: &[u8],
     blocks: usize,
-) -> BuiltIn
+) -> Result<Totals, LoadError>
     requires { MultiWf (multi_in nodes.old links.old owners.old heads.old marks.old flags.old totals) × BlocksRead file.now blocks }
-    ensures { Built (multi_in nodes.old links.old owners.old heads.old marks.old flags.old totals) (map add_of (unbytes file.now).blocks) (multi_in nodes.new links.new owners.new heads.new marks.new flags.new result.totals) result.answer }
+    ensures { MatchResult result (λ t. Built (multi_in nodes.old links.old owners.old heads.old marks.old flags.old totals) (map add_of (unbytes file.now).blocks) (multi_in nodes.new links.new owners.new heads.new marks.new flags.new t)) (λ e. first_refusal (multi_in nodes.old links.old owners.old heads.old marks.old flags.old totals) (map add_of (unbytes file.now).blocks) ≡ Err e) }
 {
     let mut after = totals;
-    let mut i: usize = 0;
-    while i < blocks {
+    for i in 0..blocks {
         let at = place(0, i);
-        let built = add_block(nodes, links, owners, heads, marks, flags, after, file, at);
-        let answer = built.answer;
-        after = built.totals;
-        if !accepted(answer) {
-            return BuiltIn {
-                totals: after,
-                answer: answer,
-            };
-        }
-        i += 1;
+        after = add_block(nodes, links, owners, heads, marks, flags, after, file, at)?;
     }
-    BuiltIn {
-        totals: after,
-        answer: LoadAnswer::Loaded,
-    }
+    Ok(after)
 }
 
 // Enters the first port of each block in a table, whatever it holds.
@@ -126,12 +71,10 @@ pub(crate) fn fill_firsts(firsts: &mut [u32; NODE_SLOTS], file: &[u8], blocks: u
 {
     *firsts = [0; NODE_SLOTS];
     let mut next: u64 = 0;
-    let mut i: usize = 0;
-    while i < blocks {
+    for i in 0..blocks {
         firsts[i] = next as u32;
         let at = place(0, i);
         next += field_at(file, at) + field_at(file, at + 2);
-        i += 1;
     }
 }
 
@@ -179,19 +122,15 @@ fn link_wire<'a>(
     file: &'a [u8],
     blocks: usize,
     at: usize,
-) -> BuiltIn
+) -> Result<Totals, LoadError>
     requires { MultiWf (multi_in nodes.old links.old owners.old heads.old marks.old flags.old totals) × Linkable firsts.now file.now blocks at }
-    ensures { StepIs (multi_in nodes.old links.old owners.old heads.old marks.old flags.old totals) (link_of (unbytes file.now).blocks (wire_of (record_in file.now at))) (multi_in nodes.new links.new owners.new heads.new marks.new flags.new result.totals) result.answer }
+    ensures { MatchResult result (λ t. StepIs (multi_in nodes.old links.old owners.old heads.old marks.old flags.old totals) (link_of (unbytes file.now).blocks (wire_of (record_in file.now at))) (multi_in nodes.new links.new owners.new heads.new marks.new flags.new t)) (λ e. StepStops (multi_in nodes.old links.old owners.old heads.old marks.old flags.old totals) (link_of (unbytes file.now).blocks (wire_of (record_in file.now at))) e) }
 {
     let a = out_port(firsts, file, blocks, at);
     let b = in_port(firsts, file, blocks, at);
     let linked = link_lent(nodes, links, owners, heads, marks, flags, totals, a, b);
-    let after = linked.totals;
-    let answer = linked.answer;
-    BuiltIn {
-        totals: after,
-        answer: link_told(answer),
-    }
+    linked.answer?;
+    Ok(linked.totals)
 }
 
 // Links the wires of a file.
@@ -208,30 +147,17 @@ pub(crate) fn link_wires<'a>(
     blocks: usize,
     unit: usize,
     wires: usize,
-) -> BuiltIn
+) -> Result<Totals, LoadError>
     requires { MultiWf (multi_in nodes.old links.old owners.old heads.old marks.old flags.old totals)
         × Firsts firsts.now file.now blocks × BlocksRead file.now blocks × WiresRead file.now unit wires × (view_right (unbytes file.now) ≡ true) × (blocks ≤ node_slots) }
-    ensures { Built (multi_in nodes.old links.old owners.old heads.old marks.old flags.old totals) (map (link_of (unbytes file.now).blocks) (unbytes file.now).wires) (multi_in nodes.new links.new owners.new heads.new marks.new flags.new result.totals) result.answer }
+    ensures { MatchResult result (λ t. Built (multi_in nodes.old links.old owners.old heads.old marks.old flags.old totals) (map (link_of (unbytes file.now).blocks) (unbytes file.now).wires) (multi_in nodes.new links.new owners.new heads.new marks.new flags.new t)) (λ e. first_refusal (multi_in nodes.old links.old owners.old heads.old marks.old flags.old totals) (map (link_of (unbytes file.now).blocks) (unbytes file.now).wires) ≡ Err e) }
 {
     let mut after = totals;
-    let mut i: usize = 0;
-    while i < wires {
+    for i in 0..wires {
         let at = place(unit, i);
-        let built = link_wire(
+        after = link_wire(
             nodes, links, owners, heads, marks, flags, after, firsts, file, blocks, at,
-        );
-        let answer = built.answer;
-        after = built.totals;
-        if !accepted(answer) {
-            return BuiltIn {
-                totals: after,
-                answer: answer,
-            };
-        }
-        i += 1;
+        )?;
     }
-    BuiltIn {
-        totals: after,
-        answer: LoadAnswer::Loaded,
-    }
+    Ok(after)
 }

@@ -11,7 +11,7 @@ pub(crate) fn field_at(bytes: &[u8], i: usize) -> u64
     ensures value { result ≡ field_at bytes.now i }
     ensures upper_bound { result < 65536 }
 {
-    bytes[i] as u64 + 256 * (bytes[i + 1] as u64)
+    u16::from_le_bytes([bytes[i], bytes[i + 1]]) as u64
 }
 
 // The word at a byte position.
@@ -20,7 +20,7 @@ pub(crate) fn word_at(bytes: &[u8], i: usize) -> u64
     ensures value { result ≡ word_at bytes.now i }
     ensures upper_bound { result < 4294967296 }
 {
-    field_at(bytes, i) + 65536 * field_at(bytes, i + 2)
+    u32::from_le_bytes([bytes[i], bytes[i + 1], bytes[i + 2], bytes[i + 3]]) as u64
 }
 
 // Lays a field's two bytes from a byte position on.
@@ -28,8 +28,7 @@ pub(crate) fn put_field(bytes: &mut [u8], i: usize, field: u64)
     requires { i + 2 ≤ length bytes.old }
     ensures { bytes.new ≡ sets bytes.old i (field_bytes field) }
 {
-    bytes[i] = (field % 256) as u8;
-    bytes[i + 1] = (field / 256 % 256) as u8;
+    bytes[i..i + 2].copy_from_slice(&((field % 65536) as u16).to_le_bytes());
 }
 
 // Lays a word's four bytes from a byte position on.
@@ -37,8 +36,7 @@ pub(crate) fn put_word(bytes: &mut [u8], i: usize, word: u64)
     requires { i + 4 ≤ length bytes.old }
     ensures { bytes.new ≡ sets bytes.old i (word_bytes word) }
 {
-    put_field(bytes, i, word % 65536);
-    put_field(bytes, i + 2, word / 65536);
+    bytes[i..i + 4].copy_from_slice(&((word % 4294967296) as u32).to_le_bytes());
 }
 
 // Lays a record's eight bytes from a byte position on; the record is one number, its first field the most significant.

@@ -1,7 +1,8 @@
 // Holding a file against its layout: the sums of its units, and what each unit says by itself.
-ghost use Rattle.std.specs.Prelude.{◌≡◌, ◌-◌, ◌%◌, ◌≤◌, eqb, length, take, drop};
+ghost use Rattle.std.specs.List.{list_all};
+ghost use Rattle.std.specs.Prelude.{◌≡◌, false, ◌-◌, ◌%◌, ◌≤◌, eqb, length, take, drop, MatchOption};
 ghost use Rattle.files.specs.Layout.{records_at};
-ghost use Rattle.files.specs.Loading.{every, sum_holds, is_whole, unit_list, block_zeros};
+ghost use Rattle.files.specs.Loading.{sum_holds, is_whole, unit_list, block_zeros, units_right};
 ghost use Rattle.files.specs.LoadForms.{kind_fits, count_fits, next_kind, unit_fits, ShapeIs};
 
 use crate::bytes::{field_at, word_at};
@@ -22,12 +23,10 @@ pub(crate) fn is_whole(file: &[u8]) -> bool
     if file.len() % 512 != 0 {
         return false;
     }
-    let mut rest = file;
-    while 0 < rest.len() {
-        if !sum_holds(&rest[..512]) {
+    for unit in file.chunks_exact(512) {
+        if !sum_holds(unit) {
             return false;
         }
-        rest = &rest[512..];
     }
     true
 }
@@ -61,29 +60,20 @@ fn count_right(kind: u64, next: u64, count: u64) -> bool
 // The bytes from one on up to the sum are zero.
 fn zeros_from(unit: &[u8], from: usize) -> bool
     requires { (length unit.now ≡ 512) × (from ≤ 508) }
-    ensures { result ≡ every (eqb 0) (take (508 - from) (drop from unit.now)) }
+    ensures { result ≡ list_all (eqb 0) (take (508 - from) (drop from unit.now)) }
 {
-    let mut i = from;
-    while i < 508 {
-        if unit[i] != 0 {
-            return false;
-        }
-        i += 1;
-    }
-    true
+    unit[from..508].iter().all(|byte| *byte == 0)
 }
 
 // The last two fields of each block's record are zero.
 fn block_zeros(unit: &[u8], count: usize) -> bool
     requires { (length unit.now ≡ 512) × (count ≤ 63) }
-    ensures { result ≡ every block_zeros (records_at count (drop 4 unit.now)) }
+    ensures { result ≡ list_all block_zeros (records_at count (drop 4 unit.now)) }
 {
-    let mut i: usize = 0;
-    while i < count {
+    for i in 0..count {
         if word_at(unit, 8 * i + 8) != 0 {
             return false;
         }
-        i += 1;
     }
     true
 }
@@ -110,7 +100,7 @@ fn unit_right(unit: &[u8], next: u64) -> bool
     true
 }
 
-// The kind of the unit after the first; 0 for none.
+// The kind of the unit after the first; 0 for none. Stays a number, as the file's own kinds are: units of any kind are held against it.
 fn next_kind(rest: &[u8]) -> u64
     requires { (length rest.now % 512 ≡ 0) × (512 ≤ length rest.now) }
     ensures { result ≡ next_kind (unit_list (drop 512 rest.now)) }
@@ -121,17 +111,17 @@ fn next_kind(rest: &[u8]) -> u64
     field_at(rest, 512)
 }
 
-// Whether all units are right by themselves, and how many blocks and wires they then have.
+// How many blocks and wires a file has.
 #[derive(Clone, Copy)]
 pub(crate) struct Shape {
-    pub right: bool,
     pub blocks: usize,
     pub wires: usize,
 }
 
-pub(crate) fn shape_of(file: &[u8]) -> Shape
+// The shape of a file whose units are all right by themselves. Stays a while over what is left: each unit is held against the kind of the next one.
+pub(crate) fn shape_of(file: &[u8]) -> Option<Shape>
     requires { length file.now % 512 ≡ 0 }
-    ensures { ShapeIs file.now result.right result.blocks result.wires }
+    ensures { MatchOption result (units_right (unit_list file.now) ≡ false) (λ s. ShapeIs file.now s.blocks s.wires) }
 {
     let mut rest = file;
     let mut blocks: usize = 0;
@@ -139,11 +129,7 @@ pub(crate) fn shape_of(file: &[u8]) -> Shape
     while 0 < rest.len() {
         let next = next_kind(rest);
         if !unit_right(&rest[..512], next) {
-            return Shape {
-                right: false,
-                blocks: 0,
-                wires: 0,
-            };
+            return None;
         }
         let count = field_at(rest, 2) as usize;
         if field_at(rest, 0) == 1 {
@@ -153,9 +139,8 @@ pub(crate) fn shape_of(file: &[u8]) -> Shape
         }
         rest = &rest[512..];
     }
-    Shape {
-        right: true,
+    Some(Shape {
         blocks: blocks,
         wires: wires,
-    }
+    })
 }

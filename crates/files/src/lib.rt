@@ -9,6 +9,5 @@ pub mod load;
 pub mod merge;
 pub mod ranks;
 pub mod save;
-pub mod sort;
 pub mod units;
 pub mod wires;

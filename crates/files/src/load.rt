@@ -1,27 +1,28 @@
 // Loading a file: sums and layout are held against the whole file, then its blocks are added and its wires linked.
-ghost use Rattle.std.specs.Prelude.{◌≡◌, true, ◌%◌, length};
+ghost use Rattle.std.specs.Prelude.{◌≡◌, MatchResult, Err};
 ghost use Rattle.multiportgraph.specs.Graph.{empty_graph};
 ghost use Rattle.multiportgraph.specs.WellFormed.{MultiWf};
 ghost use Rattle.multiportgraph.specs.MultiLent.{multi_in, no_totals};
 ghost use Rattle.files.specs.Layout.{unbytes};
 ghost use Rattle.files.specs.Loading.{build_of, first_refusal, load_answer, load_graph};
-ghost use Rattle.files.specs.LoadForms.{Built, Laid, BuildIs};
+ghost use Rattle.files.specs.Merging.{layout_answer};
+ghost use Rattle.files.specs.declared.load.LoadError.TheVariants.{Refused};
+ghost use Rattle.files.specs.LoadForms.{Built, Laid};
 
-use crate::build::{BuiltIn, accepted, add_blocks, fill_firsts, link_wires};
+use crate::build::{add_blocks, fill_firsts, link_wires};
 use crate::check::{Shape, is_whole, shape_of};
 use crate::wires::wires_right;
 use multi_tables::answers::Refusal;
-use multiportgraph::lent::no_totals;
+use multiportgraph::lent::{Totals, no_totals};
 use multiportgraph::lent_graph::graph_of_tables;
 use multiportgraph::multiportgraph::MultiPortGraph;
 use port_tables::index::{FREE_LISTS, NODE_SLOTS, PORT_SLOTS};
 use port_tables::lent::NODE_WORDS;
 use port_tables::release::Release;
 
-// What loading comes to.
+// Why a load is refused.
 #[derive(Clone, Copy)]
-pub enum LoadAnswer {
-    Loaded,
+pub enum LoadError {
     // Refusal 16: the length is not a multiple of 512, or a unit's sum is wrong.
     BadSums,
     // Refusal 17: kinds, counts, zeros, order, ranks or positions break the layout.
@@ -30,40 +31,46 @@ pub enum LoadAnswer {
     Refused(Refusal),
 }
 
-// The graph of its own that a load gives, the empty one of the release where it is refused, and the answer.
+impl From<Refusal> for LoadError {
+    ghost from_gives = { λ refusal told. told ≡ Refused refusal };
+
+    fn from(refusal: Refusal) -> LoadError {
+        LoadError::Refused(refusal)
+    }
+}
+
+// The graph of its own that a load gives, the empty one of the release where it is refused, and the answer. Stays a struct: a refused load gives
+// a graph too.
 #[derive(Clone, Copy)]
 pub struct FileLoaded {
     pub graph: MultiPortGraph,
-    pub answer: LoadAnswer,
+    pub answer: Result<(), LoadError>,
 }
 
 // A refused load: the empty graph.
-fn refused(release: Release, answer: LoadAnswer) -> FileLoaded
-    ensures { result ≡ record { graph = empty_graph release; answer = answer } }
+fn refused(release: Release, error: LoadError) -> FileLoaded
+    ensures { result ≡ record { graph = empty_graph release; answer = Err error } }
 {
-    let graph = MultiPortGraph::new(release);
     FileLoaded {
-        graph: graph,
-        answer: answer,
+        graph: MultiPortGraph::new(release),
+        answer: Err(error),
     }
 }
 
-// Whether a file is laid as the writer lays it, and how many blocks and wires it then has.
-pub(crate) fn laid(file: &[u8]) -> Shape
-    requires { length file.now % 512 ≡ 0 }
-    ensures { Laid file.now result.right result.blocks result.wires }
+// Holds a file against its layout, sums first: how many blocks and wires it has if it is laid as the writer lays it.
+pub(crate) fn laid(file: &[u8]) -> Result<Shape, LoadError>
+    ensures { MatchResult result (λ s. Laid file.now s.blocks s.wires) (λ e. layout_answer file.now ≡ Err e) }
 {
-    let shape = shape_of(file);
-    if !shape.right {
-        return shape;
+    if !is_whole(file) {
+        return Err(LoadError::BadSums);
     }
-    let blocks = shape.blocks;
-    let wires = shape.wires;
-    Shape {
-        right: wires_right(file, blocks, (blocks + 62) / 63, wires),
-        blocks: blocks,
-        wires: wires,
+    let Some(shape) = shape_of(file) else {
+        return Err(LoadError::BadLayout);
+    };
+    if !wires_right(file, shape.blocks, (shape.blocks + 62) / 63, shape.wires) {
+        return Err(LoadError::BadLayout);
     }
+    Ok(shape)
 }
 
 // Builds the wiring of a laid file for a release over lent tables, which are empty, as far as the first add or link that is refused.
@@ -78,9 +85,9 @@ fn build_over(
     file: &[u8],
     blocks: usize,
     wires: usize,
-) -> BuiltIn
-    requires { (multi_in nodes.old links.old owners.old heads.old marks.old flags.old (no_totals release) ≡ empty_graph release) × Laid file.now true blocks wires }
-    ensures { Built (empty_graph release) (build_of (unbytes file.now)) (multi_in nodes.new links.new owners.new heads.new marks.new flags.new result.totals) result.answer }
+) -> Result<Totals, LoadError>
+    requires { (multi_in nodes.old links.old owners.old heads.old marks.old flags.old (no_totals release) ≡ empty_graph release) × Laid file.now blocks wires }
+    ensures { MatchResult result (λ t. Built (empty_graph release) (build_of (unbytes file.now)) (multi_in nodes.new links.new owners.new heads.new marks.new flags.new t)) (λ e. first_refusal (empty_graph release) (build_of (unbytes file.now)) ≡ Err e) }
 {
     let added = add_blocks(
         nodes,
@@ -92,11 +99,7 @@ fn build_over(
         no_totals(release),
         file,
         blocks,
-    );
-    let answer = added.answer;
-    if !accepted(answer) {
-        return added;
-    }
+    )?;
     let mut firsts = [0u32; NODE_SLOTS];
     fill_firsts(&mut firsts, file, blocks);
     link_wires(
@@ -106,7 +109,7 @@ fn build_over(
         heads,
         marks,
         flags,
-        added.totals,
+        added,
         &firsts,
         file,
         blocks,
@@ -115,10 +118,10 @@ fn build_over(
     )
 }
 
-// What building a laid file for a release answers.
-pub(crate) fn build_answer(release: Release, file: &[u8], blocks: usize, wires: usize) -> LoadAnswer
-    requires { Laid file.now true blocks wires }
-    ensures { result ≡ first_refusal (empty_graph release) (build_of (unbytes file.now)) }
+// What loading a laid file for a release answers. Stays beside `build`, with tables of its own: the answer alone needs no graph by value.
+pub(crate) fn build_answer(release: Release, file: &[u8], shape: Shape) -> Result<(), LoadError>
+    requires { Laid file.now shape.blocks shape.wires }
+    ensures { result ≡ load_answer release file.now }
 {
     let mut nodes = [0u32; NODE_WORDS];
     let mut links = [0u32; PORT_SLOTS];
@@ -126,7 +129,7 @@ pub(crate) fn build_answer(release: Release, file: &[u8], blocks: usize, wires: 
     let mut heads = [0u32; FREE_LISTS];
     let mut marks = [false; PORT_SLOTS];
     let mut flags = [false; NODE_SLOTS];
-    let built = build_over(
+    build_over(
         &mut nodes,
         &mut links,
         &mut owners,
@@ -135,16 +138,16 @@ pub(crate) fn build_answer(release: Release, file: &[u8], blocks: usize, wires: 
         &mut flags,
         release,
         file,
-        blocks,
-        wires,
-    );
-    built.answer
+        shape.blocks,
+        shape.wires,
+    )?;
+    Ok(())
 }
 
 // Builds the wiring of a laid file for a release.
-fn build(release: Release, file: &[u8], blocks: usize, wires: usize) -> FileLoaded
-    requires { Laid file.now true blocks wires }
-    ensures { BuildIs release (unbytes file.now) result }
+fn build(release: Release, file: &[u8], shape: Shape) -> FileLoaded
+    requires { Laid file.now shape.blocks shape.wires }
+    ensures { (result ≡ record { graph = load_graph release file.now; answer = load_answer release file.now }) × MultiWf result.graph }
 {
     let mut nodes = [0u32; NODE_WORDS];
     let mut links = [0u32; PORT_SLOTS];
@@ -161,18 +164,15 @@ fn build(release: Release, file: &[u8], blocks: usize, wires: usize) -> FileLoad
         &mut flags,
         release,
         file,
-        blocks,
-        wires,
+        shape.blocks,
+        shape.wires,
     );
-    let answer = built.answer;
-    if !accepted(answer) {
-        return refused(release, answer);
-    }
-    let totals = built.totals;
-    let graph = graph_of_tables(&nodes, &links, &owners, &heads, &marks, &flags, totals);
-    FileLoaded {
-        graph: graph,
-        answer: LoadAnswer::Loaded,
+    match built {
+        Ok(totals) => FileLoaded {
+            graph: graph_of_tables(&nodes, &links, &owners, &heads, &marks, &flags, totals),
+            answer: Ok(()),
+        },
+        Err(error) => refused(release, error),
     }
 }
 
@@ -181,12 +181,8 @@ fn build(release: Release, file: &[u8], blocks: usize, wires: usize) -> FileLoad
 pub fn load(release: Release, file: &[u8]) -> FileLoaded
     ensures { (result ≡ record { graph = load_graph release file.now; answer = load_answer release file.now }) × MultiWf result.graph }
 {
-    if !is_whole(file) {
-        return refused(release, LoadAnswer::BadSums);
+    match laid(file) {
+        Ok(shape) => build(release, file, shape),
+        Err(error) => refused(release, error),
     }
-    let shape = laid(file);
-    if !shape.right {
-        return refused(release, LoadAnswer::BadLayout);
-    }
-    build(release, file, shape.blocks, shape.wires)
 }

@@ -6,13 +6,12 @@ ghost use Rattle.files.specs.Layout.{block_of, block_record, wire_of, wire_recor
 ghost use Rattle.files.specs.Loading.{load_answer};
 ghost use Rattle.files.specs.Forms.{number_of, turns};
 ghost use Rattle.files.specs.LoadForms.{record_in, BlocksRead, WiresRead};
-ghost use Rattle.files.specs.Merging.{raised, merged_file, result_answer, merge_answer, buffer_if, merge_buffer};
-ghost use Rattle.files.specs.MergeForms.{block_read_turn, wire_read_turn, RaisedAt, RaisedFit, BothLaid, BothFew, first_of};
+ghost use Rattle.files.specs.Merging.{raised, merged_file, merge_error, result_answer, merge_answer, buffer_if, merge_buffer};
+ghost use Rattle.files.specs.MergeForms.{block_read_turn, wire_read_turn, RaisedAt, RaisedFit, BothLaid, BothFew};
 
-use crate::build::accepted;
 use crate::bytes::{field_at, number_of};
-use crate::check::is_whole;
-use crate::load::{LoadAnswer, build_answer, laid};
+use crate::check::Shape;
+use crate::load::{LoadError, build_answer, laid};
 use crate::save::file_length;
 use crate::units::put_units;
 use crate::wires::place;
@@ -26,11 +25,9 @@ const MOST_RECORDS: usize = PORT_SLOTS;
 // No result of two such files is longer, loaded or not.
 const LONGEST_RESULT: usize = 512 * ((2 * NODE_SLOTS + 62) / 63 + (MOST_RECORDS + 62) / 63);
 
-// What merging comes to.
+// Why a merge is refused.
 #[derive(Clone, Copy)]
-pub enum MergeAnswer {
-    // The result's length in bytes.
-    Merged(usize),
+pub enum MergeError {
     // Refusal 16, of the first file or the second: the length is not a multiple of 512, or a unit's sum is wrong.
     BadSums,
     // Refusal 17, of the first file or the second: kinds, counts, zeros, order, ranks or positions break the layout.
@@ -41,6 +38,18 @@ pub enum MergeAnswer {
     BufferShort,
 }
 
+impl From<LoadError> for MergeError {
+    ghost from_gives = { λ error told. told ≡ merge_error error };
+
+    fn from(error: LoadError) -> MergeError {
+        match error {
+            LoadError::BadSums => MergeError::BadSums,
+            LoadError::BadLayout => MergeError::BadLayout,
+            LoadError::Refused(refusal) => MergeError::Refused(refusal),
+        }
+    }
+}
+
 // The record of the block at a byte position, as a number.
 fn block_number(file: &[u8], at: usize) -> u64
     requires { at + 8 ≤ length file.now }
@@ -48,7 +57,7 @@ fn block_number(file: &[u8], at: usize) -> u64
 {
     let incoming = field_at(file, at);
     let outgoing = field_at(file, at + 2);
-    281474976710656 * incoming + 4294967296 * outgoing
+    number_of(incoming, outgoing, 0, 0)
 }
 
 // The records of the blocks of a file, as numbers, in a list from a place on.
@@ -56,11 +65,9 @@ fn read_blocks(file: &[u8], count: usize, numbers: &mut [u64], from: usize)
     requires { BlocksRead file.now count × (from + count ≤ length numbers.old) }
     ensures { numbers.new ≡ turns (block_read_turn file.now from) 0 count numbers.old }
 {
-    let mut i: usize = 0;
-    while i < count {
+    for i in 0..count {
         let at = place(0, i);
         numbers[from + i] = block_number(file, at);
-        i += 1;
     }
 }
 
@@ -81,11 +88,9 @@ fn read_wires(file: &[u8], unit: usize, count: usize, raise: u64, numbers: &mut 
     requires { WiresRead file.now unit count × RaisedFit file.now unit count raise × (from + count ≤ length numbers.old) }
     ensures { numbers.new ≡ turns (wire_read_turn file.now unit raise from) 0 count numbers.old }
 {
-    let mut i: usize = 0;
-    while i < count {
+    for i in 0..count {
         let at = place(unit, i);
         numbers[from + i] = raised_number(file, at, raise);
-        i += 1;
     }
 }
 
@@ -132,30 +137,20 @@ fn put_wires_of_both<'a>(
 }
 
 // Lays the file of both from the buffer's start on.
-fn put_both<'a>(
-    first: &'a [u8],
-    second: &'a [u8],
-    blocks: usize,
-    wires: usize,
-    blocks_2: usize,
-    wires_2: usize,
-    buffer: &mut [u8],
-)
-    requires { BothLaid first.now second.now blocks wires blocks_2 wires_2 × BothFew blocks wires blocks_2 wires_2 × (file_length (blocks + blocks_2) (wires + wires_2) ≤ length buffer.old) }
+fn put_both<'a>(first: &'a [u8], second: &'a [u8], one: Shape, two: Shape, buffer: &mut [u8])
+    requires { BothLaid first.now second.now one.blocks one.wires two.blocks two.wires × BothFew one.blocks one.wires two.blocks two.wires × (file_length (one.blocks + two.blocks) (one.wires + two.wires) ≤ length buffer.old) }
     ensures { buffer.new ≡ sets buffer.old 0 (merged_file first.now second.now) }
 {
     let mut numbers = [0u64; MOST_RECORDS];
-    let at = put_blocks_of_both(first, second, blocks, blocks_2, &mut numbers, buffer);
-    let unit = (blocks + 62) / 63;
-    let unit_2 = (blocks_2 + 62) / 63;
+    let at = put_blocks_of_both(first, second, one.blocks, two.blocks, &mut numbers, buffer);
     put_wires_of_both(
         first,
         second,
-        unit,
-        unit_2,
-        wires,
-        wires_2,
-        blocks as u64,
+        (one.blocks + 62) / 63,
+        (two.blocks + 62) / 63,
+        one.wires,
+        two.wires,
+        one.blocks as u64,
         &mut numbers,
         buffer,
         at,
@@ -166,114 +161,68 @@ fn put_both<'a>(
 fn result_answer<'a>(
     first: &'a [u8],
     second: &'a [u8],
-    blocks: usize,
-    wires: usize,
-    blocks_2: usize,
-    wires_2: usize,
-) -> LoadAnswer
-    requires { BothLaid first.now second.now blocks wires blocks_2 wires_2 × BothFew blocks wires blocks_2 wires_2 }
+    one: Shape,
+    two: Shape,
+) -> Result<(), LoadError>
+    requires { BothLaid first.now second.now one.blocks one.wires two.blocks two.wires × BothFew one.blocks one.wires two.blocks two.wires }
     ensures { result ≡ load_answer One (merged_file first.now second.now) }
 {
     let mut result = [0u8; LONGEST_RESULT];
-    put_both(first, second, blocks, wires, blocks_2, wires_2, &mut result);
-    let all = blocks + blocks_2;
-    let all_wires = wires + wires_2;
-    let size = file_length(all, all_wires);
-    build_answer(Release::One, &result[..size], all, all_wires)
-}
-
-// What loading the first file, the second and the result for release 1 answers: the first refusal.
-fn load_answers<'a>(
-    first: &'a [u8],
-    second: &'a [u8],
-    blocks: usize,
-    wires: usize,
-    blocks_2: usize,
-    wires_2: usize,
-) -> LoadAnswer
-    requires { BothLaid first.now second.now blocks wires blocks_2 wires_2 }
-    ensures { result ≡ first_of (load_answer One first.now) (first_of (load_answer One second.now) (load_answer One (merged_file first.now second.now))) }
-{
-    let one = build_answer(Release::One, first, blocks, wires);
-    if !accepted(one) {
-        return one;
-    }
-    let two = build_answer(Release::One, second, blocks_2, wires_2);
-    if !accepted(two) {
-        return two;
-    }
-    result_answer(first, second, blocks, wires, blocks_2, wires_2)
+    put_both(first, second, one, two, &mut result);
+    let both = Shape {
+        blocks: one.blocks + two.blocks,
+        wires: one.wires + two.wires,
+    };
+    let size = file_length(both.blocks, both.wires);
+    build_answer(Release::One, &result[..size], both)
 }
 
 // Writes the result, which loads, where the buffer is long enough.
 fn put_result<'a>(
     first: &'a [u8],
     second: &'a [u8],
-    blocks: usize,
-    wires: usize,
-    blocks_2: usize,
-    wires_2: usize,
+    one: Shape,
+    two: Shape,
     buffer: &mut [u8],
-) -> MergeAnswer
-    requires { BothLaid first.now second.now blocks wires blocks_2 wires_2 × BothFew blocks wires blocks_2 wires_2 }
+) -> Result<usize, MergeError>
+    requires { BothLaid first.now second.now one.blocks one.wires two.blocks two.wires × BothFew one.blocks one.wires two.blocks two.wires }
     ensures { (result ≡ result_answer (merged_file first.now second.now) buffer.old)
         × (buffer.new ≡ buffer_if result (merged_file first.now second.now) buffer.old) }
 {
-    let size = file_length(blocks + blocks_2, wires + wires_2);
+    let size = file_length(one.blocks + two.blocks, one.wires + two.wires);
     if buffer.len() < size {
-        return MergeAnswer::BufferShort;
+        return Err(MergeError::BufferShort);
     }
-    put_both(first, second, blocks, wires, blocks_2, wires_2, buffer);
-    MergeAnswer::Merged(size)
+    put_both(first, second, one, two, buffer);
+    Ok(size)
 }
 
-// Merges two laid files.
+// Merges two laid files: the first, the second and the result must load for release 1.
 fn merge_laid<'a>(
     first: &'a [u8],
     second: &'a [u8],
-    blocks: usize,
-    wires: usize,
-    blocks_2: usize,
-    wires_2: usize,
+    one: Shape,
+    two: Shape,
     buffer: &mut [u8],
-) -> MergeAnswer
-    requires { BothLaid first.now second.now blocks wires blocks_2 wires_2 }
+) -> Result<usize, MergeError>
+    requires { BothLaid first.now second.now one.blocks one.wires two.blocks two.wires }
     ensures { (result ≡ merge_answer first.now second.now buffer.old)
         × (buffer.new ≡ merge_buffer first.now second.now buffer.old) }
 {
-    let answer = load_answers(first, second, blocks, wires, blocks_2, wires_2);
-    match answer {
-        LoadAnswer::Loaded => {
-            put_result(first, second, blocks, wires, blocks_2, wires_2, buffer)
-        }
-        LoadAnswer::BadSums => MergeAnswer::BadSums,
-        LoadAnswer::BadLayout => MergeAnswer::BadLayout,
-        LoadAnswer::Refused(refusal) => MergeAnswer::Refused(refusal),
-    }
+    build_answer(Release::One, first, one)?;
+    build_answer(Release::One, second, two)?;
+    result_answer(first, second, one, two)?;
+    put_result(first, second, one, two, buffer)
 }
 
 // Writes two files as one to a lent buffer and answers the length of the result: the blocks of the second behind those of the first, its wires with
 // their ranks raised by the first's block count. Sums and layout of both are held first; then both and the result must load for release 1. Bytes
 // past the result keep their contents, and a refused merge writes nothing.
-pub fn merge<'a>(first: &'a [u8], second: &'a [u8], buffer: &mut [u8]) -> MergeAnswer
+pub fn merge<'a>(first: &'a [u8], second: &'a [u8], buffer: &mut [u8]) -> Result<usize, MergeError>
     ensures { (result ≡ merge_answer first.now second.now buffer.old)
         × (buffer.new ≡ merge_buffer first.now second.now buffer.old) }
 {
-    if !is_whole(first) {
-        return MergeAnswer::BadSums;
-    }
-    let one = laid(first);
-    if !one.right {
-        return MergeAnswer::BadLayout;
-    }
-    if !is_whole(second) {
-        return MergeAnswer::BadSums;
-    }
-    let two = laid(second);
-    if !two.right {
-        return MergeAnswer::BadLayout;
-    }
-    merge_laid(
-        first, second, one.blocks, one.wires, two.blocks, two.wires, buffer,
-    )
+    let one = laid(first)?;
+    let two = laid(second)?;
+    merge_laid(first, second, one, two, buffer)
 }

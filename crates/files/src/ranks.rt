@@ -6,15 +6,7 @@ ghost use Rattle.files.specs.Forms.{number_of, turns, blocks_in, BlocksFit, rank
 
 use crate::bytes::number_of;
 
-// A record as one number, the first field the most significant.
-fn record_number(a: u32, b: u32, c: u32, d: u32) -> u64
-    requires { FieldsFit (record { a = a; b = b; c = c; d = d }) }
-    ensures { result ≡ number_of (record { a = a; b = b; c = c; d = d }) }
-{
-    number_of(a as u64, b as u64, c as u64, d as u64)
-}
-
-// Stores a number in a table; outside nothing changes.
+// Stores a number in a table; outside nothing changes. Stays an index: of what `get_mut` lends, a proof keeps the length alone.
 fn put(table: &mut [u32], i: usize, x: u32)
     ensures { table.new ≡ set table.old i x }
 {
@@ -27,7 +19,7 @@ fn put(table: &mut [u32], i: usize, x: u32)
 fn at(table: &[u32], i: usize) -> u32
     ensures { result ≡ get_or table.now i 0 }
 {
-    if i < table.len() { table[i] } else { 0 }
+    table.get(i).copied().unwrap_or(0)
 }
 
 // Enters the rank of each block of a listing.
@@ -36,10 +28,8 @@ pub(crate) fn fill_ranks(listed: &[u32], ranks: &mut [u32])
     ensures { ranks.new ≡ turns (rank_turn listed.now) 0 (blocks_in listed.now) ranks.old }
 {
     let count = listed.len() / 4;
-    let mut i: usize = 0;
-    while i < count {
+    for i in 0..count {
         put(ranks, listed[4 * i] as usize, i as u32);
-        i += 1;
     }
 }
 
@@ -49,10 +39,8 @@ pub(crate) fn block_numbers(listed: &[u32], numbers: &mut [u64])
     ensures { numbers.new ≡ turns (block_turn listed.now) 0 (blocks_in listed.now) numbers.old }
 {
     let count = listed.len() / 4;
-    let mut i: usize = 0;
-    while i < count {
-        numbers[i] = record_number(listed[4 * i + 1], listed[4 * i + 2], 0, 0);
-        i += 1;
+    for i in 0..count {
+        numbers[i] = number_of(listed[4 * i + 1] as u64, listed[4 * i + 2] as u64, 0, 0);
     }
 }
 
@@ -64,7 +52,12 @@ fn wire_number<'a>(ends: &'a [u32], ranks: &'a [u32], i: usize) -> u64
     let k = 8 * i;
     let source = at(ranks, ends[k + 2] as usize);
     let target = at(ranks, ends[k + 6] as usize);
-    record_number(source, ends[k + 3], target, ends[k + 7])
+    number_of(
+        source as u64,
+        ends[k + 3] as u64,
+        target as u64,
+        ends[k + 7] as u64,
+    )
 }
 
 // The records of the wires of a listing, as numbers.
@@ -73,9 +66,7 @@ pub(crate) fn wire_numbers<'a>(ends: &'a [u32], ranks: &'a [u32], numbers: &mut 
     ensures { numbers.new ≡ turns (wire_turn ends.now ranks.now) 0 (wires_in ends.now) numbers.old }
 {
     let count = ends.len() / 8;
-    let mut i: usize = 0;
-    while i < count {
+    for i in 0..count {
         numbers[i] = wire_number(ends, ranks, i);
-        i += 1;
     }
 }

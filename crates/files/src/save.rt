@@ -11,7 +11,6 @@ ghost use Rattle.files.specs.Saving.{save_answer, save_buffer};
 ghost use Rattle.files.specs.Forms.{record_of, sorted_numbers, blocks_in, nodes_of, blocks_of, BlocksFit, wires_in, wires_of, Listings};
 
 use crate::ranks::{block_numbers, fill_ranks, wire_numbers};
-use crate::sort::sort_numbers;
 use crate::units::put_units;
 use multiportgraph::lent::{Totals, link_count_lent, node_count_lent};
 use multiportgraph::lent_graph::tables_of_graph;
@@ -20,7 +19,6 @@ use multiportgraph::list_wires::wires_lent;
 use multiportgraph::multiportgraph::MultiPortGraph;
 use port_tables::index::{FREE_LISTS, NODE_SLOTS, PORT_SLOTS};
 use port_tables::lent::NODE_WORDS;
-use port_tables::numbers::larger;
 
 // A wire takes two port slots.
 const MOST_WIRES: usize = PORT_SLOTS / 2;
@@ -30,17 +28,25 @@ const FEW: usize = 63;
 
 const SOME: usize = 126;
 
+// What their listings take: four numbers for a block, and eight for a wire.
+const FEW_LISTED: usize = 4 * FEW;
+
+const FEW_ENDS: usize = 8 * FEW;
+
+const SOME_LISTED: usize = 4 * SOME;
+
+const SOME_ENDS: usize = 8 * SOME;
+
+const ALL_LISTED: usize = 4 * NODE_SLOTS;
+
+const ALL_ENDS: usize = 8 * MOST_WIRES;
+
 // No file is longer than this, so a buffer of so many bytes is never too short.
 pub const LONGEST_FILE: usize = 512 * ((NODE_SLOTS + 62) / 63 + (MOST_WIRES + 62) / 63);
 
-// What saving comes to.
+// Refusal 15: the lent buffer is too short, and stayed as it was.
 #[derive(Clone, Copy)]
-pub enum SaveAnswer {
-    // The file's length in bytes.
-    Saved(usize),
-    // Refusal 15: the lent buffer is too short, and stayed as it was.
-    BufferShort,
-}
+pub struct BufferShort;
 
 // The length of a file of so many blocks and wires.
 pub(crate) fn file_length(blocks: usize, wires: usize) -> usize
@@ -66,7 +72,7 @@ fn put_sorted(numbers: &mut [u64], buffer: &mut [u8], at: usize)
     requires { at + 512 * units_for (length numbers.old) ≤ length buffer.old }
     ensures { buffer.new ≡ sets buffer.old at (units_of 2 (map record_of (sorted_numbers numbers.old))) }
 {
-    sort_numbers(numbers);
+    numbers.sort_unstable();
     put_units(buffer, at, 2, numbers);
 }
 
@@ -114,8 +120,9 @@ fn write_in<'a>(
 {
     let blocks = node_count_lent(totals);
     let wires = link_count_lent(totals);
-    blocks_lent(nodes, links, owners, heads, marks, flags, totals, listed);
-    wires_lent(nodes, links, owners, heads, marks, flags, totals, ends);
+    // The lists are long enough, so both are written.
+    let _ = blocks_lent(nodes, links, owners, heads, marks, flags, totals, listed);
+    let _ = wires_lent(nodes, links, owners, heads, marks, flags, totals, ends);
     let block_end = 4 * blocks;
     let wire_end = 8 * wires;
     let next = put_blocks(&listed[..block_end], numbers, buffer);
@@ -129,8 +136,8 @@ fn write_in<'a>(
     );
 }
 
-// The same by lists for up to 63 blocks and wires.
-fn write_few<'a>(
+// The same by lists of these lengths: what the listings of blocks and of wires take, and as many numbers of records.
+fn write_by<'a, const LISTED: usize, const ENDS: usize, const NUMBERS: usize>(
     nodes: &'a [u32; NODE_WORDS],
     links: &'a [u32; PORT_SLOTS],
     owners: &'a [u32; PORT_SLOTS],
@@ -141,87 +148,18 @@ fn write_few<'a>(
     buffer: &mut [u8],
 )
     requires { MultiWf (multi_in nodes.now links.now owners.now heads.now marks.now flags.now totals)
-        × (visible_nodes (multi_in nodes.now links.now owners.now heads.now marks.now flags.now totals) ≤ 63)
-        × (visible_links (multi_in nodes.now links.now owners.now heads.now marks.now flags.now totals) ≤ 63)
-        × (file_length (visible_nodes (multi_in nodes.now links.now owners.now heads.now marks.now flags.now totals)) (visible_links (multi_in nodes.now links.now owners.now heads.now marks.now flags.now totals)) ≤ length buffer.old) }
+        × (4 * visible_nodes (multi_in nodes.now links.now owners.now heads.now marks.now flags.now totals) ≤ LISTED)
+        × (8 * visible_links (multi_in nodes.now links.now owners.now heads.now marks.now flags.now totals) ≤ ENDS)
+        × (visible_nodes (multi_in nodes.now links.now owners.now heads.now marks.now flags.now totals) ≤ NUMBERS)
+        × (visible_links (multi_in nodes.now links.now owners.now heads.now marks.now flags.now totals) ≤ NUMBERS)
+        × (file_length (visible_nodes (multi_in nodes.now links.now owners.now heads.now marks.now flags.now totals)) (visible_links (multi_in nodes.now links.now owners.now heads.now marks.now flags.now totals)) ≤ length buffer.old)
+        × (LISTED ≤ 65536) × (ENDS ≤ 65536) × (NUMBERS ≤ 65536) }
     ensures { buffer.new ≡ save_buffer (multi_in nodes.now links.now owners.now heads.now marks.now flags.now totals) buffer.old }
 {
-    let mut listed = [0u32; 4 * FEW];
-    let mut ends = [0u32; 8 * FEW];
+    let mut listed = [0u32; LISTED];
+    let mut ends = [0u32; ENDS];
     let mut ranks = [0u32; NODE_SLOTS];
-    let mut numbers = [0u64; FEW];
-    write_in(
-        nodes,
-        links,
-        owners,
-        heads,
-        marks,
-        flags,
-        totals,
-        &mut listed,
-        &mut ends,
-        &mut ranks,
-        &mut numbers,
-        buffer,
-    );
-}
-
-// The same by lists for up to 126.
-fn write_some<'a>(
-    nodes: &'a [u32; NODE_WORDS],
-    links: &'a [u32; PORT_SLOTS],
-    owners: &'a [u32; PORT_SLOTS],
-    heads: &'a [u32; FREE_LISTS],
-    marks: &'a [bool; PORT_SLOTS],
-    flags: &'a [bool; NODE_SLOTS],
-    totals: Totals,
-    buffer: &mut [u8],
-)
-    requires { MultiWf (multi_in nodes.now links.now owners.now heads.now marks.now flags.now totals)
-        × (visible_nodes (multi_in nodes.now links.now owners.now heads.now marks.now flags.now totals) ≤ 126)
-        × (visible_links (multi_in nodes.now links.now owners.now heads.now marks.now flags.now totals) ≤ 126)
-        × (file_length (visible_nodes (multi_in nodes.now links.now owners.now heads.now marks.now flags.now totals)) (visible_links (multi_in nodes.now links.now owners.now heads.now marks.now flags.now totals)) ≤ length buffer.old) }
-    ensures { buffer.new ≡ save_buffer (multi_in nodes.now links.now owners.now heads.now marks.now flags.now totals) buffer.old }
-{
-    let mut listed = [0u32; 4 * SOME];
-    let mut ends = [0u32; 8 * SOME];
-    let mut ranks = [0u32; NODE_SLOTS];
-    let mut numbers = [0u64; SOME];
-    write_in(
-        nodes,
-        links,
-        owners,
-        heads,
-        marks,
-        flags,
-        totals,
-        &mut listed,
-        &mut ends,
-        &mut ranks,
-        &mut numbers,
-        buffer,
-    );
-}
-
-// The same by lists for every graph.
-fn write_all<'a>(
-    nodes: &'a [u32; NODE_WORDS],
-    links: &'a [u32; PORT_SLOTS],
-    owners: &'a [u32; PORT_SLOTS],
-    heads: &'a [u32; FREE_LISTS],
-    marks: &'a [bool; PORT_SLOTS],
-    flags: &'a [bool; NODE_SLOTS],
-    totals: Totals,
-    buffer: &mut [u8],
-)
-    requires { MultiWf (multi_in nodes.now links.now owners.now heads.now marks.now flags.now totals)
-        × (file_length (visible_nodes (multi_in nodes.now links.now owners.now heads.now marks.now flags.now totals)) (visible_links (multi_in nodes.now links.now owners.now heads.now marks.now flags.now totals)) ≤ length buffer.old) }
-    ensures { buffer.new ≡ save_buffer (multi_in nodes.now links.now owners.now heads.now marks.now flags.now totals) buffer.old }
-{
-    let mut listed = [0u32; 4 * NODE_SLOTS];
-    let mut ends = [0u32; 8 * MOST_WIRES];
-    let mut ranks = [0u32; NODE_SLOTS];
-    let mut numbers = [0u64; MOST_WIRES];
+    let mut numbers = [0u64; NUMBERS];
     write_in(
         nodes,
         links,
@@ -248,7 +186,7 @@ pub fn save_lent<'a>(
     flags: &'a [bool; NODE_SLOTS],
     totals: Totals,
     buffer: &mut [u8],
-) -> SaveAnswer
+) -> Result<usize, BufferShort>
     requires { MultiWf (multi_in nodes.now links.now owners.now heads.now marks.now flags.now totals) }
     ensures { (result ≡ save_answer (multi_in nodes.now links.now owners.now heads.now marks.now flags.now totals) buffer.old)
         × (buffer.new ≡ save_buffer (multi_in nodes.now links.now owners.now heads.now marks.now flags.now totals) buffer.old) }
@@ -257,23 +195,29 @@ pub fn save_lent<'a>(
     let wires = link_count_lent(totals);
     let size = file_length(blocks, wires);
     if buffer.len() < size {
-        return SaveAnswer::BufferShort;
+        return Err(BufferShort);
     }
-    let most = larger(blocks, wires);
+    let most = blocks.max(wires);
     if most <= FEW {
-        write_few(nodes, links, owners, heads, marks, flags, totals, buffer);
-        return SaveAnswer::Saved(size);
+        write_by::<FEW_LISTED, FEW_ENDS, FEW>(
+            nodes, links, owners, heads, marks, flags, totals, buffer,
+        );
+        return Ok(size);
     }
     if most <= SOME {
-        write_some(nodes, links, owners, heads, marks, flags, totals, buffer);
-        return SaveAnswer::Saved(size);
+        write_by::<SOME_LISTED, SOME_ENDS, SOME>(
+            nodes, links, owners, heads, marks, flags, totals, buffer,
+        );
+        return Ok(size);
     }
-    write_all(nodes, links, owners, heads, marks, flags, totals, buffer);
-    SaveAnswer::Saved(size)
+    write_by::<ALL_LISTED, ALL_ENDS, MOST_WIRES>(
+        nodes, links, owners, heads, marks, flags, totals, buffer,
+    );
+    Ok(size)
 }
 
 // The same of a graph by value.
-pub fn save(graph: MultiPortGraph, buffer: &mut [u8]) -> SaveAnswer
+pub fn save(graph: MultiPortGraph, buffer: &mut [u8]) -> Result<usize, BufferShort>
     requires { MultiWf graph }
     ensures { (result ≡ save_answer graph buffer.old) × (buffer.new ≡ save_buffer graph buffer.old) }
 {

@@ -8,7 +8,6 @@ ghost use Rattle.files.specs.Layout.{word_at, unit_records, unit, units_for, uni
 ghost use Rattle.files.specs.Forms.{record_of, slot_bytes};
 
 use crate::bytes::{put_field, put_record, put_word, word_at};
-use port_tables::numbers::smaller;
 
 // The most records of a unit.
 const UNIT_RECORDS: usize = 63;
@@ -17,7 +16,7 @@ const UNIT_RECORDS: usize = 63;
 fn record_at(records: &[u64], i: usize) -> u64
     ensures { result ≡ get_or records.now i 0 }
 {
-    if i < records.len() { records[i] } else { 0 }
+    records.get(i).copied().unwrap_or(0)
 }
 
 // Lays the records from one on into a unit; unused ones are zero.
@@ -26,11 +25,9 @@ fn put_records(bytes: &mut [u8], at: usize, records: &[u64], from: usize)
     ensures { bytes.new ≡ sets bytes.old at (flat_map (slot_bytes records.now from) (range 0 unit_records)) }
 {
     let mut next = at;
-    let mut i: usize = 0;
-    while i < UNIT_RECORDS {
+    for i in 0..UNIT_RECORDS {
         put_record(bytes, next, record_at(records, from + i));
         next += 8;
-        i += 1;
     }
 }
 
@@ -40,10 +37,8 @@ pub(crate) fn sum_words(bytes: &[u8], at: usize) -> u64
     ensures { result ≡ total 127 (λ i. word_at bytes.now (at + 4 * i)) % 4294967296 }
 {
     let mut sum: u64 = 0;
-    let mut i: usize = 0;
-    while i < 127 {
+    for i in 0..127 {
         sum += word_at(bytes, at + 4 * i);
-        i += 1;
     }
     sum % 4294967296
 }
@@ -55,7 +50,7 @@ fn put_unit(bytes: &mut [u8], at: usize, kind: u64, records: &[u64], from: usize
 {
     let left = records.len() - from;
     put_field(bytes, at, kind);
-    put_field(bytes, at + 2, smaller(UNIT_RECORDS, left) as u64);
+    put_field(bytes, at + 2, UNIT_RECORDS.min(left) as u64);
     put_records(bytes, at + 4, records, from);
     let sum = sum_words(bytes, at);
     put_word(bytes, at + 508, sum);
@@ -67,12 +62,9 @@ pub(crate) fn put_units(bytes: &mut [u8], at: usize, kind: u64, records: &[u64])
     ensures { (result ≡ at + 512 * units_for (length records.now))
         × (bytes.new ≡ sets bytes.old at (units_of kind (map record_of records.now))) }
 {
-    let mut next = at;
-    let mut from: usize = 0;
-    while from < records.len() {
-        put_unit(bytes, next, kind, records, from);
-        next += 512;
-        from += UNIT_RECORDS;
+    let units = (records.len() + 62) / 63;
+    for i in 0..units {
+        put_unit(bytes, at + 512 * i, kind, records, UNIT_RECORDS * i);
     }
-    next
+    at + 512 * units
 }

@@ -54,8 +54,7 @@ pub(crate) fn wires_right(file: &[u8], blocks: usize, unit: usize, wires: usize)
     ensures { result ≡ view_right (unbytes file.now) }
 {
     let mut before: u64 = 0;
-    let mut i: usize = 0;
-    while i < wires {
+    for i in 0..wires {
         let at = place(unit, i);
         let number = number_at(file, at);
         if number < before {
@@ -65,7 +64,6 @@ pub(crate) fn wires_right(file: &[u8], blocks: usize, unit: usize, wires: usize)
             return false;
         }
         before = number;
-        i += 1;
     }
     true
 }

@@ -1,5 +1,5 @@
 -- A file that this kit loads and a former one refuses: the blocks of case J, two with the most ports and one with a port more.
-use Rattle.std.specs.Prelude.{◌≡◌, List, [], ◌∷◌, map, ◌+◌, ◌≤◌, ◌<◌}
+use Rattle.std.specs.Prelude.{◌≡◌, List, [], ◌∷◌, map, ◌+◌, ◌≤◌, ◌<◌, Result, Ok, Err}
 use Rattle.std.proofs.Common.{sym, ap, subst, inl, inr, arith}
 use Rattle.port_tables.specs.Limits.{present}
 use Rattle.port_tables.specs.Lists.{Member}
@@ -18,8 +18,8 @@ use Rattle.files.specs.LayoutLaws.{FieldsFit, ViewFits, view_read_back}
 use Rattle.files.specs.LaidAgain.{written_laid}
 use Rattle.files.specs.NextSlots.{adds_laid, none_free_at_first}
 use Rattle.files.specs.BuildRefusals.{BlocksFit, fitting_added}
-use Rattle.files.specs.declared.load.LoadAnswer.{LoadAnswer}
-use Rattle.files.specs.declared.load.LoadAnswer.TheVariants.{Loaded, Refused}
+use Rattle.files.specs.declared.load.LoadError.{LoadError}
+use Rattle.files.specs.declared.load.LoadError.TheVariants.{Refused}
 use Rattle.kits.specs.Kits.{former, Lower, Past, past_ports}
 use Rattle.kits.specs.KitLaws.{refuses_larger}
 
@@ -63,10 +63,10 @@ blocks_fit = record { few = few; nodes = omega arith; ports = omega arith }
     few b (inr (inr (inr never))) = absurd never
     few b (inr (inr (inl e))) = let x = ap (λ (c : BlockPorts). c.incoming + c.outgoing) e in omega arith
 
-added : (release : Release) → first_refusal (empty_graph release) (map add_of blocks_j) ≡ Loaded
+added : (release : Release) → first_refusal (empty_graph release) (map add_of blocks_j) ≡ Ok tt
 added release = fitting_added release blocks_j blocks_fit
 
-loads : (release : Release) → load_answer release (bytes_of case_j) ≡ Loaded
+loads : (release : Release) → load_answer release (bytes_of case_j) ≡ Ok tt
 unfolding load_answer_under build_of
 loads release =
     let w = written_laid case_j fields_fit sound in
@@ -82,8 +82,8 @@ past release =
 
 -- It loads here; a former kit says 10, and has nothing.
 pub case_j_file : (low : Lower former present) (release : Release) →
-    (load_answer release (bytes_of case_j) ≡ Loaded) × (load_answer_under former release (bytes_of case_j) ≡ Refused NoRoom) × (load_graph_under former release (bytes_of case_j) ≡ empty_graph release)
+    (load_answer release (bytes_of case_j) ≡ Ok tt) × (load_answer_under former release (bytes_of case_j) ≡ Err (Refused NoRoom)) × (load_graph_under former release (bytes_of case_j) ≡ empty_graph release)
 unfolding load_graph_under
 case_j_file low release =
     let r = (refuses_larger low release (bytes_of case_j) (loads release)).1 (past release) in
-    (loads release, r, ap (λ (v : LoadAnswer). graph_if release v (run_under former release (build_of (unbytes (bytes_of case_j)))).graph) r)
+    (loads release, r, ap (λ (v : Result (Unit {0}) LoadError). graph_if release v (run_under former release (build_of (unbytes (bytes_of case_j)))).graph) r)

@@ -1,7 +1,7 @@
 -- Histories and loads under two limits.
 use Rattle.std.proofs.Math.Path.{◌≡◌, refl, ap}
 use Rattle.std.proofs.Common.{sym, ◌∙◌, subst, inr, arith}
-use Rattle.std.specs.Prelude.{Bool, true, false, cond, ◌⊎◌, ◌↔◌, ℕ, ◌≤◌}
+use Rattle.std.specs.Prelude.{Bool, true, false, cond, ◌⊎◌, ◌↔◌, ℕ, ◌≤◌, Result, Ok, Err, Some, None}
 use mathlib.Core.List.{List, [], ◌∷◌, ◌++◌, map}
 use Rattle.std.proofs.Math.Logic.{inl}
 use Rattle.port_tables.specs.Limits.{Limits, present}
@@ -22,12 +22,6 @@ use Rattle.multiportgraph.specs.declared.multiportgraph.MultiPortGraph.{MultiPor
 use Rattle.port_tables.specs.declared.release.Release.{Release}
 use Rattle.multi_tables.specs.declared.answers.Refusal.{Refusal}
 use Rattle.multi_tables.specs.declared.answers.Refusal.TheVariants.{BadOffset, TooManyPorts, UnknownNode, HiddenNode, MovesTooShort, UnknownPort, HiddenPort, UnknownOffset, NoRoom, UnknownSecondPort, IncompatibleDirections, AlreadyLinked, InputWired}
-use Rattle.multiportgraph.specs.declared.multiportgraph.AddAnswer.TheVariants as add
-use Rattle.multiportgraph.specs.declared.multiportgraph.RemoveAnswer.TheVariants as remove
-use Rattle.multiportgraph.specs.declared.multiportgraph.SetAnswer.TheVariants as resize
-use Rattle.multiportgraph.specs.declared.multiportgraph.LinkAnswer.TheVariants as link
-use Rattle.multi_tables.specs.declared.answers.CutAnswer.TheVariants as cutting
-use Rattle.multiportgraph.specs.declared.multiportgraph.TidyAnswer.TheVariants as tidying
 use Rattle.theorems.specs.Book as book
 use Rattle.theorems.specs.Book.{Call, AnswerOf, empty_book, book_answer}
 use Rattle.theorems.specs.History.{Stepped, step_under, State, marks_named, ports_shown, next_under, run_from_under, run_under, numbers_of}
@@ -37,8 +31,8 @@ use Rattle.files.specs.View.{BlockPorts, RankWire, View}
 use Rattle.files.specs.Layout.{unbytes}
 use Rattle.files.specs.Loading.{add_of, link_of, build_of, after_call, first_refusal_under, is_whole, is_laid, graph_if, load_answer_under, load_graph_under}
 use Rattle.files.specs.BuildLaws.{goes_or_stops, refused_not_loaded}
-use Rattle.files.specs.declared.load.LoadAnswer.{LoadAnswer}
-use Rattle.files.specs.declared.load.LoadAnswer.TheVariants.{Loaded, BadSums, BadLayout, Refused}
+use Rattle.files.specs.declared.load.LoadError.{LoadError}
+use Rattle.files.specs.declared.load.LoadError.TheVariants.{BadSums, BadLayout, Refused}
 use Rattle.kits.specs.Kits.{Lower, Within, Past, FreeBeyond, answers_from, answers_under}
 use Rattle.kits.specs.UnderLaws.{Longer, longer_still, same_length, past_longer, within_not_past}
 use Rattle.kits.specs.StepLaws.{ten_of, StepExact, step_alike, step_longer, step_fits}
@@ -76,26 +70,26 @@ refusal_known InputWired e = let h = head_same e in absurd (omega arith)
 
 -- an answer with the number 10 is that refusal
 ten_known : (c : Call) (v : AnswerOf c) → numbers_of c v ≡ 10 ∷ [] → v ≡ ten_of c
-ten_known (book.add_call i o) (add.Added n p) e = let h = head_same e in absurd (omega arith)
-ten_known (book.add_call i o) (add.Refused r) e = ap add.Refused (refusal_known r e)
-ten_known (book.remove_call n) remove.Removed e = let h = head_same e in absurd (omega arith)
-ten_known (book.remove_call n) (remove.Refused r) e = ap remove.Refused (refusal_known r e)
-ten_known (book.set_call n i o room) (resize.Set x) e = let h = head_same e in absurd (omega arith)
-ten_known (book.set_call n i o room) (resize.Refused r) e = ap resize.Refused (refusal_known r e)
-ten_known (book.link_call a b) (link.Linked s t) e = let h = head_same e in absurd (omega arith)
-ten_known (book.link_call a b) (link.Refused r) e = ap link.Refused (refusal_known r e)
-ten_known (book.link_clean_call a b) (link.Linked s t) e = let h = head_same e in absurd (omega arith)
-ten_known (book.link_clean_call a b) (link.Refused r) e = ap link.Refused (refusal_known r e)
-ten_known (book.link_sub_call p o q u) (link.Linked s t) e = let h = head_same e in absurd (omega arith)
-ten_known (book.link_sub_call p o q u) (link.Refused r) e = ap link.Refused (refusal_known r e)
-ten_known (book.cut_call p) (cutting.Found s x) e = let h = head_same e in absurd (omega arith)
-ten_known (book.cut_call p) cutting.Nothing e = let h = head_same e in absurd (omega arith)
-ten_known (book.cut_call p) (cutting.Refused r) e = ap cutting.Refused (refusal_known r e)
-ten_known (book.cut_sub_call p o) (cutting.Found s x) e = let h = head_same e in absurd (omega arith)
-ten_known (book.cut_sub_call p o) cutting.Nothing e = let h = head_same e in absurd (omega arith)
-ten_known (book.cut_sub_call p o) (cutting.Refused r) e = ap cutting.Refused (refusal_known r e)
-ten_known (book.tidy_call p) tidying.Tidied e = let h = head_same e in absurd (omega arith)
-ten_known (book.tidy_call p) (tidying.Refused r) e = ap tidying.Refused (refusal_known r e)
+ten_known (book.add_call i o) (Ok (n, p)) e = let h = head_same e in absurd (omega arith)
+ten_known (book.add_call i o) (Err r) e = ap Err (refusal_known r e)
+ten_known (book.remove_call n) (Ok tt) e = let h = head_same e in absurd (omega arith)
+ten_known (book.remove_call n) (Err r) e = ap Err (refusal_known r e)
+ten_known (book.set_call n i o room) (Ok x) e = let h = head_same e in absurd (omega arith)
+ten_known (book.set_call n i o room) (Err r) e = ap Err (refusal_known r e)
+ten_known (book.link_call a b) (Ok (s, t)) e = let h = head_same e in absurd (omega arith)
+ten_known (book.link_call a b) (Err r) e = ap Err (refusal_known r e)
+ten_known (book.link_clean_call a b) (Ok (s, t)) e = let h = head_same e in absurd (omega arith)
+ten_known (book.link_clean_call a b) (Err r) e = ap Err (refusal_known r e)
+ten_known (book.link_sub_call p o q u) (Ok (s, t)) e = let h = head_same e in absurd (omega arith)
+ten_known (book.link_sub_call p o q u) (Err r) e = ap Err (refusal_known r e)
+ten_known (book.cut_call p) (Ok (Some (s, x))) e = let h = head_same e in absurd (omega arith)
+ten_known (book.cut_call p) (Ok None) e = let h = head_same e in absurd (omega arith)
+ten_known (book.cut_call p) (Err r) e = ap Err (refusal_known r e)
+ten_known (book.cut_sub_call p o) (Ok (Some (s, x))) e = let h = head_same e in absurd (omega arith)
+ten_known (book.cut_sub_call p o) (Ok None) e = let h = head_same e in absurd (omega arith)
+ten_known (book.cut_sub_call p o) (Err r) e = ap Err (refusal_known r e)
+ten_known (book.tidy_call p) (Ok tt) e = let h = head_same e in absurd (omega arith)
+ten_known (book.tidy_call p) (Err r) e = ap Err (refusal_known r e)
 
 ten_numbers : (c : Call) → numbers_of c (ten_of c) ≡ 10 ∷ []
 ten_numbers (book.add_call i o) = refl
@@ -238,7 +232,7 @@ module _ {L : Limits} {m : MultiPortGraph} {M : Model} (f : Fine m M) (w : Withi
 -- Builds: lists of calls that a refusal with 10 stops, as an add's and a link's does.
 
 abbrev Stops : Call → Type 0
-Stops c = (rest : LoadAnswer) → after_call c (ten_of c) rest ≡ Refused NoRoom
+Stops c = (rest : Result (Unit {0}) LoadError) → after_call c (ten_of c) rest ≡ Err (Refused NoRoom)
 
 abbrev Building : List Call → Type 0
 Building [] = Unit {0}
@@ -264,8 +258,8 @@ module _ {L K : Limits} (low : Lower L K) where
   -- a build: the same first refusal, and the same state where there is none; or 10, and the higher limits build past the lower ones
   abbrev BuildExact : State → List Call → Type 0
   BuildExact s l =
-      ((first_refusal_under L s.graph l ≡ first_refusal_under K s.graph l) × (first_refusal_under L s.graph l ≡ Loaded → run_from_under L s l ≡ run_from_under K s l))
-      ⊎ ((first_refusal_under L s.graph l ≡ Refused NoRoom) × Past L (run_from_under K s l).graph.graph)
+      ((first_refusal_under L s.graph l ≡ first_refusal_under K s.graph l) × (first_refusal_under L s.graph l ≡ Ok tt → run_from_under L s l ≡ run_from_under K s l))
+      ⊎ ((first_refusal_under L s.graph l ≡ Err (Refused NoRoom)) × Past L (run_from_under K s l).graph.graph)
 
   build_exact : (l : List Call) → Building l → (s : State) → BuildExact s l
   unfolding first_refusal_under run_from_under
@@ -275,17 +269,17 @@ module _ {L K : Limits} (low : Lower L K) where
       Says : Stepped c → Stepped c → Type 0
       Says v w =
           ((after_call c v.answer (first_refusal_under L v.graph l) ≡ after_call c w.answer (first_refusal_under K w.graph l))
-          × (after_call c v.answer (first_refusal_under L v.graph l) ≡ Loaded → run_from_under L (after s c v) l ≡ run_from_under K (after s c w) l))
-          ⊎ ((after_call c v.answer (first_refusal_under L v.graph l) ≡ Refused NoRoom) × Past L (run_from_under K (after s c w) l).graph.graph)
+          × (after_call c v.answer (first_refusal_under L v.graph l) ≡ Ok tt → run_from_under L (after s c v) l ≡ run_from_under K (after s c w) l))
+          ⊎ ((after_call c v.answer (first_refusal_under L v.graph l) ≡ Err (Refused NoRoom)) × Past L (run_from_under K (after s c w) l).graph.graph)
 
-      on : (v : Stepped c) → BuildExact (after s c v) l → ((rest : LoadAnswer) → after_call c v.answer rest ≡ rest) → Says v v
+      on : (v : Stepped c) → BuildExact (after s c v) l → ((rest : Result (Unit {0}) LoadError) → after_call c v.answer rest ≡ rest) → Says v v
       on v (inl x) g = inl (g _ ∙ x.0 ∙ sym (g _), λ e. x.1 (sym (g _) ∙ e))
       on v (inr x) g = inr (g _ ∙ x.0, x.1)
 
       same : ((t : State) → BuildExact t l) → (v : Stepped c) → Says v v
       same rest v = by (goes_or_stops c v.answer)
         where
-          by : ((more : LoadAnswer) → after_call c v.answer more ≡ more) ⊎ ((r : Refusal) × RefusedBy c v.answer r × ((more : LoadAnswer) → after_call c v.answer more ≡ Refused r)) → Says v v
+          by : ((more : Result (Unit {0}) LoadError) → after_call c v.answer more ≡ more) ⊎ ((r : Refusal) × RefusedBy c v.answer r × ((more : Result (Unit {0}) LoadError) → after_call c v.answer more ≡ Err (Refused r))) → Says v v
           by (inl g) = on v (rest (after s c v)) g
           by (inr g) = inl (g.2 _ ∙ sym (g.2 _), λ e. absurd (refused_not_loaded g.0 (sym (g.2 _) ∙ e)))
 
@@ -298,7 +292,7 @@ module _ {L K : Limits} (low : Lower L K) where
   abbrev LoadExact : Release → List ℕ → Type 0
   LoadExact release bytes =
       ((load_answer_under L release bytes ≡ load_answer_under K release bytes) × (load_graph_under L release bytes ≡ load_graph_under K release bytes))
-      ⊎ ((load_answer_under L release bytes ≡ Refused NoRoom) × (load_graph_under L release bytes ≡ empty_graph release) × (load_answer_under K release bytes ≡ Loaded → Past L (load_graph_under K release bytes).graph))
+      ⊎ ((load_answer_under L release bytes ≡ Err (Refused NoRoom)) × (load_graph_under L release bytes ≡ empty_graph release) × (load_answer_under K release bytes ≡ Ok tt → Past L (load_graph_under K release bytes).graph))
 
   load_exact : (release : Release) (bytes : List ℕ) → LoadExact release bytes
   unfolding load_answer_under load_graph_under run_under
@@ -307,34 +301,32 @@ module _ {L K : Limits} (low : Lower L K) where
       start : State
       start = record { graph = empty_graph release; book = empty_book }
 
-      answer : Limits → Bool → Bool → LoadAnswer
-      answer J x y = cond x (cond y (first_refusal_under J (empty_graph release) (build_of (unbytes bytes))) BadLayout) BadSums
+      answer : Limits → Bool → Bool → Result (Unit {0}) LoadError
+      answer J x y = cond x (cond y (first_refusal_under J (empty_graph release) (build_of (unbytes bytes))) (Err BadLayout)) (Err BadSums)
 
       graph : Limits → Bool → Bool → MultiPortGraph
       graph J x y = graph_if release (answer J x y) (run_from_under J start (build_of (unbytes bytes))).graph
 
-      same_graph : (v : LoadAnswer) (m n : MultiPortGraph) → (v ≡ Loaded → m ≡ n) → graph_if release v m ≡ graph_if release v n
-      same_graph Loaded m n e = e refl
-      same_graph BadSums m n e = refl
-      same_graph BadLayout m n e = refl
-      same_graph (Refused r) m n e = refl
+      same_graph : (v : Result (Unit {0}) LoadError) (m n : MultiPortGraph) → (v ≡ Ok tt → m ≡ n) → graph_if release v m ≡ graph_if release v n
+      same_graph (Ok _) m n e = e refl
+      same_graph (Err _) m n e = refl
 
       go : (x y : Bool) → BuildExact start (build_of (unbytes bytes)) →
           ((answer L x y ≡ answer K x y) × (graph L x y ≡ graph K x y))
-          ⊎ ((answer L x y ≡ Refused NoRoom) × (graph L x y ≡ empty_graph release) × (answer K x y ≡ Loaded → Past L (graph K x y).graph))
+          ⊎ ((answer L x y ≡ Err (Refused NoRoom)) × (graph L x y ≡ empty_graph release) × (answer K x y ≡ Ok tt → Past L (graph K x y).graph))
       go false y e = inl (refl, refl)
       go true false e = inl (refl, refl)
       go true true (inl e) =
           inl (
             e.0,
             same_graph (answer L true true) _ _ (λ q. ap (λ (t : State). t.graph) (e.1 q))
-                ∙ ap (λ (v : LoadAnswer). graph_if release v (run_from_under K start (build_of (unbytes bytes))).graph) e.0,
+                ∙ ap (λ (v : Result (Unit {0}) LoadError). graph_if release v (run_from_under K start (build_of (unbytes bytes))).graph) e.0,
           )
       go true true (inr e) =
           inr (
             e.0,
-            ap (λ (v : LoadAnswer). graph_if release v (run_from_under L start (build_of (unbytes bytes))).graph) e.0,
-            λ q. subst (λ (v : LoadAnswer). Past L (graph_if release v (run_from_under K start (build_of (unbytes bytes))).graph).graph) (sym q) e.1,
+            ap (λ (v : Result (Unit {0}) LoadError). graph_if release v (run_from_under L start (build_of (unbytes bytes))).graph) e.0,
+            λ q. subst (λ (v : Result (Unit {0}) LoadError). Past L (graph_if release v (run_from_under K start (build_of (unbytes bytes))).graph).graph) (sym q) e.1,
           )
 
 -- What a load leaves under limits is within them, and is a graph of these calls.
@@ -343,47 +335,43 @@ load_fits : (K : Limits) (release : Release) (bytes : List ℕ) → Within K (lo
 unfolding load_graph_under
 load_fits K release bytes = go (load_answer_under K release bytes)
   where
-    go : (v : LoadAnswer) → Within K (graph_if release v (run_under K release (build_of (unbytes bytes))).graph).graph
-    go Loaded = run_fits K release (build_of (unbytes bytes))
-    go BadSums = empty_fits K release
-    go BadLayout = empty_fits K release
-    go (Refused r) = empty_fits K release
+    go : (v : Result (Unit {0}) LoadError) → Within K (graph_if release v (run_under K release (build_of (unbytes bytes))).graph).graph
+    go (Ok _) = run_fits K release (build_of (unbytes bytes))
+    go (Err _) = empty_fits K release
 
 load_kept : {L : Limits} → Lower L present → (release : Release) (bytes : List ℕ) → MultiWf (load_graph_under L release bytes)
 unfolding load_graph_under
 load_kept {L} low release bytes = go (load_answer_under L release bytes)
   where
-    go : (v : LoadAnswer) → MultiWf (graph_if release v (run_under L release (build_of (unbytes bytes))).graph)
-    go Loaded = kept_under low release (build_of (unbytes bytes))
-    go BadSums = empty_kept release
-    go BadLayout = empty_kept release
-    go (Refused r) = empty_kept release
+    go : (v : Result (Unit {0}) LoadError) → MultiWf (graph_if release v (run_under L release (build_of (unbytes bytes))).graph)
+    go (Ok _) = kept_under low release (build_of (unbytes bytes))
+    go (Err _) = empty_kept release
 
 module _ {L K : Limits} (low : Lower L K) (release : Release) (bytes : List ℕ) where
   -- what loads under the lower limits loads to the same graph under the higher ones
-  pub loads_also : load_answer_under L release bytes ≡ Loaded → (load_answer_under K release bytes ≡ Loaded) × (load_graph_under K release bytes ≡ load_graph_under L release bytes)
+  pub loads_also : load_answer_under L release bytes ≡ Ok tt → (load_answer_under K release bytes ≡ Ok tt) × (load_graph_under K release bytes ≡ load_graph_under L release bytes)
   loads_also e = go (load_exact low release bytes)
     where
-      go : LoadExact low release bytes → (load_answer_under K release bytes ≡ Loaded) × (load_graph_under K release bytes ≡ load_graph_under L release bytes)
+      go : LoadExact low release bytes → (load_answer_under K release bytes ≡ Ok tt) × (load_graph_under K release bytes ≡ load_graph_under L release bytes)
       go (inl q) = (sym q.0 ∙ e, sym q.1)
       go (inr q) = absurd (refused_not_loaded NoRoom (sym q.0 ∙ e))
 
   -- what loads under the higher limits loads to the same graph under the lower ones, or is refused whole with 10
-  pub refuses_whole : load_answer_under K release bytes ≡ Loaded →
-      ((load_answer_under L release bytes ≡ Loaded) × (load_graph_under L release bytes ≡ load_graph_under K release bytes))
-      ⊎ ((load_answer_under L release bytes ≡ Refused NoRoom) × (load_graph_under L release bytes ≡ empty_graph release))
+  pub refuses_whole : load_answer_under K release bytes ≡ Ok tt →
+      ((load_answer_under L release bytes ≡ Ok tt) × (load_graph_under L release bytes ≡ load_graph_under K release bytes))
+      ⊎ ((load_answer_under L release bytes ≡ Err (Refused NoRoom)) × (load_graph_under L release bytes ≡ empty_graph release))
   refuses_whole e = go (load_exact low release bytes)
     where
       go : LoadExact low release bytes →
-          ((load_answer_under L release bytes ≡ Loaded) × (load_graph_under L release bytes ≡ load_graph_under K release bytes)) ⊎ ((load_answer_under L release bytes ≡ Refused NoRoom) × (load_graph_under L release bytes ≡ empty_graph release))
+          ((load_answer_under L release bytes ≡ Ok tt) × (load_graph_under L release bytes ≡ load_graph_under K release bytes)) ⊎ ((load_answer_under L release bytes ≡ Err (Refused NoRoom)) × (load_graph_under L release bytes ≡ empty_graph release))
       go (inl q) = inl (q.0 ∙ e, q.1)
       go (inr q) = inr (q.0, q.1)
 
   -- and it is refused exactly if it is past the lower limits
-  pub refuses_larger : load_answer_under K release bytes ≡ Loaded → (load_answer_under L release bytes ≡ Refused NoRoom) ↔ Past L (load_graph_under K release bytes).graph
+  pub refuses_larger : load_answer_under K release bytes ≡ Ok tt → (load_answer_under L release bytes ≡ Err (Refused NoRoom)) ↔ Past L (load_graph_under K release bytes).graph
   refuses_larger e = go (load_exact low release bytes)
     where
-      go : LoadExact low release bytes → (load_answer_under L release bytes ≡ Refused NoRoom) ↔ Past L (load_graph_under K release bytes).graph
+      go : LoadExact low release bytes → (load_answer_under L release bytes ≡ Err (Refused NoRoom)) ↔ Past L (load_graph_under K release bytes).graph
       go (inl q) = (
         (λ r. absurd (refused_not_loaded NoRoom (sym r ∙ (q.0 ∙ e)))),
         (λ p. absurd (within_not_past (subst (λ (m : MultiPortGraph). Within L m.graph) q.1 (load_fits L release bytes)) p)),
@@ -391,10 +379,10 @@ module _ {L K : Limits} (low : Lower L K) (release : Release) (bytes : List ℕ)
       go (inr q) = ((λ r. q.2 e), (λ p. q.0))
 
   -- the answer is the same, or 10
-  pub answers_or_ten : (load_answer_under L release bytes ≡ load_answer_under K release bytes) ⊎ (load_answer_under L release bytes ≡ Refused NoRoom)
+  pub answers_or_ten : (load_answer_under L release bytes ≡ load_answer_under K release bytes) ⊎ (load_answer_under L release bytes ≡ Err (Refused NoRoom))
   answers_or_ten = go (load_exact low release bytes)
     where
-      go : LoadExact low release bytes → (load_answer_under L release bytes ≡ load_answer_under K release bytes) ⊎ (load_answer_under L release bytes ≡ Refused NoRoom)
+      go : LoadExact low release bytes → (load_answer_under L release bytes ≡ load_answer_under K release bytes) ⊎ (load_answer_under L release bytes ≡ Err (Refused NoRoom))
       go (inl q) = inl q.0
       go (inr q) = inr q.0
 

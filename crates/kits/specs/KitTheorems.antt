@@ -2,7 +2,7 @@
 -- from the empty graph of a release and over all bytes, loaded for a release; both kits are then of that release. The words stand in Kits;
 -- `former` are the limits of the kits before, 512 node slots and 2,048 port slots. Calls, histories and loads under limits are defined once
 -- (Calls, History, Loading), and the plain names are those of this kit.
-use Rattle.std.specs.Prelude.{◌≡◌, List, [], ◌∷◌, ◌⊎◌, ◌↔◌, ℕ}
+use Rattle.std.specs.Prelude.{◌≡◌, List, [], ◌∷◌, ◌⊎◌, ◌↔◌, ℕ, Ok, Err}
 use Rattle.std.proofs.Common.{ap, sym, subst, arith}
 use Rattle.port_tables.specs.Limits.{present}
 use Rattle.port_tables.specs.Lists.{Member}
@@ -14,7 +14,7 @@ use Rattle.theorems.specs.Book.{Call}
 use Rattle.theorems.specs.History.{State, run, run_under}
 use Rattle.files.specs.Saving.{file_of}
 use Rattle.files.specs.Loading.{load_answer, load_answer_under, load_graph, load_graph_under}
-use Rattle.files.specs.declared.load.LoadAnswer.TheVariants.{Loaded, Refused}
+use Rattle.files.specs.declared.load.LoadError.TheVariants.{Refused}
 use Rattle.kits.specs.Kits.{former, Lower, Within, Past, FreeBeyond, answers_under}
 use Rattle.kits.specs.KitLaws as laws
 
@@ -40,8 +40,8 @@ answers_unchanged = laws.same_without_ten former_is_lower
 
 -- It loads; used lengths, free lists, counts and all slots are equal; the used lengths are within the former limits, and every slot beyond
 -- them is free.
-pub loads_as_before : (release : Release) (bytes : List ℕ) → load_answer_under former release bytes ≡ Loaded →
-    (load_answer release bytes ≡ Loaded) × (load_graph release bytes ≡ load_graph_under former release bytes) × Within former (load_graph release bytes).graph × FreeBeyond former (load_graph release bytes)
+pub loads_as_before : (release : Release) (bytes : List ℕ) → load_answer_under former release bytes ≡ Ok tt →
+    (load_answer release bytes ≡ Ok tt) × (load_graph release bytes ≡ load_graph_under former release bytes) × Within former (load_graph release bytes).graph × FreeBeyond former (load_graph release bytes)
 loads_as_before release bytes e =
     let l = laws.loads_also former_is_lower release bytes e in
     let w = subst (λ (m : MultiPortGraph). Within former m.graph × FreeBeyond former m) (sym l.1) (laws.load_within former_is_lower release bytes) in
@@ -50,17 +50,17 @@ loads_as_before release bytes e =
 -- A kit with the former limits.
 
 -- Given a file that loads here, it loads it to the same graph, or refuses it with 10 and has the empty graph, never part of it;
-pub former_kit_refuses_whole : (release : Release) (bytes : List ℕ) → load_answer release bytes ≡ Loaded →
-    ((load_answer_under former release bytes ≡ Loaded) × (load_graph_under former release bytes ≡ load_graph release bytes))
-    ⊎ ((load_answer_under former release bytes ≡ Refused NoRoom) × (load_graph_under former release bytes ≡ empty_graph release))
+pub former_kit_refuses_whole : (release : Release) (bytes : List ℕ) → load_answer release bytes ≡ Ok tt →
+    ((load_answer_under former release bytes ≡ Ok tt) × (load_graph_under former release bytes ≡ load_graph release bytes))
+    ⊎ ((load_answer_under former release bytes ≡ Err (Refused NoRoom)) × (load_graph_under former release bytes ≡ empty_graph release))
 former_kit_refuses_whole = laws.refuses_whole former_is_lower
 
 -- it refuses exactly the larger ones, which leave a used length past its limits.
-pub former_kit_refuses_larger : (release : Release) (bytes : List ℕ) → load_answer release bytes ≡ Loaded → (load_answer_under former release bytes ≡ Refused NoRoom) ↔ Past former (load_graph release bytes).graph
+pub former_kit_refuses_larger : (release : Release) (bytes : List ℕ) → load_answer release bytes ≡ Ok tt → (load_answer_under former release bytes ≡ Err (Refused NoRoom)) ↔ Past former (load_graph release bytes).graph
 former_kit_refuses_larger = laws.refuses_larger former_is_lower
 
 -- Given any bytes it answers as this kit does, or 10: 16, 17, 3 and 18 depend on no limit.
-pub former_kit_answers : (release : Release) (bytes : List ℕ) → (load_answer_under former release bytes ≡ load_answer release bytes) ⊎ (load_answer_under former release bytes ≡ Refused NoRoom)
+pub former_kit_answers : (release : Release) (bytes : List ℕ) → (load_answer_under former release bytes ≡ load_answer release bytes) ⊎ (load_answer_under former release bytes ≡ Err (Refused NoRoom))
 former_kit_answers = laws.answers_or_ten former_is_lower
 
 -- Whatever it is asked, its used lengths stay within its limits, and every slot beyond them stays free: of the present tables, in which it is

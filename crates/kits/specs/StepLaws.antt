@@ -1,6 +1,6 @@
 -- The calls under two limits: under the lower ones a call does the same, or it is refused with 10 and changes nothing; under the higher ones it
 -- is then not refused with 10, and a used length is past the lower limits. No call passes its own limits.
-use Rattle.std.specs.Prelude.{◌≡◌, Bool, cond, List, [], ◌∷◌, ◌⊎◌, ℕ, zero, suc, ◌+◌, leb, ltb}
+use Rattle.std.specs.Prelude.{◌≡◌, Bool, cond, List, [], ◌∷◌, ◌⊎◌, ℕ, zero, suc, ◌+◌, leb, ltb, Option, Some, None, Result, Ok, Err}
 use Rattle.std.proofs.Math.Path.{refl}
 use Rattle.std.proofs.Common.{sym, ap, ◌∙◌, subst, inr}
 use Rattle.std.proofs.Math.Bool.{true, false}
@@ -14,16 +14,8 @@ use Rattle.port_tables.specs.ResizeLinks.{same_counts}
 use Rattle.portgraph.specs.GoodSlots.{zero_is_not_one}
 use Rattle.port_tables.specs.declared.direction.Direction.{Direction}
 use Rattle.port_tables.specs.declared.node_entry.NodeMeta.{NodeMeta}
-use Rattle.port_tables.specs.declared.node_entry.MaybeNodeMeta.{MaybeNodeMeta}
-use Rattle.port_tables.specs.declared.node_entry.MaybeNodeMeta.TheVariants as maybe_meta
 use Rattle.portgraph.specs.declared.portgraph.PortGraph.{PortGraph}
-use Rattle.portgraph.specs.declared.portgraph.LinkAnswer as lower_link_answer
-use Rattle.portgraph.specs.declared.portgraph.LinkAnswer.TheVariants as lower_link
-use Rattle.portgraph.specs.declared.alloc.AddAnswer as lower_add_answer
-use Rattle.portgraph.specs.declared.alloc.AddAnswer.TheVariants as lower_add
 use Rattle.portgraph.specs.declared.alloc.NodeAdded as lower_added
-use Rattle.portgraph.specs.declared.resize.SetAnswer as lower_set_answer
-use Rattle.portgraph.specs.declared.resize.SetAnswer.TheVariants as lower_set
 use Rattle.portgraph.specs.declared.resize.PortsSet as lower_set_done
 use Rattle.multiportgraph.specs.Reading.{has_link, is_hidden, is_split, seen, side_of, copy_node, subports, subport_at, port_of, far_port, as_read, standing}
 use Rattle.multi_tables.specs.Forms.{Port, dead, hidden, visible, subport#}
@@ -35,40 +27,41 @@ use Rattle.multiportgraph.specs.Tidy.{subports_left, left_incoming, left_outgoin
 use Rattle.multiportgraph.specs.Cases.{set_refused, resized, set_meta_under, link_refused, link_prepared, link_second, link_live_under, link_first, link_seen_under, link_clean_by}
 use Rattle.multi_tables.specs.NamedEnds.{pair_seen}
 use Rattle.multiportgraph.specs.CaseLaws.{add_cases, set_cases, link_cases, link_taken, link_clean_cases, link_clean_taken}
-use Rattle.multi_tables.specs.declared.named.NamedPair.{NamedPair}
-use Rattle.multi_tables.specs.declared.named.NamedPair.TheVariants as pair
 use Rattle.multiportgraph.specs.declared.multiportgraph.MultiPortGraph.{MultiPortGraph}
 use Rattle.multi_tables.specs.declared.answers.SubportIndex.{SubportIndex}
 use Rattle.multi_tables.specs.declared.answers.Refusal.TheVariants.{NoRoom, TooManyPorts, HiddenNode, IncompatibleDirections}
 use Rattle.multiportgraph.specs.declared.multiportgraph.NodeAdded.{NodeAdded}
-use Rattle.multiportgraph.specs.declared.multiportgraph.AddAnswer.TheVariants as add
 use Rattle.multiportgraph.specs.declared.multiportgraph.NodeRemoved.{NodeRemoved}
-use Rattle.multiportgraph.specs.declared.multiportgraph.RemoveAnswer.TheVariants as remove
 use Rattle.multiportgraph.specs.declared.multiportgraph.PortsSet.{PortsSet}
-use Rattle.multiportgraph.specs.declared.multiportgraph.SetAnswer.TheVariants as resize
 use Rattle.multiportgraph.specs.declared.multiportgraph.PortsLinked.{PortsLinked}
-use Rattle.multiportgraph.specs.declared.multiportgraph.LinkAnswer.TheVariants as link
-use Rattle.multi_tables.specs.declared.answers.CutAnswer.TheVariants as cutting
 use Rattle.multiportgraph.specs.declared.multiportgraph.PortUnlinked.{PortUnlinked}
-use Rattle.multiportgraph.specs.declared.multiportgraph.TidyAnswer.TheVariants as tidying
 use Rattle.multiportgraph.specs.declared.multiportgraph.PortTidied.{PortTidied}
 use Rattle.theorems.specs.Book as book
 use Rattle.theorems.specs.Book.{Call, AnswerOf}
 use Rattle.theorems.specs.History.{Stepped, step_under}
 use Rattle.kits.specs.Kits.{Lower, Within, Past}
 use Rattle.kits.specs.UnderLaws.{Same, Longer, same_still, longer_still, same_longer, same_length, past_longer, same_within, link_same, unlink_same, remove_same, add_longer, set_longer, AddExact, add_exact, SetExact, set_exact, add_fits, set_fits}
+use Rattle.multi_tables.specs.declared.answers.Refusal.{Refusal}
+use Rattle.portgraph.specs.declared.alloc.AddError.TheVariants as add_error
+use Rattle.portgraph.specs.declared.portgraph.LinkError.TheVariants as link_error
+use Rattle.portgraph.specs.declared.resize.SetError.TheVariants as set_error
+use Rattle.port_tables.specs.declared.index.NodeIndex.{NodeIndex}
+use Rattle.port_tables.specs.declared.index.PortIndex.{PortIndex}
+use Rattle.portgraph.specs.declared.alloc.AddError.{AddError}
+use Rattle.portgraph.specs.declared.portgraph.LinkError.{LinkError}
+use Rattle.portgraph.specs.declared.resize.SetError.{SetError}
 
 -- the refusal with 10, and the graph as it was
 abbrev pub ten_of : (c : Call) → AnswerOf c
-ten_of (book.add_call i o) = add.Refused NoRoom
-ten_of (book.remove_call n) = remove.Refused NoRoom
-ten_of (book.set_call n i o room) = resize.Refused NoRoom
-ten_of (book.link_call a b) = link.Refused NoRoom
-ten_of (book.link_clean_call a b) = link.Refused NoRoom
-ten_of (book.link_sub_call p o q r) = link.Refused NoRoom
-ten_of (book.cut_call p) = cutting.Refused NoRoom
-ten_of (book.cut_sub_call p o) = cutting.Refused NoRoom
-ten_of (book.tidy_call p) = tidying.Refused NoRoom
+ten_of (book.add_call i o) = Err NoRoom
+ten_of (book.remove_call n) = Err NoRoom
+ten_of (book.set_call n i o room) = Err NoRoom
+ten_of (book.link_call a b) = Err NoRoom
+ten_of (book.link_clean_call a b) = Err NoRoom
+ten_of (book.link_sub_call p o q r) = Err NoRoom
+ten_of (book.cut_call p) = Err NoRoom
+ten_of (book.cut_sub_call p o) = Err NoRoom
+ten_of (book.tidy_call p) = Err NoRoom
 
 abbrev pub no_room : MultiPortGraph → (c : Call) → Stepped c
 no_room m c = record { graph = m; answer = ten_of c }
@@ -114,9 +107,9 @@ within_same g n i o = go (meta_at g n)
     counts k true = record { nodes = refl; ports = refl }
     counts k false = record { nodes = refl; ports = refl }
 
-    go : (v : MaybeNodeMeta) → Same g (within_block g n i o v)
-    go maybe_meta.None = record { nodes = refl; ports = refl }
-    go (maybe_meta.Some k) = counts k (same_counts k i o)
+    go : (v : Option NodeMeta) → Same g (within_block g n i o v)
+    go None = record { nodes = refl; ports = refl }
+    go (Some k) = counts k (same_counts k i o)
 
 direct_same : (m : MultiPortGraph) (p : ℕ) (d : Direction) → Same m.graph (link_directly m p d).graph
 unfolding link_directly
@@ -152,21 +145,21 @@ prepared_map h full p = tt
 abbrev ByLengths : (PortGraph → Type 0) → Type 0
 ByLengths P = (g h : PortGraph) → Same g h → P g → P h
 
-split_by_in : (m : MultiPortGraph) (p : ℕ) (d : Direction) (P : PortGraph → Type 0) → ByLengths P → (g : PortGraph) → P g → (a : lower_add_answer.AddAnswer) →
+split_by_in : (m : MultiPortGraph) (p : ℕ) (d : Direction) (P : PortGraph → Type 0) → ByLengths P → (g : PortGraph) → P g → (a : Result (NodeIndex × PortIndex) AddError) →
     PreparedLent P (split_by m p d g a)
 unfolding split_port
-split_by_in m p d P by g h (lower_add.Added c first) = by g (split_graph g p d c.0) (split_graph_same g p d c.0) h
-split_by_in m p d P by g h lower_add.TooManyPorts = tt
-split_by_in m p d P by g h lower_add.NoRoom = tt
+split_by_in m p d P by g h (Ok (c, first)) = by g (split_graph g p d c.0) (split_graph_same g p d c.0) h
+split_by_in m p d P by g h (Err add_error.TooManyPorts) = tt
+split_by_in m p d P by g h (Err add_error.NoRoom) = tt
 
-grown_by_in : (m : MultiPortGraph) (c : ℕ) (d : Direction) (P : PortGraph → Type 0) (g : PortGraph) → P g → (a : lower_set_answer.SetAnswer) →
+grown_by_in : (m : MultiPortGraph) (c : ℕ) (d : Direction) (P : PortGraph → Type 0) (g : PortGraph) → P g → (a : Result ℕ SetError) →
     PreparedLent P (grown_by m c d g a)
 unfolding recounted
-grown_by_in m c d P g h (lower_set.Set e) = h
-grown_by_in m c d P g h lower_set.TooManyPorts = tt
-grown_by_in m c d P g h lower_set.UnknownNode = tt
-grown_by_in m c d P g h lower_set.MovesTooShort = tt
-grown_by_in m c d P g h lower_set.NoRoom = tt
+grown_by_in m c d P g h (Ok e) = h
+grown_by_in m c d P g h (Err set_error.TooManyPorts) = tt
+grown_by_in m c d P g h (Err set_error.UnknownNode) = tt
+grown_by_in m c d P g h (Err set_error.MovesTooShort) = tt
+grown_by_in m c d P g h (Err set_error.NoRoom) = tt
 
 -- A call by the table of its refusals: what holds of every graph that a line leaves, and of the call done.
 abbrev EachLeaves : (PortGraph → Type 0) → List Line → Type 0
@@ -221,29 +214,29 @@ module _ (K : Limits) (P : PortGraph → Type 0) (by : ByLengths P) (more : (g :
         by (prepared_graph m (second_end K m a b)).graph (both_linked K m a b).graph.graph
         (link_same (prepared_graph m (second_end K m a b)).graph (prepared_port (first_end K m a)) (prepared_port (second_end K m a b))) (second_keeps a b)
 
-    drop_keeps : (n : ℕ) (v : MaybeNodeMeta) → P (drop_meta m n v).graph
+    drop_keeps : (n : ℕ) (v : Option NodeMeta) → P (drop_meta m n v).graph
     unfolding drop_block
-    drop_keeps n maybe_meta.None = here
-    drop_keeps n (maybe_meta.Some k) =
+    drop_keeps n None = here
+    drop_keeps n (Some k) =
         by m.graph (drop_block m n k).graph
         (same_still (unsplit_range_same (k.incoming + k.outgoing) m k.first_port.0)
         (remove_same (unsplit_range m k.first_port.0 (k.incoming + k.outgoing)).graph n)) here
 
-    resized_keeps : (n i o : ℕ) (g : PortGraph) (v : MaybeNodeMeta) → P g → P (resized_meta m n i o g v).graph
+    resized_keeps : (n i o : ℕ) (g : PortGraph) (v : Option NodeMeta) → P g → P (resized_meta m n i o g v).graph
     unfolding recounted
-    resized_keeps n i o g maybe_meta.None h = here
-    resized_keeps n i o g (maybe_meta.Some k) h =
-        by g (resized_meta m n i o g (maybe_meta.Some k)).graph (remove_all_same (copies_dropped m k i o) (recounted m n g)) h
+    resized_keeps n i o g None h = here
+    resized_keeps n i o g (Some k) h =
+        by g (resized_meta m n i o g (Some k)).graph (remove_all_same (copies_dropped m k i o) (recounted m n g)) h
 
-    joined_keeps : (a : lower_link_answer.LinkAnswer) (g : PortGraph) (s t : SubportIndex) → P g → P (joined m a g s t).graph.graph
-    joined_keeps (lower_link.Linked x y) g s t h = h
-    joined_keeps (lower_link.UnknownPort x) g s t h = here
-    joined_keeps (lower_link.UnknownSecondPort y) g s t h = here
-    joined_keeps (lower_link.IncompatibleDirections x y d) g s t h = here
-    joined_keeps (lower_link.AlreadyLinked x) g s t h = here
+    joined_keeps : (a : Result (PortIndex × PortIndex) LinkError) (g : PortGraph) (s t : SubportIndex) → P g → P (joined m a g s t).graph.graph
+    joined_keeps (Ok (x, y)) g s t h = h
+    joined_keeps (Err (link_error.UnknownPort x)) g s t h = here
+    joined_keeps (Err (link_error.UnknownSecondPort y)) g s t h = here
+    joined_keeps (Err (link_error.IncompatibleDirections x y d)) g s t h = here
+    joined_keeps (Err (link_error.AlreadyLinked x)) g s t h = here
 
     cut_keeps : (p : ℕ) (b : Bool) →
-        P (cond {A = PortUnlinked} b (record { graph = unsplit m p; answer = cutting.Found (subport# p 0) (standing m (subport# p 0)) })
+        P (cond {A = PortUnlinked} b (record { graph = unsplit m p; answer = Ok (Some (subport# p 0, standing m (subport# p 0))) })
         (record { graph = with_graph m (unlink_port m.graph p).graph; answer = cut_plain m (unlink_port m.graph p).answer })).graph.graph
     cut_keeps p true = by m.graph (unsplit m p).graph (unsplit_same m p) here
     cut_keeps p false = by m.graph (unlink_port m.graph p).graph (unlink_same m.graph p) here
@@ -254,24 +247,24 @@ module _ (K : Limits) (P : PortGraph → Type 0) (by : ByLengths P) (more : (g :
 
     pub step_keeps : (c : Call) → P (step_under K m c).graph.graph
     unfolding add_block_under remove_block set_counts_under link_pair_if link_clean_if link_sub_if cut_port cut_sub tidy_port
-    step_keeps (book.add_call i o) = checked_in P (λ (v : NodeAdded). v.graph) (λ l. record { graph = l.leaves; answer = add.Refused l.refusal }) (λ l. refl) (add_refusals K m i o) _ (here, (here, tt)) (more m.graph i o here)
-    step_keeps (book.remove_call n) = checked_in P (λ (v : NodeRemoved). v.graph) (λ l. record { graph = l.leaves; answer = remove.Refused l.refusal }) (λ l. refl) (remove_refusals m n) _ (here, (here, tt)) (drop_keeps n (meta_at m.graph n))
+    step_keeps (book.add_call i o) = checked_in P (λ (v : NodeAdded). v.graph) (λ l. record { graph = l.leaves; answer = Err l.refusal }) (λ l. refl) (add_refusals K m i o) _ (here, (here, tt)) (more m.graph i o here)
+    step_keeps (book.remove_call n) = checked_in P (λ (v : NodeRemoved). v.graph) (λ l. record { graph = l.leaves; answer = Err l.refusal }) (λ l. refl) (remove_refusals m n) _ (here, (here, tt)) (drop_keeps n (meta_at m.graph n))
     step_keeps (book.set_call n i o room) =
-        checked_in P (λ (v : PortsSet). v.graph) (λ l. record { graph = l.leaves; answer = resize.Refused l.refusal }) (λ l. refl) (set_refusals K m n i o room) _ (here, (here, (here, (here, (here, tt)))))
+        checked_in P (λ (v : PortsSet). v.graph) (λ l. record { graph = l.leaves; answer = Err l.refusal }) (λ l. refl) (set_refusals K m n i o room) _ (here, (here, (here, (here, (here, tt)))))
         (resized_keeps n i o (set_num_ports_under K m.graph n i o room).graph (meta_at m.graph n) (other m.graph n i o room here))
     step_keeps (book.link_call a b) =
-        checked_in P (λ (v : PortsLinked). v.graph) (λ l. record { graph = l.leaves; answer = link.Refused l.refusal }) (λ l. refl) (link_refusals (input_taken m a b) K m a b) _ (here, (here, (here, (here, (here, (first_keeps a, (second_keeps a b, tt))))))) (both_keeps a b)
+        checked_in P (λ (v : PortsLinked). v.graph) (λ l. record { graph = l.leaves; answer = Err l.refusal }) (λ l. refl) (link_refusals (input_taken m a b) K m a b) _ (here, (here, (here, (here, (here, (first_keeps a, (second_keeps a b, tt))))))) (both_keeps a b)
     step_keeps (book.link_clean_call a b) =
-        checked_in P (λ (v : PortsLinked). v.graph) (λ l. record { graph = l.leaves; answer = link.Refused l.refusal }) (λ l. refl) (link_clean_refusals (input_taken m a b) K m a b) _ (here, (here, (here, (here, (here, (here, (here, tt))))))) (both_keeps a b)
+        checked_in P (λ (v : PortsLinked). v.graph) (λ l. record { graph = l.leaves; answer = Err l.refusal }) (λ l. refl) (link_clean_refusals (input_taken m a b) K m a b) _ (here, (here, (here, (here, (here, (here, (here, tt))))))) (both_keeps a b)
     step_keeps (book.link_sub_call p o q r) =
-        checked_in P (λ (v : PortsLinked). v.graph) (λ l. record { graph = l.leaves; answer = link.Refused l.refusal }) (λ l. refl) (link_sub_refusals (input_taken m p q) m p o q r) _ (here, (here, (here, (here, (here, (here, (here, (here, (here, (here, (here, tt)))))))))))
+        checked_in P (λ (v : PortsLinked). v.graph) (λ l. record { graph = l.leaves; answer = Err l.refusal }) (λ l. refl) (link_sub_refusals (input_taken m p q) m p o q r) _ (here, (here, (here, (here, (here, (here, (here, (here, (here, (here, (here, tt)))))))))))
         (joined_keeps (joining m p o q r) (link_ports m.graph (end_of m p o) (end_of m q r)).graph (as_read m p o) (as_read m q r)
         (by m.graph _ (link_same m.graph (end_of m p o) (end_of m q r)) here))
-    step_keeps (book.cut_call p) = checked_in P (λ (v : PortUnlinked). v.graph) (λ l. record { graph = l.leaves; answer = cutting.Refused l.refusal }) (λ l. refl) (cut_refusals m p) _ (here, (here, tt)) (cut_keeps p (is_split m p))
+    step_keeps (book.cut_call p) = checked_in P (λ (v : PortUnlinked). v.graph) (λ l. record { graph = l.leaves; answer = Err l.refusal }) (λ l. refl) (cut_refusals m p) _ (here, (here, tt)) (cut_keeps p (is_split m p))
     step_keeps (book.cut_sub_call p o) =
-        checked_in P (λ (v : PortUnlinked). v.graph) (λ l. record { graph = l.leaves; answer = cutting.Refused l.refusal }) (λ l. refl) (subport_refusals m p o) _ (here, (here, (here, (here, tt)))) (by m.graph _ (unlink_same m.graph (end_of m p o)) here)
+        checked_in P (λ (v : PortUnlinked). v.graph) (λ l. record { graph = l.leaves; answer = Err l.refusal }) (λ l. refl) (subport_refusals m p o) _ (here, (here, (here, (here, tt)))) (by m.graph _ (unlink_same m.graph (end_of m p o)) here)
     step_keeps (book.tidy_call p) =
-        checked_in P (λ (v : PortTidied). v.graph) (λ l. record { graph = l.leaves; answer = tidying.Refused l.refusal }) (λ l. refl) (cut_refusals m p) _ (here, (here, tt)) (tidy_keeps p (side_of (seen m p)) (is_split m p))
+        checked_in P (λ (v : PortTidied). v.graph) (λ l. record { graph = l.leaves; answer = Err l.refusal }) (λ l. refl) (cut_refusals m p) _ (here, (here, tt)) (tidy_keeps p (side_of (seen m p)) (is_split m p))
 
 -- no call shortens a table
 longer_by_lengths : (g : PortGraph) → ByLengths (Longer g)
@@ -297,7 +290,7 @@ link_prepared_same n a d x o b e y r = pass (same_side d e)
   where
     pass : (s : Bool) →
         Same n.graph (cond s (link_refused n (IncompatibleDirections (port# x) (port# y) d))
-        (record { graph = with_graph n (link_ports n.graph x y).graph; answer = link.Linked (subport# a o) (subport# b r) })).graph.graph
+        (record { graph = with_graph n (link_ports n.graph x y).graph; answer = Ok (subport# a o, subport# b r) })).graph.graph
     pass true = record { nodes = refl; ports = refl }
     pass false = link_same n.graph x y
 
@@ -381,13 +374,13 @@ module _ {L K : Limits} (low : Lower L K) where
         done k v = record { graph = resized m n k i o v.graph v.answer; answer = set_as v.answer }
 
         -- the hidden nodes that go after an accepted resize change no length
-        past_done : (k : NodeMeta) (g : PortGraph) (a : lower_set_answer.SetAnswer) (e : ℕ) → a ≡ lower_set.Set e → Past L g →
-            (set_as a ≡ resize.Refused NoRoom → ⊥) × Past L (resized m n k i o g a).graph
-        past_done k g (lower_set.Set e) x q p = ((λ u. zero_is_not_one (cc)), past_longer (same_longer (remove_all_same _ _)) p)
-        past_done k g lower_set.TooManyPorts x q p = absurd (zero_is_not_one (cc))
-        past_done k g lower_set.UnknownNode x q p = absurd (zero_is_not_one (cc))
-        past_done k g lower_set.MovesTooShort x q p = absurd (zero_is_not_one (cc))
-        past_done k g lower_set.NoRoom x q p = absurd (zero_is_not_one (cc))
+        past_done : (k : NodeMeta) (g : PortGraph) (a : Result ℕ SetError) (e : ℕ) → a ≡ Ok e → Past L g →
+            (set_as a ≡ Err NoRoom → ⊥) × Past L (resized m n k i o g a).graph
+        past_done k g (Ok e) x q p = ((λ u. zero_is_not_one (cc)), past_longer (same_longer (remove_all_same _ _)) p)
+        past_done k g (Err set_error.TooManyPorts) x q p = absurd (zero_is_not_one (cc))
+        past_done k g (Err set_error.UnknownNode) x q p = absurd (zero_is_not_one (cc))
+        past_done k g (Err set_error.MovesTooShort) x q p = absurd (zero_is_not_one (cc))
+        past_done k g (Err set_error.NoRoom) x q p = absurd (zero_is_not_one (cc))
 
         go : (h : Bool) (k : NodeMeta) (v w : lower_set_done.PortsSet) → SetExact low m.graph v w →
             StepExact m (of (cond h (set_refused m HiddenNode) (done k v))) (of (cond h (set_refused m HiddenNode) (done k w)))
@@ -395,16 +388,16 @@ module _ {L K : Limits} (low : Lower L K) where
         go false k v w (inl e) = inl (ap (λ u. of (done k u)) e)
         go false k v w (inr e) = let p = past_done k w.graph w.answer e.1.0 e.1.1 e.2 in inr (ap (λ u. of (done k u)) e.0, p.0, p.1)
 
-        few : (f : Bool) (k : MaybeNodeMeta) →
+        few : (f : Bool) (k : Option NodeMeta) →
             StepExact m (of (cond f (set_meta_under L m n i o room k) (set_refused m TooManyPorts))) (of (cond f (set_meta_under K m n i o room k) (set_refused m TooManyPorts)))
         few false k = inl refl
-        few true maybe_meta.None = inl refl
-        few true (maybe_meta.Some k) =
+        few true None = inl refl
+        few true (Some k) =
             go (is_hidden m n) k (set_num_ports_under L m.graph n i o room) (set_num_ports_under K m.graph n i o room) (set_exact low m.graph n i o room)
 
     -- a link of ports, and what it answers past the limits
     abbrev LinkExact : PortsLinked → PortsLinked → Type 0
-    LinkExact v w = (v ≡ w) ⊎ ((v ≡ link_refused m NoRoom) × (w.answer ≡ link.Refused NoRoom → ⊥) × Past L w.graph.graph)
+    LinkExact v w = (v ≡ w) ⊎ ((v ≡ link_refused m NoRoom) × (w.answer ≡ Err NoRoom → ⊥) × Past L w.graph.graph)
 
     -- 18 asks for no room
     pair_exact : (taken : Bool) (a b : ℕ) → LinkExact (link_pair_if taken L m a b) (link_pair_if taken K m a b)
@@ -413,12 +406,12 @@ module _ {L K : Limits} (low : Lower L K) where
         subst (λ u. LinkExact (link_pair_if false L m a b) u) (sym (link_cases K m a b))
         (subst (λ u. LinkExact u (link_seen_under K m a b (seen m a) (seen m b))) (sym (link_cases L m a b)) (go (seen m a) (seen m b)))
       where
-        not_ten : (n : MultiPortGraph) (d : Direction) (x o : ℕ) (e : Direction) (y r : ℕ) → (link_prepared n a d x o b e y r).answer ≡ link.Refused NoRoom → ⊥
+        not_ten : (n : MultiPortGraph) (d : Direction) (x o : ℕ) (e : Direction) (y r : ℕ) → (link_prepared n a d x o b e y r).answer ≡ Err NoRoom → ⊥
         not_ten n d x o e y r = pass (same_side d e)
           where
             pass : (s : Bool) →
                 (cond s (link_refused n (IncompatibleDirections (port# x) (port# y) d))
-                (record { graph = with_graph n (link_ports n.graph x y).graph; answer = link.Linked (subport# a o) (subport# b r) })).answer ≡ link.Refused NoRoom → ⊥
+                (record { graph = with_graph n (link_ports n.graph x y).graph; answer = Ok (subport# a o, subport# b r) })).answer ≡ Err NoRoom → ⊥
             pass true q = zero_is_not_one (cc)
             pass false q = zero_is_not_one (cc)
 
@@ -479,9 +472,9 @@ module _ {L K : Limits} (low : Lower L K) where
         go v w (inl e) = inl (ap of e)
         go v w (inr e) = inr (ap of e.0, e.1, e.2)
 
-        by : (q : NamedPair) → StepExact m (of (link_clean_by L m a b q)) (of (link_clean_by K m a b q))
-        by (pair.Refused r) = inl refl
-        by pair.Opposite = go (link_pair_if false L m a b) (link_pair_if false K m a b) (pair_exact false a b)
+        by : (q : Result (Unit {0}) Refusal) → StepExact m (of (link_clean_by L m a b q)) (of (link_clean_by K m a b q))
+        by (Err r) = inl refl
+        by (Ok tt) = go (link_pair_if false L m a b) (link_pair_if false K m a b) (pair_exact false a b)
 
         alike : (taken : Bool) → StepExact m (of (link_clean_if taken L m a b)) (of (link_clean_if taken K m a b))
         alike true = inl (ap of (link_clean_taken L m a b ∙ sym (link_clean_taken K m a b)))

@@ -1,6 +1,6 @@
 -- The calls of the single-link graph under two limits: under the lower ones a call does the same, or it is refused with 10 and changes
 -- nothing; under the higher ones it is then done, and a used length is past the lower limits. No call passes its own limits.
-use Rattle.std.specs.Prelude.{◌≡◌, Bool, List, ◌⊎◌, ℕ, ◌+◌, ◌-◌, ◌*◌, ◌≤◌, ◌<◌}
+use Rattle.std.specs.Prelude.{◌≡◌, Bool, List, ◌⊎◌, ℕ, ◌+◌, ◌-◌, ◌*◌, ◌≤◌, ◌<◌, Option, Some, None, Result, Ok, Err}
 use Rattle.std.proofs.Math.Path.{refl}
 use Rattle.std.proofs.Common.{sym, ap, ◌∙◌}
 use Rattle.std.proofs.Math.Bool.{true, false, cond}
@@ -24,15 +24,13 @@ use Rattle.port_tables.specs.declared.node_entry.NodeEntry.TheVariants as node_v
 use Rattle.port_tables.specs.declared.port_entry.PortEntry.{PortEntry}
 use Rattle.port_tables.specs.declared.port_entry.PortEntry.TheVariants as port_variants
 use Rattle.portgraph.specs.declared.portgraph.PortGraph.{PortGraph}
-use Rattle.portgraph.specs.declared.portgraph.LinkAnswer.{LinkAnswer}
 use Rattle.portgraph.specs.declared.portgraph.PortsLinked.{PortsLinked}
-use Rattle.portgraph.specs.declared.alloc.Found.{Found}
-use Rattle.portgraph.specs.declared.alloc.Found.TheVariants.{At, NoRoom}
-use Rattle.portgraph.specs.declared.alloc.AddAnswer.TheVariants as added
 use Rattle.portgraph.specs.declared.alloc.NodeAdded.{NodeAdded}
 use Rattle.portgraph.specs.declared.resize.PortsSet.{PortsSet}
-use Rattle.portgraph.specs.declared.resize.SetAnswer.TheVariants as set_variants
 use Rattle.kits.specs.Kits.{Lower, Within, Past, past_nodes, past_ports}
+use Rattle.portgraph.specs.declared.portgraph.LinkError.{LinkError}
+use Rattle.portgraph.specs.declared.alloc.AddError.TheVariants as add_error
+use Rattle.portgraph.specs.declared.resize.SetError.TheVariants as set_error
 
 -- Used lengths.
 
@@ -75,13 +73,13 @@ pub link_same : (g : PortGraph) (a b : ℕ) → Same g (link_ports g a b).graph
 unfolding link_ports
 link_same g a b = go (port_at g a) (port_at g b)
   where
-    free : (x y : Bool) (l : PortGraph) → Same g l → (p q : LinkAnswer) (r : LinkAnswer) →
+    free : (x y : Bool) (l : PortGraph) → Same g l → (p q : Result (PortIndex × PortIndex) LinkError) (r : Result (PortIndex × PortIndex) LinkError) →
         Same g (cond x (cond y (record { graph = l; answer = r }) (link_refused g p)) (link_refused g q)).graph
     free true true l h p q r = h
     free true false l h p q r = record { nodes = refl; ports = refl }
     free false y l h p q r = record { nodes = refl; ports = refl }
 
-    sides : (s : Bool) (v : PortsLinked) (p : LinkAnswer) → Same g v.graph → Same g (cond s (link_refused g p) v).graph
+    sides : (s : Bool) (v : PortsLinked) (p : Result (PortIndex × PortIndex) LinkError) → Same g v.graph → Same g (cond s (link_refused g p) v).graph
     sides true v p h = record { nodes = refl; ports = refl }
     sides false v p h = h
 
@@ -126,11 +124,11 @@ pub add_longer : (K : Limits) (g : PortGraph) (i o : ℕ) → Longer g (add_node
 unfolding add_node_under place_node
 add_longer K g i o = go (leb (i + o) node_ports) (find_slot_under K g.node_free g.node_len) (find_block_under K g.port_free g.port_len (i + o))
   where
-    go : (f : Bool) (s b : Found) → Longer g (cond f (add_found g i o s b) (add_refused g added.TooManyPorts)).graph
+    go : (f : Bool) (s b : Option ℕ) → Longer g (cond f (add_found g i o s b) (add_refused g (Err add_error.TooManyPorts))).graph
     go false s b = record { nodes = omega arith; ports = omega arith }
-    go true NoRoom b = record { nodes = omega arith; ports = omega arith }
-    go true (At n) NoRoom = record { nodes = omega arith; ports = omega arith }
-    go true (At n) (At f) = record { nodes = grown_longer g.node_free g.node_len 1; ports = grown_longer (head_at g.port_free (i + o)) g.port_len (i + o) }
+    go true None b = record { nodes = omega arith; ports = omega arith }
+    go true (Some n) None = record { nodes = omega arith; ports = omega arith }
+    go true (Some n) (Some f) = record { nodes = grown_longer g.node_free g.node_len 1; ports = grown_longer (head_at g.port_free (i + o)) g.port_len (i + o) }
 
 pub set_longer : (K : Limits) (g : PortGraph) (n i o room : ℕ) → Longer g (set_num_ports_under K g n i o room).graph
 unfolding set_num_ports_under resize_inside resize_anew
@@ -145,39 +143,39 @@ set_longer K g n i o room = go (plan_of_under K g n i o room)
 -- Two limits.
 
 module _ {L K : Limits} (low : Lower L K) where
-  slot_exact : (free len : ℕ) → (find_slot_under L free len ≡ find_slot_under K free len) ⊎ ((find_slot_under L free len ≡ NoRoom) × (free ≡ 0) × (L.nodes ≤ len))
+  slot_exact : (free len : ℕ) → (find_slot_under L free len ≡ find_slot_under K free len) ⊎ ((find_slot_under L free len ≡ None) × (free ≡ 0) × (L.nodes ≤ len))
   unfolding find_slot_under
   slot_exact free len = go (eqb free 0) refl (ltb len L.nodes) refl
     where
       go : (z : Bool) → eqb free 0 ≡ z → (b : Bool) → ltb len L.nodes ≡ b →
-          (cond z (cond b (At len) NoRoom) (At (free - 1)) ≡ cond z (cond (ltb len K.nodes) (At len) NoRoom) (At (free - 1)))
-          ⊎ ((cond z (cond b (At len) NoRoom) (At (free - 1)) ≡ NoRoom) × (free ≡ 0) × (L.nodes ≤ len))
+          (cond z (cond b (Some len) None) (Some (free - 1)) ≡ cond z (cond (ltb len K.nodes) (Some len) None) (Some (free - 1)))
+          ⊎ ((cond z (cond b (Some len) None) (Some (free - 1)) ≡ None) × (free ≡ 0) × (L.nodes ≤ len))
       go true y true e =
           let h = ltb-true len L.nodes e in
           let k = low.nodes in
-          inl (sym (ap (λ (b : Bool). cond b (At len) NoRoom) (lt-ltb len K.nodes (omega arith))))
+          inl (sym (ap (λ (b : Bool). cond b (Some len) None) (lt-ltb len K.nodes (omega arith))))
       go true y false e = inr (refl, eqb-true free 0 y, ltb-false len L.nodes e)
       go false y b e = inl refl
 
   block_exact : (heads : List ℕ) (len size : ℕ)
-      → (find_block_under L heads len size ≡ find_block_under K heads len size) ⊎ ((find_block_under L heads len size ≡ NoRoom) × (head_at heads size ≡ 0) × (L.ports < len + size))
+      → (find_block_under L heads len size ≡ find_block_under K heads len size) ⊎ ((find_block_under L heads len size ≡ None) × (head_at heads size ≡ 0) × (L.ports < len + size))
   unfolding find_block_under
   block_exact heads len size = go (eqb size 0) (eqb (head_at heads size) 0) refl (leb (len + size) L.ports) refl
     where
       go : (y z : Bool) → eqb (head_at heads size) 0 ≡ z → (b : Bool) → leb (len + size) L.ports ≡ b →
-          (cond y (At 0) (cond z (cond b (At len) NoRoom) (At (head_at heads size - 1))) ≡ cond y (At 0) (cond z (cond (leb (len + size) K.ports) (At len) NoRoom) (At (head_at heads size - 1))))
-          ⊎ ((cond y (At 0) (cond z (cond b (At len) NoRoom) (At (head_at heads size - 1))) ≡ NoRoom) × (head_at heads size ≡ 0) × (L.ports < len + size))
+          (cond y (Some 0) (cond z (cond b (Some len) None) (Some (head_at heads size - 1))) ≡ cond y (Some 0) (cond z (cond (leb (len + size) K.ports) (Some len) None) (Some (head_at heads size - 1))))
+          ⊎ ((cond y (Some 0) (cond z (cond b (Some len) None) (Some (head_at heads size - 1))) ≡ None) × (head_at heads size ≡ 0) × (L.ports < len + size))
       go true z x b e = inl refl
       go false true x true e =
           let h = leb-true (len + size) L.ports e in
           let k = low.ports in
-          inl (sym (ap (λ (b : Bool). cond b (At len) NoRoom) (le-leb (len + size) K.ports (omega arith))))
+          inl (sym (ap (λ (b : Bool). cond b (Some len) None) (le-leb (len + size) K.ports (omega arith))))
       go false true x false e = inr (refl, eqb-true (head_at heads size) 0 x, leb-false (len + size) L.ports e)
       go false false x b e = inl refl
 
   -- adding a node: alike, or refused where the higher limits have it added
   abbrev pub AddExact : PortGraph → NodeAdded → NodeAdded → Type 0
-  AddExact g v w = (v ≡ w) ⊎ ((v ≡ add_refused g added.NoRoom) × ((n : NodeIndex) × (p : PortIndex) × (w.answer ≡ added.Added n p)) × Past L w.graph)
+  AddExact g v w = (v ≡ w) ⊎ ((v ≡ add_refused g (Err add_error.NoRoom)) × ((n : NodeIndex) × (p : PortIndex) × (w.answer ≡ Ok (n, p))) × Past L w.graph)
 
   pub add_exact : (g : PortGraph) (i o : ℕ) → AddExact g (add_node_under L g i o) (add_node_under K g i o)
   unfolding add_node_under place_node
@@ -186,31 +184,31 @@ module _ {L K : Limits} (low : Lower L K) where
       (find_block_under L g.port_free g.port_len (i + o)) (find_block_under K g.port_free g.port_len (i + o))
       (slot_exact g.node_free g.node_len) (block_exact g.port_free g.port_len (i + o))
     where
-      no_block : (s : Found) → add_found g i o s NoRoom ≡ add_refused g added.NoRoom
-      no_block NoRoom = refl
-      no_block (At n) = refl
+      no_block : (s : Option ℕ) → add_found g i o s None ≡ add_refused g (Err add_error.NoRoom)
+      no_block None = refl
+      no_block (Some n) = refl
 
-      refused : (s a : Found) → add_found g i o s a ≡ add_refused g added.NoRoom → (t b : Found) →
-          ((n f : ℕ) → Past L (add_found g i o (At n) (At f)).graph) → AddExact g (add_found g i o s a) (add_found g i o t b)
-      refused s a e NoRoom b past = inl e
-      refused s a e (At n) NoRoom past = inl e
-      refused s a e (At n) (At f) past = inr (e, (node# n, port# f, refl), past n f)
+      refused : (s a : Option ℕ) → add_found g i o s a ≡ add_refused g (Err add_error.NoRoom) → (t b : Option ℕ) →
+          ((n f : ℕ) → Past L (add_found g i o (Some n) (Some f)).graph) → AddExact g (add_found g i o s a) (add_found g i o t b)
+      refused s a e None b past = inl e
+      refused s a e (Some n) None past = inl e
+      refused s a e (Some n) (Some f) past = inr (e, (node# n, port# f, refl), past n f)
 
-      go : (few : Bool) (s t a b : Found) → (s ≡ t) ⊎ ((s ≡ NoRoom) × (g.node_free ≡ 0) × (L.nodes ≤ g.node_len)) →
-          (a ≡ b) ⊎ ((a ≡ NoRoom) × (head_at g.port_free (i + o) ≡ 0) × (L.ports < g.port_len + (i + o))) →
-          AddExact g (cond few (add_found g i o s a) (add_refused g added.TooManyPorts)) (cond few (add_found g i o t b) (add_refused g added.TooManyPorts))
+      go : (few : Bool) (s t a b : Option ℕ) → (s ≡ t) ⊎ ((s ≡ None) × (g.node_free ≡ 0) × (L.nodes ≤ g.node_len)) →
+          (a ≡ b) ⊎ ((a ≡ None) × (head_at g.port_free (i + o) ≡ 0) × (L.ports < g.port_len + (i + o))) →
+          AddExact g (cond few (add_found g i o s a) (add_refused g (Err add_error.TooManyPorts))) (cond few (add_found g i o t b) (add_refused g (Err add_error.TooManyPorts)))
       go false s t a b p q = inl refl
       go true s t a b (inl p) (inl q) = inl (λ j. add_found g i o (p j) (q j))
       go true s t a b (inl p) (inr q) =
-          refused s a (ap (λ (v : Found). add_found g i o s v) q.0 ∙ no_block s) t b
+          refused s a (ap (λ (v : Option ℕ). add_found g i o s v) q.0 ∙ no_block s) t b
           (λ n f. let e = grown_end (head_at g.port_free (i + o)) g.port_len (i + o) q.1 in let h = q.2 in past_ports (omega arith))
       go true s t a b (inr p) q =
-          refused s a (ap (λ (v : Found). add_found g i o v a) p.0) t b
+          refused s a (ap (λ (v : Option ℕ). add_found g i o v a) p.0) t b
           (λ n f. let e = grown_end g.node_free g.node_len 1 p.1 in let h = p.2 in past_nodes (omega arith))
 
   -- changing its counts
   abbrev pub SetExact : PortGraph → PortsSet → PortsSet → Type 0
-  SetExact g v w = (v ≡ w) ⊎ ((v ≡ record { graph = g; answer = set_variants.NoRoom }) × ((e : ℕ) × (w.answer ≡ set_variants.Set e)) × Past L w.graph)
+  SetExact g v w = (v ≡ w) ⊎ ((v ≡ record { graph = g; answer = Err set_error.NoRoom }) × ((e : ℕ) × (w.answer ≡ Ok e)) × Past L w.graph)
 
   pub set_exact : (g : PortGraph) (n i o room : ℕ) → SetExact g (set_num_ports_under L g n i o room) (set_num_ports_under K g n i o room)
   unfolding set_num_ports_under plan_of_under resize_anew
@@ -219,26 +217,26 @@ module _ {L K : Limits} (low : Lower L K) where
       Says : Plan → Plan → Type 0
       Says p q = SetExact g (set_by g n i o p) (set_by g n i o q)
 
-      block : (m : NodeMeta) (s t : Found) → (s ≡ t) ⊎ ((s ≡ NoRoom) × (head_at g.port_free (round_up (i + o)) ≡ 0) × (L.ports < g.port_len + round_up (i + o))) →
+      block : (m : NodeMeta) (s t : Option ℕ) → (s ≡ t) ⊎ ((s ≡ None) × (head_at g.port_free (round_up (i + o)) ≡ 0) × (L.ports < g.port_len + round_up (i + o))) →
           Says (plan_block m s) (plan_block m t)
-      block m s t (inl p) = inl (ap (λ (v : Found). set_by g n i o (plan_block m v)) p)
-      block m s NoRoom (inr p) = inl (ap (λ (v : Found). set_by g n i o (plan_block m v)) p.0)
-      block m s (At f) (inr p) =
+      block m s t (inl p) = inl (ap (λ (v : Option ℕ). set_by g n i o (plan_block m v)) p)
+      block m s None (inr p) = inl (ap (λ (v : Option ℕ). set_by g n i o (plan_block m v)) p.0)
+      block m s (Some f) (inr p) =
           inr (
-            ap (λ (v : Found). set_by g n i o (plan_block m v)) p.0,
+            ap (λ (v : Option ℕ). set_by g n i o (plan_block m v)) p.0,
             (_, refl),
             let e = grown_end (head_at g.port_free (round_up (i + o))) g.port_len (round_up (i + o)) p.1 in let h = p.2 in past_ports (omega arith),
           )
 
       counts : (m : NodeMeta) (r a b : Bool) (s t : Plan) → Says s t →
-          Says (cond r (cond a same (cond b (inside m) s)) (refuse set_variants.MovesTooShort)) (cond r (cond a same (cond b (inside m) t)) (refuse set_variants.MovesTooShort))
+          Says (cond r (cond a same (cond b (inside m) s)) (refuse (Err set_error.MovesTooShort))) (cond r (cond a same (cond b (inside m) t)) (refuse (Err set_error.MovesTooShort)))
       counts m false a b s t p = inl refl
       counts m true true b s t p = inl refl
       counts m true false true s t p = inl refl
       counts m true false false s t p = p
 
       few : (f : Bool) (e : NodeEntry) →
-          Says (cond f (plan_entry_under L g i o room e) (refuse set_variants.TooManyPorts)) (cond f (plan_entry_under K g i o room e) (refuse set_variants.TooManyPorts))
+          Says (cond f (plan_entry_under L g i o room e) (refuse (Err set_error.TooManyPorts))) (cond f (plan_entry_under K g i o room e) (refuse (Err set_error.TooManyPorts)))
       few false e = inl refl
       few true (node_variants.Free f) = inl refl
       few true (node_variants.Node m) =
@@ -250,20 +248,20 @@ module _ {L K : Limits} (low : Lower L K) where
 -- Nothing passes the limits under which it is done.
 
 module _ (L : Limits) where
-  slot_fits : (free len n : ℕ) → len ≤ L.nodes → find_slot_under L free len ≡ At n → grown free len 1 ≤ L.nodes
+  slot_fits : (free len n : ℕ) → len ≤ L.nodes → find_slot_under L free len ≡ Some n → grown free len 1 ≤ L.nodes
   unfolding find_slot_under grown
   slot_fits free len n fits = go (eqb free 0) (ltb len L.nodes) refl
     where
-      go : (z b : Bool) → ltb len L.nodes ≡ b → cond z (cond b (At len) NoRoom) (At (free - 1)) ≡ At n → cond z (len + 1) len ≤ L.nodes
+      go : (z b : Bool) → ltb len L.nodes ≡ b → cond z (cond b (Some len) None) (Some (free - 1)) ≡ Some n → cond z (len + 1) len ≤ L.nodes
       go true true e q = let h = ltb-true len L.nodes e in omega arith
       go true false e q = absurd (zero_is_not_one (cc))
       go false b e q = fits
 
-  block_fits : (heads : List ℕ) (len size f : ℕ) → len ≤ L.ports → find_block_under L heads len size ≡ At f → grown (head_at heads size) len size ≤ L.ports
+  block_fits : (heads : List ℕ) (len size f : ℕ) → len ≤ L.ports → find_block_under L heads len size ≡ Some f → grown (head_at heads size) len size ≤ L.ports
   unfolding find_block_under grown
   block_fits heads len size f fits = go (eqb size 0) refl (eqb (head_at heads size) 0) (leb (len + size) L.ports) refl
     where
-      go : (y : Bool) → eqb size 0 ≡ y → (z b : Bool) → leb (len + size) L.ports ≡ b → cond y (At 0) (cond z (cond b (At len) NoRoom) (At (head_at heads size - 1))) ≡ At f
+      go : (y : Bool) → eqb size 0 ≡ y → (z b : Bool) → leb (len + size) L.ports ≡ b → cond y (Some 0) (cond z (cond b (Some len) None) (Some (head_at heads size - 1))) ≡ Some f
           → cond z (len + size) len ≤ L.ports
       go true x true b e q = let s = eqb-true size 0 x in omega arith
       go true x false b e q = fits
@@ -276,12 +274,12 @@ module _ (L : Limits) where
   add_fits g i o w =
       go (leb (i + o) node_ports) (find_slot_under L g.node_free g.node_len) refl (find_block_under L g.port_free g.port_len (i + o)) refl
     where
-      go : (f : Bool) (s : Found) → find_slot_under L g.node_free g.node_len ≡ s → (b : Found) → find_block_under L g.port_free g.port_len (i + o) ≡ b
-          → Within L (cond f (add_found g i o s b) (add_refused g added.TooManyPorts)).graph
+      go : (f : Bool) (s : Option ℕ) → find_slot_under L g.node_free g.node_len ≡ s → (b : Option ℕ) → find_block_under L g.port_free g.port_len (i + o) ≡ b
+          → Within L (cond f (add_found g i o s b) (add_refused g (Err add_error.TooManyPorts))).graph
       go false s p b q = w
-      go true NoRoom p b q = w
-      go true (At n) p NoRoom q = w
-      go true (At n) p (At f) q =
+      go true None p b q = w
+      go true (Some n) p None q = w
+      go true (Some n) p (Some f) q =
           record { nodes = slot_fits g.node_free g.node_len n w.nodes p; ports = block_fits g.port_free g.port_len (i + o) f w.ports q }
 
   pub set_fits : (g : PortGraph) (n i o room : ℕ) → Within L g → Within L (set_num_ports_under L g n i o room).graph
@@ -291,15 +289,15 @@ module _ (L : Limits) where
       inner : Within L g → (m : NodeMeta) → Within L (set_by g n i o (inside m)).graph
       inner w m = record { nodes = w.nodes; ports = w.ports }
 
-      counts : (m : NodeMeta) (r a b : Bool) (s : Found) → find_block_under L g.port_free g.port_len (round_up (i + o)) ≡ s
-          → Within L (set_by g n i o (cond r (cond a same (cond b (inside m) (plan_block m s))) (refuse set_variants.MovesTooShort))).graph
+      counts : (m : NodeMeta) (r a b : Bool) (s : Option ℕ) → find_block_under L g.port_free g.port_len (round_up (i + o)) ≡ s
+          → Within L (set_by g n i o (cond r (cond a same (cond b (inside m) (plan_block m s))) (refuse (Err set_error.MovesTooShort)))).graph
       counts m false a b s e = w
       counts m true true b s e = w
       counts m true false true s e = inner w m
-      counts m true false false NoRoom e = w
-      counts m true false false (At f) e = record { nodes = w.nodes; ports = block_fits g.port_free g.port_len (round_up (i + o)) f w.ports e }
+      counts m true false false None e = w
+      counts m true false false (Some f) e = record { nodes = w.nodes; ports = block_fits g.port_free g.port_len (round_up (i + o)) f w.ports e }
 
-      few : (f : Bool) (e : NodeEntry) → Within L (set_by g n i o (cond f (plan_entry_under L g i o room e) (refuse set_variants.TooManyPorts))).graph
+      few : (f : Bool) (e : NodeEntry) → Within L (set_by g n i o (cond f (plan_entry_under L g i o room e) (refuse (Err set_error.TooManyPorts)))).graph
       few false e = w
       few true (node_variants.Free f) = w
       few true (node_variants.Node m) =

@@ -1,7 +1,7 @@
 // Blocks over lent tables: a block comes, every wire at a port is cut, a block goes, and its counts change.
 ghost use Rattle.std.specs.Prelude.{◌≡◌, ◌-◌, ◌+◌, ◌≤◌, length, take};
 ghost use Rattle.port_tables.specs.NodeWords.{StaysCanonical};
-ghost use Rattle.multiportgraph.specs.Calls.{added_as, add_block, cut_port, remove_block, set_as, set_counts};
+ghost use Rattle.multiportgraph.specs.Calls.{add_block, cut_port, remove_block, set_as, set_counts};
 ghost use Rattle.multiportgraph.specs.Answers.{add_numbers, cut_numbers, before_place, remove_numbers, set_numbers};
 ghost use Rattle.multi_tables.specs.EndAnswers.{unplaced, unplaced_numbers};
 ghost use Rattle.multiportgraph.specs.WellFormed.{MultiWf};
@@ -14,31 +14,20 @@ ghost use Rattle.multiportgraph.specs.HiddenNodes.{marks_moved, copies_in, copie
 use crate::lent_copies::{copy_node_in, remove_all_lent, unsplit_lent, unsplit_range_lent};
 use lent_portgraph::lent_resize::resize_quiet_lent;
 use lent_portgraph::lent_slots::{add_node_lent, remove_node_lent};
-use multi_tables::answers::{EndAnswer, Refusal, SubportIndex};
+use multi_tables::answers::{Refusal, SubportIndex};
 use multi_tables::marks::{flagged, lay_marks, marked};
-use multi_tables::reads::seen_in;
-use multi_tables::seen::SeenPort;
+use multi_tables::named::block_port;
+use multiportgraph::blocks::set_answer;
+use multiportgraph::calls::added_as;
 use multiportgraph::lent::{
     AddedLent, CutLent, RemovedLent, SetLent, Totals, with_counts, with_links,
 };
-use multiportgraph::multiportgraph::{AddAnswer, RemoveAnswer, SetAnswer};
 use port_tables::index::{FREE_LISTS, NODE_PORTS, NODE_SLOTS, NodeIndex, PORT_SLOTS, PortIndex};
 use port_tables::lent::{NODE_WORDS, meta_in};
-use port_tables::node_entry::{MaybeNodeMeta, NodeMeta};
-use port_tables::numbers::{less, smaller, wide, wide16};
+use port_tables::node_entry::NodeMeta;
+use port_tables::numbers::wide;
 use port_tables::tables::{cut, store, without_link};
-use portgraph::alloc::AddAnswer as LowerAdd;
-use portgraph::resize::SetAnswer as LowerSet;
-
-fn added_as(answer: LowerAdd) -> AddAnswer
-    ensures { result ≡ added_as answer }
-{
-    match answer {
-        LowerAdd::Added(node, first) => AddAnswer::Added(node, first),
-        LowerAdd::TooManyPorts => AddAnswer::Refused(Refusal::TooManyPorts),
-        LowerAdd::NoRoom => AddAnswer::Refused(Refusal::NoRoom),
-    }
-}
+use portgraph::resize::SetError;
 
 // MultiPortGraph::add_node over lent tables.
 pub fn add_lent(
@@ -85,42 +74,36 @@ pub fn cut_port_lent(
         × StaysCanonical nodes.old nodes.new
         × (unplaced_numbers result.answer ≡ before_place (cut_numbers (cut_port (multi_in nodes.old links.old owners.old heads.old marks.old flags.old totals) port.0).answer)) }
 {
-    match seen_in(owners, flags, port.0) {
-        SeenPort::Dead => CutLent {
+    if let Err(refusal) = block_port(owners, flags, port) {
+        return CutLent {
             totals: totals,
-            answer: EndAnswer::Refused(Refusal::UnknownPort(port)),
-        },
-        SeenPort::Hidden => CutLent {
-            totals: totals,
-            answer: EndAnswer::Refused(Refusal::HiddenPort(port)),
-        },
-        SeenPort::Visible(_, _) => {
-            if marked(marks, wide(port.0)) {
-                let after = unsplit_lent(nodes, links, owners, heads, marks, flags, totals, port.0);
-                return CutLent {
-                    totals: after,
-                    answer: EndAnswer::Found(SubportIndex {
-                        port: port,
-                        subport_offset: 0,
-                    }),
-                };
-            }
-            let far = cut(links, wide(port.0));
-            let left = with_links(totals, without_link(totals.counts.link_count, far));
-            if far == 0 {
-                return CutLent {
-                    totals: left,
-                    answer: EndAnswer::Nothing,
-                };
-            }
-            CutLent {
-                totals: left,
-                answer: EndAnswer::Found(SubportIndex {
-                    port: PortIndex(far - 1),
-                    subport_offset: 0,
-                }),
-            }
-        }
+            answer: Err(refusal),
+        };
+    }
+    if marked(marks, wide(port.0)) {
+        let after = unsplit_lent(nodes, links, owners, heads, marks, flags, totals, port.0);
+        return CutLent {
+            totals: after,
+            answer: Ok(Some(SubportIndex {
+                port: port,
+                subport_offset: 0,
+            })),
+        };
+    }
+    let far = cut(links, wide(port.0));
+    let left = with_links(totals, without_link(totals.counts.link_count, far));
+    if far == 0 {
+        return CutLent {
+            totals: left,
+            answer: Ok(None),
+        };
+    }
+    CutLent {
+        totals: left,
+        answer: Ok(Some(SubportIndex {
+            port: PortIndex(far - 1),
+            subport_offset: 0,
+        })),
     }
 }
 
@@ -141,16 +124,16 @@ pub fn remove_lent(
         × StaysCanonical nodes.old nodes.new
         × (remove_numbers result.answer ≡ remove_numbers (remove_block (multi_in nodes.old links.old owners.old heads.old marks.old flags.old totals) node.0).answer) }
 {
-    let MaybeNodeMeta::Some(meta) = meta_in(nodes, node.0) else {
+    let Some(meta) = meta_in(nodes, node.0) else {
         return RemovedLent {
             totals: totals,
-            answer: RemoveAnswer::Refused(Refusal::UnknownNode),
+            answer: Err(Refusal::UnknownNode),
         };
     };
     if flagged(flags, wide(node.0)) {
         return RemovedLent {
             totals: totals,
-            answer: RemoveAnswer::Refused(Refusal::HiddenNode),
+            answer: Err(Refusal::HiddenNode),
         };
     }
     let bare = unsplit_range_lent(
@@ -169,19 +152,23 @@ pub fn remove_lent(
     let after = removed.counts;
     RemovedLent {
         totals: with_counts(bare, after),
-        answer: RemoveAnswer::Removed,
+        answer: Ok(()),
     }
 }
 
 // The marks of a node whose ports move.
-pub(crate) fn recount(marks: &mut [bool; PORT_SLOTS], before: MaybeNodeMeta, after: MaybeNodeMeta)
+pub(crate) fn recount(
+    marks: &mut [bool; PORT_SLOTS],
+    before: Option<NodeMeta>,
+    after: Option<NodeMeta>,
+)
     requires { FitsIf before × FitsIf after }
     ensures { marks.new ≡ marks_moved marks.old before after }
 {
-    let MaybeNodeMeta::Some(a) = before else {
+    let Some(a) = before else {
         return;
     };
-    let MaybeNodeMeta::Some(b) = after else {
+    let Some(b) = after else {
         return;
     };
     lay_marks(marks, a, b);
@@ -205,14 +192,12 @@ fn list_copies<'a>(
     ensures { (result ≡ at + length (copies_in (multi_in nodes.now links.now owners.now heads.now marks.now flags.now totals) first count)) × (list.new ≡ sets list.old at (copies_in (multi_in nodes.now links.now owners.now heads.now marks.now flags.now totals) first count)) }
 {
     let mut place = at;
-    let mut k: usize = 0;
-    while k < count {
+    for k in 0..count {
         let port = (first + k) as u32;
         if marked(marks, first + k) {
             store(list, place, copy_node_in(links, owners, port));
             place += 1;
         }
-        k += 1;
     }
     place
 }
@@ -235,10 +220,10 @@ fn list_dropped<'a>(
     ensures { (result ≡ length (copies_dropped (multi_in nodes.now links.now owners.now heads.now marks.now flags.now totals) meta incoming outgoing)) × (list.new ≡ sets list.old 0 (copies_dropped (multi_in nodes.now links.now owners.now heads.now marks.now flags.now totals) meta incoming outgoing)) }
 {
     let first = wide(meta.first_port.0);
-    let old_in = wide16(meta.incoming);
-    let old_out = wide16(meta.outgoing);
-    let kept_in = smaller(old_in, incoming);
-    let kept_out = smaller(old_out, outgoing);
+    let old_in = usize::from(meta.incoming);
+    let old_out = usize::from(meta.outgoing);
+    let kept_in = old_in.min(incoming);
+    let kept_out = old_out.min(outgoing);
     let middle = list_copies(
         nodes,
         links,
@@ -267,18 +252,6 @@ fn list_dropped<'a>(
     )
 }
 
-fn set_as(answer: LowerSet) -> SetAnswer
-    ensures { result ≡ set_as answer }
-{
-    match answer {
-        LowerSet::Set(events) => SetAnswer::Set(events),
-        LowerSet::TooManyPorts => SetAnswer::Refused(Refusal::TooManyPorts),
-        LowerSet::UnknownNode => SetAnswer::Refused(Refusal::UnknownNode),
-        LowerSet::MovesTooShort => SetAnswer::Refused(Refusal::MovesTooShort),
-        LowerSet::NoRoom => SetAnswer::Refused(Refusal::NoRoom),
-    }
-}
-
 // The single-link graph has other counts for a node, or refused them: where it has them the marks move with the ports, and the first
 // `count` hidden nodes of the list go. `meta` is what the node was before.
 fn finish_lent(
@@ -291,7 +264,7 @@ fn finish_lent(
     totals: Totals,
     node: NodeIndex,
     meta: NodeMeta,
-    answer: LowerSet,
+    answer: Result<usize, SetError>,
     list: &[u32],
     count: usize,
 ) -> SetLent
@@ -300,18 +273,18 @@ fn finish_lent(
         × (result.answer ≡ set_as answer)
         × StaysCanonical nodes.old nodes.new }
 {
-    let LowerSet::Set(_) = answer else {
+    let Ok(_) = answer else {
         return SetLent {
             totals: totals,
-            answer: set_as(answer),
+            answer: set_answer(answer),
         };
     };
-    recount(marks, MaybeNodeMeta::Some(meta), meta_in(nodes, node.0));
+    recount(marks, Some(meta), meta_in(nodes, node.0));
     SetLent {
         totals: remove_all_lent(
             nodes, links, owners, heads, marks, flags, totals, list, count,
         ),
-        answer: set_as(answer),
+        answer: set_answer(answer),
     }
 }
 
@@ -322,7 +295,8 @@ const FEW: usize = 16;
 fn dropped(meta: NodeMeta, incoming: usize, outgoing: usize) -> usize
     ensures { result ≡ (meta.incoming - incoming) + (meta.outgoing - outgoing) }
 {
-    less(wide16(meta.incoming), incoming) + less(wide16(meta.outgoing), outgoing)
+    usize::from(meta.incoming).saturating_sub(incoming)
+        + usize::from(meta.outgoing).saturating_sub(outgoing)
 }
 
 // The same without a move list, as if there were one that is long enough.
@@ -425,25 +399,25 @@ pub fn set_quiet_lent(
     if NODE_PORTS < incoming {
         return SetLent {
             totals: totals,
-            answer: SetAnswer::Refused(Refusal::TooManyPorts),
+            answer: Err(Refusal::TooManyPorts),
         };
     }
     if NODE_PORTS - incoming < outgoing {
         return SetLent {
             totals: totals,
-            answer: SetAnswer::Refused(Refusal::TooManyPorts),
+            answer: Err(Refusal::TooManyPorts),
         };
     }
-    let MaybeNodeMeta::Some(meta) = meta_in(nodes, node.0) else {
+    let Some(meta) = meta_in(nodes, node.0) else {
         return SetLent {
             totals: totals,
-            answer: SetAnswer::Refused(Refusal::UnknownNode),
+            answer: Err(Refusal::UnknownNode),
         };
     };
     if flagged(flags, wide(node.0)) {
         return SetLent {
             totals: totals,
-            answer: SetAnswer::Refused(Refusal::HiddenNode),
+            answer: Err(Refusal::HiddenNode),
         };
     }
     resize_untold_listing_lent(

@@ -11,11 +11,9 @@ use multi_tables::marks::{marked, put_flag, put_mark};
 use multi_tables::reads::{far_in, owner_in};
 use multiportgraph::lent::Totals;
 use port_tables::direction::Direction;
-use port_tables::index::{
-    FREE_LISTS, MaybePortIndex, NODE_SLOTS, NodeIndex, PORT_SLOTS, PortOffset,
-};
+use port_tables::index::{FREE_LISTS, NODE_SLOTS, NodeIndex, PORT_SLOTS, PortOffset};
 use port_tables::lent::NODE_WORDS;
-use port_tables::numbers::{less, wide};
+use port_tables::numbers::wide;
 use port_tables::port_entry::PortEntry;
 use port_tables::tables::at;
 
@@ -32,7 +30,7 @@ pub(crate) fn port_of_in(
         direction: direction,
         index: index,
     };
-    let MaybePortIndex::Some(port) = port_index_in(nodes, node, offset) else {
+    let Some(port) = port_index_in(nodes, node, offset) else {
         return 0;
     };
     port.0
@@ -107,8 +105,8 @@ fn remove_copy_lent(
     let release = totals.release;
     Totals {
         counts: after,
-        copies: less(totals.copies, 1),
-        subs: less(totals.subs, count),
+        copies: totals.copies.saturating_sub(1),
+        subs: totals.subs.saturating_sub(count),
         release: release,
     }
 }
@@ -154,8 +152,7 @@ pub(crate) fn unsplit_range_lent(
         × StaysCanonical nodes.old nodes.new }
 {
     let mut left = totals;
-    let mut k: usize = 0;
-    while k < count {
+    for k in 0..count {
         left = unsplit_lent(
             nodes,
             links,
@@ -166,7 +163,6 @@ pub(crate) fn unsplit_range_lent(
             left,
             (wide(first) + k) as u32,
         );
-        k += 1;
     }
     left
 }
@@ -210,10 +206,8 @@ pub(crate) fn remove_all_lent(
         × StaysCanonical nodes.old nodes.new }
 {
     let mut left = totals;
-    let mut k: usize = 0;
-    while k < count {
-        left = remove_lone_lent(nodes, links, owners, heads, marks, flags, left, list[k]);
-        k += 1;
+    for node in &list[..count] {
+        left = remove_lone_lent(nodes, links, owners, heads, marks, flags, left, *node);
     }
     left
 }

@@ -6,12 +6,11 @@ ghost use Rattle.multi_tables.specs.EndAnswers.{unplaced, unplaced_numbers};
 ghost use Rattle.multiportgraph.specs.WellFormed.{MultiWf};
 ghost use Rattle.multiportgraph.specs.MultiLent.{multi_in};
 
-use multi_tables::answers::{EndAnswer, SubportIndex};
+use multi_tables::answers::{Refusal, SubportIndex};
 use multi_tables::inputs::{input_taken, taken_subports};
-use multi_tables::named::{NamedEnd, NamedLink, end_named, link_named, read_in};
+use multi_tables::named::{end_named, link_named, read_in};
 use multi_tables::reads::wire_end_in;
 use multiportgraph::lent::{CutLent, LinkedLent, Totals, with_links};
-use multiportgraph::multiportgraph::LinkAnswer;
 use port_tables::index::{FREE_LISTS, NODE_SLOTS, PORT_SLOTS};
 use port_tables::lent::NODE_WORDS;
 use port_tables::numbers::wide;
@@ -27,15 +26,13 @@ pub fn subport_link_lent<'a>(
     flags: &'a [bool; NODE_SLOTS],
     totals: Totals,
     subport: SubportIndex,
-) -> EndAnswer
+) -> Result<Option<SubportIndex>, Refusal>
     requires { MultiWf (multi_in nodes.now links.now owners.now heads.now marks.now flags.now totals) }
     ensures { (result ≡ unplaced (subport_link (multi_in nodes.now links.now owners.now heads.now marks.now flags.now totals) subport.port.0 subport.subport_offset))
         × (unplaced_numbers result ≡ before_place (cut_numbers (subport_link (multi_in nodes.now links.now owners.now heads.now marks.now flags.now totals) subport.port.0 subport.subport_offset))) }
 {
-    match end_named(marks, links, owners, flags, subport) {
-        NamedEnd::At(inner) => wire_end_in(links, owners, flags, inner),
-        NamedEnd::Refused(refusal) => EndAnswer::Refused(refusal),
-    }
+    let inner = end_named(marks, links, owners, flags, subport)?;
+    wire_end_in(links, owners, flags, inner)
 }
 
 // MultiPortGraph::unlink_subport over lent tables, without the place.
@@ -56,7 +53,7 @@ pub fn cut_sub_lent(
         × (unplaced_numbers result.answer ≡ before_place (cut_numbers (cut_sub (multi_in nodes.old links.old owners.old heads.old marks.old flags.old totals) subport.port.0 subport.subport_offset).answer)) }
 {
     match end_named(marks, links, owners, flags, subport) {
-        NamedEnd::At(inner) => {
+        Ok(inner) => {
             let answer = wire_end_in(links, owners, flags, inner);
             let far = cut(links, wide(inner));
             CutLent {
@@ -64,9 +61,9 @@ pub fn cut_sub_lent(
                 answer: answer,
             }
         }
-        NamedEnd::Refused(refusal) => CutLent {
+        Err(refusal) => CutLent {
             totals: totals,
-            answer: EndAnswer::Refused(refusal),
+            answer: Err(refusal),
         },
     }
 }
@@ -95,22 +92,22 @@ pub fn link_sub_lent(
     if input_taken(marks, links, owners, flags, release, p.0, q.0) {
         return LinkedLent {
             totals: totals,
-            answer: LinkAnswer::Refused(taken_subports(marks, links, owners, flags, from, to)),
+            answer: Err(taken_subports(marks, links, owners, flags, from, to)),
         };
     }
     match link_named(marks, links, owners, flags, from, to) {
-        NamedLink::Ends(x, y) => {
+        Ok((x, y)) => {
             let first = read_in(marks, from);
             let second = read_in(marks, to);
             link_both(links, x, y);
             LinkedLent {
                 totals: with_links(totals, totals.counts.link_count + 1),
-                answer: LinkAnswer::Linked(first, second),
+                answer: Ok((first, second)),
             }
         }
-        NamedLink::Refused(refusal) => LinkedLent {
+        Err(refusal) => LinkedLent {
             totals: totals,
-            answer: LinkAnswer::Refused(refusal),
+            answer: Err(refusal),
         },
     }
 }

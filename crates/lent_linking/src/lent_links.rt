@@ -19,11 +19,9 @@ use multi_tables::inputs::{input_taken, taken_ports};
 use multi_tables::reads::seen_in;
 use multi_tables::seen::SeenPort;
 use multiportgraph::lent::{LinkedLent, Need, Totals, with_links};
-use multiportgraph::multiportgraph::LinkAnswer;
 use port_tables::direction::Direction;
 use port_tables::index::{FREE_LISTS, NODE_SLOTS, PORT_SLOTS, PortIndex};
 use port_tables::lent::NODE_WORDS;
-use port_tables::numbers::same_side;
 use port_tables::tables::link_both;
 
 // The second port is not live: the preparation of the first stays.
@@ -52,12 +50,12 @@ fn link_first_lent(
     if first.ready {
         return LinkedLent {
             totals: after,
-            answer: LinkAnswer::Refused(Refusal::UnknownSecondPort(b)),
+            answer: Err(Refusal::UnknownSecondPort(b)),
         };
     }
     LinkedLent {
         totals: after,
-        answer: LinkAnswer::Refused(Refusal::NoRoom),
+        answer: Err(Refusal::NoRoom),
     }
 }
 
@@ -87,16 +85,12 @@ fn link_self_lent(
         let x = first.port;
         return LinkedLent {
             totals: after,
-            answer: LinkAnswer::Refused(Refusal::IncompatibleDirections(
-                PortIndex(x),
-                PortIndex(x),
-                d,
-            )),
+            answer: Err(Refusal::IncompatibleDirections(PortIndex(x), PortIndex(x), d)),
         };
     }
     LinkedLent {
         totals: after,
-        answer: LinkAnswer::Refused(Refusal::NoRoom),
+        answer: Err(Refusal::NoRoom),
     }
 }
 
@@ -128,20 +122,16 @@ fn link_second_lent(
     let after = second.totals;
     if second.ready {
         let y = second.port;
-        if same_side(d, e) {
+        if d == e {
             return LinkedLent {
                 totals: after,
-                answer: LinkAnswer::Refused(Refusal::IncompatibleDirections(
-                    PortIndex(x),
-                    PortIndex(y),
-                    d,
-                )),
+                answer: Err(Refusal::IncompatibleDirections(PortIndex(x), PortIndex(y), d)),
             };
         }
         link_both(links, x, y);
         return LinkedLent {
             totals: with_links(after, after.counts.link_count + 1),
-            answer: LinkAnswer::Linked(
+            answer: Ok((
                 SubportIndex {
                     port: PortIndex(a),
                     subport_offset: o,
@@ -150,12 +140,12 @@ fn link_second_lent(
                     port: PortIndex(b),
                     subport_offset: second.offset,
                 },
-            ),
+            )),
         };
     }
     LinkedLent {
         totals: after,
-        answer: LinkAnswer::Refused(Refusal::NoRoom),
+        answer: Err(Refusal::NoRoom),
     }
 }
 
@@ -208,7 +198,7 @@ fn link_pair_lent(
     }
     LinkedLent {
         totals: totals,
-        answer: LinkAnswer::Refused(Refusal::NoRoom),
+        answer: Err(Refusal::NoRoom),
     }
 }
 
@@ -236,7 +226,7 @@ fn link_seen_lent(
         ),
         SeenPort::Hidden => LinkedLent {
             totals: totals,
-            answer: LinkAnswer::Refused(Refusal::HiddenPort(b)),
+            answer: Err(Refusal::HiddenPort(b)),
         },
         SeenPort::Visible(_, e) => {
             if a == b.0 {
@@ -271,17 +261,17 @@ pub fn link_lent(
     if input_taken(marks, links, owners, flags, release, port_a.0, port_b.0) {
         return LinkedLent {
             totals: totals,
-            answer: LinkAnswer::Refused(taken_ports(owners, flags, port_a, port_b)),
+            answer: Err(taken_ports(owners, flags, port_a, port_b)),
         };
     }
     match seen_in(owners, flags, port_a.0) {
         SeenPort::Dead => LinkedLent {
             totals: totals,
-            answer: LinkAnswer::Refused(Refusal::UnknownPort(port_a)),
+            answer: Err(Refusal::UnknownPort(port_a)),
         },
         SeenPort::Hidden => LinkedLent {
             totals: totals,
-            answer: LinkAnswer::Refused(Refusal::HiddenPort(port_a)),
+            answer: Err(Refusal::HiddenPort(port_a)),
         },
         SeenPort::Visible(_, d) => link_seen_lent(
             nodes, links, owners, heads, marks, flags, totals, port_a.0, d, port_b,

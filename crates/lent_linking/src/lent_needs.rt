@@ -11,7 +11,7 @@ use multiportgraph::lent::{Need, Takes};
 use port_tables::direction::Direction;
 use port_tables::index::{FREE_LISTS, NODE_SLOTS, NodeIndex, PORT_SLOTS};
 use port_tables::lent::{Counts, NODE_WORDS, meta_in, slot_in};
-use port_tables::node_entry::{MaybeNodeMeta, NodeMeta};
+use port_tables::node_entry::NodeMeta;
 use port_tables::numbers::wide;
 use port_tables::resize_links::round_up;
 use port_tables::tables::{at, head_at};
@@ -37,7 +37,7 @@ fn copy_need<'a>(
 ) -> Need
     ensures { result ≡ copy_need_in links.now direction node (meta_in nodes.now node) }
 {
-    let MaybeNodeMeta::Some(meta) = meta_in(nodes, node) else {
+    let Some(meta) = meta_in(nodes, node) else {
         return Need::Split;
     };
     let first = side_slot(meta, direction);

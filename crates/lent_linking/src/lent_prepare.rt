@@ -24,8 +24,6 @@ use port_tables::lent::NODE_WORDS;
 use port_tables::node_entry::NodeMeta;
 use port_tables::numbers::wide;
 use port_tables::tables::{cut, link_both, without_link};
-use portgraph::alloc::AddAnswer as LowerAdd;
-use portgraph::resize::SetAnswer as LowerSet;
 
 // The port hangs on the copy port, and its old link is at the first subport. Answers what the table held for the port.
 fn hang(links: &mut [u32; PORT_SLOTS], port: u32, copy: u32, first: u32) -> u32
@@ -66,7 +64,7 @@ fn split_lent(
     );
     let after = added.counts;
     let answer = added.answer;
-    let LowerAdd::Added(node, first) = answer else {
+    let Ok((node, first)) = answer else {
         return PreparedLent {
             totals: with_counts(totals, after),
             port: 0,
@@ -144,7 +142,7 @@ fn grow_lent(
     );
     let after = sized.counts;
     let answer = sized.answer;
-    let LowerSet::Set(_) = answer else {
+    let Ok(_) = answer else {
         return PreparedLent {
             totals: with_counts(totals, after),
             port: 0,

@@ -5,16 +5,16 @@ ghost use Rattle.portgraph.specs.Lent.{port_index_in};
 ghost use Rattle.port_tables.specs.NodeWords.{meta_in};
 
 use port_tables::direction::Direction;
-use port_tables::index::{MaybePortIndex, PORT_SLOTS, PortIndex, PortOffset};
+use port_tables::index::{PORT_SLOTS, PortIndex, PortOffset};
 use port_tables::lent::{NODE_WORDS, meta_in};
-use port_tables::node_entry::{MaybeNodeMeta, NodeMeta};
-use port_tables::numbers::{wide, wide16};
+use port_tables::node_entry::NodeMeta;
+use port_tables::numbers::wide;
 
 // The number of ports of a node on one side; 0 for a node that is not live.
 pub fn num_ports_in(nodes: &[u32; NODE_WORDS], node: u32, direction: Direction) -> usize
     ensures { result ≡ count_in (meta_in nodes.now node) direction }
 {
-    let MaybeNodeMeta::Some(meta) = meta_in(nodes, node) else {
+    let Some(meta) = meta_in(nodes, node) else {
         return 0;
     };
     meta.num_ports(direction)
@@ -31,21 +31,19 @@ fn start_of(meta: NodeMeta, direction: Direction) -> u16
 }
 
 // The port at a side and position of a node; none outside the port tables.
-pub fn port_index_in(nodes: &[u32; NODE_WORDS], node: u32, offset: PortOffset) -> MaybePortIndex
+pub fn port_index_in(nodes: &[u32; NODE_WORDS], node: u32, offset: PortOffset) -> Option<PortIndex>
     ensures { result ≡ port_index_in nodes.now node offset }
 {
-    let MaybeNodeMeta::Some(meta) = meta_in(nodes, node) else {
-        return MaybePortIndex::None;
-    };
+    let meta = meta_in(nodes, node)?;
     let direction = offset.direction;
-    let index = wide16(offset.index);
+    let index = usize::from(offset.index);
     if meta.num_ports(direction) <= index {
-        return MaybePortIndex::None;
+        return None;
     }
-    let start = wide16(start_of(meta, direction));
+    let start = usize::from(start_of(meta, direction));
     let place = wide(meta.first_port.0) + start + index;
     if PORT_SLOTS <= place {
-        return MaybePortIndex::None;
+        return None;
     }
-    MaybePortIndex::Some(PortIndex(place as u32))
+    Some(PortIndex(place as u32))
 }

@@ -12,17 +12,17 @@ ghost use Rattle.port_tables.specs.NodeWords.{StaysCanonical};
 
 use port_tables::index::{FREE_LISTS, NODE_PORTS, NodeIndex, PORT_SLOTS, PortIndex};
 use port_tables::lent::{Counts, NODE_WORDS, meta_in, put_slot};
-use port_tables::node_entry::{MaybeNodeMeta, NodeMeta, NodeSlot};
-use port_tables::numbers::{less, smaller, wide, wide16};
+use port_tables::node_entry::{NodeMeta, NodeSlot};
+use port_tables::numbers::wide;
 use port_tables::resize_links::{anew_links, fits_inside, inside_links, round_up, same_counts};
 use port_tables::tables::{at, chain_block, cut_range, fill, head_at, own_block, put_head};
-use portgraph::alloc::{Found, find_block, grown, rest_of};
-use portgraph::resize::SetAnswer;
+use portgraph::alloc::{find_block, grown, rest_of};
+use portgraph::resize::SetError;
 
 #[derive(Clone, Copy)]
 pub struct PortsSetLent {
     pub counts: Counts,
-    pub answer: SetAnswer,
+    pub answer: Result<usize, SetError>,
 }
 
 // The counts with another number of links.
@@ -52,13 +52,13 @@ fn drop_quiet(
         × (links.new ≡ drop_links links.old meta incoming outgoing) }
 {
     let first = wide(meta.first_port.0);
-    let old_in = wide16(meta.incoming);
-    let old_out = wide16(meta.outgoing);
-    let kept_in = smaller(old_in, incoming);
-    let kept_out = smaller(old_out, outgoing);
+    let old_in = usize::from(meta.incoming);
+    let old_out = usize::from(meta.outgoing);
+    let kept_in = old_in.min(incoming);
+    let kept_out = old_out.min(outgoing);
     let a = cut_range(links, first + kept_in, old_in - kept_in);
     let b = cut_range(links, first + old_in + kept_out, old_out - kept_out);
-    count_links(counts, less(counts.link_count, a + b))
+    count_links(counts, counts.link_count.saturating_sub(a + b))
 }
 
 // Takes the block that was found for a size: another one is the first free block then, or the tables are longer.
@@ -117,7 +117,7 @@ fn settle_inside_lent(
         node_len: counts.node_len,
         port_len: counts.port_len,
         node_count: counts.node_count,
-        port_count: less(counts.port_count, meta.port_count()) + (incoming + outgoing),
+        port_count: counts.port_count.saturating_sub(meta.port_count()) + (incoming + outgoing),
         link_count: counts.link_count,
     }
 }
@@ -143,7 +143,7 @@ fn settle_anew_lent(
         × StaysCanonical nodes.old nodes.new }
 {
     let first = wide(meta.first_port.0);
-    let capacity = wide16(meta.capacity);
+    let capacity = usize::from(meta.capacity);
     let new_meta = NodeMeta {
         first_port: PortIndex(new_first as u32),
         incoming: incoming as u16,
@@ -161,7 +161,7 @@ fn settle_anew_lent(
         node_len: counts.node_len,
         port_len: counts.port_len,
         node_count: counts.node_count,
-        port_count: less(counts.port_count, meta.port_count()) + (incoming + outgoing),
+        port_count: counts.port_count.saturating_sub(meta.port_count()) + (incoming + outgoing),
         link_count: counts.link_count,
     }
 }
@@ -188,25 +188,25 @@ pub fn resize_quiet_lent(
     if same_counts(meta, incoming, outgoing) {
         return PortsSetLent {
             counts: counts,
-            answer: SetAnswer::Set(0),
+            answer: Ok(0),
         };
     }
     if fits_inside(meta, incoming, outgoing) {
-        let kept_in = smaller(wide16(meta.incoming), incoming);
+        let kept_in = usize::from(meta.incoming).min(incoming);
         let left = drop_quiet(links, counts, meta, incoming, outgoing);
         let after = settle_inside_lent(
             nodes, links, owners, heads, left, node, meta, incoming, outgoing,
         );
         return PortsSetLent {
             counts: after,
-            answer: SetAnswer::Set(less(meta.port_count(), kept_in)),
+            answer: Ok(meta.port_count().saturating_sub(kept_in)),
         };
     }
     let size = round_up(incoming + outgoing);
-    let Found::At(new_first) = find_block(heads, counts.port_len, size) else {
+    let Some(new_first) = find_block(heads, counts.port_len, size) else {
         return PortsSetLent {
             counts: counts,
-            answer: SetAnswer::NoRoom,
+            answer: Err(SetError::NoRoom),
         };
     };
     let taken = take_block(links, heads, counts, new_first, size);
@@ -216,7 +216,7 @@ pub fn resize_quiet_lent(
     );
     PortsSetLent {
         counts: after,
-        answer: SetAnswer::Set(meta.port_count()),
+        answer: Ok(meta.port_count()),
     }
 }
 
@@ -241,19 +241,19 @@ pub fn set_num_ports_quiet_lent(
     if NODE_PORTS < incoming {
         return PortsSetLent {
             counts: counts,
-            answer: SetAnswer::TooManyPorts,
+            answer: Err(SetError::TooManyPorts),
         };
     }
     if NODE_PORTS - incoming < outgoing {
         return PortsSetLent {
             counts: counts,
-            answer: SetAnswer::TooManyPorts,
+            answer: Err(SetError::TooManyPorts),
         };
     }
-    let MaybeNodeMeta::Some(meta) = meta_in(nodes, node.0) else {
+    let Some(meta) = meta_in(nodes, node.0) else {
         return PortsSetLent {
             counts: counts,
-            answer: SetAnswer::UnknownNode,
+            answer: Err(SetError::UnknownNode),
         };
     };
     resize_quiet_lent(

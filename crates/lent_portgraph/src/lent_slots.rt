@@ -7,23 +7,21 @@ ghost use Rattle.port_tables.specs.NodeWords.{StaysCanonical};
 
 use port_tables::index::{FREE_LISTS, NODE_PORTS, NodeIndex, PORT_SLOTS, PortIndex};
 use port_tables::lent::{Counts, NODE_WORDS, meta_in, next_in, put_prev, put_slot};
-use port_tables::node_entry::{MaybeNodeMeta, NodeMeta, NodeSlot};
-use port_tables::numbers::{less, wide, wide16};
+use port_tables::node_entry::{NodeMeta, NodeSlot};
+use port_tables::numbers::wide;
 use port_tables::tables::{at, chain_block, cut_range, fill, head_at, own_block, put_head};
-use portgraph::alloc::{
-    AddAnswer, Found, RemoveAnswer, find_block, find_slot, grown, rest_of, slot_after,
-};
+use portgraph::alloc::{AddError, NoSuchNode, find_block, find_slot, grown, rest_of, slot_after};
 
 #[derive(Clone, Copy)]
 pub struct NodeAddedLent {
     pub counts: Counts,
-    pub answer: AddAnswer,
+    pub answer: Result<(NodeIndex, PortIndex), AddError>,
 }
 
 #[derive(Clone, Copy)]
 pub struct NodeRemovedLent {
     pub counts: Counts,
-    pub answer: RemoveAnswer,
+    pub answer: Result<(), NoSuchNode>,
 }
 
 // PortGraph::add_node over lent tables.
@@ -46,26 +44,26 @@ pub fn add_node_lent(
     if NODE_PORTS < incoming {
         return NodeAddedLent {
             counts: counts,
-            answer: AddAnswer::TooManyPorts,
+            answer: Err(AddError::TooManyPorts),
         };
     }
     if NODE_PORTS - incoming < outgoing {
         return NodeAddedLent {
             counts: counts,
-            answer: AddAnswer::TooManyPorts,
+            answer: Err(AddError::TooManyPorts),
         };
     }
     let size = incoming + outgoing;
-    let Found::At(node) = find_slot(counts.node_free, counts.node_len) else {
+    let Some(node) = find_slot(counts.node_free, counts.node_len) else {
         return NodeAddedLent {
             counts: counts,
-            answer: AddAnswer::NoRoom,
+            answer: Err(AddError::NoRoom),
         };
     };
-    let Found::At(first) = find_block(heads, counts.port_len, size) else {
+    let Some(first) = find_block(heads, counts.port_len, size) else {
         return NodeAddedLent {
             counts: counts,
-            answer: AddAnswer::NoRoom,
+            answer: Err(AddError::NoRoom),
         };
     };
     let meta = NodeMeta {
@@ -92,7 +90,7 @@ pub fn add_node_lent(
             port_count: counts.port_count + size,
             link_count: counts.link_count,
         },
-        answer: AddAnswer::Added(NodeIndex(node as u32), PortIndex(first as u32)),
+        answer: Ok((NodeIndex(node as u32), PortIndex(first as u32))),
     }
 }
 
@@ -112,15 +110,15 @@ pub fn remove_node_lent(
         × StaysCanonical nodes.old nodes.new
         × (remove_numbers result.answer ≡ remove_numbers (remove_node (graph_in nodes.old links.old owners.old heads.old counts) node.0).answer) }
 {
-    let MaybeNodeMeta::Some(meta) = meta_in(nodes, node.0) else {
+    let Some(meta) = meta_in(nodes, node.0) else {
         return NodeRemovedLent {
             counts: counts,
-            answer: RemoveAnswer::UnknownNode,
+            answer: Err(NoSuchNode),
         };
     };
     let place = wide(node.0);
     let first = wide(meta.first_port.0);
-    let size = wide16(meta.capacity);
+    let size = usize::from(meta.capacity);
     let after = slot_after(counts.node_free, place);
     put_prev(nodes, after, (node.0 + 1) as u16);
     put_slot(nodes, place, NodeSlot::new_free(0, counts.node_free as u16));
@@ -134,10 +132,10 @@ pub fn remove_node_lent(
             node_free: node.0 + 1,
             node_len: counts.node_len,
             port_len: counts.port_len,
-            node_count: less(counts.node_count, 1),
-            port_count: less(counts.port_count, meta.port_count()),
-            link_count: less(counts.link_count, cuts),
+            node_count: counts.node_count.saturating_sub(1),
+            port_count: counts.port_count.saturating_sub(meta.port_count()),
+            link_count: counts.link_count.saturating_sub(cuts),
         },
-        answer: RemoveAnswer::Removed,
+        answer: Ok(()),
     }
 }

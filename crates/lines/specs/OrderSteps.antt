@@ -1,18 +1,20 @@
 -- What the proofs of functions over orders cite.
 use Rattle.std.specs.Prelude.{◌≡◌, Bool, true, false, not, cond, List, ℕ, ◌+◌, ◌≤◌, ◌<◌, ltb, set}
 use Rattle.std.proofs.Math.Path.{refl, sym, ap, subst}
-use Rattle.std.proofs.Common.{◌∙◌, inl, inr, add-one, arith, length-set, get_or-set_same, get_or-set_other, lt-ltb, le-ltb}
+use Rattle.std.proofs.Common.{◌∙◌, inl, inr, add-one, arith, length-set, get_or-set_same, get_or-set_other, lt-ltb, le-ltb, ltb-false}
 use Rattle.std.specs.Bool.{beq}
+use Rattle.std.specs.Prelude.{Result, Ok, Err}
+use Rattle.std.specs.Result.{OkIff, result_unwrap_or}
 use Rattle.std.proofs.Math.Logic.{⊎_elim}
 use Rattle.std.proofs.Math.ListN.{get_or, length}
-use Rattle.lines.specs.Orders.{order, start_of, spoiled_by, with_number, number_at, offset_at, most_numbers, Asks, word_at, is_empty, file_name, Says, Numbered, Ordered}
+use Rattle.lines.specs.Orders.{order, start_of, with_number, number_at, offset_at, most_numbers, Asks, word_at, is_empty, file_name, Says, Numbered}
 use Rattle.lines.specs.Text.{bytes_of, next_word, number_said, same_bytes}
 use Rattle.lines.specs.TextSteps.{below_or}
 use Rattle.lines.specs.declared.text.Span.{Span}
 use Rattle.lines.specs.declared.orders.Order.{Order}
 
-module _ (o : Order) (place : ℕ) where
-  pub with_there : (value : ℕ) → place < most_numbers → order o.command o.wrong (set o.numbers place value) o.entries o.from ≡ with_number o place value
+module _ {C : Type 0} (o : Order C) (place : ℕ) where
+  pub with_there : (value : ℕ) → place < most_numbers → order o.command (set o.numbers place value) o.entries o.from ≡ with_number o place value
   unfolding with_number
   with_there value h = rw (lt-ltb place most_numbers h) refl
 
@@ -28,29 +30,26 @@ module _ (o : Order) (place : ℕ) where
   unfolding number_at
   number_past h = rw (le-ltb place most_numbers h) refl
 
-  module _ (number : ℕ) (is_number : number ≡ number_at o place) where
-    pub offset_there : number < 65535 → number ≡ offset_at o place
-    unfolding offset_at
-    offset_there h = rw (lt-ltb (number_at o place) 65535 (rw (← is_number) h)) is_number
-
-    pub offset_past : 65535 ≤ number → 65535 ≡ offset_at o place
-    unfolding offset_at
-    offset_past h = rw (le-ltb (number_at o place) 65535 (rw (← is_number) h)) refl
+  -- The number is converted, where it has 16 bits.
+  pub offset_of : {E : Type 0} (number : ℕ) (r : Result ℕ E) → number ≡ number_at o place → OkIff r (number < 65536) number → result_unwrap_or r 65535 ≡ offset_at o place
+  unfolding offset_at
+  offset_of number (Ok x) e h = rw (← e) (go (ltb number 65535) refl)
+    where
+      go : (t : Bool) → ltb number 65535 ≡ t → x ≡ cond t number 65535
+      go true l = h.1
+      go false l = let p = ltb-false number 65535 l in let q = h.0 in let m = h.1 in omega arith
+  offset_of number (Err x) e h = rw (← e, le-ltb number 65535 (omega arith)) refl
 
 -- An order keeps its command and its place.
 
-pub asks_start : (command from : ℕ) (o : Order) → o ≡ start_of command from → Asks command from o
-unfolding start_of
-asks_start command from o e = record { of_command = ap (λ (x : Order). x.command) e; begins = ap (λ (x : Order). x.from) e }
+module _ {C : Type 0} (command : C) (from : ℕ) (o : Order C) where
+  pub asks_start : o ≡ start_of command from → Asks command from o
+  unfolding start_of
+  asks_start e = record { of_command = ap (λ (x : Order C). x.command) e; begins = ap (λ (x : Order C). x.from) e }
 
-module _ {command from : ℕ} {o : Order} (a : Asks command from o) where
-  pub asks_spoiled : (wrong : ℕ) (r : Order) → r ≡ spoiled_by o wrong → Asks command from r
-  unfolding spoiled_by
-  asks_spoiled wrong r e = record { of_command = ap (λ (x : Order). x.command) e ∙ a.of_command; begins = ap (λ (x : Order). x.from) e ∙ a.begins }
-
-  pub asks_number : (place value : ℕ) (r : Order) → r ≡ with_number o place value → Asks command from r
+  asks_number : Asks command from o → (place value : ℕ) (r : Order C) → r ≡ with_number o place value → Asks command from r
   unfolding with_number
-  asks_number place value r e = record { of_command = ap (λ (x : Order). x.command) e ∙ a.of_command; begins = ap (λ (x : Order). x.from) e ∙ a.begins }
+  asks_number a place value r e = record { of_command = ap (λ (x : Order C). x.command) e ∙ a.of_command; begins = ap (λ (x : Order C). x.from) e ∙ a.begins }
 
 -- Words and names are read side by side.
 
@@ -90,39 +89,33 @@ module _ (numbers : List ℕ) (place value : ℕ) where
   more_here l m = rw (lt-ltb place most_numbers l) (get_or-set_same numbers place value 0 m)
 
 -- What holds before the word at a place is read.
-pub record Reading (command : ℕ) (text : List ℕ) (from : ℕ) (usage : List ℕ) (first : ℕ) (o : Order) (word name : Span) (place : ℕ) : Type 0 where
+pub record Reading {C : Type 0} (command : C) (text : List ℕ) (from : ℕ) (usage : List ℕ) (first : ℕ) (o : Order C) (word name : Span) (place : ℕ) : Type 0 where
   pub asks : Asks command from o
-  pub fine : o.wrong ≡ 0
   pub long : length o.numbers ≡ most_numbers
   pub is_word : word ≡ word_at text from place
   pub is_name : name ≡ word_at usage first place
   pub there : (k : ℕ) → k < place → is_empty (word_at text from k) ≡ false
   pub says : (k : ℕ) → k < place → k < most_numbers → Says (bytes_of text (word_at text from k)) (bytes_of usage (word_at usage first k)) (get_or o.numbers k 0)
 
-module _ (command : ℕ) (text : List ℕ) (from : ℕ) (usage : List ℕ) where
-  pub reading_start : (o : Order) (word name head : Span) → o ≡ start_of command from → word ≡ next_word text from → head ≡ next_word usage 0 → name ≡ next_word usage head.to →
+module _ {C : Type 0} (command : C) (text : List ℕ) (from : ℕ) (usage : List ℕ) where
+  pub reading_start : (o : Order C) (word name head : Span) → o ≡ start_of command from → word ≡ next_word text from → head ≡ next_word usage 0 → name ≡ next_word usage head.to →
       Reading command text from usage (next_word usage 0).to o word name 0
   unfolding start_of
   reading_start o word name head e w h n = record {
     asks = asks_start command from o e;
-    fine = ap (λ (x : Order). x.wrong) e;
-    long = ap (λ (x : Order). length x.numbers) e;
+    long = ap (λ (x : Order C). length x.numbers) e;
     is_word = word_first text from from word refl w;
     is_name = word_first usage (next_word usage 0).to head.to name (ap (λ (s : Span). s.to) h) n;
     there = λ k l. absurd (omega arith);
     says = λ k l m. absurd (omega arith);
   }
 
-  pub numbered_spoiled : {o : Order} (a : Asks command from o) (wrong : ℕ) (r : Order) → r ≡ spoiled_by o wrong → (wrong ≡ 0 → ⊥) → Numbered command text from usage r
-  unfolding spoiled_by
-  numbered_spoiled a wrong r e h = record { asks = asks_spoiled a wrong r e; read = λ z. absurd (h (sym (ap (λ (x : Order). x.wrong) e) ∙ z)) }
-
-  module _ {o : Order} {word name : Span} {place : ℕ} (r : Reading command text from usage (next_word usage 0).to o word name place) where
+  module _ {o : Order C} {word name : Span} {place : ℕ} (r : Reading command text from usage (next_word usage 0).to o word name place) where
     pub reading_end : (a b : Bool) → place < 9 → a ≡ is_empty word → b ≡ is_empty name → not (beq a b) ≡ false → a ≡ true → Numbered command text from usage o
     reading_end a b l p q h e =
         record {
           asks = r.asks;
-          read = λ z. (
+          read = (
             place,
             record {
               few = omega arith;
@@ -134,14 +127,13 @@ module _ (command : ℕ) (text : List ℕ) (from : ℕ) (usage : List ℕ) where
           );
         }
 
-    pub reading_on : (a : Bool) (value : ℕ) (o' : Order) (word' name' : Span) → a ≡ is_empty word → a ≡ false → o' ≡ with_number o place value →
+    pub reading_on : (a : Bool) (value : ℕ) (o' : Order C) (word' name' : Span) → a ≡ is_empty word → a ≡ false → o' ≡ with_number o place value →
         Says (bytes_of text word) (bytes_of usage name) value → word' ≡ next_word text word.to → name' ≡ next_word usage name.to →
         Reading command text from usage (next_word usage 0).to o' word' name' (place + 1)
     unfolding with_number
     reading_on a value o' word' name' p f e s w n = record {
-      asks = asks_number r.asks place value o' e;
-      fine = ap (λ (x : Order). x.wrong) e ∙ r.fine;
-      long = ap (λ (x : Order). length x.numbers) e ∙ more_long o.numbers place value ∙ r.long;
+      asks = asks_number command from o r.asks place value o' e;
+      long = ap (λ (x : Order C). length x.numbers) e ∙ more_long o.numbers place value ∙ r.long;
       is_word = word_next text from place word word' r.is_word w;
       is_name = word_next usage (next_word usage 0).to place name name' r.is_name n;
       there = λ k l. ⊎_elim (λ m. r.there k m) (λ m. rw m (ap is_empty (sym r.is_word) ∙ sym p ∙ f)) (below_or k place l);
@@ -149,7 +141,7 @@ module _ (command : ℕ) (text : List ℕ) (from : ℕ) (usage : List ℕ) where
     }
       where
         number : (k : ℕ) → get_or o'.numbers k 0 ≡ get_or (more o.numbers place value) k 0
-        number k = ap (λ (x : Order). get_or x.numbers k 0) e
+        number k = ap (λ (x : Order C). get_or x.numbers k 0) e
 
         here : (k : ℕ) → k < most_numbers → k ≡ place → Says (bytes_of text (word_at text from k)) (bytes_of usage (word_at usage (next_word usage 0).to k)) (get_or o'.numbers k 0)
         here k m j =
@@ -157,11 +149,3 @@ module _ (command : ℕ) (text : List ℕ) (from : ℕ) (usage : List ℕ) where
             (λ q. inl (number k ∙ (ap (λ (i : ℕ). get_or (more o.numbers place value) i 0) j ∙ more_here o.numbers place value (omega arith) (let h = r.long in omega arith)) ∙ q ∙ ap (λ (x : Span). number_said (bytes_of text x)) (r.is_word ∙ ap (word_at text from) (sym j))))
             (λ q. inr (ap (λ (x : Span). same_bytes (bytes_of usage x) file_name) (sym (r.is_name ∙ ap (word_at usage (next_word usage 0).to) (sym j))) ∙ q))
             s
-
-pub ordered_none : (number size : ℕ) (text : List ℕ) (from : ℕ) (usage : List ℕ) (at : ℕ) (o : Order) → o ≡ start_of 0 at → Ordered number size text from usage o
-unfolding start_of
-ordered_none number size text from usage at o e = inl (ap (λ (x : Order). x.command) e)
-
-pub ordered_fine : (number size : ℕ) (text : List ℕ) (from : ℕ) (usage row : List ℕ) (o : Order) → row ≡ usage → Asks number from o → (size ≡ 0 → Numbered number text from row o) → o.wrong ≡ 0 →
-    Ordered number size text from usage o
-ordered_fine number size text from usage row o e a h z = subst (λ (u : List ℕ). Ordered number size text from u o) e (inr (a, λ s. (h s).read z))

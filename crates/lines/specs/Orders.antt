@@ -8,38 +8,34 @@ use Rattle.lines.specs.declared.orders.Order.{Order}
 abbrev pub most_numbers : ℕ
 most_numbers = 8
 
-abbrev pub order : ℕ → ℕ → List ℕ → ℕ → ℕ → Order
-order command wrong numbers entries from =
-    record {
-      command = command;
-      wrong = wrong;
-      numbers = numbers;
-      entries = entries;
-      from = from;
-    }
+module _ {C : Type 0} where
+  abbrev pub order : C → List ℕ → ℕ → ℕ → Order C
+  order command numbers entries from =
+      record {
+        command = command;
+        numbers = numbers;
+        entries = entries;
+        from = from;
+      }
 
--- a command, before its numbers are read
-unfoldable pub start_of : ℕ → ℕ → Order
-start_of command from = order command 0 (replicate most_numbers 0) 0 from
+  -- a command, before its numbers are read
+  unfoldable pub start_of : C → ℕ → Order C
+  start_of command from = order command (replicate most_numbers 0) 0 from
 
--- with what is wrong
-unfoldable pub spoiled_by : Order → ℕ → Order
-spoiled_by o wrong = order o.command wrong o.numbers o.entries o.from
+  -- with a number at a place, if it is one
+  unfoldable pub with_number : Order C → ℕ → ℕ → Order C
+  with_number o place value = order o.command (cond (ltb place most_numbers) (set o.numbers place value) o.numbers) o.entries o.from
 
--- with a number at a place, if it is one
-unfoldable pub with_number : Order → ℕ → ℕ → Order
-with_number o place value = order o.command o.wrong (cond (ltb place most_numbers) (set o.numbers place value) o.numbers) o.entries o.from
+  -- the number at a place; 0 where there is none
+  unfoldable pub number_at : Order C → ℕ → ℕ
+  number_at o place = cond (ltb place most_numbers) (get_or o.numbers place 0) 0
 
--- the number at a place; 0 where there is none
-unfoldable pub number_at : Order → ℕ → ℕ
-number_at o place = cond (ltb place most_numbers) (get_or o.numbers place 0) 0
-
--- the offset that it is; the largest number of 16 bits stands for every larger one
-unfoldable pub offset_at : Order → ℕ → ℕ
-offset_at o place = cond (ltb (number_at o place) 65535) (number_at o place) 65535
+  -- the offset that it is; the largest number of 16 bits stands for every larger one
+  unfoldable pub offset_at : Order C → ℕ → ℕ
+  offset_at o place = cond (ltb (number_at o place) 65535) (number_at o place) 65535
 
 -- An order is of this command, and its words begin at this place.
-pub record Asks (command from : ℕ) (o : Order) : Type 0 where
+pub record Asks {C : Type 0} (command : C) (from : ℕ) (o : Order C) : Type 0 where
   pub of_command : o.command ≡ command
   pub begins : o.from ≡ from
 
@@ -67,12 +63,11 @@ pub record Read (text : List ℕ) (from : ℕ) (usage : List ℕ) (first : ℕ) 
   pub there : (k : ℕ) → k < n → is_empty (word_at text from k) ≡ false
   pub says : (k : ℕ) → k < n → Says (bytes_of text (word_at text from k)) (bytes_of usage (word_at usage first k)) (get_or numbers k 0)
 
--- An order of this command, with the numbers after its first word unless something is wrong.
-pub record Numbered (command : ℕ) (text : List ℕ) (from : ℕ) (usage : List ℕ) (o : Order) : Type 0 where
+-- An order of this command, with the numbers after its first word.
+pub record Numbered {C : Type 0} (command : C) (text : List ℕ) (from : ℕ) (usage : List ℕ) (o : Order C) : Type 0 where
   pub asks : Asks command from o
-  pub read : o.wrong ≡ 0 → (n : ℕ) × Read text from usage (next_word usage 0).to o.numbers n
+  pub read : (n : ℕ) × Read text from usage (next_word usage 0).to o.numbers n
 
--- What a line asks for that has this row for its first word: nothing, or the row's command; unless it has a list, with its numbers.
-abbrev pub Ordered : ℕ → ℕ → List ℕ → ℕ → List ℕ → Order → Type 0
-Ordered number size text from usage o =
-    (o.command ≡ 0) ⊎ (Asks number from o × (size ≡ 0 → (n : ℕ) × Read text from usage (next_word usage 0).to o.numbers n))
+-- What a line asks for that has this row for its first word: the row's command, and unless it has a list, its numbers.
+abbrev pub Ordered : {C : Type 0} → C → ℕ → List ℕ → ℕ → List ℕ → Order C → Type 0
+Ordered command size text from usage o = Asks command from o × (size ≡ 0 → (n : ℕ) × Read text from usage (next_word usage 0).to o.numbers n)

@@ -1,5 +1,5 @@
 -- Words, lines and numbers in a text, which is a list of bytes. Past its end it reads as zeros.
-use Rattle.std.specs.Prelude.{◌≡◌, Bool, true, false, cond, ◌&&◌, ◌||◌, List, [], ◌∷◌, ℕ, zero, suc, ◌+◌, ◌-◌, ◌*◌, ◌≤◌, ◌<◌, eqb, leb, ltb, get_or, length, take, drop}
+use Rattle.std.specs.Prelude.{◌≡◌, Bool, true, false, cond, ◌&&◌, ◌||◌, List, [], ◌∷◌, ℕ, zero, suc, ◌+◌, ◌-◌, ◌*◌, ◌≤◌, ◌<◌, eqb, leb, ltb, get_or, length, take, drop, Option, unwrap_or}
 use Rattle.std.specs.Bool.{beq}
 use Rattle.lines.specs.declared.text.Span.{Span}
 
@@ -60,6 +60,10 @@ same_bytes (b ∷ l) (c ∷ m) = eqb b c && same_bytes l m
 -- The first number that is none of 32 bits: it stands for no number.
 abbrev pub no_value : ℕ
 no_value = 4294967296
+
+-- The number that was read, or the one that stands for none.
+abbrev pub value_or_none : Option ℕ → ℕ
+value_or_none r = unwrap_or r no_value
 
 unfoldable pub is_digit : ℕ → Bool
 is_digit b = leb 48 b && leb b 57

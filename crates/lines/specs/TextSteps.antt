@@ -8,7 +8,11 @@ use native.Mathlib.Omega.{arith}
 use Rattle.std.proofs.Math.Dec.{eqb, leb}
 use Rattle.std.proofs.Math.ListN.{length}
 use borrow.Author.Tests.{eqb-false, eq-eqb, ne_eqb, lt-ltb, le-ltb, le-leb, lt-leb, leb-true, leb-false, ltb-true, ltb-false}
-use Rattle.lines.specs.Text.{is_blank, bytes_from, part_of, without_return, line_of, leading, pass_over, next_word, same_bytes, is_digit, all_digits, decimal_after, number_said, number_or_zero, no_value}
+use Rattle.lines.specs.Text.{is_blank, bytes_from, part_of, without_return, line_of, leading, pass_over, next_word, same_bytes, is_digit, all_digits, decimal_after, number_said, number_or_zero, no_value, value_or_none}
+use Rattle.std.specs.Prelude.{zero, max, Option, None, Some, unwrap_or}
+use Rattle.std.specs.Option.{SomeIff}
+use Rattle.std.proofs.Math.Seq.{take-length}
+use Rattle.std.proofs.Math.Logic.{⊎_elim}
 use Rattle.lines.specs.declared.text.Span.{Span}
 
 -- A place up to another is before it, or is it.
@@ -42,40 +46,42 @@ module _ (text : List ℕ) (span : Span) where
   unfolding part_of
   part_within h k = rw (le-leb span.from span.to h, le-leb span.to (length text) k) refl
 
-  pub part_backward : span.to < span.from → [] ≡ part_of text span
+  pub part_missing : (span.to < span.from) ⊎ (length text < span.to) → [] ≡ part_of text span
   unfolding part_of
-  part_backward h = rw (lt-leb span.from span.to h) refl
-
-  pub part_beyond : span.from ≤ span.to → length text < span.to → [] ≡ part_of text span
-  unfolding part_of
-  part_beyond h k = rw (le-leb span.from span.to h, lt-leb span.to (length text) k) refl
+  part_missing h = ⊎_elim (λ k. rw (lt-leb span.from span.to k) refl) (λ k. rw (lt-leb span.to (length text) k) (no_part (leb span.from span.to))) h
+    where
+      no_part : (t : Bool) → [] ≡ cond (t && false) (take (span.to - span.from) (drop span.from text)) []
+      no_part true = refl
+      no_part false = refl
 
 -- A line without its carriage return.
 
 module _ (line : List ℕ) where
-  pub return_there : 0 < length line → get_or line (length line - 1) 0 ≡ 13 → length line - 1 ≡ without_return line
+  return_there : 0 < length line → get_or line (length line - 1) 0 ≡ 13 → length line - 1 ≡ without_return line
   unfolding without_return
   return_there h e = rw (lt-ltb 0 (length line) h, eq-eqb (get_or line (length line - 1) 0) 13 e) refl
 
-  pub return_missing : 0 < length line → (get_or line (length line - 1) 0 ≡ 13 → ⊥) → length line ≡ without_return line
+  return_missing : 0 < length line → (get_or line (length line - 1) 0 ≡ 13 → ⊥) → length line ≡ without_return line
   unfolding without_return
   return_missing h e = rw (lt-ltb 0 (length line) h, ne_eqb (get_or line (length line - 1) 0) 13 e) refl
 
-  pub return_empty : length line ≤ 0 → length line ≡ without_return line
+  return_empty : length line ≤ 0 → length line ≡ without_return line
   unfolding without_return
   return_empty h = rw (le-ltb 0 (length line) h) refl
 
-  pub return_within : without_return line ≤ length line
-  unfolding without_return
-  return_within = go (ltb 0 (length line) && eqb (get_or line (length line - 1) 0) 13)
-    where
-      go : (t : Bool) → cond t (length line - 1) (length line) ≤ length line
-      go true = omega arith
-      go false = omega arith
+  pub line_cut : 1 ≤ length line → get_or line (length line - 1) 0 ≡ 13 → take (length line - 1) line ≡ line_of line
+  unfolding line_of
+  line_cut h e = ap (λ (n : ℕ). take n line) (return_there (omega arith) e)
 
-pub line_cut : (line : List ℕ) (len : ℕ) → len ≡ without_return line → take (len - 0) line ≡ line_of line
-unfolding line_of
-line_cut line len h = let p : len - 0 ≡ len = omega arith in ap (λ (n : ℕ). take n line) (p ∙ h)
+  line_same : length line ≡ without_return line → line ≡ line_of line
+  unfolding line_of
+  line_same e = sym (take-length line) ∙ ap (λ (n : ℕ). take n line) e
+
+  pub line_whole : 1 ≤ length line → (get_or line (length line - 1) 0 ≡ 13 → ⊥) → line ≡ line_of line
+  line_whole h e = line_same (return_missing (omega arith) e)
+
+  pub line_empty : length line < 1 → line ≡ line_of line
+  line_empty h = line_same (return_empty (omega arith))
 
 -- Blanks, one after the other.
 
@@ -105,9 +111,18 @@ module _ (text : List ℕ) (at : ℕ) (blanks : Bool) where
   unfolding pass_over leading
   pass_here h e = rw (drop-cons text at 0 h, e) (omega arith)
 
-  pub pass_end : length text ≤ at → at ≡ pass_over text at blanks
+  pass_end : length text ≤ at → at ≡ pass_over text at blanks
   unfolding pass_over leading
   pass_end h = rw (drop_of_length-le text h) (omega arith)
+
+-- Every byte was passed, or there is none.
+pub pass_all : (text : List ℕ) (from at end : ℕ) (blanks : Bool) → length text ≤ at → (from ≤ length text → at ≤ length text) → pass_over text at blanks ≡ pass_over text from blanks → end ≡ max from (length text) →
+    end ≡ pass_over text from blanks
+pass_all text from at end blanks h k e m = go (leb from (length text)) refl
+  where
+    go : (t : Bool) → leb from (length text) ≡ t → end ≡ pass_over text from blanks
+    go true l = let p = leb-true from (length text) l in let q = k p in let r : end ≡ at = omega arith in r ∙ pass_end text at blanks h ∙ e
+    go false l = let p = leb-false from (length text) l in let r : end ≡ from = omega arith in r ∙ pass_end text from blanks (omega arith)
 
 pub word_between : (text : List ℕ) (from start end : ℕ) → start ≡ pass_over text from true → end ≡ pass_over text start false →
     ◌≡◌ {A = Span} (record { from = start; to = end }) (next_word text from)
@@ -115,6 +130,22 @@ unfolding next_word
 word_between text from start end e h = λ j. record { from = e j; to = (h ∙ ap (λ (at : ℕ). pass_over text at false) e) j }
 
 -- Words, byte by byte.
+
+bytes_long : (text : List ℕ) (at n : ℕ) → length (bytes_from text at n) ≡ n
+unfolding bytes_from
+bytes_long text at zero = refl
+bytes_long text at (suc n) = ap suc (bytes_long text (suc at) n)
+
+same_long : (l m : List ℕ) → (length l ≡ length m → ⊥) → false ≡ same_bytes l m
+unfolding same_bytes
+same_long [] [] h = absurd (h refl)
+same_long [] (c ∷ m) h = refl
+same_long (b ∷ l) [] h = refl
+same_long (b ∷ l) (c ∷ m) h = rw (← same_long l m (λ e. h (ap suc e))) (go (eqb b c))
+  where
+    go : (t : Bool) → false ≡ (t && false)
+    go true = refl
+    go false = refl
 
 module _ (text other : List ℕ) (at to place end : ℕ) where
   abbrev pub left : Bool
@@ -129,17 +160,17 @@ module _ (text other : List ℕ) (at to place end : ℕ) where
   unfolding same_bytes
   same_other h k e = rw (bytes_next text at to h, bytes_next other place end k, ne_eqb (get_or text at 0) (get_or other place 0) e) refl
 
-  pub same_longer : at < to → end ≤ place → false ≡ left
+  pub same_end : to ≤ at → end ≤ place → true ≡ left
   unfolding same_bytes
-  same_longer h k = rw (bytes_next text at to h, bytes_end other place end k) refl
+  same_end h k = rw (bytes_end text at to h, bytes_end other place end k) refl
 
-  pub same_end : to ≤ at → leb end place ≡ left
-  unfolding same_bytes
-  same_end h = go (leb end place) refl
-    where
-      go : (t : Bool) → leb end place ≡ t → t ≡ left
-      go true e = rw (bytes_end text at to h, bytes_end other place end (leb-true end place e)) refl
-      go false e = rw (bytes_end text at to h, bytes_next other place end (leb-false end place e)) refl
+  pub same_unlike : (to - at ≡ end - place → ⊥) → false ≡ left
+  same_unlike h = same_long (bytes_from text at (to - at)) (bytes_from other place (end - place)) (λ e. h (sym (bytes_long text at (to - at)) ∙ e ∙ bytes_long other place (end - place)))
+
+module _ (text other : List ℕ) (at to place end k : ℕ) (l : at + k < to) (m : place + k < end) where
+  pub same_step : get_or text (at + k) 0 ≡ get_or other (place + k) 0 → left text other (at + (k + 1)) to (place + (k + 1)) end ≡ left text other (at + k) to (place + k) end
+  same_step e = let p : at + (k + 1) ≡ at + k + 1 = omega arith in let q : place + (k + 1) ≡ place + k + 1 = omega arith in
+      rw (p, q) (same_next text other (at + k) to (place + k) end l m e)
 
 -- Digits, one after the other.
 
@@ -173,11 +204,16 @@ module _ (v b : ℕ) where
     unfolding with_digit is_digit
     digit_too_many h = rw (lt-ltb v no_value small, le-leb 48 b low, le-leb b 57 high, le-ltb (v * 10 + (b - 48)) no_value h) refl
 
+-- The sum is checked.
+pub digit_added : (v b : ℕ) (r : Option ℕ) → v < no_value → 48 ≤ b → b ≤ 57 → SomeIff r (v * 10 + (b - 48) < no_value) (v * 10 + (b - 48)) → value_or_none r ≡ with_digit v b
+digit_added v b None small low high h = digit_too_many v b small low high (omega arith)
+digit_added v b (Some x) small low high h = h.1 ∙ digit_more v b small low high h.0
+
 unfoldable pub said_after : ℕ → List ℕ → ℕ
 said_after v [] = v
 said_after v (b ∷ l) = said_after (with_digit v b) l
 
-said_none : (l : List ℕ) → said_after no_value l ≡ no_value
+pub said_none : (l : List ℕ) → said_after no_value l ≡ no_value
 unfolding said_after with_digit
 said_none [] = refl
 said_none (b ∷ l) = said_none l
@@ -216,11 +252,7 @@ pub said_number : (l : List ℕ) → said_after 0 l ≡ number_said l
 unfolding number_said
 said_number l = said_is l 0 (omega arith)
 
-module _ (l : List ℕ) (x : ℕ) (said : x ≡ number_said l) where
-  pub number_none : no_value ≤ x → 0 ≡ number_or_zero l
-  unfolding number_or_zero
-  number_none h = rw (le-ltb (number_said l) no_value (rw (← said) h)) refl
-
-  pub number_some : x < no_value → x ≡ number_or_zero l
-  unfolding number_or_zero
-  number_some h = rw (lt-ltb (number_said l) no_value (rw (← said) h)) said
+pub number_or : (l : List ℕ) (r : Option ℕ) → value_or_none r ≡ number_said l → unwrap_or r 0 < no_value → unwrap_or r 0 ≡ number_or_zero l
+unfolding number_or_zero
+number_or l None e h = rw (le-ltb (number_said l) no_value (rw (← e) (omega arith))) refl
+number_or l (Some x) e h = rw (lt-ltb (number_said l) no_value (rw (← e) h)) e

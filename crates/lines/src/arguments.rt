@@ -2,7 +2,7 @@
 use crate::text::{Span, is_word};
 use std::env::{Env, FillError};
 
-#[derive(Clone, Copy)]
+#[derive(Clone, Copy, PartialEq, Eq)]
 pub enum Asked {
     Run,
     Echo,
@@ -31,7 +31,7 @@ pub fn read_arguments(rt: &impl Env) -> Asked {
             return found;
         };
         found = asked;
-        if let Asked::Usage = found {
+        if found == Asked::Usage {
             return found;
         }
     }

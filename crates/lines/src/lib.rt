@@ -2,16 +2,16 @@
 // written as lines.
 #![tactic(auto)]
 
-// Lines, words and numbers in a text, and lines of a text as rows of a table.
-pub mod rows;
+// Lines, words and numbers in a text.
 pub mod text;
 
 // The input, cut into lines, and what is heard of it.
 pub mod listening;
 pub mod reading;
 
-// What a line asks for, and what can be wrong with it.
+// What a line asks for, by a table of commands, and what can be wrong with it.
 pub mod orders;
+pub mod rows;
 mod wrong;
 
 // A line of output.

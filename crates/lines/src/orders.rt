@@ -1,18 +1,12 @@
-// What a line asks for: a command, which is a row of a table, and the numbers after the line's first word. A row says how its command is
+// What a line asks for: a command, which has a row of a table, and the numbers after the line's first word. A row says how its command is
 // typed: the command, and a name for each number.
-ghost use Rattle.std.specs.Prelude.{◌≡◌, true, ◌⊎◌, ◌≤◌, ◌<◌};
-ghost use Rattle.lines.specs.Text.{bytes_of, part_of, same_bytes, number_said, no_value};
-ghost use Rattle.lines.specs.Orders.{Asks, Numbered, Ordered, Says, file_name, start_of, with_number, spoiled_by, number_at, offset_at};
+ghost use Rattle.std.specs.Prelude.{◌≡◌, true, ◌⊎◌, ◌≤◌, ◌<◌, IfOk, IfSome};
+ghost use Rattle.lines.specs.Text.{bytes_of, same_bytes, value_or_none, number_said, no_value};
+ghost use Rattle.lines.specs.declared.wrong.Wrong.TheVariants.{LongName};
+ghost use Rattle.lines.specs.Orders.{Asks, Numbered, Ordered, Says, file_name, start_of, with_number, number_at, offset_at};
 
-use crate::rows::Row;
-use crate::text::{NO_VALUE, Span, is_word, next_word, number_of, part};
-use crate::wrong::{
-    FINE, LONG_NAME, NO_END_SIDE, NO_FLAG, NO_NUMBER, NO_RELEASE, NO_SIDE, NO_SLOT, NO_TIME,
-    UNKNOWN_COMMAND, WORD_COUNT, show_bad,
-};
-
-// The number of no command.
-pub const NOTHING: u32 = 0;
+use crate::text::{Span, is_word, next_word, number_of};
+use crate::wrong::{Wrong, show_bad};
 
 // The most numbers of a command, but for a list.
 const NUMBERS: usize = 8;
@@ -23,12 +17,10 @@ const WORDS: usize = 65536;
 // The longest name of a file, so that a name beside it is a path too.
 const MOST_NAME: usize = 4000;
 
-// A command with its numbers, or what is wrong.
+// A command with its numbers.
 #[derive(Clone, Copy)]
-pub struct Order {
-    // The number of the command's row.
-    pub command: u32,
-    pub wrong: u32,
+pub struct Order<C> {
+    pub command: C,
     pub numbers: [u32; NUMBERS],
     // Of a list: how many entries there are.
     pub entries: usize,
@@ -36,24 +28,16 @@ pub struct Order {
     pub from: usize,
 }
 
-fn order_to(command: u32, from: usize) -> Order
-    ensures { result ≡ start_of command from }
-{
-    Order {
-        command: command,
-        wrong: FINE,
-        numbers: [0u32; NUMBERS],
-        entries: 0,
-        from: from,
-    }
-}
-
-impl Order {
-    fn spoiled(mut self, wrong: u32) -> Self
-        ensures { result ≡ spoiled_by self wrong }
+impl<C: Copy> Order<C> {
+    fn to(command: C, from: usize) -> Self
+        ensures { result ≡ start_of command from }
     {
-        self.wrong = wrong;
-        self
+        Order {
+            command: command,
+            numbers: [0u32; NUMBERS],
+            entries: 0,
+            from: from,
+        }
     }
 
     fn with(mut self, place: usize, value: u32) -> Self
@@ -69,194 +53,166 @@ impl Order {
     pub fn number(self, place: usize) -> u32
         ensures { result ≡ number_at self place }
     {
-        let numbers = self.numbers;
-        if place < NUMBERS { numbers[place] } else { 0 }
+        if place < NUMBERS {
+            self.numbers[place]
+        } else {
+            0
+        }
     }
 
     // An offset. The largest number that one can be stands for every larger one: both are refused.
     pub fn offset(self, place: usize) -> u16
         ensures { result ≡ offset_at self place }
     {
-        let number = self.number(place);
-        if number < 65535 { number as u16 } else { 65535 }
+        u16::try_from(self.number(place)).unwrap_or(u16::MAX)
     }
 }
 
 // What a word is if it does not suit the name that stands for it.
-fn unsuited(usage: &[u8], name: Span) -> u32
-    ensures { (0 < result) × (result ≡ 10 → same_bytes (bytes_of usage.now name) file_name ≡ true) }
+fn unsuited(usage: &[u8], name: Span) -> Wrong
+    ensures { (result ≡ LongName) → same_bytes (bytes_of usage.now name) file_name ≡ true }
 {
     if is_word(usage, name, b"S") {
-        return NO_END_SIDE;
+        return Wrong::NoEndSide;
     }
     if is_word(usage, name, b"SIDE") {
-        return NO_SIDE;
+        return Wrong::NoSide;
     }
     if is_word(usage, name, b"FLAG") {
-        return NO_FLAG;
+        return Wrong::NoFlag;
     }
     if is_word(usage, name, b"RELEASE") {
-        return NO_RELEASE;
+        return Wrong::NoRelease;
     }
     if is_word(usage, name, b"SLOT") {
-        return NO_SLOT;
+        return Wrong::NoSlot;
     }
     if is_word(usage, name, b"MICROSECONDS") {
-        return NO_TIME;
+        return Wrong::NoTime;
     }
     if is_word(usage, name, b"NAME") {
-        return LONG_NAME;
+        return Wrong::LongName;
     }
-    NO_NUMBER
+    Wrong::NoNumber
 }
 
-// The largest number that suits.
-fn most(unsuited: u32) -> u64
-    ensures { result ≤ 4294967295 }
-{
+// The least number that suits, and the largest.
+fn suiting(unsuited: Wrong) -> (u32, u32) {
     match unsuited {
-        NO_SIDE | NO_RELEASE => 2,
-        NO_END_SIDE | NO_FLAG => 1,
-        NO_SLOT => 1023,
-        NO_TIME => 65535,
-        _ => 4294967295,
+        Wrong::NoSide => (0, 2),
+        Wrong::NoRelease => (1, 2),
+        Wrong::NoEndSide | Wrong::NoFlag => (0, 1),
+        Wrong::NoSlot => (0, 1023),
+        Wrong::NoTime => (0, 65535),
+        _ => (0, u32::MAX),
     }
 }
 
-// The number that a word says; a name of a file is none, and has the value 0. No release is 0.
-fn value_of(text: &[u8], word: Span, unsuited: u32) -> u64
-    ensures { (result ≡ number_said (bytes_of text.now word)) ⊎ ((unsuited ≡ 10) ⊎ (result ≡ no_value)) }
-{
-    if unsuited == LONG_NAME {
-        return if word.len() <= MOST_NAME { 0 } else { NO_VALUE };
-    }
-    let value = number_of(text, word);
-    if unsuited == NO_RELEASE {
-        return if value == 0 { NO_VALUE } else { value };
-    }
-    value
-}
-
-// A number, or what is wrong with its word.
-#[derive(Clone, Copy)]
-struct Value {
-    wrong: u32,
-    number: u32,
-}
-
-// The number that a word says where this name stands for it.
-fn value_as(text: &[u8], word: Span, usage: &[u8], name: Span) -> Value
-    ensures { result.wrong ≡ 0 → Says (bytes_of text.now word) (bytes_of usage.now name) result.number }
+// The number that a word says where this name stands for it, or what is wrong with the word. A name of a file says 0.
+fn value_as(text: &[u8], word: Span, usage: &[u8], name: Span) -> Result<u32, Wrong>
+    ensures { IfOk result (λ value. Says (bytes_of text.now word) (bytes_of usage.now name) value) }
 {
     let wrong = unsuited(usage, name);
-    let value = value_of(text, word, wrong);
-    if most(wrong) < value {
-        return Value {
-            wrong: wrong,
-            number: 0,
+    if wrong == Wrong::LongName {
+        return if word.len() <= MOST_NAME {
+            Ok(0)
+        } else {
+            Err(wrong)
         };
     }
-    Value {
-        wrong: FINE,
-        number: value as u32,
+    let value = number_of(text, word).ok_or(wrong)?;
+    let (least, most) = suiting(wrong);
+    if value < least || most < value {
+        return Err(wrong);
     }
+    Ok(value)
 }
 
 // An order with the numbers after a line's first word, one for each name after the row's first word.
-fn with_numbers(command: u32, text: &[u8], from: usize, usage: &[u8]) -> Order
-    ensures { Numbered command text.now from usage.now result }
+fn with_numbers<C: Copy>(
+    command: C,
+    text: &[u8],
+    from: usize,
+    usage: &[u8],
+) -> Result<Order<C>, Wrong>
+    ensures { IfOk result (λ order. Numbered command text.now from usage.now order) }
 {
     let first = next_word(usage, 0);
-    let mut order = order_to(command, from);
+    let mut order = Order::to(command, from);
     let mut word = next_word(text, from);
     let mut name = next_word(usage, first.to);
-    let mut place: usize = 0;
-    while place <= NUMBERS {
+    for place in 0..NUMBERS + 1 {
         if word.is_empty() != name.is_empty() {
-            return order.spoiled(WORD_COUNT);
+            return Err(Wrong::WordCount);
         }
         if word.is_empty() {
-            return order;
+            return Ok(order);
         }
-        let value = value_as(text, word, usage, name);
-        if value.wrong != FINE {
-            return order.spoiled(value.wrong);
-        }
-        order = order.with(place, value.number);
+        order = order.with(place, value_as(text, word, usage, name)?);
         word = next_word(text, word.to);
         name = next_word(usage, name.to);
-        place += 1;
     }
-    order.spoiled(WORD_COUNT)
+    Err(Wrong::WordCount)
 }
 
 // An order with a list after a line's first word: so many numbers for each entry, with the names of the row's first entry, and as many
 // entries as there are.
-fn with_list(command: u32, text: &[u8], from: usize, usage: &[u8], size: usize) -> Order
+fn with_list<C: Copy>(
+    command: C,
+    text: &[u8],
+    from: usize,
+    usage: &[u8],
+    size: usize,
+) -> Result<Order<C>, Wrong>
     requires { 0 < size }
-    ensures { Asks command from result }
+    ensures { IfOk result (λ order. Asks command from order) }
 {
     let first = next_word(usage, 0);
-    let mut order = order_to(command, from);
+    let mut order = Order::to(command, from);
     let mut word = next_word(text, from);
     let mut name = next_word(usage, first.to);
-    let mut count: usize = 0;
-    while count < WORDS {
+    for count in 0..WORDS {
         if word.is_empty() {
-            order.entries = count / size;
-            if count % size == 0 {
-                return order;
+            if count % size != 0 {
+                return Err(Wrong::WordCount);
             }
-            return order.spoiled(WORD_COUNT);
+            order.entries = count / size;
+            return Ok(order);
         }
-        let value = value_as(text, word, usage, name);
-        if value.wrong != FINE {
-            return order.spoiled(value.wrong);
-        }
+        value_as(text, word, usage, name)?;
         word = next_word(text, word.to);
-        count += 1;
-        name = if count % size == 0 {
+        name = if (count + 1) % size == 0 {
             next_word(usage, first.to)
         } else {
             next_word(usage, name.to)
         };
     }
-    order.spoiled(WORD_COUNT)
+    Err(Wrong::WordCount)
 }
 
-// An order with the words after a line's first: a list if an entry has numbers.
-fn with_words(command: u32, text: &[u8], from: usize, usage: &[u8], size: usize) -> Order
-    ensures { Asks command from result × (size ≡ 0 → Numbered command text.now from usage.now result) }
-{
-    if 0 < size {
-        return with_list(command, text, from, usage, size);
-    }
-    with_numbers(command, text, from, usage)
-}
-
-// The order of a line with this row of a table for its first word, and with further words from a place on; if something is wrong with the
-// line, that is said, and the order is none. The size is how many numbers an entry of the command's list has, 0 where it has no list.
-pub fn order_by(
+// The order of a line with this command for its first word, which is typed so, and with further words from a place on; if something is wrong
+// with the line, that is said, and there is no order. The size is how many numbers an entry of the command's list has, 0 where it has no list.
+pub fn order_by<C: Copy>(
     rt: &impl Print,
-    table: &[u8],
-    row: Row,
+    command: C,
+    usage: &[u8],
     size: usize,
     text: &[u8],
     from: usize,
     line: u64,
-) -> Order
-    ensures { Ordered row.number size text.now from (part_of table.now row.span) result }
+) -> Option<Order<C>>
+    ensures { IfSome result (λ order. Ordered command size text.now from usage.now order) }
 {
-    if row.number == NOTHING {
-        show_bad(rt, line, UNKNOWN_COMMAND, b"help lists them");
-        return order_to(NOTHING, from);
+    let ordered = if 0 < size {
+        with_list(command, text, from, usage, size)
+    } else {
+        with_numbers(command, text, from, usage)
+    };
+    match ordered {
+        Ok(order) => Some(order),
+        Err(wrong) => {
+            show_bad(rt, line, wrong, usage);
+            None
+        }
     }
-    let span = row.span;
-    let usage = part(table, span);
-    let order = with_words(row.number, text, from, usage, size);
-    if order.wrong == FINE {
-        return order;
-    }
-    show_bad(rt, line, order.wrong, usage);
-    order_to(NOTHING, from)
 }

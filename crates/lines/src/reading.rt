@@ -1,33 +1,27 @@
 // The input, read piece by piece into a buffer, and cut into lines.
 ghost use Rattle.std.specs.Prelude.{◌≡◌, set};
 
-use crate::text::{Span, byte_at, line_end};
+use crate::text::{Span, line_end};
+use std::io;
 use std::io::Read;
 
-// What a step finds.
+// What a step finds, with where it stands in the buffer.
 #[derive(Clone, Copy)]
 pub enum Found {
-    // Bytes were read, and no line has come to its end.
-    Nothing,
     // A line, without its newline.
-    Line,
+    Line(Span),
     // The buffer is full and has no newline: a part of a line that is too long.
-    Part,
+    Part(Span),
     // What stands after the last newline, at the end of the input.
-    Last,
-    // The input cannot be read.
-    Failed,
+    Last(Span),
 }
 
-// What was found, and where it stands in the buffer; then the line in hand: where it begins, up to where there is no newline in it,
-// and where what was read ends.
+// The line in hand: where in the buffer it begins, up to where there is no newline in it, and where what was read ends.
 #[derive(Clone, Copy)]
 pub struct Reader {
-    pub found: Found,
-    pub span: Span,
-    pub from: usize,
-    pub seen: usize,
-    pub held: usize,
+    from: usize,
+    seen: usize,
+    held: usize,
 }
 
 // Stores a byte; outside nothing changes.
@@ -39,65 +33,60 @@ pub fn put_byte(buffer: &mut [u8], at: usize, byte: u8)
     }
 }
 
-// Moves what stands between two places to the start, and tells how much it is.
-fn move_down(buffer: &mut [u8], from: usize, to: usize) -> usize {
-    if from == 0 {
-        return to;
-    }
-    let mut at = from;
-    let mut count: usize = 0;
-    while at < to {
-        put_byte(buffer, count, byte_at(buffer, at));
-        at += 1;
-        count += 1;
-    }
-    count
-}
-
-// What was found at the start of the buffer, where the line in hand begins.
-fn found_first(found: Found, len: usize, seen: usize, held: usize) -> Reader {
-    Reader {
-        found: found,
-        span: Span { from: 0, to: len },
-        from: 0,
-        seen: seen,
-        held: held,
-    }
-}
-
-// Reads once, into what is left of the buffer.
-fn read_more<I: Read>(input: &mut I, buffer: &mut [u8], held: usize) -> Reader {
-    if buffer.len() <= held {
-        return found_first(Found::Part, held, 0, 0);
-    }
-    match input.read(&mut buffer[held..]) {
-        Ok(0) => found_first(Found::Last, held, 0, 0),
-        Ok(more) => found_first(Found::Nothing, 0, held, held + more),
-        Err(_) => found_first(Found::Failed, 0, 0, 0),
-    }
-}
-
 impl Reader {
     pub fn new() -> Self {
-        found_first(Found::Nothing, 0, 0, 0)
+        Reader {
+            from: 0,
+            seen: 0,
+            held: 0,
+        }
     }
 
-    // The next line, if the buffer has one; else one read.
-    pub fn step<I: Read>(self, input: &mut I, buffer: &mut [u8]) -> Self {
+    // Moves the line in hand to the start of the buffer.
+    fn move_down(&mut self, buffer: &mut [u8]) {
+        let len = self.held.saturating_sub(self.from);
+        if 0 < self.from && 0 < len && self.held <= buffer.len() {
+            buffer.copy_within(self.from..self.held, 0);
+        }
+        self.from = 0;
+        self.seen = len;
+        self.held = len;
+    }
+
+    // Reads once, into what is left of the buffer.
+    fn read_more<I: Read>(
+        &mut self,
+        input: &mut I,
+        buffer: &mut [u8],
+    ) -> io::Result<Option<Found>> {
+        let held = self.held;
+        let whole = Span { from: 0, to: held };
+        *self = Reader::new();
+        if buffer.len() <= held {
+            return Ok(Some(Found::Part(whole)));
+        }
+        let more = input.read(&mut buffer[held..])?;
+        if more == 0 {
+            return Ok(Some(Found::Last(whole)));
+        }
+        self.seen = held;
+        self.held = held + more;
+        Ok(None)
+    }
+
+    // The next line, if the buffer has one; else one read, which may bring no line to its end.
+    pub fn step<I: Read>(&mut self, input: &mut I, buffer: &mut [u8]) -> io::Result<Option<Found>> {
         let end = line_end(buffer, self.seen, self.held);
         if end < self.held {
-            return Reader {
-                found: Found::Line,
-                span: Span {
-                    from: self.from,
-                    to: end,
-                },
-                from: end + 1,
-                seen: end + 1,
-                held: self.held,
+            let line = Span {
+                from: self.from,
+                to: end,
             };
+            self.from = end + 1;
+            self.seen = end + 1;
+            return Ok(Some(Found::Line(line)));
         }
-        let held = move_down(buffer, self.from, self.held);
-        read_more(input, buffer, held)
+        self.move_down(buffer);
+        self.read_more(input, buffer)
     }
 }

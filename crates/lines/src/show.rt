@@ -5,6 +5,7 @@ use std::fmt::Write;
 const WIDTH: usize = 160;
 
 // A line; bytes past its width are left out, and no line of the console comes near it.
+// Stays bytes with their number beside them: no library has a heap.
 #[derive(Clone, Copy)]
 pub struct Line {
     pub bytes: [u8; WIDTH],
@@ -16,21 +17,12 @@ pub fn write_bytes(rt: &impl Print, bytes: &[u8]) {
     let _ = rt.write_all(bytes);
 }
 
-// Writes the first bytes of a line.
-fn write_first(rt: &impl Print, bytes: &[u8], len: usize) {
-    if len <= bytes.len() {
-        write_bytes(rt, &bytes[0..len]);
-    }
-}
-
 impl Line {
-    fn byte(mut self, byte: u8) -> Self {
-        let len = self.len;
-        if len < WIDTH {
-            self.bytes[len] = byte;
-            self.len = len + 1;
+    fn push(&mut self, byte: u8) {
+        if let Some(place) = self.bytes.get_mut(self.len) {
+            *place = byte;
+            self.len += 1;
         }
-        self
     }
 
     pub fn of(text: &[u8]) -> Self {
@@ -41,39 +33,31 @@ impl Line {
         line.with(text)
     }
 
-    pub fn with(self, text: &[u8]) -> Self {
-        let mut line = self;
-        let mut at = 0;
-        while at < text.len() {
-            line = line.byte(text[at]);
-            at += 1;
+    pub fn with(mut self, text: &[u8]) -> Self {
+        for byte in text {
+            self.push(*byte);
         }
-        line
+        self
     }
 
     // A blank, and the number in decimal digits.
-    pub fn long(self, value: u64) -> Self {
-        let mut line = self.byte(b' ');
-        let _ = write!(line, "{value}");
-        line
-    }
-
-    pub fn number(self, value: u32) -> Self {
-        self.long(value as u64)
+    pub fn number(mut self, value: impl Into<u64>) -> Self {
+        let number: u64 = value.into();
+        let _ = write!(self, " {number}");
+        self
     }
 
     // Writes the line with its newline.
-    pub fn write(self, rt: &impl Print) {
-        let line = self.byte(b'\n');
-        let bytes = line.bytes;
-        write_first(rt, &bytes, line.len);
+    pub fn write(mut self, rt: &impl Print) {
+        self.push(b'\n');
+        write_bytes(rt, self.bytes.get(..self.len).unwrap_or(&[]));
     }
 }
 
 // Text goes behind what the line has.
 impl fmt::Write for Line {
     fn write_str(&mut self, text: &str) -> fmt::Result {
-        *self = (*self).with(text.as_bytes());
+        *self = self.with(text.as_bytes());
         Ok(())
     }
 }

@@ -1,58 +1,40 @@
 // Lines, words and numbers in a text. Blanks, tabs and newlines stand between words.
 ghost use Rattle.std.specs.Prelude.{◌≡◌, ◌-◌, leb, get_or};
-ghost use Rattle.lines.specs.Text.{is_blank, bytes_of, part_of, without_return, line_of, pass_over, next_word, LineEnd, same_bytes, number_said, number_or_zero};
+ghost use Rattle.lines.specs.Text.{is_blank, bytes_of, part_of, line_of, pass_over, next_word, LineEnd, same_bytes, no_value, value_or_none, number_said, number_or_zero};
 ghost use Rattle.lines.specs.TextSteps.{with_digit};
 
-// A part of a text: a word up to the blank after it, or a line up to its newline.
+// A part of a text: a word up to the blank after it, or a line up to its newline. Stays two places beside the text, no slice: the next word is sought from its end on.
 #[derive(Clone, Copy)]
 pub struct Span {
     pub from: usize,
     pub to: usize,
 }
 
-// What is no number has this value.
-pub const NO_VALUE: u64 = 4294967296;
-
 // The byte at a place; 0 outside.
 pub fn byte_at(text: &[u8], at: usize) -> u8
     ensures { result ≡ get_or text.now at 0 }
 {
-    if at < text.len() { text[at] } else { 0 }
+    text.get(at).copied().unwrap_or(0)
 }
 
 // A part of a text; an empty one where there is no such part.
 pub fn part(text: &[u8], span: Span) -> &[u8]
     ensures { result.now ≡ part_of text.now span }
 {
-    let from = span.from;
-    let to = span.to;
-    if from <= to {
-        if to <= text.len() {
-            return &text[from..to];
-        }
+    match text.get(span.from..span.to) {
+        Some(part) => part,
+        None => &[],
     }
-    &text[0..0]
-}
-
-// The length of a line without a carriage return at its end.
-fn without_return(text: &[u8]) -> usize
-    ensures { result ≡ without_return text.now }
-{
-    let len = text.len();
-    if 0 < len {
-        if text[len - 1] == b'\r' {
-            return len - 1;
-        }
-    }
-    len
 }
 
 // A line without a carriage return at its end.
 pub fn line_of(text: &[u8]) -> &[u8]
     ensures { result.now ≡ line_of text.now }
 {
-    let len = without_return(text);
-    &text[0..len]
+    match text {
+        [line @ .., b'\r'] => line,
+        _ => text,
+    }
 }
 
 // The same of a part of a text.
@@ -66,12 +48,10 @@ pub fn line_part(text: &[u8], span: Span) -> &[u8]
 pub fn line_end(text: &[u8], from: usize, to: usize) -> usize
     ensures { LineEnd text.now from to result }
 {
-    let mut at = from;
-    while at < to {
+    for at in from..to {
         if byte_at(text, at) == b'\n' {
             return at;
         }
-        at += 1;
     }
     to
 }
@@ -80,24 +60,19 @@ pub fn line_end(text: &[u8], from: usize, to: usize) -> usize
 fn is_blank(byte: u8) -> bool
     ensures { result ≡ is_blank byte }
 {
-    match byte {
-        b' ' | b'\t' | b'\n' => true,
-        _ => false,
-    }
+    matches!(byte, b' ' | b'\t' | b'\n')
 }
 
 // The end of the blanks from a place on, or of what is no blank.
 fn pass_over(text: &[u8], from: usize, blanks: bool) -> usize
     ensures { result ≡ pass_over text.now from blanks }
 {
-    let mut at = from;
-    while at < text.len() {
+    for at in from..text.len() {
         if is_blank(text[at]) != blanks {
             return at;
         }
-        at += 1;
     }
-    at
+    from.max(text.len())
 }
 
 // The next word from a place on; empty where no word is left.
@@ -121,10 +96,7 @@ impl Span {
     pub fn len(self) -> usize
         ensures { result ≡ self.to - self.from }
     {
-        if self.to <= self.from {
-            return 0;
-        }
-        self.to - self.from
+        self.to.saturating_sub(self.from)
     }
 }
 
@@ -132,21 +104,15 @@ impl Span {
 pub fn same_word(text: &[u8], word: Span, other: &[u8], name: Span) -> bool
     ensures { result ≡ same_bytes (bytes_of text.now word) (bytes_of other.now name) }
 {
-    let to = word.to;
-    let end = name.to;
-    let mut at = word.from;
-    let mut place = name.from;
-    while at < to {
-        if end <= place {
-            return false;
-        }
-        if byte_at(text, at) != byte_at(other, place) {
-            return false;
-        }
-        at += 1;
-        place += 1;
+    if word.len() != name.len() {
+        return false;
     }
-    end <= place
+    for k in 0..word.len() {
+        if byte_at(text, word.from + k) != byte_at(other, name.from + k) {
+            return false;
+        }
+    }
+    true
 }
 
 // Whether a word of a text is this one.
@@ -157,46 +123,29 @@ pub fn is_word(text: &[u8], word: Span, name: &[u8]) -> bool
 }
 
 // One digit more, as long as the number is at most 4,294,967,295.
-fn with_digit(value: u64, byte: u8) -> u64
-    ensures { result ≡ with_digit value byte }
+fn with_digit(value: u32, byte: u8) -> Option<u32>
+    ensures { value_or_none result ≡ with_digit value byte }
 {
-    if NO_VALUE <= value {
-        return NO_VALUE;
+    if !byte.is_ascii_digit() {
+        return None;
     }
-    if byte < b'0' {
-        return NO_VALUE;
-    }
-    if b'9' < byte {
-        return NO_VALUE;
-    }
-    let next = value * 10 + (byte - b'0') as u64;
-    if next < NO_VALUE {
-        return next;
-    }
-    NO_VALUE
+    value.checked_mul(10)?.checked_add((byte - b'0') as u32)
 }
 
 // The number that a word says in decimal digits.
-pub fn number_of(text: &[u8], word: Span) -> u64
-    ensures { result ≡ number_said (bytes_of text.now word) }
+pub fn number_of(text: &[u8], word: Span) -> Option<u32>
+    ensures { value_or_none result ≡ number_said (bytes_of text.now word) }
 {
-    let to = word.to;
-    let mut value: u64 = 0;
-    let mut at = word.from;
-    while at < to {
-        value = with_digit(value, byte_at(text, at));
-        at += 1;
+    let mut value: u32 = 0;
+    for at in word.from..word.to {
+        value = with_digit(value, byte_at(text, at))?;
     }
-    value
+    Some(value)
 }
 
 // The same; 0 where it says none.
 pub fn number_or_zero(text: &[u8], word: Span) -> u32
     ensures { result ≡ number_or_zero (bytes_of text.now word) }
 {
-    let value = number_of(text, word);
-    if NO_VALUE <= value {
-        return 0;
-    }
-    value as u32
+    number_of(text, word).unwrap_or(0)
 }

@@ -1,50 +1,45 @@
 // What can be wrong with a line, and how it is said.
 use crate::show::Line;
+use std::fmt;
+use std::fmt::Write;
 
-pub(crate) const FINE: u32 = 0;
+#[derive(Clone, Copy, PartialEq, Eq)]
+pub(crate) enum Wrong {
+    UnknownCommand,
+    WordCount,
+    NoNumber,
+    NoSide,
+    NoEndSide,
+    NoFlag,
+    NoRelease,
+    NoSlot,
+    NoTime,
+    LongName,
+    TooLong,
+}
 
-pub(crate) const UNKNOWN_COMMAND: u32 = 1;
-
-pub(crate) const WORD_COUNT: u32 = 2;
-
-pub(crate) const NO_NUMBER: u32 = 3;
-
-pub(crate) const NO_SIDE: u32 = 4;
-
-pub(crate) const NO_END_SIDE: u32 = 5;
-
-pub(crate) const NO_FLAG: u32 = 6;
-
-pub(crate) const NO_RELEASE: u32 = 7;
-
-pub(crate) const NO_SLOT: u32 = 8;
-
-pub(crate) const NO_TIME: u32 = 9;
-
-pub(crate) const LONG_NAME: u32 = 10;
-
-pub(crate) const TOO_LONG: u32 = 11;
-
-// What is wrong, in plain words.
-fn with_wrong(line: Line, wrong: u32) -> Line {
-    match wrong {
-        UNKNOWN_COMMAND => line.with(b"unknown command"),
-        WORD_COUNT => line.with(b"wrong number of words"),
-        NO_NUMBER => line.with(b"no number up to 4294967295"),
-        NO_SIDE => line.with(b"no side (0, 1 or 2)"),
-        NO_END_SIDE => line.with(b"no side of a port (0 or 1)"),
-        NO_FLAG => line.with(b"no flag (0 or 1)"),
-        NO_RELEASE => line.with(b"no release (1 or 2)"),
-        NO_SLOT => line.with(b"no node slot (0 to 1023)"),
-        NO_TIME => line.with(b"no time (0 to 65535 microseconds)"),
-        LONG_NAME => line.with(b"no name of at most 4000 bytes"),
-        TOO_LONG => line.with(b"too long"),
-        _ => line,
+// In plain words.
+impl fmt::Display for Wrong {
+    fn fmt<W: Write>(&self, f: &mut fmt::Formatter<W>) -> fmt::Result {
+        f.write_str(match self {
+            Wrong::UnknownCommand => "unknown command",
+            Wrong::WordCount => "wrong number of words",
+            Wrong::NoNumber => "no number up to 4294967295",
+            Wrong::NoSide => "no side (0, 1 or 2)",
+            Wrong::NoEndSide => "no side of a port (0 or 1)",
+            Wrong::NoFlag => "no flag (0 or 1)",
+            Wrong::NoRelease => "no release (1 or 2)",
+            Wrong::NoSlot => "no node slot (0 to 1023)",
+            Wrong::NoTime => "no time (0 to 65535 microseconds)",
+            Wrong::LongName => "no name of at most 4000 bytes",
+            Wrong::TooLong => "too long",
+        })
     }
 }
 
 // A line that is no command; after the reason stands what helps, as how the command is typed.
-pub(crate) fn show_bad(rt: &impl Print, line: u64, wrong: u32, help: &[u8]) {
-    let bad = Line::of(b"bad line").long(line).with(b"  # ");
-    with_wrong(bad, wrong).with(b": ").with(help).write(rt);
+pub(crate) fn show_bad(rt: &impl Print, line: u64, wrong: Wrong, help: &[u8]) {
+    let mut bad = Line::of(b"bad line").number(line);
+    let _ = write!(bad, "  # {wrong}: ");
+    bad.with(help).write(rt);
 }

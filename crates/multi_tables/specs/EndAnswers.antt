@@ -1,12 +1,10 @@
 -- 01's numbers and values of a refusal, and of an end that is answered without its place.
-use Rattle.std.specs.Prelude.{List, [], ◌∷◌, ℕ}
+use Rattle.std.specs.Prelude.{List, [], ◌∷◌, ℕ, Option, Some, None, Result, Ok, Err}
 use Rattle.port_tables.specs.Entries.{side_number}
 use Rattle.multi_tables.specs.declared.answers.Refusal.{Refusal}
 use Rattle.multi_tables.specs.declared.answers.Refusal.TheVariants.{BadOffset, TooManyPorts, UnknownNode, HiddenNode, MovesTooShort, UnknownPort, HiddenPort, UnknownOffset, NoRoom, UnknownSecondPort, IncompatibleDirections, AlreadyLinked, InputWired}
-use Rattle.multi_tables.specs.declared.answers.CutAnswer.{CutAnswer}
-use Rattle.multi_tables.specs.declared.answers.EndAnswer.{EndAnswer}
-use Rattle.multi_tables.specs.declared.answers.EndAnswer.TheVariants as end
-use Rattle.multi_tables.specs.declared.answers.CutAnswer.TheVariants as cutting
+use Rattle.multi_tables.specs.declared.answers.SubportIndex.{SubportIndex}
+use Rattle.multi_tables.specs.declared.answers.PortPlace.{PortPlace}
 
 abbrev pub refusal_numbers : Refusal → List ℕ
 refusal_numbers BadOffset = 2 ∷ []
@@ -24,12 +22,12 @@ refusal_numbers (AlreadyLinked p) = 13 ∷ p.0 ∷ []
 refusal_numbers InputWired = 18 ∷ []
 
 -- The answer without the place, as the calls over lent tables give it; nothing else is left out.
-abbrev pub unplaced : CutAnswer → EndAnswer
-unplaced (cutting.Found s x) = end.Found s
-unplaced cutting.Nothing = end.Nothing
-unplaced (cutting.Refused r) = end.Refused r
+abbrev pub unplaced : Result (Option (SubportIndex × PortPlace)) Refusal → Result (Option SubportIndex) Refusal
+unplaced (Ok (Some (s, x))) = Ok (Some s)
+unplaced (Ok None) = Ok None
+unplaced (Err r) = Err r
 
-abbrev pub unplaced_numbers : EndAnswer → List ℕ
-unplaced_numbers (end.Found s) = 0 ∷ 1 ∷ s.port.0 ∷ s.subport_offset ∷ []
-unplaced_numbers end.Nothing = 0 ∷ 0 ∷ 0 ∷ 0 ∷ []
-unplaced_numbers (end.Refused r) = refusal_numbers r
+abbrev pub unplaced_numbers : Result (Option SubportIndex) Refusal → List ℕ
+unplaced_numbers (Ok (Some s)) = 0 ∷ 1 ∷ s.port.0 ∷ s.subport_offset ∷ []
+unplaced_numbers (Ok None) = 0 ∷ 0 ∷ 0 ∷ 0 ∷ []
+unplaced_numbers (Err r) = refusal_numbers r

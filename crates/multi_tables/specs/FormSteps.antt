@@ -1,14 +1,18 @@
 -- Readings, marks and flags, step by step: what the functions' proofs cite.
-use Rattle.std.specs.Prelude.{◌≡◌, refl, true, false, Bool, cond, List, [], ◌∷◌, ℕ, ◌<◌, ◌≤◌, zero, suc, ◌+◌, ◌-◌, get_or, set, length, ltb}
+use Rattle.std.specs.Prelude.{◌≡◌, refl, true, false, Bool, cond, List, [], ◌∷◌, ℕ, ◌<◌, ◌≤◌, zero, suc, ◌+◌, ◌-◌, get_or, set, length, ltb, Some, None}
 use Rattle.std.proofs.Common.{ap, ◌∙◌, sym, arith, lt-ltb, le-ltb, ltb-false, eq-eqb, ne_eqb}
-use Rattle.multi_tables.specs.Forms.{Port, dead, hidden, visible, seen_as, End, inner, lacking, end_as, good_offset, flag_at, put_flag, lay_range, lowest_unlinked}
+use Rattle.multi_tables.specs.Forms.{Port, dead, hidden, visible, seen_as, End, inner, lacking, end_as, good_offset, flag_at, put_flag, lowest_unlinked}
 use Rattle.port_tables.specs.declared.direction.Direction.{Direction}
 use Rattle.multi_tables.specs.declared.seen.SeenPort.{SeenPort}
 use Rattle.port_tables.specs.declared.index.NodeIndex.{NodeIndex}
 use Rattle.port_tables.specs.Tables.{fill, at}
-use Rattle.port_tables.specs.TableSteps.{fill_more}
+use Rattle.port_tables.specs.TableSteps.{fill_none, fill_more}
+use Rattle.std.proofs.Math.ListN.{replicate, drop}
+use Rattle.std.proofs.Math.Seq.{paste, paste-zero, paste-suc}
+use Rattle.std.proofs.lemmas.List.{get_or-replicate, length-replicate, length-take, length-drop}
+use Rattle.std.proofs.lemmas.Slice.{put_mid-paste}
+use borrow.Rule.Slice.PartMut.{mid_of, put_mid}
 use Rattle.multi_tables.specs.declared.seen.SeenPort.TheVariants as seen_port
-use Rattle.multi_tables.specs.declared.seen.EndFound.TheVariants as end_found
 
 -- What a read port or end was.
 
@@ -38,11 +42,11 @@ was_visible hidden n d e = let z : ◌≡◌ {A = ℕ} 0 1 = cc in absurd (omega
 was_visible (visible k f) n d e =
     ap (λ x. visible x f) (ap node_of e) ∙ ap (visible n.0) (ap (λ x. side_of x d) e)
 
-pub was_at : (s : End) (x : ℕ) → end_as s ≡ end_found.At x → s ≡ inner x
+pub was_at : (s : End) (x : ℕ) → end_as s ≡ Some x → s ≡ inner x
 was_at (inner q) x e = let f : q ≡ x = cc in ap inner f
 was_at lacking x e = let z : ◌≡◌ {A = ℕ} 0 1 = cc in absurd (omega arith)
 
-pub was_lacking : (s : End) → end_as s ≡ end_found.Lacking → s ≡ lacking
+pub was_lacking : (s : End) → end_as s ≡ None → s ≡ lacking
 was_lacking (inner q) e = let z : ◌≡◌ {A = ℕ} 0 1 = cc in absurd (omega arith)
 was_lacking lacking e = refl
 
@@ -98,31 +102,22 @@ pub put_flag_is : (t : List Bool) (size i : ℕ) (b : Bool) → length t ≡ siz
 unfolding put_flag
 put_flag_is t size i b e = put_by t size i b (ltb i size) refl (λ h. set_past t i b (omega arith)) (λ h. ltb-false i size h)
 
--- One turn of the loops over marks.
+-- Marks of a part of the table.
 
-pub unmark_turn : (t : List Bool) (i k : ℕ) (v : Bool) → set (fill t i k v) (i + k) v ≡ fill t i (k + 1) v
-unmark_turn t i k v = let e : k + 1 ≡ suc k = omega arith in rw e (fill_more t i k v)
+filled : (t : List Bool) (i n k : ℕ) (v : Bool) → i + n ≤ length t → k ≤ n → paste t i (replicate n v) k ≡ fill t i k v
+filled t i n zero v fit h = sym (paste-zero t i (replicate n v)) ∙ fill_none t i v
+filled t i n (suc k) v fit h =
+    let long = length-replicate n v in
+    sym (paste-suc t i (replicate n v) k v (omega arith) (omega arith))
+    ∙ rw (get_or-replicate n k v v (omega arith), filled t i n k v fit (omega arith)) (fill_more t i k v)
 
-pub unmark_done : (t m : List Bool) (i k n : ℕ) (v : Bool) → n ≤ k → k ≤ n → m ≡ fill t i k v → m ≡ fill t i n v
-unmark_done t m i k n v h l e = let f : k ≡ n = omega arith in e ∙ rw f
-
-pub lay_turn : (m m' old : List Bool) (i j k n : ℕ) → k < n → m' ≡ set m (j + k) (get_or old (i + k) false)
-    → lay_range m' old (i + (k + 1)) (j + (k + 1)) (n - (k + 1)) ≡ lay_range m old (i + k) (j + k) (n - k)
-unfolding lay_range
-lay_turn m m' old i j k n h e =
-    let one : n - k ≡ suc (n - (k + 1)) = omega arith in
-    let a : i + (k + 1) ≡ suc (i + k) = omega arith in
-    let b : j + (k + 1) ≡ suc (j + k) = omega arith in
-    rw (e, one, a, b)
-
-pub lay_done : (m old : List Bool) (i j k n : ℕ) → n ≤ k → m ≡ lay_range m old i j (n - k)
-unfolding lay_range
-lay_done m old i j k n h = let e : n - k ≡ 0 = omega arith in rw e
+-- a part of the table that holds one mark alone
+pub part_filled : (t x : List Bool) (i k n : ℕ) (v : Bool) → k ≡ n → i + n ≤ length t → x ≡ replicate (length (mid_of i k t)) v → put_mid i k t x ≡ fill t i n v
+part_filled t x i k n v e fit f =
+    let long : length (mid_of i k t) ≡ n = omega (arith, length-take k (drop i t), length-drop i t) in
+    put_mid-paste i k t x (replicate n v) n (f ∙ ap (λ (m : ℕ). replicate m v) long) (sym e) (sym (length-replicate n v)) ∙ filled t i n n v fit (omega arith)
 
 -- The loop of lowest_unlinked.
-
-pub lowest_start : (t : List ℕ) (f n : ℕ) → lowest_unlinked t f 0 n ≡ lowest_unlinked t f 0 (n - 0)
-lowest_start t f n = ap (lowest_unlinked t f 0) (omega arith)
 
 left_one : (o n : ℕ) → o < n → n - o ≡ suc (n - (o + 1))
 left_one o n h = omega arith

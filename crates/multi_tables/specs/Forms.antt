@@ -1,21 +1,18 @@
 -- How a port number and an end are read, marks and flags in their tables, and how marks move with their ports.
-use Rattle.std.specs.Prelude.{Bool, false, cond, true, List, [], ◌∷◌, ℕ, ◌+◌, ◌-◌, min, zero, suc, ltb, eqb, get_or, set}
+use Rattle.std.specs.Prelude.{Bool, false, cond, true, List, [], ◌∷◌, ℕ, ◌+◌, ◌-◌, min, zero, suc, ltb, eqb, get_or, set, Option, Some, None, Result, Ok, Err}
 use Rattle.port_tables.specs.Tables.{fill, at}
 use Rattle.port_tables.specs.declared.node_entry.NodeMeta.{NodeMeta}
 use Rattle.port_tables.specs.Entries.{node#, port#}
 use Rattle.multi_tables.specs.declared.seen.SeenPort.{SeenPort}
-use Rattle.multi_tables.specs.declared.seen.EndFound.{EndFound}
-use Rattle.port_tables.specs.declared.index.MaybeNodeIndex.{MaybeNodeIndex}
 use Rattle.port_tables.specs.declared.direction.Direction.{Direction}
 use Rattle.multi_tables.specs.declared.answers.SubportIndex.{SubportIndex}
 use Rattle.port_tables.specs.declared.release.Release.{Release}
 use Rattle.multi_tables.specs.declared.answers.SubportLink.{SubportLink}
-use Rattle.multi_tables.specs.declared.answers.CutAnswer.{CutAnswer}
 use Rattle.multi_tables.specs.declared.seen.SeenPort.TheVariants as seen_port
-use Rattle.multi_tables.specs.declared.seen.EndFound.TheVariants as end_found
-use Rattle.port_tables.specs.declared.index.MaybeNodeIndex.TheVariants as maybe_node
 use Rattle.port_tables.specs.declared.release.Release.TheVariants as release
-use Rattle.multi_tables.specs.declared.answers.CutAnswer.TheVariants as cutting
+use Rattle.port_tables.specs.declared.index.NodeIndex.{NodeIndex}
+use Rattle.multi_tables.specs.declared.answers.Refusal.{Refusal}
+use Rattle.multi_tables.specs.declared.answers.PortPlace.{PortPlace}
 
 -- what a table of flags of this size has at a number; false outside
 unfoldable pub flag_at : List Bool → ℕ → ℕ → Bool
@@ -73,9 +70,9 @@ lay_marks marks a b =
     marks a.first_port.0 b.first_port.0 (min a.incoming b.incoming))
     marks (a.first_port.0 + a.incoming) (b.first_port.0 + b.incoming) (min a.outgoing b.outgoing)
 
-abbrev pub node_number : MaybeNodeIndex → ℕ
-node_number (maybe_node.Some n) = n.0
-node_number maybe_node.None = 0
+abbrev pub node_number : Option NodeIndex → ℕ
+node_number (Some n) = n.0
+node_number None = 0
 
 -- a port number: not live, of a hidden node, or of a block, with its node and side
 pub data Port : Type 0 where
@@ -93,9 +90,9 @@ pub data End : Type 0 where
   inner : ℕ → End
   lacking : End
 
-abbrev pub end_as : End → EndFound
-end_as (inner q) = end_found.At q
-end_as lacking = end_found.Lacking
+abbrev pub end_as : End → Option ℕ
+end_as (inner q) = Some q
+end_as lacking = None
 
 abbrev pub subport# : ℕ → ℕ → SubportIndex
 subport# p o = record { port = port# p; subport_offset = o }
@@ -113,7 +110,7 @@ unfoldable pub sum_of : (ℕ → ℕ) → List ℕ → ℕ
 sum_of f [] = 0
 sum_of f (x ∷ l) = f x + sum_of f l
 
-abbrev pub wire_to : SubportIndex → CutAnswer → List SubportLink
-wire_to s (cutting.Found t x) = record { from = s; to = t; place = x } ∷ []
-wire_to s cutting.Nothing = []
-wire_to s (cutting.Refused r) = []
+abbrev pub wire_to : SubportIndex → Result (Option (SubportIndex × PortPlace)) Refusal → List SubportLink
+wire_to s (Ok (Some (t, x))) = record { from = s; to = t; place = x } ∷ []
+wire_to s (Ok None) = []
+wire_to s (Err r) = []

@@ -1,8 +1,8 @@
--- Marks laid within their own table: what the loops do turn by turn, in which order two sides go, and that this lays the marks of a
--- node whose ports move.
+-- Marks laid within their own table: what a copy within it gives, in which order two sides go, and that this lays the marks of a node
+-- whose ports move.
 use Rattle.std.specs.Prelude.{◌≡◌, refl, Bool, ◌⊎◌, ℕ, ◌+◌, ◌≤◌, ◌<◌, zero, suc, min, ◌-◌, leb, set, length}
 use Rattle.std.proofs.Math.Path.{ap, sym}
-use Rattle.std.proofs.Common.{◌∙◌, ⊎_elim, ext_get_or, get_or-set_other}
+use Rattle.std.proofs.Common.{◌∙◌, ⊎_elim, ext_get_or}
 use Rattle.std.proofs.Math.Bool.{true, false}
 use Rattle.std.proofs.Math.Logic.{inl, inr}
 use mathlib.Core.List.{List}
@@ -16,7 +16,6 @@ use Rattle.multi_tables.specs.Forms.{lay_range, lay_kept, unmark_new, before_end
 use Rattle.port_tables.specs.declared.node_entry.NodeMeta.{NodeMeta}
 use Rattle.multi_tables.specs.MarkLaws.{get_d_lay_range_out, get_d_fill_in, get_d_fill_out, length_lay_range, get_d_lay_range_in, length_lay_marks, lay_kept_in, lay_kept_out, lay_new, lay_old, lay_else}
 use Rattle.port_tables.specs.TableSteps.{length_fill}
-use Rattle.multi_tables.specs.FormSteps.{lay_turn}
 
 -- a slot is among n from f on, or it is not
 pub within_cases : (f n s : ℕ) → Within f n s ⊎ (f ≤ s → s < f + n → ⊥)
@@ -35,32 +34,29 @@ after f n s p h = go (ltb s (f + n)) refl
     go true e = absurd (h p (ltb-true s (f + n) e))
     go false e = ltb-false s (f + n) e
 
--- Loops: what is left to lay comes from the table as it was, t, and there the present table, m, is still the same.
+-- Marks that are copied within their table.
 
--- two tables are the same from a slot on
-abbrev pub Above : List Bool → List Bool → ℕ → Type 0
-Above m t i = (s : ℕ) → i ≤ s → get_or m s false ≡ get_or t s false
+-- what a copy gives, read by slots, is what laying gives
+pub copied_within : (t m : List Bool) (i j n : ℕ) → j + n ≤ length t → length m ≡ length t
+    → ((s : ℕ) (d : Bool) → j ≤ s → s < j + n → get_or m s d ≡ get_or t (i + (s - j)) d)
+    → ((s : ℕ) (d : Bool) → s < j → get_or m s d ≡ get_or t s d) → ((s : ℕ) (d : Bool) → j + n ≤ s → get_or m s d ≡ get_or t s d)
+    → m ≡ lay_range t t i j n
+copied_within t m i j n fit long copied below above =
+    ext_get_or false m (lay_range t t i j n) (long ∙ sym (length_lay_range n t t i j)) (λ s l. ⊎_elim (inside s) (outside s) (within_cases j n s))
+  where
+    inside : (s : ℕ) → Within j n s → get_or m s false ≡ get_or (lay_range t t i j n) s false
+    inside s w =
+        let low = w.0 in
+        let high = w.1 in
+        let p : j + (s - j) ≡ s = omega arith in
+        copied s false low high ∙ sym (rw p at (get_d_lay_range_in n t t i j (s - j) (omega arith) (omega arith)))
 
--- two tables are the same below a slot
-abbrev pub Below : List Bool → List Bool → ℕ → Type 0
-Below m t i = (s : ℕ) → s < i → get_or m s false ≡ get_or t s false
-
--- the last mark laid first
-lay_last : (n : ℕ) (m t : List Bool) (i j : ℕ) → lay_range (set m (j + n) (get_or t (i + n) false)) t i j n ≡ lay_range m t i j (suc n)
-unfolding lay_range
-lay_last zero m t i j =
-    let a : j + 0 ≡ j = omega arith in
-    let b : i + 0 ≡ i = omega arith in
-    rw (a, b)
-lay_last (suc n) m t i j =
-    let a : j + suc n ≡ suc j + n = omega arith in
-    let b : i + suc n ≡ suc i + n = omega arith in
-    ap (λ (x : List Bool). lay_range x t (suc i) (suc j) n) (set_comm m (j + suc n) j (get_or t (i + suc n) false) (get_or t i false) (λ e. omega arith))
-    ∙ rw (a, b) (lay_last n (set m j (get_or t i false)) t (suc i) (suc j))
-
-pub down_done : (m t : List Bool) (i j k : ℕ) → k ≤ 0 → m ≡ lay_range m t i j k
-unfolding lay_range
-down_done m t i j k h = let e : k ≡ 0 = omega arith in rw e
+    outside : (s : ℕ) → (j ≤ s → s < j + n → ⊥) → get_or m s false ≡ get_or (lay_range t t i j n) s false
+    outside s h = go (ltb s j) refl
+      where
+        go : (b : Bool) → ltb s j ≡ b → get_or m s false ≡ get_or (lay_range t t i j n) s false
+        go true e = below s false (ltb-true s j e) ∙ sym (get_d_lay_range_out n t t i j s h)
+        go false e = above s false (after j n s (ltb-false s j e) h) ∙ sym (get_d_lay_range_out n t t i j s h)
 
 -- marks that stay where they are
 pub lay_same : (n : ℕ) (t : List Bool) (i : ℕ) → lay_range t t i i n ≡ t
@@ -268,23 +264,6 @@ module _ (t : List Bool) (a b : NodeMeta) where
 
   pub laid_in_place : {t₁ t₂ t₃ : List Bool} → t₁ ≡ lay_kept t t a b → t₂ ≡ unmark_new t₁ a b → t₃ ≡ unmark_old t₂ a b → t₃ ≡ lay_marks t a b
   laid_in_place e f g = rw (g, f, e) in_place
-
-module _ (m m' t : List Bool) (i j k n : ℕ) where
-  pub up_turn : j ≤ i → k < n → m' ≡ set m (j + k) (get_or m (i + k) false) → (lay_range m t (i + k) (j + k) (n - k) ≡ lay_range t t i j n) → Above m t (i + k)
-      → (k + 1 ≤ n) × (lay_range m' t (i + (k + 1)) (j + (k + 1)) (n - (k + 1)) ≡ lay_range t t i j n) × Above m' t (i + (k + 1))
-  up_turn low h e rest same =
-      let one = lay_turn m m' t i j k n h (e ∙ ap (set m (j + k)) (same (i + k) (omega arith))) ∙ rest in
-      let two : Above m' t (i + (k + 1)) = λ s l. ap (λ (x : List Bool). get_or x s false) e ∙ (get_or-set_other m (j + k) s (get_or m (i + k) false) false (λ q. omega arith) ∙ same s (omega arith)) in
-      (omega arith, one, two)
-
-  pub down_turn : i ≤ j → 0 < k → k ≤ n → m' ≡ set m (j + (k - 1)) (get_or m (i + (k - 1)) false) → (lay_range m t i j k ≡ lay_range t t i j n) → Below m t (i + k)
-      → (k - 1 ≤ n) × (lay_range m' t i j (k - 1) ≡ lay_range t t i j n) × Below m' t (i + (k - 1))
-  down_turn low h most e rest same =
-      let more : suc (k - 1) ≡ k = omega arith in
-      let laid = ap (λ (x : List Bool). lay_range x t i j (k - 1)) (e ∙ ap (set m (j + (k - 1))) (same (i + (k - 1)) (omega arith))) in
-      let one = laid ∙ (lay_last (k - 1) m t i j ∙ (ap (lay_range m t i j) more ∙ rest)) in
-      let two : Below m' t (i + (k - 1)) = λ s l. ap (λ (x : List Bool). get_or x s false) e ∙ (get_or-set_other m (j + (k - 1)) s (get_or m (i + (k - 1)) false) false (λ q. omega arith) ∙ same s (omega arith)) in
-      (omega arith, one, two)
 
 -- What the steps of the code give.
 

@@ -1,32 +1,29 @@
 -- Ends that calls name, step by step: what the functions' proofs cite.
-use Rattle.std.specs.Prelude.{◌≡◌, List, Bool, ◌⊎◌, ℕ, ◌+◌, ◌-◌, ◌≤◌, ◌<◌, leb}
+use Rattle.std.specs.Prelude.{◌≡◌, List, Bool, ◌⊎◌, ℕ, ◌+◌, ◌-◌, ◌≤◌, ◌<◌, leb, Result, Ok, Err}
 use Rattle.std.proofs.Common.{sym, ◌∙◌, inl, inr, arith}
 use Rattle.std.proofs.Math.Path.{ap, refl}
 use Rattle.std.proofs.Math.Bool.{true, false, cond}
 use borrow.Author.Tests.{eq-eqb, ne_eqb, le-leb, lt-leb, leb-true, leb-false, lt-ltb, le-ltb}
-use Rattle.port_tables.specs.Entries.{port_entry, node_of, same_side, port#}
+use Rattle.port_tables.specs.Entries.{port_entry, node_of, node#, same_side, port#}
 use Rattle.port_tables.specs.Tables.{at}
 use Rattle.port_tables.specs.declared.port_entry.PortMeta.{PortMeta}
 use Rattle.port_tables.specs.declared.port_entry.PortEntry.{PortEntry}
 use Rattle.multi_tables.specs.Forms.{node_number, Port, subport#, flag_at, dead, hidden, visible, End, inner, good_offset, lowest_unlinked}
 use Rattle.multi_tables.specs.TableReads.{owner_in, seen_in, end_in, subports_in, first_in}
 use Rattle.port_tables.specs.Limits.{port_slots}
-use Rattle.multi_tables.specs.NamedEnds.{read_in, free_ends, pair_of, seen_pair, subport_pair, end_or, end_seen, end_named, second_or, second_seen, second_end, first_or, first_end, both_seen, link_named, first_need, both_need, link_seen, link_need, pair_named, pair_seen, reuse_at, reuse_in, end_need_in, second_ready, both_ready, first_ready}
+use Rattle.multi_tables.specs.NamedEnds.{block_or, block_port, read_in, free_ends, pair_of, seen_pair, subport_pair, end_or, end_seen, end_named, second_or, second_seen, second_end, first_or, first_end, both_seen, link_named, first_need, both_need, link_seen, link_need, pair_named, pair_seen, reuse_at, reuse_in, end_need_in, second_ready, both_ready, first_ready}
 use Rattle.port_tables.specs.declared.direction.Direction.{Direction}
-use Rattle.multi_tables.specs.declared.answers.Refusal.TheVariants.{IncompatibleDirections, AlreadyLinked, BadOffset, UnknownSecondPort}
+use Rattle.port_tables.specs.declared.index.NodeIndex.{NodeIndex}
+use Rattle.multi_tables.specs.declared.answers.Refusal.TheVariants.{UnknownPort, HiddenPort, IncompatibleDirections, AlreadyLinked, BadOffset, UnknownSecondPort}
 use Rattle.multi_tables.specs.FormSteps.{bad_offset}
-use Rattle.multi_tables.specs.declared.named.NamedLink.{NamedLink}
 use Rattle.multi_tables.specs.declared.named.SeenPair.{SeenPair}
 use Rattle.multi_tables.specs.declared.named.LinkNeed.{LinkNeed}
-use Rattle.multi_tables.specs.declared.named.NamedPair.{NamedPair}
 use Rattle.multi_tables.specs.declared.named.EndNeed.{EndNeed}
 use Rattle.port_tables.specs.declared.port_entry.PortEntry.TheVariants as port_variants
-use Rattle.multi_tables.specs.declared.named.NamedLink.TheVariants as ends
 use Rattle.multi_tables.specs.declared.named.SeenPair.TheVariants as both
-use Rattle.multi_tables.specs.declared.named.NamedEnd.TheVariants as end
 use Rattle.multi_tables.specs.declared.named.LinkNeed.TheVariants as needs
-use Rattle.multi_tables.specs.declared.named.NamedPair.TheVariants as pair
 use Rattle.multi_tables.specs.declared.named.EndNeed.TheVariants as need
+use Rattle.multi_tables.specs.declared.answers.Refusal.{Refusal}
 
 -- The count of links.
 
@@ -40,6 +37,32 @@ module _ (owners : List ℕ) (p w a : ℕ) (e : w ≡ p) (f : a ≡ at owners w)
   unfolding owner_in
   owner_some k g = ap (λ (x : PortEntry). node_number (node_of x)) (sym g ∙ ap port_entry (f ∙ ap (at owners) e))
 
+-- The block that has a port. What is refused is refused alike by all that refuse 7 and 8.
+refused_as : (p : ℕ) {A : Type 0} (f : Port → Result A Refusal) (s : Port) (r : Refusal) → f dead ≡ Err (UnknownPort (port# p)) → f hidden ≡ Err (HiddenPort (port# p))
+    → block_or p s ≡ Err r → Err r ≡ f s
+refused_as p f dead r g h e = let k : UnknownPort (port# p) ≡ r = cc in ap Err (sym k) ∙ sym g
+refused_as p f hidden r g h e = let k : HiddenPort (port# p) ≡ r = cc in ap Err (sym k) ∙ sym h
+refused_as p f (visible n d) r g h e = let z : ◌≡◌ {A = ℕ} 0 1 = cc in absurd (omega arith)
+
+found_as : (p : ℕ) (s : Port) (n : NodeIndex) (d : Direction) → block_or p s ≡ Ok (n, d) → s ≡ visible n.0 d
+found_as p dead n d e = let z : ◌≡◌ {A = ℕ} 0 1 = cc in absurd (omega arith)
+found_as p hidden n d e = let z : ◌≡◌ {A = ℕ} 0 1 = cc in absurd (omega arith)
+found_as p (visible k f) n d e = let g : ◌≡◌ {A = NodeIndex × Direction} (node# k, f) (n, d) = cc in ap (λ (x : NodeIndex × Direction). visible x.0.0 x.1) g
+
+module _ (owners : List ℕ) (flags : List Bool) (p : ℕ) where
+  pub block_seen : (s : Port) → seen_in owners flags p ≡ s → block_or p s ≡ block_port owners flags p
+  unfolding block_port
+  block_seen s e = ap (block_or p) (sym e)
+
+  pub block_refused : {A : Type 0} (f : Port → Result A Refusal) (r : Refusal) → f dead ≡ Err (UnknownPort (port# p)) → f hidden ≡ Err (HiddenPort (port# p))
+      → block_port owners flags p ≡ Err r → Err r ≡ f (seen_in owners flags p)
+  unfolding block_port
+  block_refused f r g h e = refused_as p f (seen_in owners flags p) r g h e
+
+  pub block_found : (n : NodeIndex) (d : Direction) → block_port owners flags p ≡ Ok (n, d) → seen_in owners flags p ≡ visible n.0 d
+  unfolding block_port
+  block_found n d e = found_as p (seen_in owners flags p) n d e
+
 -- An end as read.
 module _ (marks : List Bool) (p o w : ℕ) (e : w ≡ p) (b : Bool) (f : b ≡ flag_at marks port_slots w) where
   pub read_split : b ≡ true → subport# p o ≡ read_in marks p o
@@ -52,7 +75,7 @@ module _ (marks : List Bool) (p o w : ℕ) (e : w ≡ p) (b : Bool) (f : b ≡ f
 
 -- Two ends that are there.
 module _ (links : List ℕ) (x : ℕ) (d : Direction) (y : ℕ) (e : Direction) (c : Bool) (f : c ≡ same_side d e) where
-  pub same_sides : c ≡ true → ends.Refused (IncompatibleDirections (port# x) (port# y) d) ≡ free_ends links x d y e
+  pub same_sides : c ≡ true → Err (IncompatibleDirections (port# x) (port# y) d) ≡ free_ends links x d y e
   unfolding free_ends
   same_sides g = rw (sym f ∙ g)
 
@@ -60,7 +83,7 @@ module _ (links : List ℕ) (x : ℕ) (d : Direction) (y : ℕ) (e : Direction) 
     first_is : at links x ≡ a
     first_is = ap (at links) (sym h) ∙ sym i
 
-    pub first_taken : (a ≡ 0 → ⊥) → ends.Refused (AlreadyLinked (port# x)) ≡ free_ends links x d y e
+    pub first_taken : (a ≡ 0 → ⊥) → Err (AlreadyLinked (port# x)) ≡ free_ends links x d y e
     unfolding free_ends
     first_taken z = rw (sym f ∙ g, ne_eqb (at links x) 0 (λ k. z (sym first_is ∙ k)))
 
@@ -68,17 +91,17 @@ module _ (links : List ℕ) (x : ℕ) (d : Direction) (y : ℕ) (e : Direction) 
       second_is : at links y ≡ b
       second_is = ap (at links) (sym j) ∙ sym k
 
-      pub second_taken : (b ≡ 0 → ⊥) → ends.Refused (AlreadyLinked (port# y)) ≡ free_ends links x d y e
+      pub second_taken : (b ≡ 0 → ⊥) → Err (AlreadyLinked (port# y)) ≡ free_ends links x d y e
       unfolding free_ends
       second_taken n = rw (sym f ∙ g, eq-eqb (at links x) 0 (first_is ∙ z), ne_eqb (at links y) 0 (λ l. n (sym second_is ∙ l)))
 
-      pub both_free : b ≡ 0 → ends.Ends x y ≡ free_ends links x d y e
+      pub both_free : b ≡ 0 → Ok (x, y) ≡ free_ends links x d y e
       unfolding free_ends
       both_free n = rw (sym f ∙ g, eq-eqb (at links x) 0 (first_is ∙ z), eq-eqb (at links y) 0 (second_is ∙ n))
 
 -- A subport that is named, and two.
 module _ (marks : List Bool) (links owners : List ℕ) (flags : List Bool) where
-  pub named_bad : (p o : ℕ) → o ≡ 65535 → end.Refused BadOffset ≡ end_named marks links owners flags p o
+  pub named_bad : (p o : ℕ) → o ≡ 65535 → Err BadOffset ≡ end_named marks links owners flags p o
   unfolding end_named
   named_bad p o e = rw (bad_offset o e)
 
@@ -98,7 +121,7 @@ module _ (marks : List Bool) (links owners : List ℕ) (flags : List Bool) where
       → second_or marks links owners flags x d q e v ≡ second_end marks links owners flags q r x d
   second_end_lem q r x d n e v f g = ap (second_or marks links owners flags x d q e) (sym g) ∙ second_seen_lem q r x d (visible n e) f
 
-  pub second_free : (q r x : ℕ) (d : Direction) (n : ℕ) (e : Direction) (y : ℕ) (l : NamedLink) → seen_in owners flags q ≡ visible n e → end_in marks links owners q e r ≡ inner y
+  pub second_free : (q r x : ℕ) (d : Direction) (n : ℕ) (e : Direction) (y : ℕ) (l : Result (ℕ × ℕ) Refusal) → seen_in owners flags q ≡ visible n e → end_in marks links owners q e r ≡ inner y
       → l ≡ free_ends links x d y e → l ≡ second_end marks links owners flags q r x d
   second_free q r x d n e y l f g h = h ∙ second_end_lem q r x d n e (inner y) f g
 
@@ -106,22 +129,22 @@ module _ (marks : List Bool) (links owners : List ℕ) (flags : List Bool) where
   unfolding first_end
   first_lacking p o q r d v e = rw e
 
-  pub first_found : (p o q r : ℕ) (d : Direction) (x : ℕ) (l : NamedLink) → end_in marks links owners p d o ≡ inner x → l ≡ second_end marks links owners flags q r x d
+  pub first_found : (p o q r : ℕ) (d : Direction) (x : ℕ) (l : Result (ℕ × ℕ) Refusal) → end_in marks links owners p d o ≡ inner x → l ≡ second_end marks links owners flags q r x d
       → l ≡ first_end marks links owners flags p o q r d
   first_found p o q r d x l e f = f ∙ first_lacking p o q r d (inner x) e
 
   -- by how the two ports are seen
-  abbrev pub link_as_seen : ℕ → ℕ → ℕ → ℕ → SeenPair → NamedLink
-  link_as_seen p o q r (both.Refused x) = ends.Refused x
-  link_as_seen p o q r (both.First d) = first_end marks links owners flags p o q r d
-  link_as_seen p o q r (both.Both d e) = first_end marks links owners flags p o q r d
+  abbrev pub link_as_seen : ℕ → ℕ → ℕ → ℕ → Result SeenPair Refusal → Result (ℕ × ℕ) Refusal
+  link_as_seen p o q r (Err x) = Err x
+  link_as_seen p o q r (Ok (both.First d)) = first_end marks links owners flags p o q r d
+  link_as_seen p o q r (Ok (both.Both d e)) = first_end marks links owners flags p o q r d
 
-  pub link_seen_lem : (p o q r : ℕ) (v : SeenPair) {u : SeenPair} → u ≡ subport_pair owners flags p o q r → u ≡ v → {l : NamedLink} → l ≡ link_as_seen p o q r v → l ≡ link_named marks links owners flags p o q r
+  pub link_seen_lem : (p o q r : ℕ) (v : Result SeenPair Refusal) {u : Result SeenPair Refusal} → u ≡ subport_pair owners flags p o q r → u ≡ v → {l : Result (ℕ × ℕ) Refusal} → l ≡ link_as_seen p o q r v → l ≡ link_named marks links owners flags p o q r
   unfolding link_named subport_pair seen_pair
   link_seen_lem p o q r v e f h = h ∙ (ap (link_as_seen p o q r) (sym f ∙ e) ∙ go (good_offset o) (good_offset r) (seen_in owners flags p) (seen_in owners flags q))
     where
-      go : (a b : Bool) (s t : Port) → link_as_seen p o q r (cond a (cond b (pair_of p q s t) (both.Refused BadOffset)) (both.Refused BadOffset))
-          ≡ cond a (cond b (both_seen marks links owners flags p o q r s t) (ends.Refused BadOffset)) (ends.Refused BadOffset)
+      go : (a b : Bool) (s t : Port) → link_as_seen p o q r (cond a (cond b (pair_of p q s t) (Err BadOffset)) (Err BadOffset))
+          ≡ cond a (cond b (both_seen marks links owners flags p o q r s t) (Err BadOffset)) (Err BadOffset)
       go false b s t = refl
       go true false s t = refl
       go true true dead t = refl
@@ -131,12 +154,12 @@ module _ (marks : List Bool) (links owners : List ℕ) (flags : List Bool) where
       go true true (visible n d) (visible k e) = refl
 
   -- What a link needs.
-  abbrev pub need_as_seen : ℕ → ℕ → SeenPair → LinkNeed
-  need_as_seen a b (both.Refused x) = needs.Refused x
-  need_as_seen a b (both.First d) = first_need marks links owners a d b
-  need_as_seen a b (both.Both d e) = both_need marks links owners a d b e
+  abbrev pub need_as_seen : ℕ → ℕ → Result SeenPair Refusal → Result LinkNeed Refusal
+  need_as_seen a b (Err x) = Err x
+  need_as_seen a b (Ok (both.First d)) = first_need marks links owners a d b
+  need_as_seen a b (Ok (both.Both d e)) = both_need marks links owners a d b e
 
-  pub call_seen : (a b : ℕ) (v : SeenPair) {u : SeenPair} → u ≡ seen_pair owners flags a b → u ≡ v → {l : LinkNeed} → l ≡ need_as_seen a b v → l ≡ link_need marks links owners flags a b
+  pub call_seen : (a b : ℕ) (v : Result SeenPair Refusal) {u : Result SeenPair Refusal} → u ≡ seen_pair owners flags a b → u ≡ v → {l : Result LinkNeed Refusal} → l ≡ need_as_seen a b v → l ≡ link_need marks links owners flags a b
   unfolding link_need seen_pair
   call_seen a b v e f h = h ∙ (ap (need_as_seen a b) (sym f ∙ e) ∙ go (seen_in owners flags a) (seen_in owners flags b))
     where
@@ -153,12 +176,12 @@ module _ (owners : List ℕ) (flags : List Bool) (a b : ℕ) where
   unfolding seen_pair
   both_seen_lem s t e f = rw (e, f)
 
-  abbrev pub pair_as_seen : SeenPair → NamedPair
-  pair_as_seen (both.Refused x) = pair.Refused x
-  pair_as_seen (both.First d) = pair.Refused (UnknownSecondPort (port# b))
-  pair_as_seen (both.Both d e) = cond (same_side d e) (pair.Refused (IncompatibleDirections (port# a) (port# b) d)) pair.Opposite
+  abbrev pub pair_as_seen : Result SeenPair Refusal → Result (Unit {0}) Refusal
+  pair_as_seen (Err x) = Err x
+  pair_as_seen (Ok (both.First d)) = Err (UnknownSecondPort (port# b))
+  pair_as_seen (Ok (both.Both d e)) = cond (same_side d e) (Err (IncompatibleDirections (port# a) (port# b) d)) (Ok tt)
 
-  pub pair_seen_lem : (v : SeenPair) {u : SeenPair} → u ≡ seen_pair owners flags a b → u ≡ v → {l : NamedPair} → l ≡ pair_as_seen v → l ≡ pair_named owners flags a b
+  pub pair_seen_lem : (v : Result SeenPair Refusal) {u : Result SeenPair Refusal} → u ≡ seen_pair owners flags a b → u ≡ v → {l : Result (Unit {0}) Refusal} → l ≡ pair_as_seen v → l ≡ pair_named owners flags a b
   unfolding pair_named seen_pair
   pair_seen_lem v e f h = h ∙ (ap pair_as_seen (sym f ∙ e) ∙ go (seen_in owners flags a) (seen_in owners flags b))
     where
@@ -169,22 +192,22 @@ module _ (owners : List ℕ) (flags : List Bool) (a b : ℕ) where
       go (visible n d) dead = refl
       go (visible n d) (visible k e) = refl
 
-  pub pair_sides : (d e : Direction) {c v : Bool} {u : SeenPair} → u ≡ seen_pair owners flags a b → u ≡ both.Both d e → c ≡ same_side d e → c ≡ v →
-      cond v (pair.Refused (IncompatibleDirections (port# a) (port# b) d)) pair.Opposite ≡ pair_named owners flags a b
-  pair_sides d e f g h i = pair_seen_lem (both.Both d e) f g (ap (λ (u : Bool). cond u (pair.Refused (IncompatibleDirections (port# a) (port# b) d)) pair.Opposite) (sym i ∙ h))
+  pub pair_sides : (d e : Direction) {c v : Bool} {u : Result SeenPair Refusal} → u ≡ seen_pair owners flags a b → u ≡ Ok (both.Both d e) → c ≡ same_side d e → c ≡ v →
+      cond v (Err (IncompatibleDirections (port# a) (port# b) d)) (Ok tt) ≡ pair_named owners flags a b
+  pair_sides d e f g h i = pair_seen_lem (Ok (both.Both d e)) f g (ap (λ (u : Bool). cond u (Err (IncompatibleDirections (port# a) (port# b) d)) (Ok tt)) (sym i ∙ h))
 
 -- And the ports of two subports.
 module _ (owners : List ℕ) (flags : List Bool) (p o q r : ℕ) where
-  pub both_bad : o ≡ 65535 → both.Refused BadOffset ≡ subport_pair owners flags p o q r
+  pub both_bad : o ≡ 65535 → Err BadOffset ≡ subport_pair owners flags p o q r
   unfolding subport_pair
   both_bad e = rw (bad_offset o e)
 
   module _ (g : good_offset o ≡ true) where
-    pub both_bad_second : r ≡ 65535 → both.Refused BadOffset ≡ subport_pair owners flags p o q r
+    pub both_bad_second : r ≡ 65535 → Err BadOffset ≡ subport_pair owners flags p o q r
     unfolding subport_pair
     both_bad_second e = rw (g, bad_offset r e)
 
-    pub both_good : good_offset r ≡ true → {l : SeenPair} → l ≡ seen_pair owners flags p q → l ≡ subport_pair owners flags p o q r
+    pub both_good : good_offset r ≡ true → {l : Result SeenPair Refusal} → l ≡ seen_pair owners flags p q → l ≡ subport_pair owners flags p o q r
     unfolding subport_pair
     both_good h e = e ∙ rw (g, h)
 
@@ -247,14 +270,14 @@ module _ (marks : List Bool) (links owners : List ℕ) where
 
   module _ (a : ℕ) (d : Direction) (b : ℕ) (e : Direction) {r : EndNeed} (f : r ≡ end_need_in marks links owners a d) where
     -- an end that is not ready
-    unready : (tag : EndNeed → ℕ) → ((x o : ℕ) → tag (need.Ready x o) ≡ 0) → (v : EndNeed) → (tag v ≡ 1) ⊎ (tag v ≡ 2) → (P : EndNeed → LinkNeed)
-        → P need.Grow ≡ needs.Both d e → P need.Split ≡ needs.Both d e → needs.Both d e ≡ P v
+    unready : (tag : EndNeed → ℕ) → ((x o : ℕ) → tag (need.Ready x o) ≡ 0) → (v : EndNeed) → (tag v ≡ 1) ⊎ (tag v ≡ 2) → (P : EndNeed → Result LinkNeed Refusal)
+        → P need.Grow ≡ Ok (needs.Both d e) → P need.Split ≡ Ok (needs.Both d e) → Ok (needs.Both d e) ≡ P v
     unready tag zeroth (need.Ready x o) (inl t) P g h = let k = zeroth x o in absurd (omega arith)
     unready tag zeroth (need.Ready x o) (inr t) P g h = let k = zeroth x o in absurd (omega arith)
     unready tag zeroth need.Grow t P g h = sym g
     unready tag zeroth need.Split t P g h = sym h
 
-    pub first_unready : (tag : EndNeed → ℕ) → ((x o : ℕ) → tag (need.Ready x o) ≡ 0) → (tag r ≡ 1) ⊎ (tag r ≡ 2) → needs.Both d e ≡ both_need marks links owners a d b e
+    pub first_unready : (tag : EndNeed → ℕ) → ((x o : ℕ) → tag (need.Ready x o) ≡ 0) → (tag r ≡ 1) ⊎ (tag r ≡ 2) → Ok (needs.Both d e) ≡ both_need marks links owners a d b e
     unfolding both_need
     first_unready tag zeroth t =
         unready tag zeroth r t (λ (v : EndNeed). both_ready d e v (end_need_in marks links owners b e)) refl refl
@@ -267,14 +290,14 @@ module _ (marks : List Bool) (links owners : List ℕ) where
           ap (second_ready d e x o) (sym i ∙ h)
           ∙ ap (λ (u : EndNeed). both_ready d e u (end_need_in marks links owners b e)) (sym g ∙ f)
 
-      pub second_unready : (tag : EndNeed → ℕ) → ((x o : ℕ) → tag (need.Ready x o) ≡ 0) → (tag s ≡ 1) ⊎ (tag s ≡ 2) → needs.Both d e ≡ both_need marks links owners a d b e
+      pub second_unready : (tag : EndNeed → ℕ) → ((x o : ℕ) → tag (need.Ready x o) ≡ 0) → (tag s ≡ 1) ⊎ (tag s ≡ 2) → Ok (needs.Both d e) ≡ both_need marks links owners a d b e
       second_unready tag zeroth t = unready tag zeroth s t (second_ready d e x o) refl refl ∙ by_second s refl
 
       module _ (y r₂ : ℕ) (i : s ≡ need.Ready y r₂) {c : Bool} (j : c ≡ same_side d e) where
-        pub one_side : c ≡ true → needs.Refused (IncompatibleDirections (port# x) (port# y) d) ≡ both_need marks links owners a d b e
+        pub one_side : c ≡ true → Err (IncompatibleDirections (port# x) (port# y) d) ≡ both_need marks links owners a d b e
         one_side k =
-            ap (λ (u : Bool). cond u (needs.Refused (IncompatibleDirections (port# x) (port# y) d)) (needs.Ends x o y r₂)) (sym k ∙ j) ∙ by_second (need.Ready y r₂) i
+            ap (λ (u : Bool). cond u (Err (IncompatibleDirections (port# x) (port# y) d)) (Ok (needs.Ends x o y r₂))) (sym k ∙ j) ∙ by_second (need.Ready y r₂) i
 
-        pub both_ready_lem : c ≡ false → needs.Ends x o y r₂ ≡ both_need marks links owners a d b e
+        pub both_ready_lem : c ≡ false → Ok (needs.Ends x o y r₂) ≡ both_need marks links owners a d b e
         both_ready_lem k =
-            ap (λ (u : Bool). cond u (needs.Refused (IncompatibleDirections (port# x) (port# y) d)) (needs.Ends x o y r₂)) (sym k ∙ j) ∙ by_second (need.Ready y r₂) i
+            ap (λ (u : Bool). cond u (Err (IncompatibleDirections (port# x) (port# y) d)) (Ok (needs.Ends x o y r₂))) (sym k ∙ j) ∙ by_second (need.Ready y r₂) i

@@ -1,24 +1,19 @@
 -- What a call names, read off the tables: the inner ports of its ends or the refusal, and what an end needs before it can take a link.
-use Rattle.std.specs.Prelude.{cond, Bool, List, ℕ, ◌+◌, eqb, ltb, leb}
-use Rattle.port_tables.specs.Entries.{port#, same_side}
+use Rattle.std.specs.Prelude.{cond, Bool, List, ℕ, ◌+◌, eqb, ltb, leb, Result, Ok, Err}
+use Rattle.port_tables.specs.Entries.{node#, port#, same_side}
 use Rattle.multi_tables.specs.Forms.{Port, dead, hidden, visible, End, inner, lacking, good_offset, subport#, flag_at, lowest_unlinked}
 use Rattle.multi_tables.specs.declared.answers.Refusal.{Refusal}
 use Rattle.multi_tables.specs.declared.answers.Refusal.TheVariants.{UnknownPort, HiddenPort, InputWired, UnknownSecondPort, IncompatibleDirections, UnknownOffset, BadOffset, AlreadyLinked}
-use Rattle.multi_tables.specs.declared.named.NamedPair.{NamedPair}
 use Rattle.port_tables.specs.declared.direction.Direction.{Direction}
+use Rattle.port_tables.specs.declared.index.NodeIndex.{NodeIndex}
 use Rattle.multi_tables.specs.declared.named.SeenPair.{SeenPair}
 use Rattle.multi_tables.specs.TableReads.{seen_in, end_in, subports_in, first_in}
 use Rattle.port_tables.specs.Tables.{at}
-use Rattle.multi_tables.specs.declared.named.NamedLink.{NamedLink}
-use Rattle.multi_tables.specs.declared.named.NamedEnd.{NamedEnd}
 use Rattle.port_tables.specs.Limits.{port_slots}
 use Rattle.multi_tables.specs.declared.answers.SubportIndex.{SubportIndex}
 use Rattle.multi_tables.specs.declared.named.EndNeed.{EndNeed}
 use Rattle.multi_tables.specs.declared.named.LinkNeed.{LinkNeed}
-use Rattle.multi_tables.specs.declared.named.NamedPair.TheVariants as pair
 use Rattle.multi_tables.specs.declared.named.SeenPair.TheVariants as both
-use Rattle.multi_tables.specs.declared.named.NamedLink.TheVariants as ends
-use Rattle.multi_tables.specs.declared.named.NamedEnd.TheVariants as end
 use Rattle.multi_tables.specs.declared.named.EndNeed.TheVariants as need
 use Rattle.multi_tables.specs.declared.named.LinkNeed.TheVariants as needs
 
@@ -33,12 +28,12 @@ taken_seen a b (visible n d) dead = InputWired
 taken_seen a b (visible n d) (visible k e) = InputWired
 
 -- and leaving no stub: 7, 8, 11, 12, else the link of ports, of which only 10 is left
-abbrev pub pair_seen : ℕ → ℕ → Port → Port → NamedPair
-pair_seen a b dead second = pair.Refused (UnknownPort (port# a))
-pair_seen a b hidden second = pair.Refused (HiddenPort (port# a))
-pair_seen a b (visible n d) hidden = pair.Refused (HiddenPort (port# b))
-pair_seen a b (visible n d) dead = pair.Refused (UnknownSecondPort (port# b))
-pair_seen a b (visible n d) (visible k e) = cond (same_side d e) (pair.Refused (IncompatibleDirections (port# a) (port# b) d)) pair.Opposite
+abbrev pub pair_seen : ℕ → ℕ → Port → Port → Result (Unit {0}) Refusal
+pair_seen a b dead second = Err (UnknownPort (port# a))
+pair_seen a b hidden second = Err (HiddenPort (port# a))
+pair_seen a b (visible n d) hidden = Err (HiddenPort (port# b))
+pair_seen a b (visible n d) dead = Err (UnknownSecondPort (port# b))
+pair_seen a b (visible n d) (visible k e) = cond (same_side d e) (Err (IncompatibleDirections (port# a) (port# b) d)) (Ok tt)
 
 -- Linking subports; where an input named has a wire, under release 2, 2, 7, 8, 9, else 18.
 
@@ -58,78 +53,87 @@ taken_ends p first q second (visible n d) hidden = HiddenPort (port# q)
 taken_ends p first q second (visible n d) dead = taken_first p InputWired (first d)
 taken_ends p first q second (visible n d) (visible k e) = taken_first p (taken_second q (second e)) (first d)
 
--- how the two ports of a link are seen: 7, 8, else their sides; and those of two subports, 2 before that
-abbrev pub pair_of : ℕ → ℕ → Port → Port → SeenPair
-pair_of a b dead second = both.Refused (UnknownPort (port# a))
-pair_of a b hidden second = both.Refused (HiddenPort (port# a))
-pair_of a b (visible n d) hidden = both.Refused (HiddenPort (port# b))
-pair_of a b (visible n d) dead = both.First d
-pair_of a b (visible n d) (visible k e) = both.Both d e
+-- the block that has a port, and the side: 7, 8, else these
+abbrev pub block_or : ℕ → Port → Result (NodeIndex × Direction) Refusal
+block_or p dead = Err (UnknownPort (port# p))
+block_or p hidden = Err (HiddenPort (port# p))
+block_or p (visible n d) = Ok (node# n, d)
 
-unfoldable pub seen_pair : List ℕ → List Bool → ℕ → ℕ → SeenPair
+unfoldable pub block_port : List ℕ → List Bool → ℕ → Result (NodeIndex × Direction) Refusal
+block_port owners flags p = block_or p (seen_in owners flags p)
+
+-- how the two ports of a link are seen: 7, 8, else their sides; and those of two subports, 2 before that
+abbrev pub pair_of : ℕ → ℕ → Port → Port → Result SeenPair Refusal
+pair_of a b dead second = Err (UnknownPort (port# a))
+pair_of a b hidden second = Err (HiddenPort (port# a))
+pair_of a b (visible n d) hidden = Err (HiddenPort (port# b))
+pair_of a b (visible n d) dead = Ok (both.First d)
+pair_of a b (visible n d) (visible k e) = Ok (both.Both d e)
+
+unfoldable pub seen_pair : List ℕ → List Bool → ℕ → ℕ → Result SeenPair Refusal
 seen_pair owners flags a b = pair_of a b (seen_in owners flags a) (seen_in owners flags b)
 
-unfoldable pub subport_pair : List ℕ → List Bool → ℕ → ℕ → ℕ → ℕ → SeenPair
+unfoldable pub subport_pair : List ℕ → List Bool → ℕ → ℕ → ℕ → ℕ → Result SeenPair Refusal
 subport_pair owners flags p o q r =
-    cond (good_offset o) (cond (good_offset r) (seen_pair owners flags p q) (both.Refused BadOffset)) (both.Refused BadOffset)
+    cond (good_offset o) (cond (good_offset r) (seen_pair owners flags p q) (Err BadOffset)) (Err BadOffset)
 
 -- two ends that are there: 12, 13, else they can be linked
-unfoldable pub free_ends : List ℕ → ℕ → Direction → ℕ → Direction → NamedLink
+unfoldable pub free_ends : List ℕ → ℕ → Direction → ℕ → Direction → Result (ℕ × ℕ) Refusal
 free_ends links x d y e =
-    cond (same_side d e) (ends.Refused (IncompatibleDirections (port# x) (port# y) d))
+    cond (same_side d e) (Err (IncompatibleDirections (port# x) (port# y) d))
     (cond (eqb (at links x) 0)
-    (cond (eqb (at links y) 0) (ends.Ends x y) (ends.Refused (AlreadyLinked (port# y))))
-    (ends.Refused (AlreadyLinked (port# x))))
+    (cond (eqb (at links y) 0) (Ok (x, y)) (Err (AlreadyLinked (port# y))))
+    (Err (AlreadyLinked (port# x))))
 
 module _ (marks : List Bool) (links owners : List ℕ) (flags : List Bool) where
   -- A subport that a call names: 2, 7, 8, 9, else its inner port.
 
-  abbrev pub end_or : ℕ → End → NamedEnd
-  end_or p lacking = end.Refused (UnknownOffset (port# p))
-  end_or p (inner x) = end.At x
+  abbrev pub end_or : ℕ → End → Result ℕ Refusal
+  end_or p lacking = Err (UnknownOffset (port# p))
+  end_or p (inner x) = Ok x
 
-  abbrev pub end_seen : ℕ → ℕ → Port → NamedEnd
-  end_seen p o dead = end.Refused (UnknownPort (port# p))
-  end_seen p o hidden = end.Refused (HiddenPort (port# p))
+  abbrev pub end_seen : ℕ → ℕ → Port → Result ℕ Refusal
+  end_seen p o dead = Err (UnknownPort (port# p))
+  end_seen p o hidden = Err (HiddenPort (port# p))
   end_seen p o (visible n d) = end_or p (end_in marks links owners p d o)
 
-  unfoldable pub end_named : ℕ → ℕ → NamedEnd
-  end_named p o = cond (good_offset o) (end_seen p o (seen_in owners flags p)) (end.Refused BadOffset)
+  unfoldable pub end_named : ℕ → ℕ → Result ℕ Refusal
+  end_named p o = cond (good_offset o) (end_seen p o (seen_in owners flags p)) (Err BadOffset)
 
   -- Two subports that a call links: 2, 7, 8, 9, 11, 12, 13, else their inner ports.
 
-  abbrev pub second_or : ℕ → Direction → ℕ → Direction → End → NamedLink
-  second_or x d q e lacking = ends.Refused (UnknownOffset (port# q))
+  abbrev pub second_or : ℕ → Direction → ℕ → Direction → End → Result (ℕ × ℕ) Refusal
+  second_or x d q e lacking = Err (UnknownOffset (port# q))
   second_or x d q e (inner y) = free_ends links x d y e
 
-  abbrev pub second_seen : ℕ → ℕ → ℕ → Direction → Port → NamedLink
-  second_seen q r x d dead = ends.Refused (UnknownSecondPort (port# q))
-  second_seen q r x d hidden = ends.Refused (HiddenPort (port# q))
+  abbrev pub second_seen : ℕ → ℕ → ℕ → Direction → Port → Result (ℕ × ℕ) Refusal
+  second_seen q r x d dead = Err (UnknownSecondPort (port# q))
+  second_seen q r x d hidden = Err (HiddenPort (port# q))
   second_seen q r x d (visible k e) = second_or x d q e (end_in marks links owners q e r)
 
   -- the first end is there
-  unfoldable pub second_end : ℕ → ℕ → ℕ → Direction → NamedLink
+  unfoldable pub second_end : ℕ → ℕ → ℕ → Direction → Result (ℕ × ℕ) Refusal
   second_end q r x d = second_seen q r x d (seen_in owners flags q)
 
-  abbrev pub first_or : ℕ → ℕ → ℕ → Direction → End → NamedLink
-  first_or p q r d lacking = ends.Refused (UnknownOffset (port# p))
+  abbrev pub first_or : ℕ → ℕ → ℕ → Direction → End → Result (ℕ × ℕ) Refusal
+  first_or p q r d lacking = Err (UnknownOffset (port# p))
   first_or p q r d (inner x) = second_end q r x d
 
-  unfoldable pub first_end : ℕ → ℕ → ℕ → ℕ → Direction → NamedLink
+  unfoldable pub first_end : ℕ → ℕ → ℕ → ℕ → Direction → Result (ℕ × ℕ) Refusal
   first_end p o q r d = first_or p q r d (end_in marks links owners p d o)
 
-  abbrev pub both_seen : ℕ → ℕ → ℕ → ℕ → Port → Port → NamedLink
-  both_seen p o q r dead second = ends.Refused (UnknownPort (port# p))
-  both_seen p o q r hidden second = ends.Refused (HiddenPort (port# p))
-  both_seen p o q r (visible n d) hidden = ends.Refused (HiddenPort (port# q))
+  abbrev pub both_seen : ℕ → ℕ → ℕ → ℕ → Port → Port → Result (ℕ × ℕ) Refusal
+  both_seen p o q r dead second = Err (UnknownPort (port# p))
+  both_seen p o q r hidden second = Err (HiddenPort (port# p))
+  both_seen p o q r (visible n d) hidden = Err (HiddenPort (port# q))
   both_seen p o q r (visible n d) dead = first_end p o q r d
   both_seen p o q r (visible n d) (visible k e) = first_end p o q r d
 
-  unfoldable pub link_named : ℕ → ℕ → ℕ → ℕ → NamedLink
+  unfoldable pub link_named : ℕ → ℕ → ℕ → ℕ → Result (ℕ × ℕ) Refusal
   link_named p o q r =
       cond (good_offset o)
-      (cond (good_offset r) (both_seen p o q r (seen_in owners flags p) (seen_in owners flags q)) (ends.Refused BadOffset))
-      (ends.Refused BadOffset)
+      (cond (good_offset r) (both_seen p o q r (seen_in owners flags p) (seen_in owners flags q)) (Err BadOffset))
+      (Err BadOffset)
 
 -- an end as read: on an unsplit port every offset means the port itself
 unfoldable pub read_in : List Bool → ℕ → ℕ → SubportIndex
@@ -153,42 +157,42 @@ end_need_in marks links owners p d =
 
 -- Linking two ports: the refusal, or both ends where they are ready; else which ends have to be prepared.
 
-abbrev pub ends_ready : Direction → Direction → ℕ → ℕ → ℕ → ℕ → LinkNeed
-ends_ready d e x o y r = cond (same_side d e) (needs.Refused (IncompatibleDirections (port# x) (port# y) d)) (needs.Ends x o y r)
+abbrev pub ends_ready : Direction → Direction → ℕ → ℕ → ℕ → ℕ → Result LinkNeed Refusal
+ends_ready d e x o y r = cond (same_side d e) (Err (IncompatibleDirections (port# x) (port# y) d)) (Ok (needs.Ends x o y r))
 
-abbrev pub second_ready : Direction → Direction → ℕ → ℕ → EndNeed → LinkNeed
+abbrev pub second_ready : Direction → Direction → ℕ → ℕ → EndNeed → Result LinkNeed Refusal
 second_ready d e x o (need.Ready y r) = ends_ready d e x o y r
-second_ready d e x o need.Grow = needs.Both d e
-second_ready d e x o need.Split = needs.Both d e
+second_ready d e x o need.Grow = Ok (needs.Both d e)
+second_ready d e x o need.Split = Ok (needs.Both d e)
 
-abbrev pub both_ready : Direction → Direction → EndNeed → EndNeed → LinkNeed
+abbrev pub both_ready : Direction → Direction → EndNeed → EndNeed → Result LinkNeed Refusal
 both_ready d e (need.Ready x o) second = second_ready d e x o second
-both_ready d e need.Grow second = needs.Both d e
-both_ready d e need.Split second = needs.Both d e
+both_ready d e need.Grow second = Ok (needs.Both d e)
+both_ready d e need.Split second = Ok (needs.Both d e)
 
 -- the second port is not live
-abbrev pub first_ready : ℕ → Direction → EndNeed → LinkNeed
-first_ready b d (need.Ready x o) = needs.Refused (UnknownSecondPort (port# b))
-first_ready b d need.Grow = needs.First d
-first_ready b d need.Split = needs.First d
+abbrev pub first_ready : ℕ → Direction → EndNeed → Result LinkNeed Refusal
+first_ready b d (need.Ready x o) = Err (UnknownSecondPort (port# b))
+first_ready b d need.Grow = Ok (needs.First d)
+first_ready b d need.Split = Ok (needs.First d)
 
-unfoldable pub first_need : List Bool → List ℕ → List ℕ → ℕ → Direction → ℕ → LinkNeed
+unfoldable pub first_need : List Bool → List ℕ → List ℕ → ℕ → Direction → ℕ → Result LinkNeed Refusal
 first_need marks links owners a d b = first_ready b d (end_need_in marks links owners a d)
 
-unfoldable pub both_need : List Bool → List ℕ → List ℕ → ℕ → Direction → ℕ → Direction → LinkNeed
+unfoldable pub both_need : List Bool → List ℕ → List ℕ → ℕ → Direction → ℕ → Direction → Result LinkNeed Refusal
 both_need marks links owners a d b e = both_ready d e (end_need_in marks links owners a d) (end_need_in marks links owners b e)
 
 module _ (marks : List Bool) (links owners : List ℕ) (flags : List Bool) where
-  abbrev pub link_seen : ℕ → ℕ → Port → Port → LinkNeed
-  link_seen a b dead second = needs.Refused (UnknownPort (port# a))
-  link_seen a b hidden second = needs.Refused (HiddenPort (port# a))
-  link_seen a b (visible n d) hidden = needs.Refused (HiddenPort (port# b))
+  abbrev pub link_seen : ℕ → ℕ → Port → Port → Result LinkNeed Refusal
+  link_seen a b dead second = Err (UnknownPort (port# a))
+  link_seen a b hidden second = Err (HiddenPort (port# a))
+  link_seen a b (visible n d) hidden = Err (HiddenPort (port# b))
   link_seen a b (visible n d) dead = first_need marks links owners a d b
   link_seen a b (visible n d) (visible k e) = both_need marks links owners a d b e
 
-  unfoldable pub link_need : ℕ → ℕ → LinkNeed
+  unfoldable pub link_need : ℕ → ℕ → Result LinkNeed Refusal
   link_need a b = link_seen a b (seen_in owners flags a) (seen_in owners flags b)
 
 -- Linking two ports and leaving no stub: the refusal, or that they are of blocks on opposite sides.
-unfoldable pub pair_named : List ℕ → List Bool → ℕ → ℕ → NamedPair
+unfoldable pub pair_named : List ℕ → List Bool → ℕ → ℕ → Result (Unit {0}) Refusal
 pair_named owners flags a b = pair_seen a b (seen_in owners flags a) (seen_in owners flags b)

@@ -1,5 +1,5 @@
 -- Steps of the scans over lent tables, over plain values.
-use Rattle.std.specs.Prelude.{◌≡◌, Bool, eqb, leb, get_or}
+use Rattle.std.specs.Prelude.{◌≡◌, Bool, eqb, leb, get_or, Option, Some, None, Result, Ok, Err}
 use Rattle.std.proofs.Math.Path.{refl, ap, sym}
 use Rattle.std.proofs.Common.{◌∙◌, eq-eqb, ne_eqb, le-leb}
 use mathlib.Core.List.{List, [], ◌∷◌, ◌++◌, flat_map}
@@ -11,7 +11,6 @@ use Rattle.multi_tables.specs.Scans.{first_found, link_port, span_first, span_co
 use Rattle.multi_tables.specs.declared.answers.SubportLink.{SubportLink}
 use Rattle.port_tables.specs.Lists.{filter, range}
 use Rattle.port_tables.specs.Listing.{filter_append}
-use Rattle.multi_tables.specs.declared.scans.LinkFound.{LinkFound}
 use Rattle.port_tables.specs.Limits.{port_slots, node_slots}
 use Rattle.port_tables.specs.Tables.{at}
 use Rattle.port_tables.specs.declared.direction.Direction.{Direction}
@@ -27,28 +26,23 @@ use Rattle.port_tables.specs.TableSteps.{at_outside}
 use Rattle.multi_tables.specs.declared.answers.SubportIndex.{SubportIndex}
 use Rattle.multi_tables.specs.declared.answers.PortPlace.{PortPlace}
 use Rattle.multi_tables.specs.declared.answers.Refusal.{Refusal}
-use Rattle.multi_tables.specs.declared.answers.CutAnswer.{CutAnswer}
-use Rattle.multi_tables.specs.declared.answers.EndAnswer.{EndAnswer}
 use Rattle.port_tables.specs.declared.sides.Sides.TheVariants.{One}
 use Rattle.port_tables.specs.declared.node_entry.NodeEntry.{NodeEntry}
 use Rattle.port_tables.specs.declared.node_entry.FreeNodeEntry.{FreeNodeEntry}
 use Rattle.port_tables.specs.declared.node_entry.NodeMeta.{NodeMeta}
 use Rattle.port_tables.specs.declared.node_entry.NodeSlot.{NodeSlot}
-use Rattle.multi_tables.specs.declared.scans.LinkFound.TheVariants as found
 use Rattle.multi_tables.specs.declared.seen.SeenPort.TheVariants as seen_port
 use Rattle.multi_tables.specs.declared.scans.LinkFilter.TheVariants as filters
-use Rattle.multi_tables.specs.declared.answers.EndAnswer.TheVariants as end
-use Rattle.multi_tables.specs.declared.answers.CutAnswer.TheVariants as cutting
 use Rattle.port_tables.specs.declared.node_entry.NodeEntry.TheVariants as node_variants
 
 -- The first of two lists, one after the other.
 
-first_here : (a b : List SubportLink) (w : SubportLink) → first_found a ≡ found.Link w → first_found (a ++ b) ≡ found.Link w
+first_here : (a b : List SubportLink) (w : SubportLink) → first_found a ≡ Some w → first_found (a ++ b) ≡ Some w
 unfolding first_found
 first_here [] b w e = let z : ◌≡◌ {A = ℕ} 0 1 = cc in absurd (omega arith)
 first_here (x ∷ a) b w e = e
 
-first_later : (a b : List SubportLink) → first_found a ≡ found.None → first_found (a ++ b) ≡ first_found b
+first_later : (a b : List SubportLink) → first_found a ≡ None → first_found (a ++ b) ≡ first_found b
 unfolding first_found
 first_later [] b e = refl
 first_later (x ∷ a) b e = let z : ◌≡◌ {A = ℕ} 0 1 = cc in absurd (omega arith)
@@ -59,16 +53,16 @@ filter_every [] = refl
 filter_every (w ∷ l) = ap (λ r. w ∷ r) (filter_every l)
 
 module _ (t : SubportLink → Bool) where
-  first_filter_here : (a b : List SubportLink) (w : SubportLink) → first_found (filter t a) ≡ found.Link w → first_found (filter t (a ++ b)) ≡ found.Link w
+  first_filter_here : (a b : List SubportLink) (w : SubportLink) → first_found (filter t a) ≡ Some w → first_found (filter t (a ++ b)) ≡ Some w
   first_filter_here a b w e = ap first_found (filter_append t a b) ∙ first_here (filter t a) (filter t b) w e
 
-  first_filter_later : (a b : List SubportLink) → first_found (filter t a) ≡ found.None → first_found (filter t (a ++ b)) ≡ first_found (filter t b)
+  first_filter_later : (a b : List SubportLink) → first_found (filter t a) ≡ None → first_found (filter t (a ++ b)) ≡ first_found (filter t b)
   first_filter_later a b e = ap first_found (filter_append t a b) ∙ first_later (filter t a) (filter t b) e
 
 -- a link that was found stands at its port
-pub port_below : (p k : ℕ) (r : LinkFound) → link_port p r ≡ p → p < k → 0 < k → link_port 0 r < k
-port_below p k (found.Link w) e h z = omega arith
-port_below p k found.None e h z = z
+pub port_below : (p k : ℕ) (r : Option SubportLink) → link_port p r ≡ p → p < k → 0 < k → link_port 0 r < k
+port_below p k (Some w) e h z = omega arith
+port_below p k None e h z = z
 
 -- The ends of a port.
 
@@ -135,48 +129,48 @@ module _ (owners : List ℕ) (flags : List Bool) (f : LinkFilter) (p : ℕ) wher
 
 module _ (links owners : List ℕ) (flags : List Bool) (t : SubportLink → Bool) (q : SubportIndex) (s : ℕ) where
   -- an end that was read without its place, with it
-  abbrev placed : EndAnswer → CutAnswer
-  placed (end.Found to) = cutting.Found to (place_in owners to.port.0)
-  placed end.Nothing = cutting.Nothing
-  placed (end.Refused r) = cutting.Refused r
+  abbrev placed : Result (Option SubportIndex) Refusal → Result (Option (SubportIndex × PortPlace)) Refusal
+  placed (Ok (Some to)) = Ok (Some (to, place_in owners to.port.0))
+  placed (Ok None) = Ok None
+  placed (Err r) = Err r
 
   wire_placed : placed (wire_end_in links owners flags s) ≡ wire_in links owners flags s
   unfolding wire_end_in wire_in
   wire_placed = go (eqb (at links s) 0)
     where
-      go : (b : Bool) → placed (cond b end.Nothing (end.Found (subport_in links owners flags (far_in links s))))
-          ≡ cond b cutting.Nothing (cutting.Found (subport_in links owners flags (far_in links s)) (far_place_in links owners flags (far_in links s)))
+      go : (b : Bool) → placed (cond b (Ok None) (Ok (Some (subport_in links owners flags (far_in links s)))))
+          ≡ cond b (Ok None) (Ok (Some (subport_in links owners flags (far_in links s), far_place_in links owners flags (far_in links s))))
       go true = refl
       go false = refl
 
-  end_by : (x y : EndAnswer) → x ≡ wire_end_in links owners flags s → x ≡ y → first_found (filter t (wire_to q (placed y))) ≡ first_found (filter t (wire_to q (wire_in links owners flags s)))
+  end_by : (x y : Result (Option SubportIndex) Refusal) → x ≡ wire_end_in links owners flags s → x ≡ y → first_found (filter t (wire_to q (placed y))) ≡ first_found (filter t (wire_to q (wire_in links owners flags s)))
   end_by x y e h = ap (λ z. first_found (filter t (wire_to q (placed z)))) (sym h ∙ e) ∙ ap (λ z. first_found (filter t (wire_to q z))) wire_placed
 
-  pub end_outside : port_slots ≤ s → found.None ≡ first_found (filter t (wire_to q (wire_in links owners flags s)))
+  pub end_outside : port_slots ≤ s → None ≡ first_found (filter t (wire_to q (wire_in links owners flags s)))
   unfolding wire_in first_found filter
   end_outside h = rw (eq-eqb (at links s) 0 (sym (at_outside links s h)))
 
-  pub end_nothing : (x : EndAnswer) → x ≡ wire_end_in links owners flags s → x ≡ end.Nothing → found.None ≡ first_found (filter t (wire_to q (wire_in links owners flags s)))
+  pub end_nothing : (x : Result (Option SubportIndex) Refusal) → x ≡ wire_end_in links owners flags s → x ≡ Ok None → None ≡ first_found (filter t (wire_to q (wire_in links owners flags s)))
   unfolding first_found filter
-  end_nothing x e h = end_by x end.Nothing e h
+  end_nothing x e h = end_by x (Ok None) e h
 
-  module _ (x : EndAnswer) (to : SubportIndex) (e : x ≡ wire_end_in links owners flags s) (h : x ≡ end.Found to) where
+  module _ (x : Result (Option SubportIndex) Refusal) (to : SubportIndex) (e : x ≡ wire_end_in links owners flags s) (h : x ≡ Ok (Some to)) where
     abbrev given : PortPlace → SubportLink
     given place = record { from = q; to = to; place = place }
 
-    pub end_given : (place : PortPlace) → place ≡ place_in owners to.port.0 → t (given place) ≡ true → found.Link (given place) ≡ first_found (filter t (wire_to q (wire_in links owners flags s)))
+    pub end_given : (place : PortPlace) → place ≡ place_in owners to.port.0 → t (given place) ≡ true → Some (given place) ≡ first_found (filter t (wire_to q (wire_in links owners flags s)))
     unfolding first_found filter
     end_given place k g =
         let z : t (given (place_in owners to.port.0)) ≡ true = ap (λ (x : PortPlace). t (given x)) (sym k) ∙ g in
-        rw (sym (end_by x (end.Found to) e h), z, k)
+        rw (sym (end_by x (Ok (Some to)) e h), z, k)
 
-    pub end_passed : t (given (place_in owners to.port.0)) ≡ false → found.None ≡ first_found (filter t (wire_to q (wire_in links owners flags s)))
+    pub end_passed : t (given (place_in owners to.port.0)) ≡ false → None ≡ first_found (filter t (wire_to q (wire_in links owners flags s)))
     unfolding first_found filter
-    end_passed g = rw (sym (end_by x (end.Found to) e h), g)
+    end_passed g = rw (sym (end_by x (Ok (Some to)) e h), g)
 
-  pub end_refused : (x : EndAnswer) (r : Refusal) → x ≡ wire_end_in links owners flags s → x ≡ end.Refused r → found.None ≡ first_found (filter t (wire_to q (wire_in links owners flags s)))
+  pub end_refused : (x : Result (Option SubportIndex) Refusal) (r : Refusal) → x ≡ wire_end_in links owners flags s → x ≡ Err r → None ≡ first_found (filter t (wire_to q (wire_in links owners flags s)))
   unfolding first_found filter
-  end_refused x r e h = end_by x (end.Refused r) e h
+  end_refused x r e h = end_by x (Err r) e h
 
 -- One port: a turn over its offsets.
 
@@ -184,21 +178,21 @@ one_less : (o end : ℕ) → o < end → end - o ≡ suc (end - (o + 1))
 one_less o end h = omega arith
 
 module _ (links owners : List ℕ) (flags : List Bool) (t : SubportLink → Bool) (p first o end : ℕ) where
-  abbrev here : LinkFound
+  abbrev here : Option SubportLink
   here = first_found (filter t (wire_to (subport# p o) (wire_in links owners flags (first + o))))
 
-  pub scan_turn : (r : LinkFound) → o < end → r ≡ here → r ≡ found.None
+  pub scan_turn : (r : Option SubportLink) → o < end → r ≡ here → r ≡ None
       → first_found (filter t (links_in links owners flags p first (o + 1) (end - (o + 1)))) ≡ first_found (filter t (links_in links owners flags p first o (end - o)))
   unfolding links_in range flat_map
   scan_turn r h e n =
       let a : o + 1 ≡ suc o = omega arith in
       rw (one_less o end h, a) (sym (first_filter_later t _ _ (sym e ∙ n)))
 
-  pub scan_found : (r : LinkFound) (w : SubportLink) → o < end → r ≡ here → r ≡ found.Link w → r ≡ first_found (filter t (links_in links owners flags p first o (end - o)))
+  pub scan_found : (r : Option SubportLink) (w : SubportLink) → o < end → r ≡ here → r ≡ Some w → r ≡ first_found (filter t (links_in links owners flags p first o (end - o)))
   unfolding links_in range flat_map
   scan_found r w h e n = rw (one_less o end h) (n ∙ sym (first_filter_here t _ _ w (sym e ∙ n)))
 
-  pub scan_done : end ≤ o → found.None ≡ first_found (filter t (links_in links owners flags p first o (end - o)))
+  pub scan_done : end ≤ o → None ≡ first_found (filter t (links_in links owners flags p first o (end - o)))
   unfolding links_in range flat_map filter first_found
   scan_done h = let a : end - o ≡ 0 = omega arith in rw a
 
@@ -210,11 +204,11 @@ module _ (marks : List Bool) (links owners : List ℕ) (flags : List Bool) where
     unfolding port_links_in
     port_links_at s e = ap (λ x. first_found (filter t (port_links_by marks links owners flags p o x))) (sym e)
 
-    pub port_links_none : (s : Port) → seen_in owners flags p ≡ s → port_links_by marks links owners flags p o s ≡ [] → found.None ≡ first_found (filter t (port_links_in marks links owners flags p o))
+    pub port_links_none : (s : Port) → seen_in owners flags p ≡ s → port_links_by marks links owners flags p o s ≡ [] → None ≡ first_found (filter t (port_links_in marks links owners flags p o))
     unfolding first_found filter
     port_links_none s e h = ap (λ l. first_found (filter t l)) (sym h) ∙ port_links_at s e
 
-    pub port_links_scanned : (n : ℕ) (d : Direction) (first end : ℕ) (r : LinkFound) → seen_in owners flags p ≡ visible n d
+    pub port_links_scanned : (n : ℕ) (d : Direction) (first end : ℕ) (r : Option SubportLink) → seen_in owners flags p ≡ visible n d
         → first ≡ span_first marks links owners p d → end ≡ span_count marks links owners p d
         → r ≡ first_found (filter t (links_in links owners flags p first o (end - o))) → r ≡ first_found (filter t (port_links_in marks links owners flags p o))
     port_links_scanned n d first end r e f g h =
@@ -222,19 +216,19 @@ module _ (marks : List Bool) (links owners : List ℕ) (flags : List Bool) where
         ∙ ap (λ x. first_found (filter t (links_in links owners flags p (span_first marks links owners p d) o (x - o)))) g ∙ port_links_at (visible n d) e
 
     module _ (stop : ℕ) where
-      pub row_turn : (r : LinkFound) → p < stop → r ≡ first_found (filter t (port_links_in marks links owners flags p o)) → r ≡ found.None
+      pub row_turn : (r : Option SubportLink) → p < stop → r ≡ first_found (filter t (port_links_in marks links owners flags p o)) → r ≡ None
           → first_found (filter t (links_rest marks links owners flags (p + 1) 0 (stop - (p + 1)))) ≡ first_found (filter t (links_rest marks links owners flags p o (stop - p)))
       unfolding links_rest
       row_turn r h e n =
           let a : p + 1 ≡ suc p = omega arith in
           rw (one_less p stop h, a) (sym (first_filter_later t _ _ (sym e ∙ n)))
 
-      pub row_found : (r : LinkFound) (w : SubportLink) → p < stop → r ≡ first_found (filter t (port_links_in marks links owners flags p o)) → r ≡ found.Link w
+      pub row_found : (r : Option SubportLink) (w : SubportLink) → p < stop → r ≡ first_found (filter t (port_links_in marks links owners flags p o)) → r ≡ Some w
           → r ≡ first_found (filter t (links_rest marks links owners flags p o (stop - p)))
       unfolding links_rest
       row_found r w h e n = rw (one_less p stop h) (n ∙ sym (first_filter_here t _ _ w (sym e ∙ n)))
 
-      pub row_done : stop ≤ p → found.None ≡ first_found (filter t (links_rest marks links owners flags p o (stop - p)))
+      pub row_done : stop ≤ p → None ≡ first_found (filter t (links_rest marks links owners flags p o (stop - p)))
       unfolding links_rest filter first_found
       row_done h = let a : stop - p ≡ 0 = omega arith in rw a
 
@@ -255,16 +249,16 @@ module _ (marks : List Bool) (links owners : List ℕ) (flags : List Bool) where
   -- A block.
 
   module _ (held o : ℕ) where
-    pub block_hidden : (e : NodeEntry) (h : Bool) → h ≡ true → found.None ≡ first_found (block_links_in marks links owners flags e h held o)
+    pub block_hidden : (e : NodeEntry) (h : Bool) → h ≡ true → None ≡ first_found (block_links_in marks links owners flags e h held o)
     unfolding first_found
     block_hidden (node_variants.Free f) h g = refl
     block_hidden (node_variants.Node k) h g = rw g
 
-    pub block_free : (e x : NodeEntry) (f : FreeNodeEntry) (h : Bool) → x ≡ e → x ≡ node_variants.Free f → found.None ≡ first_found (block_links_in marks links owners flags e h held o)
+    pub block_free : (e x : NodeEntry) (f : FreeNodeEntry) (h : Bool) → x ≡ e → x ≡ node_variants.Free f → None ≡ first_found (block_links_in marks links owners flags e h held o)
     unfolding first_found
     block_free e x f h g k = ap (λ y. first_found (block_links_in marks links owners flags y h held o)) (sym k ∙ g)
 
-    pub block_scanned : (e x : NodeEntry) (k : NodeMeta) (h : Bool) (a b : ℕ) (r : LinkFound) → x ≡ e → x ≡ node_variants.Node k → h ≡ false
+    pub block_scanned : (e x : NodeEntry) (k : NodeMeta) (h : Bool) (a b : ℕ) (r : Option SubportLink) → x ≡ e → x ≡ node_variants.Node k → h ≡ false
         → a ≡ ports_from k (One Outgoing) → b ≡ ports_to k (One Outgoing)
         → r ≡ first_found (filter (λ w. true) (beyond_in marks links owners flags a b held o)) → r ≡ first_found (block_links_in marks links owners flags e h held o)
     block_scanned e x k h a b r g f n ea eb er =
@@ -279,18 +273,18 @@ module _ (marks : List Bool) (links owners : List ℕ) (flags : List Bool) where
     abbrev slot_links : List SubportLink
     slot_links = block_links_in marks links owners flags (get_or nodes n fresh_slot).entry (flag_at flags node_slots n) held o
 
-    pub nodes_turn : (r : LinkFound) → n < node_slots → r ≡ first_found slot_links → r ≡ found.None
+    pub nodes_turn : (r : Option SubportLink) → n < node_slots → r ≡ first_found slot_links → r ≡ None
         → first_found (wires_in marks links owners flags nodes (n + 1) 0 0 (node_slots - (n + 1))) ≡ first_found (wires_in marks links owners flags nodes n held o (node_slots - n))
     unfolding wires_in
     nodes_turn r h e z =
         let a : n + 1 ≡ suc n = omega arith in
         rw (one_less n node_slots h, a) (sym (first_later slot_links _ (sym e ∙ z)))
 
-    pub nodes_found : (r : LinkFound) (w : SubportLink) → n < node_slots → r ≡ first_found slot_links → r ≡ found.Link w
+    pub nodes_found : (r : Option SubportLink) (w : SubportLink) → n < node_slots → r ≡ first_found slot_links → r ≡ Some w
         → r ≡ first_found (wires_in marks links owners flags nodes n held o (node_slots - n))
     unfolding wires_in
     nodes_found r w h e z = rw (one_less n node_slots h) (z ∙ sym (first_here slot_links _ w (sym e ∙ z)))
 
-    pub nodes_done : node_slots ≤ n → found.None ≡ first_found (wires_in marks links owners flags nodes n held o (node_slots - n))
+    pub nodes_done : node_slots ≤ n → None ≡ first_found (wires_in marks links owners flags nodes n held o (node_slots - n))
     unfolding wires_in first_found
     nodes_done h = let a : node_slots - n ≡ 0 = omega arith in rw a

@@ -1,8 +1,7 @@
 -- The links of ports as the lent tables tell them, in the order of the walks, and the first of them.
 use mathlib.Core.List.{List, [], ◌∷◌, flat_map, ◌++◌}
-use Rattle.std.specs.Prelude.{Bool, cond, true, ℕ, min, ◌+◌, ◌-◌, zero, suc, eqb, leb, get_or}
+use Rattle.std.specs.Prelude.{Bool, cond, true, ℕ, min, ◌+◌, ◌-◌, zero, suc, eqb, leb, get_or, Option, Some, None}
 use Rattle.multi_tables.specs.declared.answers.SubportLink.{SubportLink}
-use Rattle.multi_tables.specs.declared.scans.LinkFound.{LinkFound}
 use Rattle.port_tables.specs.Limits.{port_slots, node_slots}
 use Rattle.port_tables.specs.declared.direction.Direction.{Direction}
 use Rattle.multi_tables.specs.Forms.{flag_at, seen_as, subport#, wire_to, Port, dead, hidden, visible}
@@ -15,19 +14,18 @@ use Rattle.port_tables.specs.Lists.{range}
 use Rattle.port_tables.specs.declared.sides.Sides.TheVariants.{One}
 use Rattle.port_tables.specs.declared.node_entry.NodeEntry.{NodeEntry}
 use Rattle.port_tables.specs.declared.node_entry.NodeSlot.{NodeSlot}
-use Rattle.multi_tables.specs.declared.scans.LinkFound.TheVariants as found
 use Rattle.multi_tables.specs.declared.seen.SeenPort.TheVariants as seen_port
 use Rattle.multi_tables.specs.declared.scans.LinkFilter.TheVariants as filters
 use Rattle.port_tables.specs.declared.node_entry.NodeEntry.TheVariants as node_variants
 
-unfoldable pub first_found : List SubportLink → LinkFound
-first_found [] = found.None
-first_found (w ∷ l) = found.Link w
+unfoldable pub first_found : List SubportLink → Option SubportLink
+first_found [] = None
+first_found (w ∷ l) = Some w
 
 -- the port of a link that was found, or a given number
-abbrev pub link_port : ℕ → LinkFound → ℕ
-link_port p (found.Link w) = w.from.port.0
-link_port p found.None = p
+abbrev pub link_port : ℕ → Option SubportLink → ℕ
+link_port p (Some w) = w.from.port.0
+link_port p None = p
 
 -- The ends of a port: their first slot, one slot for each offset, and how many.
 

@@ -1,5 +1,5 @@
 -- Steps of the leaves that read lent tables, over plain values.
-use Rattle.std.specs.Prelude.{Bool, ◌≡◌, List, eqb}
+use Rattle.std.specs.Prelude.{Bool, ◌≡◌, List, eqb, Option, Some, None, Ok}
 use Rattle.std.proofs.Math.Bool.{true, false, cond}
 use Rattle.std.proofs.Math.Path.{sym, ap}
 use Rattle.std.proofs.Common.{◌∙◌}
@@ -12,16 +12,12 @@ use Rattle.port_tables.specs.Tables.{at}
 use Rattle.port_tables.specs.declared.direction.Direction.{Direction}
 use Rattle.port_tables.specs.declared.direction.Direction.TheVariants.{Incoming, Outgoing}
 use Rattle.multi_tables.specs.Forms.{end_as, flag_at, hidden, visible, subport#, seen_as}
-use Rattle.multi_tables.specs.declared.seen.EndFound.{EndFound}
 use Rattle.port_tables.specs.Entries.{port_entry}
 use Rattle.port_tables.specs.declared.port_entry.PortMeta.{PortMeta}
 use Rattle.multi_tables.specs.declared.answers.PortPlace.{PortPlace}
 use Rattle.multi_tables.specs.declared.answers.SubportIndex.{SubportIndex}
-use Rattle.multi_tables.specs.declared.seen.EndFound.TheVariants as end_found
 use Rattle.multi_tables.specs.declared.seen.SeenPort.TheVariants as seen_port
 use Rattle.port_tables.specs.declared.port_entry.PortEntry.TheVariants as port_variants
-use Rattle.multi_tables.specs.declared.answers.CutAnswer.TheVariants as cutting
-use Rattle.multi_tables.specs.declared.answers.EndAnswer.TheVariants as end
 
 -- The loop of a run.
 
@@ -50,6 +46,10 @@ run_stop t k n h e = rw (left_one k n h, e) (omega arith)
 pub run_end : (t : ℕ → Bool) (k n : ℕ) → n ≤ k → k + in_row t k (n - k) ≡ k
 unfolding in_row
 run_end t k n h = let e : n - k ≡ zero = omega arith in rw e (omega arith)
+
+-- the run is as long as it can be
+pub run_all : (t : ℕ → Bool) (k n : ℕ) → k ≡ n → n ≡ k + in_row t k (n - k)
+run_all t k n e = sym (run_end t k n (omega arith) ∙ e)
 
 module _ (t : List ℕ) (x i : ℕ) where
   pub up_start : run_up t x i ≡ 0 + in_row (owns_up t x i) 0 (port_slots - 0)
@@ -147,31 +147,31 @@ module _ (t : List ℕ) (q w : ℕ) (e : w ≡ q) where
       omega arith
 
   module _ (d : Direction) (o v : ℕ) (u : v ≡ o) where
-    pub end_in_lem : (n s : ℕ) → d ≡ Incoming → n ≡ count_beside t q d → v < n → s ≡ w - n → end_found.At (s + v) ≡ end_as (end_beside t q d o)
+    pub end_in_lem : (n s : ℕ) → d ≡ Incoming → n ≡ count_beside t q d → v < n → s ≡ w - n → Some (s + v) ≡ end_as (end_beside t q d o)
     unfolding end_beside first_beside
     end_in_lem n s f g l h =
         let k : count_beside t q Incoming ≡ n = sym (g ∙ ap (count_beside t q) f) in
         rw (f, k, lt-ltb o n (omega arith), h, e, u)
 
-    pub end_in_lacking : (n : ℕ) → d ≡ Incoming → n ≡ count_beside t q d → n ≤ v → end_found.Lacking ≡ end_as (end_beside t q d o)
+    pub end_in_lacking : (n : ℕ) → d ≡ Incoming → n ≡ count_beside t q d → n ≤ v → None ≡ end_as (end_beside t q d o)
     unfolding end_beside
     end_in_lacking n f g l =
         let k : count_beside t q Incoming ≡ n = sym (g ∙ ap (count_beside t q) f) in
         rw (f, k, le-ltb o n (omega arith))
 
-    pub end_out : (a b : ℕ) → d ≡ Outgoing → w + 1 + v < port_slots → a ≡ at t (w + 1 + v) → b ≡ at t (w + 1) → a ≡ b → end_found.At (w + 1 + v) ≡ end_as (end_beside t q d o)
+    pub end_out : (a b : ℕ) → d ≡ Outgoing → w + 1 + v < port_slots → a ≡ at t (w + 1 + v) → b ≡ at t (w + 1) → a ≡ b → Some (w + 1 + v) ≡ end_as (end_beside t q d o)
     unfolding end_beside
     end_out a b f l g h k =
         let s : at t (q + 1 + o) ≡ at t (q + 1) = rw (← e, ← u) (sym g ∙ k ∙ h) in
         rw (f, lt-ltb (q + 1 + o) port_slots (omega arith), eq-eqb (at t (q + 1 + o)) (at t (q + 1)) s, e, u)
 
-    pub end_out_lacking : (a b : ℕ) → d ≡ Outgoing → w + 1 + v < port_slots → a ≡ at t (w + 1 + v) → b ≡ at t (w + 1) → (a ≡ b → ⊥) → end_found.Lacking ≡ end_as (end_beside t q d o)
+    pub end_out_lacking : (a b : ℕ) → d ≡ Outgoing → w + 1 + v < port_slots → a ≡ at t (w + 1 + v) → b ≡ at t (w + 1) → (a ≡ b → ⊥) → None ≡ end_as (end_beside t q d o)
     unfolding end_beside
     end_out_lacking a b f l g h k =
         let s : at t (q + 1 + o) ≡ at t (q + 1) → ⊥ = λ z. k (g ∙ (rw (e, u) z ∙ sym h)) in
         rw (f, lt-ltb (q + 1 + o) port_slots (omega arith), ne_eqb (at t (q + 1 + o)) (at t (q + 1)) s)
 
-    pub end_out_past : d ≡ Outgoing → port_slots ≤ w + 1 + v → end_found.Lacking ≡ end_as (end_beside t q d o)
+    pub end_out_past : d ≡ Outgoing → port_slots ≤ w + 1 + v → None ≡ end_as (end_beside t q d o)
     unfolding end_beside
     end_out_past f l = rw (f, le-ltb (q + 1 + o) port_slots (omega arith))
 
@@ -195,13 +195,13 @@ unfolding first_in
 first_told links owners p w q r d e f g = rw (g, f, e)
 
 module _ (marks : List Bool) (links owners : List ℕ) (p : ℕ) (d : Direction) (o w : ℕ) (e : w ≡ p) (b : Bool) (f : b ≡ flag_at marks port_slots w) where
-  pub end_split : (v q : ℕ) (r : EndFound) → b ≡ true → v ≡ p → q ≡ far_in links v → r ≡ end_as (end_beside owners q d o) → r ≡ end_as (end_in marks links owners p d o)
+  pub end_split : (v q : ℕ) (r : Option ℕ) → b ≡ true → v ≡ p → q ≡ far_in links v → r ≡ end_as (end_beside owners q d o) → r ≡ end_as (end_in marks links owners p d o)
   unfolding end_in
   end_split v q r g h k l =
       let m : flag_at marks port_slots p ≡ true = ap (flag_at marks port_slots) (sym e) ∙ sym f ∙ g in
       rw (m, l, k, h)
 
-  pub end_plain : b ≡ false → end_found.At p ≡ end_as (end_in marks links owners p d o)
+  pub end_plain : b ≡ false → Some p ≡ end_as (end_in marks links owners p d o)
   unfolding end_in
   end_plain g =
       let m : flag_at marks port_slots p ≡ false = ap (flag_at marks port_slots) (sym e) ∙ sym f ∙ g in
@@ -274,29 +274,29 @@ module _ (links owners : List ℕ) (flags : List Bool) (p w a : ℕ) (e : w ≡ 
   one_there : (a ≡ 0 → ⊥) → eqb (at links p) 0 ≡ false
   one_there z = ne_eqb (at links p) 0 (λ y. z (f ∙ ap (at links) e ∙ y))
 
-  pub no_wire : a ≡ 0 → cutting.Nothing ≡ wire_in links owners flags p
+  pub no_wire : a ≡ 0 → Ok None ≡ wire_in links owners flags p
   unfolding wire_in
   no_wire z = rw (none_there z)
 
   pub one_wire : (v q : ℕ) (s : SubportIndex) (x : PortPlace) → (a ≡ 0 → ⊥) → v ≡ p → q ≡ far_in links v → s ≡ subport_in links owners flags q → x ≡ place_in owners s.port.0
-      → cutting.Found s x ≡ wire_in links owners flags p
+      → Ok (Some (s, x)) ≡ wire_in links owners flags p
   unfolding wire_in
   one_wire v q s x z h g k l = rw (one_there z, l, k, g, h)
 
-  pub no_wire_end : a ≡ 0 → end.Nothing ≡ wire_end_in links owners flags p
+  pub no_wire_end : a ≡ 0 → Ok None ≡ wire_end_in links owners flags p
   unfolding wire_end_in
   no_wire_end z = rw (none_there z)
 
-  pub one_wire_end : (v q : ℕ) (s : SubportIndex) → (a ≡ 0 → ⊥) → v ≡ p → q ≡ far_in links v → s ≡ subport_in links owners flags q → end.Found s ≡ wire_end_in links owners flags p
+  pub one_wire_end : (v q : ℕ) (s : SubportIndex) → (a ≡ 0 → ⊥) → v ≡ p → q ≡ far_in links v → s ≡ subport_in links owners flags q → Ok (Some s) ≡ wire_end_in links owners flags p
   unfolding wire_end_in
   one_wire_end v q s z h g k = rw (one_there z, k, g, h)
 
-  pub no_plain : a ≡ 0 → cutting.Nothing ≡ plain_in links owners flags p
+  pub no_plain : a ≡ 0 → Ok None ≡ plain_in links owners flags p
   unfolding plain_in
   no_plain z = rw (none_there z)
 
   pub one_plain : (v q : ℕ) (s : SubportIndex) (x : PortPlace) → (a ≡ 0 → ⊥) → v ≡ p → q ≡ far_in links v → s ≡ subport_in links owners flags q → x ≡ place_in owners s.port.0
-      → cutting.Found (subport# q 0) x ≡ plain_in links owners flags p
+      → Ok (Some (subport# q 0, x)) ≡ plain_in links owners flags p
   unfolding plain_in
   one_plain v q s x z h g k l = rw (one_there z, l, k, g, h)
 

@@ -1,6 +1,6 @@
 -- What can be read off the tables alone: owners, links, marks and hidden flags, each of which can be lent.
 -- The ports of a hidden node lie in a row: the subports are the slots of one owner beside the copy port.
-use Rattle.std.specs.Prelude.{List, Bool, cond, ℕ, ◌-◌, zero, suc, ◌+◌, min, ◌*◌, ◌/◌, eqb, ltb}
+use Rattle.std.specs.Prelude.{List, Bool, cond, ℕ, ◌-◌, zero, suc, ◌+◌, min, ◌*◌, ◌/◌, eqb, ltb, Option, Some, None, Result, Ok}
 use Rattle.port_tables.specs.Tables.{at, link_both, cut}
 use Rattle.port_tables.specs.Entries.{port_entry, node_of, node#}
 use Rattle.multi_tables.specs.Forms.{node_number, Port, dead, hidden, visible, flag_at, End, inner, lacking, subport#}
@@ -10,11 +10,8 @@ use Rattle.port_tables.specs.declared.direction.Direction.{Direction}
 use Rattle.port_tables.specs.declared.direction.Direction.TheVariants.{Incoming, Outgoing}
 use Rattle.multi_tables.specs.declared.answers.SubportIndex.{SubportIndex}
 use Rattle.multi_tables.specs.declared.answers.PortPlace.{PortPlace}
-use Rattle.multi_tables.specs.declared.answers.CutAnswer.{CutAnswer}
-use Rattle.multi_tables.specs.declared.answers.EndAnswer.{EndAnswer}
 use Rattle.port_tables.specs.declared.port_entry.PortEntry.TheVariants as port_variants
-use Rattle.multi_tables.specs.declared.answers.CutAnswer.TheVariants as cutting
-use Rattle.multi_tables.specs.declared.answers.EndAnswer.TheVariants as end
+use Rattle.multi_tables.specs.declared.answers.Refusal.{Refusal}
 
 -- the slot that a slot is linked with; 0 for none
 unfoldable pub far_in : List ℕ → ℕ → ℕ
@@ -123,19 +120,19 @@ abbrev pub far_place_in : List ℕ → List ℕ → List Bool → ℕ → PortPl
 far_place_in links owners flags q = place_in owners (subport_in links owners flags q).port.0
 
 -- what an end is linked with; the same without the place
-unfoldable pub wire_in : List ℕ → List ℕ → List Bool → ℕ → CutAnswer
+unfoldable pub wire_in : List ℕ → List ℕ → List Bool → ℕ → Result (Option (SubportIndex × PortPlace)) Refusal
 wire_in links owners flags q =
-    cond (eqb (at links q) 0) cutting.Nothing
-    (cutting.Found (subport_in links owners flags (far_in links q)) (far_place_in links owners flags (far_in links q)))
+    cond (eqb (at links q) 0) (Ok None)
+    (Ok (Some (subport_in links owners flags (far_in links q), far_place_in links owners flags (far_in links q))))
 
-unfoldable pub wire_end_in : List ℕ → List ℕ → List Bool → ℕ → EndAnswer
-wire_end_in links owners flags q = cond (eqb (at links q) 0) end.Nothing (end.Found (subport_in links owners flags (far_in links q)))
+unfoldable pub wire_end_in : List ℕ → List ℕ → List Bool → ℕ → Result (Option SubportIndex) Refusal
+wire_end_in links owners flags q = cond (eqb (at links q) 0) (Ok None) (Ok (Some (subport_in links owners flags (far_in links q))))
 
 -- what cutting an unsplit port answers
-unfoldable pub plain_in : List ℕ → List ℕ → List Bool → ℕ → CutAnswer
+unfoldable pub plain_in : List ℕ → List ℕ → List Bool → ℕ → Result (Option (SubportIndex × PortPlace)) Refusal
 plain_in links owners flags p =
-    cond (eqb (at links p) 0) cutting.Nothing
-    (cutting.Found (subport# (far_in links p) 0) (far_place_in links owners flags (far_in links p)))
+    cond (eqb (at links p) 0) (Ok None)
+    (Ok (Some (subport# (far_in links p) 0, far_place_in links owners flags (far_in links p))))
 
 -- What a split does to the links: the port hangs on the copy port, and its old link is at the first subport.
 unfoldable pub hang_on : List ℕ → ℕ → ℕ → ℕ → List ℕ

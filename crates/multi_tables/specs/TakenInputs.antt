@@ -1,5 +1,5 @@
 -- What release 2 refuses, read off lent tables: a link that names an input which already has a wire, after 2, 7, 8 and 9.
-use Rattle.std.specs.Prelude.{Bool, false, cond, not, List, ℕ, eqb}
+use Rattle.std.specs.Prelude.{Bool, false, cond, not, List, ℕ, eqb, Result, Err}
 use Rattle.port_tables.specs.declared.direction.Direction.{Direction}
 use Rattle.port_tables.specs.declared.direction.Direction.TheVariants.{Incoming, Outgoing}
 use Rattle.multi_tables.specs.Forms.{Port, dead, hidden, visible, good_offset, taken_under}
@@ -10,11 +10,6 @@ use Rattle.port_tables.specs.declared.release.Release.{Release}
 use Rattle.multi_tables.specs.declared.answers.Refusal.{Refusal}
 use Rattle.multi_tables.specs.declared.answers.Refusal.TheVariants.{BadOffset}
 use Rattle.multi_tables.specs.declared.named.LinkNeed.{LinkNeed}
-use Rattle.multi_tables.specs.declared.named.NamedPair.{NamedPair}
-use Rattle.multi_tables.specs.declared.named.NamedLink.{NamedLink}
-use Rattle.multi_tables.specs.declared.named.NamedPair.TheVariants as pair
-use Rattle.multi_tables.specs.declared.named.LinkNeed.TheVariants as needs
-use Rattle.multi_tables.specs.declared.named.NamedLink.TheVariants as ends
 
 module _ (marks : List Bool) (links owners : List ℕ) (flags : List Bool) where
   -- a live input of a block has a wire
@@ -49,14 +44,14 @@ taken_ports_in owners flags a b = taken_seen a b (seen_in owners flags a) (seen_
 
 -- what a call names, where that refusal comes first
 module _ (marks : List Bool) (links owners : List ℕ) (flags : List Bool) (release : Release) where
-  unfoldable pub link_need_under : ℕ → ℕ → LinkNeed
+  unfoldable pub link_need_under : ℕ → ℕ → Result LinkNeed Refusal
   link_need_under a b =
-      cond (taken_in marks links owners flags release a b) (needs.Refused (taken_ports_in owners flags a b)) (link_need marks links owners flags a b)
+      cond (taken_in marks links owners flags release a b) (Err (taken_ports_in owners flags a b)) (link_need marks links owners flags a b)
 
-  unfoldable pub pair_named_under : ℕ → ℕ → NamedPair
+  unfoldable pub pair_named_under : ℕ → ℕ → Result (Unit {0}) Refusal
   pair_named_under a b =
-      cond (taken_in marks links owners flags release a b) (pair.Refused (taken_ports_in owners flags a b)) (pair_named owners flags a b)
+      cond (taken_in marks links owners flags release a b) (Err (taken_ports_in owners flags a b)) (pair_named owners flags a b)
 
-  unfoldable pub link_named_under : ℕ → ℕ → ℕ → ℕ → NamedLink
+  unfoldable pub link_named_under : ℕ → ℕ → ℕ → ℕ → Result (ℕ × ℕ) Refusal
   link_named_under p o q r =
-      cond (taken_in marks links owners flags release p q) (ends.Refused (taken_sub_in marks links owners flags p o q r)) (link_named marks links owners flags p o q r)
+      cond (taken_in marks links owners flags release p q) (Err (taken_sub_in marks links owners flags p o q r)) (link_named marks links owners flags p o q r)

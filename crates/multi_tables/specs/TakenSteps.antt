@@ -1,5 +1,5 @@
 -- The check of 18, step by step: what the functions' proofs cite.
-use Rattle.std.specs.Prelude.{◌≡◌, Bool, not, List, ℕ, eqb}
+use Rattle.std.specs.Prelude.{◌≡◌, Bool, not, List, ℕ, eqb, Result, Ok, Err}
 use Rattle.std.proofs.Math.Path.{refl, ap}
 use Rattle.std.proofs.Common.{sym, ◌∙◌, eq-eqb, ne_eqb}
 use Rattle.std.proofs.Math.Bool.{true, false, cond}
@@ -16,13 +16,8 @@ use Rattle.multi_tables.specs.declared.answers.Refusal.{Refusal}
 use Rattle.multi_tables.specs.declared.answers.Refusal.TheVariants.{BadOffset, UnknownOffset, InputWired}
 use Rattle.multi_tables.specs.declared.named.SeenPair.{SeenPair}
 use Rattle.multi_tables.specs.declared.named.LinkNeed.{LinkNeed}
-use Rattle.multi_tables.specs.declared.named.NamedPair.{NamedPair}
-use Rattle.multi_tables.specs.declared.named.NamedLink.{NamedLink}
 use Rattle.multi_tables.specs.declared.named.SeenPair.TheVariants as both
 use Rattle.port_tables.specs.declared.release.Release.TheVariants as release
-use Rattle.multi_tables.specs.declared.named.NamedPair.TheVariants as pair
-use Rattle.multi_tables.specs.declared.named.LinkNeed.TheVariants as needs
-use Rattle.multi_tables.specs.declared.named.NamedLink.TheVariants as ends
 
 -- The leaves.
 
@@ -58,16 +53,16 @@ module _ (marks : List Bool) (links owners : List ℕ) (flags : List Bool) where
 
   -- what a link of subports is refused with
   module _ (p o q r : ℕ) where
-    abbrev pub sub_as_seen : SeenPair → Refusal
-    sub_as_seen (both.Refused x) = x
-    sub_as_seen (both.First d) = taken_first p InputWired (end_in marks links owners p d o)
-    sub_as_seen (both.Both d e) = taken_first p (taken_second q (end_in marks links owners q e r)) (end_in marks links owners p d o)
+    abbrev pub sub_as_seen : Result SeenPair Refusal → Refusal
+    sub_as_seen (Err x) = x
+    sub_as_seen (Ok (both.First d)) = taken_first p InputWired (end_in marks links owners p d o)
+    sub_as_seen (Ok (both.Both d e)) = taken_first p (taken_second q (end_in marks links owners q e r)) (end_in marks links owners p d o)
 
-    pub sub_seen : (v : SeenPair) {u : SeenPair} → u ≡ subport_pair owners flags p o q r → u ≡ v → {x : Refusal} → x ≡ sub_as_seen v → x ≡ taken_sub_in marks links owners flags p o q r
+    pub sub_seen : (v : Result SeenPair Refusal) {u : Result SeenPair Refusal} → u ≡ subport_pair owners flags p o q r → u ≡ v → {x : Refusal} → x ≡ sub_as_seen v → x ≡ taken_sub_in marks links owners flags p o q r
     unfolding taken_sub_in subport_pair seen_pair
     sub_seen v e f h = h ∙ (ap sub_as_seen (sym f ∙ e) ∙ go (good_offset o) (good_offset r) (seen_in owners flags p) (seen_in owners flags q))
       where
-        go : (a b : Bool) (s t : Port) → sub_as_seen (cond a (cond b (pair_of p q s t) (both.Refused BadOffset)) (both.Refused BadOffset))
+        go : (a b : Bool) (s t : Port) → sub_as_seen (cond a (cond b (pair_of p q s t) (Err BadOffset)) (Err BadOffset))
             ≡ cond a (cond b (taken_ends p (λ d. end_in marks links owners p d o) q (λ e. end_in marks links owners q e r) s t) BadOffset) BadOffset
         go false b s t = refl
         go true false s t = refl
@@ -78,29 +73,29 @@ module _ (marks : List Bool) (links owners : List ℕ) (flags : List Bool) where
         go true true (visible n d) (visible k e) = refl
 
     -- the second port is not live
-    pub sub_alone : (d : Direction) {u : SeenPair} → u ≡ subport_pair owners flags p o q r → u ≡ both.First d → {x : Refusal} → x ≡ taken_second p (end_in marks links owners p d o) →
+    pub sub_alone : (d : Direction) {u : Result SeenPair Refusal} → u ≡ subport_pair owners flags p o q r → u ≡ Ok (both.First d) → {x : Refusal} → x ≡ taken_second p (end_in marks links owners p d o) →
         x ≡ taken_sub_in marks links owners flags p o q r
-    sub_alone d e f h = sub_seen (both.First d) e f (h ∙ go (end_in marks links owners p d o))
+    sub_alone d e f h = sub_seen (Ok (both.First d)) e f (h ∙ go (end_in marks links owners p d o))
       where
         go : (v : End) → taken_second p v ≡ taken_first p InputWired v
         go lacking = refl
         go (inner y) = refl
 
     -- both are live: the first end, and the second
-    module _ (d c : Direction) {u : SeenPair} (e : u ≡ subport_pair owners flags p o q r) (f : u ≡ both.Both d c) where
+    module _ (d c : Direction) {u : Result SeenPair Refusal} (e : u ≡ subport_pair owners flags p o q r) (f : u ≡ Ok (both.Both d c)) where
       pub sub_lacking : end_in marks links owners p d o ≡ lacking → UnknownOffset (port# p) ≡ taken_sub_in marks links owners flags p o q r
-      sub_lacking g = sub_seen (both.Both d c) e f (ap (taken_first p (taken_second q (end_in marks links owners q c r))) (sym g))
+      sub_lacking g = sub_seen (Ok (both.Both d c)) e f (ap (taken_first p (taken_second q (end_in marks links owners q c r))) (sym g))
 
       pub sub_both : (y : ℕ) → end_in marks links owners p d o ≡ inner y → {x : Refusal} → x ≡ taken_second q (end_in marks links owners q c r) →
           x ≡ taken_sub_in marks links owners flags p o q r
-      sub_both y g h = sub_seen (both.Both d c) e f (h ∙ ap (taken_first p (taken_second q (end_in marks links owners q c r))) (sym g))
+      sub_both y g h = sub_seen (Ok (both.Both d c)) e f (h ∙ ap (taken_first p (taken_second q (end_in marks links owners q c r))) (sym g))
 
-abbrev pub ports_as_seen : SeenPair → Refusal
-ports_as_seen (both.Refused x) = x
-ports_as_seen (both.First d) = InputWired
-ports_as_seen (both.Both d e) = InputWired
+abbrev pub ports_as_seen : Result SeenPair Refusal → Refusal
+ports_as_seen (Err x) = x
+ports_as_seen (Ok (both.First d)) = InputWired
+ports_as_seen (Ok (both.Both d e)) = InputWired
 
-pub ports_seen : (owners : List ℕ) (flags : List Bool) (a b : ℕ) (v : SeenPair) {u : SeenPair} → u ≡ seen_pair owners flags a b → u ≡ v → ports_as_seen v ≡ taken_ports_in owners flags a b
+pub ports_seen : (owners : List ℕ) (flags : List Bool) (a b : ℕ) (v : Result SeenPair Refusal) {u : Result SeenPair Refusal} → u ≡ seen_pair owners flags a b → u ≡ v → ports_as_seen v ≡ taken_ports_in owners flags a b
 unfolding taken_ports_in seen_pair
 ports_seen owners flags a b v e f = ap ports_as_seen (sym f ∙ e) ∙ go (seen_in owners flags a) (seen_in owners flags b)
   where
@@ -120,27 +115,27 @@ module _ {A : Type 0} {c t : Bool} (is : c ≡ t) (x y : A) {z : A} where
   on_untaken h e = e ∙ ap (λ (u : Bool). cond u x y) (sym h ∙ is)
 
 module _ (marks : List Bool) (links owners : List ℕ) (flags : List Bool) (v : Release) (a b : ℕ) {c : Bool} (is : c ≡ taken_in marks links owners flags v a b) where
-  pub need_taken : c ≡ true → {x : Refusal} → x ≡ taken_ports_in owners flags a b → needs.Refused x ≡ link_need_under marks links owners flags v a b
+  pub need_taken : c ≡ true → {x : Refusal} → x ≡ taken_ports_in owners flags a b → Err x ≡ link_need_under marks links owners flags v a b
   unfolding link_need_under
-  need_taken t e = on_taken is _ _ t (ap needs.Refused e)
+  need_taken t e = on_taken is _ _ t (ap Err e)
 
-  pub need_untaken : c ≡ false → {l : LinkNeed} → l ≡ link_need marks links owners flags a b → l ≡ link_need_under marks links owners flags v a b
+  pub need_untaken : c ≡ false → {l : Result LinkNeed Refusal} → l ≡ link_need marks links owners flags a b → l ≡ link_need_under marks links owners flags v a b
   unfolding link_need_under
   need_untaken t e = on_untaken is _ _ t e
 
-  pub pair_taken : c ≡ true → {x : Refusal} → x ≡ taken_ports_in owners flags a b → pair.Refused x ≡ pair_named_under marks links owners flags v a b
+  pub pair_taken : c ≡ true → {x : Refusal} → x ≡ taken_ports_in owners flags a b → Err x ≡ pair_named_under marks links owners flags v a b
   unfolding pair_named_under
-  pair_taken t e = on_taken is _ _ t (ap pair.Refused e)
+  pair_taken t e = on_taken is _ _ t (ap Err e)
 
-  pub pair_untaken : c ≡ false → {l : NamedPair} → l ≡ pair_named owners flags a b → l ≡ pair_named_under marks links owners flags v a b
+  pub pair_untaken : c ≡ false → {l : Result (Unit {0}) Refusal} → l ≡ pair_named owners flags a b → l ≡ pair_named_under marks links owners flags v a b
   unfolding pair_named_under
   pair_untaken t e = on_untaken is _ _ t e
 
-  pub named_taken : c ≡ true → (o r : ℕ) {x : Refusal} → x ≡ taken_sub_in marks links owners flags a o b r → ends.Refused x ≡ link_named_under marks links owners flags v a o b r
+  pub named_taken : c ≡ true → (o r : ℕ) {x : Refusal} → x ≡ taken_sub_in marks links owners flags a o b r → Err x ≡ link_named_under marks links owners flags v a o b r
   unfolding link_named_under
-  named_taken t o r e = on_taken is _ _ t (ap ends.Refused e)
+  named_taken t o r e = on_taken is _ _ t (ap Err e)
 
-  pub named_untaken : c ≡ false → (o r : ℕ) {l : NamedLink} → l ≡ link_named marks links owners flags a o b r → l ≡ link_named_under marks links owners flags v a o b r
+  pub named_untaken : c ≡ false → (o r : ℕ) {l : Result (ℕ × ℕ) Refusal} → l ≡ link_named marks links owners flags a o b r → l ≡ link_named_under marks links owners flags v a o b r
   unfolding link_named_under
   named_untaken t o r e = on_untaken is _ _ t e
 

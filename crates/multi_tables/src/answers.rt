@@ -48,22 +48,6 @@ pub struct PortPlace {
     pub position: u16,
 }
 
-#[derive(Clone, Copy)]
-pub enum CutAnswer {
-    // The end found, and where it stands; for an inner port, where its visible end does.
-    Found(SubportIndex, PortPlace),
-    Nothing,
-    Refused(Refusal),
-}
-
-// The same without the place, as the calls over lent tables answer.
-#[derive(Clone, Copy)]
-pub enum EndAnswer {
-    Found(SubportIndex),
-    Nothing,
-    Refused(Refusal),
-}
-
 // A wire as a walk gives it: the two subports that are linked, and where the second one stands.
 #[derive(Clone, Copy)]
 pub struct SubportLink {
@@ -72,15 +56,11 @@ pub struct SubportLink {
     pub place: PortPlace,
 }
 
-impl CutAnswer {
-    // The same without the place.
-    pub fn unplaced(self) -> EndAnswer
-        ensures { (result ≡ unplaced self) × (unplaced_numbers result ≡ unplaced_numbers (unplaced self)) }
-    {
-        match self {
-            CutAnswer::Found(end, _) => EndAnswer::Found(end),
-            CutAnswer::Nothing => EndAnswer::Nothing,
-            CutAnswer::Refused(refusal) => EndAnswer::Refused(refusal),
-        }
-    }
+// An end without its place, as the calls over lent tables answer.
+pub fn unplaced(
+    answer: Result<Option<(SubportIndex, PortPlace)>, Refusal>,
+) -> Result<Option<SubportIndex>, Refusal>
+    ensures { (result ≡ unplaced answer) × (unplaced_numbers result ≡ unplaced_numbers (unplaced answer)) }
+{
+    Ok(answer?.map(|(end, _)| end))
 }

@@ -6,11 +6,10 @@ ghost use Rattle.multi_tables.specs.TakenInputs.{wired_in, taken_in, taken_sub_i
 
 use crate::answers::{Refusal, SubportIndex};
 use crate::named::{
-    LinkNeed, NamedLink, NamedPair, SeenPair, link_named, link_need, pair_named, seen_pair,
-    subport_pair,
+    LinkNeed, SeenPair, link_named, link_need, pair_named, seen_pair, subport_pair,
 };
 use crate::reads::{end_in, seen_in};
-use crate::seen::{EndFound, SeenPort};
+use crate::seen::SeenPort;
 use crate::wire_counts::wires_at;
 use port_tables::direction::Direction;
 use port_tables::index::{NODE_SLOTS, PORT_SLOTS, PortIndex};
@@ -77,9 +76,9 @@ pub fn taken_ports<'a>(
     ensures { result ≡ taken_ports_in owners.now flags.now a.0 b.0 }
 {
     match seen_pair(owners, flags, a, b) {
-        SeenPair::Refused(refusal) => refusal,
-        SeenPair::First(_) => Refusal::InputWired,
-        SeenPair::Both(_, _) => Refusal::InputWired,
+        Err(refusal) => refusal,
+        Ok(SeenPair::First(_)) => Refusal::InputWired,
+        Ok(SeenPair::Both(_, _)) => Refusal::InputWired,
     }
 }
 
@@ -94,7 +93,7 @@ fn taken_end<'a>(
     ensures { result ≡ taken_second subport.port.0 (end_in marks.now links.now owners.now subport.port.0 direction subport.subport_offset) }
 {
     let port = subport.port;
-    let EndFound::At(_) = end_in(
+    let Some(_) = end_in(
         marks,
         links,
         owners,
@@ -119,15 +118,15 @@ pub fn taken_subports<'a>(
     ensures { result ≡ taken_sub_in marks.now links.now owners.now flags.now from.port.0 from.subport_offset to.port.0 to.subport_offset }
 {
     match subport_pair(owners, flags, from, to) {
-        SeenPair::Refused(refusal) => {
+        Err(refusal) => {
             return refusal;
         }
-        SeenPair::First(d) => {
+        Ok(SeenPair::First(d)) => {
             return taken_end(marks, links, owners, from, d);
         }
-        SeenPair::Both(d, e) => {
+        Ok(SeenPair::Both(d, e)) => {
             let p = from.port;
-            let EndFound::At(_) = end_in(marks, links, owners, p.0, d, from.subport_offset) else {
+            let Some(_) = end_in(marks, links, owners, p.0, d, from.subport_offset) else {
                 return Refusal::UnknownOffset(p);
             };
             return taken_end(marks, links, owners, to, e);
@@ -144,11 +143,11 @@ pub fn link_need_under<'a>(
     release: Release,
     a: PortIndex,
     b: PortIndex,
-) -> LinkNeed
+) -> Result<LinkNeed, Refusal>
     ensures { result ≡ link_need_under marks.now links.now owners.now flags.now release a.0 b.0 }
 {
     if input_taken(marks, links, owners, flags, release, a.0, b.0) {
-        return LinkNeed::Refused(taken_ports(owners, flags, a, b));
+        return Err(taken_ports(owners, flags, a, b));
     }
     link_need(marks, links, owners, flags, a, b)
 }
@@ -162,11 +161,11 @@ pub fn pair_named_under<'a>(
     release: Release,
     a: PortIndex,
     b: PortIndex,
-) -> NamedPair
+) -> Result<(), Refusal>
     ensures { result ≡ pair_named_under marks.now links.now owners.now flags.now release a.0 b.0 }
 {
     if input_taken(marks, links, owners, flags, release, a.0, b.0) {
-        return NamedPair::Refused(taken_ports(owners, flags, a, b));
+        return Err(taken_ports(owners, flags, a, b));
     }
     pair_named(owners, flags, a, b)
 }
@@ -180,13 +179,13 @@ pub fn link_named_under<'a>(
     release: Release,
     from: SubportIndex,
     to: SubportIndex,
-) -> NamedLink
+) -> Result<(u32, u32), Refusal>
     ensures { result ≡ link_named_under marks.now links.now owners.now flags.now release from.port.0 from.subport_offset to.port.0 to.subport_offset }
 {
     let p = from.port;
     let q = to.port;
     if input_taken(marks, links, owners, flags, release, p.0, q.0) {
-        return NamedLink::Refused(taken_subports(marks, links, owners, flags, from, to));
+        return Err(taken_subports(marks, links, owners, flags, from, to));
     }
     link_named(marks, links, owners, flags, from, to)
 }

@@ -7,7 +7,7 @@ ghost use Rattle.multi_tables.specs.Forms.{flag_at, put_flag, lay_kept, unmark_n
 
 use port_tables::index::{NODE_SLOTS, PORT_SLOTS};
 use port_tables::node_entry::NodeMeta;
-use port_tables::numbers::{less, smaller, wide, wide16};
+use port_tables::numbers::wide;
 
 // The mark of a port; false outside the table.
 pub fn marked(marks: &[bool; PORT_SLOTS], port: usize) -> bool
@@ -78,49 +78,17 @@ fn unmark(marks: &mut [bool; PORT_SLOTS], first: usize, count: usize)
     requires { first + count ≤ port_slots }
     ensures { marks.new ≡ fill marks.old first count false }
 {
-    let mut k: usize = 0;
-    while k < count {
-        marks[first + k] = false;
-        k += 1;
-    }
+    marks[first..first + count].fill(false);
 }
 
-// Marks move, the first one first.
-fn move_up(marks: &mut [bool; PORT_SLOTS], old: usize, new: usize, count: usize)
-    requires { (new ≤ old) × (old + count ≤ port_slots) }
-    ensures { marks.new ≡ lay_range marks.old marks.old old new count }
-{
-    let mut k: usize = 0;
-    while k < count {
-        marks[new + k] = marks[old + k];
-        k += 1;
-    }
-}
-
-// Marks move, the last one first.
-fn move_down(marks: &mut [bool; PORT_SLOTS], old: usize, new: usize, count: usize)
-    requires { (old ≤ new) × (new + count ≤ port_slots) }
-    ensures { marks.new ≡ lay_range marks.old marks.old old new count }
-{
-    let mut k: usize = count;
-    while 0 < k {
-        k -= 1;
-        marks[new + k] = marks[old + k];
-    }
-}
-
-// Lays `count` marks, from `old` on, from `new` on, in the order in which none is overwritten before it is laid.
+// Lays `count` marks, from `old` on, from `new` on, as they were before.
 fn move_marks(marks: &mut [bool; PORT_SLOTS], old: usize, new: usize, count: usize)
     requires { (old + count ≤ port_slots) × (new + count ≤ port_slots) }
     ensures { marks.new ≡ lay_range marks.old marks.old old new count }
 {
-    if old == new {
-        return;
-    }
-    if new < old {
-        move_up(marks, old, new, count);
-    } else {
-        move_down(marks, old, new, count);
+    // Marks that stay where they are need no copy.
+    if old != new {
+        marks.copy_within(old..old + count, new);
     }
 }
 
@@ -131,10 +99,10 @@ fn move_kept(marks: &mut [bool; PORT_SLOTS], a: NodeMeta, b: NodeMeta)
 {
     let old = wide(a.first_port.0);
     let new = wide(b.first_port.0);
-    let old_in = wide16(a.incoming);
-    let new_in = wide16(b.incoming);
-    let incoming = smaller(old_in, new_in);
-    let outgoing = smaller(wide16(a.outgoing), wide16(b.outgoing));
+    let old_in = usize::from(a.incoming);
+    let new_in = usize::from(b.incoming);
+    let incoming = old_in.min(new_in);
+    let outgoing = usize::from(a.outgoing).min(usize::from(b.outgoing));
     if new <= old {
         move_marks(marks, old, new, incoming);
         move_marks(marks, old + old_in, new + new_in, outgoing);
@@ -150,10 +118,10 @@ fn unmark_new(marks: &mut [bool; PORT_SLOTS], a: NodeMeta, b: NodeMeta)
     ensures { marks.new ≡ unmark_new marks.old a b }
 {
     let first = wide(b.first_port.0);
-    let new_in = wide16(b.incoming);
-    let new_out = wide16(b.outgoing);
-    let kept_in = smaller(wide16(a.incoming), new_in);
-    let kept_out = smaller(wide16(a.outgoing), new_out);
+    let new_in = usize::from(b.incoming);
+    let new_out = usize::from(b.outgoing);
+    let kept_in = usize::from(a.incoming).min(new_in);
+    let kept_out = usize::from(a.outgoing).min(new_out);
     unmark(marks, first + kept_in, new_in - kept_in);
     unmark(marks, first + new_in + kept_out, new_out - kept_out);
 }
@@ -165,11 +133,11 @@ fn unmark_old(marks: &mut [bool; PORT_SLOTS], a: NodeMeta, b: NodeMeta)
 {
     let old = wide(a.first_port.0);
     let new = wide(b.first_port.0);
-    let count = wide16(a.incoming) + wide16(a.outgoing);
-    let end = new + (wide16(b.incoming) + wide16(b.outgoing));
-    let within = less(end, old);
-    unmark(marks, old, smaller(count, less(new, old)));
-    unmark(marks, old + within, less(count, within));
+    let count = usize::from(a.incoming) + usize::from(a.outgoing);
+    let end = new + (usize::from(b.incoming) + usize::from(b.outgoing));
+    let within = end.saturating_sub(old);
+    unmark(marks, old, count.min(new.saturating_sub(old)));
+    unmark(marks, old + within, count.saturating_sub(within));
 }
 
 // Each kept port has its mark at its new number; the node's other ports, old and new, are unmarked.

@@ -1,45 +1,20 @@
 // What a call names, read off lent tables: the inner ports of its ends, or the refusal.
 ghost use Rattle.std.specs.Prelude.{◌≡◌, ◌+◌, leb};
 ghost use Rattle.port_tables.specs.Limits.{port_slots};
-ghost use Rattle.multi_tables.specs.NamedEnds.{seen_pair, subport_pair, end_named, free_ends, second_end, first_end, link_named, read_in, reuse_in, end_need_in, first_need, both_need, link_need, pair_named};
+ghost use Rattle.multi_tables.specs.NamedEnds.{block_port, seen_pair, subport_pair, end_named, free_ends, second_end, first_end, link_named, read_in, reuse_in, end_need_in, first_need, both_need, link_need, pair_named};
 
 use crate::answers::{Refusal, SubportIndex};
 use crate::marks::marked;
 use crate::reads::{end_in, first_in, lowest_unlinked, seen_in, subports_in};
-use crate::seen::{EndFound, SeenPort};
+use crate::seen::SeenPort;
 use port_tables::direction::Direction;
-use port_tables::index::{NODE_SLOTS, PORT_SLOTS, PortIndex};
-use port_tables::numbers::{same_side, wide};
+use port_tables::index::{NODE_SLOTS, NodeIndex, PORT_SLOTS, PortIndex};
+use port_tables::numbers::wide;
 use port_tables::tables::at;
-
-// A subport that a call names.
-#[derive(Clone, Copy)]
-pub enum NamedEnd {
-    // Its inner port.
-    At(u32),
-    Refused(Refusal),
-}
-
-// Two subports that a call links.
-#[derive(Clone, Copy)]
-pub enum NamedLink {
-    // Their inner ports.
-    Ends(u32, u32),
-    Refused(Refusal),
-}
-
-// Two ports that a call links, before an end is prepared.
-#[derive(Clone, Copy)]
-pub enum NamedPair {
-    // Ports of blocks on opposite sides.
-    Opposite,
-    Refused(Refusal),
-}
 
 // How the two ports that a link names are seen.
 #[derive(Clone, Copy)]
 pub enum SeenPair {
-    Refused(Refusal),
     // The first is of a block, on this side; the second is not live.
     First(Direction),
     // Both are of blocks, on these sides.
@@ -62,11 +37,25 @@ pub enum EndNeed {
 pub enum LinkNeed {
     // Nothing: the inner port and the offset of each end.
     Ends(u32, u16, u32, u16),
-    Refused(Refusal),
     // The first end, of this side, has to be prepared; the second port is not live.
     First(Direction),
     // One end or both, of these sides, have to be prepared.
     Both(Direction, Direction),
+}
+
+// The block that has a port, and the side, or why the port is refused.
+pub fn block_port<'a>(
+    owners: &'a [u32; PORT_SLOTS],
+    flags: &'a [bool; NODE_SLOTS],
+    port: PortIndex,
+) -> Result<(NodeIndex, Direction), Refusal>
+    ensures { result ≡ block_port owners.now flags.now port.0 }
+{
+    match seen_in(owners, flags, port.0) {
+        SeenPort::Dead => Err(Refusal::UnknownPort(port)),
+        SeenPort::Hidden => Err(Refusal::HiddenPort(port)),
+        SeenPort::Visible(node, direction) => Ok((node, direction)),
+    }
 }
 
 // How two ports are seen, or the refusal.
@@ -75,29 +64,14 @@ pub fn seen_pair<'a>(
     flags: &'a [bool; NODE_SLOTS],
     a: PortIndex,
     b: PortIndex,
-) -> SeenPair
+) -> Result<SeenPair, Refusal>
     ensures { result ≡ seen_pair owners.now flags.now a.0 b.0 }
 {
-    match seen_in(owners, flags, a.0) {
-        SeenPort::Dead => {
-            return SeenPair::Refused(Refusal::UnknownPort(a));
-        }
-        SeenPort::Hidden => {
-            return SeenPair::Refused(Refusal::HiddenPort(a));
-        }
-        SeenPort::Visible(_, d) => {
-            match seen_in(owners, flags, b.0) {
-                SeenPort::Hidden => {
-                    return SeenPair::Refused(Refusal::HiddenPort(b));
-                }
-                SeenPort::Dead => {
-                    return SeenPair::First(d);
-                }
-                SeenPort::Visible(_, e) => {
-                    return SeenPair::Both(d, e);
-                }
-            }
-        }
+    let (_, d) = block_port(owners, flags, a)?;
+    match seen_in(owners, flags, b.0) {
+        SeenPort::Hidden => Err(Refusal::HiddenPort(b)),
+        SeenPort::Dead => Ok(SeenPair::First(d)),
+        SeenPort::Visible(_, e) => Ok(SeenPair::Both(d, e)),
     }
 }
 
@@ -107,14 +81,14 @@ pub fn subport_pair<'a>(
     flags: &'a [bool; NODE_SLOTS],
     from: SubportIndex,
     to: SubportIndex,
-) -> SeenPair
+) -> Result<SeenPair, Refusal>
     ensures { result ≡ subport_pair owners.now flags.now from.port.0 from.subport_offset to.port.0 to.subport_offset }
 {
     if from.subport_offset == 65535 {
-        return SeenPair::Refused(Refusal::BadOffset);
+        return Err(Refusal::BadOffset);
     }
     if to.subport_offset == 65535 {
-        return SeenPair::Refused(Refusal::BadOffset);
+        return Err(Refusal::BadOffset);
     }
     seen_pair(owners, flags, from.port, to.port)
 }
@@ -126,40 +100,41 @@ pub fn end_named<'a>(
     owners: &'a [u32; PORT_SLOTS],
     flags: &'a [bool; NODE_SLOTS],
     subport: SubportIndex,
-) -> NamedEnd
+) -> Result<u32, Refusal>
     ensures { result ≡ end_named marks.now links.now owners.now flags.now subport.port.0 subport.subport_offset }
 {
     let port = subport.port;
     let offset = subport.subport_offset;
     if offset == 65535 {
-        return NamedEnd::Refused(Refusal::BadOffset);
+        return Err(Refusal::BadOffset);
     }
-    match seen_in(owners, flags, port.0) {
-        SeenPort::Dead => NamedEnd::Refused(Refusal::UnknownPort(port)),
-        SeenPort::Hidden => NamedEnd::Refused(Refusal::HiddenPort(port)),
-        SeenPort::Visible(_, direction) => {
-            let EndFound::At(inner) = end_in(marks, links, owners, port.0, direction, offset) else {
-                return NamedEnd::Refused(Refusal::UnknownOffset(port));
-            };
-            NamedEnd::At(inner)
-        }
-    }
+    let (_, direction) = block_port(owners, flags, port)?;
+    let Some(inner) = end_in(marks, links, owners, port.0, direction, offset) else {
+        return Err(Refusal::UnknownOffset(port));
+    };
+    Ok(inner)
 }
 
 // Two ends that are there: on opposite sides, and neither linked.
-fn free_ends(links: &[u32; PORT_SLOTS], x: u32, d: Direction, y: u32, e: Direction) -> NamedLink
+fn free_ends(
+    links: &[u32; PORT_SLOTS],
+    x: u32,
+    d: Direction,
+    y: u32,
+    e: Direction,
+) -> Result<(u32, u32), Refusal>
     ensures { result ≡ free_ends links.now x d y e }
 {
-    if same_side(d, e) {
-        return NamedLink::Refused(Refusal::IncompatibleDirections(PortIndex(x), PortIndex(y), d));
+    if d == e {
+        return Err(Refusal::IncompatibleDirections(PortIndex(x), PortIndex(y), d));
     }
     if at(links, wide(x)) != 0 {
-        return NamedLink::Refused(Refusal::AlreadyLinked(PortIndex(x)));
+        return Err(Refusal::AlreadyLinked(PortIndex(x)));
     }
     if at(links, wide(y)) != 0 {
-        return NamedLink::Refused(Refusal::AlreadyLinked(PortIndex(y)));
+        return Err(Refusal::AlreadyLinked(PortIndex(y)));
     }
-    NamedLink::Ends(x, y)
+    Ok((x, y))
 }
 
 // The first end is there, with its side: the second.
@@ -171,17 +146,17 @@ fn second_end<'a>(
     subport: SubportIndex,
     x: u32,
     d: Direction,
-) -> NamedLink
+) -> Result<(u32, u32), Refusal>
     ensures { result ≡ second_end marks.now links.now owners.now flags.now subport.port.0 subport.subport_offset x d }
 {
     let port = subport.port;
     let offset = subport.subport_offset;
     match seen_in(owners, flags, port.0) {
-        SeenPort::Dead => NamedLink::Refused(Refusal::UnknownSecondPort(port)),
-        SeenPort::Hidden => NamedLink::Refused(Refusal::HiddenPort(port)),
+        SeenPort::Dead => Err(Refusal::UnknownSecondPort(port)),
+        SeenPort::Hidden => Err(Refusal::HiddenPort(port)),
         SeenPort::Visible(_, e) => {
-            let EndFound::At(y) = end_in(marks, links, owners, port.0, e, offset) else {
-                return NamedLink::Refused(Refusal::UnknownOffset(port));
+            let Some(y) = end_in(marks, links, owners, port.0, e, offset) else {
+                return Err(Refusal::UnknownOffset(port));
             };
             free_ends(links, x, d, y, e)
         }
@@ -197,12 +172,12 @@ fn first_end<'a>(
     from: SubportIndex,
     to: SubportIndex,
     d: Direction,
-) -> NamedLink
+) -> Result<(u32, u32), Refusal>
     ensures { result ≡ first_end marks.now links.now owners.now flags.now from.port.0 from.subport_offset to.port.0 to.subport_offset d }
 {
     let port = from.port;
-    let EndFound::At(x) = end_in(marks, links, owners, port.0, d, from.subport_offset) else {
-        return NamedLink::Refused(Refusal::UnknownOffset(port));
+    let Some(x) = end_in(marks, links, owners, port.0, d, from.subport_offset) else {
+        return Err(Refusal::UnknownOffset(port));
     };
     second_end(marks, links, owners, flags, to, x, d)
 }
@@ -215,19 +190,16 @@ pub fn link_named<'a>(
     flags: &'a [bool; NODE_SLOTS],
     from: SubportIndex,
     to: SubportIndex,
-) -> NamedLink
+) -> Result<(u32, u32), Refusal>
     ensures { result ≡ link_named marks.now links.now owners.now flags.now from.port.0 from.subport_offset to.port.0 to.subport_offset }
 {
-    match subport_pair(owners, flags, from, to) {
-        SeenPair::Refused(refusal) => {
-            return NamedLink::Refused(refusal);
-        }
+    match subport_pair(owners, flags, from, to)? {
         SeenPair::First(d) => {
             return first_end(marks, links, owners, flags, from, to, d);
-        }
+        },
         SeenPair::Both(d, _) => {
             return first_end(marks, links, owners, flags, from, to, d);
-        }
+        },
     }
 }
 
@@ -302,13 +274,13 @@ fn first_need<'a>(
     a: u32,
     d: Direction,
     b: PortIndex,
-) -> LinkNeed
+) -> Result<LinkNeed, Refusal>
     ensures { result ≡ first_need marks.now links.now owners.now a d b.0 }
 {
     match need_in(marks, links, owners, a, d) {
-        EndNeed::Ready(_, _) => LinkNeed::Refused(Refusal::UnknownSecondPort(b)),
-        EndNeed::Grow => LinkNeed::First(d),
-        EndNeed::Split => LinkNeed::First(d),
+        EndNeed::Ready(_, _) => Err(Refusal::UnknownSecondPort(b)),
+        EndNeed::Grow => Ok(LinkNeed::First(d)),
+        EndNeed::Split => Ok(LinkNeed::First(d)),
     }
 }
 
@@ -321,19 +293,19 @@ fn both_need<'a>(
     d: Direction,
     b: u32,
     e: Direction,
-) -> LinkNeed
+) -> Result<LinkNeed, Refusal>
     ensures { result ≡ both_need marks.now links.now owners.now a d b e }
 {
     let EndNeed::Ready(x, o) = need_in(marks, links, owners, a, d) else {
-        return LinkNeed::Both(d, e);
+        return Ok(LinkNeed::Both(d, e));
     };
     let EndNeed::Ready(y, r) = need_in(marks, links, owners, b, e) else {
-        return LinkNeed::Both(d, e);
+        return Ok(LinkNeed::Both(d, e));
     };
-    if same_side(d, e) {
-        return LinkNeed::Refused(Refusal::IncompatibleDirections(PortIndex(x), PortIndex(y), d));
+    if d == e {
+        return Err(Refusal::IncompatibleDirections(PortIndex(x), PortIndex(y), d));
     }
-    LinkNeed::Ends(x, o, y, r)
+    Ok(LinkNeed::Ends(x, o, y, r))
 }
 
 // What a link of two ports needs, or why it is refused.
@@ -344,19 +316,16 @@ pub fn link_need<'a>(
     flags: &'a [bool; NODE_SLOTS],
     a: PortIndex,
     b: PortIndex,
-) -> LinkNeed
+) -> Result<LinkNeed, Refusal>
     ensures { result ≡ link_need marks.now links.now owners.now flags.now a.0 b.0 }
 {
-    match seen_pair(owners, flags, a, b) {
-        SeenPair::Refused(refusal) => {
-            return LinkNeed::Refused(refusal);
-        }
+    match seen_pair(owners, flags, a, b)? {
         SeenPair::First(d) => {
             return first_need(marks, links, owners, a.0, d, b);
-        }
+        },
         SeenPair::Both(d, e) => {
             return both_need(marks, links, owners, a.0, d, b.0, e);
-        }
+        },
     }
 }
 
@@ -366,21 +335,18 @@ pub fn pair_named<'a>(
     flags: &'a [bool; NODE_SLOTS],
     a: PortIndex,
     b: PortIndex,
-) -> NamedPair
+) -> Result<(), Refusal>
     ensures { result ≡ pair_named owners.now flags.now a.0 b.0 }
 {
-    match seen_pair(owners, flags, a, b) {
-        SeenPair::Refused(refusal) => {
-            return NamedPair::Refused(refusal);
-        }
+    match seen_pair(owners, flags, a, b)? {
         SeenPair::First(_) => {
-            return NamedPair::Refused(Refusal::UnknownSecondPort(b));
-        }
+            return Err(Refusal::UnknownSecondPort(b));
+        },
         SeenPair::Both(d, e) => {
-            if same_side(d, e) {
-                return NamedPair::Refused(Refusal::IncompatibleDirections(a, b, d));
+            if d == e {
+                return Err(Refusal::IncompatibleDirections(a, b, d));
             }
-            return NamedPair::Opposite;
-        }
+            return Ok(());
+        },
     }
 }

@@ -6,12 +6,12 @@ ghost use Rattle.port_tables.specs.Limits.{port_slots};
 ghost use Rattle.multi_tables.specs.Forms.{seen_as, end_as, lowest_unlinked};
 ghost use Rattle.multi_tables.specs.TableReads.{far_in, owner_in, seen_in, run_up, run_down, count_beside, first_beside, end_beside, subports_in, first_in, end_in, copy_beside, subport_in, no_place, place_in, wire_in, wire_end_in, plain_in, leap_down, row_below};
 
-use crate::answers::{CutAnswer, EndAnswer, PortPlace, SubportIndex};
+use crate::answers::{PortPlace, Refusal, SubportIndex};
 use crate::marks::{flagged, marked};
-use crate::seen::{EndFound, SeenPort};
+use crate::seen::SeenPort;
 use port_tables::direction::Direction;
 use port_tables::index::{NODE_SLOTS, NodeIndex, PORT_SLOTS, PortIndex};
-use port_tables::numbers::{less, wide, wide16};
+use port_tables::numbers::wide;
 use port_tables::port_entry::PortEntry;
 use port_tables::tables::at;
 
@@ -79,14 +79,12 @@ fn run_up(owners: &[u32; PORT_SLOTS], owner: u32, from: usize) -> usize
     requires { from ≤ 4294967296 }
     ensures { result ≡ run_up owners.now owner from }
 {
-    let mut k: usize = 0;
-    while k < PORT_SLOTS {
+    for k in 0..PORT_SLOTS {
         if at(owners, from + k) != owner {
             return k;
         }
-        k += 1;
     }
-    k
+    PORT_SLOTS
 }
 
 // How many slots in a row below `from` have this owner.
@@ -94,14 +92,12 @@ fn run_down(owners: &[u32; PORT_SLOTS], owner: u32, from: usize) -> usize
     ensures { result ≡ run_down owners.now owner from }
 {
     let most = within(from);
-    let mut k: usize = 0;
-    while k < most {
+    for k in 0..most {
         if at(owners, from - (k + 1)) != owner {
             return k;
         }
-        k += 1;
     }
-    k
+    most
 }
 
 // How many leaps below `from` in a row end at a slot of this owner.
@@ -109,14 +105,12 @@ fn leap_down(owners: &[u32; PORT_SLOTS], owner: u32, from: usize) -> usize
     ensures { result ≡ leap_down owners.now owner from }
 {
     let most = within(from) / LEAP;
-    let mut k: usize = 0;
-    while k < most {
+    for k in 0..most {
         if at(owners, from - LEAP * (k + 1)) != owner {
             return k;
         }
-        k += 1;
     }
-    k
+    most
 }
 
 // The same as `run_down` where the slots of an owner lie in a row: most of them are leapt over.
@@ -133,7 +127,7 @@ fn count_beside(owners: &[u32; PORT_SLOTS], copy: u32, direction: Direction) -> 
 {
     let place = wide(copy);
     match direction {
-        Direction::Incoming => run_down(owners, at(owners, less(place, 1)), place),
+        Direction::Incoming => run_down(owners, at(owners, place.saturating_sub(1)), place),
         Direction::Outgoing => run_up(owners, at(owners, place + 1), place + 1),
     }
 }
@@ -144,32 +138,37 @@ fn first_beside(owners: &[u32; PORT_SLOTS], copy: u32, direction: Direction) -> 
 {
     let place = wide(copy);
     match direction {
-        Direction::Incoming => less(place, count_beside(owners, copy, direction)),
+        Direction::Incoming => place.saturating_sub(count_beside(owners, copy, direction)),
         Direction::Outgoing => place + 1,
     }
 }
 
 // The one at an offset.
-fn end_beside(owners: &[u32; PORT_SLOTS], copy: u32, direction: Direction, offset: u16) -> EndFound
+fn end_beside(
+    owners: &[u32; PORT_SLOTS],
+    copy: u32,
+    direction: Direction,
+    offset: u16,
+) -> Option<u32>
     ensures { result ≡ end_as (end_beside owners.now copy direction offset) }
 {
     let place = wide(copy);
     match direction {
         Direction::Incoming => {
             let count = count_beside(owners, copy, direction);
-            if wide16(offset) < count {
-                return EndFound::At((less(place, count) + wide16(offset)) as u32);
+            if usize::from(offset) < count {
+                return Some((place.saturating_sub(count) + usize::from(offset)) as u32);
             }
-            EndFound::Lacking
+            None
         }
         Direction::Outgoing => {
-            let slot = place + 1 + wide16(offset);
+            let slot = place + 1 + usize::from(offset);
             if slot < PORT_SLOTS {
                 if at(owners, slot) == at(owners, place + 1) {
-                    return EndFound::At(slot as u32);
+                    return Some(slot as u32);
                 }
             }
-            EndFound::Lacking
+            None
         }
     }
 }
@@ -206,13 +205,13 @@ pub fn end_in<'a>(
     port: u32,
     direction: Direction,
     offset: u16,
-) -> EndFound
+) -> Option<u32>
     ensures { result ≡ end_as (end_in marks.now links.now owners.now port direction offset) }
 {
     if marked(marks, wide(port)) {
         return end_beside(owners, far_in(links, wide(port)), direction, offset);
     }
-    EndFound::At(port)
+    Some(port)
 }
 
 // The slot of the copy port beside the subports among which a slot is.
@@ -223,7 +222,9 @@ fn copy_beside(owners: &[u32; PORT_SLOTS], port: u32, direction: Direction) -> u
     let owner = at(owners, place);
     match direction {
         Direction::Incoming => place + run_up(owners, owner, place),
-        Direction::Outgoing => less(less(place, run_down(owners, owner, place)), 1),
+        Direction::Outgoing => place
+            .saturating_sub(run_down(owners, owner, place))
+            .saturating_sub(1),
     }
 }
 
@@ -283,15 +284,15 @@ pub fn wire_in<'a>(
     owners: &'a [u32; PORT_SLOTS],
     flags: &'a [bool; NODE_SLOTS],
     port: u32,
-) -> CutAnswer
+) -> Result<Option<(SubportIndex, PortPlace)>, Refusal>
     ensures { result ≡ wire_in links.now owners.now flags.now port }
 {
     if at(links, wide(port)) == 0 {
-        return CutAnswer::Nothing;
+        return Ok(None);
     }
     let end = subport_in(links, owners, flags, far_in(links, wide(port)));
     let far = end.port;
-    CutAnswer::Found(end, place_in(owners, far.0))
+    Ok(Some((end, place_in(owners, far.0))))
 }
 
 // What an end is linked with.
@@ -300,13 +301,13 @@ pub fn wire_end_in<'a>(
     owners: &'a [u32; PORT_SLOTS],
     flags: &'a [bool; NODE_SLOTS],
     port: u32,
-) -> EndAnswer
+) -> Result<Option<SubportIndex>, Refusal>
     ensures { result ≡ wire_end_in links.now owners.now flags.now port }
 {
     if at(links, wide(port)) == 0 {
-        return EndAnswer::Nothing;
+        return Ok(None);
     }
-    EndAnswer::Found(subport_in(links, owners, flags, far_in(links, wide(port))))
+    Ok(Some(subport_in(links, owners, flags, far_in(links, wide(port)))))
 }
 
 // What cutting an unsplit port answers: its inner far port, and where the visible end of that stands.
@@ -315,22 +316,22 @@ pub fn plain_in<'a>(
     owners: &'a [u32; PORT_SLOTS],
     flags: &'a [bool; NODE_SLOTS],
     port: u32,
-) -> CutAnswer
+) -> Result<Option<(SubportIndex, PortPlace)>, Refusal>
     ensures { result ≡ plain_in links.now owners.now flags.now port }
 {
     if at(links, wide(port)) == 0 {
-        return CutAnswer::Nothing;
+        return Ok(None);
     }
     let inner = far_in(links, wide(port));
     let end = subport_in(links, owners, flags, inner);
     let far = end.port;
-    CutAnswer::Found(
+    Ok(Some((
         SubportIndex {
             port: PortIndex(inner),
             subport_offset: 0,
         },
         place_in(owners, far.0),
-    )
+    )))
 }
 
 // The lowest offset from 0 whose port, counted from `first`, has no link; `count` where all have.
@@ -338,12 +339,10 @@ pub fn lowest_unlinked(links: &[u32; PORT_SLOTS], first: usize, count: usize) ->
     requires { first + count ≤ port_slots }
     ensures { result ≡ lowest_unlinked links.now first 0 count }
 {
-    let mut o: usize = 0;
-    while o < count {
+    for o in 0..count {
         if links[first + o] == 0 {
             return o;
         }
-        o += 1;
     }
-    o
+    count
 }

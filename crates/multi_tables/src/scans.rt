@@ -6,14 +6,14 @@ ghost use Rattle.multi_tables.specs.Forms.{subport#, wire_to};
 ghost use Rattle.multi_tables.specs.TableReads.{wire_in};
 ghost use Rattle.multi_tables.specs.Scans.{first_found, link_port, span_first, span_count, not_own_output, passes_in, links_in, port_links_in, links_rest, beyond_in, block_links_in};
 
-use crate::answers::{EndAnswer, SubportIndex, SubportLink};
+use crate::answers::{SubportIndex, SubportLink};
 use crate::marks::marked;
 use crate::reads::{first_in, owner_in, place_in, seen_in, subports_in, wire_end_in};
 use crate::seen::SeenPort;
 use port_tables::direction::Direction;
 use port_tables::index::{NODE_SLOTS, NodeIndex, PORT_SLOTS, PortIndex};
 use port_tables::node_entry::{NodeEntry, NodeSlot};
-use port_tables::numbers::{wide, wide16};
+use port_tables::numbers::wide;
 use port_tables::sides::{Sides, ports_from, ports_to};
 
 // Which links a walk gives, by the port that they lead to.
@@ -24,12 +24,6 @@ pub enum LinkFilter {
     Skip(u32, u32),
     NotOutputOf(NodeIndex),
     To(NodeIndex),
-}
-
-#[derive(Clone, Copy)]
-pub enum LinkFound {
-    Link(SubportLink),
-    None,
 }
 
 // The smaller of a number and the table's size.
@@ -121,34 +115,32 @@ pub fn link_at<'a>(
     port: u32,
     slot: usize,
     offset: u16,
-) -> LinkFound
+) -> Option<SubportLink>
     ensures { (result ≡ first_found (filter (λ w. passes_in owners.now flags.now only w.to.port.0)
         (wire_to (subport# port offset) (wire_in links.now owners.now flags.now slot))))
         × (link_port port result ≡ port) }
 {
     if slot < PORT_SLOTS {
-        let wire = wire_end_in(links, owners, flags, slot as u32);
-        return match wire {
-            EndAnswer::Nothing => LinkFound::None,
-            EndAnswer::Refused(_) => LinkFound::None,
-            EndAnswer::Found(to) => {
-                let far = to.port;
-                if passes(owners, flags, only, far.0) {
-                    let place = place_in(owners, far.0);
-                    return LinkFound::Link(SubportLink {
-                        from: SubportIndex {
-                            port: PortIndex(port),
-                            subport_offset: offset,
-                        },
-                        to: to,
-                        place: place,
-                    });
-                }
-                LinkFound::None
-            }
+        let Ok(found) = wire_end_in(links, owners, flags, slot as u32) else {
+            return None;
         };
+        let Some(to) = found else {
+            return None;
+        };
+        let far = to.port;
+        if passes(owners, flags, only, far.0) {
+            let place = place_in(owners, far.0);
+            return Some(SubportLink {
+                from: SubportIndex {
+                    port: PortIndex(port),
+                    subport_offset: offset,
+                },
+                to: to,
+                place: place,
+            });
+        }
     }
-    LinkFound::None
+    None
 }
 
 // The first link of a port at an offset from `from` on and below `end`; the port's ends begin at the slot `first`.
@@ -161,14 +153,13 @@ pub fn scan_port<'a>(
     first: usize,
     from: usize,
     end: usize,
-) -> LinkFound
+) -> Option<SubportLink>
     requires { (first ≤ port_slots) × (end ≤ port_slots) }
     ensures { (result ≡ first_found (filter (λ w. passes_in owners.now flags.now only w.to.port.0)
         (links_in links.now owners.now flags.now port first from (end - from))))
         × (link_port port result ≡ port) }
 {
-    let mut offset = from;
-    while offset < end {
+    for offset in from..end {
         let found = link_at(
             links,
             owners,
@@ -178,16 +169,11 @@ pub fn scan_port<'a>(
             first + offset,
             offset as u16,
         );
-        match found {
-            LinkFound::Link(_) => {
-                return found;
-            }
-            LinkFound::None => {
-                offset += 1;
-            }
+        if let Some(_) = found {
+            return found;
         }
     }
-    LinkFound::None
+    None
 }
 
 // The first link of a port at an offset from `from` on.
@@ -199,15 +185,15 @@ fn port_link_from<'a>(
     only: LinkFilter,
     port: u32,
     from: usize,
-) -> LinkFound
+) -> Option<SubportLink>
     ensures { (result ≡ first_found (filter (λ w. passes_in owners.now flags.now only w.to.port.0)
         (port_links_in marks.now links.now owners.now flags.now port from)))
         × (link_port port result ≡ port) }
 {
     let seen = seen_in(owners, flags, port);
     match seen {
-        SeenPort::Dead => LinkFound::None,
-        SeenPort::Hidden => LinkFound::None,
+        SeenPort::Dead => None,
+        SeenPort::Hidden => None,
         SeenPort::Visible(_, direction) => {
             let first = span_first(marks, links, owners, port, direction);
             let end = span_count(marks, links, owners, port, direction);
@@ -226,27 +212,21 @@ fn next_link<'a>(
     from: usize,
     offset: usize,
     end: usize,
-) -> LinkFound
+) -> Option<SubportLink>
     ensures { (result ≡ first_found (filter (λ w. passes_in owners.now flags.now only w.to.port.0)
         (links_rest marks.now links.now owners.now flags.now from offset (min end port_slots - from))))
         × (link_port 0 result < port_slots) }
 {
     let stop = capped(end);
-    let mut port = from;
     let mut first = offset;
-    while port < stop {
+    for port in from..stop {
         let found = port_link_from(marks, links, owners, flags, only, port as u32, first);
-        match found {
-            LinkFound::Link(_) => {
-                return found;
-            }
-            LinkFound::None => {
-                port += 1;
-                first = 0;
-            }
+        if let Some(_) = found {
+            return found;
         }
+        first = 0;
     }
-    LinkFound::None
+    None
 }
 
 // The first link of the ports from `from` on and below `end` that lies beyond what a cursor holds.
@@ -260,7 +240,7 @@ pub fn next_beyond<'a>(
     end: usize,
     held: u32,
     offset: u16,
-) -> LinkFound
+) -> Option<SubportLink>
     ensures { (result ≡ first_found (filter (λ w. passes_in owners.now flags.now only w.to.port.0)
         (beyond_in marks.now links.now owners.now flags.now from end held offset)))
         × (link_port 0 result < port_slots) }
@@ -276,7 +256,7 @@ pub fn next_beyond<'a>(
         flags,
         only,
         place - 1,
-        wide16(offset) + 1,
+        usize::from(offset) + 1,
         end,
     )
 }
@@ -291,16 +271,16 @@ pub fn block_links<'a>(
     hidden: bool,
     held: u32,
     offset: u16,
-) -> LinkFound
+) -> Option<SubportLink>
     ensures { (result ≡ first_found (block_links_in marks.now links.now owners.now flags.now slot.entry hidden held offset))
         × (link_port 0 result < port_slots) }
 {
     if hidden {
-        return LinkFound::None;
+        return None;
     }
     let entry = slot.entry;
     let NodeEntry::Node(meta) = entry else {
-        return LinkFound::None;
+        return None;
     };
     let side = Sides::One(Direction::Outgoing);
     next_beyond(

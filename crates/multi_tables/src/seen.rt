@@ -12,10 +12,3 @@ pub enum SeenPort {
     // Of a block: the node and the side.
     Visible(NodeIndex, Direction),
 }
-
-// An end that a call names: the inner port, or none where a split port has no such offset.
-#[derive(Clone, Copy)]
-pub enum EndFound {
-    At(u32),
-    Lacking,
-}

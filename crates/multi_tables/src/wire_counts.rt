@@ -9,7 +9,7 @@ use crate::reads::far_in;
 use crate::scans::capped;
 use port_tables::direction::Direction;
 use port_tables::index::PORT_SLOTS;
-use port_tables::numbers::{less, wide};
+use port_tables::numbers::wide;
 use port_tables::tables::at;
 
 // 1 for a slot that is linked, else 0.
@@ -33,13 +33,11 @@ fn linked_up<'a>(
     ensures { (result ≡ linked_up links.now from (run_up owners.now owner from)) × (result ≤ port_slots) }
 {
     let mut linked: usize = 0;
-    let mut k: usize = 0;
-    while k < PORT_SLOTS {
+    for k in 0..PORT_SLOTS {
         if at(owners, from + k) != owner {
             return linked;
         }
         linked += linked_at(links, from + k);
-        k += 1;
     }
     linked
 }
@@ -55,13 +53,11 @@ fn linked_down<'a>(
 {
     let most = capped(from);
     let mut linked: usize = 0;
-    let mut k: usize = 0;
-    while k < most {
+    for k in 0..most {
         if at(owners, from - (k + 1)) != owner {
             return linked;
         }
         linked += linked_at(links, from - (k + 1));
-        k += 1;
     }
     linked
 }
@@ -77,7 +73,12 @@ fn linked_beside<'a>(
 {
     let place = wide(copy);
     match direction {
-        Direction::Incoming => linked_down(links, owners, at(owners, less(place, 1)), place),
+        Direction::Incoming => linked_down(
+            links,
+            owners,
+            at(owners, place.saturating_sub(1)),
+            place,
+        ),
         Direction::Outgoing => linked_up(links, owners, at(owners, place + 1), place + 1),
     }
 }

@@ -3,16 +3,13 @@
 use Rattle.std.proofs.Common.{◌∙◌, ap, sym, subst}
 use Rattle.std.proofs.Math.Bool.{true, false, cond}
 use Rattle.std.proofs.Math.Path.{refl}
-use Rattle.std.specs.Prelude.{◌≡◌, Bool, ℕ, List}
+use Rattle.std.specs.Prelude.{◌≡◌, Bool, ℕ, List, Option, Some, None, Result, Ok, Err}
 use Rattle.port_tables.specs.Entries.{port#}
 use Rattle.port_tables.specs.declared.direction.Direction.{Direction}
 use Rattle.portgraph.specs.Calls.{unlink_port}
 use Rattle.portgraph.specs.GoodSlots.{zero_is_not_one}
 use Rattle.portgraph.specs.Model.{Model}
-use Rattle.portgraph.specs.declared.portgraph.PortLink.TheVariants as lower_cut
-use Rattle.portgraph.specs.declared.portgraph.PortLink.{PortLink}
 use Rattle.multi_tables.specs.Forms.{Port, dead, hidden, visible, subport#}
-use Rattle.multi_tables.specs.declared.answers.CutAnswer.TheVariants as cutting
 use Rattle.multi_tables.specs.declared.answers.PortPlace.{PortPlace}
 use Rattle.multi_tables.specs.declared.answers.Refusal.TheVariants.{NoRoom, UnknownPort, HiddenPort}
 use Rattle.multi_tables.specs.declared.answers.Refusal.{Refusal}
@@ -28,9 +25,10 @@ use Rattle.multiportgraph.specs.Reading.{is_split, seen, standing}
 use Rattle.multiportgraph.specs.Space.{Work, cut_works, cut_seen_works}
 use Rattle.multiportgraph.specs.SpaceLaws.{Spaced, spaced_done, own_room, no_work, cuts_nothing, cut_fits, unsplit_room, unlink_keeps_room}
 use Rattle.multiportgraph.specs.WellFormed.{MultiWf, Fine}
-use Rattle.multiportgraph.specs.declared.lookups.DirectionAnswer.TheVariants as direction_of_lem
 use Rattle.multiportgraph.specs.declared.multiportgraph.MultiPortGraph.{MultiPortGraph}
 use Rattle.multiportgraph.specs.declared.multiportgraph.PortUnlinked.{PortUnlinked}
+use Rattle.port_tables.specs.declared.index.PortIndex.{PortIndex}
+use Rattle.portgraph.specs.declared.portgraph.NoSuchPort.{NoSuchPort}
 
 module _ (m : MultiPortGraph) (p : ℕ) where
   pub cut_cases : cut_port m p ≡ cut_seen m p (seen m p)
@@ -47,7 +45,7 @@ module _ (m : MultiPortGraph) (p : ℕ) where
   cut_port_seen s e = ap (cut_seen m p) (sym e) ∙ sym (cut_cases m p)
 
   pub cut_port_split : (n : ℕ) (d : Direction) (r : MultiPortGraph) {x : PortPlace} → seen m p ≡ visible n d → is_split m p ≡ true → r ≡ unsplit m p → x ≡ standing m (subport# p 0)
-      → ◌≡◌ {A = PortUnlinked} (record { graph = r; answer = cutting.Found (subport# p 0) x }) (cut_port m p)
+      → ◌≡◌ {A = PortUnlinked} (record { graph = r; answer = Ok (Some (subport# p 0, x)) }) (cut_port m p)
   unfolding cut_port
   cut_port_split n d r e s h k = rw (e, s, h, k)
 
@@ -56,14 +54,14 @@ module _ {m : MultiPortGraph} {M : Model} (f : Fine m M) where
   pub cut_port_law : (p : ℕ) → CutSays m M p port_at (cut_port m p).graph (cut_port m p).answer
   cut_port_law p = subst (CutSaid m M p port_at) (sym (cut_cases m p)) (ports (seen m p) refl)
     where
-      told : (m' : MultiPortGraph) → CutDone m M m' p port_at → (v : PortLink) → CutSays m M p port_at m' (cut_plain m v)
-      told m' d (lower_cut.Linked q) = d
-      told m' d lower_cut.Unlinked = d
-      told m' d (lower_cut.UnknownPort q) = d
+      told : (m' : MultiPortGraph) → CutDone m M m' p port_at → (v : Result (Option PortIndex) NoSuchPort) → CutSays m M p port_at m' (cut_plain m v)
+      told m' d (Ok (Some q)) = d
+      told m' d (Ok None) = d
+      told m' d (Err q) = d
 
       marks : (n : ℕ) (d : Direction) → BlockPort m M p n d → (b : Bool) → is_split m p ≡ b
           → CutSaid m M p port_at
-          (cond b (record { graph = unsplit m p; answer = cutting.Found (subport# p 0) (standing m (subport# p 0)) })
+          (cond b (record { graph = unsplit m p; answer = Ok (Some (subport# p 0, standing m (subport# p 0))) })
           (record { graph = with_graph m (unlink_port m.graph p).graph; answer = cut_plain m (unlink_port m.graph p).answer }))
       marks n d b true e =
           subst (λ (c : ℕ). CutDone m M (unsplit m c) c port_at) b.slot (split_cut f b.place b.is_seen (ap (is_split m) b.slot ∙ e))
@@ -77,36 +75,36 @@ module _ {m : MultiPortGraph} {M : Model} (f : Fine m M) where
       ports hidden e = refl
       ports (visible n d) e = marks n d (block_seen f p n d e) (is_split m p) refl
 
-  pub cut_space : (p : ℕ) → Spaced m M (cut_seen_works m p (seen m p)) ((cut_port m p).answer ≡ cutting.Refused NoRoom) (cut_port m p).graph
-  cut_space p = subst (λ (v : PortUnlinked). Spaced m M (cut_seen_works m p (seen m p)) (v.answer ≡ cutting.Refused NoRoom) v.graph) (sym (cut_cases m p)) (go (seen m p))
+  pub cut_space : (p : ℕ) → Spaced m M (cut_seen_works m p (seen m p)) ((cut_port m p).answer ≡ Err NoRoom) (cut_port m p).graph
+  cut_space p = subst (λ (v : PortUnlinked). Spaced m M (cut_seen_works m p (seen m p)) (v.answer ≡ Err NoRoom) v.graph) (sym (cut_cases m p)) (go (seen m p))
     where
-      plain : (v : PortLink) → cut_plain m v ≡ cutting.Refused NoRoom → ⊥
-      plain (lower_cut.Linked q) e = zero_is_not_one (cc)
-      plain lower_cut.Unlinked e = zero_is_not_one (cc)
-      plain (lower_cut.UnknownPort q) e = zero_is_not_one (cc)
+      plain : (v : Result (Option PortIndex) NoSuchPort) → cut_plain m v ≡ Err NoRoom → ⊥
+      plain (Ok (Some q)) e = zero_is_not_one (cc)
+      plain (Ok None) e = zero_is_not_one (cc)
+      plain (Err q) e = zero_is_not_one (cc)
 
       Says : PortUnlinked → Type 0
-      Says v = Spaced m M (cut_works m p) (v.answer ≡ cutting.Refused NoRoom) v.graph
+      Says v = Spaced m M (cut_works m p) (v.answer ≡ Err NoRoom) v.graph
 
       port : (b : Bool) → is_split m p ≡ b
-          → Says (cond b (record { graph = unsplit m p; answer = cutting.Found (subport# p 0) (standing m (subport# p 0)) })
+          → Says (cond b (record { graph = unsplit m p; answer = Ok (Some (subport# p 0, standing m (subport# p 0))) })
           (record { graph = with_graph m (unlink_port m.graph p).graph; answer = cut_plain m (unlink_port m.graph p).answer }))
       port true e = spaced_done (λ q. zero_is_not_one (cc)) (cut_fits f p) (unsplit_room m (record { model = M; good = f.good; holds = f.holds; is = refl }) p)
       port false e =
-          subst (λ (l : List Work). Spaced m M l (cut_plain m (unlink_port m.graph p).answer ≡ cutting.Refused NoRoom) (with_graph m (unlink_port m.graph p).graph)) (sym (cuts_nothing m p e))
+          subst (λ (l : List Work). Spaced m M l (cut_plain m (unlink_port m.graph p).answer ≡ Err NoRoom) (with_graph m (unlink_port m.graph p).graph)) (sym (cuts_nothing m p e))
           (no_work f (plain (unlink_port m.graph p).answer) (unlink_keeps_room (own_room f) p))
 
-      go : (s : Port) → Spaced m M (cut_seen_works m p s) ((cut_seen m p s).answer ≡ cutting.Refused NoRoom) (cut_seen m p s).graph
+      go : (s : Port) → Spaced m M (cut_seen_works m p s) ((cut_seen m p s).answer ≡ Err NoRoom) (cut_seen m p s).graph
       go dead = no_work f (λ e. zero_is_not_one (cc)) (own_room f)
       go hidden = no_work f (λ e. zero_is_not_one (cc)) (own_room f)
       go (visible n d) = port (is_split m p) refl
 
 module _ {m : MultiPortGraph} (w : MultiWf m) where
-  pub port_cut_refused : (p : ℕ) {a : Refusal} → direction_of m p ≡ direction_of_lem.Refused a → cut_refused m a ≡ cut_port m p
+  pub port_cut_refused : (p : ℕ) {a : Refusal} → direction_of m p ≡ Err a → cut_refused m a ≡ cut_port m p
   unfolding direction_of
   port_cut_refused p {a} e = go (seen m p) refl e
     where
-      go : (s : Port) → seen m p ≡ s → direction_seen p s ≡ direction_of_lem.Refused a → cut_refused m a ≡ cut_port m p
+      go : (s : Port) → seen m p ≡ s → direction_seen p s ≡ Err a → cut_refused m a ≡ cut_port m p
       go dead t e = let q : UnknownPort (port# p) ≡ a = cc in ap (cut_refused m) (sym q) ∙ cut_port_seen m p dead t
       go hidden t e = let q : HiddenPort (port# p) ≡ a = cc in ap (cut_refused m) (sym q) ∙ cut_port_seen m p hidden t
       go (visible n d) t e = absurd (zero_is_not_one (cc))

@@ -1,7 +1,8 @@
 -- What the loops over a block's ports and over listed hidden nodes do, turn by turn, and what the calls that remove or resize a block amount to.
 use Rattle.std.proofs.Math.Path.{◌≡◌, refl, subst}
 use Rattle.std.proofs.Common.{sym, ap, ◌∙◌, length-append, drop-cons, le-leb, leb-true, leb-false}
-use Rattle.std.specs.Prelude.{Bool, cond, List, [], ◌∷◌, ◌++◌, get_or, set, length, take, drop, leb}
+use Rattle.std.proofs.Math.ListN.{drop_of_length-le}
+use Rattle.std.specs.Prelude.{Bool, cond, List, [], ◌∷◌, ◌++◌, get_or, set, length, take, drop, leb, Option, Some, None, Result, Ok, Err}
 use Rattle.std.proofs.Math.Bool.{true, false}
 use Prim.Native.Nat.{ℕ, zero, suc, ◌+◌, ◌-◌, ◌≤◌, ◌<◌, min}
 use native.Mathlib.Omega.{arith}
@@ -24,12 +25,8 @@ use Rattle.port_tables.specs.declared.direction.Direction.{Direction}
 use Rattle.port_tables.specs.declared.node_entry.NodeMeta.{NodeMeta}
 use Rattle.port_tables.specs.declared.node_entry.NodeEntry.{NodeEntry}
 use Rattle.port_tables.specs.declared.node_entry.NodeEntry.TheVariants as node_variants
-use Rattle.port_tables.specs.declared.node_entry.MaybeNodeMeta.{MaybeNodeMeta}
-use Rattle.port_tables.specs.declared.node_entry.MaybeNodeMeta.TheVariants as maybe_meta
 use Rattle.portgraph.specs.declared.alloc.NodeRemoved as lower_removed
 use Rattle.portgraph.specs.declared.resize.PortsSet as lower_set
-use Rattle.portgraph.specs.declared.resize.SetAnswer as lower_answer
-use Rattle.portgraph.specs.declared.resize.SetAnswer.TheVariants as lower_variants
 use Rattle.portgraph.specs.declared.portgraph.PortGraph.{PortGraph}
 use Rattle.multiportgraph.specs.Reading.{port_of, is_hidden, is_split, copy_node, copy_side}
 use Rattle.multiportgraph.specs.Calls.{drop_block, remove_block, set_as, set_counts, told_meta, moves_told, moves_told_under, set_counts_under}
@@ -40,11 +37,6 @@ use Rattle.multi_tables.specs.FormSteps.{flag_inside}
 use Rattle.multiportgraph.specs.CopySteps.{unsplit_plain}
 use Rattle.multi_tables.specs.declared.answers.Refusal.{Refusal}
 use Rattle.multi_tables.specs.declared.answers.Refusal.TheVariants.{TooManyPorts, UnknownNode, HiddenNode}
-use Rattle.multiportgraph.specs.declared.lookups.BlockFound.{BlockFound}
-use Rattle.multiportgraph.specs.declared.lookups.BlockFound.TheVariants as found
-use Rattle.multiportgraph.specs.declared.multiportgraph.SetAnswer.{SetAnswer}
-use Rattle.multiportgraph.specs.declared.multiportgraph.SetAnswer.TheVariants as resize
-use Rattle.multiportgraph.specs.declared.multiportgraph.RemoveAnswer.TheVariants as remove
 use Rattle.multiportgraph.specs.declared.multiportgraph.NodeRemoved.{NodeRemoved}
 use Rattle.multiportgraph.specs.declared.multiportgraph.PortsSet.{PortsSet}
 use Rattle.multiportgraph.specs.declared.multiportgraph.MultiPortGraph.{MultiPortGraph}
@@ -53,6 +45,8 @@ use Rattle.multiportgraph.specs.Answers.{remove_numbers, set_numbers}
 use Rattle.multiportgraph.specs.HiddenNodes.{remove_copy, unsplit, unsplit_range, recounted, copies_in, copies_dropped, remove_lone, remove_all}
 use Rattle.multiportgraph.specs.Cases.{remove_refused, remove_meta, set_refused, resized, set_meta}
 use Rattle.multiportgraph.specs.CaseLaws.{remove_cases, set_cases}
+use Rattle.portgraph.specs.declared.resize.SetError.TheVariants as set_error
+use Rattle.portgraph.specs.declared.resize.SetError.{SetError}
 
 -- The lower graph stays one that came from its calls.
 
@@ -104,21 +98,13 @@ unsplit_done m p k n h = let e : n - k ≡ 0 = omega arith in rw e
 
 -- Listed hidden nodes go.
 
-pub remove_turn : (m m' : MultiPortGraph) (l : List ℕ) (k n : ℕ) → k < n → n ≤ length l → m' ≡ remove_lone m (get_or l k 0)
-    → remove_all m' (take (n - (k + 1)) (drop (k + 1) l)) ≡ remove_all m (take (n - k) (drop k l))
+pub remove_turn : (m m' : MultiPortGraph) (l : List ℕ) (k : ℕ) → k < length l → m' ≡ remove_lone m (get_or l k 0) → remove_all m' (drop (k + 1) l) ≡ remove_all m (drop k l)
 unfolding remove_all
-remove_turn m m' l k n h long e =
-    let one : n - k ≡ suc (n - (k + 1)) = omega arith in
-    let a : k + 1 ≡ suc k = omega arith in
-    let b : k < length l = omega arith in
-    rw (e, one, a, drop-cons l k 0 b)
+remove_turn m m' l k h e = let a : k + 1 ≡ suc k = omega arith in rw (e, a, drop-cons l k 0 h)
 
-pub remove_done : (m : MultiPortGraph) (l : List ℕ) (k n : ℕ) → n ≤ k → m ≡ remove_all m (take (n - k) l)
+pub remove_done : (m : MultiPortGraph) (l : List ℕ) (k : ℕ) → length l ≤ k → m ≡ remove_all m (drop k l)
 unfolding remove_all
-remove_done m l k n h = let e : n - k ≡ 0 = omega arith in rw e
-
-pub remove_begun : (m : MultiPortGraph) (l : List ℕ) (n : ℕ) → remove_all m (take (n - 0) (drop 0 l)) ≡ remove_all m (take n l)
-remove_begun m l n = let e : n - 0 ≡ n = omega arith in rw e
+remove_done m l k h = rw (drop_of_length-le l h)
 
 -- the listed node by its copy port
 pub lone_removed : (m r : MultiPortGraph) (c p : ℕ) (d : Direction) → d ≡ copy_side m c → p ≡ port_of m.graph c d 0 → r ≡ remove_copy m p c → r ≡ remove_lone m c
@@ -182,13 +168,6 @@ module _ (m : MultiPortGraph) (p k n : ℕ) (h : k < n) where
       → Left (k + 1) l a (j + (k + 1)) l' a'
   copies_turn_plain l l' a a' j s f g i = (omega arith, rw g (plain_count a s), rw (g, f) (plain_list l a s))
 
-pub copies_begun : (m : MultiPortGraph) (p n a : ℕ) (l : List ℕ)
-    → (a + length (copies_in m (p + 0) (n - 0)) ≡ a + length (copies_in m p n)) × (sets l a (copies_in m (p + 0) (n - 0)) ≡ sets l a (copies_in m p n))
-copies_begun m p n a l =
-    let e : p + 0 ≡ p = omega arith in
-    let f : n - 0 ≡ n = omega arith in
-    (rw (e, f), rw (e, f))
-
 module _ (m : MultiPortGraph) (p k n : ℕ) (h : n ≤ k) where
   copies_none : copies_in m p (n - k) ≡ []
   unfolding copies_in
@@ -199,10 +178,6 @@ module _ (m : MultiPortGraph) (p k n : ℕ) (h : n ≤ k) where
 
   pub copies_listed : (l : List ℕ) (a : ℕ) → l ≡ sets l a (copies_in m p (n - k))
   copies_listed l a = rw copies_none
-
--- lists that are the same once other elements are laid into them are of one length
-pub sets_alike : (l l' : List ℕ) (i j : ℕ) (xs ys : List ℕ) → sets l i xs ≡ sets l' j ys → length l ≡ length l'
-sets_alike l l' i j xs ys e = sym (length-sets l i xs) ∙ (ap length e ∙ length-sets l' j ys)
 
 -- both sides of a block
 pub dropped_listed : (m : MultiPortGraph) (k : NodeMeta) (i o first a b x y c r : ℕ) (l l₁ l₂ : List ℕ)
@@ -244,7 +219,7 @@ copies_dropped_few m k i o f =
 pub lower_wf : (m : MultiPortGraph) → MultiWf m → Wf m.graph
 lower_wf m w = record { model = w.model; good = w.fine.good; holds = w.fine.holds }
 
-pub range_in : (m : MultiPortGraph) (n c : ℕ) (k : NodeMeta) → MultiWf m → maybe_meta.Some k ≡ meta_at m.graph n → c ≡ k.incoming + k.outgoing
+pub range_in : (m : MultiPortGraph) (n c : ℕ) (k : NodeMeta) → MultiWf m → Some k ≡ meta_at m.graph n → c ≡ k.incoming + k.outgoing
     → Wf m.graph × (k.first_port.0 + c ≤ port_slots)
 range_in m n c k w e f =
     let fits = found_block_fits m.graph (lower_wf m w) n k e in
@@ -265,39 +240,39 @@ removed_as : (m : MultiPortGraph) (n : ℕ) (r : NodeRemoved) → r ≡ remove_b
 removed_as m n r e = (e, ap (λ x. remove_numbers x.answer) e)
 
 module _ (m : MultiPortGraph) (n : ℕ) where
-  pub remove_unknown : maybe_meta.None ≡ meta_at m.graph n → RemovedAs m n (remove_refused m UnknownNode)
+  pub remove_unknown : None ≡ meta_at m.graph n → RemovedAs m n (remove_refused m UnknownNode)
   remove_unknown e = removed_as m n _ (ap (remove_meta m n) e ∙ sym (remove_cases m n))
 
   remove_cond : (k : NodeMeta) (b : Bool) → is_hidden m n ≡ b
-      → cond b (remove_refused m HiddenNode) (record { graph = drop_block m n k; answer = remove.Removed }) ≡ remove_meta m n (maybe_meta.Some k)
-  remove_cond k b e = ap (λ x. cond x (remove_refused m HiddenNode) (record { graph = drop_block m n k; answer = remove.Removed })) (sym e)
+      → cond b (remove_refused m HiddenNode) (record { graph = drop_block m n k; answer = Ok tt }) ≡ remove_meta m n (Some k)
+  remove_cond k b e = ap (λ x. cond x (remove_refused m HiddenNode) (record { graph = drop_block m n k; answer = Ok tt })) (sym e)
 
-  pub remove_hidden : (k : NodeMeta) → maybe_meta.Some k ≡ meta_at m.graph n → is_hidden m n ≡ true → RemovedAs m n (remove_refused m HiddenNode)
+  pub remove_hidden : (k : NodeMeta) → Some k ≡ meta_at m.graph n → is_hidden m n ≡ true → RemovedAs m n (remove_refused m HiddenNode)
   remove_hidden k e h = removed_as m n _ (remove_cond k true h ∙ ap (remove_meta m n) e ∙ sym (remove_cases m n))
 
   -- by what is found of the node
-  pub remove_refused_lem : {a : Refusal} → found.Refused a ≡ block_found m n → RemovedAs m n (remove_refused m a)
+  pub remove_refused_lem : {a : Refusal} → Err a ≡ block_found m n → RemovedAs m n (remove_refused m a)
   unfolding block_found
   remove_refused_lem {a} e = go (meta_at m.graph n) refl (is_hidden m n) refl e
     where
-      go : (x : MaybeNodeMeta) → x ≡ meta_at m.graph n → (h : Bool) → is_hidden m n ≡ h → found.Refused a ≡ block_in h x → RemovedAs m n (remove_refused m a)
-      go maybe_meta.None f h g q = let z : UnknownNode ≡ a = cc in subst (λ (y : Refusal). RemovedAs m n (remove_refused m y)) z (remove_unknown f)
-      go (maybe_meta.Some k) f true g q = let z : HiddenNode ≡ a = cc in subst (λ (y : Refusal). RemovedAs m n (remove_refused m y)) z (remove_hidden k f g)
-      go (maybe_meta.Some k) f false g q = let z : ◌≡◌ {A = ℕ} 0 1 = cc in absurd (omega arith)
+      go : (x : Option NodeMeta) → x ≡ meta_at m.graph n → (h : Bool) → is_hidden m n ≡ h → Err a ≡ block_in h x → RemovedAs m n (remove_refused m a)
+      go None f h g q = let z : UnknownNode ≡ a = cc in subst (λ (y : Refusal). RemovedAs m n (remove_refused m y)) z (remove_unknown f)
+      go (Some k) f true g q = let z : HiddenNode ≡ a = cc in subst (λ (y : Refusal). RemovedAs m n (remove_refused m y)) z (remove_hidden k f g)
+      go (Some k) f false g q = let z : ◌≡◌ {A = ℕ} 0 1 = cc in absurd (omega arith)
 
-  pub found_is : (k : NodeMeta) → found.Block k ≡ block_found m n → (maybe_meta.Some k ≡ meta_at m.graph n) × (is_hidden m n ≡ false)
+  pub found_is : (k : NodeMeta) → Ok k ≡ block_found m n → (Some k ≡ meta_at m.graph n) × (is_hidden m n ≡ false)
   unfolding block_found
   found_is k e = go (meta_at m.graph n) refl (is_hidden m n) refl e
     where
-      go : (x : MaybeNodeMeta) → x ≡ meta_at m.graph n → (h : Bool) → is_hidden m n ≡ h → found.Block k ≡ block_in h x → (maybe_meta.Some k ≡ meta_at m.graph n) × (is_hidden m n ≡ false)
-      go maybe_meta.None f h g q = let z : ◌≡◌ {A = ℕ} 0 1 = cc in absurd (omega arith)
-      go (maybe_meta.Some j) f true g q = let z : ◌≡◌ {A = ℕ} 0 1 = cc in absurd (omega arith)
-      go (maybe_meta.Some j) f false g q = let z : k ≡ j = cc in (ap maybe_meta.Some z ∙ f, g)
+      go : (x : Option NodeMeta) → x ≡ meta_at m.graph n → (h : Bool) → is_hidden m n ≡ h → Ok k ≡ block_in h x → (Some k ≡ meta_at m.graph n) × (is_hidden m n ≡ false)
+      go None f h g q = let z : ◌≡◌ {A = ℕ} 0 1 = cc in absurd (omega arith)
+      go (Some j) f true g q = let z : ◌≡◌ {A = ℕ} 0 1 = cc in absurd (omega arith)
+      go (Some j) f false g q = let z : k ≡ j = cc in (ap Some z ∙ f, g)
 
-  pub remove_found : (k : NodeMeta) {g : MultiPortGraph} → found.Block k ≡ block_found m n → g ≡ drop_block m n k → RemovedAs m n (record { graph = g; answer = remove.Removed })
+  pub remove_found : (k : NodeMeta) {g : MultiPortGraph} → Ok k ≡ block_found m n → g ≡ drop_block m n k → RemovedAs m n (record { graph = g; answer = Ok tt })
   remove_found k e d =
       let f = found_is k e in
-      removed_as m n _ (ap (λ x. record { graph = x; answer = remove.Removed }) d ∙ remove_cond k false f.1 ∙ ap (remove_meta m n) f.0 ∙ sym (remove_cases m n))
+      removed_as m n _ (ap (λ x. record { graph = x; answer = Ok tt }) d ∙ remove_cond k false f.1 ∙ ap (remove_meta m n) f.0 ∙ sym (remove_cases m n))
 
 -- its hidden nodes went, then the node
 pub block_dropped : (m : MultiPortGraph) (n : ℕ) (k : NodeMeta) {c : ℕ} {bare : MultiPortGraph} {s : lower_removed.NodeRemoved} → c ≡ k.incoming + k.outgoing
@@ -308,11 +283,11 @@ block_dropped m n k {bare = bare} f g j =
     ap (λ x. with_graph bare x.graph) j ∙ ap (λ x. with_graph x (remove_node x.graph n).graph) b
 
 module _ (m : MultiPortGraph) (n : ℕ) where
-  pub remove_removed : (k : NodeMeta) (c : ℕ) (bare : MultiPortGraph) (s : lower_removed.NodeRemoved) → maybe_meta.Some k ≡ meta_at m.graph n → is_hidden m n ≡ false
+  pub remove_removed : (k : NodeMeta) (c : ℕ) (bare : MultiPortGraph) (s : lower_removed.NodeRemoved) → Some k ≡ meta_at m.graph n → is_hidden m n ≡ false
       → c ≡ k.incoming + k.outgoing → bare ≡ unsplit_range m k.first_port.0 c → s ≡ remove_node bare.graph n
-      → RemovedAs m n (record { graph = with_graph bare s.graph; answer = remove.Removed })
+      → RemovedAs m n (record { graph = with_graph bare s.graph; answer = Ok tt })
   remove_removed k c bare s e h f g j =
-      removed_as m n _ (ap (λ x. record { graph = x; answer = remove.Removed }) (block_dropped m n k f g j) ∙ remove_cond m n k false h ∙ ap (remove_meta m n) e ∙ sym (remove_cases m n))
+      removed_as m n _ (ap (λ x. record { graph = x; answer = Ok tt }) (block_dropped m n k f g j) ∙ remove_cond m n k false h ∙ ap (remove_meta m n) e ∙ sym (remove_cases m n))
 
 -- Changing a block's counts.
 
@@ -341,7 +316,7 @@ listed_fits m loose g k n i o c l l' w fits e h j long =
 pub wf_set_is : (m : MultiPortGraph) (s : lower_set.PortsSet) (n i o room : ℕ) → MultiWf m → s ≡ set_num_ports m.graph n i o room → Wf s.graph
 wf_set_is m s n i o room w e = rw e (wf_set m.graph n i o room (lower_wf m w))
 
-pub block_in_lem : (m : MultiPortGraph) (n : ℕ) (k : NodeMeta) → MultiWf m → maybe_meta.Some k ≡ meta_at m.graph n → BlockFits k
+pub block_in_lem : (m : MultiPortGraph) (n : ℕ) (k : NodeMeta) → MultiWf m → Some k ≡ meta_at m.graph n → BlockFits k
 block_in_lem m n k w e = found_block_fits m.graph (lower_wf m w) n k e
 
 -- what the call gives, whatever room the move list has
@@ -351,27 +326,27 @@ module _ (m : MultiPortGraph) (n i o room : ℕ) where
   set_many h = rw (lt-leb (i + o) node_ports h)
 
   module _ (few : i + o ≤ node_ports) where
-    set_by : (x : MaybeNodeMeta) → x ≡ meta_at m.graph n → set_meta m n i o room x ≡ set_counts m n i o room
+    set_by : (x : Option NodeMeta) → x ≡ meta_at m.graph n → set_meta m n i o room x ≡ set_counts m n i o room
     set_by x e =
         ap (set_meta m n i o room) e
         ∙ ap (λ (t : Bool). cond t (set_meta m n i o room (meta_at m.graph n)) (set_refused m TooManyPorts)) (sym (le-leb (i + o) node_ports few))
         ∙ sym (set_cases present m n i o room)
 
-    pub set_gone : maybe_meta.None ≡ meta_at m.graph n → set_refused m UnknownNode ≡ set_counts m n i o room
-    set_gone e = set_by maybe_meta.None e
+    pub set_gone : None ≡ meta_at m.graph n → set_refused m UnknownNode ≡ set_counts m n i o room
+    set_gone e = set_by None e
 
-    module _ (k : NodeMeta) (e : maybe_meta.Some k ≡ meta_at m.graph n) where
+    module _ (k : NodeMeta) (e : Some k ≡ meta_at m.graph n) where
       pub set_copy : is_hidden m n ≡ true → set_refused m HiddenNode ≡ set_counts m n i o room
       set_copy h =
-          let p : set_refused m HiddenNode ≡ set_meta m n i o room (maybe_meta.Some k) = rw h in
-          p ∙ set_by (maybe_meta.Some k) e
+          let p : set_refused m HiddenNode ≡ set_meta m n i o room (Some k) = rw h in
+          p ∙ set_by (Some k) e
 
-      pub set_block : (s : lower_set.PortsSet) (a : lower_answer.SetAnswer) (g : MultiPortGraph) → is_hidden m n ≡ false → s ≡ set_num_ports m.graph n i o room
+      pub set_block : (s : lower_set.PortsSet) (a : Result ℕ SetError) (g : MultiPortGraph) → is_hidden m n ≡ false → s ≡ set_num_ports m.graph n i o room
           → s.answer ≡ a → g ≡ resized m n k i o s.graph a → record { graph = g; answer = set_as a } ≡ set_counts m n i o room
       set_block s a g h f q u =
-          let v : record { graph = resized m n k i o s.graph s.answer; answer = set_as s.answer } ≡ set_meta m n i o room (maybe_meta.Some k) = rw (h, f) in
+          let v : record { graph = resized m n k i o s.graph s.answer; answer = set_as s.answer } ≡ set_meta m n i o room (Some k) = rw (h, f) in
           let y : ◌≡◌ {A = PortsSet} (record { graph = g; answer = set_as a }) (record { graph = resized m n k i o s.graph s.answer; answer = set_as s.answer }) = rw (q, u) in
-          y ∙ v ∙ set_by (maybe_meta.Some k) e
+          y ∙ v ∙ set_by (Some k) e
 
 module _ (m : MultiPortGraph) (n i o : ℕ) (b : List ℕ) where
   abbrev SetAs : PortsSet → List ℕ → Type 0
@@ -382,7 +357,7 @@ module _ (m : MultiPortGraph) (n i o : ℕ) (b : List ℕ) where
   set_as_lem : (r : PortsSet) (b' : List ℕ) → r ≡ set_counts m n i o (length b) → b' ≡ moves_told m n i o b → SetAs r b'
   set_as_lem r b' e f = (e, f, ap (λ x. set_numbers x.answer) e)
 
-  refused_told : (a : lower_answer.SetAnswer) (h : Bool) → plan_of m.graph n i o (length b) ≡ refuse a → b ≡ told_meta m n i o b h
+  refused_told : (a : Result ℕ SetError) (h : Bool) → plan_of m.graph n i o (length b) ≡ refuse a → b ≡ told_meta m n i o b h
   unfolding moves_after_under
   refused_told a true e = refl
   refused_told a false e = rw e
@@ -393,75 +368,75 @@ module _ (m : MultiPortGraph) (n i o : ℕ) (b : List ℕ) where
       set_as_lem _ b (set_many m n i o (length b) h) (refused_told _ (is_hidden m n) (plan_too_many m.graph n i o (length b) h))
 
   module _ (few : i + o ≤ node_ports) where
-    plan_none : (x : NodeEntry) → entry_at m.graph n ≡ x → maybe_meta.None ≡ meta_of_entry x → plan_of m.graph n i o (length b) ≡ refuse lower_variants.UnknownNode
+    plan_none : (x : NodeEntry) → entry_at m.graph n ≡ x → None ≡ meta_of_entry x → plan_of m.graph n i o (length b) ≡ refuse (Err set_error.UnknownNode)
     plan_none (node_variants.Free f) e h = plan_unknown m.graph n i o (length b) few f e
     plan_none (node_variants.Node k) e h = let z : ◌≡◌ {A = ℕ} 0 1 = cc in absurd (omega arith)
 
-    pub set_unknown : maybe_meta.None ≡ meta_at m.graph n → SetAs (set_refused m UnknownNode) b
+    pub set_unknown : None ≡ meta_at m.graph n → SetAs (set_refused m UnknownNode) b
     unfolding moves_told_under
     set_unknown e = set_as_lem _ b (set_gone m n i o (length b) few e) (refused_told _ (is_hidden m n) (plan_none (entry_at m.graph n) refl e))
 
-    module _ (k : NodeMeta) (e : maybe_meta.Some k ≡ meta_at m.graph n) where
+    module _ (k : NodeMeta) (e : Some k ≡ meta_at m.graph n) where
       pub set_hidden : is_hidden m n ≡ true → SetAs (set_refused m HiddenNode) b
       unfolding moves_told_under
       set_hidden h = set_as_lem _ b (set_copy m n i o (length b) few k e h) (rw h)
 
-      pub set_answered : (s : lower_set.PortsSet) (a : lower_answer.SetAnswer) (g : MultiPortGraph) (b' : List ℕ) → is_hidden m n ≡ false → s ≡ set_num_ports m.graph n i o (length b)
+      pub set_answered : (s : lower_set.PortsSet) (a : Result ℕ SetError) (g : MultiPortGraph) (b' : List ℕ) → is_hidden m n ≡ false → s ≡ set_num_ports m.graph n i o (length b)
           → b' ≡ moves_after m.graph n i o b → s.answer ≡ a → g ≡ resized m n k i o s.graph a → SetAs (record { graph = g; answer = set_as a }) b'
       unfolding moves_told_under
       set_answered s a g b' h f j q u = set_as_lem _ b' (set_block m n i o (length b) few k e s a g h f q u) (rw h j)
 
   -- by what is found of the node, and whether the counts are within the limit
-  abbrev found_within : BlockFound
-  found_within = cond (leb (i + o) node_ports) (block_found m n) (found.Refused TooManyPorts)
+  abbrev found_within : Result NodeMeta Refusal
+  found_within = cond (leb (i + o) node_ports) (block_found m n) (Err TooManyPorts)
 
-  pub set_refused_lem : {a : Refusal} → found.Refused a ≡ found_within → SetAs (set_refused m a) b
+  pub set_refused_lem : {a : Refusal} → Err a ≡ found_within → SetAs (set_refused m a) b
   unfolding block_found
   set_refused_lem {a} e = go (leb (i + o) node_ports) refl e
     where
       As : Refusal → Type 0
       As y = SetAs (set_refused m y) b
 
-      there : i + o ≤ node_ports → (x : MaybeNodeMeta) → x ≡ meta_at m.graph n → (h : Bool) → is_hidden m n ≡ h → found.Refused a ≡ block_in h x → As a
-      there few maybe_meta.None f h g q = let z : UnknownNode ≡ a = cc in subst As z (set_unknown few f)
-      there few (maybe_meta.Some k) f true g q = let z : HiddenNode ≡ a = cc in subst As z (set_hidden few k f g)
-      there few (maybe_meta.Some k) f false g q = let z : ◌≡◌ {A = ℕ} 0 1 = cc in absurd (omega arith)
+      there : i + o ≤ node_ports → (x : Option NodeMeta) → x ≡ meta_at m.graph n → (h : Bool) → is_hidden m n ≡ h → Err a ≡ block_in h x → As a
+      there few None f h g q = let z : UnknownNode ≡ a = cc in subst As z (set_unknown few f)
+      there few (Some k) f true g q = let z : HiddenNode ≡ a = cc in subst As z (set_hidden few k f g)
+      there few (Some k) f false g q = let z : ◌≡◌ {A = ℕ} 0 1 = cc in absurd (omega arith)
 
-      go : (t : Bool) → leb (i + o) node_ports ≡ t → found.Refused a ≡ cond t (block_found m n) (found.Refused TooManyPorts) → As a
+      go : (t : Bool) → leb (i + o) node_ports ≡ t → Err a ≡ cond t (block_found m n) (Err TooManyPorts) → As a
       go true f q = there (leb-true _ _ f) (meta_at m.graph n) refl (is_hidden m n) refl q
       go false f q = let z : TooManyPorts ≡ a = cc in subst As z (set_too_many (leb-false _ _ f))
 
-  pub set_within : (k : NodeMeta) → found.Block k ≡ found_within → (i + o ≤ node_ports) × (found.Block k ≡ block_found m n)
+  pub set_within : (k : NodeMeta) → Ok k ≡ found_within → (i + o ≤ node_ports) × (Ok k ≡ block_found m n)
   set_within k e = go (leb (i + o) node_ports) refl e
     where
-      go : (t : Bool) → leb (i + o) node_ports ≡ t → found.Block k ≡ cond t (block_found m n) (found.Refused TooManyPorts) → (i + o ≤ node_ports) × (found.Block k ≡ block_found m n)
+      go : (t : Bool) → leb (i + o) node_ports ≡ t → Ok k ≡ cond t (block_found m n) (Err TooManyPorts) → (i + o ≤ node_ports) × (Ok k ≡ block_found m n)
       go true f q = (leb-true _ _ f, q)
       go false f q = let z : ◌≡◌ {A = ℕ} 0 1 = cc in absurd (omega arith)
 
   -- a block that is there: the lower graph refuses, or has its new counts
-  module _ (few : i + o ≤ node_ports) (k : NodeMeta) (e : found.Block k ≡ block_found m n) (s : lower_set.PortsSet) {b' : List ℕ} {c : SetAnswer}
+  module _ (few : i + o ≤ node_ports) (k : NodeMeta) (e : Ok k ≡ block_found m n) (s : lower_set.PortsSet) {b' : List ℕ} {c : Result ℕ Refusal}
       (f : s ≡ set_num_ports m.graph n i o (length b)) (j : b' ≡ moves_after m.graph n i o b) (told : c ≡ set_as s.answer) where
-    by_answer : (v : lower_answer.SetAnswer) (g : MultiPortGraph) → s.answer ≡ v → g ≡ resized m n k i o s.graph v → SetAs (record { graph = g; answer = c }) b'
+    by_answer : (v : Result ℕ SetError) (g : MultiPortGraph) → s.answer ≡ v → g ≡ resized m n k i o s.graph v → SetAs (record { graph = g; answer = c }) b'
     by_answer v g q u =
-        subst (λ (y : SetAnswer). SetAs (record { graph = g; answer = y }) b') (sym (told ∙ ap set_as q))
+        subst (λ (y : Result ℕ Refusal). SetAs (record { graph = g; answer = y }) b') (sym (told ∙ ap set_as q))
         (set_answered few k (found_is m n k e).0 s v g b' (found_is m n k e).1 f j q u)
 
-    pub set_left : {a : Refusal} → c ≡ resize.Refused a → SetAs (record { graph = m; answer = c }) b'
+    pub set_left : {a : Refusal} → c ≡ Err a → SetAs (record { graph = m; answer = c }) b'
     set_left {a} z = go s.answer refl (sym told ∙ z)
       where
-        go : (v : lower_answer.SetAnswer) → s.answer ≡ v → set_as v ≡ resize.Refused a → SetAs (record { graph = m; answer = c }) b'
-        go (lower_variants.Set t) q y = let z : ◌≡◌ {A = ℕ} 0 1 = cc in absurd (omega arith)
-        go lower_variants.TooManyPorts q y = by_answer _ m q refl
-        go lower_variants.UnknownNode q y = by_answer _ m q refl
-        go lower_variants.MovesTooShort q y = by_answer _ m q refl
-        go lower_variants.NoRoom q y = by_answer _ m q refl
+        go : (v : Result ℕ SetError) → s.answer ≡ v → set_as v ≡ Err a → SetAs (record { graph = m; answer = c }) b'
+        go (Ok t) q y = let z : ◌≡◌ {A = ℕ} 0 1 = cc in absurd (omega arith)
+        go (Err set_error.TooManyPorts) q y = by_answer _ m q refl
+        go (Err set_error.UnknownNode) q y = by_answer _ m q refl
+        go (Err set_error.MovesTooShort) q y = by_answer _ m q refl
+        go (Err set_error.NoRoom) q y = by_answer _ m q refl
 
-    pub set_done : {t : ℕ} {g : MultiPortGraph} → c ≡ resize.Set t → g ≡ remove_all (recounted m n s.graph) (copies_dropped m k i o) → SetAs (record { graph = g; answer = c }) b'
+    pub set_done : {t : ℕ} {g : MultiPortGraph} → c ≡ Ok t → g ≡ remove_all (recounted m n s.graph) (copies_dropped m k i o) → SetAs (record { graph = g; answer = c }) b'
     set_done {t} {g} z u = go s.answer refl (sym told ∙ z)
       where
-        go : (v : lower_answer.SetAnswer) → s.answer ≡ v → set_as v ≡ resize.Set t → SetAs (record { graph = g; answer = c }) b'
-        go (lower_variants.Set y) q x = by_answer _ g q u
-        go lower_variants.TooManyPorts q x = let z : ◌≡◌ {A = ℕ} 0 1 = cc in absurd (omega arith)
-        go lower_variants.UnknownNode q x = let z : ◌≡◌ {A = ℕ} 0 1 = cc in absurd (omega arith)
-        go lower_variants.MovesTooShort q x = let z : ◌≡◌ {A = ℕ} 0 1 = cc in absurd (omega arith)
-        go lower_variants.NoRoom q x = let z : ◌≡◌ {A = ℕ} 0 1 = cc in absurd (omega arith)
+        go : (v : Result ℕ SetError) → s.answer ≡ v → set_as v ≡ Ok t → SetAs (record { graph = g; answer = c }) b'
+        go (Ok y) q x = by_answer _ g q u
+        go (Err set_error.TooManyPorts) q x = let z : ◌≡◌ {A = ℕ} 0 1 = cc in absurd (omega arith)
+        go (Err set_error.UnknownNode) q x = let z : ◌≡◌ {A = ℕ} 0 1 = cc in absurd (omega arith)
+        go (Err set_error.MovesTooShort) q x = let z : ◌≡◌ {A = ℕ} 0 1 = cc in absurd (omega arith)
+        go (Err set_error.NoRoom) q x = let z : ◌≡◌ {A = ℕ} 0 1 = cc in absurd (omega arith)

@@ -1,5 +1,5 @@
 -- What the steps of adding, linking, cutting and reading amount to, over plain values.
-use Rattle.std.specs.Prelude.{◌≡◌, false, ℕ, replicate}
+use Rattle.std.specs.Prelude.{◌≡◌, false, ℕ, replicate, Option, Result}
 use Rattle.std.proofs.Common.{sym, ◌∙◌}
 use Rattle.std.proofs.Math.Path.{ap}
 use Rattle.port_tables.specs.Limits.{node_slots, port_slots, present}
@@ -7,10 +7,8 @@ use Rattle.portgraph.specs.Model.{Wf}
 use Rattle.portgraph.specs.Calls.{add_node, unlink_port, new_graph}
 use Rattle.port_tables.specs.declared.direction.Direction.{Direction}
 use Rattle.portgraph.specs.declared.portgraph.PortGraph.{PortGraph}
-use Rattle.portgraph.specs.declared.portgraph.PortLink.{PortLink}
 use Rattle.portgraph.specs.declared.portgraph.PortUnlinked as lower_unlinked
 use Rattle.portgraph.specs.declared.alloc.NodeAdded as lower_added
-use Rattle.portgraph.specs.declared.alloc.AddAnswer as lower_add
 use Rattle.multiportgraph.specs.Reading.{seen, is_split}
 use Rattle.multi_tables.specs.Forms.{visible}
 use Rattle.multiportgraph.specs.Calls.{added_as, add_block, cut_plain, cut_port}
@@ -21,6 +19,10 @@ use Rattle.multiportgraph.specs.declared.multiportgraph.NodeAdded.{NodeAdded}
 use Rattle.multiportgraph.specs.declared.multiportgraph.PortUnlinked.{PortUnlinked}
 use Rattle.multiportgraph.specs.Graph.{multi, empty_graph, with_graph}
 use Rattle.multiportgraph.specs.CaseLaws.{add_cases}
+use Rattle.port_tables.specs.declared.index.PortIndex.{PortIndex}
+use Rattle.portgraph.specs.declared.portgraph.NoSuchPort.{NoSuchPort}
+use Rattle.port_tables.specs.declared.index.NodeIndex.{NodeIndex}
+use Rattle.portgraph.specs.declared.alloc.AddError.{AddError}
 
 -- the lower graph of a graph of the calls
 pub lower_wf : (m : MultiPortGraph) → MultiWf m → Wf m.graph
@@ -36,19 +38,19 @@ empty_made release g e =
 
 module _ (m : MultiPortGraph) where
   -- a block is added, or refused
-  pub block_added : (i o : ℕ) (r : lower_added.NodeAdded) (a : lower_add.AddAnswer) → r ≡ add_node m.graph i o → r.answer ≡ a
+  pub block_added : (i o : ℕ) (r : lower_added.NodeAdded) (a : Result (NodeIndex × PortIndex) AddError) → r ≡ add_node m.graph i o → r.answer ≡ a
       → ◌≡◌ {A = NodeAdded} (record { graph = with_graph m r.graph; answer = added_as a }) (add_block m i o)
   block_added i o r a e f =
-      ap (λ (x : lower_add.AddAnswer). record { graph = with_graph m r.graph; answer = added_as x }) (sym f)
+      ap (λ (x : Result (NodeIndex × PortIndex) AddError). record { graph = with_graph m r.graph; answer = added_as x }) (sym f)
       ∙ ap (λ (x : lower_added.NodeAdded). record { graph = with_graph m x.graph; answer = added_as x.answer }) e
       ∙ sym (add_cases present m i o)
 
   -- every wire at a port is cut
   module _ (p : ℕ) where
-    pub cut_port_plain : (n : ℕ) (d : Direction) (u : lower_unlinked.PortUnlinked) (l : PortLink) → seen m p ≡ visible n d → is_split m p ≡ false
+    pub cut_port_plain : (n : ℕ) (d : Direction) (u : lower_unlinked.PortUnlinked) (l : Result (Option PortIndex) NoSuchPort) → seen m p ≡ visible n d → is_split m p ≡ false
         → u ≡ unlink_port m.graph p → u.answer ≡ l → ◌≡◌ {A = PortUnlinked} (record { graph = with_graph m u.graph; answer = cut_plain m l }) (cut_port m p)
     unfolding cut_port
     cut_port_plain n d u l e s h k =
-        ap (λ (a : PortLink). record { graph = with_graph m u.graph; answer = cut_plain m a }) (sym k)
+        ap (λ (a : Result (Option PortIndex) NoSuchPort). record { graph = with_graph m u.graph; answer = cut_plain m a }) (sym k)
         ∙ ap (λ (a : lower_unlinked.PortUnlinked). record { graph = with_graph m a.graph; answer = cut_plain m a.answer }) h
         ∙ rw (e, s)

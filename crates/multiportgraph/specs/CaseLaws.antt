@@ -1,5 +1,5 @@
 -- Each call by the table of its refusals is the call by cases of what it names.
-use Rattle.std.specs.Prelude.{◌≡◌, Bool, ℕ, ◌+◌, ◌*◌}
+use Rattle.std.specs.Prelude.{◌≡◌, Bool, ℕ, ◌+◌, ◌*◌, Option, Some, None, Ok, Err, Result}
 use Rattle.std.proofs.Math.Path.{refl}
 use Rattle.std.proofs.Common.{ap, ◌∙◌}
 use Rattle.std.proofs.Math.Bool.{true, false, cond}
@@ -12,13 +12,7 @@ use Rattle.portgraph.specs.Resize.{plan_of_under, set_num_ports_under}
 use Rattle.port_tables.specs.ResizeLinks.{round_up, same_counts, fits_inside}
 use Rattle.port_tables.specs.declared.node_entry.NodeEntry.{NodeEntry}
 use Rattle.port_tables.specs.declared.node_entry.NodeEntry.TheVariants as node_variants
-use Rattle.port_tables.specs.declared.node_entry.MaybeNodeMeta.{MaybeNodeMeta}
-use Rattle.port_tables.specs.declared.node_entry.MaybeNodeMeta.TheVariants as maybe_meta
 use Rattle.portgraph.specs.declared.portgraph.PortGraph.{PortGraph}
-use Rattle.portgraph.specs.declared.portgraph.LinkAnswer as lower_link_answer
-use Rattle.portgraph.specs.declared.portgraph.LinkAnswer.TheVariants as lower_link
-use Rattle.portgraph.specs.declared.alloc.Found.{Found}
-use Rattle.portgraph.specs.declared.alloc.Found.TheVariants as found
 use Rattle.multiportgraph.specs.Reading.{side_of, is_hidden, seen, end_at, as_read}
 use Rattle.multi_tables.specs.Forms.{Port, dead, hidden, visible, End, inner, lacking, good_offset}
 use Rattle.multiportgraph.specs.Graph.{with_graph}
@@ -30,8 +24,11 @@ use Rattle.multi_tables.specs.NamedEnds.{pair_seen, taken_seen, taken_second, ta
 use Rattle.multiportgraph.specs.declared.multiportgraph.MultiPortGraph.{MultiPortGraph}
 use Rattle.multi_tables.specs.declared.answers.SubportIndex.{SubportIndex}
 use Rattle.multiportgraph.specs.declared.multiportgraph.NodeAdded.{NodeAdded}
-use Rattle.multi_tables.specs.declared.answers.CutAnswer.TheVariants as cutting
 use Rattle.multi_tables.specs.declared.answers.Refusal.TheVariants.{BadOffset, TooManyPorts, InputWired}
+use Rattle.port_tables.specs.declared.node_entry.NodeMeta.{NodeMeta}
+use Rattle.portgraph.specs.declared.portgraph.LinkError.TheVariants as link_error
+use Rattle.port_tables.specs.declared.index.PortIndex.{PortIndex}
+use Rattle.portgraph.specs.declared.portgraph.LinkError.{LinkError}
 
 module _ (m : MultiPortGraph) (p : ℕ) where
   pub tidy_cases : tidy_port m p ≡ tidy_seen m p (seen m p)
@@ -61,11 +58,11 @@ module _ (m : MultiPortGraph) (p : ℕ) where
                 at lacking f = rw (h, e, f) refl
                 at (inner x) f = rw (h, e, f) refl
 
-    pub subport_link_cases : subport_link m p o ≡ cond (good_offset o) (link_of_seen m p o (seen m p)) (cutting.Refused BadOffset)
+    pub subport_link_cases : subport_link m p o ≡ cond (good_offset o) (link_of_seen m p o (seen m p)) (Err BadOffset)
     unfolding subport_link
     subport_link_cases = good (good_offset o) refl
       where
-        good : (g : Bool) → good_offset o ≡ g → subport_link m p o ≡ cond g (link_of_seen m p o (seen m p)) (cutting.Refused BadOffset)
+        good : (g : Bool) → good_offset o ≡ g → subport_link m p o ≡ cond g (link_of_seen m p o (seen m p)) (Err BadOffset)
         good false h = rw h refl
         good true h = go (seen m p) refl
           where
@@ -92,13 +89,13 @@ module _ (L : Limits) (m : MultiPortGraph) where
       few false h = rw h refl
       few true h = slot (find_slot_under L m.graph.node_free m.graph.node_len) refl
         where
-          slot : (u : Found) → find_slot_under L m.graph.node_free m.graph.node_len ≡ u → add_block_under L m i o ≡ Done
-          slot found.NoRoom e = rw (h, e) refl
-          slot (found.At n) e = block (find_block_under L m.graph.port_free m.graph.port_len (i + o)) refl
+          slot : (u : Option ℕ) → find_slot_under L m.graph.node_free m.graph.node_len ≡ u → add_block_under L m i o ≡ Done
+          slot None e = rw (h, e) refl
+          slot (Some n) e = block (find_block_under L m.graph.port_free m.graph.port_len (i + o)) refl
             where
-              block : (v : Found) → find_block_under L m.graph.port_free m.graph.port_len (i + o) ≡ v → add_block_under L m i o ≡ Done
-              block found.NoRoom f = rw (h, e, f) refl
-              block (found.At first) f = rw (h, e, f) refl
+              block : (v : Option ℕ) → find_block_under L m.graph.port_free m.graph.port_len (i + o) ≡ v → add_block_under L m i o ≡ Done
+              block None f = rw (h, e, f) refl
+              block (Some first) f = rw (h, e, f) refl
 
   pub set_cases : (n i o room : ℕ) →
       set_counts_under L m n i o room ≡ cond (leb (i + o) node_ports) (set_meta_under L m n i o room (meta_at m.graph n)) (set_refused m TooManyPorts)
@@ -115,7 +112,7 @@ module _ (L : Limits) (m : MultiPortGraph) where
           there (node_variants.Node k) e = shown (is_hidden m n) refl
             where
               Same : Type 0
-              Same = set_counts_under L m n i o room ≡ set_meta_under L m n i o room (maybe_meta.Some k)
+              Same = set_counts_under L m n i o room ≡ set_meta_under L m n i o room (Some k)
 
               shown : (b : Bool) → is_hidden m n ≡ b → Same
               shown true f = rw (h, e, f) refl
@@ -133,9 +130,9 @@ module _ (L : Limits) (m : MultiPortGraph) where
                           within true u = rw (h, e, f, l, s, u) refl
                           within false u = block (find_block_under L m.graph.port_free m.graph.port_len (round_up (i + o))) refl
                             where
-                              block : (v : Found) → find_block_under L m.graph.port_free m.graph.port_len (round_up (i + o)) ≡ v → Same
-                              block found.NoRoom w = rw (h, e, f, l, s, u, w) refl
-                              block (found.At first) w = rw (h, e, f, l, s, u, w) refl
+                              block : (v : Option ℕ) → find_block_under L m.graph.port_free m.graph.port_len (round_up (i + o)) ≡ v → Same
+                              block None w = rw (h, e, f, l, s, u, w) refl
+                              block (Some first) w = rw (h, e, f, l, s, u, w) refl
 
   pub link_cases : (a b : ℕ) → link_pair_if false L m a b ≡ link_seen_under L m a b (seen m a) (seen m b)
   unfolding link_pair_if
@@ -208,18 +205,18 @@ pub remove_cases : (m : MultiPortGraph) (n : ℕ) → remove_block m n ≡ remov
 unfolding remove_block
 remove_cases m n = go (meta_at m.graph n) refl
   where
-    go : (v : MaybeNodeMeta) → meta_at m.graph n ≡ v → remove_block m n ≡ remove_meta m n v
-    go maybe_meta.None e = rw e refl
-    go (maybe_meta.Some k) e = rw e refl
+    go : (v : Option NodeMeta) → meta_at m.graph n ≡ v → remove_block m n ≡ remove_meta m n v
+    go None e = rw e refl
+    go (Some k) e = rw e refl
 
 -- what the single-link graph refuses is refused; else it is done
-join_cases : (m : MultiPortGraph) (a : lower_link_answer.LinkAnswer) (g : PortGraph) (s t : SubportIndex) →
+join_cases : (m : MultiPortGraph) (a : Result (PortIndex × PortIndex) LinkError) (g : PortGraph) (s t : SubportIndex) →
     cond (on_one_side a) (link_refused m (refused_below a)) (cond (one_linked a) (link_refused m (refused_below a)) (joined m a g s t)) ≡ link_inner m s t a g
-join_cases m (lower_link.Linked x y) g s t = refl
-join_cases m (lower_link.UnknownPort x) g s t = refl
-join_cases m (lower_link.UnknownSecondPort y) g s t = refl
-join_cases m (lower_link.IncompatibleDirections x y d) g s t = refl
-join_cases m (lower_link.AlreadyLinked x) g s t = refl
+join_cases m (Ok (x, y)) g s t = refl
+join_cases m (Err (link_error.UnknownPort x)) g s t = refl
+join_cases m (Err (link_error.UnknownSecondPort y)) g s t = refl
+join_cases m (Err (link_error.IncompatibleDirections x y d)) g s t = refl
+join_cases m (Err (link_error.AlreadyLinked x)) g s t = refl
 
 pub link_sub_cases : (m : MultiPortGraph) (p o q r : ℕ) →
     link_sub_if false m p o q r ≡ cond (good_offset o) (cond (good_offset r) (link_sub_seen m p o q r (seen m p) (seen m q)) (link_refused m BadOffset)) (link_refused m BadOffset)

@@ -1,16 +1,14 @@
 -- The code's forms of what the definitions say: an enum or a struct for each.
-use Rattle.std.specs.Prelude.{Bool, true, false, cond, List, ℕ, zero, suc, ◌+◌, eqb}
+use Rattle.std.specs.Prelude.{Bool, true, false, cond, List, ℕ, zero, suc, ◌+◌, eqb, Option, Some, None, Result, Ok, Err}
 use Rattle.port_tables.specs.Tables.{at}
 use Rattle.portgraph.specs.Lookups.{meta_at}
-use Rattle.port_tables.specs.declared.node_entry.MaybeNodeMeta.{MaybeNodeMeta}
-use Rattle.port_tables.specs.declared.node_entry.MaybeNodeMeta.TheVariants as maybe_meta
 use Rattle.multiportgraph.specs.Reading.{is_hidden}
 use Rattle.multiportgraph.specs.HiddenNodes as hiding
 use Rattle.multiportgraph.specs.declared.multiportgraph.MultiPortGraph.{MultiPortGraph}
 use Rattle.multi_tables.specs.declared.answers.Refusal.TheVariants.{UnknownNode, HiddenNode}
 use Rattle.multiportgraph.specs.declared.prepare.Prepared.{Prepared}
-use Rattle.multiportgraph.specs.declared.lookups.BlockFound.{BlockFound}
-use Rattle.multiportgraph.specs.declared.lookups.BlockFound.TheVariants as found
+use Rattle.port_tables.specs.declared.node_entry.NodeMeta.{NodeMeta}
+use Rattle.multi_tables.specs.declared.answers.Refusal.{Refusal}
 
 -- how many of n slots from first on are left without those that hold no link above the highest that holds one
 unfoldable pub linked_from : List ℕ → ℕ → ℕ → ℕ
@@ -22,10 +20,10 @@ abbrev pub prepared_as : MultiPortGraph → hiding.Prepared → Prepared
 prepared_as m (hiding.ready k q o) = record { graph = k; port = q; offset = o; ready = true }
 prepared_as m hiding.full = record { graph = m; port = 0; offset = 0; ready = false }
 
-abbrev pub block_in : Bool → MaybeNodeMeta → BlockFound
-block_in h maybe_meta.None = found.Refused UnknownNode
-block_in h (maybe_meta.Some k) = cond h (found.Refused HiddenNode) (found.Block k)
+abbrev pub block_in : Bool → Option NodeMeta → Result NodeMeta Refusal
+block_in h None = Err UnknownNode
+block_in h (Some k) = cond h (Err HiddenNode) (Ok k)
 
 -- a block's meta data, or why the node is refused
-unfoldable pub block_found : MultiPortGraph → ℕ → BlockFound
+unfoldable pub block_found : MultiPortGraph → ℕ → Result NodeMeta Refusal
 block_found m n = block_in (is_hidden m n) (meta_at m.graph n)

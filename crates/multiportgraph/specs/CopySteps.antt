@@ -1,5 +1,5 @@
 -- Hidden nodes that go and marks that move: what the calls of the code give amounts to the definitions.
-use Rattle.std.specs.Prelude.{◌≡◌, Bool, true, false, cond, List, ℕ, ◌-◌, length, set}
+use Rattle.std.specs.Prelude.{◌≡◌, Bool, true, false, cond, List, ℕ, ◌-◌, length, set, Option, Some, None}
 use Rattle.std.proofs.Common.{sym, ap, ◌∙◌, length-set}
 use Rattle.port_tables.specs.Limits.{node_slots, port_slots}
 use Rattle.port_tables.specs.Entries.{reversed}
@@ -7,8 +7,6 @@ use Rattle.portgraph.specs.Lookups.{meta_at, num_ports}
 use Rattle.portgraph.specs.Calls.{remove_node}
 use Rattle.port_tables.specs.declared.direction.Direction.{Direction}
 use Rattle.port_tables.specs.declared.node_entry.NodeMeta.{NodeMeta}
-use Rattle.port_tables.specs.declared.node_entry.MaybeNodeMeta.{MaybeNodeMeta}
-use Rattle.port_tables.specs.declared.node_entry.MaybeNodeMeta.TheVariants as maybe_meta
 use Rattle.portgraph.specs.declared.portgraph.PortGraph.{PortGraph}
 use Rattle.portgraph.specs.declared.alloc.NodeRemoved.{NodeRemoved}
 use Rattle.multiportgraph.specs.Graph.{multi}
@@ -64,14 +62,14 @@ abbrev pub remarked : MultiPortGraph → PortGraph → List Bool → MultiPortGr
 remarked m g t =
     multi g t m.copy_node m.copy_node_count m.subport_count m.release
 
-pub recount_none : (m : MultiPortGraph) (n : ℕ) (g : PortGraph) → maybe_meta.None ≡ meta_at m.graph n → remarked m g m.multiport ≡ recounted m n g
+pub recount_none : (m : MultiPortGraph) (n : ℕ) (g : PortGraph) → None ≡ meta_at m.graph n → remarked m g m.multiport ≡ recounted m n g
 unfolding recounted
-recount_none m n g e = ap (λ (k : MaybeNodeMeta). remarked m g (marks_moved m.multiport k (meta_at g n))) e
+recount_none m n g e = ap (λ (k : Option NodeMeta). remarked m g (marks_moved m.multiport k (meta_at g n))) e
 
-pub recount_gone : (m : MultiPortGraph) (n : ℕ) (g : PortGraph) (a : NodeMeta) → maybe_meta.Some a ≡ meta_at m.graph n → maybe_meta.None ≡ meta_at g n → remarked m g m.multiport ≡ recounted m n g
+pub recount_gone : (m : MultiPortGraph) (n : ℕ) (g : PortGraph) (a : NodeMeta) → Some a ≡ meta_at m.graph n → None ≡ meta_at g n → remarked m g m.multiport ≡ recounted m n g
 unfolding recounted
 recount_gone m n g a e f = λ i. remarked m g (marks_moved m.multiport (e i) (f i))
 
-pub recount_moved : (m : MultiPortGraph) (n : ℕ) (g : PortGraph) (a b : NodeMeta) {t : List Bool} → maybe_meta.Some a ≡ meta_at m.graph n → maybe_meta.Some b ≡ meta_at g n → t ≡ lay_marks m.multiport a b → remarked m g t ≡ recounted m n g
+pub recount_moved : (m : MultiPortGraph) (n : ℕ) (g : PortGraph) (a b : NodeMeta) {t : List Bool} → Some a ≡ meta_at m.graph n → Some b ≡ meta_at g n → t ≡ lay_marks m.multiport a b → remarked m g t ≡ recounted m n g
 unfolding recounted
 recount_moved m n g a b e f h = ap (remarked m g) h ∙ (λ i. remarked m g (marks_moved m.multiport (e i) (f i)))

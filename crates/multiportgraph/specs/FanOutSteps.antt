@@ -1,5 +1,5 @@
 -- Steps of fan-out over plain values: a turn of each count, and that what the tables tell is how many wires the graph has.
-use Rattle.std.specs.Prelude.{◌≡◌, Bool}
+use Rattle.std.specs.Prelude.{◌≡◌, Bool, Ok, Err}
 use Rattle.std.proofs.Math.Path.{refl, sym, ap}
 use Rattle.std.proofs.Common.{◌∙◌}
 use Rattle.std.proofs.Math.Bool.{true, false}
@@ -32,8 +32,6 @@ use Rattle.multiportgraph.specs.ScanReads.{mark_told, count_plain, links_whole, 
 use Rattle.multi_tables.specs.FanOutScans.{linked_at, linked_up, wires_at_in, fan_out_in}
 use Rattle.multiportgraph.specs.declared.multiportgraph.MultiPortGraph.{MultiPortGraph}
 use Rattle.multi_tables.specs.declared.answers.Refusal.{Refusal}
-use Rattle.multiportgraph.specs.declared.lookups.BlockFound.TheVariants as block_found_lem
-use Rattle.multiportgraph.specs.declared.lookups.CountAnswer.TheVariants as count_of
 use Rattle.multi_tables.specs.FanOutScanSteps.{beside_is_up, sum_same, up_first}
 
 module _ (links owners : List ℕ) (flags : List Bool) (p first : ℕ) where
@@ -102,17 +100,17 @@ module _ (m : MultiPortGraph) (w : MultiWf m) (p n : ℕ) (d : Direction) (s : s
       go false t = told_plain t ∙ sym counted_by_slots
 
   -- fan-out of a port
-  pub fan_out_at_port : (r : ℕ) → r ≡ told → count_of.Count r ≡ port_fan_out m p
-  fan_out_at_port r e = ap count_of.Count (e ∙ wires_told) ∙ fan_out_at m p (visible n d) s
+  pub fan_out_at_port : (r : ℕ) → r ≡ told → Ok r ≡ port_fan_out m p
+  fan_out_at_port r e = ap Ok (e ∙ wires_told) ∙ fan_out_at m p (visible n d) s
 
 module _ (m : MultiPortGraph) (n : ℕ) where
-  pub fan_out_refused : (r : Refusal) → block_found m n ≡ block_found_lem.Refused r → count_of.Refused r ≡ node_fan_out m n
+  pub fan_out_refused : (r : Refusal) → block_found m n ≡ Err r → Err r ≡ node_fan_out m n
   unfolding node_fan_out
-  fan_out_refused r e = ap (λ s. counted s (block_fan_out m n)) (start_at m n (block_found_lem.Refused r) e)
+  fan_out_refused r e = ap (λ s. counted s (block_fan_out m n)) (start_at m n (Err r) e)
 
-  module _ (w : MultiWf m) (k : NodeMeta) (e : block_found m n ≡ block_found_lem.Block k) where
+  module _ (w : MultiWf m) (k : NodeMeta) (e : block_found m n ≡ Ok k) where
     open_node : is_hidden m n ≡ false
-    open_node = block_not_hidden m n (sym (block_at m n (block_found_lem.Block k) e))
+    open_node = block_not_hidden m n (sym (block_at m n (Ok k) e))
 
     outputs : ports_of_side m Outgoing n ≡ range (ports_from k (One Outgoing)) (ports_to k (One Outgoing) - ports_from k (One Outgoing))
     unfolding ports_of_node
@@ -120,7 +118,7 @@ module _ (m : MultiPortGraph) (n : ℕ) where
 
     -- fan-out of a block
     pub fan_out_counted : (a b r : ℕ) → a ≡ ports_from k (One Outgoing) → b ≡ ports_to k (One Outgoing)
-        → r ≡ fan_out_in m.multiport m.graph.port_link m.graph.port_meta a (min b port_slots - a) → count_of.Count r ≡ node_fan_out m n
+        → r ≡ fan_out_in m.multiport m.graph.port_link m.graph.port_meta a (min b port_slots - a) → Ok r ≡ node_fan_out m n
     unfolding node_fan_out block_fan_out fan_out_in
     fan_out_counted a b r ea eb er =
         let f = row_fits w n k open_node (meta_is m n k e) (One Outgoing) in
@@ -133,4 +131,4 @@ module _ (m : MultiPortGraph) (n : ℕ) where
         (range (ports_from k (One Outgoing)) (ports_to k (One Outgoing) - ports_from k (One Outgoing)))
         (λ p i. let h = member_range p (ports_from k (One Outgoing)) (ports_to k (One Outgoing) - ports_from k (One Outgoing)) i in wires_told m w p n Outgoing (port_seen_there w n k open_node (meta_is m n k e) Outgoing p (omega arith) (omega arith)))
         ∙ ap (sum_of (fan_out m)) (sym outputs) in
-        ap count_of.Count sum ∙ ap (λ s. counted s (sum_of (fan_out m) (ports_of_side m Outgoing n))) (start_at m n (block_found_lem.Block k) e)
+        ap Ok sum ∙ ap (λ s. counted s (sum_of (fan_out m) (ports_of_side m Outgoing n))) (start_at m n (Ok k) e)

@@ -1,6 +1,6 @@
 -- What other counts of a hidden node do to the tables: the copy port's mark moves with it. What one more subport does: the new port
 -- follows the others.
-use Rattle.std.specs.Prelude.{◌≡◌, refl, Bool, ℕ, ◌+◌, ◌<◌, length, set}
+use Rattle.std.specs.Prelude.{◌≡◌, refl, Bool, ℕ, ◌+◌, ◌<◌, length, set, Ok}
 use Rattle.std.proofs.Math.Path.{sym, ap, transport}
 use Rattle.std.proofs.Common.{◌∙◌, length-set, get_or-set_same, get_or-set_other, lt-length-set}
 use Rattle.std.proofs.Math.Bool.{true, false}
@@ -18,7 +18,6 @@ use Rattle.port_tables.specs.declared.direction.Direction.{Direction}
 use Rattle.port_tables.specs.declared.direction.Direction.TheVariants.{Incoming, Outgoing}
 use Rattle.port_tables.specs.declared.node_entry.NodeMeta.{NodeMeta}
 use Rattle.portgraph.specs.declared.portgraph.PortGraph.{PortGraph}
-use Rattle.portgraph.specs.declared.resize.SetAnswer.TheVariants as lower_set
 use Rattle.portgraph.specs.declared.resize.PortsSet.{PortsSet}
 use Rattle.multiportgraph.specs.Reading.{is_hidden, is_split, copy_side, copy_node, port_of}
 use Rattle.multiportgraph.specs.WellFormed.{inner#, copy_place, Fine, Marked, copy_port, main_port_lem, Seen}
@@ -190,7 +189,7 @@ pub record GrowTables (m : MultiPortGraph) (p : ℕ) (d : Direction) (c n : ℕ)
   pub beside : port_of g c d n ≡ last_beside d (far_in g.port_link p) n
   pub low : far_in g.port_link p < port_slots
 
-grow_here : {m : MultiPortGraph} {M : Model} (f : Fine m M) (x : model.InnerPlace) (s : Seen m M x) (h : Hangs m M x) (e : ℕ) → (growth# m h.copy x.side).answer ≡ lower_set.Set e →
+grow_here : {m : MultiPortGraph} {M : Model} (f : Fine m M) (x : model.InnerPlace) (s : Seen m M x) (h : Hangs m M x) (e : ℕ) → (growth# m h.copy x.side).answer ≡ Ok e →
     GrowTables m (slot_of M.node x) x.side h.copy (num_ports m.graph h.copy x.side) (growth# m h.copy x.side).graph
 grow_here {m} {M} f x s h e t =
     let z = set_recounts f.good f.holds h.copy _ _ enough e t in
@@ -223,7 +222,7 @@ by_first {n = n} t e = ap (λ (k : ℕ). k + n) e ∙ sym t.port
 pub by_copy : {m : MultiPortGraph} {p : ℕ} {d : Direction} {c n : ℕ} {g : PortGraph} → GrowTables m p d c n g → {far q : ℕ} → far ≡ far_in g.port_link p → q ≡ last_beside d far n → q ≡ port_of g c d n
 by_copy {d = d} {n = n} t e k = k ∙ (ap (λ (v : ℕ). last_beside d v n) e ∙ sym t.beside)
 
-pub grow_tables : {m : MultiPortGraph} {p : ℕ} {d : Direction} (b : SplitPort m p d) (e : ℕ) → (growth# m (copy_node m p) d).answer ≡ lower_set.Set e →
+pub grow_tables : {m : MultiPortGraph} {p : ℕ} {d : Direction} (b : SplitPort m p d) (e : ℕ) → (growth# m (copy_node m p) d).answer ≡ Ok e →
     GrowTables m p d (copy_node m p) (num_ports m.graph (copy_node m p) d) (growth# m (copy_node m p) d).graph
 grow_tables {m} {p} {d} b e t =
     let f = b.block.wf.fine in

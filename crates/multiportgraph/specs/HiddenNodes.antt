@@ -1,5 +1,5 @@
 -- Hidden nodes: how they go, how they move with the ports of a node, and how an end of a link is prepared.
-use Rattle.std.specs.Prelude.{Bool, true, false, cond, List, [], ◌∷◌, ◌++◌, ℕ, zero, suc, ◌+◌, ◌-◌, ◌*◌, min, ltb, set}
+use Rattle.std.specs.Prelude.{Bool, true, false, cond, List, [], ◌∷◌, ◌++◌, ℕ, zero, suc, ◌+◌, ◌-◌, ◌*◌, min, ltb, set, Option, Some, None, Ok, Err, Result}
 use Rattle.port_tables.specs.Limits.{node_ports, Limits, present}
 use Rattle.port_tables.specs.Entries.{reversed}
 use Rattle.portgraph.specs.Lookups.{meta_at, num_ports}
@@ -8,17 +8,17 @@ use Rattle.portgraph.specs.Resize.{set_num_ports_under}
 use Rattle.port_tables.specs.declared.direction.Direction.{Direction}
 use Rattle.port_tables.specs.declared.direction.Direction.TheVariants.{Incoming, Outgoing}
 use Rattle.port_tables.specs.declared.node_entry.NodeMeta.{NodeMeta}
-use Rattle.port_tables.specs.declared.node_entry.MaybeNodeMeta.{MaybeNodeMeta}
-use Rattle.port_tables.specs.declared.node_entry.MaybeNodeMeta.TheVariants as maybe_meta
 use Rattle.portgraph.specs.declared.portgraph.PortGraph.{PortGraph}
-use Rattle.portgraph.specs.declared.alloc.AddAnswer as lower_add_answer
-use Rattle.portgraph.specs.declared.alloc.AddAnswer.TheVariants as lower_add
-use Rattle.portgraph.specs.declared.resize.SetAnswer as lower_set_answer
-use Rattle.portgraph.specs.declared.resize.SetAnswer.TheVariants as lower_set
 use Rattle.multiportgraph.specs.Reading.{far_port, has_link, port_of, is_split, copy_node, subports, copy_side}
 use Rattle.multi_tables.specs.Forms.{lay_marks}
 use Rattle.multiportgraph.specs.declared.multiportgraph.MultiPortGraph.{MultiPortGraph}
 use Rattle.multiportgraph.specs.Graph.{with_graph, with_marks, with_hidden, with_subports}
+use Rattle.portgraph.specs.declared.alloc.AddError.TheVariants as add_error
+use Rattle.portgraph.specs.declared.resize.SetError.TheVariants as set_error
+use Rattle.port_tables.specs.declared.index.NodeIndex.{NodeIndex}
+use Rattle.port_tables.specs.declared.index.PortIndex.{PortIndex}
+use Rattle.portgraph.specs.declared.alloc.AddError.{AddError}
+use Rattle.portgraph.specs.declared.resize.SetError.{SetError}
 
 -- the hidden node of a split port goes, with every link at it; neither port is marked any more
 unfoldable pub remove_copy : MultiPortGraph → ℕ → ℕ → MultiPortGraph
@@ -36,10 +36,10 @@ unfoldable pub unsplit_range : MultiPortGraph → ℕ → ℕ → MultiPortGraph
 unsplit_range m p zero = m
 unsplit_range m p (suc n) = unsplit_range (unsplit m p) (suc p) n
 
-abbrev pub marks_moved : List Bool → MaybeNodeMeta → MaybeNodeMeta → List Bool
-marks_moved marks maybe_meta.None after = marks
-marks_moved marks (maybe_meta.Some a) maybe_meta.None = marks
-marks_moved marks (maybe_meta.Some a) (maybe_meta.Some b) = lay_marks marks a b
+abbrev pub marks_moved : List Bool → Option NodeMeta → Option NodeMeta → List Bool
+marks_moved marks None after = marks
+marks_moved marks (Some a) None = marks
+marks_moved marks (Some a) (Some b) = lay_marks marks a b
 
 -- the graph with another lower graph, in which node n has other counts: the marks move with the ports
 unfoldable pub recounted : MultiPortGraph → ℕ → PortGraph → MultiPortGraph
@@ -95,10 +95,10 @@ split_port m p d g c =
     (with_marks (with_graph m (split_graph g p d c)) (set (set m.multiport (port_of g c (reversed d) 0) true) p true))
     (set m.copy_node c true) (m.copy_node_count + 1) (m.subport_count + 2)
 
-abbrev pub split_by : MultiPortGraph → ℕ → Direction → PortGraph → lower_add_answer.AddAnswer → Prepared
-split_by m p d g (lower_add.Added c first) = ready (split_port m p d g c.0) (port_of g c.0 d 1) 1
-split_by m p d g lower_add.TooManyPorts = full
-split_by m p d g lower_add.NoRoom = full
+abbrev pub split_by : MultiPortGraph → ℕ → Direction → PortGraph → Result (NodeIndex × PortIndex) AddError → Prepared
+split_by m p d g (Ok (c, first)) = ready (split_port m p d g c.0) (port_of g c.0 d 1) 1
+split_by m p d g (Err add_error.TooManyPorts) = full
+split_by m p d g (Err add_error.NoRoom) = full
 
 -- unsplit and linked: a hidden node with 2 subports is made, the old link moves to offset 0, and offset 1 is given
 unfoldable pub split_under : Limits → MultiPortGraph → ℕ → Direction → Prepared
@@ -129,12 +129,12 @@ enough = 3 * node_ports
 abbrev pub more : MultiPortGraph → MultiPortGraph
 more m = with_subports m (m.subport_count + 1)
 
-abbrev pub grown_by : MultiPortGraph → ℕ → Direction → PortGraph → lower_set_answer.SetAnswer → Prepared
-grown_by m c d g (lower_set.Set e) = ready (more (recounted m c g)) (port_of g c d (num_ports m.graph c d)) (num_ports m.graph c d)
-grown_by m c d g lower_set.TooManyPorts = full
-grown_by m c d g lower_set.UnknownNode = full
-grown_by m c d g lower_set.MovesTooShort = full
-grown_by m c d g lower_set.NoRoom = full
+abbrev pub grown_by : MultiPortGraph → ℕ → Direction → PortGraph → Result ℕ SetError → Prepared
+grown_by m c d g (Ok e) = ready (more (recounted m c g)) (port_of g c d (num_ports m.graph c d)) (num_ports m.graph c d)
+grown_by m c d g (Err set_error.TooManyPorts) = full
+grown_by m c d g (Err set_error.UnknownNode) = full
+grown_by m c d g (Err set_error.MovesTooShort) = full
+grown_by m c d g (Err set_error.NoRoom) = full
 
 -- one more subport at the end
 unfoldable pub grow_under : Limits → MultiPortGraph → ℕ → Direction → Prepared

@@ -1,6 +1,6 @@
 -- What carries over from one graph to another where the hidden nodes that are left keep their counts and their links:
 -- which side has the copy port, what each end is, and that the graph is fine.
-use Rattle.std.specs.Prelude.{◌≡◌, Bool, ◌⊎◌, ℕ, ◌+◌, ◌≤◌, ◌<◌, length}
+use Rattle.std.specs.Prelude.{◌≡◌, Bool, ◌⊎◌, ℕ, ◌+◌, ◌≤◌, ◌<◌, length, Some}
 use Rattle.std.proofs.Math.Path.{refl, sym, subst}
 use Rattle.std.proofs.Common.{◌∙◌, ap, inl, inr, arith, eq-eqb, ne_eqb}
 use Rattle.std.proofs.Math.Bool.{true, false}
@@ -16,7 +16,6 @@ use Rattle.portgraph.specs.PlaceLaws.{meta_of_node}
 use Rattle.port_tables.specs.declared.direction.Direction.{Direction}
 use Rattle.port_tables.specs.declared.direction.Direction.TheVariants.{Incoming, Outgoing}
 use Rattle.port_tables.specs.declared.node_entry.NodeMeta.{NodeMeta}
-use Rattle.port_tables.specs.declared.node_entry.MaybeNodeMeta.TheVariants as maybe_meta
 use Rattle.portgraph.specs.declared.portgraph.PortGraph.{PortGraph}
 use Rattle.multiportgraph.specs.Reading.{is_hidden, is_split, copy_side}
 use Rattle.multiportgraph.specs.WellFormed.{inner#, copy_place, Marked, copy_port, main_port_lem, Fine, outer, IsEnd, WireIn, subports_of_slot}
@@ -32,7 +31,7 @@ pub true_not_false : {b : Bool} → b ≡ true → b ≡ false → ⊥
 true_not_false p q = zero_is_not_one (cc)
 
 -- the side with a single port has the copy port, where the other has two or more
-pub copy_side_is : (m : MultiPortGraph) (c : ℕ) (k : NodeMeta) (d : Direction) → meta_at m.graph c ≡ maybe_meta.Some k → ports_on k d ≡ 1
+pub copy_side_is : (m : MultiPortGraph) (c : ℕ) (k : NodeMeta) (d : Direction) → meta_at m.graph c ≡ Some k → ports_on k d ≡ 1
     → 2 ≤ ports_on k (reversed d) → copy_side m c ≡ d
 unfolding copy_side
 copy_side_is m c k Incoming e one more = rw (e, eq-eqb k.incoming 1 one, ne_eqb k.outgoing 1 (λ q. omega arith))

@@ -1,5 +1,5 @@
 -- What the code's steps amount to where a link names an input that has a wire, and where it names none.
-use Rattle.std.specs.Prelude.{◌≡◌, Bool, ℕ, eqb}
+use Rattle.std.specs.Prelude.{◌≡◌, Bool, ℕ, eqb, Result, Ok, Err}
 use Rattle.std.proofs.Math.Path.{refl, ap}
 use Rattle.std.proofs.Common.{sym, ◌∙◌}
 use Rattle.std.proofs.Math.Bool.{true, false, cond, not}
@@ -27,17 +27,11 @@ use Rattle.multiportgraph.specs.CaseLaws.{link_taken, link_clean_taken, link_sub
 use Rattle.multi_tables.specs.TakenInputs.{wired_port, wired_in, taken_in, taken_sub_in, taken_ports_in, link_need_under, pair_named_under, link_named_under}
 use Rattle.multiportgraph.specs.declared.multiportgraph.MultiPortGraph.{MultiPortGraph}
 use Rattle.multi_tables.specs.declared.answers.SubportIndex.{SubportIndex}
-use Rattle.multiportgraph.specs.declared.multiportgraph.LinkAnswer.{LinkAnswer}
-use Rattle.multiportgraph.specs.declared.multiportgraph.LinkAnswer.TheVariants as link
 use Rattle.multiportgraph.specs.declared.multiportgraph.PortsLinked.{PortsLinked}
 use Rattle.multi_tables.specs.declared.answers.Refusal.{Refusal}
 use Rattle.multi_tables.specs.declared.answers.Refusal.TheVariants.{BadOffset, InputWired}
 use Rattle.multi_tables.specs.declared.named.LinkNeed.{LinkNeed}
 use Rattle.multi_tables.specs.declared.named.LinkNeed.TheVariants as needs
-use Rattle.multi_tables.specs.declared.named.NamedPair.{NamedPair}
-use Rattle.multi_tables.specs.declared.named.NamedPair.TheVariants as pair
-use Rattle.multi_tables.specs.declared.named.NamedLink.{NamedLink}
-use Rattle.multi_tables.specs.declared.named.NamedLink.TheVariants as ends
 use Rattle.multi_tables.specs.TakenSteps.{unrefused}
 
 -- The calls.
@@ -106,76 +100,76 @@ module _ {m : MultiPortGraph} (w : MultiWf m) where
       sub_untaken o r e = e ∙ ap (λ (u : Bool). link_sub_if u m a o b r) (sym t ∙ taken_is)
 
 module _ {m : MultiPortGraph} (w : MultiWf m) where
-  module _ (a b : ℕ) {e : LinkNeed} (is : e ≡ link_need_under m.multiport m.graph.port_link m.graph.port_meta m.copy_node m.release a b) where
-    pub ports_refused : {x : Refusal} → e ≡ needs.Refused x → link_refused m x ≡ link_pair m a b
+  module _ (a b : ℕ) {e : Result LinkNeed Refusal} (is : e ≡ link_need_under m.multiport m.graph.port_link m.graph.port_meta m.copy_node m.release a b) where
+    pub ports_refused : {x : Refusal} → e ≡ Err x → link_refused m x ≡ link_pair m a b
     unfolding link_need_under
     ports_refused told = ap (linked_by m a b) (sym told ∙ is) ∙ go (taken_in m.multiport m.graph.port_link m.graph.port_meta m.copy_node m.release a b) refl
       where
         go : (t : Bool) → taken_in m.multiport m.graph.port_link m.graph.port_meta m.copy_node m.release a b ≡ t →
-            linked_by m a b (cond t (needs.Refused (taken_ports_in m.graph.port_meta m.copy_node a b)) (link_need m.multiport m.graph.port_link m.graph.port_meta m.copy_node a b)) ≡ link_pair m a b
+            linked_by m a b (cond t (Err (taken_ports_in m.graph.port_meta m.copy_node a b)) (link_need m.multiport m.graph.port_link m.graph.port_meta m.copy_node a b)) ≡ link_pair m a b
         go true h = ports_taken w a b refl h _ refl
         go false h = ports_untaken w a b refl h (sym (call_of_need w a b))
 
-    need_told : {v : LinkNeed} → e ≡ v → ((x : Refusal) → needs.Refused x ≡ v → ⊥) → (taken_in m.multiport m.graph.port_link m.graph.port_meta m.copy_node m.release a b ≡ false) × (link_need m.multiport m.graph.port_link m.graph.port_meta m.copy_node a b ≡ v)
+    need_told : {v : Result LinkNeed Refusal} → e ≡ v → ((x : Refusal) → Err x ≡ v → ⊥) → (taken_in m.multiport m.graph.port_link m.graph.port_meta m.copy_node m.release a b ≡ false) × (link_need m.multiport m.graph.port_link m.graph.port_meta m.copy_node a b ≡ v)
     unfolding link_need_under
     need_told told n = unrefused (taken_in m.multiport m.graph.port_link m.graph.port_meta m.copy_node m.release a b) (sym is ∙ told) (n _)
 
-    pub ports_joined : {x o y r : ℕ} → e ≡ needs.Ends x o y r →
-        ◌≡◌ {A = PortsLinked} (record { graph = with_graph m (link_ports m.graph x y).graph; answer = link.Linked (subport# a o) (subport# b r) }) (link_pair m a b)
+    pub ports_joined : {x o y r : ℕ} → e ≡ Ok (needs.Ends x o y r) →
+        ◌≡◌ {A = PortsLinked} (record { graph = with_graph m (link_ports m.graph x y).graph; answer = Ok (subport# a o, subport# b r) }) (link_pair m a b)
     ports_joined told =
         let z = need_told told (λ x k. zero_is_not_one (cc)) in
         ports_untaken w a b refl z.0 (ports_joined_below w a b refl z.1 refl)
 
-    pub first_block : {d : Direction} → e ≡ needs.First d → OnBlock m a d
+    pub first_block : {d : Direction} → e ≡ Ok (needs.First d) → OnBlock m a d
     first_block told = first_on_block w a b _ (need_told told (λ x k. zero_is_not_one (cc))).1
 
-    pub both_blocks : {d c : Direction} → e ≡ needs.Both d c → BothOnBlock m a d b c
+    pub both_blocks : {d c : Direction} → e ≡ Ok (needs.Both d c) → BothOnBlock m a d b c
     both_blocks told = both_on_blocks w a b _ _ (need_told told (λ x k. zero_is_not_one (cc))).1
 
     -- an end has to be prepared, or both
-    pub first_done : {d : Direction} → e ≡ needs.First d → {l : PortsLinked} → l ≡ linked_by m a b (needs.First d) → l ≡ link_pair m a b
+    pub first_done : {d : Direction} → e ≡ Ok (needs.First d) → {l : PortsLinked} → l ≡ linked_by m a b (Ok (needs.First d)) → l ≡ link_pair m a b
     first_done told h =
         let z = need_told told (λ x k. zero_is_not_one (cc)) in
         ports_untaken w a b refl z.0 (h ∙ (ap (linked_by m a b) (sym z.1) ∙ sym (call_of_need w a b)))
 
-    pub both_done : {d c : Direction} → e ≡ needs.Both d c → {l : PortsLinked} → l ≡ linked_by m a b (needs.Both d c) → l ≡ link_pair m a b
+    pub both_done : {d c : Direction} → e ≡ Ok (needs.Both d c) → {l : PortsLinked} → l ≡ linked_by m a b (Ok (needs.Both d c)) → l ≡ link_pair m a b
     both_done told h =
         let z = need_told told (λ x k. zero_is_not_one (cc)) in
         ports_untaken w a b refl z.0 (h ∙ (ap (linked_by m a b) (sym z.1) ∙ sym (call_of_need w a b)))
 
-  module _ (a b : ℕ) {e : NamedPair} (is : e ≡ pair_named_under m.multiport m.graph.port_link m.graph.port_meta m.copy_node m.release a b) where
-    pub clean_refused : {x : Refusal} → e ≡ pair.Refused x → link_refused m x ≡ link_clean m a b
+  module _ (a b : ℕ) {e : Result (Unit {0}) Refusal} (is : e ≡ pair_named_under m.multiport m.graph.port_link m.graph.port_meta m.copy_node m.release a b) where
+    pub clean_refused : {x : Refusal} → e ≡ Err x → link_refused m x ≡ link_clean m a b
     unfolding pair_named_under
     clean_refused told = ap (link_clean_by present m a b) (sym told ∙ is) ∙ go (taken_in m.multiport m.graph.port_link m.graph.port_meta m.copy_node m.release a b) refl
       where
         go : (t : Bool) → taken_in m.multiport m.graph.port_link m.graph.port_meta m.copy_node m.release a b ≡ t →
-            link_clean_by present m a b (cond t (pair.Refused (taken_ports_in m.graph.port_meta m.copy_node a b)) (pair_named m.graph.port_meta m.copy_node a b)) ≡ link_clean m a b
+            link_clean_by present m a b (cond t (Err (taken_ports_in m.graph.port_meta m.copy_node a b)) (pair_named m.graph.port_meta m.copy_node a b)) ≡ link_clean m a b
         go true h = clean_taken w a b refl h _ refl
         go false h = clean_untaken w a b refl h (clean_done w a b refl refl refl)
 
-    pub clean_linked : e ≡ pair.Opposite → {l : PortsLinked} → l ≡ link_pair m a b → l ≡ link_clean m a b
+    pub clean_linked : e ≡ Ok tt → {l : PortsLinked} → l ≡ link_pair m a b → l ≡ link_clean m a b
     unfolding pair_named_under
     clean_linked told h =
         let z = unrefused (taken_in m.multiport m.graph.port_link m.graph.port_meta m.copy_node m.release a b) (sym is ∙ told) (λ k. zero_is_not_one (cc)) in
         clean_untaken w a b refl z.0 (clean_done w a b refl z.1 (ports_free w a b refl z.0 h))
 
-  module _ (p o q r : ℕ) {e : NamedLink} (is : e ≡ link_named_under m.multiport m.graph.port_link m.graph.port_meta m.copy_node m.release p o q r) where
-    pub sub_refused : {x : Refusal} → e ≡ ends.Refused x → link_refused m x ≡ link_sub m p o q r
+  module _ (p o q r : ℕ) {e : Result (ℕ × ℕ) Refusal} (is : e ≡ link_named_under m.multiport m.graph.port_link m.graph.port_meta m.copy_node m.release p o q r) where
+    pub sub_refused : {x : Refusal} → e ≡ Err x → link_refused m x ≡ link_sub m p o q r
     unfolding link_named_under
     sub_refused told = ap (link_by m (read_in m.multiport p o) (read_in m.multiport q r)) (sym told ∙ is) ∙ go (taken_in m.multiport m.graph.port_link m.graph.port_meta m.copy_node m.release p q) refl
       where
         go : (t : Bool) → taken_in m.multiport m.graph.port_link m.graph.port_meta m.copy_node m.release p q ≡ t →
-            link_by m (read_in m.multiport p o) (read_in m.multiport q r) (cond t (ends.Refused (taken_sub_in m.multiport m.graph.port_link m.graph.port_meta m.copy_node p o q r)) (link_named m.multiport m.graph.port_link m.graph.port_meta m.copy_node p o q r)) ≡ link_sub m p o q r
+            link_by m (read_in m.multiport p o) (read_in m.multiport q r) (cond t (Err (taken_sub_in m.multiport m.graph.port_link m.graph.port_meta m.copy_node p o q r)) (link_named m.multiport m.graph.port_link m.graph.port_meta m.copy_node p o q r)) ≡ link_sub m p o q r
         go true h = sub_taken w p q refl h o r _ refl
         go false h = sub_untaken w p q refl h o r (sym (sub_of_named w.fine p o q r))
 
-    pub sub_joined : {x y : ℕ} → e ≡ ends.Ends x y → {s t : SubportIndex} → s ≡ read_in m.multiport p o → t ≡ read_in m.multiport q r →
-        ◌≡◌ {A = PortsLinked} (record { graph = with_graph m (link_ports m.graph x y).graph; answer = link.Linked s t }) (link_sub m p o q r)
+    pub sub_joined : {x y : ℕ} → e ≡ Ok (x, y) → {s t : SubportIndex} → s ≡ read_in m.multiport p o → t ≡ read_in m.multiport q r →
+        ◌≡◌ {A = PortsLinked} (record { graph = with_graph m (link_ports m.graph x y).graph; answer = Ok (s, t) }) (link_sub m p o q r)
     unfolding link_named_under
     sub_joined told f g =
         let z = unrefused (taken_in m.multiport m.graph.port_link m.graph.port_meta m.copy_node m.release p q) (sym is ∙ told) (λ k. zero_is_not_one (cc)) in
         sub_untaken w p q refl z.0 o r (subs_joined_below w p o q r refl z.1 f g refl)
 
 -- Over lent tables graph and answer are told apart: those of one link are those of another.
-pub parts_untaken : {k l : PortsLinked} → k ≡ l → {g : MultiPortGraph} {y : LinkAnswer} → (g ≡ k.graph) × (y ≡ k.answer) → (g ≡ l.graph) × (y ≡ l.answer)
+pub parts_untaken : {k l : PortsLinked} → k ≡ l → {g : MultiPortGraph} {y : Result (SubportIndex × SubportIndex) Refusal} → (g ≡ k.graph) × (y ≡ k.answer) → (g ≡ l.graph) × (y ≡ l.answer)
 parts_untaken e h = (h.0 ∙ ap (λ (l : PortsLinked). l.graph) e, h.1 ∙ ap (λ (l : PortsLinked). l.answer) e)

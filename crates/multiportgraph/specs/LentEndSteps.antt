@@ -1,5 +1,5 @@
 -- Preparing an end and linking ports over lent tables leave the graph, and give the answer, that their definitions say.
-use Rattle.std.specs.Prelude.{◌≡◌, refl, Bool, true, false, cond, List, ◌⊎◌, ℕ, ◌+◌, ◌*◌, ◌≤◌, ◌<◌}
+use Rattle.std.specs.Prelude.{◌≡◌, refl, Bool, true, false, cond, List, ◌⊎◌, ℕ, ◌+◌, ◌*◌, ◌≤◌, ◌<◌, Option, Result, Ok, Err}
 use Rattle.std.proofs.Common.{sym, ap, ◌∙◌, arith}
 use Rattle.port_tables.specs.Limits.{port_slots, node_ports, present}
 use Rattle.port_tables.specs.Entries.{ports_on, same_side, port#}
@@ -14,10 +14,7 @@ use Rattle.port_tables.specs.declared.direction.Direction.{Direction}
 use Rattle.port_tables.specs.declared.direction.Direction.TheVariants.{Incoming, Outgoing}
 use Rattle.port_tables.specs.declared.index.NodeIndex.{NodeIndex}
 use Rattle.port_tables.specs.declared.node_entry.NodeMeta.{NodeMeta}
-use Rattle.port_tables.specs.declared.node_entry.MaybeNodeMeta.{MaybeNodeMeta}
 use Rattle.port_tables.specs.declared.lent.Counts.{Counts}
-use Rattle.portgraph.specs.declared.resize.SetAnswer as lower_set
-use Rattle.portgraph.specs.declared.resize.SetAnswer.TheVariants as lower_set_variants
 use Rattle.multiportgraph.specs.Reading.{seen, copy_node}
 use Rattle.multi_tables.specs.Forms.{subport#, visible, put_flag, seen_as}
 use Rattle.multiportgraph.specs.HiddenNodes as hiding
@@ -35,8 +32,6 @@ use Rattle.multiportgraph.specs.Needs.{need_of, takes_of, room_for}
 use Rattle.multiportgraph.specs.NeedLaws.{again_ready, need_stays, first_finds_room, second_still, second_finds_room, room_lacks}
 use Rattle.multiportgraph.specs.declared.multiportgraph.MultiPortGraph.{MultiPortGraph}
 use Rattle.multi_tables.specs.declared.answers.Refusal.TheVariants.{NoRoom, UnknownPort, HiddenPort, UnknownSecondPort, IncompatibleDirections}
-use Rattle.multiportgraph.specs.declared.multiportgraph.LinkAnswer.{LinkAnswer}
-use Rattle.multiportgraph.specs.declared.multiportgraph.LinkAnswer.TheVariants as link
 use Rattle.multiportgraph.specs.declared.multiportgraph.PortsLinked.{PortsLinked}
 use Rattle.multi_tables.specs.declared.seen.SeenPort.{SeenPort}
 use Rattle.multi_tables.specs.declared.seen.SeenPort.TheVariants as seen_port
@@ -51,6 +46,9 @@ use Rattle.multiportgraph.specs.Cases.{link_refused, link_second, link_first, li
 use Rattle.multiportgraph.specs.CaseLaws.{link_cases}
 use Rattle.multiportgraph.specs.Presumed.{OnBlock, BothOnBlock, GrowPort, FirstReady}
 use Rattle.multiportgraph.specs.Calls.{link_pair_if}
+use Rattle.multi_tables.specs.declared.answers.Refusal.{Refusal}
+use Rattle.multi_tables.specs.declared.answers.SubportIndex.{SubportIndex}
+use Rattle.portgraph.specs.declared.resize.SetError.{SetError}
 
 -- One more subport.
 
@@ -67,7 +65,7 @@ grow_few {m} {p} {d} {c} {k} b =
     go Outgoing l = omega arith
 
 module _ (nodes links owners heads : List ℕ) (marks flags : List Bool) (totals : Totals)
-    {p : ℕ} {d : Direction} {c : ℕ} {k : NodeMeta} (b : GrowPort (multi_in nodes links owners heads marks flags totals) p d c k) {copy count w i o : ℕ} (nodes₁ : List ℕ) {links₁ owners₁ heads₁ : List ℕ} {counts₁ : Counts} {a : lower_set.SetAnswer}
+    {p : ℕ} {d : Direction} {c : ℕ} {k : NodeMeta} (b : GrowPort (multi_in nodes links owners heads marks flags totals) p d c k) {copy count w i o : ℕ} (nodes₁ : List ℕ) {links₁ owners₁ heads₁ : List ℕ} {counts₁ : Counts} {a : Result ℕ SetError}
     (e₁ : w ≡ p) (e₂ : copy ≡ far_in links w) (e₃ : count ≡ ports_on k d) (f₁ : i ≡ grown_incoming d count) (f₂ : o ≡ grown_outgoing d count)
     (f₄ : graph_in nodes₁ links₁ owners₁ heads₁ counts₁ ≡ (set_num_ports (graph_in nodes links owners heads totals.counts) c i o (3 * node_ports)).graph)
     (f₅ : a ≡ (set_num_ports (graph_in nodes links owners heads totals.counts) c i o (3 * node_ports)).answer) where
@@ -80,10 +78,10 @@ module _ (nodes links owners heads : List ℕ) (marks flags : List Bool) (totals
         port = b.port;
         copy_is = e₂ ∙ ap (far_in links) e₁;
         node_is = sym b.copy;
-        count_is = e₃ ∙ sym (ap (λ (v : ℕ). count_in (meta_at whole.graph v) d) b.copy ∙ ap (λ (v : MaybeNodeMeta). count_in v d) b.meta);
+        count_is = e₃ ∙ sym (ap (λ (v : ℕ). count_in (meta_at whole.graph v) d) b.copy ∙ ap (λ (v : Option NodeMeta). count_in v d) b.meta);
       }
 
-  pub grow_full_in : (tag : lower_set.SetAnswer → ℕ) → ((q : ℕ) → tag (lower_set_variants.Set q) ≡ 0) → (tag a ≡ 1) ⊎ ((tag a ≡ 2) ⊎ ((tag a ≡ 3) ⊎ (tag a ≡ 4))) → {totals' : Totals} → totals' ≡ totals_counts totals counts₁ →
+  pub grow_full_in : (tag : Result ℕ SetError → ℕ) → ((q : ℕ) → tag (Ok q) ≡ 0) → (tag a ≡ 1) ⊎ ((tag a ≡ 2) ⊎ ((tag a ≡ 3) ⊎ (tag a ≡ 4))) → {totals' : Totals} → totals' ≡ totals_counts totals counts₁ →
       ◌≡◌ {A = Prepared} (record { graph = multi_in nodes₁ links₁ owners₁ heads₁ marks flags totals'; port = 0; offset = 0; ready = false }) (prepared_as whole (grow whole c d))
   grow_full_in tag zeroth t {totals'} h =
       let same : multi_in nodes₁ links₁ owners₁ heads₁ marks flags totals' ≡ whole =
@@ -93,7 +91,7 @@ module _ (nodes links owners heads : List ℕ) (marks flags : List Bool) (totals
       ∙ (grow_full growing {r = record { graph = graph_in nodes₁ links₁ owners₁ heads₁ counts₁; answer = a }} f₁ f₂ refl (λ v. record { graph = f₄ v; answer = f₅ v }) tag zeroth t
       ∙ ap (λ (v : ℕ). prepared_as whole (grow whole v d)) b.copy)
 
-  module _ {q : ℕ} (t : a ≡ lower_set_variants.Set q) where
+  module _ {q : ℕ} (t : a ≡ Ok q) where
     pub grow_told_in : GrowTables whole p d (copy_node whole p) count (graph_in nodes₁ links₁ owners₁ heads₁ counts₁)
     grow_told_in = grow_told growing {r = record { graph = graph_in nodes₁ links₁ owners₁ heads₁ counts₁; answer = a }} f₁ f₂ refl (λ v. record { graph = f₄ v; answer = f₅ v }) t
 
@@ -125,28 +123,28 @@ unchanged m hiding.full r e t = ap (λ (s : Prepared). s.graph) e
 
 module _ (m : MultiPortGraph) (a : ℕ) (d : Direction) {g : MultiPortGraph} (r : PreparedLent) (e : prepared_in g r ≡ prepared_as m (prepare m a d)) where
   -- the second port is not live
-  pub first_parts : (b : ℕ) → r.ready ≡ true → (g ≡ (link_first m b (prepare m a d)).graph) × (link.Refused (UnknownSecondPort (port# b)) ≡ (link_first m b (prepare m a d)).answer)
+  pub first_parts : (b : ℕ) → r.ready ≡ true → (g ≡ (link_first m b (prepare m a d)).graph) × (Err (UnknownSecondPort (port# b)) ≡ (link_first m b (prepare m a d)).answer)
   first_parts b t = link_parts (first_ready_lem m a d b (prepared_in g r) e t refl)
 
-  pub first_none : (b : ℕ) → r.ready ≡ false → (g ≡ (link_first m b (prepare m a d)).graph) × (link.Refused NoRoom ≡ (link_first m b (prepare m a d)).answer)
+  pub first_none : (b : ℕ) → r.ready ≡ false → (g ≡ (link_first m b (prepare m a d)).graph) × (Err NoRoom ≡ (link_first m b (prepare m a d)).answer)
   first_none b t =
       link_parts (first_full m a d b (prepared_in g r) e t (ap (λ (x : MultiPortGraph). link_refused x NoRoom) (unchanged m (prepare m a d) r e t)))
 
   -- a port with itself
   pub self_parts : OnBlock m a d → r.ready ≡ true →
-      (g ≡ (link_live m a d a d (prepare m a d)).graph) × (link.Refused (IncompatibleDirections (port# r.port) (port# r.port) d) ≡ (link_live m a d a d (prepare m a d)).answer)
+      (g ≡ (link_live m a d a d (prepare m a d)).graph) × (Err (IncompatibleDirections (port# r.port) (port# r.port) d) ≡ (link_live m a d a d (prepare m a d)).answer)
   self_parts b t =
       let is = is_ready m (prepare m a d) (prepared_in g r) e t in
       link_parts (sym (ap (link_live m a d a d) is
       ∙ (ap (link_second m a d r.port r.offset a d) (again_ready b g r.port r.offset is)
       ∙ ap (λ (c : Bool). cond c (link_refused g (IncompatibleDirections (port# r.port) (port# r.port) d))
-      (record { graph = with_graph g (Rattle.portgraph.specs.Calls.link_ports g.graph r.port r.port).graph; answer = link.Linked (subport# a r.offset) (subport# a r.offset) })) (one_side d))))
+      (record { graph = with_graph g (Rattle.portgraph.specs.Calls.link_ports g.graph r.port r.port).graph; answer = Ok (subport# a r.offset, subport# a r.offset) })) (one_side d))))
     where
       one_side : (d : Direction) → same_side d d ≡ true
       one_side Incoming = refl
       one_side Outgoing = refl
 
-  pub self_none : r.ready ≡ false → (g ≡ (link_live m a d a d (prepare m a d)).graph) × (link.Refused NoRoom ≡ (link_live m a d a d (prepare m a d)).answer)
+  pub self_none : r.ready ≡ false → (g ≡ (link_live m a d a d (prepare m a d)).graph) × (Err NoRoom ≡ (link_live m a d a d (prepare m a d)).answer)
   self_none t =
       link_parts (ap (λ (x : MultiPortGraph). link_refused x NoRoom) (unchanged m (prepare m a d) r e t) ∙ sym (ap (link_live m a d a d) (is_full m (prepare m a d) (prepared_in g r) e t)))
 
@@ -155,7 +153,7 @@ module _ {m : MultiPortGraph} {a : ℕ} {d : Direction} {x o b : ℕ} {e : Direc
   by_second : (p : hiding.Prepared) → prepare m b e ≡ p → link_live m a d b e (prepare m a d) ≡ link_second m a d x o b e p
   by_second p q = ap (link_live m a d b e) w.is ∙ ap (link_second m a d x o b e) q
 
-  pub second_none : s.ready ≡ false → (k ≡ (link_live m a d b e (prepare m a d)).graph) × (link.Refused NoRoom ≡ (link_live m a d b e (prepare m a d)).answer)
+  pub second_none : s.ready ≡ false → (k ≡ (link_live m a d b e (prepare m a d)).graph) × (Err NoRoom ≡ (link_live m a d b e (prepare m a d)).answer)
   second_none t =
       link_parts (ap (λ (v : MultiPortGraph). link_refused v NoRoom) (unchanged m (prepare m b e) s j t) ∙ sym (by_second hiding.full (is_full m (prepare m b e) (prepared_in k s) j t)))
 
@@ -168,15 +166,15 @@ module _ {m : MultiPortGraph} {a : ℕ} {d : Direction} {x o b : ℕ} {e : Direc
     second_after = still_wf w.both.second (prepared_in k s) j t
 
     pub second_same : same_side d e ≡ true →
-        (k ≡ (link_live m a d b e (prepare m a d)).graph) × (link.Refused (IncompatibleDirections (port# x) (port# s.port) d) ≡ (link_live m a d b e (prepare m a d)).answer)
+        (k ≡ (link_live m a d b e (prepare m a d)).graph) × (Err (IncompatibleDirections (port# x) (port# s.port) d) ≡ (link_live m a d b e (prepare m a d)).answer)
     second_same c =
         link_parts (sym (by_second (hiding.ready k s.port s.offset) second_is
         ∙ ap (λ (v : Bool). cond v (link_refused k (IncompatibleDirections (port# x) (port# s.port) d))
-        (record { graph = with_graph k (Rattle.portgraph.specs.Calls.link_ports k.graph x s.port).graph; answer = link.Linked (subport# a o) (subport# b s.offset) })) c))
+        (record { graph = with_graph k (Rattle.portgraph.specs.Calls.link_ports k.graph x s.port).graph; answer = Ok (subport# a o, subport# b s.offset) })) c))
 
     pub second_linked : same_side d e ≡ false → {l : List ℕ} → l ≡ tables.link_both k.graph.port_link x s.port →
         (with_graph k (with_links k.graph l (k.graph.link_count + 1)) ≡ (link_live m a d b e (prepare m a d)).graph)
-        × (link.Linked (subport# a o) (subport# b s.offset) ≡ (link_live m a d b e (prepare m a d)).answer)
+        × (Ok (subport# a o, subport# b s.offset) ≡ (link_live m a d b e (prepare m a d)).answer)
     second_linked c q =
         link_parts (both_joined w.both {r = record { graph = m; port = x; offset = o; ready = true }} {s = prepared_in k s} (ap (prepared_as m) (sym w.is)) refl j t c q)
 
@@ -185,7 +183,7 @@ pub second_linked_in : {m : MultiPortGraph} {a : ℕ} {d : Direction} {x o b : �
     prepared_in (multi_in nodes₁ links₁ owners₁ heads₁ marks₁ flags₁ s.totals) s ≡ prepared_as m (prepare m b e) → s.ready ≡ true → same_side d e ≡ false →
     {l : List ℕ} {totals' : Totals} → l ≡ tables.link_both links₁ x s.port → totals' ≡ totals_links s.totals (s.totals.counts.link_count + 1) →
     (multi_in nodes₁ l owners₁ heads₁ marks₁ flags₁ totals' ≡ (link_live m a d b e (prepare m a d)).graph)
-    × (link.Linked (subport# a o) (subport# b s.offset) ≡ (link_live m a d b e (prepare m a d)).answer)
+    × (Ok (subport# a o, subport# b s.offset) ≡ (link_live m a d b e (prepare m a d)).answer)
 second_linked_in w nodes₁ {links₁} {owners₁} {heads₁} {marks₁} {flags₁} s j t c {l} q h =
     let z = second_linked w {k = multi_in nodes₁ links₁ owners₁ heads₁ marks₁ flags₁ s.totals} s j t c q in
     (ap (multi_in nodes₁ l owners₁ heads₁ marks₁ flags₁) h ∙ z.0, z.1)
@@ -201,7 +199,7 @@ module _ (nodes links owners heads : List ℕ) (marks flags : List Bool) (totals
   room : (z : Bool) → c ≡ z → room_for nodes links heads totals.counts (takes_of (need_of m a d)) (takes_of (need_of m b e)) ≡ z
   room z q = sym (ec ∙ (λ i. room_for nodes links heads totals.counts ((h₁ ∙ ap takes_of eu) i) ((h₂ ∙ ap takes_of ev) i))) ∙ q
 
-  pub both_lack : c ≡ false → (m ≡ (link_live m a d b e (prepare m a d)).graph) × (link.Refused NoRoom ≡ (link_live m a d b e (prepare m a d)).answer)
+  pub both_lack : c ≡ false → (m ≡ (link_live m a d b e (prepare m a d)).graph) × (Err NoRoom ≡ (link_live m a d b e (prepare m a d)).answer)
   both_lack q = link_parts (sym (room_lacks nodes links owners heads marks flags totals w apart (room false q)))
 
   module _ (q : c ≡ true) {g : MultiPortGraph} (r : PreparedLent) (h : prepared_in g r ≡ prepared_as m (prepare m a d)) where
@@ -229,7 +227,7 @@ module _ (nodes links owners heads : List ℕ) (marks flags : List Bool) (totals
         ∙ (ap (link_second g a d r.port r.offset b e) k
         ∙ (sym (ap (link_second m a d r.port r.offset b e) k) ∙ sym (ap (link_live m a d b e) is)))
 
-    pub both_done : {k : MultiPortGraph} {y : LinkAnswer} → (k ≡ (link_live g a d b e (prepare g a d)).graph) × (y ≡ (link_live g a d b e (prepare g a d)).answer) →
+    pub both_done : {k : MultiPortGraph} {y : Result (SubportIndex × SubportIndex) Refusal} → (k ≡ (link_live g a d b e (prepare g a d)).graph) × (y ≡ (link_live g a d b e (prepare g a d)).answer) →
         (k ≡ (link_live m a d b e (prepare m a d)).graph) × (y ≡ (link_live m a d b e (prepare m a d)).answer)
     both_done z =
         let s = both_same (prepare g b e) refl in
@@ -238,23 +236,23 @@ module _ (nodes links owners heads : List ℕ) (marks flags : List Bool) (totals
 -- How the ports are seen.
 
 module _ (m : MultiPortGraph) (a b : ℕ) {s : SeenPort} (ea : s ≡ seen_as (seen m a)) where
-  pub call_unknown : s ≡ seen_port.Dead → (m ≡ (link_pair_if false present m a b).graph) × (link.Refused (UnknownPort (port# a)) ≡ (link_pair_if false present m a b).answer)
+  pub call_unknown : s ≡ seen_port.Dead → (m ≡ (link_pair_if false present m a b).graph) × (Err (UnknownPort (port# a)) ≡ (link_pair_if false present m a b).answer)
   unfolding link_pair_if
   call_unknown t = let q = seen_told (seen m a) ea t in link_parts (rw q)
 
-  pub call_hidden : s ≡ seen_port.Hidden → (m ≡ (link_pair_if false present m a b).graph) × (link.Refused (HiddenPort (port# a)) ≡ (link_pair_if false present m a b).answer)
+  pub call_hidden : s ≡ seen_port.Hidden → (m ≡ (link_pair_if false present m a b).graph) × (Err (HiddenPort (port# a)) ≡ (link_pair_if false present m a b).answer)
   unfolding link_pair_if
   call_hidden t = let q = seen_told (seen m a) ea t in link_parts (rw q)
 
 module _ {m : MultiPortGraph} {a : ℕ} (b : ℕ) {d : Direction} (w : OnBlock m a d) {s : SeenPort} (eb : s ≡ seen_as (seen m b)) where
-  pub call_first : s ≡ seen_port.Dead → {g : MultiPortGraph} {y : LinkAnswer} → (g ≡ (link_first m b (prepare m a d)).graph) × (y ≡ (link_first m b (prepare m a d)).answer) → (g ≡ (link_pair_if false present m a b).graph) × (y ≡ (link_pair_if false present m a b).answer)
+  pub call_first : s ≡ seen_port.Dead → {g : MultiPortGraph} {y : Result (SubportIndex × SubportIndex) Refusal} → (g ≡ (link_first m b (prepare m a d)).graph) × (y ≡ (link_first m b (prepare m a d)).answer) → (g ≡ (link_pair_if false present m a b).graph) × (y ≡ (link_pair_if false present m a b).answer)
   call_first t h =
       let p = w.is in
       let q = seen_told (seen m b) eb t in
       let z : link_first m b (prepare m a d) ≡ link_pair_if false present m a b = (λ i. link_seen m a b (sym p i) (sym q i)) ∙ sym (link_cases present m a b) in
       (h.0 ∙ ap (λ (l : PortsLinked). l.graph) z, h.1 ∙ ap (λ (l : PortsLinked). l.answer) z)
 
-  pub call_second_hidden : s ≡ seen_port.Hidden → (m ≡ (link_pair_if false present m a b).graph) × (link.Refused (HiddenPort (port# b)) ≡ (link_pair_if false present m a b).answer)
+  pub call_second_hidden : s ≡ seen_port.Hidden → (m ≡ (link_pair_if false present m a b).graph) × (Err (HiddenPort (port# b)) ≡ (link_pair_if false present m a b).answer)
   unfolding link_pair_if
   call_second_hidden t = let p = w.is in let q = seen_told (seen m b) eb t in link_parts (rw (p, q))
 
@@ -265,7 +263,7 @@ module _ {m : MultiPortGraph} {a : ℕ} (b : ℕ) {d : Direction} (w : OnBlock m
     pub both_on : BothOnBlock m a d b e
     both_on = record { first = w; second = second_on }
 
-    pub call_both : {g : MultiPortGraph} {y : LinkAnswer} → (g ≡ (link_live m a d b e (prepare m a d)).graph) × (y ≡ (link_live m a d b e (prepare m a d)).answer) → (g ≡ (link_pair_if false present m a b).graph) × (y ≡ (link_pair_if false present m a b).answer)
+    pub call_both : {g : MultiPortGraph} {y : Result (SubportIndex × SubportIndex) Refusal} → (g ≡ (link_live m a d b e (prepare m a d)).graph) × (y ≡ (link_live m a d b e (prepare m a d)).answer) → (g ≡ (link_pair_if false present m a b).graph) × (y ≡ (link_pair_if false present m a b).answer)
     call_both h =
         let p = w.is in
         let q = seen_told (seen m b) eb t in
@@ -273,7 +271,7 @@ module _ {m : MultiPortGraph} {a : ℕ} (b : ℕ) {d : Direction} (w : OnBlock m
         (h.0 ∙ ap (λ (l : PortsLinked). l.graph) z, h.1 ∙ ap (λ (l : PortsLinked). l.answer) z)
 
     -- a port with itself has one side
-    pub call_self : a ≡ b → {g : MultiPortGraph} {y : LinkAnswer} → (g ≡ (link_live m a d a d (prepare m a d)).graph) × (y ≡ (link_live m a d a d (prepare m a d)).answer) → (g ≡ (link_pair_if false present m a b).graph) × (y ≡ (link_pair_if false present m a b).answer)
+    pub call_self : a ≡ b → {g : MultiPortGraph} {y : Result (SubportIndex × SubportIndex) Refusal} → (g ≡ (link_live m a d a d (prepare m a d)).graph) × (y ≡ (link_live m a d a d (prepare m a d)).answer) → (g ≡ (link_pair_if false present m a b).graph) × (y ≡ (link_pair_if false present m a b).answer)
     call_self r h =
         let p = w.is in
         let q = seen_told (seen m b) eb t in

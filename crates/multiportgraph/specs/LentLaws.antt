@@ -1,5 +1,5 @@
 -- What is read off lent tables is what the graph says, and a sound graph stays one where hidden nodes go.
-use Rattle.std.specs.Prelude.{◌≡◌, Bool, List, ℕ, ◌-◌, replicate}
+use Rattle.std.specs.Prelude.{◌≡◌, Bool, List, ℕ, ◌-◌, replicate, Option, Some, None, Ok}
 use Rattle.std.proofs.Math.Path.{refl, ap}
 use Rattle.std.proofs.Common.{sym, ◌∙◌, subst, length-set}
 use Rattle.std.proofs.Math.Bool.{true, false, cond}
@@ -16,10 +16,8 @@ use Rattle.port_tables.specs.NodeWords.{meta_in}
 use Rattle.portgraph.specs.LentSteps.{zeros_are_new, meta_read, index_read}
 use Rattle.port_tables.specs.declared.direction.Direction.{Direction}
 use Rattle.port_tables.specs.declared.direction.Direction.TheVariants.{Incoming, Outgoing}
-use Rattle.port_tables.specs.declared.node_entry.MaybeNodeMeta.{MaybeNodeMeta}
 use Rattle.port_tables.specs.declared.port_entry.PortEntry.{PortEntry}
 use Rattle.port_tables.specs.declared.port_entry.PortEntry.TheVariants as port_variants
-use Rattle.portgraph.specs.declared.portgraph.PortLink.TheVariants as link_variants
 use Rattle.multiportgraph.specs.Reading.{link_number, far_port, owner_of, port_number, port_of, is_split, copy_node, copy_side}
 use Rattle.multiportgraph.specs.WellFormed.{MultiWf}
 use Rattle.multi_tables.specs.Forms.{flag_at}
@@ -33,6 +31,7 @@ use Rattle.port_tables.specs.declared.release.Release.{Release}
 use Rattle.multiportgraph.specs.declared.lent.Totals.{Totals}
 use Rattle.multiportgraph.specs.Graph.{empty_graph}
 use Rattle.multiportgraph.specs.HiddenNodes.{remove_copy, remove_lone, unsplit}
+use Rattle.port_tables.specs.declared.node_entry.NodeMeta.{NodeMeta}
 
 -- tables without anything are the empty graph
 pub empty_in : (release : Release) → multi_in (replicate node_words 0) (replicate port_slots 0) (replicate port_slots 0) (replicate free_lists 0) (replicate port_slots false) (replicate node_slots false) (no_totals release) ≡ empty_graph release
@@ -45,7 +44,7 @@ module _ (nodes links owners heads : List ℕ) (marks flags : List Bool) (totals
   port_of_read w n d i = ap port_number (index_read nodes links owners heads totals.counts w n (record { direction = d; index = i }))
 
   pub count_read : Wf (graph_in nodes links owners heads totals.counts) → (n : ℕ) (d : Direction) → count_in (meta_in nodes n) d ≡ num_ports (graph_in nodes links owners heads totals.counts) n d
-  count_read w n d = ap (λ (x : MaybeNodeMeta). count_in x d) (meta_read nodes links owners heads totals.counts n w.holds.nodes_long)
+  count_read w n d = ap (λ (x : Option NodeMeta). count_in x d) (meta_read nodes links owners heads totals.counts n w.holds.nodes_long)
 
   pub copy_side_read : Sound (multi_in nodes links owners heads marks flags totals) → (c : ℕ) → copy_side_in nodes marks c ≡ copy_side (multi_in nodes links owners heads marks flags totals) c
   unfolding copy_side_in copy_side is_split
@@ -59,7 +58,7 @@ module _ (nodes links owners heads : List ℕ) (marks flags : List Bool) (totals
   unfolding far_port_in far_port far_in
   far_port_read p = go (port_entry (at owners p))
     where
-      some : (b : Bool) → eqb (at links p) 0 ≡ b → at links p - 1 ≡ link_number (cond b link_variants.Unlinked (link_variants.Linked (port# (at links p - 1))))
+      some : (b : Bool) → eqb (at links p) 0 ≡ b → at links p - 1 ≡ link_number (cond b (Ok None) (Ok (Some (port# (at links p - 1)))))
       some true e = let z = eqb-true (at links p) 0 e in omega arith
       some false e = refl
 

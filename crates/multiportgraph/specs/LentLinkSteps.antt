@@ -1,5 +1,5 @@
 -- Resizing a block and splitting a port over lent tables leave the graph, and give the answer, that their definitions say.
-use Rattle.std.specs.Prelude.{◌≡◌, refl, Bool, true, false, cond, List, ◌⊎◌, ℕ, ◌+◌, ◌-◌, ◌≤◌, leb}
+use Rattle.std.specs.Prelude.{◌≡◌, refl, Bool, true, false, cond, List, ◌⊎◌, ℕ, ◌+◌, ◌-◌, ◌≤◌, leb, Option, Some, None, Ok, Err, Result}
 use Rattle.std.proofs.Common.{sym, ap, ◌∙◌, subst, ⊎_elim, arith}
 use Rattle.port_tables.specs.Limits.{node_slots, port_slots, node_ports}
 use Rattle.port_tables.specs.Tables.{at, link_count}
@@ -13,10 +13,6 @@ use Rattle.port_tables.specs.declared.index.PortIndex.{PortIndex}
 use Rattle.port_tables.specs.declared.index.NodeIndex.{NodeIndex}
 use Rattle.port_tables.specs.declared.lent.Counts.{Counts}
 use Rattle.portgraph.specs.declared.portgraph.PortGraph.{PortGraph}
-use Rattle.portgraph.specs.declared.alloc.Found.{Found}
-use Rattle.portgraph.specs.declared.alloc.Found.TheVariants as found
-use Rattle.portgraph.specs.declared.alloc.AddAnswer as lower_add
-use Rattle.portgraph.specs.declared.alloc.AddAnswer.TheVariants as lower_add_variants
 use Rattle.multiportgraph.specs.CodeForms.{prepared_as}
 use Rattle.multi_tables.specs.Forms.{put_flag}
 use Rattle.multiportgraph.specs.PrepareSteps.{lower_wf, split_full}
@@ -30,6 +26,8 @@ use Rattle.multiportgraph.specs.declared.lent.Totals.{Totals}
 use Rattle.multiportgraph.specs.Graph.{with_graph}
 use Rattle.multiportgraph.specs.HiddenNodes.{copy_incoming, copy_outgoing, split}
 use Rattle.multiportgraph.specs.Presumed.{LinkedPort}
+use Rattle.portgraph.specs.declared.alloc.AddError.TheVariants as add_error
+use Rattle.portgraph.specs.declared.alloc.AddError.{AddError}
 
 -- Splitting.
 
@@ -42,26 +40,26 @@ subports_at_small Incoming = omega arith
 subports_at_small Outgoing = omega arith
 
 -- a refused node changes nothing
-add_kept : (g : PortGraph) (i o : ℕ) (tag : lower_add.AddAnswer → ℕ) → ((n : NodeIndex) (f : PortIndex) → tag (lower_add_variants.Added n f) ≡ 0) → {a : lower_add.AddAnswer} → a ≡ (add_node g i o).answer →
+add_kept : (g : PortGraph) (i o : ℕ) (tag : Result (NodeIndex × PortIndex) AddError → ℕ) → ((n : NodeIndex) (f : PortIndex) → tag (Ok (n, f)) ≡ 0) → {a : Result (NodeIndex × PortIndex) AddError} → a ≡ (add_node g i o).answer →
     (tag a ≡ 1) ⊎ (tag a ≡ 2) → (add_node g i o).graph ≡ g
 unfolding add_node_under
 add_kept g i o tag zeroth {a} e t = go (leb (i + o) node_ports) (find_slot g.node_free g.node_len) (find_block g.port_free g.port_len (i + o)) e
   where
-    done : (n : NodeIndex) (f : PortIndex) → a ≡ lower_add_variants.Added n f → ⊥
+    done : (n : NodeIndex) (f : PortIndex) → a ≡ Ok (n, f) → ⊥
     done n f h = let z : tag a ≡ 0 = ap tag h ∙ zeroth n f in ⊎_elim (λ u. omega arith) (λ u. omega arith) t
 
-    go : (c : Bool) (x y : Found) → a ≡ (cond c (add_found g i o x y) (record { graph = g; answer = lower_add_variants.TooManyPorts })).answer →
-        (cond c (add_found g i o x y) (record { graph = g; answer = lower_add_variants.TooManyPorts })).graph ≡ g
+    go : (c : Bool) (x y : Option ℕ) → a ≡ (cond c (add_found g i o x y) (record { graph = g; answer = Err add_error.TooManyPorts })).answer →
+        (cond c (add_found g i o x y) (record { graph = g; answer = Err add_error.TooManyPorts })).graph ≡ g
     go false x y h = refl
-    go true found.NoRoom y h = refl
-    go true (found.At n) found.NoRoom h = refl
-    go true (found.At n) (found.At f) h = absurd (done _ _ h)
+    go true None y h = refl
+    go true (Some n) None h = refl
+    go true (Some n) (Some f) h = absurd (done _ _ h)
 
 module _ (nodes links owners heads : List ℕ) (marks flags : List Bool) (totals : Totals) where
-  module _ (p : ℕ) (d : Direction) {i o : ℕ} (nodes₁ : List ℕ) {links₁ owners₁ heads₁ : List ℕ} {counts₁ : Counts} {a : lower_add.AddAnswer} (e₁ : i ≡ copy_incoming d) (e₂ : o ≡ copy_outgoing d)
+  module _ (p : ℕ) (d : Direction) {i o : ℕ} (nodes₁ : List ℕ) {links₁ owners₁ heads₁ : List ℕ} {counts₁ : Counts} {a : Result (NodeIndex × PortIndex) AddError} (e₁ : i ≡ copy_incoming d) (e₂ : o ≡ copy_outgoing d)
       (e₃ : graph_in nodes₁ links₁ owners₁ heads₁ counts₁ ≡ (add_node (graph_in nodes links owners heads totals.counts) i o).graph)
       (e₄ : a ≡ (add_node (graph_in nodes links owners heads totals.counts) i o).answer) where
-    pub split_full_in : (tag : lower_add.AddAnswer → ℕ) → ((n : NodeIndex) (f : PortIndex) → tag (lower_add_variants.Added n f) ≡ 0) → (tag a ≡ 1) ⊎ (tag a ≡ 2) → {totals' : Totals} → totals' ≡ totals_counts totals counts₁ →
+    pub split_full_in : (tag : Result (NodeIndex × PortIndex) AddError → ℕ) → ((n : NodeIndex) (f : PortIndex) → tag (Ok (n, f)) ≡ 0) → (tag a ≡ 1) ⊎ (tag a ≡ 2) → {totals' : Totals} → totals' ≡ totals_counts totals counts₁ →
         ◌≡◌ {A = Prepared} (record { graph = multi_in nodes₁ links₁ owners₁ heads₁ marks flags totals'; port = 0; offset = 0; ready = false })
         (prepared_as (multi_in nodes links owners heads marks flags totals) (split (multi_in nodes links owners heads marks flags totals) p d))
     split_full_in tag zeroth t {totals'} h =
@@ -76,7 +74,7 @@ module _ (nodes links owners heads : List ℕ) (marks flags : List Bool) (totals
       pub node_wf : Wf (graph_in nodes₁ links₁ owners₁ heads₁ counts₁)
       node_wf = subst Wf (sym e₃) (wf_add (graph_in nodes links owners heads totals.counts) i o (lower_wf (multi_in nodes links owners heads marks flags totals) b.block.wf))
 
-      module _ {n : NodeIndex} {f : PortIndex} (t : a ≡ lower_add_variants.Added n f) where
+      module _ {n : NodeIndex} {f : PortIndex} (t : a ≡ Ok (n, f)) where
         pub split_told_in : SplitTables p d (graph_in nodes₁ links₁ owners₁ heads₁ counts₁) n.0 f.0
         split_told_in = split_told b {r = record { graph = graph_in nodes₁ links₁ owners₁ heads₁ counts₁; answer = a }} e₁ e₂ (λ v. record { graph = e₃ v; answer = e₄ v }) t
 

@@ -1,5 +1,5 @@
 -- Resizing a block over lent tables leaves the graph, and gives the answer, that its definition says.
-use Rattle.std.specs.Prelude.{◌≡◌, refl, Bool, List, ◌⊎◌, ℕ, ◌+◌, ◌-◌, ◌≤◌, length, take}
+use Rattle.std.specs.Prelude.{◌≡◌, refl, Bool, List, ◌⊎◌, ℕ, ◌+◌, ◌-◌, ◌≤◌, length, take, Option, Some, None, Result, Ok, Err}
 use Rattle.std.proofs.Common.{sym, ap, ◌∙◌, subst, ⊎_elim, arith}
 use Rattle.std.proofs.lemmas.List.Edits.{sets}
 use Rattle.std.proofs.Math.Seq.{length-sets}
@@ -13,12 +13,8 @@ use Rattle.portgraph.specs.Lent.{graph_in}
 use Rattle.port_tables.specs.NodeWords.{meta_in}
 use Rattle.portgraph.specs.LentSteps.{meta_read, resizes, entry_of_some}
 use Rattle.port_tables.specs.declared.node_entry.NodeMeta.{NodeMeta}
-use Rattle.port_tables.specs.declared.node_entry.MaybeNodeMeta.{MaybeNodeMeta}
-use Rattle.port_tables.specs.declared.node_entry.MaybeNodeMeta.TheVariants as maybe_meta
 use Rattle.port_tables.specs.declared.lent.Counts.{Counts}
 use Rattle.portgraph.specs.declared.portgraph.PortGraph.{PortGraph}
-use Rattle.portgraph.specs.declared.resize.SetAnswer as lower_set
-use Rattle.portgraph.specs.declared.resize.SetAnswer.TheVariants as lower_set_variants
 use Rattle.multiportgraph.specs.Calls.{set_as, set_counts}
 use Rattle.multi_tables.specs.MarkLaws.{length_lay_marks}
 use Rattle.multiportgraph.specs.BlockSteps.{set_block, block_in_lem, copies_dropped_most, copies_dropped_few, list_taken}
@@ -26,53 +22,55 @@ use Rattle.multiportgraph.specs.PrepareSteps.{lower_wf}
 use Rattle.multiportgraph.specs.MultiLent.{multi_in, totals_counts, Sound, FitsIf, Resizes, settled}
 use Rattle.multiportgraph.specs.LentSteps.{found_fits}
 use Rattle.multiportgraph.specs.declared.multiportgraph.MultiPortGraph.{MultiPortGraph}
-use Rattle.multiportgraph.specs.declared.multiportgraph.SetAnswer.{SetAnswer}
 use Rattle.multiportgraph.specs.declared.multiportgraph.PortsSet.{PortsSet}
 use Rattle.multiportgraph.specs.declared.lent.Totals.{Totals}
 use Rattle.multiportgraph.specs.Graph.{with_graph, with_marks}
 use Rattle.multiportgraph.specs.HiddenNodes.{copies_dropped, recounted, marks_moved, remove_all}
 use Rattle.multiportgraph.specs.Cases.{resized}
+use Rattle.multi_tables.specs.declared.answers.Refusal.{Refusal}
+use Rattle.portgraph.specs.declared.resize.SetError.TheVariants as set_error
+use Rattle.portgraph.specs.declared.resize.SetError.{SetError}
 
-pub length_moved : (marks : List Bool) (x y : MaybeNodeMeta) → length (marks_moved marks x y) ≡ length marks
-length_moved marks maybe_meta.None y = refl
-length_moved marks (maybe_meta.Some a) maybe_meta.None = refl
-length_moved marks (maybe_meta.Some a) (maybe_meta.Some b) = length_lay_marks marks a b
+pub length_moved : (marks : List Bool) (x y : Option NodeMeta) → length (marks_moved marks x y) ≡ length marks
+length_moved marks None y = refl
+length_moved marks (Some a) None = refl
+length_moved marks (Some a) (Some b) = length_lay_marks marks a b
 
 -- What follows a change of counts.
 
-pub settled_refused : (m : MultiPortGraph) (n : ℕ) (k : NodeMeta) (l : List ℕ) (tag : lower_set.SetAnswer → ℕ) → ((e : ℕ) → tag (lower_set_variants.Set e) ≡ 0) → (a : lower_set.SetAnswer) →
+pub settled_refused : (m : MultiPortGraph) (n : ℕ) (k : NodeMeta) (l : List ℕ) (tag : Result ℕ SetError → ℕ) → ((e : ℕ) → tag (Ok e) ≡ 0) → (a : Result ℕ SetError) →
     (tag a ≡ 1) ⊎ ((tag a ≡ 2) ⊎ ((tag a ≡ 3) ⊎ (tag a ≡ 4))) → m ≡ settled m n k l a
-settled_refused m n k l tag zeroth (lower_set_variants.Set e) t =
+settled_refused m n k l tag zeroth (Ok e) t =
     let z = zeroth e in absurd (⊎_elim (λ u. omega arith) (⊎_elim (λ u. omega arith) (⊎_elim (λ u. omega arith) (λ u. omega arith))) t)
-settled_refused m n k l tag zeroth lower_set_variants.TooManyPorts t = refl
-settled_refused m n k l tag zeroth lower_set_variants.UnknownNode t = refl
-settled_refused m n k l tag zeroth lower_set_variants.MovesTooShort t = refl
-settled_refused m n k l tag zeroth lower_set_variants.NoRoom t = refl
+settled_refused m n k l tag zeroth (Err set_error.TooManyPorts) t = refl
+settled_refused m n k l tag zeroth (Err set_error.UnknownNode) t = refl
+settled_refused m n k l tag zeroth (Err set_error.MovesTooShort) t = refl
+settled_refused m n k l tag zeroth (Err set_error.NoRoom) t = refl
 
-module _ (nodes links owners heads : List ℕ) (marks flags : List Bool) (totals : Totals) (s : Sound (multi_in nodes links owners heads marks flags totals)) (n : ℕ) {x : MaybeNodeMeta} (g : x ≡ meta_in nodes n) where
+module _ (nodes links owners heads : List ℕ) (marks flags : List Bool) (totals : Totals) (s : Sound (multi_in nodes links owners heads marks flags totals)) (n : ℕ) {x : Option NodeMeta} (g : x ≡ meta_in nodes n) where
   here : x ≡ meta_at (graph_in nodes links owners heads totals.counts) n
   here = g ∙ meta_read nodes links owners heads totals.counts n s.wf.holds.nodes_long
 
   pub present_fits : FitsIf x
   present_fits = found_fits (graph_in nodes links owners heads totals.counts) s.wf n x here
 
-  module _ (k : NodeMeta) {marks' : List Bool} (h : marks' ≡ marks_moved marks (maybe_meta.Some k) x) where
+  module _ (k : NodeMeta) {marks' : List Bool} (h : marks' ≡ marks_moved marks (Some k) x) where
     pub follow_sound : Sound (multi_in nodes links owners heads marks' flags totals)
     follow_sound =
         record {
           wf = s.wf;
-          marks_long = ap length h ∙ (length_moved marks (maybe_meta.Some k) x ∙ s.marks_long);
+          marks_long = ap length h ∙ (length_moved marks (Some k) x ∙ s.marks_long);
           flags_long = s.flags_long;
         }
 
-    pub settled_done : (l : List ℕ) {after : MultiPortGraph} {a : lower_set.SetAnswer} {q : ℕ} → a ≡ lower_set_variants.Set q → after ≡ remove_all (multi_in nodes links owners heads marks' flags totals) l →
+    pub settled_done : (l : List ℕ) {after : MultiPortGraph} {a : Result ℕ SetError} {q : ℕ} → a ≡ Ok q → after ≡ remove_all (multi_in nodes links owners heads marks' flags totals) l →
         after ≡ settled (multi_in nodes links owners heads marks flags totals) n k l a
     settled_done l {after} {a} {q} t p =
-        let e = ap (λ (u : List Bool). multi_in nodes links owners heads u flags totals) (h ∙ ap (marks_moved marks (maybe_meta.Some k)) here) in
+        let e = ap (λ (u : List Bool). multi_in nodes links owners heads u flags totals) (h ∙ ap (marks_moved marks (Some k)) here) in
         p ∙ (ap (λ (m : MultiPortGraph). remove_all m l) e ∙ ap (settled (multi_in nodes links owners heads marks flags totals) n k l) (sym t))
 
 -- a refused change leaves the single-link graph
-lower_kept : (g : PortGraph) (n i o room : ℕ) (a : lower_set.SetAnswer) → a ≡ (set_num_ports g n i o room).answer → ((e : ℕ) → a ≡ lower_set_variants.Set e → ⊥) → (set_num_ports g n i o room).graph ≡ g
+lower_kept : (g : PortGraph) (n i o room : ℕ) (a : Result ℕ SetError) → a ≡ (set_num_ports g n i o room).answer → ((e : ℕ) → a ≡ Ok e → ⊥) → (set_num_ports g n i o room).graph ≡ g
 unfolding set_num_ports_under
 lower_kept g n i o room a e none = go (plan_of g n i o room) e
   where
@@ -83,15 +81,15 @@ lower_kept g n i o room a e none = go (plan_of g n i o room) e
     go (anew k f) h = absurd (none _ h)
 
 -- what follows is what the call does besides
-settled_is : (m : MultiPortGraph) (n : ℕ) (k : NodeMeta) (i o : ℕ) (g : PortGraph) (a : lower_set.SetAnswer) → maybe_meta.Some k ≡ meta_at m.graph n → (((e : ℕ) → a ≡ lower_set_variants.Set e → ⊥) → g ≡ m.graph) →
+settled_is : (m : MultiPortGraph) (n : ℕ) (k : NodeMeta) (i o : ℕ) (g : PortGraph) (a : Result ℕ SetError) → Some k ≡ meta_at m.graph n → (((e : ℕ) → a ≡ Ok e → ⊥) → g ≡ m.graph) →
     settled (with_graph m g) n k (copies_dropped m k i o) a ≡ resized m n k i o g a
 unfolding recounted
-settled_is m n k i o g (lower_set_variants.Set e) is kept =
-    ap (λ (x : MaybeNodeMeta). remove_all (with_marks (with_graph m g) (marks_moved m.multiport x (meta_at g n))) (copies_dropped m k i o)) is
-settled_is m n k i o g lower_set_variants.TooManyPorts is kept = ap (with_graph m) (kept (λ e q. let z : ◌≡◌ {A = ℕ} 0 1 = cc in omega arith))
-settled_is m n k i o g lower_set_variants.UnknownNode is kept = ap (with_graph m) (kept (λ e q. let z : ◌≡◌ {A = ℕ} 0 1 = cc in omega arith))
-settled_is m n k i o g lower_set_variants.MovesTooShort is kept = ap (with_graph m) (kept (λ e q. let z : ◌≡◌ {A = ℕ} 0 1 = cc in omega arith))
-settled_is m n k i o g lower_set_variants.NoRoom is kept = ap (with_graph m) (kept (λ e q. let z : ◌≡◌ {A = ℕ} 0 1 = cc in omega arith))
+settled_is m n k i o g (Ok e) is kept =
+    ap (λ (x : Option NodeMeta). remove_all (with_marks (with_graph m g) (marks_moved m.multiport x (meta_at g n))) (copies_dropped m k i o)) is
+settled_is m n k i o g (Err set_error.TooManyPorts) is kept = ap (with_graph m) (kept (λ e q. let z : ◌≡◌ {A = ℕ} 0 1 = cc in omega arith))
+settled_is m n k i o g (Err set_error.UnknownNode) is kept = ap (with_graph m) (kept (λ e q. let z : ◌≡◌ {A = ℕ} 0 1 = cc in omega arith))
+settled_is m n k i o g (Err set_error.MovesTooShort) is kept = ap (with_graph m) (kept (λ e q. let z : ◌≡◌ {A = ℕ} 0 1 = cc in omega arith))
+settled_is m n k i o g (Err set_error.NoRoom) is kept = ap (with_graph m) (kept (λ e q. let z : ◌≡◌ {A = ℕ} 0 1 = cc in omega arith))
 
 -- Resizing a block.
 module _ (nodes links owners heads : List ℕ) (marks flags : List Bool) (totals : Totals) (n : ℕ) (k : NodeMeta) (i o : ℕ) (r : Resizes (multi_in nodes links owners heads marks flags totals) n k i o) where
@@ -119,7 +117,7 @@ module _ (nodes links owners heads : List ℕ) (marks flags : List Bool) (totals
   pub many_listed : length (copies_dropped m k i o) ≤ node_ports
   many_listed = copies_dropped_few m k i o (block_in_lem m n k r.wf r.meta)
 
-  module _ (room : ℕ) (nodes' : List ℕ) {links' owners' heads' : List ℕ} {counts : Counts} {a : lower_set.SetAnswer}
+  module _ (room : ℕ) (nodes' : List ℕ) {links' owners' heads' : List ℕ} {counts : Counts} {a : Result ℕ SetError}
       (e : graph_in nodes' links' owners' heads' counts ≡ (set_num_ports (graph_in nodes links owners heads totals.counts) n i o room).graph)
       (f : a ≡ (set_num_ports (graph_in nodes links owners heads totals.counts) n i o room).answer)
       {totals' : Totals} (h : totals' ≡ totals_counts totals counts) where
@@ -131,11 +129,11 @@ module _ (nodes links owners heads : List ℕ) (marks flags : List Bool) (totals
           flags_long = r.wf.fine.flags_long;
         }
 
-    pub resize_settled : (list : List ℕ) {after : MultiPortGraph} {y : SetAnswer} → list ≡ copies_dropped m k i o → after ≡ settled (multi_in nodes' links' owners' heads' marks flags totals') n k list a → y ≡ set_as a →
+    pub resize_settled : (list : List ℕ) {after : MultiPortGraph} {y : Result ℕ Refusal} → list ≡ copies_dropped m k i o → after ≡ settled (multi_in nodes' links' owners' heads' marks flags totals') n k list a → y ≡ set_as a →
         (after ≡ (set_counts m n i o room).graph) × (y ≡ (set_counts m n i o room).answer)
     resize_settled list {after} {y} u p q =
         let g = graph_in nodes' links' owners' heads' counts in
-        let kept : ((x : ℕ) → a ≡ lower_set_variants.Set x → ⊥) → g ≡ m.graph = λ none. e ∙ lower_kept m.graph n i o room a f none in
+        let kept : ((x : ℕ) → a ≡ Ok x → ⊥) → g ≡ m.graph = λ none. e ∙ lower_kept m.graph n i o room a f none in
         let same : multi_in nodes' links' owners' heads' marks flags totals' ≡ with_graph m g = ap (multi_in nodes' links' owners' heads' marks flags) h in
         let done : after ≡ resized m n k i o g a = p ∙ ((λ j. settled (same j) n k (u j) a) ∙ settled_is m n k i o g a r.meta kept) in
         let z = set_block m n i o room r.few k r.meta (record { graph = g; answer = a }) a after r.seen (λ j. record { graph = e j; answer = f j }) refl done in

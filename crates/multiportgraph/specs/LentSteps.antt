@@ -1,5 +1,5 @@
 -- Each call over lent tables leaves the graph, and gives the answer, that its definition says.
-use Rattle.std.specs.Prelude.{◌≡◌, refl, Bool, true, false, cond, List, ◌∷◌, ◌⊎◌, ℕ, zero, suc, ◌+◌, ◌-◌, get_or}
+use Rattle.std.specs.Prelude.{◌≡◌, refl, Bool, true, false, cond, List, ◌∷◌, ◌⊎◌, ℕ, zero, suc, ◌+◌, ◌-◌, get_or, Option, Some, None, Result, Ok, Err}
 use Rattle.std.proofs.Math.Path.{sym, ap}
 use Rattle.std.proofs.Common.{◌∙◌, subst, ⊎_elim, arith}
 use borrow.Author.Tests.{eq-eqb, ne_eqb}
@@ -18,21 +18,13 @@ use Rattle.portgraph.specs.LentSteps.{meta_read}
 use Rattle.port_tables.specs.declared.direction.Direction.{Direction}
 use Rattle.port_tables.specs.declared.direction.Direction.TheVariants.{Incoming, Outgoing}
 use Rattle.port_tables.specs.declared.index.PortIndex.{PortIndex}
-use Rattle.port_tables.specs.declared.index.MaybePortIndex.{MaybePortIndex}
-use Rattle.port_tables.specs.declared.index.MaybePortIndex.TheVariants as maybe_port
 use Rattle.port_tables.specs.declared.node_entry.NodeMeta.{NodeMeta}
-use Rattle.port_tables.specs.declared.node_entry.MaybeNodeMeta.{MaybeNodeMeta}
-use Rattle.port_tables.specs.declared.node_entry.MaybeNodeMeta.TheVariants as maybe_meta
 use Rattle.port_tables.specs.declared.port_entry.PortMeta.{PortMeta}
 use Rattle.port_tables.specs.declared.port_entry.PortEntry.TheVariants as port_variants
 use Rattle.port_tables.specs.declared.lent.Counts.{Counts}
 use Rattle.portgraph.specs.declared.portgraph.PortGraph.{PortGraph}
-use Rattle.portgraph.specs.declared.alloc.AddAnswer as lower_add
 use Rattle.portgraph.specs.declared.alloc.NodeAdded as lower_added
-use Rattle.portgraph.specs.declared.alloc.RemoveAnswer as lower_remove
 use Rattle.portgraph.specs.declared.alloc.NodeRemoved as lower_removed
-use Rattle.portgraph.specs.declared.resize.SetAnswer as lower_set
-use Rattle.portgraph.specs.declared.resize.SetAnswer.TheVariants as lower_set_variants
 use Rattle.multiportgraph.specs.Reading.{port_number, is_hidden, is_split}
 use Rattle.multi_tables.specs.Forms.{subport#, flag_at, put_flag, lay_marks}
 use Rattle.multi_tables.specs.TableReads.{far_in, owner_in, wire_in, wire_end_in}
@@ -50,38 +42,29 @@ use Rattle.multiportgraph.specs.LentLaws.{port_of_read, count_read, copy_side_re
 use Rattle.multi_tables.specs.declared.answers.SubportIndex.{SubportIndex}
 use Rattle.multi_tables.specs.declared.answers.Refusal.{Refusal}
 use Rattle.multi_tables.specs.declared.answers.Refusal.TheVariants as refusal
-use Rattle.multiportgraph.specs.declared.multiportgraph.AddAnswer.{AddAnswer}
 use Rattle.multiportgraph.specs.declared.multiportgraph.NodeAdded.{NodeAdded}
-use Rattle.multiportgraph.specs.declared.multiportgraph.RemoveAnswer.{RemoveAnswer}
-use Rattle.multiportgraph.specs.declared.multiportgraph.RemoveAnswer.TheVariants as remove
 use Rattle.multiportgraph.specs.declared.multiportgraph.NodeRemoved.{NodeRemoved}
-use Rattle.multiportgraph.specs.declared.multiportgraph.SetAnswer.{SetAnswer}
 use Rattle.multiportgraph.specs.declared.multiportgraph.PortsSet.{PortsSet}
-use Rattle.multi_tables.specs.declared.answers.CutAnswer.{CutAnswer}
-use Rattle.multi_tables.specs.declared.answers.CutAnswer.TheVariants as cutting
-use Rattle.multi_tables.specs.declared.answers.EndAnswer.{EndAnswer}
-use Rattle.multi_tables.specs.declared.answers.EndAnswer.TheVariants as answered
 use Rattle.multiportgraph.specs.Answers.{cut_numbers, before_place}
 use Rattle.multi_tables.specs.EndAnswers.{refusal_numbers, unplaced, unplaced_numbers}
 use Rattle.multiportgraph.specs.declared.multiportgraph.PortUnlinked.{PortUnlinked}
-use Rattle.multiportgraph.specs.declared.multiportgraph.LinkAnswer.{LinkAnswer}
-use Rattle.multiportgraph.specs.declared.multiportgraph.LinkAnswer.TheVariants as link
 use Rattle.multiportgraph.specs.declared.multiportgraph.PortsLinked.{PortsLinked}
 use Rattle.multiportgraph.specs.declared.multiportgraph.MultiPortGraph.{MultiPortGraph}
-use Rattle.multi_tables.specs.declared.named.NamedEnd.{NamedEnd}
-use Rattle.multi_tables.specs.declared.named.NamedEnd.TheVariants as end
-use Rattle.multi_tables.specs.declared.named.NamedLink.{NamedLink}
-use Rattle.multi_tables.specs.declared.named.NamedLink.TheVariants as ends
 use Rattle.multiportgraph.specs.declared.lent.Totals.{Totals}
 use Rattle.multiportgraph.specs.HiddenNodes.{remove_copy, unsplit, unsplit_range, remove_lone, marks_moved, copies_in}
 use Rattle.multiportgraph.specs.Presumed.{OnBlock}
+use Rattle.port_tables.specs.declared.index.NodeIndex.{NodeIndex}
+use Rattle.multi_tables.specs.declared.answers.PortPlace.{PortPlace}
+use Rattle.portgraph.specs.declared.alloc.AddError.{AddError}
+use Rattle.portgraph.specs.declared.alloc.NoSuchNode.{NoSuchNode}
+use Rattle.portgraph.specs.declared.resize.SetError.{SetError}
 
 -- graph and answer of a call, each by itself
-cut_parts : {g : MultiPortGraph} {a : CutAnswer} {r : PortUnlinked} → ◌≡◌ {A = PortUnlinked} (record { graph = g; answer = a }) r → (g ≡ r.graph) × (a ≡ r.answer)
+cut_parts : {g : MultiPortGraph} {a : Result (Option (SubportIndex × PortPlace)) Refusal} {r : PortUnlinked} → ◌≡◌ {A = PortUnlinked} (record { graph = g; answer = a }) r → (g ≡ r.graph) × (a ≡ r.answer)
 cut_parts e = (ap (λ (x : PortUnlinked). x.graph) e, ap (λ (x : PortUnlinked). x.answer) e)
 
 -- a cut's answer without the place
-pub unplaced_parts : {g : MultiPortGraph} {a : CutAnswer} {r : PortUnlinked} → ◌≡◌ {A = PortUnlinked} (record { graph = g; answer = a }) r → (g ≡ r.graph) × (unplaced a ≡ unplaced r.answer)
+pub unplaced_parts : {g : MultiPortGraph} {a : Result (Option (SubportIndex × PortPlace)) Refusal} {r : PortUnlinked} → ◌≡◌ {A = PortUnlinked} (record { graph = g; answer = a }) r → (g ≡ r.graph) × (unplaced a ≡ unplaced r.answer)
 unplaced_parts e = let k = cut_parts e in (k.0, ap unplaced k.1)
 
 -- its numbers are the full answer's without the place
@@ -100,23 +83,23 @@ refused_short (refusal.IncompatibleDirections p q d) = refl
 refused_short (refusal.AlreadyLinked p) = refl
 refused_short refusal.InputWired = refl
 
-pub unplaced_numbers_lem : (a : CutAnswer) → unplaced_numbers (unplaced a) ≡ before_place (cut_numbers a)
-unplaced_numbers_lem (cutting.Found s x) = refl
-unplaced_numbers_lem cutting.Nothing = refl
-unplaced_numbers_lem (cutting.Refused r) = refused_short r
+pub unplaced_numbers_lem : (a : Result (Option (SubportIndex × PortPlace)) Refusal) → unplaced_numbers (unplaced a) ≡ before_place (cut_numbers a)
+unplaced_numbers_lem (Ok (Some (s, x))) = refl
+unplaced_numbers_lem (Ok None) = refl
+unplaced_numbers_lem (Err r) = refused_short r
 
-pub and_end_numbers : (a : CutAnswer) {A C : Type 0} {e : EndAnswer} → A × (e ≡ unplaced a) × C → A × (e ≡ unplaced a) × C × (unplaced_numbers e ≡ before_place (cut_numbers a))
+pub and_end_numbers : (a : Result (Option (SubportIndex × PortPlace)) Refusal) {A C : Type 0} {e : Result (Option SubportIndex) Refusal} → A × (e ≡ unplaced a) × C → A × (e ≡ unplaced a) × C × (unplaced_numbers e ≡ before_place (cut_numbers a))
 and_end_numbers a p = (p.0, p.1, p.2, ap unplaced_numbers p.1 ∙ unplaced_numbers_lem a)
 
-pub with_end_numbers : (a : CutAnswer) {e : EndAnswer} → e ≡ unplaced a → (e ≡ unplaced a) × (unplaced_numbers e ≡ before_place (cut_numbers a))
+pub with_end_numbers : (a : Result (Option (SubportIndex × PortPlace)) Refusal) {e : Result (Option SubportIndex) Refusal} → e ≡ unplaced a → (e ≡ unplaced a) × (unplaced_numbers e ≡ before_place (cut_numbers a))
 with_end_numbers a p = (p, ap unplaced_numbers p ∙ unplaced_numbers_lem a)
 
-pub link_parts : {g : MultiPortGraph} {a : LinkAnswer} {r : PortsLinked} → ◌≡◌ {A = PortsLinked} (record { graph = g; answer = a }) r → (g ≡ r.graph) × (a ≡ r.answer)
+pub link_parts : {g : MultiPortGraph} {a : Result (SubportIndex × SubportIndex) Refusal} {r : PortsLinked} → ◌≡◌ {A = PortsLinked} (record { graph = g; answer = a }) r → (g ≡ r.graph) × (a ≡ r.answer)
 link_parts e = (ap (λ (x : PortsLinked). x.graph) e, ap (λ (x : PortsLinked). x.answer) e)
 
 module _ (nodes links owners heads : List ℕ) (marks flags : List Bool) (totals : Totals) where
   -- a block is added, or refused
-  pub block_added_in : (i o : ℕ) (nodes' : List ℕ) {links' owners' heads' : List ℕ} {counts : Counts} {a b : lower_add.AddAnswer} {totals' : Totals} {d : AddAnswer} →
+  pub block_added_in : (i o : ℕ) (nodes' : List ℕ) {links' owners' heads' : List ℕ} {counts : Counts} {a b : Result (NodeIndex × PortIndex) AddError} {totals' : Totals} {d : Result (NodeIndex × PortIndex) Refusal} →
       graph_in nodes' links' owners' heads' counts ≡ (add_node (graph_in nodes links owners heads totals.counts) i o).graph →
       a ≡ (add_node (graph_in nodes links owners heads totals.counts) i o).answer →
       totals' ≡ totals_counts totals counts →
@@ -133,13 +116,13 @@ module _ (nodes links owners heads : List ℕ) (marks flags : List Bool) (totals
 
   module _ (w : MultiWf (multi_in nodes links owners heads marks flags totals)) where
     -- an end is cut, or refused
-    module _ (p o : ℕ) {e : NamedEnd} (is : e ≡ end_named marks links owners flags p o) where
-      pub cut_refused_in : {r : Refusal} → e ≡ end.Refused r →
+    module _ (p o : ℕ) {e : Result ℕ Refusal} (is : e ≡ end_named marks links owners flags p o) where
+      pub cut_refused_in : {r : Refusal} → e ≡ Err r →
           (multi_in nodes links owners heads marks flags totals ≡ (cut_sub (multi_in nodes links owners heads marks flags totals) p o).graph)
-          × (answered.Refused r ≡ unplaced (cut_sub (multi_in nodes links owners heads marks flags totals) p o).answer)
+          × (Err r ≡ unplaced (cut_sub (multi_in nodes links owners heads marks flags totals) p o).answer)
       cut_refused_in {r} t = unplaced_parts (cut_done w p o is t refl)
 
-      pub cut_made_in : {x v far n : ℕ} {links' : List ℕ} {totals' : Totals} {a : EndAnswer} → e ≡ end.At x → a ≡ wire_end_in links owners flags x →
+      pub cut_made_in : {x v far n : ℕ} {links' : List ℕ} {totals' : Totals} {a : Result (Option SubportIndex) Refusal} → e ≡ Ok x → a ≡ wire_end_in links owners flags x →
           v ≡ x → far ≡ at links v → links' ≡ cut links v → n ≡ totals.counts.link_count - link_count far → totals' ≡ totals_links totals n →
           (multi_in nodes links' owners heads marks flags totals' ≡ (cut_sub (multi_in nodes links owners heads marks flags totals) p o).graph)
           × (a ≡ unplaced (cut_sub (multi_in nodes links owners heads marks flags totals) p o).answer)
@@ -149,37 +132,37 @@ module _ (nodes links owners heads : List ℕ) (marks flags : List Bool) (totals
           (ap (multi_in nodes links' owners heads marks flags) h ∙ k.0, b ∙ (wire_unplaced links owners flags x ∙ k.1))
 
       -- what it is linked with, or a refusal
-      pub read_made_in : {x : ℕ} {a : EndAnswer} → e ≡ end.At x → a ≡ wire_end_in links owners flags x → a ≡ unplaced (subport_link (multi_in nodes links owners heads marks flags totals) p o)
+      pub read_made_in : {x : ℕ} {a : Result (Option SubportIndex) Refusal} → e ≡ Ok x → a ≡ wire_end_in links owners flags x → a ≡ unplaced (subport_link (multi_in nodes links owners heads marks flags totals) p o)
       read_made_in {x} t b = b ∙ (wire_unplaced links owners flags x ∙ ap unplaced (read_done w p o is t refl))
 
-      pub read_refused_in : {r : Refusal} → e ≡ end.Refused r → answered.Refused r ≡ unplaced (subport_link (multi_in nodes links owners heads marks flags totals) p o)
+      pub read_refused_in : {r : Refusal} → e ≡ Err r → Err r ≡ unplaced (subport_link (multi_in nodes links owners heads marks flags totals) p o)
       read_refused_in t = ap unplaced (read_done w p o is t refl)
 
     -- two ends are linked, or refused
-    module _ (p o q r : ℕ) {e : NamedLink} (is : e ≡ link_named marks links owners flags p o q r) where
-      pub link_refused_in : {x : Refusal} → e ≡ ends.Refused x →
+    module _ (p o q r : ℕ) {e : Result (ℕ × ℕ) Refusal} (is : e ≡ link_named marks links owners flags p o q r) where
+      pub link_refused_in : {x : Refusal} → e ≡ Err x →
           (multi_in nodes links owners heads marks flags totals ≡ (link_sub_if false (multi_in nodes links owners heads marks flags totals) p o q r).graph)
-          × (link.Refused x ≡ (link_sub_if false (multi_in nodes links owners heads marks flags totals) p o q r).answer)
+          × (Err x ≡ (link_sub_if false (multi_in nodes links owners heads marks flags totals) p o q r).answer)
       link_refused_in t = link_parts (link_done w p o q r is t refl refl refl)
 
-      pub link_made_in : {x y n : ℕ} {s t : SubportIndex} {links' : List ℕ} {totals' : Totals} → e ≡ ends.Ends x y → s ≡ read_in marks p o → t ≡ read_in marks q r →
+      pub link_made_in : {x y n : ℕ} {s t : SubportIndex} {links' : List ℕ} {totals' : Totals} → e ≡ Ok (x, y) → s ≡ read_in marks p o → t ≡ read_in marks q r →
           links' ≡ link_both links x y → n ≡ totals.counts.link_count + 1 → totals' ≡ totals_links totals n →
           (multi_in nodes links' owners heads marks flags totals' ≡ (link_sub_if false (multi_in nodes links owners heads marks flags totals) p o q r).graph)
-          × (link.Linked s t ≡ (link_sub_if false (multi_in nodes links owners heads marks flags totals) p o q r).answer)
+          × (Ok (s, t) ≡ (link_sub_if false (multi_in nodes links owners heads marks flags totals) p o q r).answer)
       link_made_in {x} {y} {n} {s} {t} {links'} {totals'} k a b c d h =
           let m = multi_in nodes links owners heads marks flags totals in
           let z = join_made m x y {t = links'} c in
-          let u = link_parts (link_done w p o q r {l = record { graph = multi_in nodes links' owners heads marks flags (totals_links totals (totals.counts.link_count + 1)); answer = link.Linked s t }} is k a b (λ i. record { graph = z i; answer = link.Linked s t })) in
+          let u = link_parts (link_done w p o q r {l = record { graph = multi_in nodes links' owners heads marks flags (totals_links totals (totals.counts.link_count + 1)); answer = Ok (s, t) }} is k a b (λ i. record { graph = z i; answer = Ok (s, t) })) in
           (ap (multi_in nodes links' owners heads marks flags) (h ∙ ap (totals_links totals) d) ∙ u.0, u.1)
 
 -- Leaves.
 
-module _ (nodes : List ℕ) (n : ℕ) (d : Direction) (i : ℕ) {x : MaybePortIndex} (e : x ≡ port_index_in nodes n (record { direction = d; index = i })) where
-  pub port_found : {p : PortIndex} → x ≡ maybe_port.Some p → p.0 ≡ port_of_in nodes n d i
+module _ (nodes : List ℕ) (n : ℕ) (d : Direction) (i : ℕ) {x : Option PortIndex} (e : x ≡ port_index_in nodes n (record { direction = d; index = i })) where
+  pub port_found : {p : PortIndex} → x ≡ Some p → p.0 ≡ port_of_in nodes n d i
   unfolding port_of_in
   port_found h = ap port_number (sym h ∙ e)
 
-  pub port_none : x ≡ maybe_port.None → 0 ≡ port_of_in nodes n d i
+  pub port_none : x ≡ None → 0 ≡ port_of_in nodes n d i
   unfolding port_of_in
   port_none h = ap port_number (sym h ∙ e)
 
@@ -223,7 +206,7 @@ copy_node_told links owners p q r e f = f ∙ ap (owner_in owners) e
 
 module _ (nodes links owners heads : List ℕ) (marks flags : List Bool) (totals : Totals) (s : Sound (multi_in nodes links owners heads marks flags totals)) where
   pub copy_removed_in :
-      (p n : ℕ) (nodes' : List ℕ) {links' owners' heads' : List ℕ} {counts : Counts} {a : lower_remove.RemoveAnswer} {side back : Direction} {copy count w₁ w₂ w₃ copies subs : ℕ} {t₁ t₂ t₃ : List Bool} →
+      (p n : ℕ) (nodes' : List ℕ) {links' owners' heads' : List ℕ} {counts : Counts} {a : Result (Unit {0}) NoSuchNode} {side back : Direction} {copy count w₁ w₂ w₃ copies subs : ℕ} {t₁ t₂ t₃ : List Bool} →
       side ≡ copy_side_in nodes marks n →
       copy ≡ port_of_in nodes n side 0 →
       back ≡ reversed side →
@@ -268,40 +251,40 @@ module _ (nodes links owners heads : List ℕ) (marks flags : List Bool) (totals
 
 -- Marks that move.
 
-pub recount_first : (marks : List Bool) (x y : MaybeNodeMeta) → x ≡ maybe_meta.None → marks ≡ marks_moved marks x y
-recount_first marks x y e = ap (λ (k : MaybeNodeMeta). marks_moved marks k y) (sym e)
+pub recount_first : (marks : List Bool) (x y : Option NodeMeta) → x ≡ None → marks ≡ marks_moved marks x y
+recount_first marks x y e = ap (λ (k : Option NodeMeta). marks_moved marks k y) (sym e)
 
-pub recount_second : (marks : List Bool) (x y : MaybeNodeMeta) (a : NodeMeta) → x ≡ maybe_meta.Some a → y ≡ maybe_meta.None → marks ≡ marks_moved marks x y
+pub recount_second : (marks : List Bool) (x y : Option NodeMeta) (a : NodeMeta) → x ≡ Some a → y ≡ None → marks ≡ marks_moved marks x y
 recount_second marks x y a e f = λ i. marks_moved marks (sym e i) (sym f i)
 
-pub recount_both : (marks marks' : List Bool) (x y : MaybeNodeMeta) (a b : NodeMeta) → x ≡ maybe_meta.Some a → y ≡ maybe_meta.Some b → marks' ≡ lay_marks marks a b → marks' ≡ marks_moved marks x y
+pub recount_both : (marks marks' : List Bool) (x y : Option NodeMeta) (a b : NodeMeta) → x ≡ Some a → y ≡ Some b → marks' ≡ lay_marks marks a b → marks' ≡ marks_moved marks x y
 recount_both marks marks' x y a b e f h = h ∙ (λ i. marks_moved marks (sym e i) (sym f i))
 
-pub fits_if : (x : MaybeNodeMeta) (k : NodeMeta) → x ≡ maybe_meta.Some k → FitsIf x → BlockFits k
+pub fits_if : (x : Option NodeMeta) (k : NodeMeta) → x ≡ Some k → FitsIf x → BlockFits k
 fits_if x k e f = subst FitsIf e f
 
-pub found_fits : (g : PortGraph) → Wf g → (n : ℕ) (x : MaybeNodeMeta) → x ≡ meta_at g n → FitsIf x
-found_fits g w n maybe_meta.None e = tt
-found_fits g w n (maybe_meta.Some k) e = found_block_fits g w n k e
+pub found_fits : (g : PortGraph) → Wf g → (n : ℕ) (x : Option NodeMeta) → x ≡ meta_at g n → FitsIf x
+found_fits g w n None e = tt
+found_fits g w n (Some k) e = found_block_fits g w n k e
 
 -- Calls.
 
-pub removed_parts : {g : MultiPortGraph} {a : RemoveAnswer} {r : NodeRemoved} → ◌≡◌ {A = NodeRemoved} (record { graph = g; answer = a }) r → (g ≡ r.graph) × (a ≡ r.answer)
+pub removed_parts : {g : MultiPortGraph} {a : Result (Unit {0}) Refusal} {r : NodeRemoved} → ◌≡◌ {A = NodeRemoved} (record { graph = g; answer = a }) r → (g ≡ r.graph) × (a ≡ r.answer)
 removed_parts e = (ap (λ (x : NodeRemoved). x.graph) e, ap (λ (x : NodeRemoved). x.answer) e)
 
-pub whole_parts : {g : MultiPortGraph} {a : SetAnswer} {r : PortsSet} → ◌≡◌ {A = PortsSet} (record { graph = g; answer = a }) r → (g ≡ r.graph) × (a ≡ r.answer)
+pub whole_parts : {g : MultiPortGraph} {a : Result ℕ Refusal} {r : PortsSet} → ◌≡◌ {A = PortsSet} (record { graph = g; answer = a }) r → (g ≡ r.graph) × (a ≡ r.answer)
 whole_parts e = (ap (λ (x : PortsSet). x.graph) e, ap (λ (x : PortsSet). x.answer) e)
 
-pub set_parts : {g : MultiPortGraph} {a : SetAnswer} {r : PortsSet} {b b' : List ℕ} {z : Type 0} → (◌≡◌ {A = PortsSet} (record { graph = g; answer = a }) r) × (b ≡ b') × z → (g ≡ r.graph) × (a ≡ r.answer) × (b ≡ b')
+pub set_parts : {g : MultiPortGraph} {a : Result ℕ Refusal} {r : PortsSet} {b b' : List ℕ} {z : Type 0} → (◌≡◌ {A = PortsSet} (record { graph = g; answer = a }) r) × (b ≡ b') × z → (g ≡ r.graph) × (a ≡ r.answer) × (b ≡ b')
 set_parts e = (ap (λ (x : PortsSet). x.graph) e.0, ap (λ (x : PortsSet). x.answer) e.0, e.1)
 
 -- a refused resize changes nothing
-pub set_kept : (g : PortGraph) (n i o room : ℕ) (tag : lower_set.SetAnswer → ℕ) → ((e : ℕ) → tag (lower_set_variants.Set e) ≡ 0) → {a : lower_set.SetAnswer} → a ≡ (set_num_ports g n i o room).answer →
+pub set_kept : (g : PortGraph) (n i o room : ℕ) (tag : Result ℕ SetError → ℕ) → ((e : ℕ) → tag (Ok e) ≡ 0) → {a : Result ℕ SetError} → a ≡ (set_num_ports g n i o room).answer →
     (tag a ≡ 1) ⊎ ((tag a ≡ 2) ⊎ ((tag a ≡ 3) ⊎ (tag a ≡ 4))) → (set_num_ports g n i o room).graph ≡ g
 unfolding set_num_ports_under
 set_kept g n i o room tag zeroth {a} e t = go (plan_of g n i o room) e
   where
-    done : (k : ℕ) → a ≡ lower_set_variants.Set k → ⊥
+    done : (k : ℕ) → a ≡ Ok k → ⊥
     done k h =
         let z : tag a ≡ 0 = ap tag h ∙ zeroth k in
         ⊎_elim (λ u. omega arith) (⊎_elim (λ u. omega arith) (⊎_elim (λ u. omega arith) (λ u. omega arith))) t
@@ -313,10 +296,10 @@ set_kept g n i o room tag zeroth {a} e t = go (plan_of g n i o room) e
     go (anew k f) h = absurd (done _ h)
 
 module _ (nodes links owners heads : List ℕ) (marks flags : List Bool) (totals : Totals) (w : MultiWf (multi_in nodes links owners heads marks flags totals)) where
-  abbrev found : ℕ → MaybeNodeMeta
+  abbrev found : ℕ → Option NodeMeta
   found n = meta_at (graph_in nodes links owners heads totals.counts) n
 
-  pub meta_told : (n : ℕ) (x y : MaybeNodeMeta) → x ≡ meta_in nodes n → x ≡ y → y ≡ meta_at (graph_in nodes links owners heads totals.counts) n
+  pub meta_told : (n : ℕ) (x y : Option NodeMeta) → x ≡ meta_in nodes n → x ≡ y → y ≡ meta_at (graph_in nodes links owners heads totals.counts) n
   meta_told n x y e f = sym f ∙ (e ∙ meta_read nodes links owners heads totals.counts n w.fine.holds.nodes_long)
 
   pub flag_told_in : (n v : ℕ) {b : Bool} → v ≡ n → b ≡ flag_at flags node_slots v → (t : Bool) → b ≡ t → is_hidden (multi_in nodes links owners heads marks flags totals) n ≡ t
@@ -325,8 +308,8 @@ module _ (nodes links owners heads : List ℕ) (marks flags : List Bool) (totals
 
   -- a block goes
   pub block_removed_in : (n : ℕ) (k : NodeMeta) (c : ℕ) (nodes₁ : List ℕ) {links₁ owners₁ heads₁ : List ℕ} {marks₁ flags₁ : List Bool} {bare : Totals}
-      (nodes₂ : List ℕ) {links₂ owners₂ heads₂ : List ℕ} {counts : Counts} {a : lower_remove.RemoveAnswer} {totals' : Totals} →
-      maybe_meta.Some k ≡ meta_at (graph_in nodes links owners heads totals.counts) n →
+      (nodes₂ : List ℕ) {links₂ owners₂ heads₂ : List ℕ} {counts : Counts} {a : Result (Unit {0}) NoSuchNode} {totals' : Totals} →
+      Some k ≡ meta_at (graph_in nodes links owners heads totals.counts) n →
       is_hidden (multi_in nodes links owners heads marks flags totals) n ≡ false →
       c ≡ k.incoming + k.outgoing →
       multi_in nodes₁ links₁ owners₁ heads₁ marks₁ flags₁ bare ≡ unsplit_range (multi_in nodes links owners heads marks flags totals) k.first_port.0 c →
@@ -334,7 +317,7 @@ module _ (nodes links owners heads : List ℕ) (marks flags : List Bool) (totals
       a ≡ (remove_node (graph_in nodes₁ links₁ owners₁ heads₁ bare.counts) n).answer →
       totals' ≡ totals_counts bare counts →
       (multi_in nodes₂ links₂ owners₂ heads₂ marks₁ flags₁ totals' ≡ (remove_block (multi_in nodes links owners heads marks flags totals) n).graph)
-      × (remove.Removed ≡ (remove_block (multi_in nodes links owners heads marks flags totals) n).answer)
+      × (Ok tt ≡ (remove_block (multi_in nodes links owners heads marks flags totals) n).answer)
   block_removed_in n k c nodes₁ {links₁} {owners₁} {heads₁} {marks₁} {flags₁} {bare} nodes₂ {links₂} {owners₂} {heads₂} {counts} {a} {totals'} e h f g i j l =
       let r : lower_removed.NodeRemoved = record { graph = graph_in nodes₂ links₂ owners₂ heads₂ counts; answer = a } in
       let whole : r ≡ remove_node (graph_in nodes₁ links₁ owners₁ heads₁ bare.counts) n = λ v. record { graph = i v; answer = j v } in
@@ -345,17 +328,17 @@ module _ (nodes links owners heads : List ℕ) (marks flags : List Bool) (totals
 module _ (nodes links owners heads : List ℕ) (marks flags : List Bool) (totals : Totals) {p : ℕ} {d : Direction} (b : OnBlock (multi_in nodes links owners heads marks flags totals) p d)
     (s : is_split (multi_in nodes links owners heads marks flags totals) p ≡ false) {v far n : ℕ} {links' : List ℕ} {totals' : Totals} (e : v ≡ p) (f : far ≡ at links v) (g : links' ≡ cut links v)
     (h : n ≡ totals.counts.link_count - link_count far) (k : totals' ≡ totals_links totals n) where
-  cut_with : {a : CutAnswer} → ◌≡◌ {A = PortUnlinked} (record { graph = multi_in nodes links' owners heads marks flags (totals_links totals n); answer = a }) (cut_port (multi_in nodes links owners heads marks flags totals) p) →
+  cut_with : {a : Result (Option (SubportIndex × PortPlace)) Refusal} → ◌≡◌ {A = PortUnlinked} (record { graph = multi_in nodes links' owners heads marks flags (totals_links totals n); answer = a }) (cut_port (multi_in nodes links owners heads marks flags totals) p) →
       (multi_in nodes links' owners heads marks flags totals' ≡ (cut_port (multi_in nodes links owners heads marks flags totals) p).graph) × (unplaced a ≡ unplaced (cut_port (multi_in nodes links owners heads marks flags totals) p).answer)
   cut_with z = let u = unplaced_parts z in (ap (multi_in nodes links' owners heads marks flags) k ∙ u.0, u.1)
 
   pub port_cut_none_in : far ≡ 0 →
-      (multi_in nodes links' owners heads marks flags totals' ≡ (cut_port (multi_in nodes links owners heads marks flags totals) p).graph) × (answered.Nothing ≡ unplaced (cut_port (multi_in nodes links owners heads marks flags totals) p).answer)
+      (multi_in nodes links' owners heads marks flags totals' ≡ (cut_port (multi_in nodes links owners heads marks flags totals) p).graph) × (Ok None ≡ unplaced (cut_port (multi_in nodes links owners heads marks flags totals) p).answer)
   port_cut_none_in z = cut_with (port_cut_none b s e f g h z)
 
   pub port_cut_far_in : (far ≡ 0 → ⊥) →
       (multi_in nodes links' owners heads marks flags totals' ≡ (cut_port (multi_in nodes links owners heads marks flags totals) p).graph)
-      × (answered.Found (subport# (far - 1) 0) ≡ unplaced (cut_port (multi_in nodes links owners heads marks flags totals) p).answer)
+      × (Ok (Some (subport# (far - 1) 0)) ≡ unplaced (cut_port (multi_in nodes links owners heads marks flags totals) p).answer)
   port_cut_far_in z = cut_with (port_cut_far b s e f g h z)
 
 -- the hidden nodes of ports do not depend on the numbers outside the tables

@@ -1,6 +1,6 @@
 -- The empty graph; adding a block; linking two free ends; cutting an end; the calls on subports.
 -- Each leaves a fine graph, with blocks and wires as said.
-use Rattle.std.specs.Prelude.{◌≡◌, refl, Bool, true, false, cond, ◌||◌, List, [], ◌∷◌, ◌⊎◌, ℕ, ◌+◌, ◌-◌, ◌*◌, ◌≤◌, eqb, leb, ltb, length, get_or, replicate}
+use Rattle.std.specs.Prelude.{◌≡◌, refl, Bool, true, false, cond, ◌||◌, List, [], ◌∷◌, ◌⊎◌, ℕ, ◌+◌, ◌-◌, ◌*◌, ◌≤◌, eqb, leb, ltb, length, get_or, replicate, Option, Some, None, Result, Ok, Err}
 use Rattle.std.proofs.Common.{sym, ◌∙◌, ap, subst, inl, inr, ⊎_elim, arith, eq-eqb, eqb-true, leb-true, ltb-true, ltb-false}
 use Rattle.std.proofs.lemmas.List.{length-replicate, get_or-replicate}
 use Rattle.std.proofs.Math.ListN.{get_or-eq_default}
@@ -25,10 +25,6 @@ use Rattle.port_tables.specs.declared.direction.Direction.TheVariants.{Incoming,
 use Rattle.port_tables.specs.declared.node_entry.NodeMeta.{NodeMeta}
 use Rattle.portgraph.specs.declared.portgraph.PortGraph.{PortGraph}
 use Rattle.portgraph.specs.declared.alloc.NodeAdded.{NodeAdded}
-use Rattle.portgraph.specs.declared.portgraph.PortLink.{PortLink}
-use Rattle.portgraph.specs.declared.portgraph.PortLink.TheVariants as lower_cut
-use Rattle.portgraph.specs.declared.portgraph.LinkAnswer as lower_link_answer
-use Rattle.portgraph.specs.declared.portgraph.LinkAnswer.TheVariants as lower_link
 use Rattle.multiportgraph.specs.Reading.{is_hidden, is_split, copy_side, seen, end_at, as_read, far_subport}
 use Rattle.multi_tables.specs.Forms.{Port, dead, hidden, visible, End, inner, lacking, good_offset}
 use Rattle.multiportgraph.specs.Calls.{add_block, added_as, link_sub, link_sub_if, cut_sub}
@@ -37,15 +33,9 @@ use Rattle.multiportgraph.specs.Ends.{BlockPort, EndOf, block_seen, end_read, en
 use Rattle.multiportgraph.specs.HiddenStays.{same_wire, Alike, end_kept, kept_end, wire_kept, kept_wire, true_or_false, true_not_false, Frame, plain_frame, frame_fine, outer_kept, hidden_below, split_below}
 use Rattle.multiportgraph.specs.declared.multiportgraph.MultiPortGraph.{MultiPortGraph}
 use Rattle.port_tables.specs.declared.release.Release.{Release}
-use Rattle.multiportgraph.specs.declared.multiportgraph.AddAnswer.{AddAnswer}
-use Rattle.multiportgraph.specs.declared.multiportgraph.AddAnswer.TheVariants as add
 use Rattle.multi_tables.specs.declared.answers.SubportIndex.{SubportIndex}
 use Rattle.multi_tables.specs.declared.answers.Refusal.TheVariants.{BadOffset}
-use Rattle.multiportgraph.specs.declared.multiportgraph.LinkAnswer.{LinkAnswer}
-use Rattle.multiportgraph.specs.declared.multiportgraph.LinkAnswer.TheVariants as link
 use Rattle.multiportgraph.specs.declared.multiportgraph.PortsLinked.{PortsLinked}
-use Rattle.multi_tables.specs.declared.answers.CutAnswer.{CutAnswer}
-use Rattle.multi_tables.specs.declared.answers.CutAnswer.TheVariants as cutting
 use Rattle.multiportgraph.specs.declared.multiportgraph.PortUnlinked.{PortUnlinked}
 use Rattle.port_tables.specs.Places.{Place, Wire, touches, wire_of_sides, at_spot, at_end, spot, flag}
 use Rattle.multiportgraph.specs.Graph.{with_graph, empty_graph}
@@ -53,6 +43,13 @@ use Rattle.multiportgraph.specs.Cases.{link_sub_seen, link_first_end, link_secon
 use Rattle.multiportgraph.specs.Refusals.{input_taken}
 use Rattle.multiportgraph.specs.CaseLaws.{add_cases, link_sub_cases, link_sub_taken, cut_sub_cases}
 use Rattle.multiportgraph.specs.declared.multiportgraph.NodeAdded as upper_added
+use Rattle.port_tables.specs.declared.index.NodeIndex.{NodeIndex}
+use Rattle.port_tables.specs.declared.index.PortIndex.{PortIndex}
+use Rattle.portgraph.specs.declared.portgraph.NoSuchPort.{NoSuchPort}
+use Rattle.multi_tables.specs.declared.answers.Refusal.{Refusal}
+use Rattle.multi_tables.specs.declared.answers.PortPlace.{PortPlace}
+use Rattle.portgraph.specs.declared.portgraph.LinkError.TheVariants as link_error
+use Rattle.portgraph.specs.declared.portgraph.LinkError.{LinkError}
 
 -- Other links between the same nodes.
 
@@ -421,9 +418,9 @@ module _ {m : MultiPortGraph} {M : Model} (f : Fine m M) (incoming outgoing : �
       new_shown = ⊎_elim (λ t. absurd (gone_not_live (next_slot_gone f.good) (f.copy (next_slot M) t).here)) (λ e. e) (true_or_false (is_hidden m (next_slot M)))
 
 -- what each answer says of the graph after the call
-abbrev pub AddSays : MultiPortGraph → Model → ℕ → ℕ → MultiPortGraph → AddAnswer → Type 0
-AddSays m M incoming outgoing m' (add.Added n p) = AddDone m M m' n.0 p.0 incoming outgoing
-AddSays m M incoming outgoing m' (add.Refused r) = m' ≡ m
+abbrev pub AddSays : MultiPortGraph → Model → ℕ → ℕ → MultiPortGraph → Result (NodeIndex × PortIndex) Refusal → Type 0
+AddSays m M incoming outgoing m' (Ok (n, p)) = AddDone m M m' n.0 p.0 incoming outgoing
+AddSays m M incoming outgoing m' (Err r) = m' ≡ m
 
 abbrev AddSaid : MultiPortGraph → Model → ℕ → ℕ → NodeAdded → Type 0
 AddSaid m M incoming outgoing r = AddSays m M incoming outgoing (with_graph m r.graph) (added_as r.answer)
@@ -463,9 +460,9 @@ pub record LinkSubDone (m : MultiPortGraph) (M : Model) (m' : MultiPortGraph) (p
   pub first_read : s ≡ as_read m p o
   pub second_read : t ≡ as_read m q r
 
-abbrev pub LinkSubSays : MultiPortGraph → Model → ℕ → ℕ → ℕ → ℕ → MultiPortGraph → LinkAnswer → Type 0
-LinkSubSays m M p o q r m' (link.Linked s t) = LinkSubDone m M m' p o q r s t
-LinkSubSays m M p o q r m' (link.Refused e) = m' ≡ m
+abbrev pub LinkSubSays : MultiPortGraph → Model → ℕ → ℕ → ℕ → ℕ → MultiPortGraph → Result (SubportIndex × SubportIndex) Refusal → Type 0
+LinkSubSays m M p o q r m' (Ok (s, t)) = LinkSubDone m M m' p o q r s t
+LinkSubSays m M p o q r m' (Err e) = m' ≡ m
 
 abbrev LinkSubSaid : MultiPortGraph → Model → ℕ → ℕ → ℕ → ℕ → PortsLinked → Type 0
 LinkSubSaid m M p o q r u = LinkSubSays m M p o q r u.graph u.answer
@@ -523,16 +520,16 @@ module _ {m : MultiPortGraph} {M : Model} (f : Fine m M) where
   link_sub_law_if false p o q r = subst (LinkSubSaid m M p o q r) (sym (link_sub_cases m p o q r)) (offsets (good_offset o) (good_offset r))
     where
       lower : (a b : ℕ) (p q : ℕ) (x y : model.InnerPlace) → slot_of M.node x ≡ p → slot_of M.node y ≡ q → Seen m M x → Seen m M y → EndOf m M x o a → EndOf m M y r b
-          → (v : lower_link_answer.LinkAnswer) → (link_ports m.graph a b).answer ≡ v
+          → (v : Result (PortIndex × PortIndex) LinkError) → (link_ports m.graph a b).answer ≡ v
           → LinkSubSaid m M p o q r (link_inner m (as_read m p o) (as_read m q r) v (link_ports m.graph a b).graph)
-      lower a b p q x y ep eq sx sy ex ey (lower_link.Linked c d) e =
+      lower a b p q x y ep eq sx sy ex ey (Ok (c, d)) e =
           subst (λ (q : ℕ). LinkSubDone m M (with_graph m (link_ports m.graph a b).graph) p o q r (as_read m p o) (as_read m q r)) eq
           (subst (λ (p : ℕ). LinkSubDone m M (with_graph m (link_ports m.graph a b).graph) p o (slot_of M.node y) r (as_read m p o) (as_read m (slot_of M.node y) r)) ep
           (ends_linked x y o r a b sx sy ex ey (link_accepted f.good f.holds a b c d e)))
-      lower a b p q x y ep eq sx sy ex ey (lower_link.UnknownPort c) e = refl
-      lower a b p q x y ep eq sx sy ex ey (lower_link.UnknownSecondPort c) e = refl
-      lower a b p q x y ep eq sx sy ex ey (lower_link.IncompatibleDirections c d s) e = refl
-      lower a b p q x y ep eq sx sy ex ey (lower_link.AlreadyLinked c) e = refl
+      lower a b p q x y ep eq sx sy ex ey (Err (link_error.UnknownPort c)) e = refl
+      lower a b p q x y ep eq sx sy ex ey (Err (link_error.UnknownSecondPort c)) e = refl
+      lower a b p q x y ep eq sx sy ex ey (Err (link_error.IncompatibleDirections c d s)) e = refl
+      lower a b p q x y ep eq sx sy ex ey (Err (link_error.AlreadyLinked c)) e = refl
 
       read : (x : model.InnerPlace) (p : ℕ) (d : Direction) (o a : ℕ) → Seen m M x → slot_of M.node x ≡ p → x.side ≡ d → end_at m p d o ≡ inner a → EndOf m M x o a
       read x p d o a sx ep ed e = end_read f x o a sx (ap (λ (c : ℕ). end_at m c x.side o) ep ∙ (ap (λ (c : Direction). end_at m p c o) ed ∙ e))
@@ -580,10 +577,10 @@ pub record CutDone (m : MultiPortGraph) (M : Model) (m' : MultiPortGraph) (p : �
   pub wires : Wiring m M m' model (dropped x) []
 
 -- not refused: the wires at the ends named are gone; refused: the graph stays
-abbrev pub CutSays : MultiPortGraph → Model → ℕ → (model.InnerPlace → Place → Bool) → MultiPortGraph → CutAnswer → Type 0
-CutSays m M p dropped m' (cutting.Found s x) = CutDone m M m' p dropped
-CutSays m M p dropped m' cutting.Nothing = CutDone m M m' p dropped
-CutSays m M p dropped m' (cutting.Refused r) = m' ≡ m
+abbrev pub CutSays : MultiPortGraph → Model → ℕ → (model.InnerPlace → Place → Bool) → MultiPortGraph → Result (Option (SubportIndex × PortPlace)) Refusal → Type 0
+CutSays m M p dropped m' (Ok (Some (s, x))) = CutDone m M m' p dropped
+CutSays m M p dropped m' (Ok None) = CutDone m M m' p dropped
+CutSays m M p dropped m' (Err r) = m' ≡ m
 
 abbrev pub CutSaid : MultiPortGraph → Model → ℕ → (model.InnerPlace → Place → Bool) → PortUnlinked → Type 0
 CutSaid m M p dropped u = CutSays m M p dropped u.graph u.answer
@@ -604,10 +601,10 @@ module _ {m : MultiPortGraph} {M : Model} (f : Fine m M) where
   pub cut_sub_law : (p o : ℕ) → CutSays m M p (end_named (cond (is_split m p) o 0)) (cut_sub m p o).graph (cut_sub m p o).answer
   cut_sub_law p o = subst (CutSaid m M p (end_named (cond (is_split m p) o 0))) (sym (cut_sub_cases m p o)) (offset (good_offset o))
     where
-      told : (m' : MultiPortGraph) → CutDone m M m' p (end_named (cond (is_split m p) o 0)) → (v : PortLink) → CutSays m M p (end_named (cond (is_split m p) o 0)) m' (far_subport m v)
-      told m' d (lower_cut.Linked q) = d
-      told m' d lower_cut.Unlinked = d
-      told m' d (lower_cut.UnknownPort q) = d
+      told : (m' : MultiPortGraph) → CutDone m M m' p (end_named (cond (is_split m p) o 0)) → (v : Result (Option PortIndex) NoSuchPort) → CutSays m M p (end_named (cond (is_split m p) o 0)) m' (far_subport m v)
+      told m' d (Ok (Some q)) = d
+      told m' d (Ok None) = d
+      told m' d (Err q) = d
 
       done : (x : model.InnerPlace) (a : ℕ) → Seen m M x → slot_of M.node x ≡ p → EndOf m M x o a
           → CutDone m M (with_graph m (unlink_port m.graph a).graph) p (end_named (cond (is_split m p) o 0))

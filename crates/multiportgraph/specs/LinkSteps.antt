@@ -1,5 +1,5 @@
 -- What the code's steps of a link amount to: the ends that are prepared, and each refusal.
-use Rattle.std.specs.Prelude.{◌≡◌, refl, Bool, true, false, cond, ℕ, ◌+◌, ◌<◌}
+use Rattle.std.specs.Prelude.{◌≡◌, refl, Bool, true, false, cond, ℕ, ◌+◌, ◌<◌, Ok}
 use Rattle.std.proofs.Common.{sym, ◌∙◌, ap, subst}
 use Rattle.port_tables.specs.Entries.{port#, same_side}
 use Rattle.portgraph.specs.Calls.{link_ports}
@@ -17,7 +17,6 @@ use Rattle.multiportgraph.specs.Ends.{block_seen, seen_block}
 use Rattle.multiportgraph.specs.PrepareLaws.{prepare_law}
 use Rattle.multiportgraph.specs.declared.multiportgraph.MultiPortGraph.{MultiPortGraph}
 use Rattle.multi_tables.specs.declared.answers.Refusal.TheVariants.{NoRoom, UnknownSecondPort, IncompatibleDirections}
-use Rattle.multiportgraph.specs.declared.multiportgraph.LinkAnswer.TheVariants as link
 use Rattle.multiportgraph.specs.declared.multiportgraph.PortsLinked.{PortsLinked}
 use Rattle.multi_tables.specs.declared.seen.SeenPort.{SeenPort}
 use Rattle.multi_tables.specs.declared.seen.SeenPort.TheVariants as seen_port
@@ -93,16 +92,16 @@ module _ (m : MultiPortGraph) (a : ℕ) (d : Direction) (b : ℕ) (e : Direction
     one_side v c g =
         g ∙ sym (both_ready_lem v
         ∙ ap (λ (x : Bool). cond x (link_refused s.graph (IncompatibleDirections (port# r.port) (port# s.port) d))
-        (record { graph = with_graph s.graph (link_ports s.graph.graph r.port s.port).graph; answer = link.Linked (subport# a r.offset) (subport# b s.offset) })) c)
+        (record { graph = with_graph s.graph (link_ports s.graph.graph r.port s.port).graph; answer = Ok (subport# a r.offset, subport# b s.offset) })) c)
 
     pub both_linked_lem : (l : lower.PortsLinked) → s.ready ≡ true → same_side d e ≡ false → l ≡ link_ports s.graph.graph r.port s.port →
-        ◌≡◌ {A = PortsLinked} (record { graph = with_graph s.graph l.graph; answer = link.Linked (subport# a r.offset) (subport# b s.offset) })
+        ◌≡◌ {A = PortsLinked} (record { graph = with_graph s.graph l.graph; answer = Ok (subport# a r.offset, subport# b s.offset) })
         (link_live m a d b e (prepare m a d))
     both_linked_lem l v c g =
-        ap (λ (x : lower.PortsLinked). record { graph = with_graph s.graph x.graph; answer = link.Linked (subport# a r.offset) (subport# b s.offset) }) g
+        ap (λ (x : lower.PortsLinked). record { graph = with_graph s.graph x.graph; answer = Ok (subport# a r.offset, subport# b s.offset) }) g
         ∙ sym (both_ready_lem v
         ∙ ap (λ (x : Bool). cond x (link_refused s.graph (IncompatibleDirections (port# r.port) (port# s.port) d))
-        (record { graph = with_graph s.graph (link_ports s.graph.graph r.port s.port).graph; answer = link.Linked (subport# a r.offset) (subport# b s.offset) })) c)
+        (record { graph = with_graph s.graph (link_ports s.graph.graph r.port s.port).graph; answer = Ok (subport# a r.offset, subport# b s.offset) })) c)
 
 -- How the two ports are seen.
 

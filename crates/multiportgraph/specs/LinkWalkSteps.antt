@@ -1,7 +1,7 @@
 -- Steps of the walks over the links of a block and of a port, over plain values.
 use Rattle.std.proofs.Math.Path.{◌≡◌, refl, sym, ap}
 use Rattle.std.proofs.Common.{◌∙◌}
-use Rattle.std.specs.Prelude.{Bool, cond, eqb}
+use Rattle.std.specs.Prelude.{Bool, cond, eqb, Option, Some, None, Result, Ok, Err}
 use Rattle.std.proofs.Math.Bool.{true, false}
 use mathlib.Core.List.{List, [], ◌∷◌, ◌++◌, append-nil, flat_map}
 use Prim.Native.Nat.{ℕ, suc, ◌+◌, ◌-◌, ◌≤◌, ◌<◌}
@@ -33,21 +33,14 @@ use Rattle.multiportgraph.specs.WalkSteps.{both_found}
 use Rattle.multiportgraph.specs.declared.multiportgraph.MultiPortGraph.{MultiPortGraph}
 use Rattle.multi_tables.specs.declared.answers.SubportIndex.{SubportIndex}
 use Rattle.multi_tables.specs.declared.answers.SubportLink.{SubportLink}
-use Rattle.multi_tables.specs.declared.answers.CutAnswer.{CutAnswer}
-use Rattle.multi_tables.specs.declared.answers.CutAnswer.TheVariants as cutting
-use Rattle.multiportgraph.specs.declared.lookups.BlockFound.TheVariants as block_found_lem
 use Rattle.multiportgraph.specs.declared.iter.NodeLinks.{NodeLinks}
-use Rattle.multiportgraph.specs.declared.iter.NodeLinksStep.TheVariants as links_step
 use Rattle.multiportgraph.specs.declared.iter.Neighbours.{Neighbours}
-use Rattle.multiportgraph.specs.declared.iter.NeighboursStep.TheVariants as neighbours_step
 use Rattle.multiportgraph.specs.declared.iter.NodeConnections.{NodeConnections}
-use Rattle.multiportgraph.specs.declared.iter.NodeConnectionsStep.TheVariants as connections_step
 use Rattle.multiportgraph.specs.declared.iter.PortLinks.{PortLinks}
-use Rattle.multiportgraph.specs.declared.iter.PortLinksStep.TheVariants as port_step
 use Rattle.multi_tables.specs.declared.scans.LinkFilter.{LinkFilter}
 use Rattle.multi_tables.specs.declared.scans.LinkFilter.TheVariants as filters
-use Rattle.multi_tables.specs.declared.scans.LinkFound.{LinkFound}
-use Rattle.multi_tables.specs.declared.scans.LinkFound.TheVariants as found
+use Rattle.multi_tables.specs.declared.answers.Refusal.{Refusal}
+use Rattle.multi_tables.specs.declared.answers.PortPlace.{PortPlace}
 
 -- A block's links that a cursor has left.
 
@@ -55,17 +48,17 @@ module _ (m : MultiPortGraph) (n : ℕ) (sides : Sides) (f : LinkFilter) (held o
   abbrev passing : SubportLink → Bool
   passing w = passes_in m.graph.port_meta m.copy_node f w.to.port.0
 
-  pub left_gone : both_seen m n held ≡ false → found.None ≡ first_found (block_left m n sides f held o)
+  pub left_gone : both_seen m n held ≡ false → None ≡ first_found (block_left m n sides f held o)
   unfolding block_left first_found
   left_gone e = rw e
 
-  pub left_found : MultiWf m → (k : NodeMeta) → block_found m n ≡ block_found_lem.Block k → held_in m.graph.port_meta m.copy_node held ≡ true
-      → (a b : ℕ) (r : LinkFound) → a ≡ ports_from k sides → b ≡ ports_to k sides
+  pub left_found : MultiWf m → (k : NodeMeta) → block_found m n ≡ Ok k → held_in m.graph.port_meta m.copy_node held ≡ true
+      → (a b : ℕ) (r : Option SubportLink) → a ≡ ports_from k sides → b ≡ ports_to k sides
       → r ≡ first_found (filter passing (beyond_in m.multiport m.graph.port_link m.graph.port_meta m.copy_node a b held o))
       → r ≡ first_found (block_left m n sides f held o)
   unfolding block_left
   left_found w k e h a b r ea eb er =
-      let read = beyond_read m w n k (block_not_hidden m n (sym (block_at m n (block_found_lem.Block k) e))) (meta_is m n k e) passing sides held o in
+      let read = beyond_read m w n k (block_not_hidden m n (sym (block_at m n (Ok k) e))) (meta_is m n k e) passing sides held o in
       er
       ∙ ap (λ (x : ℕ). first_found (filter passing (beyond_in m.multiport m.graph.port_link m.graph.port_meta m.copy_node x b held o))) ea
       ∙ ap (λ (x : ℕ). first_found (filter passing (beyond_in m.multiport m.graph.port_link m.graph.port_meta m.copy_node (ports_from k sides) x held o))) eb
@@ -73,33 +66,33 @@ module _ (m : MultiPortGraph) (n : ℕ) (sides : Sides) (f : LinkFilter) (held o
 
 -- what was found, as a step has it
 module _ {B : Type 0} (end : B) (item : SubportLink → B) where
-  first_item : (b : Bool) (l : List SubportLink) (r : LinkFound) (w : SubportLink) → r ≡ first_found (cond b l []) → r ≡ found.Link w → item w ≡ cond b (on_first end item l) end
+  first_item : (b : Bool) (l : List SubportLink) (r : Option SubportLink) (w : SubportLink) → r ≡ first_found (cond b l []) → r ≡ Some w → item w ≡ cond b (on_first end item l) end
   unfolding first_found on_first
   first_item true [] r w e h = let z : ◌≡◌ {A = ℕ} 0 1 = cc in absurd (omega arith)
   first_item true (v ∷ l) r w e h = let s : w ≡ v = cc in ap item s
   first_item false l r w e h = let z : ◌≡◌ {A = ℕ} 0 1 = cc in absurd (omega arith)
 
-  first_end : (b : Bool) (l : List SubportLink) (r : LinkFound) → r ≡ first_found (cond b l []) → r ≡ found.None → end ≡ cond b (on_first end item l) end
+  first_end : (b : Bool) (l : List SubportLink) (r : Option SubportLink) → r ≡ first_found (cond b l []) → r ≡ None → end ≡ cond b (on_first end item l) end
   unfolding first_found on_first
   first_end true [] r e h = refl
   first_end true (v ∷ l) r e h = let z : ◌≡◌ {A = ℕ} 0 1 = cc in absurd (omega arith)
   first_end false l r e h = refl
 
-  last_item : (l : List SubportLink) (r : LinkFound) (w : SubportLink) → r ≡ last_found l → r ≡ found.Link w → item w ≡ on_last end item l
+  last_item : (l : List SubportLink) (r : Option SubportLink) (w : SubportLink) → r ≡ last_found l → r ≡ Some w → item w ≡ on_last end item l
   unfolding last_found on_last
   last_item [] r w e h = let z : ◌≡◌ {A = ℕ} 0 1 = cc in absurd (omega arith)
   last_item (v ∷ l) r w e h = go l v (sym h ∙ e)
     where
-      go : (l : List SubportLink) (v : SubportLink) → found.Link w ≡ on_last (found.Link v) found.Link l → item w ≡ on_last (item v) item l
+      go : (l : List SubportLink) (v : SubportLink) → Some w ≡ on_last (Some v) Some l → item w ≡ on_last (item v) item l
       go [] v e = let s : w ≡ v = cc in ap item s
       go (u ∷ l) v e = go l u e
 
-  last_end : (l : List SubportLink) (r : LinkFound) → r ≡ last_found l → r ≡ found.None → end ≡ on_last end item l
+  last_end : (l : List SubportLink) (r : Option SubportLink) → r ≡ last_found l → r ≡ None → end ≡ on_last end item l
   unfolding last_found on_last
   last_end [] r e h = refl
   last_end (v ∷ l) r e h = go l v (sym h ∙ e)
     where
-      go : (l : List SubportLink) (v : SubportLink) → found.None ≡ on_last (found.Link v) found.Link l → end ≡ on_last (item v) item l
+      go : (l : List SubportLink) (v : SubportLink) → None ≡ on_last (Some v) Some l → end ≡ on_last (item v) item l
       go [] v e = let z : ◌≡◌ {A = ℕ} 0 1 = cc in absurd (omega arith)
       go (u ∷ l) v e = go l u e
 
@@ -108,30 +101,31 @@ plus_one p = omega arith
 
 -- Links of a block.
 
-module _ (m : MultiPortGraph) (c : NodeLinks) (r : LinkFound)
+module _ (m : MultiPortGraph) (c : NodeLinks) (r : Option SubportLink)
     (e : r ≡ first_found (block_left m c.node.0 c.sides (filters.Skip c.skip_from c.skip_to) c.held c.offset)) where
-  pub links_item_lem : (w : SubportLink) → r ≡ found.Link w
-      → links_step.Item w
-      (record {
-        node = c.node;
-        sides = c.sides;
-        skip_from = c.skip_from;
-        skip_to = c.skip_to;
-        held = w.from.port.0 + 1;
-        offset = w.from.subport_offset;
-      })
+  pub links_item_lem : (w : SubportLink) → r ≡ Some w
+      → Some (
+        w,
+        record {
+          node = c.node;
+          sides = c.sides;
+          skip_from = c.skip_from;
+          skip_to = c.skip_to;
+          held = w.from.port.0 + 1;
+          offset = w.from.subport_offset;
+        },
+      )
       ≡ step_links m c
   unfolding step_links node_links block_left
   links_item_lem w h =
       ap (λ (x : ℕ).
-      links_step.Item w
-      (record { node = c.node; sides = c.sides; skip_from = c.skip_from; skip_to = c.skip_to; held = x; offset = w.from.subport_offset }))
+      Some (w, record { node = c.node; sides = c.sides; skip_from = c.skip_from; skip_to = c.skip_to; held = x; offset = w.from.subport_offset }))
       (plus_one w.from.port.0)
-      ∙ first_item links_step.End (links_item c) (both_seen m c.node.0 c.held) _ r w e h
+      ∙ first_item None (links_item c) (both_seen m c.node.0 c.held) _ r w e h
 
-  pub links_none : r ≡ found.None → links_step.End ≡ step_links m c
+  pub links_none : r ≡ None → None ≡ step_links m c
   unfolding step_links node_links block_left
-  links_none h = first_end links_step.End (links_item c) (both_seen m c.node.0 c.held) _ r e h
+  links_none h = first_end None (links_item c) (both_seen m c.node.0 c.held) _ r e h
 
 -- Neighbours.
 
@@ -151,7 +145,7 @@ own_by m n (visible k d) = go (eqb k n.0) d
     go true Outgoing = refl
     go false d = refl
 
-module _ (m : MultiPortGraph) (w : MultiWf m) (c : Neighbours) (f : LinkFilter) (r : LinkFound) (ef : f ≡ self_filter c.node c.ignore_self)
+module _ (m : MultiPortGraph) (w : MultiWf m) (c : Neighbours) (f : LinkFilter) (r : Option SubportLink) (ef : f ≡ self_filter c.node c.ignore_self)
     (e : r ≡ first_found (block_left m c.node.0 c.sides f c.held c.offset)) where
   passed_same : (b : Bool) (l : List SubportLink) → filter (λ v. passes_in m.graph.port_meta m.copy_node (self_filter c.node b) v.to.port.0) l ≡ filter (not_ignored m c.node.0 b) l
   passed_same true l =
@@ -168,55 +162,55 @@ module _ (m : MultiPortGraph) (w : MultiWf m) (c : Neighbours) (f : LinkFilter) 
       ∙ ap (λ (l : List SubportLink). first_found (cond (both_seen m c.node.0 c.held) (filter (link_beyond c.held c.offset) l) []))
       (passed_same c.ignore_self (by_sides (λ d. side_links m d c.node.0) c.sides))
 
-  pub neighbours_item_lem : (v : SubportLink) (k : ℕ) → r ≡ found.Link v → k ≡ owner_in m.graph.port_meta v.to.port.0
-      → neighbours_step.Item (node# k)
-      (record {
-        node = c.node;
-        sides = c.sides;
-        ignore_self = c.ignore_self;
-        held = v.from.port.0 + 1;
-        offset = v.from.subport_offset;
-      })
+  pub neighbours_item_lem : (v : SubportLink) (k : ℕ) → r ≡ Some v → k ≡ owner_in m.graph.port_meta v.to.port.0
+      → Some (
+        node# k,
+        record {
+          node = c.node;
+          sides = c.sides;
+          ignore_self = c.ignore_self;
+          held = v.from.port.0 + 1;
+          offset = v.from.subport_offset;
+        },
+      )
       ≡ step_neighbours m c
   unfolding step_neighbours owner_in owner_of
   neighbours_item_lem v k h g =
       ap (λ (x : ℕ).
-      neighbours_step.Item (node# x)
-      (record { node = c.node; sides = c.sides; ignore_self = c.ignore_self; held = v.from.port.0 + 1; offset = v.from.subport_offset })) g
+      Some (node# x, record { node = c.node; sides = c.sides; ignore_self = c.ignore_self; held = v.from.port.0 + 1; offset = v.from.subport_offset })) g
       ∙ ap (λ (x : ℕ).
-      neighbours_step.Item (node# (owner_of m.graph v.to.port.0))
-      (record { node = c.node; sides = c.sides; ignore_self = c.ignore_self; held = x; offset = v.from.subport_offset }))
+      Some (node# (owner_of m.graph v.to.port.0), record { node = c.node; sides = c.sides; ignore_self = c.ignore_self; held = x; offset = v.from.subport_offset }))
       (plus_one v.from.port.0)
-      ∙ first_item neighbours_step.End (neighbours_item m c) (both_seen m c.node.0 c.held) _ r v listed h
+      ∙ first_item None (neighbours_item m c) (both_seen m c.node.0 c.held) _ r v listed h
 
-  pub neighbours_none : r ≡ found.None → neighbours_step.End ≡ step_neighbours m c
+  pub neighbours_none : r ≡ None → None ≡ step_neighbours m c
   unfolding step_neighbours
-  neighbours_none h = first_end neighbours_step.End (neighbours_item m c) (both_seen m c.node.0 c.held) _ r listed h
+  neighbours_none h = first_end None (neighbours_item m c) (both_seen m c.node.0 c.held) _ r listed h
 
 -- Connections.
 
 module _ (m : MultiPortGraph) (c : NodeConnections) where
-  pub connections_gone : is_block m c.target.0 ≡ false → connections_step.End ≡ step_connections m c
+  pub connections_gone : is_block m c.target.0 ≡ false → None ≡ step_connections m c
   unfolding step_connections
   connections_gone e = rw e
 
-  module _ (r : LinkFound) (t : is_block m c.target.0 ≡ true)
+  module _ (r : Option SubportLink) (t : is_block m c.target.0 ≡ true)
       (e : r ≡ first_found (block_left m c.node.0 (One Outgoing) (filters.To c.target) c.held c.offset)) where
     connected : r ≡ first_found (cond (both_seen m c.node.0 c.held) (filter (link_beyond c.held c.offset) (connections m c.node.0 c.target.0)) [])
     unfolding block_left connections owner_in owner_of
     connected = e
 
-    pub connections_item_lem : (w : SubportLink) → r ≡ found.Link w
-        → connections_step.Item w (record { node = c.node; target = c.target; held = w.from.port.0 + 1; offset = w.from.subport_offset }) ≡ step_connections m c
+    pub connections_item_lem : (w : SubportLink) → r ≡ Some w
+        → Some (w, record { node = c.node; target = c.target; held = w.from.port.0 + 1; offset = w.from.subport_offset }) ≡ step_connections m c
     unfolding step_connections
     connections_item_lem w h =
         rw t
-        (ap (λ (x : ℕ). connections_step.Item w (record { node = c.node; target = c.target; held = x; offset = w.from.subport_offset })) (plus_one w.from.port.0)
-        ∙ first_item connections_step.End (connections_item c) (both_seen m c.node.0 c.held) _ r w connected h)
+        (ap (λ (x : ℕ). Some (w, record { node = c.node; target = c.target; held = x; offset = w.from.subport_offset })) (plus_one w.from.port.0)
+        ∙ first_item None (connections_item c) (both_seen m c.node.0 c.held) _ r w connected h)
 
-    pub connections_none : r ≡ found.None → connections_step.End ≡ step_connections m c
+    pub connections_none : r ≡ None → None ≡ step_connections m c
     unfolding step_connections
-    connections_none h = rw t (first_end connections_step.End (connections_item c) (both_seen m c.node.0 c.held) _ r connected h)
+    connections_none h = rw t (first_end None (connections_item c) (both_seen m c.node.0 c.held) _ r connected h)
 
 -- Links of a port.
 
@@ -234,31 +228,31 @@ module _ (links owners : List ℕ) (flags : List Bool) (p first : ℕ) where
       ∙ ap (λ (x : ℕ). flat_map link_at (range from (stop - 1 - from)) ++ (link_at x ++ [])) b
       ∙ ap (λ (l : List SubportLink). flat_map link_at (range from (stop - 1 - from)) ++ l) (append-nil (link_at (stop - 1)))
 
-  last_after : (x : LinkFound) (a : List SubportLink) (w : SubportLink) → on_last x found.Link (a ++ (w ∷ [])) ≡ found.Link w
+  last_after : (x : Option SubportLink) (a : List SubportLink) (w : SubportLink) → on_last x Some (a ++ (w ∷ [])) ≡ Some w
   unfolding on_last
   last_after x [] w = refl
-  last_after x (v ∷ a) w = last_after (found.Link v) a w
+  last_after x (v ∷ a) w = last_after (Some v) a w
 
   -- a single end gives one link at most
-  last_of_one : (a : List SubportLink) (s : SubportIndex) (x : CutAnswer) (r : LinkFound) → r ≡ first_found (filter (λ (v : SubportLink). true) (wire_to s x))
-      → ((w : SubportLink) → r ≡ found.Link w → r ≡ last_found (a ++ wire_to s x)) × (r ≡ found.None → last_found a ≡ last_found (a ++ wire_to s x))
+  last_of_one : (a : List SubportLink) (s : SubportIndex) (x : Result (Option (SubportIndex × PortPlace)) Refusal) (r : Option SubportLink) → r ≡ first_found (filter (λ (v : SubportLink). true) (wire_to s x))
+      → ((w : SubportLink) → r ≡ Some w → r ≡ last_found (a ++ wire_to s x)) × (r ≡ None → last_found a ≡ last_found (a ++ wire_to s x))
   unfolding first_found filter last_found
-  last_of_one a s (cutting.Found t x) r e = (λ w h. e ∙ sym (last_after found.None a (record { from = s; to = t; place = x })), λ h. let z : ◌≡◌ {A = ℕ} 0 1 = cc in absurd (omega arith))
-  last_of_one a s cutting.Nothing r e = (λ w h. let z : ◌≡◌ {A = ℕ} 0 1 = cc in absurd (omega arith), λ h. ap (on_last found.None found.Link) (sym (append-nil a)))
-  last_of_one a s (cutting.Refused q) r e = (λ w h. let z : ◌≡◌ {A = ℕ} 0 1 = cc in absurd (omega arith), λ h. ap (on_last found.None found.Link) (sym (append-nil a)))
+  last_of_one a s (Ok (Some (t, x))) r e = (λ w h. e ∙ sym (last_after None a (record { from = s; to = t; place = x })), λ h. let z : ◌≡◌ {A = ℕ} 0 1 = cc in absurd (omega arith))
+  last_of_one a s (Ok None) r e = (λ w h. let z : ◌≡◌ {A = ℕ} 0 1 = cc in absurd (omega arith), λ h. ap (on_last None Some) (sym (append-nil a)))
+  last_of_one a s (Err q) r e = (λ w h. let z : ◌≡◌ {A = ℕ} 0 1 = cc in absurd (omega arith), λ h. ap (on_last None Some) (sym (append-nil a)))
 
-  module _ (from stop : ℕ) (h : from < stop) (r : LinkFound) (e : r ≡ first_found (filter (λ (v : SubportLink). true) (link_at (stop - 1)))) where
-    pub back_link : (w : SubportLink) → r ≡ found.Link w → r ≡ last_found (links_in links owners flags p first from (stop - from))
+  module _ (from stop : ℕ) (h : from < stop) (r : Option SubportLink) (e : r ≡ first_found (filter (λ (v : SubportLink). true) (link_at (stop - 1)))) where
+    pub back_link : (w : SubportLink) → r ≡ Some w → r ≡ last_found (links_in links owners flags p first from (stop - from))
     back_link w g =
         (last_of_one (links_in links owners flags p first from (stop - 1 - from)) (subport# p (stop - 1)) (wire_in links owners flags (first + (stop - 1))) r e).0 w g
         ∙ ap last_found (sym (links_more from stop h))
 
-    pub back_link_turn : r ≡ found.None → last_found (links_in links owners flags p first from (stop - 1 - from)) ≡ last_found (links_in links owners flags p first from (stop - from))
+    pub back_link_turn : r ≡ None → last_found (links_in links owners flags p first from (stop - 1 - from)) ≡ last_found (links_in links owners flags p first from (stop - from))
     back_link_turn g =
         (last_of_one (links_in links owners flags p first from (stop - 1 - from)) (subport# p (stop - 1)) (wire_in links owners flags (first + (stop - 1))) r e).1 g
         ∙ ap last_found (sym (links_more from stop h))
 
-  pub back_link_none : (from stop : ℕ) → stop ≤ from → found.None ≡ last_found (links_in links owners flags p first from (stop - from))
+  pub back_link_none : (from stop : ℕ) → stop ≤ from → None ≡ last_found (links_in links owners flags p first from (stop - from))
   unfolding links_in range flat_map last_found on_last
   back_link_none from stop h = let e : stop - from ≡ 0 = omega arith in rw e
 
@@ -271,11 +265,11 @@ module _ (marks : List Bool) (links owners : List ℕ) (flags : List Bool) (p : 
       ∙ ap (λ (x : ℕ). links_in links owners flags p (span_first marks links owners p d) x (end - x)) e₄
       ∙ ap (λ (x : ℕ). links_in links owners flags p (span_first marks links owners p d) front (x - front)) (e₃ ∙ ap (end_before back) e₂)
 
-  pub left_first : (r : LinkFound) → r ≡ first_found (filter (λ (v : SubportLink). true) (links_in links owners flags p first f (end - f)))
+  pub left_first : (r : Option SubportLink) → r ≡ first_found (filter (λ (v : SubportLink). true) (links_in links owners flags p first f (end - f)))
       → r ≡ first_found (left_in marks links owners flags p d front back)
   left_first r e = e ∙ ap first_found (filter_every (links_in links owners flags p first f (end - f)) ∙ left_is)
 
-  pub left_last : (r : LinkFound) → r ≡ last_found (links_in links owners flags p first f (end - f)) → r ≡ last_found (left_in marks links owners flags p d front back)
+  pub left_last : (r : Option SubportLink) → r ≡ last_found (links_in links owners flags p first f (end - f)) → r ≡ last_found (left_in marks links owners flags p d front back)
   left_last r e = e ∙ ap last_found left_is
 
 module _ (m : MultiPortGraph) (c : PortLinks) where
@@ -283,15 +277,15 @@ module _ (m : MultiPortGraph) (c : PortLinks) where
   unfolding links_left port_links filter
   left_unseen s e f = rw (e, f)
 
-  pub front_unseen : (s : Port) → seen m c.port.0 ≡ s → port_links_seen m c.port.0 s ≡ [] → port_step.End ≡ step_front m c
+  pub front_unseen : (s : Port) → seen m c.port.0 ≡ s → port_links_seen m c.port.0 s ≡ [] → None ≡ step_front m c
   unfolding step_front on_first
   front_unseen s e f = rw (left_unseen s e f)
 
-  pub back_unseen : (s : Port) → seen m c.port.0 ≡ s → port_links_seen m c.port.0 s ≡ [] → port_step.End ≡ step_back m c
+  pub back_unseen : (s : Port) → seen m c.port.0 ≡ s → port_links_seen m c.port.0 s ≡ [] → None ≡ step_back m c
   unfolding step_back on_last
   back_unseen s e f = rw (left_unseen s e f)
 
-  module _ (w : MultiWf m) (n : ℕ) (d : Direction) (s : seen m c.port.0 ≡ visible n d) (r : LinkFound) where
+  module _ (w : MultiWf m) (n : ℕ) (d : Direction) (s : seen m c.port.0 ≡ visible n d) (r : Option SubportLink) where
     abbrev left_told : List SubportLink
     left_told = left_in m.multiport m.graph.port_link m.graph.port_meta m.copy_node c.port.0 d c.front c.back
 
@@ -302,26 +296,26 @@ module _ (m : MultiPortGraph) (c : PortLinks) where
         (end_before c.back (span_count m.multiport m.graph.port_link m.graph.port_meta c.port.0 d) - c.front)
         (range_between c.front c.back (span_count m.multiport m.graph.port_link m.graph.port_meta c.port.0 d)))
 
-    pub front_item : (v : SubportLink) → r ≡ first_found left_told → r ≡ found.Link v
-        → port_step.Item v (record { port = c.port; front = v.from.subport_offset + 1; back = c.back }) ≡ step_front m c
+    pub front_item : (v : SubportLink) → r ≡ first_found left_told → r ≡ Some v
+        → Some (v, record { port = c.port; front = v.from.subport_offset + 1; back = c.back }) ≡ step_front m c
     unfolding step_front
     front_item v e h =
-        ap (λ (x : ℕ). port_step.Item v (record { port = c.port; front = x; back = c.back })) (plus_one v.from.subport_offset)
-        ∙ first_item port_step.End (λ (u : SubportLink). port_step.Item u (record { port = c.port; front = suc u.from.subport_offset; back = c.back })) true (links_left m c) r v (e ∙ ap first_found left_read) h
+        ap (λ (x : ℕ). Some (v, record { port = c.port; front = x; back = c.back })) (plus_one v.from.subport_offset)
+        ∙ first_item None (λ (u : SubportLink). Some (u, record { port = c.port; front = suc u.from.subport_offset; back = c.back })) true (links_left m c) r v (e ∙ ap first_found left_read) h
 
-    pub front_none : r ≡ first_found left_told → r ≡ found.None → port_step.End ≡ step_front m c
+    pub front_none : r ≡ first_found left_told → r ≡ None → None ≡ step_front m c
     unfolding step_front
     front_none e h =
-        first_end port_step.End (λ (u : SubportLink). port_step.Item u (record { port = c.port; front = suc u.from.subport_offset; back = c.back })) true (links_left m c) r (e ∙ ap first_found left_read) h
+        first_end None (λ (u : SubportLink). Some (u, record { port = c.port; front = suc u.from.subport_offset; back = c.back })) true (links_left m c) r (e ∙ ap first_found left_read) h
 
-    pub back_link_item : (v : SubportLink) → r ≡ last_found left_told → r ≡ found.Link v
-        → port_step.Item v (record { port = c.port; front = c.front; back = v.from.subport_offset + 1 }) ≡ step_back m c
+    pub back_link_item : (v : SubportLink) → r ≡ last_found left_told → r ≡ Some v
+        → Some (v, record { port = c.port; front = c.front; back = v.from.subport_offset + 1 }) ≡ step_back m c
     unfolding step_back
     back_link_item v e h =
-        ap (λ (x : ℕ). port_step.Item v (record { port = c.port; front = c.front; back = x })) (plus_one v.from.subport_offset)
-        ∙ last_item port_step.End (λ (u : SubportLink). port_step.Item u (record { port = c.port; front = c.front; back = suc u.from.subport_offset })) (links_left m c) r v (e ∙ ap last_found left_read) h
+        ap (λ (x : ℕ). Some (v, record { port = c.port; front = c.front; back = x })) (plus_one v.from.subport_offset)
+        ∙ last_item None (λ (u : SubportLink). Some (u, record { port = c.port; front = c.front; back = suc u.from.subport_offset })) (links_left m c) r v (e ∙ ap last_found left_read) h
 
-    pub back_link_end : r ≡ last_found left_told → r ≡ found.None → port_step.End ≡ step_back m c
+    pub back_link_end : r ≡ last_found left_told → r ≡ None → None ≡ step_back m c
     unfolding step_back
     back_link_end e h =
-        last_end port_step.End (λ (u : SubportLink). port_step.Item u (record { port = c.port; front = c.front; back = suc u.from.subport_offset })) (links_left m c) r (e ∙ ap last_found left_read) h
+        last_end None (λ (u : SubportLink). Some (u, record { port = c.port; front = c.front; back = suc u.from.subport_offset })) (links_left m c) r (e ∙ ap last_found left_read) h

@@ -1,6 +1,6 @@
 -- What one pass over lent tables lists is what the walk lists: under MultiWf each end, the wires of a port, of a block, and all;
 -- and all blocks.
-use Rattle.std.specs.Prelude.{◌≡◌, Bool, ℕ, zero, suc, ◌+◌, ◌-◌, ◌*◌, ◌≤◌, ◌<◌, eqb, length}
+use Rattle.std.specs.Prelude.{◌≡◌, Bool, ℕ, zero, suc, ◌+◌, ◌-◌, ◌*◌, ◌≤◌, ◌<◌, eqb, length, Option, Some, None, Result, Ok}
 use Rattle.std.proofs.Math.Path.{refl, sym, ap}
 use Rattle.std.proofs.Common.{◌∙◌, inl, inr, length-append}
 use Rattle.std.proofs.Math.Bool.{true, false, cond}
@@ -22,12 +22,8 @@ use Rattle.portgraph.specs.PlaceLaws.{meta_of_node, node_of_meta, link_to, link_
 use Rattle.portgraph.specs.GoodSlots.{zero_is_not_one, slot_in_block}
 use Rattle.port_tables.specs.declared.direction.Direction.{Direction}
 use Rattle.port_tables.specs.declared.direction.Direction.TheVariants.{Incoming, Outgoing}
-use Rattle.portgraph.specs.declared.portgraph.PortLink.{PortLink}
-use Rattle.portgraph.specs.declared.portgraph.PortLink.TheVariants as lower_link
 use Rattle.port_tables.specs.declared.sides.Sides.TheVariants.{One}
 use Rattle.port_tables.specs.declared.node_entry.NodeMeta.{NodeMeta}
-use Rattle.port_tables.specs.declared.node_entry.MaybeNodeMeta.{MaybeNodeMeta}
-use Rattle.port_tables.specs.declared.node_entry.MaybeNodeMeta.TheVariants as maybe_meta
 use Rattle.multiportgraph.specs.Reading.{owner_of, position_of, is_hidden, is_split, seen, copy_node, copy_side, subports, subport_at, end_at, subport_of, standing_of, far_subport, link_of_end}
 use Rattle.multi_tables.specs.Forms.{visible, inner, End, subport#, wire_to, flag_at}
 use Rattle.multiportgraph.specs.Calls.{visible_nodes, visible_links}
@@ -50,6 +46,8 @@ use Rattle.multi_tables.specs.declared.answers.SubportIndex.{SubportIndex}
 use Rattle.multi_tables.specs.declared.answers.PortPlace.{PortPlace}
 use Rattle.multi_tables.specs.declared.answers.SubportLink.{SubportLink}
 use Rattle.multiportgraph.specs.declared.lent.Totals.{Totals}
+use Rattle.port_tables.specs.declared.index.PortIndex.{PortIndex}
+use Rattle.portgraph.specs.declared.portgraph.NoSuchPort.{NoSuchPort}
 
 -- Lists.
 
@@ -125,10 +123,10 @@ module _ (nodes links owners heads : List ℕ) (marks flags : List Bool) (totals
   meta_there : (n : ℕ) → meta_in nodes n ≡ meta_at graph.graph n
   meta_there n = meta_read nodes links owners heads totals.counts n w.fine.holds.nodes_long
 
-  meta_live : (n : ℕ) (k : NodeMeta) → M.node n ≡ live k → meta_in nodes n ≡ maybe_meta.Some k
+  meta_live : (n : ℕ) (k : NodeMeta) → M.node n ≡ live k → meta_in nodes n ≡ Some k
   meta_live n k e = meta_there n ∙ meta_of_node w.fine.good w.fine.holds n k e
 
-  live_meta : (n : ℕ) (k : NodeMeta) → meta_in nodes n ≡ maybe_meta.Some k → M.node n ≡ live k
+  live_meta : (n : ℕ) (k : NodeMeta) → meta_in nodes n ≡ Some k → M.node n ≡ live k
   live_meta n k e = node_of_meta w.fine.good w.fine.holds n k (sym (meta_there n) ∙ e)
 
   flag_told : (n : ℕ) → flag_at flags node_slots n ≡ is_hidden graph n
@@ -177,7 +175,7 @@ module _ (nodes links owners heads : List ℕ) (marks flags : List Bool) (totals
       go true h =
           let k = w.fine.copy y.node h in
           let c : copy_side graph y.node ≡ Outgoing = incoming_reversed (copy_side graph y.node) (sym s ∙ end_side w.fine y e h) in
-          let x : meta_in nodes (owner_in owners (slot_of M.node y)) ≡ maybe_meta.Some k.meta = ap (meta_in nodes) (owner_in_lem y e.valid) ∙ meta_live y.node k.meta k.here in
+          let x : meta_in nodes (owner_in owners (slot_of M.node y)) ≡ Some k.meta = ap (meta_in nodes) (owner_in_lem y e.valid) ∙ meta_live y.node k.meta k.here in
           let f : first_of (M.node y.node) ≡ k.meta.first_port.0 = ap first_of k.here in
           let i : count_of (M.node y.node) Incoming ≡ k.meta.incoming = ap (λ (v : Slots). count_of v Incoming) k.here in
           let z : side_start (M.node y.node) y.side ≡ 0 = ap (side_start (M.node y.node)) s in
@@ -227,12 +225,12 @@ module _ (nodes links owners heads : List ℕ) (marks flags : List Bool) (totals
       go : (y : Far) → M.join end.end ≡ y → slot_wire nodes links owners flags (out_end p o n i) s ≡ flat_map (wire_numbers graph) (wire_of graph Outgoing (subport# p o))
       go nowhere j =
           let z : at links s ≡ 0 = ap (at links) (sym end.slot) ∙ link_none w.fine.good w.fine.holds end.end end.is_end.valid j in
-          let l : port_link graph.graph s ≡ lower_link.Unlinked = ap (port_link graph.graph) (sym end.slot) ∙ port_link_none w.fine.good w.fine.holds end.end end.is_end.valid j in
+          let l : port_link graph.graph s ≡ Ok None = ap (port_link graph.graph) (sym end.slot) ∙ port_link_none w.fine.good w.fine.holds end.end end.is_end.valid j in
           rw (eq-eqb (at links s) 0 z)
-          (sym (ap (flat_map (wire_numbers graph)) (wire_by_end p o s e ∙ ap (λ (x : PortLink). wire_to (subport# p o) (far_subport graph x)) l) ∙ no_wire))
+          (sym (ap (flat_map (wire_numbers graph)) (wire_by_end p o s e ∙ ap (λ (x : Result (Option PortIndex) NoSuchPort). wire_to (subport# p o) (far_subport graph x)) l) ∙ no_wire))
       go (to y) j =
           let z : at links s ≡ suc (slot_of M.node y) = ap (at links) (sym end.slot) ∙ link_to w.fine.good w.fine.holds end.end y end.is_end.valid j in
-          let l : port_link graph.graph s ≡ lower_link.Linked (port# (slot_of M.node y)) = ap (port_link graph.graph) (sym end.slot) ∙ port_link_to w.fine.good w.fine.holds end.end y end.is_end.valid j in
+          let l : port_link graph.graph s ≡ Ok (Some (port# (slot_of M.node y))) = ap (port_link graph.graph) (sym end.slot) ∙ port_link_to w.fine.good w.fine.holds end.end y end.is_end.valid j in
           let q : far_in links s ≡ slot_of M.node y = ap (far_in links) (sym end.slot) ∙ far_is w.fine end.end y j in
           let d : y.side ≡ Incoming = other_side end.end.side y.side (w.fine.good.join_sides end.end y j) ∙ ap reversed (end.side ∙ block.side) in
           let t : end_words (far_end nodes links owners flags (far_in links s)) ≡ end_numbers graph (subport_of graph (slot_of M.node y)) =
@@ -240,10 +238,10 @@ module _ (nodes links owners heads : List ℕ) (marks flags : List Bool) (totals
           rw (ne_eqb (at links s) 0 (λ h. omega arith))
           ((λ x. from x ++ t x)
           ∙ (sym (one_wire (subport# p o) (subport_of graph (slot_of M.node y)) (standing_of graph (slot_of M.node y)))
-          ∙ ap (flat_map (wire_numbers graph)) (sym (wire_by_end p o s e ∙ ap (λ (x : PortLink). wire_to (subport# p o) (far_subport graph x)) l))))
+          ∙ ap (flat_map (wire_numbers graph)) (sym (wire_by_end p o s e ∙ ap (λ (x : Result (Option PortIndex) NoSuchPort). wire_to (subport# p o) (far_subport graph x)) l))))
 
   -- the wires of a block's outgoing port
-  module _ (n : ℕ) (k : NodeMeta) (open_node : is_hidden graph n ≡ false) (meta : meta_at graph.graph n ≡ maybe_meta.Some k) (i : ℕ) (h : i < k.outgoing) where
+  module _ (n : ℕ) (k : NodeMeta) (open_node : is_hidden graph n ≡ false) (meta : meta_at graph.graph n ≡ Some k) (i : ℕ) (h : i < k.outgoing) where
     abbrev port : ℕ
     port = k.first_port.0 + k.incoming + i
 
@@ -275,7 +273,7 @@ module _ (nodes links owners heads : List ℕ) (marks flags : List Bool) (totals
       unfolding copy
       copy_here = (w.fine.copy hang.copy hang.is_copy).here
 
-      copy_meta : meta_in nodes (owner_in owners (far_in links port)) ≡ maybe_meta.Some copy
+      copy_meta : meta_in nodes (owner_in owners (far_in links port)) ≡ Some copy
       copy_meta =
           ap (meta_in nodes) (owner_read w.fine port n Outgoing see t ∙ (ap (copy_node graph) (sym block.slot) ∙ hang.copy_is))
           ∙ meta_live hang.copy copy copy_here
@@ -318,7 +316,7 @@ module _ (nodes links owners heads : List ℕ) (marks flags : List Bool) (totals
             (slot_wire_is port n i 0 port see position (plain_end t) ∙ ap (flat_map (wire_numbers graph)) (sym (links_of_plain graph port n Outgoing see t)))
 
   -- of a block
-  side_wires_are : (n : ℕ) (k : NodeMeta) → is_hidden graph n ≡ false → meta_at graph.graph n ≡ maybe_meta.Some k → side_wires nodes links owners marks flags n k ≡ flat_map (wire_numbers graph) (side_links graph Outgoing n)
+  side_wires_are : (n : ℕ) (k : NodeMeta) → is_hidden graph n ≡ false → meta_at graph.graph n ≡ Some k → side_wires nodes links owners marks flags n k ≡ flat_map (wire_numbers graph) (side_links graph Outgoing n)
   unfolding side_wires links_from_to
   side_wires_are n k h e =
       let c : k.outgoing ≡ ports_across k (One Outgoing) = omega arith in
@@ -329,12 +327,12 @@ module _ (nodes links owners heads : List ℕ) (marks flags : List Bool) (totals
       ∙ ap (flat_map (wire_numbers graph)) (ap (λ (x : ℕ). flat_map (port_links graph) (range (k.first_port.0 + k.incoming) x)) c ∙ sym (links_in_row w n k h e (One Outgoing)))))
 
   -- beyond the used part of the node table there is no node
-  no_node : (n : ℕ) → totals.counts.node_len ≤ n → meta_in nodes n ≡ maybe_meta.None
+  no_node : (n : ℕ) → totals.counts.node_len ≤ n → meta_in nodes n ≡ None
   no_node n l = go (meta_in nodes n) refl
     where
-      go : (x : MaybeNodeMeta) → meta_in nodes n ≡ x → x ≡ maybe_meta.None
-      go maybe_meta.None e = refl
-      go (maybe_meta.Some k) e =
+      go : (x : Option NodeMeta) → meta_in nodes n ≡ x → x ≡ None
+      go None e = refl
+      go (Some k) e =
           let a = w.fine.good.node_used n k (live_meta n k e) in
           let b = w.fine.holds.node_len in
           absurd (omega arith)
@@ -343,7 +341,7 @@ module _ (nodes links owners heads : List ℕ) (marks flags : List Bool) (totals
   len_fits = node_len_fits graph.graph (lower_wf graph w)
 
   -- what is gathered over the used node slots is gathered over all
-  flat_map_used : (f : ℕ → List ℕ) → ((n : ℕ) → meta_in nodes n ≡ maybe_meta.None → f n ≡ []) → flat_map f (range 0 totals.counts.node_len) ≡ flat_map f (range 0 node_slots)
+  flat_map_used : (f : ℕ → List ℕ) → ((n : ℕ) → meta_in nodes n ≡ None → f n ≡ []) → flat_map f (range 0 totals.counts.node_len) ≡ flat_map f (range 0 node_slots)
   flat_map_used f h =
       let u = len_fits in
       let len = totals.counts.node_len in
@@ -353,16 +351,16 @@ module _ (nodes links owners heads : List ℕ) (marks flags : List Bool) (totals
       ∙ append-nil (flat_map f (range 0 len)))))
 
   -- What a pass over the node slots gathers: what f gives for a block's meta data, where that is what g gives for the block.
-  module _ (f : ℕ → NodeMeta → List ℕ) (g : ℕ → List ℕ) (same : (n : ℕ) (k : NodeMeta) → is_hidden graph n ≡ false → meta_at graph.graph n ≡ maybe_meta.Some k → f n k ≡ g n) where
+  module _ (f : ℕ → NodeMeta → List ℕ) (g : ℕ → List ℕ) (same : (n : ℕ) (k : NodeMeta) → is_hidden graph n ≡ false → meta_at graph.graph n ≡ Some k → f n k ≡ g n) where
     slot_gives : (n : ℕ) → of_block (f n) (flag_at flags node_slots n) (meta_in nodes n) ≡ cond (is_block graph n) (g n) []
     unfolding is_block
     slot_gives n = (λ i. of_block (f n) (flag_told n i) (meta_there n i)) ∙ go (is_hidden graph n) refl (meta_at graph.graph n) refl
       where
-        go : (b : Bool) → is_hidden graph n ≡ b → (x : MaybeNodeMeta) → meta_at graph.graph n ≡ x → of_block (f n) b x ≡ cond (cond b false (is_some x)) (g n) []
-        go true h maybe_meta.None e = refl
-        go true h (maybe_meta.Some k) e = refl
-        go false h maybe_meta.None e = refl
-        go false h (maybe_meta.Some k) e = same n k h e
+        go : (b : Bool) → is_hidden graph n ≡ b → (x : Option NodeMeta) → meta_at graph.graph n ≡ x → of_block (f n) b x ≡ cond (cond b false (is_some x)) (g n) []
+        go true h None e = refl
+        go true h (Some k) e = refl
+        go false h None e = refl
+        go false h (Some k) e = same n k h e
 
     blocks_give : flat_map (λ n. of_block (f n) (flag_at flags node_slots n) (meta_in nodes n)) (range 0 totals.counts.node_len) ≡ flat_map g (blocks graph)
     unfolding blocks
@@ -398,7 +396,7 @@ module _ (nodes links owners heads : List ℕ) (marks flags : List Bool) (totals
   -- Blocks.
 
   -- the first port of a block is its first slot, if it has ports
-  first_port_is : (n : ℕ) (k : NodeMeta) → meta_at graph.graph n ≡ maybe_meta.Some k → port_of_meta k ≡ first_port graph n
+  first_port_is : (n : ℕ) (k : NodeMeta) → meta_at graph.graph n ≡ Some k → port_of_meta k ≡ first_port graph n
   unfolding port_of_meta first_port
   first_port_is n k e =
       let a = side_in_row graph n k e Incoming in
@@ -406,7 +404,7 @@ module _ (nodes links owners heads : List ℕ) (marks flags : List Bool) (totals
       first_of_range k.first_port.0 (k.incoming + k.outgoing)
       ∙ ap (λ (l : List ℕ). get_or l 0 0) (range_append k.first_port.0 k.incoming k.outgoing (k.incoming + k.outgoing) refl ∙ sym (λ i. a i ++ b i))
 
-  block_words_are : (n : ℕ) (k : NodeMeta) → is_hidden graph n ≡ false → meta_at graph.graph n ≡ maybe_meta.Some k → block_words n k ≡ block_numbers graph n
+  block_words_are : (n : ℕ) (k : NodeMeta) → is_hidden graph n ≡ false → meta_at graph.graph n ≡ Some k → block_words n k ≡ block_numbers graph n
   unfolding block_numbers
   block_words_are n k h e =
       let f = first_port_is n k e in

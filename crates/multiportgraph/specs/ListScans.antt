@@ -1,5 +1,5 @@
 -- The numbers of wires and blocks as the lent tables tell them, in the order in which one pass over the tables writes them.
-use Rattle.std.specs.Prelude.{Bool, cond, ◌≡◌, ℕ, ◌+◌, ◌-◌, eqb, length}
+use Rattle.std.specs.Prelude.{Bool, cond, ◌≡◌, ℕ, ◌+◌, ◌-◌, eqb, length, Option, Some, None}
 use mathlib.Core.List.{List, [], ◌∷◌, ◌++◌, flat_map}
 use Rattle.std.proofs.lemmas.List.Edits.{sets}
 use Rattle.port_tables.specs.Limits.{node_slots, port_slots}
@@ -8,16 +8,14 @@ use Rattle.port_tables.specs.Tables.{at}
 use Rattle.port_tables.specs.ResizeLinks.{BlockFits}
 use Rattle.port_tables.specs.NodeWords.{meta_in}
 use Rattle.port_tables.specs.declared.node_entry.NodeMeta.{NodeMeta}
-use Rattle.port_tables.specs.declared.node_entry.MaybeNodeMeta.{MaybeNodeMeta}
-use Rattle.port_tables.specs.declared.node_entry.MaybeNodeMeta.TheVariants as maybe_meta
 use Rattle.multi_tables.specs.Forms.{flag_at}
 use Rattle.multi_tables.specs.TableReads.{far_in, owner_in}
 use Rattle.multiportgraph.specs.declared.list_ends.WireEnd.{WireEnd}
 
 -- what f gives for a block; nothing for a hidden node and for no node
-abbrev pub of_block : (NodeMeta → List ℕ) → Bool → MaybeNodeMeta → List ℕ
-of_block f h maybe_meta.None = []
-of_block f h (maybe_meta.Some k) = cond h [] (f k)
+abbrev pub of_block : (NodeMeta → List ℕ) → Bool → Option NodeMeta → List ℕ
+of_block f h None = []
+of_block f h (Some k) = cond h [] (f k)
 
 -- Ends.
 
@@ -25,18 +23,18 @@ of_block f h (maybe_meta.Some k) = cond h [] (f k)
 abbrev pub end_words : WireEnd → List ℕ
 end_words e = e.port ∷ e.offset ∷ e.node ∷ e.position ∷ []
 
-abbrev pub first_of_meta : MaybeNodeMeta → ℕ
-first_of_meta maybe_meta.None = 0
-first_of_meta (maybe_meta.Some k) = k.first_port.0
+abbrev pub first_of_meta : Option NodeMeta → ℕ
+first_of_meta None = 0
+first_of_meta (Some k) = k.first_port.0
 
 -- an incoming port of a block, at an offset: its position is counted from its node's first port
 unfoldable pub in_end : List ℕ → List ℕ → ℕ → ℕ → WireEnd
 in_end nodes owners p o = record { port = p; offset = o; node = owner_in owners p; position = p - first_of_meta (meta_in nodes (owner_in owners p)) }
 
 -- an incoming subport of a hidden node: its main port hangs on the one outgoing port, behind the incoming ones
-abbrev pub subport_end : List ℕ → List ℕ → List ℕ → ℕ → MaybeNodeMeta → WireEnd
-subport_end nodes links owners q maybe_meta.None = in_end nodes owners q 0
-subport_end nodes links owners q (maybe_meta.Some k) = in_end nodes owners (far_in links (k.first_port.0 + k.incoming)) (q - k.first_port.0)
+abbrev pub subport_end : List ℕ → List ℕ → List ℕ → ℕ → Option NodeMeta → WireEnd
+subport_end nodes links owners q None = in_end nodes owners q 0
+subport_end nodes links owners q (Some k) = in_end nodes owners (far_in links (k.first_port.0 + k.incoming)) (q - k.first_port.0)
 
 -- the incoming end of a wire, by its inner port
 unfoldable pub far_end : List ℕ → List ℕ → List ℕ → List Bool → ℕ → WireEnd
@@ -61,9 +59,9 @@ subport_wire nodes links owners flags p n i first o = slot_wire nodes links owne
 unfoldable pub split_wires : List ℕ → List ℕ → List ℕ → List Bool → ℕ → ℕ → ℕ → NodeMeta → List ℕ
 split_wires nodes links owners flags p n i k = flat_map (subport_wire nodes links owners flags p n i (k.first_port.0 + k.incoming)) (range 0 k.outgoing)
 
-abbrev pub copy_wires : List ℕ → List ℕ → List ℕ → List Bool → ℕ → ℕ → ℕ → MaybeNodeMeta → List ℕ
-copy_wires nodes links owners flags p n i maybe_meta.None = []
-copy_wires nodes links owners flags p n i (maybe_meta.Some k) = split_wires nodes links owners flags p n i k
+abbrev pub copy_wires : List ℕ → List ℕ → List ℕ → List Bool → ℕ → ℕ → ℕ → Option NodeMeta → List ℕ
+copy_wires nodes links owners flags p n i None = []
+copy_wires nodes links owners flags p n i (Some k) = split_wires nodes links owners flags p n i k
 
 -- at an outgoing port p, at position i of node n
 unfoldable pub port_wires : List ℕ → List ℕ → List ℕ → List Bool → List Bool → ℕ → ℕ → ℕ → List ℕ
@@ -106,7 +104,7 @@ table_blocks nodes flags len = flat_map (node_block nodes flags) (range 0 len)
 
 -- What the pass over wires presumes: every block of slots lies within the tables.
 abbrev pub AllFit : List ℕ → Type 0
-AllFit nodes = (n : ℕ) (k : NodeMeta) → meta_in nodes n ≡ maybe_meta.Some k → BlockFits k
+AllFit nodes = (n : ℕ) (k : NodeMeta) → meta_in nodes n ≡ Some k → BlockFits k
 
 -- What a pass keeps, over a list of which whole is to be written from place at on: where rest is written from the present
 -- place on, the whole is.

@@ -1,5 +1,6 @@
 -- Steps of the passes that list wires and blocks, over plain values.
-use Rattle.std.specs.Prelude.{◌≡◌, refl, Bool, true, false, ℕ, suc, ◌+◌, ◌-◌, ◌≤◌, ◌<◌, set}
+use Rattle.multiportgraph.specs.declared.list_ends.TooShort.{TooShort}
+use Rattle.std.specs.Prelude.{◌≡◌, refl, Bool, true, false, ℕ, suc, ◌+◌, ◌-◌, ◌≤◌, ◌<◌, set, Option, Some, None, Result, Ok, Err}
 use Rattle.std.proofs.Common.{sym, ◌∙◌, length-append}
 use Rattle.std.proofs.Math.Path.{ap}
 use mathlib.Core.List.{List, [], ◌∷◌, ◌++◌, flat_map}
@@ -14,16 +15,12 @@ use Rattle.port_tables.specs.Tables.{at}
 use Rattle.port_tables.specs.ResizeLinkSteps.{sets_append}
 use Rattle.port_tables.specs.NodeWords.{meta_in}
 use Rattle.port_tables.specs.declared.node_entry.NodeMeta.{NodeMeta}
-use Rattle.port_tables.specs.declared.node_entry.MaybeNodeMeta.{MaybeNodeMeta}
-use Rattle.port_tables.specs.declared.node_entry.MaybeNodeMeta.TheVariants as maybe_meta
 use Rattle.multi_tables.specs.Forms.{flag_at}
 use Rattle.multi_tables.specs.TableReads.{far_in, owner_in}
 use Rattle.multiportgraph.specs.Listed.{list_after, list_answer}
 use Rattle.multiportgraph.specs.ListScans.{end_words, first_of_meta, in_end, subport_end, far_end, slot_wire, copy_wires, subport_wire, split_wires, out_end, port_wires, place_wires, side_wires, of_block, port_of_meta, Writing}
 use Rattle.multiportgraph.specs.declared.multiportgraph.MultiPortGraph.{MultiPortGraph}
 use Rattle.multiportgraph.specs.declared.list_ends.WireEnd.{WireEnd}
-use Rattle.multiportgraph.specs.declared.list_ends.ListAnswer.{ListAnswer}
-use Rattle.multiportgraph.specs.declared.list_ends.ListAnswer.TheVariants.{Listed, TooShort}
 
 -- Lists.
 
@@ -93,14 +90,14 @@ module _ (f : ℕ → List ℕ) where
 
 module _ (numbers list : List ℕ) (count : ℕ) where
   -- a list too short stays as it is
-  pub list_short : (needed : ℕ) → needed ≡ length numbers → length list < needed → (TooShort needed ≡ list_answer count numbers list) × (list ≡ list_after numbers list)
+  pub list_short : (needed : ℕ) → needed ≡ length numbers → length list < needed → (Err (record { 0 = needed }) ≡ list_answer count numbers list) × (list ≡ list_after numbers list)
   unfolding list_answer list_after
   list_short needed e h =
       let t = lt-leb (length numbers) (length list) (omega arith) in
       (rw (t, e), rw t)
 
   -- one that is long enough is written from its start on
-  pub list_full : (list' : List ℕ) → length numbers ≤ length list → list' ≡ sets list 0 numbers → (Listed count ≡ list_answer count numbers list) × (list' ≡ list_after numbers list)
+  pub list_full : (list' : List ℕ) → length numbers ≤ length list → list' ≡ sets list 0 numbers → (Ok count ≡ list_answer count numbers list) × (list' ≡ list_after numbers list)
   unfolding list_answer list_after
   list_full list' h e =
       let t = le-leb (length numbers) (length list) h in
@@ -118,20 +115,20 @@ module _ (nodes : List ℕ) (flags : List Bool) (n : ℕ) (b : Bool) (v : ℕ) (
   pub slot_hidden : b ≡ true → of_block f (flag_at flags node_slots n) (meta_in nodes n) ≡ []
   slot_hidden h = rw (flag_read flags node_slots n v b same told ∙ h) (go (meta_in nodes n))
     where
-      go : (x : MaybeNodeMeta) → of_block f true x ≡ []
-      go maybe_meta.None = refl
-      go (maybe_meta.Some k) = refl
+      go : (x : Option NodeMeta) → of_block f true x ≡ []
+      go None = refl
+      go (Some k) = refl
 
   -- another slot gives what its meta data tell
-  pub slot_seen : b ≡ false → (x : MaybeNodeMeta) → x ≡ meta_in nodes n → of_block f false x ≡ of_block f (flag_at flags node_slots n) (meta_in nodes n)
+  pub slot_seen : b ≡ false → (x : Option NodeMeta) → x ≡ meta_in nodes n → of_block f false x ≡ of_block f (flag_at flags node_slots n) (meta_in nodes n)
   slot_seen h x e = rw (flag_read flags node_slots n v b same told ∙ h) (ap (of_block f false) e)
 
 -- Ends.
 
-pub first_none : (nodes : List ℕ) (n : ℕ) (x : MaybeNodeMeta) → x ≡ meta_in nodes n → x ≡ maybe_meta.None → 0 ≡ first_of_meta (meta_in nodes n)
+pub first_none : (nodes : List ℕ) (n : ℕ) (x : Option NodeMeta) → x ≡ meta_in nodes n → x ≡ None → 0 ≡ first_of_meta (meta_in nodes n)
 first_none nodes n x e f = ap first_of_meta (sym f ∙ e)
 
-pub first_found : (nodes : List ℕ) (n : ℕ) (x : MaybeNodeMeta) (k : NodeMeta) → x ≡ meta_in nodes n → x ≡ maybe_meta.Some k → k.first_port.0 ≡ first_of_meta (meta_in nodes n)
+pub first_found : (nodes : List ℕ) (n : ℕ) (x : Option NodeMeta) (k : NodeMeta) → x ≡ meta_in nodes n → x ≡ Some k → k.first_port.0 ≡ first_of_meta (meta_in nodes n)
 first_found nodes n x k e f = ap first_of_meta (sym f ∙ e)
 
 pub end_made : (nodes owners : List ℕ) (p o n f i : ℕ) → n ≡ owner_in owners p → f ≡ first_of_meta (meta_in nodes n) → i ≡ p - f
@@ -149,15 +146,15 @@ module _ (nodes links owners : List ℕ) (flags : List Bool) (q n : ℕ) (owned 
   unfolding far_end
   far_plain h e r = rw (far_told ∙ h) r
 
-  module _ (h : b ≡ true) (x : MaybeNodeMeta) (meta : x ≡ meta_in nodes n) where
+  module _ (h : b ≡ true) (x : Option NodeMeta) (meta : x ≡ meta_in nodes n) where
     far_by : subport_end nodes links owners q x ≡ far_end nodes links owners flags q
     unfolding far_end
     far_by = rw (far_told ∙ h) (ap (subport_end nodes links owners q) (meta ∙ ap (meta_in nodes) owned))
 
-    pub far_gone : x ≡ maybe_meta.None → (e : WireEnd) → e ≡ in_end nodes owners q 0 → e ≡ far_end nodes links owners flags q
+    pub far_gone : x ≡ None → (e : WireEnd) → e ≡ in_end nodes owners q 0 → e ≡ far_end nodes links owners flags q
     far_gone g e r = r ∙ (ap (subport_end nodes links owners q) (sym g) ∙ far_by)
 
-    pub far_hidden : (k : NodeMeta) → x ≡ maybe_meta.Some k → (first incoming main offset : ℕ) → first ≡ k.first_port.0 → incoming ≡ k.incoming
+    pub far_hidden : (k : NodeMeta) → x ≡ Some k → (first incoming main offset : ℕ) → first ≡ k.first_port.0 → incoming ≡ k.incoming
         → main ≡ far_in links (first + incoming) → offset ≡ q - k.first_port.0 → (e : WireEnd) → e ≡ in_end nodes owners main offset → e ≡ far_end nodes links owners flags q
     far_hidden k g first incoming main offset a c d o e r =
         let s : main ≡ far_in links (k.first_port.0 + k.incoming) = d ∙ (λ i. far_in links (a i + c i)) in
@@ -207,7 +204,7 @@ module _ (nodes links owners : List ℕ) (marks flags : List Bool) (p n i : ℕ)
   unfolding port_wires
   port_plain h s e = rw (mark_is ∙ h) (ap (slot_wire nodes links owners flags (out_end p 0 n i)) e)
 
-  pub port_split : b ≡ true → (u q c : ℕ) → u ≡ p → q ≡ far_in links u → c ≡ owner_in owners q → (x : MaybeNodeMeta) → x ≡ meta_in nodes c → copy_wires nodes links owners flags p n i x ≡ port_wires nodes links owners marks flags p n i
+  pub port_split : b ≡ true → (u q c : ℕ) → u ≡ p → q ≡ far_in links u → c ≡ owner_in owners q → (x : Option NodeMeta) → x ≡ meta_in nodes c → copy_wires nodes links owners flags p n i x ≡ port_wires nodes links owners marks flags p n i
   unfolding port_wires
   port_split h u q c a d e x m =
       rw (mark_is ∙ h)
@@ -225,6 +222,6 @@ unfolding port_of_meta
 with_ports k s e z = rw (ne_eqb (k.incoming + k.outgoing) 0 (λ h. z (e ∙ h)))
 
 -- what is listed of a graph is listed of the same graph
-pub listed_as : (count : MultiPortGraph → ℕ) (numbers : MultiPortGraph → List ℕ) (l : List ℕ) {m m' : MultiPortGraph} {l' : List ℕ} {r : ListAnswer} → m ≡ m'
+pub listed_as : (count : MultiPortGraph → ℕ) (numbers : MultiPortGraph → List ℕ) (l : List ℕ) {m m' : MultiPortGraph} {l' : List ℕ} {r : Result ℕ TooShort} → m ≡ m'
     → (r ≡ list_answer (count m) (numbers m) l) × (l' ≡ list_after (numbers m) l) → (r ≡ list_answer (count m') (numbers m') l) × (l' ≡ list_after (numbers m') l)
 listed_as count numbers l e x = (x.0 ∙ (λ i. list_answer (count (e i)) (numbers (e i)) l), x.1 ∙ (λ i. list_after (numbers (e i)) l))

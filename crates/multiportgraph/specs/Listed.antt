@@ -1,14 +1,13 @@
 -- All wires, and all blocks, as numbers in a list that the caller lends: what the calls that list them write and answer.
+use Rattle.multiportgraph.specs.declared.list_ends.TooShort.{TooShort}
 use mathlib.Core.List.{List, [], ◌∷◌, ◌++◌, flat_map}
-use Rattle.std.specs.Prelude.{ℕ, leb, length, drop, get_or, cond}
+use Rattle.std.specs.Prelude.{ℕ, leb, length, drop, get_or, cond, Result, Ok, Err}
 use Rattle.portgraph.specs.Lookups.{num_ports}
 use Rattle.port_tables.specs.declared.direction.Direction.TheVariants.{Incoming, Outgoing}
 use Rattle.multiportgraph.specs.Wires.{blocks, ports_of_side, all_wires, place_of}
 use Rattle.multiportgraph.specs.declared.multiportgraph.MultiPortGraph.{MultiPortGraph}
 use Rattle.multi_tables.specs.declared.answers.SubportIndex.{SubportIndex}
 use Rattle.multi_tables.specs.declared.answers.SubportLink.{SubportLink}
-use Rattle.multiportgraph.specs.declared.list_ends.ListAnswer.{ListAnswer}
-use Rattle.multiportgraph.specs.declared.list_ends.ListAnswer.TheVariants.{Listed, TooShort}
 
 -- an end of a wire: port, offset, node, position on its side
 unfoldable pub end_numbers : MultiPortGraph → SubportIndex → List ℕ
@@ -39,5 +38,5 @@ unfoldable pub list_after : List ℕ → List ℕ → List ℕ
 list_after numbers list = cond (leb (length numbers) (length list)) (numbers ++ drop (length numbers) list) list
 
 -- how many items were listed; or, of a list that is too short, how many numbers it must have
-unfoldable pub list_answer : ℕ → List ℕ → List ℕ → ListAnswer
-list_answer count numbers list = cond (leb (length numbers) (length list)) (Listed count) (TooShort (length numbers))
+unfoldable pub list_answer : ℕ → List ℕ → List ℕ → Result ℕ TooShort
+list_answer count numbers list = cond (leb (length numbers) (length list)) (Ok count) (Err (record { 0 = length numbers }))

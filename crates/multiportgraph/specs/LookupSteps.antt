@@ -1,15 +1,13 @@
 -- A node number as the lookups and the starts of walks read it, and what their steps amount to, over plain values.
-use Rattle.std.specs.Prelude.{◌≡◌, refl, Bool, true, false, cond, ℕ}
+use Rattle.std.specs.Result.{is_ok}
+use Rattle.std.specs.Prelude.{◌≡◌, refl, Bool, true, false, cond, ℕ, Option, Some, None, Result, Ok, Err}
 use Rattle.std.proofs.Common.{sym, ◌∙◌, arith}
 use Rattle.std.proofs.Math.Path.{ap}
 use Rattle.port_tables.specs.Entries.{ports_on}
 use Rattle.portgraph.specs.Lookups.{meta_at, port_index, count_in, capacity_in, is_some}
 use Rattle.port_tables.specs.declared.direction.Direction.{Direction}
 use Rattle.port_tables.specs.declared.index.PortOffset.{PortOffset}
-use Rattle.port_tables.specs.declared.index.MaybePortIndex.{MaybePortIndex}
 use Rattle.port_tables.specs.declared.node_entry.NodeMeta.{NodeMeta}
-use Rattle.port_tables.specs.declared.node_entry.MaybeNodeMeta.{MaybeNodeMeta}
-use Rattle.port_tables.specs.declared.node_entry.MaybeNodeMeta.TheVariants as maybe_meta
 use Rattle.multiportgraph.specs.Reading.{position_of, is_hidden, seen}
 use Rattle.multi_tables.specs.Forms.{Port, visible}
 use Rattle.multiportgraph.specs.Wires.{is_block}
@@ -18,48 +16,49 @@ use Rattle.multiportgraph.specs.Lookups.{direction_seen, direction_of, node_seen
 use Rattle.multiportgraph.specs.declared.multiportgraph.MultiPortGraph.{MultiPortGraph}
 use Rattle.multi_tables.specs.declared.answers.Refusal.{Refusal}
 use Rattle.multi_tables.specs.declared.answers.Refusal.TheVariants.{UnknownNode, HiddenNode}
-use Rattle.multiportgraph.specs.declared.lookups.BlockFound.{BlockFound}
-use Rattle.multiportgraph.specs.declared.lookups.BlockFound.TheVariants as found
-use Rattle.multiportgraph.specs.declared.lookups.OffsetAnswer.TheVariants as offset_of_lem
-use Rattle.multiportgraph.specs.declared.lookups.CountAnswer.TheVariants as count_of
 use Rattle.multiportgraph.specs.CodeForms.{block_in, block_found}
+use Rattle.port_tables.specs.declared.index.PortIndex.{PortIndex}
 
 -- Nodes.
 
 -- what was found, as a start has it
-abbrev pub start_of : BlockFound → Start
-start_of (found.Block k) = started
-start_of (found.Refused r) = refused r
+abbrev pub start_of : Result NodeMeta Refusal → Start
+start_of (Ok k) = started
+start_of (Err r) = refused r
 
-abbrev pub found_block : BlockFound → Bool
-found_block (found.Block k) = true
-found_block (found.Refused r) = false
+abbrev pub found_block : Result NodeMeta Refusal → Bool
+found_block (Ok k) = true
+found_block (Err r) = false
 
-start_by : (h : Bool) (k : MaybeNodeMeta) → start_of (block_in h k) ≡ cond (is_some k) (cond h (refused HiddenNode) started) (refused UnknownNode)
-start_by h maybe_meta.None = refl
-start_by true (maybe_meta.Some k) = refl
-start_by false (maybe_meta.Some k) = refl
+pub found_is_ok : (f : Result NodeMeta Refusal) → is_ok f ≡ found_block f
+found_is_ok (Ok k) = refl
+found_is_ok (Err r) = refl
 
-block_by : (h : Bool) (k : MaybeNodeMeta) → found_block (block_in h k) ≡ cond h false (is_some k)
-block_by true maybe_meta.None = refl
-block_by false maybe_meta.None = refl
-block_by true (maybe_meta.Some k) = refl
-block_by false (maybe_meta.Some k) = refl
+start_by : (h : Bool) (k : Option NodeMeta) → start_of (block_in h k) ≡ cond (is_some k) (cond h (refused HiddenNode) started) (refused UnknownNode)
+start_by h None = refl
+start_by true (Some k) = refl
+start_by false (Some k) = refl
 
-meta_by : (h : Bool) (a : MaybeNodeMeta) (k : NodeMeta) → block_in h a ≡ found.Block k → (a ≡ maybe_meta.Some k) × (h ≡ false)
-meta_by h maybe_meta.None k e = let z : ◌≡◌ {A = ℕ} 0 1 = cc in absurd (omega arith)
-meta_by true (maybe_meta.Some b) k e = let z : ◌≡◌ {A = ℕ} 0 1 = cc in absurd (omega arith)
-meta_by false (maybe_meta.Some b) k e = (cc, refl)
+block_by : (h : Bool) (k : Option NodeMeta) → found_block (block_in h k) ≡ cond h false (is_some k)
+block_by true None = refl
+block_by false None = refl
+block_by true (Some k) = refl
+block_by false (Some k) = refl
+
+meta_by : (h : Bool) (a : Option NodeMeta) (k : NodeMeta) → block_in h a ≡ Ok k → (a ≡ Some k) × (h ≡ false)
+meta_by h None k e = let z : ◌≡◌ {A = ℕ} 0 1 = cc in absurd (omega arith)
+meta_by true (Some b) k e = let z : ◌≡◌ {A = ℕ} 0 1 = cc in absurd (omega arith)
+meta_by false (Some b) k e = (cc, refl)
 
 module _ (m : MultiPortGraph) (n : ℕ) where
-  pub block_unknown : maybe_meta.None ≡ meta_at m.graph n → found.Refused UnknownNode ≡ block_found m n
+  pub block_unknown : None ≡ meta_at m.graph n → Err UnknownNode ≡ block_found m n
   unfolding block_found
   block_unknown e = ap (block_in (is_hidden m n)) e
 
-  pub block_flagged : (k : NodeMeta) (q : Bool) → maybe_meta.Some k ≡ meta_at m.graph n → is_hidden m n ≡ q
-      → cond q (found.Refused HiddenNode) (found.Block k) ≡ block_found m n
+  pub block_flagged : (k : NodeMeta) (q : Bool) → Some k ≡ meta_at m.graph n → is_hidden m n ≡ q
+      → cond q (Err HiddenNode) (Ok k) ≡ block_found m n
   unfolding block_found
-  block_flagged k q e h = ap (λ x. block_in x (maybe_meta.Some k)) (sym h) ∙ ap (block_in (is_hidden m n)) e
+  block_flagged k q e h = ap (λ x. block_in x (Some k)) (sym h) ∙ ap (block_in (is_hidden m n)) e
 
   -- a start is refused as the block is
   pub start_is : start_of (block_found m n) ≡ start_at_node m n
@@ -70,38 +69,38 @@ module _ (m : MultiPortGraph) (n : ℕ) where
   unfolding block_found is_block
   block_is = block_by (is_hidden m n) (meta_at m.graph n)
 
-  pub meta_is : (k : NodeMeta) → block_found m n ≡ found.Block k → meta_at m.graph n ≡ maybe_meta.Some k
+  pub meta_is : (k : NodeMeta) → block_found m n ≡ Ok k → meta_at m.graph n ≡ Some k
   unfolding block_found
   meta_is k e = (meta_by (is_hidden m n) (meta_at m.graph n) k e).0
 
-  pub start_at : (f : BlockFound) → block_found m n ≡ f → start_of f ≡ start_at_node m n
+  pub start_at : (f : Result NodeMeta Refusal) → block_found m n ≡ f → start_of f ≡ start_at_node m n
   start_at f e = ap start_of (sym e) ∙ start_is
 
-  pub block_at : (f : BlockFound) → block_found m n ≡ f → found_block f ≡ is_block m n
+  pub block_at : (f : Result NodeMeta Refusal) → block_found m n ≡ f → found_block f ≡ is_block m n
   block_at f e = ap found_block (sym e) ∙ block_is
 
   module _ (d : Direction) where
-    pub ports_refused : (r : Refusal) → block_found m n ≡ found.Refused r → count_of.Refused r ≡ num_ports_of m n d
+    pub ports_refused : (r : Refusal) → block_found m n ≡ Err r → Err r ≡ num_ports_of m n d
     unfolding num_ports_of
-    ports_refused r e = ap (λ s. counted s (count_in (meta_at m.graph n) d)) (start_at (found.Refused r) e)
+    ports_refused r e = ap (λ s. counted s (count_in (meta_at m.graph n) d)) (start_at (Err r) e)
 
-    pub ports_counted : (k : NodeMeta) (c : ℕ) → block_found m n ≡ found.Block k → c ≡ ports_on k d → count_of.Count c ≡ num_ports_of m n d
+    pub ports_counted : (k : NodeMeta) (c : ℕ) → block_found m n ≡ Ok k → c ≡ ports_on k d → Ok c ≡ num_ports_of m n d
     unfolding num_ports_of
     ports_counted k c e f =
-        ap count_of.Count (f ∙ ap (λ x. count_in x d) (sym (meta_is k e)))
-        ∙ ap (λ s. counted s (count_in (meta_at m.graph n) d)) (start_at (found.Block k) e)
+        ap Ok (f ∙ ap (λ x. count_in x d) (sym (meta_is k e)))
+        ∙ ap (λ s. counted s (count_in (meta_at m.graph n) d)) (start_at (Ok k) e)
 
-  pub capacity_refused : (r : Refusal) → block_found m n ≡ found.Refused r → count_of.Refused r ≡ capacity_of m n
+  pub capacity_refused : (r : Refusal) → block_found m n ≡ Err r → Err r ≡ capacity_of m n
   unfolding capacity_of
-  capacity_refused r e = ap (λ s. counted s (capacity_in (meta_at m.graph n))) (start_at (found.Refused r) e)
+  capacity_refused r e = ap (λ s. counted s (capacity_in (meta_at m.graph n))) (start_at (Err r) e)
 
-  pub capacity_counted : (k : NodeMeta) (c : ℕ) → block_found m n ≡ found.Block k → c ≡ k.capacity → count_of.Count c ≡ capacity_of m n
+  pub capacity_counted : (k : NodeMeta) (c : ℕ) → block_found m n ≡ Ok k → c ≡ k.capacity → Ok c ≡ capacity_of m n
   unfolding capacity_of
   capacity_counted k c e f =
-      ap count_of.Count (f ∙ ap capacity_in (sym (meta_is k e)))
-      ∙ ap (λ s. counted s (capacity_in (meta_at m.graph n))) (start_at (found.Block k) e)
+      ap Ok (f ∙ ap capacity_in (sym (meta_is k e)))
+      ∙ ap (λ s. counted s (capacity_in (meta_at m.graph n))) (start_at (Ok k) e)
 
-  pub index_at : (o : PortOffset) (f : BlockFound) (p : MaybePortIndex) → block_found m n ≡ f → p ≡ port_index m.graph n o
+  pub index_at : (o : PortOffset) (f : Result NodeMeta Refusal) (p : Option PortIndex) → block_found m n ≡ f → p ≡ port_index m.graph n o
       → port_found (start_of f) p ≡ port_index_of m n o
   unfolding port_index_of
   index_at o f p e h = ap (port_found (start_of f)) h ∙ ap (λ s. port_found s (port_index m.graph n o)) (start_at f e)
@@ -122,8 +121,8 @@ module _ (m : MultiPortGraph) (p : ℕ) where
   offset_at s e = ap (offset_seen m p) (sym e)
 
   pub offset_found : (n : ℕ) (d : Direction) (i : ℕ) → seen m p ≡ visible n d → i ≡ position_of m.graph p
-      → offset_of_lem.Found (record { direction = d; index = i }) ≡ offset_of m p
-  offset_found n d i e f = ap (λ (x : ℕ). offset_of_lem.Found (record { direction = d; index = x })) f ∙ offset_at (visible n d) e
+      → Ok (record { direction = d; index = i }) ≡ offset_of m p
+  offset_found n d i e f = ap (λ (x : ℕ). Ok (record { direction = d; index = x })) f ∙ offset_at (visible n d) e
 
   pub fan_out_at : (s : Port) → seen m p ≡ s → fan_out_seen m p s ≡ port_fan_out m p
   unfolding port_fan_out

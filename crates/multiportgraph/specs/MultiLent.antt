@@ -1,6 +1,6 @@
 -- The graph's tables as a run lends them, over the lower crate's: each an array of its own, with the numbers that stand outside.
 -- What is read off them, and what the steps of a call over them presume and tell.
-use Rattle.std.specs.Prelude.{◌≡◌, List, Bool, false, cond, ℕ, ◌+◌, ◌≤◌, eqb, length}
+use Rattle.std.specs.Prelude.{◌≡◌, List, Bool, false, cond, ℕ, ◌+◌, ◌≤◌, eqb, length, Option, Some, None, Ok, Err, Result}
 use Rattle.port_tables.specs.Limits.{node_slots, port_slots, node_ports}
 use Rattle.port_tables.specs.Entries.{port_entry}
 use Rattle.port_tables.specs.Tables.{at}
@@ -12,14 +12,10 @@ use Rattle.port_tables.specs.NodeWords.{meta_in}
 use Rattle.port_tables.specs.declared.direction.Direction.{Direction}
 use Rattle.port_tables.specs.declared.direction.Direction.TheVariants.{Incoming, Outgoing}
 use Rattle.port_tables.specs.declared.node_entry.NodeMeta.{NodeMeta}
-use Rattle.port_tables.specs.declared.node_entry.MaybeNodeMeta.{MaybeNodeMeta}
-use Rattle.port_tables.specs.declared.node_entry.MaybeNodeMeta.TheVariants as maybe_meta
 use Rattle.port_tables.specs.declared.port_entry.PortEntry.{PortEntry}
 use Rattle.port_tables.specs.declared.port_entry.PortEntry.TheVariants as port_variants
 use Rattle.port_tables.specs.declared.lent.Counts.{Counts}
 use Rattle.multiportgraph.specs.Graph.{multi, with_marks}
-use Rattle.portgraph.specs.declared.resize.SetAnswer as lower_set
-use Rattle.portgraph.specs.declared.resize.SetAnswer.TheVariants as lower_set_variants
 use Rattle.multiportgraph.specs.Reading.{port_number, is_hidden}
 use Rattle.multiportgraph.specs.WellFormed.{MultiWf}
 use Rattle.multi_tables.specs.Forms.{flag_at}
@@ -30,6 +26,8 @@ use Rattle.multiportgraph.specs.declared.prepare.Prepared.{Prepared}
 use Rattle.multiportgraph.specs.declared.lent.Totals.{Totals}
 use Rattle.multiportgraph.specs.declared.lent.PreparedLent.{PreparedLent}
 use Rattle.multiportgraph.specs.HiddenNodes.{marks_moved, remove_all}
+use Rattle.portgraph.specs.declared.resize.SetError.TheVariants as set_error
+use Rattle.portgraph.specs.declared.resize.SetError.{SetError}
 
 -- the graph that lent tables and numbers are
 abbrev pub multi_in : List ℕ → List ℕ → List ℕ → List ℕ → List Bool → List Bool → Totals → MultiPortGraph
@@ -81,30 +79,30 @@ pub record Sound (m : MultiPortGraph) : Type 0 where
   pub marks_long : length m.multiport ≡ port_slots
   pub flags_long : length m.copy_node ≡ node_slots
 
-abbrev pub FitsIf : MaybeNodeMeta → Type 0
-FitsIf maybe_meta.None = Unit {0}
-FitsIf (maybe_meta.Some k) = BlockFits k
+abbrev pub FitsIf : Option NodeMeta → Type 0
+FitsIf None = Unit {0}
+FitsIf (Some k) = BlockFits k
 
 -- a block that is there, with counts that are few enough
 pub record Resizes (m : MultiPortGraph) (n : ℕ) (k : NodeMeta) (incoming outgoing : ℕ) : Type 0 where
   pub wf : MultiWf m
   pub few : incoming + outgoing ≤ node_ports
-  pub meta : maybe_meta.Some k ≡ meta_at m.graph n
+  pub meta : Some k ≡ meta_at m.graph n
   pub seen : is_hidden m n ≡ false
 
 -- What the steps tell.
 
 -- the marks of a node that was k move with its ports
 abbrev pub marks_follow : MultiPortGraph → ℕ → NodeMeta → MultiPortGraph
-marks_follow m n k = with_marks m (marks_moved m.multiport (maybe_meta.Some k) (meta_at m.graph n))
+marks_follow m n k = with_marks m (marks_moved m.multiport (Some k) (meta_at m.graph n))
 
 -- what follows a change of counts in the single-link graph: marks move, and listed hidden nodes go; a refused one has no consequence
-abbrev pub settled : MultiPortGraph → ℕ → NodeMeta → List ℕ → lower_set.SetAnswer → MultiPortGraph
-settled m n k l (lower_set_variants.Set e) = remove_all (marks_follow m n k) l
-settled m n k l lower_set_variants.TooManyPorts = m
-settled m n k l lower_set_variants.UnknownNode = m
-settled m n k l lower_set_variants.MovesTooShort = m
-settled m n k l lower_set_variants.NoRoom = m
+abbrev pub settled : MultiPortGraph → ℕ → NodeMeta → List ℕ → Result ℕ SetError → MultiPortGraph
+settled m n k l (Ok e) = remove_all (marks_follow m n k) l
+settled m n k l (Err set_error.TooManyPorts) = m
+settled m n k l (Err set_error.UnknownNode) = m
+settled m n k l (Err set_error.MovesTooShort) = m
+settled m n k l (Err set_error.NoRoom) = m
 
 -- a prepared end with its graph
 abbrev pub prepared_in : MultiPortGraph → PreparedLent → Prepared

@@ -1,5 +1,5 @@
 -- What calls do with what they name (`NamedEnds` of `multi_tables`): links, cuts and prepared ends by the inner ports of their ends.
-use Rattle.std.specs.Prelude.{ℕ, ◌+◌, ◌-◌}
+use Rattle.std.specs.Prelude.{ℕ, ◌+◌, ◌-◌, Option, Result, Ok, Err}
 use Rattle.port_tables.specs.Tables.{at, link_both, cut, link_count}
 use Rattle.portgraph.specs.Calls.{with_links}
 use Rattle.port_tables.specs.declared.direction.Direction.{Direction}
@@ -10,21 +10,16 @@ use Rattle.multiportgraph.specs.Cases as cases
 use Rattle.multi_tables.specs.TableReads.{wire_in}
 use Rattle.multiportgraph.specs.declared.multiportgraph.MultiPortGraph.{MultiPortGraph}
 use Rattle.multi_tables.specs.declared.answers.SubportIndex.{SubportIndex}
-use Rattle.multi_tables.specs.declared.answers.CutAnswer.{CutAnswer}
-use Rattle.multi_tables.specs.declared.answers.CutAnswer.TheVariants as cutting
 use Rattle.multiportgraph.specs.declared.multiportgraph.PortUnlinked.{PortUnlinked}
-use Rattle.multiportgraph.specs.declared.multiportgraph.LinkAnswer.TheVariants as link
 use Rattle.multiportgraph.specs.declared.multiportgraph.PortsLinked.{PortsLinked}
-use Rattle.multi_tables.specs.declared.named.NamedEnd.{NamedEnd}
-use Rattle.multi_tables.specs.declared.named.NamedEnd.TheVariants as end
-use Rattle.multi_tables.specs.declared.named.NamedLink.{NamedLink}
-use Rattle.multi_tables.specs.declared.named.NamedLink.TheVariants as ends
 use Rattle.multi_tables.specs.declared.named.EndNeed.{EndNeed}
 use Rattle.multi_tables.specs.declared.named.EndNeed.TheVariants as need
 use Rattle.multi_tables.specs.declared.named.LinkNeed.{LinkNeed}
 use Rattle.multi_tables.specs.declared.named.LinkNeed.TheVariants as needs
 use Rattle.multiportgraph.specs.Graph.{with_graph}
 use Rattle.multiportgraph.specs.Cases.{cut_refused, link_refused}
+use Rattle.multi_tables.specs.declared.answers.Refusal.{Refusal}
+use Rattle.multi_tables.specs.declared.answers.PortPlace.{PortPlace}
 
 -- What the calls do with what they name.
 
@@ -35,25 +30,25 @@ joined_at m x y = with_graph m (with_links m.graph (link_both m.graph.port_link 
 abbrev pub cut_at : MultiPortGraph → ℕ → MultiPortGraph
 cut_at m x = with_graph m (with_links m.graph (cut m.graph.port_link x) (m.graph.link_count - link_count (at m.graph.port_link x)))
 
-abbrev pub read_named : MultiPortGraph → NamedEnd → CutAnswer
-read_named m (end.At x) = wire_in m.graph.port_link m.graph.port_meta m.copy_node x
-read_named m (end.Refused r) = cutting.Refused r
+abbrev pub read_named : MultiPortGraph → Result ℕ Refusal → Result (Option (SubportIndex × PortPlace)) Refusal
+read_named m (Ok x) = wire_in m.graph.port_link m.graph.port_meta m.copy_node x
+read_named m (Err r) = Err r
 
-abbrev pub cut_named : MultiPortGraph → NamedEnd → PortUnlinked
-cut_named m (end.At x) = record { graph = cut_at m x; answer = wire_in m.graph.port_link m.graph.port_meta m.copy_node x }
-cut_named m (end.Refused r) = cut_refused m r
+abbrev pub cut_named : MultiPortGraph → Result ℕ Refusal → PortUnlinked
+cut_named m (Ok x) = record { graph = cut_at m x; answer = wire_in m.graph.port_link m.graph.port_meta m.copy_node x }
+cut_named m (Err r) = cut_refused m r
 
-abbrev pub link_by : MultiPortGraph → SubportIndex → SubportIndex → NamedLink → PortsLinked
-link_by m s t (ends.Ends x y) = record { graph = joined_at m x y; answer = link.Linked s t }
-link_by m s t (ends.Refused r) = link_refused m r
+abbrev pub link_by : MultiPortGraph → SubportIndex → SubportIndex → Result (ℕ × ℕ) Refusal → PortsLinked
+link_by m s t (Ok (x, y)) = record { graph = joined_at m x y; answer = Ok (s, t) }
+link_by m s t (Err r) = link_refused m r
 
 abbrev pub prepared_by : MultiPortGraph → ℕ → Direction → EndNeed → hiding.Prepared
 prepared_by m p d (need.Ready x o) = hiding.ready m x o
 prepared_by m p d need.Grow = hiding.grow m (copy_node m p) d
 prepared_by m p d need.Split = hiding.split m p d
 
-abbrev pub linked_by : MultiPortGraph → ℕ → ℕ → LinkNeed → PortsLinked
-linked_by m a b (needs.Ends x o y r) = record { graph = joined_at m x y; answer = link.Linked (subport# a o) (subport# b r) }
-linked_by m a b (needs.Refused r) = link_refused m r
-linked_by m a b (needs.First d) = cases.link_first m b (hiding.prepare m a d)
-linked_by m a b (needs.Both d e) = cases.link_live m a d b e (hiding.prepare m a d)
+abbrev pub linked_by : MultiPortGraph → ℕ → ℕ → Result LinkNeed Refusal → PortsLinked
+linked_by m a b (Ok (needs.Ends x o y r)) = record { graph = joined_at m x y; answer = Ok (subport# a o, subport# b r) }
+linked_by m a b (Err r) = link_refused m r
+linked_by m a b (Ok (needs.First d)) = cases.link_first m b (hiding.prepare m a d)
+linked_by m a b (Ok (needs.Both d e)) = cases.link_live m a d b e (hiding.prepare m a d)

@@ -1,5 +1,5 @@
 -- What a call names by the tables is what it names by the graph, so that each call is what Named makes of it.
-use Rattle.std.specs.Prelude.{◌≡◌, Bool, List, ℕ, ◌+◌, ◌-◌, leb}
+use Rattle.std.specs.Prelude.{◌≡◌, Bool, List, ℕ, ◌+◌, ◌-◌, leb, Option, Some, None, Result, Ok, Err}
 use Rattle.std.proofs.Math.Path.{refl, sym, ap}
 use Rattle.std.proofs.Common.{◌∙◌, arith}
 use Rattle.std.proofs.Math.Bool.{true, false, cond}
@@ -21,11 +21,8 @@ use Rattle.port_tables.specs.declared.port_entry.PortMeta.{PortMeta}
 use Rattle.port_tables.specs.declared.port_entry.PortEntry.{PortEntry}
 use Rattle.port_tables.specs.declared.port_entry.PortEntry.TheVariants as port_variants
 use Rattle.portgraph.specs.declared.portgraph.PortGraph.{PortGraph}
-use Rattle.portgraph.specs.declared.portgraph.PortLink.{PortLink}
-use Rattle.portgraph.specs.declared.portgraph.PortLink.TheVariants as link_variants
 use Rattle.portgraph.specs.declared.portgraph.PortsLinked as lower_linked
 use Rattle.portgraph.specs.declared.portgraph.PortUnlinked as lower_unlinked
-use Rattle.portgraph.specs.declared.portgraph.LinkAnswer.TheVariants as lower_link
 use Rattle.portgraph.specs.declared.alloc.NodeRemoved.{NodeRemoved}
 use Rattle.multiportgraph.specs.Reading.{is_linked, has_link, is_split, seen, copy_node, subports, subport_at, end_at, port_of, as_read, copy_side, standing_of, link_of_end, far_subport}
 use Rattle.multi_tables.specs.Forms.{Port, dead, hidden, visible, End, inner, lacking, subport#, seen_as, flag_at, put_flag, lowest_unlinked, good_offset}
@@ -49,18 +46,10 @@ use Rattle.multiportgraph.specs.declared.multiportgraph.MultiPortGraph.{MultiPor
 use Rattle.multi_tables.specs.declared.answers.SubportIndex.{SubportIndex}
 use Rattle.multi_tables.specs.declared.answers.Refusal.{Refusal}
 use Rattle.multi_tables.specs.declared.answers.Refusal.TheVariants.{BadOffset, IncompatibleDirections, AlreadyLinked}
-use Rattle.multi_tables.specs.declared.answers.CutAnswer.{CutAnswer}
-use Rattle.multi_tables.specs.declared.answers.CutAnswer.TheVariants as cutting
 use Rattle.multiportgraph.specs.declared.multiportgraph.PortUnlinked.{PortUnlinked}
-use Rattle.multiportgraph.specs.declared.multiportgraph.LinkAnswer.TheVariants as link
 use Rattle.multiportgraph.specs.declared.multiportgraph.PortsLinked.{PortsLinked}
 use Rattle.multi_tables.specs.declared.seen.SeenPort.{SeenPort}
 use Rattle.multiportgraph.specs.declared.prepare.Prepared as prepare_forms
-use Rattle.multi_tables.specs.declared.named.NamedEnd.{NamedEnd}
-use Rattle.multi_tables.specs.declared.named.NamedEnd.TheVariants as end
-use Rattle.multi_tables.specs.declared.named.NamedLink.{NamedLink}
-use Rattle.multi_tables.specs.declared.named.NamedLink.TheVariants as ends
-use Rattle.multi_tables.specs.declared.named.NamedPair.{NamedPair}
 use Rattle.multi_tables.specs.declared.named.EndNeed.{EndNeed}
 use Rattle.multi_tables.specs.declared.named.EndNeed.TheVariants as need
 use Rattle.multi_tables.specs.declared.named.LinkNeed.{LinkNeed}
@@ -70,6 +59,9 @@ use Rattle.multiportgraph.specs.HiddenNodes.{unsplit, lowest_free, reuse, prepar
 use Rattle.multiportgraph.specs.Cases.{link_of_seen, cut_sub_seen, cut_end, cut_refused, link_refused, link_inner, link_ends, link_second_end, link_first_end, link_sub_seen, link_first, link_second, link_clean_by}
 use Rattle.multiportgraph.specs.CaseLaws.{cut_sub_cases, subport_link_cases, link_cases, link_clean_cases, link_sub_cases}
 use Rattle.multiportgraph.specs.Presumed.{OnBlock, LinkedPort, SplitPort, BothOnBlock}
+use Rattle.port_tables.specs.declared.index.PortIndex.{PortIndex}
+use Rattle.portgraph.specs.declared.portgraph.NoSuchPort.{NoSuchPort}
+use Rattle.multi_tables.specs.declared.answers.PortPlace.{PortPlace}
 
 module _ {m : MultiPortGraph} {M : Model} (f : Fine m M) where
   -- A subport that is named.
@@ -95,7 +87,7 @@ module _ {m : MultiPortGraph} {M : Model} (f : Fine m M) where
         let k = end_is_port f p n d s o x t in (
           sym w,
           (λ i. record { graph = with_graph m (cut_live x k.0 k.1 i); answer = far_subport m (cut_answer x k.0 k.1 i) })
-              ∙ ap (λ (a : CutAnswer). record { graph = cut_at m x; answer = a }) (sym w),
+              ∙ ap (λ (a : Result (Option (SubportIndex × PortPlace)) Refusal). record { graph = cut_at m x; answer = a }) (sym w),
         )
 
     by_seen : (s : Port) → seen m p ≡ s →
@@ -112,8 +104,8 @@ module _ {m : MultiPortGraph} {M : Model} (f : Fine m M) where
     unfolding end_named
     link_of_named = subport_link_cases m p o ∙ go (good_offset o)
       where
-        go : (b : Bool) → cond b (link_of_seen m p o (seen m p)) (cutting.Refused BadOffset)
-            ≡ read_named m (cond b (end_seen m.multiport m.graph.port_link m.graph.port_meta m.copy_node p o (seen_in m.graph.port_meta m.copy_node p)) (end.Refused BadOffset))
+        go : (b : Bool) → cond b (link_of_seen m p o (seen m p)) (Err BadOffset)
+            ≡ read_named m (cond b (end_seen m.multiport m.graph.port_link m.graph.port_meta m.copy_node p o (seen_in m.graph.port_meta m.copy_node p)) (Err BadOffset))
         go true = (by_seen (seen m p) refl).0 ∙ ap (λ (s : Port). read_named m (end_seen m.multiport m.graph.port_link m.graph.port_meta m.copy_node p o s)) (sym (seen_read f p))
         go false = refl
 
@@ -122,7 +114,7 @@ module _ {m : MultiPortGraph} {M : Model} (f : Fine m M) where
     cut_of_named = cut_sub_cases m p o ∙ go (good_offset o)
       where
         go : (b : Bool) → cond b (cut_sub_seen m p o (seen m p)) (cut_refused m BadOffset)
-            ≡ cut_named m (cond b (end_seen m.multiport m.graph.port_link m.graph.port_meta m.copy_node p o (seen_in m.graph.port_meta m.copy_node p)) (end.Refused BadOffset))
+            ≡ cut_named m (cond b (end_seen m.multiport m.graph.port_link m.graph.port_meta m.copy_node p o (seen_in m.graph.port_meta m.copy_node p)) (Err BadOffset))
         go true = (by_seen (seen m p) refl).1 ∙ ap (λ (s : Port). cut_named m (end_seen m.multiport m.graph.port_link m.graph.port_meta m.copy_node p o s)) (sym (seen_read f p))
         go false = refl
 
@@ -143,15 +135,15 @@ module _ {m : MultiPortGraph} {M : Model} (f : Fine m M) where
       where
         go : (a b c : Bool) → same_side k.direction l.direction ≡ a → eqb (at m.graph.port_link x) 0 ≡ b → eqb (at m.graph.port_link y) 0 ≡ c →
             link_ends m s t x y
-            ≡ link_by m s t (cond a (ends.Refused (IncompatibleDirections (port# x) (port# y) k.direction))
-            (cond b (cond c (ends.Ends x y) (ends.Refused (AlreadyLinked (port# y)))) (ends.Refused (AlreadyLinked (port# x)))))
+            ≡ link_by m s t (cond a (Err (IncompatibleDirections (port# x) (port# y) k.direction))
+            (cond b (cond c (Ok (x, y)) (Err (AlreadyLinked (port# y)))) (Err (AlreadyLinked (port# x)))))
         go true b c u v w = sym (ends_by _ (link_by_sides m.graph x y k l (sym h) (sym i) true u))
         go false false c u v w = sym (ends_by _ (link_first_taken m.graph x y k l (sym h) (sym i) u (eqb-false _ _ v)))
         go false true false u v w = sym (ends_by _ (link_second_taken m.graph x y k l (sym h) (sym i) u (eqb-true _ _ v) (eqb-false _ _ w)))
         go false true true u v w = sym (ends_by _ (link_made m.graph x y k l (sym h) (sym i) _ u (eqb-true _ _ v) (eqb-true _ _ w) refl))
 
   module _ (p o q r : ℕ) where
-    abbrev both : NamedLink → PortsLinked
+    abbrev both : Result (ℕ × ℕ) Refusal → PortsLinked
     both = link_by m (as_read m p o) (as_read m q r)
 
     second_by : (n : ℕ) (d : Direction) → seen m p ≡ visible n d → (x : ℕ) → end_at m p d o ≡ inner x → (k : ℕ) (e : Direction) → seen m q ≡ visible k e → (v : End) → end_at m q e r ≡ v →
@@ -204,7 +196,7 @@ module _ {m : MultiPortGraph} {M : Model} (f : Fine m M) where
         ∙ (λ i. link_by m (sym (read_is p o) i) (sym (read_is q r) i) (link_named m.multiport m.graph.port_link m.graph.port_meta m.copy_node p o q r))
       where
         go : (a b : Bool) → cond a (cond b (link_sub_seen m p o q r (seen m p) (seen m q)) (link_refused m BadOffset)) (link_refused m BadOffset)
-            ≡ both (cond a (cond b (both_seen m.multiport m.graph.port_link m.graph.port_meta m.copy_node p o q r (seen_in m.graph.port_meta m.copy_node p) (seen_in m.graph.port_meta m.copy_node q)) (ends.Refused BadOffset)) (ends.Refused BadOffset))
+            ≡ both (cond a (cond b (both_seen m.multiport m.graph.port_link m.graph.port_meta m.copy_node p o q r (seen_in m.graph.port_meta m.copy_node p) (seen_in m.graph.port_meta m.copy_node q)) (Err BadOffset)) (Err BadOffset))
         go false b = refl
         go true false = refl
         go true true =
@@ -222,7 +214,7 @@ pub record ReadyEnd (m : MultiPortGraph) (d : Direction) (x : ℕ) : Type 0 wher
 
 -- two such ends of opposite sides are linked
 pub ready_joined : {m : MultiPortGraph} (d e : Direction) (x y : ℕ) → ReadyEnd m d x → ReadyEnd m e y → same_side d e ≡ false → {t : List ℕ} → t ≡ link_both m.graph.port_link x y →
-    ◌≡◌ {A = lower_linked.PortsLinked} (record { graph = with_links m.graph t (m.graph.link_count + 1); answer = lower_link.Linked (port# x) (port# y) }) (link_ports m.graph x y)
+    ◌≡◌ {A = lower_linked.PortsLinked} (record { graph = with_links m.graph t (m.graph.link_count + 1); answer = Ok (port# x, port# y) }) (link_ports m.graph x y)
 ready_joined {m} d e x y u v h k =
     link_made m.graph x y u.meta v.meta (sym u.live) (sym v.live) _ ((λ i. same_side (u.side i) (v.side i)) ∙ h) u.free v.free k
 
@@ -246,7 +238,7 @@ module _ {m : MultiPortGraph} (w : MultiWf m) where
         ap (λ (e : PortEntry). is_linked (link_of m.graph p e)) (ap (port_at m.graph) (sym block.slot) ∙ port_of_place w.fine.good w.fine.holds block.place block.is_seen.0)
         ∙ go (eqb (at m.graph.port_link p) 0)
       where
-        go : (b : Bool) → is_linked (cond b link_variants.Unlinked (link_variants.Linked (port# (at m.graph.port_link p - 1)))) ≡ cond b false true
+        go : (b : Bool) → is_linked (cond b (Ok None) (Ok (Some (port# (at m.graph.port_link p - 1))))) ≡ cond b false true
         go true = refl
         go false = refl
 
@@ -303,11 +295,11 @@ module _ {m : MultiPortGraph} (w : MultiWf m) where
       module _ (k : ℕ) (e : Direction) (t : seen m b ≡ visible k e) where
         ends_law : (x o y r : ℕ) (c : Bool) → ReadyEnd m d x → ReadyEnd m e y → same_side d e ≡ c →
             cond c (link_refused m (IncompatibleDirections (port# x) (port# y) d))
-            (record { graph = with_graph m (link_ports m.graph x y).graph; answer = link.Linked (subport# a o) (subport# b r) })
-            ≡ linked_by m a b (cond c (needs.Refused (IncompatibleDirections (port# x) (port# y) d)) (needs.Ends x o y r))
+            (record { graph = with_graph m (link_ports m.graph x y).graph; answer = Ok (subport# a o, subport# b r) })
+            ≡ linked_by m a b (cond c (Err (IncompatibleDirections (port# x) (port# y) d)) (Ok (needs.Ends x o y r)))
         ends_law x o y r true u v h = refl
         ends_law x o y r false u v h =
-            ap (λ (g : PortGraph). record { graph = with_graph m g; answer = link.Linked (subport# a o) (subport# b r) }) (ap (λ (l : lower_linked.PortsLinked). l.graph) (sym (ready_joined d e x y u v h refl)))
+            ap (λ (g : PortGraph). record { graph = with_graph m g; answer = Ok (subport# a o, subport# b r) }) (ap (λ (l : lower_linked.PortsLinked). l.graph) (sym (ready_joined d e x y u v h refl)))
 
         second_law : (x o : ℕ) (v : EndNeed) → prepare m a d ≡ hiding.ready m x o → prepare m b e ≡ prepared_by m b e v →
             cases.link_live m a d b e (prepare m a d) ≡ linked_by m a b (second_ready d e x o v)
@@ -340,34 +332,34 @@ module _ {m : MultiPortGraph} (w : MultiWf m) where
         ∙ (λ i. linked_by m a b (link_seen m.multiport m.graph.port_link m.graph.port_meta m.copy_node a b (sym (seen_read w.fine a) i) (sym (seen_read w.fine b) i)))
 
     -- where both ends are to be prepared, both are ports of blocks
-    first_not_both : (d : Direction) (v : EndNeed) (i j : Direction) → first_ready b d v ≡ needs.Both i j → ⊥
+    first_not_both : (d : Direction) (v : EndNeed) (i j : Direction) → first_ready b d v ≡ Ok (needs.Both i j) → ⊥
     first_not_both d (need.Ready x o) i j e = zero_is_not_one (cc)
     first_not_both d need.Grow i j e = zero_is_not_one (cc)
     first_not_both d need.Split i j e = zero_is_not_one (cc)
 
     ends_not_both : (d e : Direction) (x o y r : ℕ) (c : Bool) (i j : Direction) →
-        cond c (needs.Refused (IncompatibleDirections (port# x) (port# y) d)) (needs.Ends x o y r) ≡ needs.Both i j → ⊥
+        cond c (Err (IncompatibleDirections (port# x) (port# y) d)) (Ok (needs.Ends x o y r)) ≡ Ok (needs.Both i j) → ⊥
     ends_not_both d e x o y r true i j h = zero_is_not_one (cc)
     ends_not_both d e x o y r false i j h = zero_is_not_one (cc)
 
-    both_sides : (d e : Direction) (u v : EndNeed) (i j : Direction) → both_ready d e u v ≡ needs.Both i j → (d ≡ i) × (e ≡ j)
+    both_sides : (d e : Direction) (u v : EndNeed) (i j : Direction) → both_ready d e u v ≡ Ok (needs.Both i j) → (d ≡ i) × (e ≡ j)
     both_sides d e (need.Ready x o) (need.Ready y r) i j h = absurd (ends_not_both d e x o y r (same_side d e) i j h)
     both_sides d e (need.Ready x o) need.Grow i j h = (cc, cc)
     both_sides d e (need.Ready x o) need.Split i j h = (cc, cc)
     both_sides d e need.Grow v i j h = (cc, cc)
     both_sides d e need.Split v i j h = (cc, cc)
 
-    first_side : (d : Direction) (v : EndNeed) (i : Direction) → first_ready b d v ≡ needs.First i → d ≡ i
+    first_side : (d : Direction) (v : EndNeed) (i : Direction) → first_ready b d v ≡ Ok (needs.First i) → d ≡ i
     first_side d (need.Ready x o) i h = absurd (zero_is_not_one (cc))
     first_side d need.Grow i h = cc
     first_side d need.Split i h = cc
 
     ends_not_first : (d e : Direction) (x o y r : ℕ) (c : Bool) (i : Direction) →
-        cond c (needs.Refused (IncompatibleDirections (port# x) (port# y) d)) (needs.Ends x o y r) ≡ needs.First i → ⊥
+        cond c (Err (IncompatibleDirections (port# x) (port# y) d)) (Ok (needs.Ends x o y r)) ≡ Ok (needs.First i) → ⊥
     ends_not_first d e x o y r true i h = zero_is_not_one (cc)
     ends_not_first d e x o y r false i h = zero_is_not_one (cc)
 
-    both_not_first : (d e : Direction) (u v : EndNeed) (i : Direction) → both_ready d e u v ≡ needs.First i → ⊥
+    both_not_first : (d e : Direction) (u v : EndNeed) (i : Direction) → both_ready d e u v ≡ Ok (needs.First i) → ⊥
     both_not_first d e (need.Ready x o) (need.Ready y r) i h = ends_not_first d e x o y r (same_side d e) i h
     both_not_first d e (need.Ready x o) need.Grow i h = zero_is_not_one (cc)
     both_not_first d e (need.Ready x o) need.Split i h = zero_is_not_one (cc)
@@ -375,7 +367,7 @@ module _ {m : MultiPortGraph} (w : MultiWf m) where
     both_not_first d e need.Split v i h = zero_is_not_one (cc)
 
     on_first : (u v : Port) (i : Direction) → seen m a ≡ u → seen m b ≡ v →
-        link_seen m.multiport m.graph.port_link m.graph.port_meta m.copy_node a b u v ≡ needs.First i → OnBlock m a i
+        link_seen m.multiport m.graph.port_link m.graph.port_meta m.copy_node a b u v ≡ Ok (needs.First i) → OnBlock m a i
     unfolding first_need both_need
     on_first dead v i e h z = absurd (zero_is_not_one (cc))
     on_first hidden v i e h z = absurd (zero_is_not_one (cc))
@@ -385,13 +377,13 @@ module _ {m : MultiPortGraph} (w : MultiWf m) where
     on_first (visible n d) (visible k c) i e h z =
         absurd (both_not_first d c (end_need_in m.multiport m.graph.port_link m.graph.port_meta a d) (end_need_in m.multiport m.graph.port_link m.graph.port_meta b c) i z)
 
-    pub first_on_block : (i : Direction) → link_need m.multiport m.graph.port_link m.graph.port_meta m.copy_node a b ≡ needs.First i → OnBlock m a i
+    pub first_on_block : (i : Direction) → link_need m.multiport m.graph.port_link m.graph.port_meta m.copy_node a b ≡ Ok (needs.First i) → OnBlock m a i
     unfolding link_need
     first_on_block i e =
         on_first (seen_in m.graph.port_meta m.copy_node a) (seen_in m.graph.port_meta m.copy_node b) i (sym (seen_read w.fine a)) (sym (seen_read w.fine b)) e
 
     on_blocks : (u v : Port) (i j : Direction) → seen m a ≡ u → seen m b ≡ v →
-        link_seen m.multiport m.graph.port_link m.graph.port_meta m.copy_node a b u v ≡ needs.Both i j → BothOnBlock m a i b j
+        link_seen m.multiport m.graph.port_link m.graph.port_meta m.copy_node a b u v ≡ Ok (needs.Both i j) → BothOnBlock m a i b j
     unfolding first_need both_need
     on_blocks dead v i j e h z = absurd (zero_is_not_one (cc))
     on_blocks hidden v i j e h z = absurd (zero_is_not_one (cc))
@@ -404,7 +396,7 @@ module _ {m : MultiPortGraph} (w : MultiWf m) where
           second = record { wf = w; node = k; is = h ∙ ap (visible k) r.1 };
         }
 
-    pub both_on_blocks : (i j : Direction) → link_need m.multiport m.graph.port_link m.graph.port_meta m.copy_node a b ≡ needs.Both i j → BothOnBlock m a i b j
+    pub both_on_blocks : (i j : Direction) → link_need m.multiport m.graph.port_link m.graph.port_meta m.copy_node a b ≡ Ok (needs.Both i j) → BothOnBlock m a i b j
     unfolding link_need
     both_on_blocks i j e =
         on_blocks (seen_in m.graph.port_meta m.copy_node a) (seen_in m.graph.port_meta m.copy_node b) i j (sym (seen_read w.fine a)) (sym (seen_read w.fine b)) e
@@ -439,22 +431,22 @@ copy_dropped {m} {p} {d} b {copy} {node} {count} s e₀ e₁ e₂ e₃ e₄ f₁
 
 -- What the code of each call comes to.
 module _ {m : MultiPortGraph} (w : MultiWf m) where
-  module _ (p o : ℕ) {e v : NamedEnd} (is : e ≡ end_named m.multiport m.graph.port_link m.graph.port_meta m.copy_node p o) (told : e ≡ v) where
-    pub read_done : {r : CutAnswer} → r ≡ read_named m v → r ≡ subport_link m p o
+  module _ (p o : ℕ) {e v : Result ℕ Refusal} (is : e ≡ end_named m.multiport m.graph.port_link m.graph.port_meta m.copy_node p o) (told : e ≡ v) where
+    pub read_done : {r : Result (Option (SubportIndex × PortPlace)) Refusal} → r ≡ read_named m v → r ≡ subport_link m p o
     read_done h = h ∙ (ap (read_named m) (sym told ∙ is) ∙ sym (link_of_named w.fine p o))
 
     pub cut_done : {r : PortUnlinked} → r ≡ cut_named m v → r ≡ cut_sub m p o
     cut_done h = h ∙ (ap (cut_named m) (sym told ∙ is) ∙ sym (cut_of_named w.fine p o))
 
-  pub link_done : (p o q r : ℕ) {e v : NamedLink} {s t : SubportIndex} {l : PortsLinked} → e ≡ link_named m.multiport m.graph.port_link m.graph.port_meta m.copy_node p o q r → e ≡ v →
+  pub link_done : (p o q r : ℕ) {e v : Result (ℕ × ℕ) Refusal} {s t : SubportIndex} {l : PortsLinked} → e ≡ link_named m.multiport m.graph.port_link m.graph.port_meta m.copy_node p o q r → e ≡ v →
       s ≡ read_in m.multiport p o → t ≡ read_in m.multiport q r → l ≡ link_by m s t v → l ≡ link_sub_if false m p o q r
   link_done p o q r is told a b h = h ∙ ((λ i. link_by m (a i) (b i) ((sym told ∙ is) i)) ∙ sym (sub_of_named w.fine p o q r))
 
-  pub link_refused_lem : (p o q r : ℕ) {e : NamedLink} (x : Refusal) → e ≡ link_named m.multiport m.graph.port_link m.graph.port_meta m.copy_node p o q r → e ≡ ends.Refused x →
+  pub link_refused_lem : (p o q r : ℕ) {e : Result (ℕ × ℕ) Refusal} (x : Refusal) → e ≡ link_named m.multiport m.graph.port_link m.graph.port_meta m.copy_node p o q r → e ≡ Err x →
       link_refused m x ≡ link_sub_if false m p o q r
   link_refused_lem p o q r x is told = link_done p o q r is told refl refl refl
 
-  pub call_done : (a b : ℕ) {e v : LinkNeed} {l : PortsLinked} → e ≡ link_need m.multiport m.graph.port_link m.graph.port_meta m.copy_node a b → e ≡ v →
+  pub call_done : (a b : ℕ) {e v : Result LinkNeed Refusal} {l : PortsLinked} → e ≡ link_need m.multiport m.graph.port_link m.graph.port_meta m.copy_node a b → e ≡ v →
       l ≡ linked_by m a b v → l ≡ link_pair_if false present m a b
   call_done a b is told h = h ∙ (ap (linked_by m a b) (sym told ∙ is) ∙ sym (call_of_need w a b))
 
@@ -464,7 +456,7 @@ module _ {m : MultiPortGraph} (w : MultiWf m) where
   clean_of_pair a b =
       link_clean_cases present m a b ∙ (λ i. link_clean_by present m a b (pair_seen a b (sym (seen_read w.fine a) i) (sym (seen_read w.fine b) i)))
 
-  pub clean_done : (a b : ℕ) {e v : NamedPair} {l : PortsLinked} → e ≡ pair_named m.graph.port_meta m.copy_node a b → e ≡ v →
+  pub clean_done : (a b : ℕ) {e v : Result (Unit {0}) Refusal} {l : PortsLinked} → e ≡ pair_named m.graph.port_meta m.copy_node a b → e ≡ v →
       l ≡ link_clean_by present m a b v → l ≡ link_clean_if false present m a b
   clean_done a b is told h = h ∙ (ap (link_clean_by present m a b) (sym told ∙ is) ∙ sym (clean_of_pair a b))
 
@@ -477,9 +469,9 @@ cut_made m {x} {v} {far} {n} {t} e f g h =
     h ∙ ap (λ (z : ℕ). m.graph.link_count - link_count z) (f ∙ ap (at m.graph.port_link) e) in
     λ i. with_graph m (with_links m.graph (a i) (b i))
 
-pub end_cut : (m : MultiPortGraph) {x v far n : ℕ} {t : List ℕ} {a : CutAnswer} → v ≡ x → far ≡ at m.graph.port_link v → t ≡ cut m.graph.port_link v →
+pub end_cut : (m : MultiPortGraph) {x v far n : ℕ} {t : List ℕ} {a : Result (Option (SubportIndex × PortPlace)) Refusal} → v ≡ x → far ≡ at m.graph.port_link v → t ≡ cut m.graph.port_link v →
     n ≡ m.graph.link_count - link_count far → a ≡ wire_in m.graph.port_link m.graph.port_meta m.copy_node x →
-    ◌≡◌ {A = PortUnlinked} (record { graph = with_graph m (with_links m.graph t n); answer = a }) (cut_named m (end.At x))
+    ◌≡◌ {A = PortUnlinked} (record { graph = with_graph m (with_links m.graph t n); answer = a }) (cut_named m (Ok x))
 end_cut m {x} e f g h k = λ i. record { graph = cut_made m {x = x} e f g h i; answer = k i }
 
 -- two inner ports are linked in the tables
@@ -488,9 +480,9 @@ pub join_made : (m : MultiPortGraph) (x y : ℕ) {t : List ℕ} → t ≡ link_b
 join_made m x y e = ap (λ (l : List ℕ). with_graph m (with_links m.graph l (m.graph.link_count + 1))) e
 
 pub ends_joined : (m : MultiPortGraph) (a b x o y r : ℕ) {t : List ℕ} → t ≡ link_both m.graph.port_link x y →
-    ◌≡◌ {A = PortsLinked} (record { graph = with_graph m (with_links m.graph t (m.graph.link_count + 1)); answer = link.Linked (subport# a o) (subport# b r) })
-    (linked_by m a b (needs.Ends x o y r))
-ends_joined m a b x o y r e = ap (λ (g : MultiPortGraph). record { graph = g; answer = link.Linked (subport# a o) (subport# b r) }) (join_made m x y e)
+    ◌≡◌ {A = PortsLinked} (record { graph = with_graph m (with_links m.graph t (m.graph.link_count + 1)); answer = Ok (subport# a o, subport# b r) })
+    (linked_by m a b (Ok (needs.Ends x o y r)))
+ends_joined m a b x o y r e = ap (λ (g : MultiPortGraph). record { graph = g; answer = Ok (subport# a o, subport# b r) }) (join_made m x y e)
 
 -- every wire at a port of a block that is not split is cut
 module _ {m : MultiPortGraph} {p : ℕ} {d : Direction} (b : OnBlock m p d) (s : is_split m p ≡ false) {v far n : ℕ} {t : List ℕ}
@@ -500,22 +492,22 @@ module _ {m : MultiPortGraph} {p : ℕ} {d : Direction} (b : OnBlock m p d) (s :
       let q = block_seen b.wf.fine p b.node d b.is in
       (meta_of_place q.place, sym (ap (port_at m.graph) (sym q.slot) ∙ port_of_place b.wf.fine.good b.wf.fine.holds q.place q.is_seen.0))
 
-  port_cut_by : (l : PortLink) → l ≡ port_link m.graph p → ◌≡◌ {A = PortUnlinked} (record { graph = with_graph m (with_links m.graph t n); answer = cut_plain m l }) (cut_port m p)
+  port_cut_by : (l : Result (Option PortIndex) NoSuchPort) → l ≡ port_link m.graph p → ◌≡◌ {A = PortUnlinked} (record { graph = with_graph m (with_links m.graph t n); answer = cut_plain m l }) (cut_port m p)
   port_cut_by l k =
       cut_port_plain m p b.node d (record { graph = with_links m.graph t n; answer = l }) l b.is s
       (unlink_live m.graph p v far n t l port_live.0 port_live.1 e f g h k) refl
 
-  pub port_cut_none : far ≡ 0 → ◌≡◌ {A = PortUnlinked} (record { graph = with_graph m (with_links m.graph t n); answer = cutting.Nothing }) (cut_port m p)
-  port_cut_none z = port_cut_by link_variants.Unlinked (no_link m.graph p v far port_live.0 port_live.1 e f z)
+  pub port_cut_none : far ≡ 0 → ◌≡◌ {A = PortUnlinked} (record { graph = with_graph m (with_links m.graph t n); answer = Ok None }) (cut_port m p)
+  port_cut_none z = port_cut_by (Ok None) (no_link m.graph p v far port_live.0 port_live.1 e f z)
 
-  pub port_cut_far : (far ≡ 0 → ⊥) → ◌≡◌ {A = PortUnlinked} (record { graph = with_graph m (with_links m.graph t n); answer = cutting.Found (subport# (far - 1) 0) (standing_of m (far - 1)) }) (cut_port m p)
-  port_cut_far z = port_cut_by (link_variants.Linked (port# (far - 1))) (link_to m.graph p v far port_live.0 port_live.1 e f z)
+  pub port_cut_far : (far ≡ 0 → ⊥) → ◌≡◌ {A = PortUnlinked} (record { graph = with_graph m (with_links m.graph t n); answer = Ok (Some (subport# (far - 1) 0, standing_of m (far - 1))) }) (cut_port m p)
+  port_cut_far z = port_cut_by (Ok (Some (port# (far - 1)))) (link_to m.graph p v far port_live.0 port_live.1 e f z)
 
   -- by what was read before the cut
-  pub port_cut : {a : CutAnswer} → a ≡ plain_in m.graph.port_link m.graph.port_meta m.copy_node p →
+  pub port_cut : {a : Result (Option (SubportIndex × PortPlace)) Refusal} → a ≡ plain_in m.graph.port_link m.graph.port_meta m.copy_node p →
       ◌≡◌ {A = PortUnlinked} (record { graph = with_graph m (with_links m.graph t n); answer = a }) (cut_port m p)
   port_cut k =
-      ap (λ (x : CutAnswer). record { graph = with_graph m (with_links m.graph t n); answer = x }) (k ∙ plain_read_lem b.wf.fine p b.node d b.is s)
+      ap (λ (x : Result (Option (SubportIndex × PortPlace)) Refusal). record { graph = with_graph m (with_links m.graph t n); answer = x }) (k ∙ plain_read_lem b.wf.fine p b.node d b.is s)
       ∙ port_cut_by (port_link m.graph p) refl
 
 -- how a port number is seen by the tables, and by the graph
@@ -591,6 +583,6 @@ module _ {m : MultiPortGraph} {a b : ℕ} {d e : Direction} (both : BothOnBlock 
       ◌≡◌ {A = PortsLinked}
       (record {
         graph = with_graph s.graph (with_links s.graph.graph l (s.graph.graph.link_count + 1));
-        answer = link.Linked (subport# a r.offset) (subport# b s.offset);
+        answer = Ok (subport# a r.offset, subport# b s.offset);
       }) (cases.link_live m a d b e (prepare m a d))
   both_joined q = both_linked_lem m a d b e r h t s k _ v apart (ready_joined d e r.port s.port first_ready_lem second_ready_lem apart q)

@@ -1,6 +1,6 @@
 -- What is read off lent tables is what an end needs, a preparation does what the need says, and there is room for both ends of a link
 -- exactly if the test of heads and lengths says so.
-use Rattle.std.specs.Prelude.{◌≡◌, Bool, ◌||◌, ℕ, zero, suc, ◌+◌, ◌-◌, ◌≤◌, ◌<◌, ltb}
+use Rattle.std.specs.Prelude.{◌≡◌, Bool, ◌||◌, ℕ, zero, suc, ◌+◌, ◌-◌, ◌≤◌, ◌<◌, ltb, Option, Some}
 use Rattle.std.proofs.Math.Path.{refl, sym, ap}
 use Rattle.std.proofs.Common.{◌∙◌, subst}
 use Rattle.std.proofs.Math.Bool.{true, false, cond, not}
@@ -28,8 +28,6 @@ use Rattle.port_tables.specs.declared.direction.Direction.{Direction}
 use Rattle.port_tables.specs.declared.index.NodeIndex.{NodeIndex}
 use Rattle.port_tables.specs.declared.node_entry.NodeMeta.{NodeMeta}
 use Rattle.port_tables.specs.declared.node_entry.NodeSlot.{NodeSlot}
-use Rattle.port_tables.specs.declared.node_entry.MaybeNodeMeta.{MaybeNodeMeta}
-use Rattle.port_tables.specs.declared.node_entry.MaybeNodeMeta.TheVariants as maybe_meta
 use Rattle.port_tables.specs.declared.lent.Counts.{Counts}
 use Rattle.multiportgraph.specs.Reading.{has_link, is_split, copy_node, subports, port_of}
 use Rattle.multiportgraph.specs.HiddenNodes as hiding
@@ -60,7 +58,7 @@ use Rattle.multiportgraph.specs.Presumed.{OnBlock, LinkedPort, BothOnBlock, Grow
 -- the hidden node of a split port, with its meta data
 record CopyOf (m : MultiPortGraph) (p : ℕ) (d : Direction) : Type 0 where
   meta : NodeMeta
-  here : meta_at m.graph (copy_node m p) ≡ maybe_meta.Some meta
+  here : meta_at m.graph (copy_node m p) ≡ Some meta
   several : 2 ≤ ports_on meta d
   fits : BlockFits meta
 
@@ -74,14 +72,14 @@ module _ {m : MultiPortGraph} {p : ℕ} {d : Direction} (b : OnBlock m p d) wher
       let h = split_has_copy f block.place block.is_seen (ap (is_split m) block.slot ∙ t) in
       let k = f.copy h.copy h.is_copy in
       let is : h.copy ≡ copy_node m p = sym h.copy_is ∙ ap (copy_node m) block.slot in
-      let here : meta_at m.graph (copy_node m p) ≡ maybe_meta.Some k.meta = ap (meta_at m.graph) (sym is) ∙ meta_of_node f.good f.holds h.copy k.meta k.here in
+      let here : meta_at m.graph (copy_node m p) ≡ Some k.meta = ap (meta_at m.graph) (sym is) ∙ meta_of_node f.good f.holds h.copy k.meta k.here in
       let count : count_of (b.wf.model.node h.copy) block.place.side ≡ ports_on k.meta d = (λ i. count_of (k.here i) (block.side i)) in
       let many = h.several in
       record { meta = k.meta; here = here; several = omega arith; fits = found_block_fits m.graph (lower_wf m b.wf) (copy_node m p) k.meta (sym here) }
 
   -- A preparation does what the need says.
 
-  reuse_by : (c : ℕ) (o n : ℕ) (u : MaybeNodeMeta) (k : NodeMeta) → meta_at m.graph c ≡ u → u ≡ maybe_meta.Some k → n ≡ ports_on k d → o ≡ lowest_free m.graph c d 0 n →
+  reuse_by : (c : ℕ) (o n : ℕ) (u : Option NodeMeta) (k : NodeMeta) → meta_at m.graph c ≡ u → u ≡ Some k → n ≡ ports_on k d → o ≡ lowest_free m.graph c d 0 n →
       reuse m c d o ≡ prepared_for m p d (copy_need m d c u)
   unfolding reuse_under
   reuse_by c o n u k e f g h = rw (f ∙ refl) (go (ltb (lowest_free m.graph c d 0 (ports_on k d)) (ports_on k d)))
@@ -90,7 +88,7 @@ module _ {m : MultiPortGraph} {p : ℕ} {d : Direction} (b : OnBlock m p d) wher
       low = h ∙ ap (lowest_free m.graph c d 0) g
 
       count : num_ports m.graph c d ≡ ports_on k d
-      count = ap (λ (v : MaybeNodeMeta). count_in v d) (e ∙ f)
+      count = ap (λ (v : Option NodeMeta). count_in v d) (e ∙ f)
 
       go : (t : Bool) → cond (ltb o (num_ports m.graph c d)) (hiding.ready m (port_of m.graph c d o) o) (grow m c d)
           ≡ prepared_for m p d (cond (ltb (lowest_free m.graph c d 0 (ports_on k d)) (ports_on k d)) (need.Ready (port_of m.graph c d (lowest_free m.graph c d 0 (ports_on k d))) (lowest_free m.graph c d 0 (ports_on k d))) (need.Grow (node# c) k))
@@ -113,29 +111,29 @@ module _ {m : MultiPortGraph} {p : ℕ} {d : Direction} (b : OnBlock m p d) wher
           ≡ prepared_for m p d (cond (is_split m p) (copy_need m d (copy_node m p) (meta_at m.graph (copy_node m p))) (cond (has_link m.graph p) need.Split (need.Ready p 0)))
       go true e =
           let k = copy_of e in
-          rw e (reuse_by (copy_node m p) _ (num_ports m.graph (copy_node m p) d) (meta_at m.graph (copy_node m p)) k.meta refl k.here (ap (λ (v : MaybeNodeMeta). count_in v d) k.here) refl)
+          rw e (reuse_by (copy_node m p) _ (num_ports m.graph (copy_node m p) d) (meta_at m.graph (copy_node m p)) k.meta refl k.here (ap (λ (v : Option NodeMeta). count_in v d) k.here) refl)
       go false e = rw e (plain (has_link m.graph p))
 
   -- The need that is read is the graph's.
 
-  side_start : (k : NodeMeta) → meta_at m.graph (copy_node m p) ≡ maybe_meta.Some k → (i : ℕ) → i < ports_on k d → port_of m.graph (copy_node m p) d i ≡ side_slot k d + i
+  side_start : (k : NodeMeta) → meta_at m.graph (copy_node m p) ≡ Some k → (i : ℕ) → i < ports_on k d → port_of m.graph (copy_node m p) d i ≡ side_slot k d + i
   unfolding port_of
   side_start k e i l = rw (e, lt-ltb i (ports_on k d) l)
 
-  copy_read : is_split m p ≡ true → (u : MaybeNodeMeta) → u ≡ meta_at m.graph (copy_node m p) →
+  copy_read : is_split m p ≡ true → (u : Option NodeMeta) → u ≡ meta_at m.graph (copy_node m p) →
       copy_need_in m.graph.port_link d (copy_node m p) u ≡ copy_need m d (copy_node m p) (meta_at m.graph (copy_node m p))
   copy_read t u e =
       let k = copy_of t in
       let some = k.several in
       let first : port_of m.graph (copy_node m p) d 0 ≡ side_slot k.meta d = side_start k.meta k.here 0 (omega arith) ∙ omega arith in
-      let count : num_ports m.graph (copy_node m p) d ≡ ports_on k.meta d = ap (λ (v : MaybeNodeMeta). count_in v d) k.here in
+      let count : num_ports m.graph (copy_node m p) d ≡ ports_on k.meta d = ap (λ (v : Option NodeMeta). count_in v d) k.here in
       let low : lowest_unlinked m.graph.port_link (side_slot k.meta d) 0 (ports_on k.meta d) ≡ lowest_free m.graph (copy_node m p) d 0 (ports_on k.meta d) =
       (λ i. lowest_unlinked m.graph.port_link (sym first i) 0 (sym count i)) ∙ (lowest_same m b.wf (copy_node m p) d ∙ ap (lowest_free m.graph (copy_node m p) d 0) count) in
       let row = side_fits k.meta d k.fits in
       rw (e ∙ k.here, k.here, le-leb (side_slot k.meta d + ports_on k.meta d) port_slots (omega arith), low)
       (go k.meta k.here (lowest_free m.graph (copy_node m p) d 0 (ports_on k.meta d)) (ltb (lowest_free m.graph (copy_node m p) d 0 (ports_on k.meta d)) (ports_on k.meta d)) refl)
     where
-      go : (k : NodeMeta) → meta_at m.graph (copy_node m p) ≡ maybe_meta.Some k → (o : ℕ) (t : Bool) → ltb o (ports_on k d) ≡ t →
+      go : (k : NodeMeta) → meta_at m.graph (copy_node m p) ≡ Some k → (o : ℕ) (t : Bool) → ltb o (ports_on k d) ≡ t →
           cond t (need.Ready (side_slot k d + o) o) (need.Grow (node# (copy_node m p)) k) ≡ cond t (need.Ready (port_of m.graph (copy_node m p) d o) o) (need.Grow (node# (copy_node m p)) k)
       go k h o true e = ap (λ (x : ℕ). need.Ready x o) (sym (side_start k h o (ltb-true o (ports_on k d) e)))
       go k h o false e = refl
@@ -156,13 +154,13 @@ module _ {m : MultiPortGraph} {p : ℕ} {d : Direction} (b : OnBlock m p d) {u :
       plain true q = zero_is_not_one (cc)
       plain false q = zero_is_not_one (cc)
 
-      by : is_split m p ≡ true → (l : NodeMeta) → meta_at m.graph (copy_node m p) ≡ maybe_meta.Some l → (h : Bool) (x o : ℕ) → cond h (need.Ready x o) (need.Grow (node# (copy_node m p)) l) ≡ need.Grow c k → GrowPort m p d c.0 k
+      by : is_split m p ≡ true → (l : NodeMeta) → meta_at m.graph (copy_node m p) ≡ Some l → (h : Bool) (x o : ℕ) → cond h (need.Ready x o) (need.Grow (node# (copy_node m p)) l) ≡ need.Grow c k → GrowPort m p d c.0 k
       by s l g true x o q = absurd (zero_is_not_one (cc))
       by s l g false x o q =
           let same : node# (copy_node m p) ≡ c = cc in
           let is : copy_node m p ≡ c.0 = ap (λ (v : NodeIndex). v.0) same in
           let meta : l ≡ k = cc in
-          record { port = record { block = b; split = s }; copy = is; meta = ap (meta_at m.graph) (sym is) ∙ (g ∙ ap maybe_meta.Some meta) }
+          record { port = record { block = b; split = s }; copy = is; meta = ap (meta_at m.graph) (sym is) ∙ (g ∙ ap Some meta) }
 
       go : (s : Bool) → is_split m p ≡ s → cond (is_split m p) (copy_need m d (copy_node m p) (meta_at m.graph (copy_node m p))) (cond (has_link m.graph p) need.Split (need.Ready p 0)) ≡ need.Grow c k → GrowPort m p d c.0 k
       go true s q =
@@ -261,7 +259,7 @@ module _ {m : MultiPortGraph} {a : ℕ} {d : Direction} (s : OnBlock m a d) (m�
 
 abbrev need_works : Need → List Work
 need_works (need.Ready x o) = []
-need_works (need.Grow c k) = grow_works (maybe_meta.Some k)
+need_works (need.Grow c k) = grow_works (Some k)
 need_works need.Split = split_works
 
 works_need : {m : MultiPortGraph} {p : ℕ} {d : Direction} → OnBlock m p d → prepare_works m p d ≡ need_works (need_of m p d)
@@ -272,7 +270,7 @@ works_need {m} {p} {d} b = go (is_split m p) refl
     plain true = refl
     plain false = refl
 
-    by : (c : ℕ) (k : NodeMeta) (t : Bool) (x o : ℕ) → cond t [] (grow_works (maybe_meta.Some k)) ≡ need_works (cond t (need.Ready x o) (need.Grow (node# c) k))
+    by : (c : ℕ) (k : NodeMeta) (t : Bool) (x o : ℕ) → cond t [] (grow_works (Some k)) ≡ need_works (cond t (need.Ready x o) (need.Grow (node# c) k))
     by c k true x o = refl
     by c k false x o = refl
 

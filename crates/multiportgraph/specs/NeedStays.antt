@@ -1,5 +1,5 @@
 -- What a port's end needs depends on its mark, on whether it is linked, and on its hidden node alone: where these stay, so does the need.
-use Rattle.std.specs.Prelude.{◌≡◌, Bool}
+use Rattle.std.specs.Prelude.{◌≡◌, Bool, Option, Some}
 use Rattle.std.proofs.Math.Path.{refl, sym, ap}
 use Rattle.std.proofs.Common.{◌∙◌, subst}
 use Rattle.std.proofs.Math.Bool.{true, false, cond}
@@ -12,8 +12,6 @@ use Rattle.portgraph.specs.Model.{Model, Far, nowhere, to, Slots, Valid, slot_of
 use Rattle.portgraph.specs.PlaceLaws.{meta_of_node}
 use Rattle.port_tables.specs.declared.direction.Direction.{Direction}
 use Rattle.port_tables.specs.declared.node_entry.NodeMeta.{NodeMeta}
-use Rattle.port_tables.specs.declared.node_entry.MaybeNodeMeta.{MaybeNodeMeta}
-use Rattle.port_tables.specs.declared.node_entry.MaybeNodeMeta.TheVariants as maybe_meta
 use Rattle.multiportgraph.specs.Reading.{has_link, is_hidden, is_split, copy_node, port_of, port_number}
 use Rattle.multiportgraph.specs.WellFormed.{inner#, copy_place, Fine, Seen}
 use Rattle.multiportgraph.specs.Ends.{Hangs, hangs, split_has_copy, one_copy, port_of_lem, linked_is, unlinked_is}
@@ -80,9 +78,9 @@ module _ {m : MultiPortGraph} {M : Model} {m' : MultiPortGraph} {M' : Model} (f 
     linked_still : has_link m'.graph (slot_of M.node v) ≡ has_link m.graph (slot_of M.node v)
     linked_still = ap (has_link m'.graph) (sym slot_still) ∙ link_alike v sv.0 valid_there _ _ refl refl link
 
-    port_same : (c : ℕ) (k : NodeMeta) → meta_at m'.graph c ≡ maybe_meta.Some k → meta_at m.graph c ≡ maybe_meta.Some k → (d : Direction) (i : ℕ) → port_of m'.graph c d i ≡ port_of m.graph c d i
+    port_same : (c : ℕ) (k : NodeMeta) → meta_at m'.graph c ≡ Some k → meta_at m.graph c ≡ Some k → (d : Direction) (i : ℕ) → port_of m'.graph c d i ≡ port_of m.graph c d i
     unfolding port_of
-    port_same c k e h d i = ap (λ (u : MaybeNodeMeta). port_number (port_in u (record { direction = d; index = i }))) (e ∙ sym h)
+    port_same c k e h d i = ap (λ (u : Option NodeMeta). port_number (port_in u (record { direction = d; index = i }))) (e ∙ sym h)
 
     copy_need_lem : is_split m (slot_of M.node v) ≡ true →
         copy_need m' v.side (copy_node m' (slot_of M.node v)) (meta_at m'.graph (copy_node m' (slot_of M.node v)))

@@ -1,5 +1,5 @@
 -- What the code of needs, and of the test of room, takes from the definitions, case by case.
-use Rattle.std.specs.Prelude.{◌≡◌, Bool, cond, List, ℕ, ◌+◌, ◌-◌, ◌≤◌, ◌<◌, eqb, leb}
+use Rattle.std.specs.Prelude.{◌≡◌, Bool, cond, List, ℕ, ◌+◌, ◌-◌, ◌≤◌, ◌<◌, eqb, leb, Option, Some, None}
 use Rattle.std.proofs.Common.{sym, ◌∙◌, arith}
 use Rattle.std.proofs.Math.Path.{ap}
 use Rattle.std.proofs.Math.Bool.{true, false}
@@ -13,8 +13,6 @@ use Rattle.port_tables.specs.NodeWords.{slot_in, meta_in}
 use Rattle.port_tables.specs.declared.direction.Direction.{Direction}
 use Rattle.port_tables.specs.declared.index.NodeIndex.{NodeIndex}
 use Rattle.port_tables.specs.declared.node_entry.NodeMeta.{NodeMeta}
-use Rattle.port_tables.specs.declared.node_entry.MaybeNodeMeta.{MaybeNodeMeta}
-use Rattle.port_tables.specs.declared.node_entry.MaybeNodeMeta.TheVariants as maybe_meta
 use Rattle.port_tables.specs.declared.lent.Counts.{Counts}
 use Rattle.multi_tables.specs.Forms.{flag_at, lowest_unlinked}
 use Rattle.multi_tables.specs.TableReads.{far_in, owner_in}
@@ -80,11 +78,11 @@ module _ (nodes links heads : List ℕ) (counts : Counts) (first second : Takes)
 
 -- What an end needs.
 
-module _ (links : List ℕ) (d : Direction) (c : ℕ) {u : MaybeNodeMeta} where
-  pub copy_none : u ≡ maybe_meta.None → need.Split ≡ copy_need_in links d c u
+module _ (links : List ℕ) (d : Direction) (c : ℕ) {u : Option NodeMeta} where
+  pub copy_none : u ≡ None → need.Split ≡ copy_need_in links d c u
   copy_none t = rw t
 
-  module _ {k : NodeMeta} (t : u ≡ maybe_meta.Some k) {first count : ℕ} (e : first ≡ side_slot k d) (f : count ≡ ports_on k d) where
+  module _ {k : NodeMeta} (t : u ≡ Some k) {first count : ℕ} (e : first ≡ side_slot k d) (f : count ≡ ports_on k d) where
     pub copy_outside : leb (first + count) port_slots ≡ false → need.Grow (node# c) k ≡ copy_need_in links d c u
     copy_outside h = rw (t, ← e, ← f, h)
 

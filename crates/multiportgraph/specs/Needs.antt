@@ -1,6 +1,6 @@
 -- What the end that a link of a port takes needs before anything changes, said of the graph and read off lent tables; and whether
 -- there is room for both ends of a link, by the heads of the free lists and the used lengths alone.
-use Rattle.std.specs.Prelude.{Bool, true, false, cond, List, ℕ, ◌+◌, ◌-◌, ◌≤◌, eqb, leb, ltb}
+use Rattle.std.specs.Prelude.{Bool, true, false, cond, List, ℕ, ◌+◌, ◌-◌, ◌≤◌, eqb, leb, ltb, Option, Some, None}
 use Rattle.port_tables.specs.Limits.{node_slots, port_slots, node_ports}
 use Rattle.port_tables.specs.Entries.{ports_on, next_of, node#}
 use Rattle.port_tables.specs.Tables.{at, head_at}
@@ -10,8 +10,6 @@ use Rattle.port_tables.specs.ResizeLinks.{round_up}
 use Rattle.port_tables.specs.NodeWords.{slot_in, meta_in}
 use Rattle.port_tables.specs.declared.direction.Direction.{Direction}
 use Rattle.port_tables.specs.declared.node_entry.NodeMeta.{NodeMeta}
-use Rattle.port_tables.specs.declared.node_entry.MaybeNodeMeta.{MaybeNodeMeta}
-use Rattle.port_tables.specs.declared.node_entry.MaybeNodeMeta.TheVariants as maybe_meta
 use Rattle.port_tables.specs.declared.lent.Counts.{Counts}
 use Rattle.multiportgraph.specs.Reading.{has_link, is_split, copy_node, port_of}
 use Rattle.multiportgraph.specs.HiddenNodes as hiding
@@ -24,9 +22,9 @@ use Rattle.multiportgraph.specs.declared.lent.Takes.{Takes}
 use Rattle.multiportgraph.specs.HiddenNodes.{lowest_free, split, grow}
 
 -- a hidden node c with its meta data: the lowest unlinked subport of side d, else one more
-abbrev pub copy_need : MultiPortGraph → Direction → ℕ → MaybeNodeMeta → Need
-copy_need m d c maybe_meta.None = need.Split
-copy_need m d c (maybe_meta.Some k) =
+abbrev pub copy_need : MultiPortGraph → Direction → ℕ → Option NodeMeta → Need
+copy_need m d c None = need.Split
+copy_need m d c (Some k) =
     cond (ltb (lowest_free m.graph c d 0 (ports_on k d)) (ports_on k d))
     (need.Ready (port_of m.graph c d (lowest_free m.graph c d 0 (ports_on k d))) (lowest_free m.graph c d 0 (ports_on k d)))
     (need.Grow (node# c) k)
@@ -48,9 +46,9 @@ prepared_for m p d need.Split = split m p d
 abbrev pub side_slot : NodeMeta → Direction → ℕ
 side_slot k d = k.first_port.0 + start_of k d
 
-abbrev pub copy_need_in : List ℕ → Direction → ℕ → MaybeNodeMeta → Need
-copy_need_in links d c maybe_meta.None = need.Split
-copy_need_in links d c (maybe_meta.Some k) =
+abbrev pub copy_need_in : List ℕ → Direction → ℕ → Option NodeMeta → Need
+copy_need_in links d c None = need.Split
+copy_need_in links d c (Some k) =
     cond (leb (side_slot k d + ports_on k d) port_slots)
     (cond (ltb (lowest_unlinked links (side_slot k d) 0 (ports_on k d)) (ports_on k d))
     (need.Ready (side_slot k d + lowest_unlinked links (side_slot k d) 0 (ports_on k d)) (lowest_unlinked links (side_slot k d) 0 (ports_on k d)))

@@ -1,6 +1,6 @@
 -- Preparing an end of a port: the port itself where it is neither split nor linked, else a split, else the lowest free subport,
 -- else one more subport. None is prepared only where a table would pass its limit.
-use Rattle.std.specs.Prelude.{◌≡◌, Bool, ◌⊎◌, leb, ltb}
+use Rattle.std.specs.Prelude.{◌≡◌, Bool, ◌⊎◌, leb, ltb, Err}
 use Rattle.std.proofs.Math.Path.{refl, ap}
 use Rattle.std.proofs.Common.{sym, ◌∙◌, subst, inl, inr, ⊎_elim}
 use Rattle.std.proofs.Math.Bool.{true, false, cond}
@@ -18,7 +18,6 @@ use Rattle.portgraph.specs.SlotHolds.{block_room}
 use Rattle.port_tables.specs.declared.node_entry.NodeMeta.{NodeMeta}
 use Rattle.portgraph.specs.declared.portgraph.PortGraph.{PortGraph}
 use Rattle.portgraph.specs.declared.resize.PortsSet.{PortsSet}
-use Rattle.portgraph.specs.declared.resize.SetAnswer.TheVariants as lower_set
 use Rattle.portgraph.specs.GoodSlots.{zero_is_not_one, slot_in_block, same_place_lem}
 use Rattle.portgraph.specs.Model as model
 use Rattle.portgraph.specs.Model.{Model, Far, nowhere, to, Slots, live, Valid, slot_of, count_of, first_of, side_start}
@@ -32,6 +31,7 @@ use Rattle.multiportgraph.specs.RecountLaws.{grow_law}
 use Rattle.multiportgraph.specs.declared.multiportgraph.MultiPortGraph.{MultiPortGraph}
 use Rattle.port_tables.specs.Places.{Place, Wire}
 use Rattle.multiportgraph.specs.HiddenNodes.{Prepared, ready, full, split, lowest_free, more_incoming, more_outgoing, enough, grown_by, grow, reuse, prepare, prepare_under, reuse_under, grow_under}
+use Rattle.portgraph.specs.declared.resize.SetError.TheVariants as set_error
 
 -- Where a hidden node cannot grow.
 
@@ -76,7 +76,7 @@ module _ {m : MultiPortGraph} {M : Model} (f : Fine m M) (x : model.InnerPlace) 
           (leb-false (M.port_len + growth (round_up (i# + o#)) (M.free_blocks (round_up (i# + o#)))) port_slots q))
 
       told : (k : NodeMeta) → M.node h.copy ≡ live k → i# + o# ≤ node_ports → (t : Bool) → leb (3 * (k.incoming + k.outgoing)) enough ≡ t →
-          Answered (cond t (plan_live M i# o# k (same_counts k i# o#) (fits_inside k i# o#) (block_room M (round_up (i# + o#)))) (refuse lower_set.MovesTooShort)) → NoSpace m M x
+          Answered (cond t (plan_live M i# o# k (same_counts k i# o#) (fits_inside k i# o#) (block_room M (round_up (i# + o#)))) (refuse (Err set_error.MovesTooShort))) → NoSpace m M x
       told k here l true p e = room k here l (same_counts k i# o#) (fits_inside k i# o#) (block_room M (round_up (i# + o#))) refl refl e
       told k here l false p e =
           absurd

@@ -1,7 +1,7 @@
 -- Preparing an end: what the calls of the code give amounts to the definitions.
 use Rattle.std.proofs.Math.Path.{◌≡◌, refl}
 use Rattle.std.proofs.Common.{sym, ap, ◌∙◌, inl, inr}
-use Rattle.std.specs.Prelude.{Bool, cond, ◌⊎◌, eqb}
+use Rattle.std.specs.Prelude.{Bool, cond, ◌⊎◌, eqb, Option, Some, None, Result, Ok, Err}
 use Rattle.std.proofs.Math.Bool.{true, false}
 use Prim.Native.Nat.{ℕ, zero, suc, ◌+◌, ◌-◌, ◌*◌, ◌≤◌, ◌<◌}
 use native.Mathlib.Omega.{arith}
@@ -21,11 +21,7 @@ use Rattle.port_tables.specs.declared.direction.Direction.{Direction}
 use Rattle.port_tables.specs.declared.index.NodeIndex.{NodeIndex}
 use Rattle.port_tables.specs.declared.index.PortIndex.{PortIndex}
 use Rattle.port_tables.specs.declared.node_entry.NodeMeta.{NodeMeta}
-use Rattle.port_tables.specs.declared.node_entry.MaybeNodeMeta.{MaybeNodeMeta}
-use Rattle.port_tables.specs.declared.node_entry.MaybeNodeMeta.TheVariants as maybe_meta
 use Rattle.portgraph.specs.declared.portgraph.PortGraph.{PortGraph}
-use Rattle.portgraph.specs.declared.alloc.AddAnswer.{AddAnswer}
-use Rattle.portgraph.specs.declared.alloc.AddAnswer.TheVariants as lower_add
 use Rattle.portgraph.specs.declared.alloc.NodeAdded.{NodeAdded}
 use Rattle.multiportgraph.specs.Reading.{has_link, port_number, port_of, is_hidden}
 use Rattle.multiportgraph.specs.WellFormed.{inner#, MultiWf, subports_of_slot}
@@ -36,6 +32,8 @@ use Rattle.multiportgraph.specs.declared.multiportgraph.MultiPortGraph.{MultiPor
 use Rattle.multiportgraph.specs.declared.prepare.Prepared.{Prepared}
 use Rattle.multiportgraph.specs.HiddenNodes.{copy_incoming, copy_outgoing, split_by, split, lowest_free, split_under}
 use Rattle.port_tables.specs.Places.{flag}
+use Rattle.portgraph.specs.declared.alloc.AddError.{AddError}
+use Rattle.portgraph.specs.declared.alloc.AddError.TheVariants as add_error
 
 -- What a graph of the calls keeps small.
 
@@ -68,13 +66,13 @@ module _ (g : PortGraph) (w : Wf g) (c : ℕ) where
   unfolding port_of
   first_fits d = go (meta_at g c) refl
     where
-      some : (k : NodeMeta) (b : Bool) → ltb 0 (ports_on k d) ≡ b → BlockFits k → port_number (port_in (maybe_meta.Some k) (record { direction = d; index = 0 })) + ports_on k d ≤ port_slots
+      some : (k : NodeMeta) (b : Bool) → ltb 0 (ports_on k d) ≡ b → BlockFits k → port_number (port_in (Some k) (record { direction = d; index = 0 })) + ports_on k d ≤ port_slots
       some k true e f = let s = side_fits k d f in rw e (omega arith)
       some k false e f = let l = ltb-false 0 (ports_on k d) e in rw e (omega arith)
 
-      go : (k : MaybeNodeMeta) → k ≡ meta_at g c → port_number (port_in k (record { direction = d; index = 0 })) + count_in k d ≤ port_slots
-      go maybe_meta.None e = omega arith
-      go (maybe_meta.Some k) e = some k (ltb 0 (ports_on k d)) refl (found_block_fits g w c k e)
+      go : (k : Option NodeMeta) → k ≡ meta_at g c → port_number (port_in k (record { direction = d; index = 0 })) + count_in k d ≤ port_slots
+      go None e = omega arith
+      go (Some k) e = some k (ltb 0 (ports_on k d)) refl (found_block_fits g w c k e)
 
 -- the ports of a side lie in a row, so the lowest unlinked slot is the lowest unlinked port
 module _ (m : MultiPortGraph) (w : MultiWf m) (c : ℕ) (d : Direction) where
@@ -111,13 +109,13 @@ module _ (m : MultiPortGraph) (p : ℕ) (d : Direction) {i o : ℕ} {r : NodeAdd
   added_is : r ≡ add_node m.graph (copy_incoming d) (copy_outgoing d)
   added_is = rw (e₃, e₁, e₂)
 
-  pub split_full : (tag : AddAnswer → ℕ) → ((n : NodeIndex) (f : PortIndex) → tag (lower_add.Added n f) ≡ 0) → (tag r.answer ≡ 1) ⊎ (tag r.answer ≡ 2) →
+  pub split_full : (tag : Result (NodeIndex × PortIndex) AddError → ℕ) → ((n : NodeIndex) (f : PortIndex) → tag (Ok (n, f)) ≡ 0) → (tag r.answer ≡ 1) ⊎ (tag r.answer ≡ 2) →
       ◌≡◌ {A = Prepared} (record { graph = m; port = 0; offset = 0; ready = false }) (prepared_as m (split m p d))
   unfolding split_under
   split_full tag zeroth z = go r.answer z ∙ (λ j. prepared_as m (split_by m p d (added_is j).graph (added_is j).answer))
     where
-      go : (a : AddAnswer) → (tag a ≡ 1) ⊎ (tag a ≡ 2) → ◌≡◌ {A = Prepared} (record { graph = m; port = 0; offset = 0; ready = false }) (prepared_as m (split_by m p d r.graph a))
-      go (lower_add.Added n f) (inl t) = let k = zeroth n f in absurd (omega arith)
-      go (lower_add.Added n f) (inr t) = let k = zeroth n f in absurd (omega arith)
-      go lower_add.TooManyPorts t = refl
-      go lower_add.NoRoom t = refl
+      go : (a : Result (NodeIndex × PortIndex) AddError) → (tag a ≡ 1) ⊎ (tag a ≡ 2) → ◌≡◌ {A = Prepared} (record { graph = m; port = 0; offset = 0; ready = false }) (prepared_as m (split_by m p d r.graph a))
+      go (Ok (n, f)) (inl t) = let k = zeroth n f in absurd (omega arith)
+      go (Ok (n, f)) (inr t) = let k = zeroth n f in absurd (omega arith)
+      go (Err add_error.TooManyPorts) t = refl
+      go (Err add_error.NoRoom) t = refl

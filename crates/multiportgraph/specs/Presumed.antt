@@ -1,10 +1,9 @@
 -- What the inner functions of a link presume of the ports that they are given; what public calls presume is `MultiWf` alone.
-use Rattle.std.specs.Prelude.{◌≡◌, true, false, ℕ, ◌<◌}
+use Rattle.std.specs.Prelude.{◌≡◌, true, false, ℕ, ◌<◌, Some}
 use Rattle.port_tables.specs.Tables.{at}
 use Rattle.portgraph.specs.Lookups.{meta_at}
 use Rattle.port_tables.specs.declared.direction.Direction.{Direction}
 use Rattle.port_tables.specs.declared.node_entry.NodeMeta.{NodeMeta}
-use Rattle.port_tables.specs.declared.node_entry.MaybeNodeMeta.TheVariants as maybe_meta
 use Rattle.multiportgraph.specs.Reading.{seen, is_split, copy_node, subports}
 use Rattle.multi_tables.specs.Forms.{visible}
 use Rattle.multiportgraph.specs.HiddenNodes.{ready, prepare}
@@ -44,7 +43,7 @@ pub record BothOnBlock (m : MultiPortGraph) (a : ℕ) (d : Direction) (b : ℕ) 
 pub record GrowPort (m : MultiPortGraph) (p : ℕ) (d : Direction) (c : ℕ) (k : NodeMeta) : Type 0 where
   pub port : SplitPort m p d
   pub copy : copy_node m p ≡ c
-  pub meta : meta_at m.graph c ≡ maybe_meta.Some k
+  pub meta : meta_at m.graph c ≡ Some k
 
 -- two ports of blocks, the first of which has its end ready
 pub record FirstReady (m : MultiPortGraph) (a : ℕ) (d : Direction) (x o b : ℕ) (e : Direction) : Type 0 where

@@ -1,26 +1,22 @@
 -- How a port number is read: live or not, hidden or not, split or not, and which end a subport is.
-use Rattle.std.specs.Prelude.{Bool, true, false, cond, ℕ, eqb, ltb, get_or}
+use Rattle.std.specs.Prelude.{Bool, true, false, cond, ℕ, eqb, ltb, get_or, Option, Some, None, Result, Ok, Err}
 use Rattle.portgraph.specs.Lookups.{port_at, port_link, port_node, port_index, port_offset, num_ports}
 use Rattle.port_tables.specs.Entries.{node#, port#}
 use Rattle.port_tables.specs.declared.direction.Direction.{Direction}
 use Rattle.port_tables.specs.declared.direction.Direction.TheVariants.{Incoming, Outgoing}
-use Rattle.port_tables.specs.declared.index.MaybePortIndex.{MaybePortIndex}
-use Rattle.port_tables.specs.declared.index.MaybePortIndex.TheVariants as maybe_port
-use Rattle.port_tables.specs.declared.index.MaybePortOffset.{MaybePortOffset}
-use Rattle.port_tables.specs.declared.index.MaybePortOffset.TheVariants as maybe_offset
 use Rattle.port_tables.specs.declared.port_entry.PortEntry.{PortEntry}
 use Rattle.port_tables.specs.declared.port_entry.PortEntry.TheVariants as port_variants
 use Rattle.portgraph.specs.declared.portgraph.PortGraph.{PortGraph}
-use Rattle.portgraph.specs.declared.portgraph.PortLink.{PortLink}
-use Rattle.portgraph.specs.declared.portgraph.PortLink.TheVariants as link_variants
 use Rattle.multiportgraph.specs.declared.multiportgraph.MultiPortGraph.{MultiPortGraph}
 use Rattle.multi_tables.specs.declared.answers.SubportIndex.{SubportIndex}
 use Rattle.multi_tables.specs.declared.answers.PortPlace.{PortPlace}
-use Rattle.multi_tables.specs.declared.answers.CutAnswer.{CutAnswer}
-use Rattle.multi_tables.specs.declared.answers.CutAnswer.TheVariants as cutting
 use Rattle.multi_tables.specs.declared.answers.Refusal.TheVariants.{UnknownOffset}
 use Rattle.port_tables.specs.Places.{Place}
 use Rattle.multi_tables.specs.Forms.{End, Port, dead, hidden, inner, lacking, node_number, subport#, visible}
+use Rattle.port_tables.specs.declared.index.PortIndex.{PortIndex}
+use Rattle.port_tables.specs.declared.index.PortOffset.{PortOffset}
+use Rattle.portgraph.specs.declared.portgraph.NoSuchPort.{NoSuchPort}
+use Rattle.multi_tables.specs.declared.answers.Refusal.{Refusal}
 
 -- the place of an end as answers and walks give it: its offset stands in the subport beside it
 abbrev pub port_place : Place → PortPlace
@@ -28,15 +24,15 @@ port_place x = record { node = node# x.node; side = x.side; position = x.pos }
 
 -- Numbers out of the lower graph's lookups; 0 where there is nothing, which no graph of the calls shows.
 
-abbrev pub link_number : PortLink → ℕ
-link_number (link_variants.Linked q) = q.0
-link_number link_variants.Unlinked = 0
-link_number (link_variants.UnknownPort p) = 0
+abbrev pub link_number : Result (Option PortIndex) NoSuchPort → ℕ
+link_number (Ok (Some q)) = q.0
+link_number (Ok None) = 0
+link_number (Err p) = 0
 
-abbrev pub is_linked : PortLink → Bool
-is_linked (link_variants.Linked q) = true
-is_linked link_variants.Unlinked = false
-is_linked (link_variants.UnknownPort p) = false
+abbrev pub is_linked : Result (Option PortIndex) NoSuchPort → Bool
+is_linked (Ok (Some q)) = true
+is_linked (Ok None) = false
+is_linked (Err p) = false
 
 -- the port that a port is linked with
 unfoldable pub far_port : PortGraph → ℕ → ℕ
@@ -50,17 +46,17 @@ has_link g p = is_linked (port_link g p)
 unfoldable pub owner_of : PortGraph → ℕ → ℕ
 owner_of g p = node_number (port_node g p)
 
-abbrev pub port_number : MaybePortIndex → ℕ
-port_number (maybe_port.Some p) = p.0
-port_number maybe_port.None = 0
+abbrev pub port_number : Option PortIndex → ℕ
+port_number (Some p) = p.0
+port_number None = 0
 
 -- the port of a node at a side and position
 unfoldable pub port_of : PortGraph → ℕ → Direction → ℕ → ℕ
 port_of g n d i = port_number (port_index g n (record { direction = d; index = i }))
 
-abbrev pub position_number : MaybePortOffset → ℕ
-position_number (maybe_offset.Some o) = o.index
-position_number maybe_offset.None = 0
+abbrev pub position_number : Option PortOffset → ℕ
+position_number (Some o) = o.index
+position_number None = 0
 
 -- the position of a port on its side
 unfoldable pub position_of : PortGraph → ℕ → ℕ
@@ -144,12 +140,12 @@ abbrev pub standing_of : MultiPortGraph → ℕ → PortPlace
 standing_of m q = standing m (subport_of m q)
 
 -- the subport at the far end, and where it stands
-abbrev pub far_subport : MultiPortGraph → PortLink → CutAnswer
-far_subport m (link_variants.Linked q) = cutting.Found (subport_of m q.0) (standing_of m q.0)
-far_subport m link_variants.Unlinked = cutting.Nothing
-far_subport m (link_variants.UnknownPort p) = cutting.Nothing
+abbrev pub far_subport : MultiPortGraph → Result (Option PortIndex) NoSuchPort → Result (Option (SubportIndex × PortPlace)) Refusal
+far_subport m (Ok (Some q)) = Ok (Some (subport_of m q.0, standing_of m q.0))
+far_subport m (Ok None) = Ok None
+far_subport m (Err p) = Ok None
 
 -- what an end is linked with; 9 where a split port has no such offset
-abbrev pub link_of_end : MultiPortGraph → ℕ → End → CutAnswer
-link_of_end m p lacking = cutting.Refused (UnknownOffset (port# p))
+abbrev pub link_of_end : MultiPortGraph → ℕ → End → Result (Option (SubportIndex × PortPlace)) Refusal
+link_of_end m p lacking = Err (UnknownOffset (port# p))
 link_of_end m p (inner x) = far_subport m (port_link m.graph x)

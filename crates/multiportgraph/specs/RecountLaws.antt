@@ -1,6 +1,6 @@
 -- A node with other counts: what the lower resize makes of the model, that the marks move with the ports, and that a hidden node
 -- which grows keeps its port, its subports and every wire.
-use Rattle.std.specs.Prelude.{◌≡◌, Bool, cond, ◌⊎◌, ℕ, ◌+◌, ◌-◌, ◌*◌, ◌≤◌, ◌<◌, eqb, leb, ltb, length}
+use Rattle.std.specs.Prelude.{◌≡◌, Bool, cond, ◌⊎◌, ℕ, ◌+◌, ◌-◌, ◌*◌, ◌≤◌, ◌<◌, eqb, leb, ltb, length, Result, Ok, Err}
 use Rattle.std.proofs.Math.Path.{refl, sym, ap, subst}
 use Rattle.std.proofs.Common.{◌∙◌, inl, inr, ⊎_elim, ltb-true, ltb-false, leb-true, leb-false, eqb-true, eq-eqb}
 use Rattle.std.proofs.Math.Bool.{true, false}
@@ -30,8 +30,6 @@ use Rattle.port_tables.specs.declared.direction.Direction.{Direction}
 use Rattle.port_tables.specs.declared.direction.Direction.TheVariants.{Incoming, Outgoing}
 use Rattle.port_tables.specs.declared.node_entry.NodeMeta.{NodeMeta}
 use Rattle.portgraph.specs.declared.portgraph.PortGraph.{PortGraph}
-use Rattle.portgraph.specs.declared.resize.SetAnswer.{SetAnswer}
-use Rattle.portgraph.specs.declared.resize.SetAnswer.TheVariants as lower_set
 use Rattle.portgraph.specs.declared.resize.PortsSet.{PortsSet}
 use Rattle.multiportgraph.specs.Reading.{is_hidden, is_split, copy_side, port_number, port_of}
 use Rattle.multi_tables.specs.MarkLaws.{length_lay_marks, lay_kept_in, lay_kept_out, lay_new, lay_old, lay_else}
@@ -47,6 +45,8 @@ use Rattle.port_tables.specs.Places.{Wire, flag}
 use Rattle.multiportgraph.specs.Graph.{with_subports}
 use Rattle.multiportgraph.specs.HiddenNodes.{recounted, ready, more_incoming, more_outgoing, enough, more, grown_by, grow, grow_under}
 use Rattle.multi_tables.specs.Forms.{lay_marks}
+use Rattle.portgraph.specs.declared.resize.SetError.{SetError}
+use Rattle.portgraph.specs.declared.resize.SetError.TheVariants as set_error
 
 -- What the lower resize does to the model: node n has other counts and maybe another block, links of dropped places go.
 
@@ -92,9 +92,9 @@ count_new m i o Outgoing p q = q
 
 module _ {g : PortGraph} {M : Model} (good : Good M) (holds : Holds g M) (n i o room : ℕ) where
   Out : PortsSet → Type 0
-  Out r = (e : ℕ) → r.answer ≡ lower_set.Set e → SomeRecount r.graph M n i o
+  Out r = (e : ℕ) → r.answer ≡ Ok e → SomeRecount r.graph M n i o
 
-  pub set_recounts : (e : ℕ) → (set_num_ports g n i o room).answer ≡ lower_set.Set e → SomeRecount (set_num_ports g n i o room).graph M n i o
+  pub set_recounts : (e : ℕ) → (set_num_ports g n i o room).answer ≡ Ok e → SomeRecount (set_num_ports g n i o room).graph M n i o
   unfolding Out
   set_recounts = subst Out (sym (set_law good holds n i o room)) (few (leb (i + o) node_ports) refl)
     where
@@ -171,7 +171,7 @@ module _ {g : PortGraph} {M : Model} (good : Good M) (holds : Holds g M) (n i o 
           }
 
       counts : i + o ≤ node_ports → (a : NodeMeta) → M.node n ≡ live a → (p q r : Bool) → same_counts a i o ≡ p → fits_inside a i o ≡ q → block_room M (round_up (i + o)) ≡ r
-          → Out (set_by g n i o (cond p same (cond q (inside a) (cond r (anew a (next_block M (round_up (i + o)))) (refuse lower_set.NoRoom)))))
+          → Out (set_by g n i o (cond p same (cond q (inside a) (cond r (anew a (next_block M (round_up (i + o)))) (refuse (Err set_error.NoRoom))))))
       counts h a here true q r s t u e k = unchanged a here s
       counts h a here false true r s t u e k = within a here t
       counts h a here false false true s t u e k = away h a here u
@@ -179,8 +179,8 @@ module _ {g : PortGraph} {M : Model} (good : Good M) (holds : Holds g M) (n i o 
 
       told : i + o ≤ node_ports → (a : NodeMeta) → M.node n ≡ live a → (b : Bool) → leb (3 * (a.incoming + a.outgoing)) room ≡ b
           → Out (set_by g n i o (cond b
-          (cond (same_counts a i o) same (cond (fits_inside a i o) (inside a) (cond (block_room M (round_up (i + o))) (anew a (next_block M (round_up (i + o)))) (refuse lower_set.NoRoom))))
-          (refuse lower_set.MovesTooShort)))
+          (cond (same_counts a i o) same (cond (fits_inside a i o) (inside a) (cond (block_room M (round_up (i + o))) (anew a (next_block M (round_up (i + o)))) (refuse (Err set_error.NoRoom)))))
+          (refuse (Err set_error.MovesTooShort))))
       told h a here true q = counts h a here (same_counts a i o) (fits_inside a i o) (block_room M (round_up (i + o))) refl refl refl
       told h a here false q = λ e k. absurd (zero_is_not_one (cc))
 
@@ -890,10 +890,10 @@ module _ {m : MultiPortGraph} {M : Model} (f : Fine m M) (x : model.InnerPlace) 
                 (subst (λ (u : ℕ). PreparedEnd m M x (grown m h.copy g') s.model' (port_of g' h.copy x.side (ports_on a x.side)) u) (n ∙ e3) p)),
           )
 
-      go : (t : SetAnswer) → (growth# m h.copy x.side).answer ≡ t → grown_by m h.copy x.side (growth# m h.copy x.side).graph t ≡ ready m' q o
+      go : (t : Result ℕ SetError) → (growth# m h.copy x.side).answer ≡ t → grown_by m h.copy x.side (growth# m h.copy x.side).graph t ≡ ready m' q o
           → (M' : Model) × PreparedEnd m M x m' M' q o
-      go (lower_set.Set e) k w = done (set_recounts f.good f.holds h.copy _ _ enough e k) w
-      go lower_set.TooManyPorts k w = absurd (zero_is_not_one (cc))
-      go lower_set.UnknownNode k w = absurd (zero_is_not_one (cc))
-      go lower_set.MovesTooShort k w = absurd (zero_is_not_one (cc))
-      go lower_set.NoRoom k w = absurd (zero_is_not_one (cc))
+      go (Ok e) k w = done (set_recounts f.good f.holds h.copy _ _ enough e k) w
+      go (Err set_error.TooManyPorts) k w = absurd (zero_is_not_one (cc))
+      go (Err set_error.UnknownNode) k w = absurd (zero_is_not_one (cc))
+      go (Err set_error.MovesTooShort) k w = absurd (zero_is_not_one (cc))
+      go (Err set_error.NoRoom) k w = absurd (zero_is_not_one (cc))

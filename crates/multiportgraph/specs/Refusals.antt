@@ -1,7 +1,7 @@
 -- The refusals of each call, in the order in which they are tested: a table at the end, each line a condition on the graph handed
 -- in, the refusal with what it carries, and the graph that it leaves. The first line that applies refuses the call; where none
 -- does the call is done (Calls), and nothing that it then does can fail.
-use Rattle.std.specs.Prelude.{Bool, true, false, cond, not, List, [], ◌∷◌, ℕ, ◌+◌, ◌*◌, eqb, leb}
+use Rattle.std.specs.Prelude.{Bool, true, false, cond, not, List, [], ◌∷◌, ℕ, ◌+◌, ◌*◌, eqb, leb, Option, Some, None, Ok, Err, Result}
 use Rattle.port_tables.specs.Limits.{node_ports, Limits}
 use Rattle.port_tables.specs.Entries.{same_side, port#}
 use Rattle.portgraph.specs.Lookups.{meta_at, contains_node}
@@ -9,14 +9,6 @@ use Rattle.portgraph.specs.Calls.{add_node_under, link_ports}
 use Rattle.portgraph.specs.Resize.{set_num_ports_under}
 use Rattle.port_tables.specs.declared.direction.Direction.{Direction}
 use Rattle.port_tables.specs.declared.direction.Direction.TheVariants.{Incoming, Outgoing}
-use Rattle.port_tables.specs.declared.node_entry.MaybeNodeMeta.{MaybeNodeMeta}
-use Rattle.port_tables.specs.declared.node_entry.MaybeNodeMeta.TheVariants as maybe_meta
-use Rattle.portgraph.specs.declared.portgraph.LinkAnswer as lower_link_answer
-use Rattle.portgraph.specs.declared.portgraph.LinkAnswer.TheVariants as lower_link
-use Rattle.portgraph.specs.declared.alloc.AddAnswer as lower_add_answer
-use Rattle.portgraph.specs.declared.alloc.AddAnswer.TheVariants as lower_add
-use Rattle.portgraph.specs.declared.resize.SetAnswer as lower_set_answer
-use Rattle.portgraph.specs.declared.resize.SetAnswer.TheVariants as lower_set
 use Rattle.multiportgraph.specs.Reading.{is_hidden, seen, end_at, side_of}
 use Rattle.multi_tables.specs.Forms.{Port, dead, hidden, visible, End, inner, lacking, good_offset, taken_under}
 use Rattle.multiportgraph.specs.declared.multiportgraph.MultiPortGraph.{MultiPortGraph}
@@ -24,6 +16,15 @@ use Rattle.multiportgraph.specs.Walks.{fan_out}
 use Rattle.multi_tables.specs.declared.answers.Refusal.{Refusal}
 use Rattle.multi_tables.specs.declared.answers.Refusal.TheVariants.{BadOffset, TooManyPorts, UnknownNode, HiddenNode, MovesTooShort, UnknownPort, HiddenPort, UnknownOffset, NoRoom, UnknownSecondPort, IncompatibleDirections, AlreadyLinked, InputWired}
 use Rattle.multiportgraph.specs.HiddenNodes.{prepare_under, Prepared, ready, full}
+use Rattle.port_tables.specs.declared.node_entry.NodeMeta.{NodeMeta}
+use Rattle.portgraph.specs.declared.alloc.AddError.TheVariants as add_error
+use Rattle.portgraph.specs.declared.portgraph.LinkError.TheVariants as link_error
+use Rattle.portgraph.specs.declared.resize.SetError.TheVariants as set_error
+use Rattle.port_tables.specs.declared.index.NodeIndex.{NodeIndex}
+use Rattle.port_tables.specs.declared.index.PortIndex.{PortIndex}
+use Rattle.portgraph.specs.declared.alloc.AddError.{AddError}
+use Rattle.portgraph.specs.declared.portgraph.LinkError.{LinkError}
+use Rattle.portgraph.specs.declared.resize.SetError.{SetError}
 
 -- A line of the table.
 pub record Line : Type 0 where
@@ -83,45 +84,45 @@ unfoldable pub input_taken : MultiPortGraph → ℕ → ℕ → Bool
 input_taken m a b = taken_under m.release (wired_input m a) (wired_input m b)
 
 -- the single-link graph has no room for a node, or for other counts of one
-abbrev pub add_lacks_room : lower_add_answer.AddAnswer → Bool
-add_lacks_room (lower_add.Added n p) = false
-add_lacks_room lower_add.TooManyPorts = false
-add_lacks_room lower_add.NoRoom = true
+abbrev pub add_lacks_room : Result (NodeIndex × PortIndex) AddError → Bool
+add_lacks_room (Ok (n, p)) = false
+add_lacks_room (Err add_error.TooManyPorts) = false
+add_lacks_room (Err add_error.NoRoom) = true
 
-abbrev pub set_lacks_room : lower_set_answer.SetAnswer → Bool
-set_lacks_room (lower_set.Set e) = false
-set_lacks_room lower_set.TooManyPorts = false
-set_lacks_room lower_set.UnknownNode = false
-set_lacks_room lower_set.MovesTooShort = false
-set_lacks_room lower_set.NoRoom = true
+abbrev pub set_lacks_room : Result ℕ SetError → Bool
+set_lacks_room (Ok e) = false
+set_lacks_room (Err set_error.TooManyPorts) = false
+set_lacks_room (Err set_error.UnknownNode) = false
+set_lacks_room (Err set_error.MovesTooShort) = false
+set_lacks_room (Err set_error.NoRoom) = true
 
 -- the ports of a node; 0 where it is not live
-abbrev pub ports_of : MaybeNodeMeta → ℕ
-ports_of maybe_meta.None = 0
-ports_of (maybe_meta.Some k) = k.incoming + k.outgoing
+abbrev pub ports_of : Option NodeMeta → ℕ
+ports_of None = 0
+ports_of (Some k) = k.incoming + k.outgoing
 
 -- the inner ports of two ends are on one side; one of them is linked
-abbrev pub on_one_side : lower_link_answer.LinkAnswer → Bool
-on_one_side (lower_link.Linked x y) = false
-on_one_side (lower_link.UnknownPort x) = false
-on_one_side (lower_link.UnknownSecondPort y) = false
-on_one_side (lower_link.IncompatibleDirections x y d) = true
-on_one_side (lower_link.AlreadyLinked x) = false
+abbrev pub on_one_side : Result (PortIndex × PortIndex) LinkError → Bool
+on_one_side (Ok (x, y)) = false
+on_one_side (Err (link_error.UnknownPort x)) = false
+on_one_side (Err (link_error.UnknownSecondPort y)) = false
+on_one_side (Err (link_error.IncompatibleDirections x y d)) = true
+on_one_side (Err (link_error.AlreadyLinked x)) = false
 
-abbrev pub one_linked : lower_link_answer.LinkAnswer → Bool
-one_linked (lower_link.Linked x y) = false
-one_linked (lower_link.UnknownPort x) = false
-one_linked (lower_link.UnknownSecondPort y) = false
-one_linked (lower_link.IncompatibleDirections x y d) = false
-one_linked (lower_link.AlreadyLinked x) = true
+abbrev pub one_linked : Result (PortIndex × PortIndex) LinkError → Bool
+one_linked (Ok (x, y)) = false
+one_linked (Err (link_error.UnknownPort x)) = false
+one_linked (Err (link_error.UnknownSecondPort y)) = false
+one_linked (Err (link_error.IncompatibleDirections x y d)) = false
+one_linked (Err (link_error.AlreadyLinked x)) = true
 
 -- and what is then carried
-abbrev pub refused_below : lower_link_answer.LinkAnswer → Refusal
-refused_below (lower_link.Linked x y) = NoRoom
-refused_below (lower_link.UnknownPort x) = UnknownPort x
-refused_below (lower_link.UnknownSecondPort y) = UnknownSecondPort y
-refused_below (lower_link.IncompatibleDirections x y d) = IncompatibleDirections x y d
-refused_below (lower_link.AlreadyLinked x) = AlreadyLinked x
+abbrev pub refused_below : Result (PortIndex × PortIndex) LinkError → Refusal
+refused_below (Ok (x, y)) = NoRoom
+refused_below (Err (link_error.UnknownPort x)) = UnknownPort x
+refused_below (Err (link_error.UnknownSecondPort y)) = UnknownSecondPort y
+refused_below (Err (link_error.IncompatibleDirections x y d)) = IncompatibleDirections x y d
+refused_below (Err (link_error.AlreadyLinked x)) = AlreadyLinked x
 
 -- the two ends of a link of ports: the first is prepared on the graph handed in, the second on what that left
 abbrev pub is_full : Prepared → Bool
@@ -158,7 +159,7 @@ inner_port lacking = 0
 abbrev pub end_of : MultiPortGraph → ℕ → ℕ → ℕ
 end_of m p o = inner_port (end_at m p (side_of (seen m p)) o)
 
-abbrev pub joining : MultiPortGraph → ℕ → ℕ → ℕ → ℕ → lower_link_answer.LinkAnswer
+abbrev pub joining : MultiPortGraph → ℕ → ℕ → ℕ → ℕ → Result (PortIndex × PortIndex) LinkError
 joining m p o q r = (link_ports m.graph (end_of m p o) (end_of m q r)).answer
 
 -- The table. The links take whether 18 is given: `input_taken` in their calls (Calls).

@@ -1,6 +1,6 @@
 -- How a walk finds its next item by scanning: the ports of a block's sides are consecutive slots, its listings are gathered over
 -- them, and what stands beyond a port and offset is the rest of that port's items, then the items of the later ports.
-use Rattle.std.specs.Prelude.{◌≡◌, Bool, ℕ, zero, suc, ◌+◌, ◌-◌, ◌≤◌, ◌<◌, max, min, eqb, leb, ltb}
+use Rattle.std.specs.Prelude.{◌≡◌, Bool, ℕ, zero, suc, ◌+◌, ◌-◌, ◌≤◌, ◌<◌, max, min, eqb, leb, ltb, Option, Some, None, Result, Ok, Err}
 use Rattle.std.proofs.Math.Path.{refl, sym, ap}
 use Rattle.std.proofs.Common.{◌∙◌, inl, inr, arith, lt-ltb, le-ltb, le-leb, eq-eqb, ne_eqb, ltb-true, ltb-false, leb-true, leb-false}
 use Rattle.std.proofs.Math.Bool.{true, false, cond}
@@ -10,7 +10,6 @@ use Rattle.port_tables.specs.Limits.{port_slots}
 use Rattle.port_tables.specs.Lists.{range, filter, Member}
 use Rattle.port_tables.specs.Entries.{ports_on, port#, ports_from, ports_to}
 use Rattle.portgraph.specs.Lookups.{meta_at, contains_node, count_in, start_of, port_in, is_some}
-use Rattle.port_tables.specs.declared.index.MaybePortIndex.TheVariants as maybe_port
 use Rattle.portgraph.specs.Model.{live, Slots, slot_of, first_of, side_start, count_of}
 use Rattle.portgraph.specs.PlaceLaws.{node_of_meta}
 use Rattle.portgraph.specs.GoodSlots.{zero_is_not_one}
@@ -19,8 +18,6 @@ use Rattle.port_tables.specs.declared.direction.Direction.TheVariants.{Incoming,
 use Rattle.port_tables.specs.declared.sides.Sides.{Sides}
 use Rattle.port_tables.specs.declared.sides.Sides.TheVariants.{One, Both}
 use Rattle.port_tables.specs.declared.node_entry.NodeMeta.{NodeMeta}
-use Rattle.port_tables.specs.declared.node_entry.MaybeNodeMeta.{MaybeNodeMeta}
-use Rattle.port_tables.specs.declared.node_entry.MaybeNodeMeta.TheVariants as maybe_meta
 use Rattle.multiportgraph.specs.Reading.{port_number, port_of, is_hidden, is_split, seen, subports, end_at, link_of_end}
 use Rattle.multi_tables.specs.Forms.{Port, dead, hidden, visible, subport#, wire_to}
 use Rattle.multiportgraph.specs.Wires.{is_block, ports_of_side, subports_of_port, subports_of_side, wire_of, side_links, is_beyond}
@@ -31,9 +28,9 @@ use Rattle.port_tables.specs.Listing.{member_map, member_flat_map, member_range,
 use Rattle.multiportgraph.specs.declared.multiportgraph.MultiPortGraph.{MultiPortGraph}
 use Rattle.multi_tables.specs.declared.answers.SubportIndex.{SubportIndex}
 use Rattle.multi_tables.specs.declared.answers.SubportLink.{SubportLink}
-use Rattle.multi_tables.specs.declared.answers.CutAnswer.{CutAnswer}
-use Rattle.multi_tables.specs.declared.answers.CutAnswer.TheVariants as cutting
 use Rattle.multi_tables.specs.Scans.{end_before}
+use Rattle.multi_tables.specs.declared.answers.Refusal.{Refusal}
+use Rattle.multi_tables.specs.declared.answers.PortPlace.{PortPlace}
 
 -- the subports of a block's port, of whichever side; none of any other number
 abbrev pub subports_seen : MultiPortGraph → ℕ → Port → List SubportIndex
@@ -280,11 +277,11 @@ pub wire_stands : (m : MultiPortGraph) (d : Direction) (s : SubportIndex) (w : S
 unfolding wire_of
 wire_stands m d s w = go (link_of_end m s.port.0 (end_at m s.port.0 d s.subport_offset))
   where
-    go : (a : CutAnswer) → Member w (wire_to s a) → w.from ≡ s
-    go (cutting.Found t x) (inl e) = ap (λ (v : SubportLink). v.from) e
-    go (cutting.Found t x) (inr i) = absurd i
-    go cutting.Nothing i = absurd i
-    go (cutting.Refused r) i = absurd i
+    go : (a : Result (Option (SubportIndex × PortPlace)) Refusal) → Member w (wire_to s a) → w.from ≡ s
+    go (Ok (Some (t, x))) (inl e) = ap (λ (v : SubportLink). v.from) e
+    go (Ok (Some (t, x))) (inr i) = absurd i
+    go (Ok None) i = absurd i
+    go (Err r) i = absurd i
 
 pub subport_stands : (m : MultiPortGraph) (d : Direction) (p : ℕ) (s : SubportIndex) → Member s (subports_of_port m d p) → s.port.0 ≡ p
 unfolding subports_of_port
@@ -384,23 +381,23 @@ filter_beyond_held p o l = filter_same (is_beyond p o) (link_beyond (suc p) o) l
 
 -- The ports of a live node are consecutive slots, on any graph.
 
-pub port_there : (m : MultiPortGraph) (n : ℕ) (k : NodeMeta) → meta_at m.graph n ≡ maybe_meta.Some k → (d : Direction) (i : ℕ) → i < ports_on k d →
+pub port_there : (m : MultiPortGraph) (n : ℕ) (k : NodeMeta) → meta_at m.graph n ≡ Some k → (d : Direction) (i : ℕ) → i < ports_on k d →
     port_of m.graph n d i ≡ ports_from k (One d) + i
 unfolding port_of
 port_there m n k e d i l =
-    ap (λ (v : MaybeNodeMeta). port_number (port_in v (record { direction = d; index = i }))) e
+    ap (λ (v : Option NodeMeta). port_number (port_in v (record { direction = d; index = i }))) e
     ∙ rw (lt-ltb i (ports_on k d) l) (go d)
   where
-    go : (d : Direction) → port_number (maybe_port.Some (port# (k.first_port.0 + start_of k d + i))) ≡ ports_from k (One d) + i
+    go : (d : Direction) → port_number (Some (port# (k.first_port.0 + start_of k d + i))) ≡ ports_from k (One d) + i
     go Incoming = omega arith
     go Outgoing = refl
 
-pub side_in_row : (m : MultiPortGraph) (n : ℕ) (k : NodeMeta) → meta_at m.graph n ≡ maybe_meta.Some k → (d : Direction) →
+pub side_in_row : (m : MultiPortGraph) (n : ℕ) (k : NodeMeta) → meta_at m.graph n ≡ Some k → (d : Direction) →
     ports_of_side m d n ≡ range (ports_from k (One d)) (ports_on k d)
 unfolding ports_of_side
 side_in_row m n k e d =
     let q : ports_from k (One d) + 0 ≡ ports_from k (One d) = omega arith in
-    ap (λ (v : MaybeNodeMeta). map (port_of m.graph n d) (range 0 (count_in v d))) e
+    ap (λ (v : Option NodeMeta). map (port_of m.graph n d) (range 0 (count_in v d))) e
     ∙ (map_range (port_of m.graph n d) (ports_from k (One d)) 0 (ports_on k d) (λ j l. port_there m n k e d j (omega arith))
     ∙ ap (λ (s : ℕ). range s (ports_on k d)) q)
 
@@ -429,7 +426,7 @@ unfolding flat_map
 flat_map_single [] = refl
 flat_map_single {A} (x ∷ l) = ap (λ (r : List A). x ∷ r) (flat_map_single l)
 
-pub ports_in_row : (m : MultiPortGraph) (n : ℕ) (k : NodeMeta) → meta_at m.graph n ≡ maybe_meta.Some k → (sides : Sides) →
+pub ports_in_row : (m : MultiPortGraph) (n : ℕ) (k : NodeMeta) → meta_at m.graph n ≡ Some k → (sides : Sides) →
     ports_of_node m n sides ≡ range (ports_from k sides) (ports_across k sides)
 unfolding ports_of_node
 ports_in_row m n k e sides =
@@ -447,16 +444,16 @@ block_not_hidden m n = go (is_hidden m n)
     go true h = absurd (zero_is_not_one (cc))
     go false h = refl
 
-pub block_has_meta : (m : MultiPortGraph) (n : ℕ) → is_block m n ≡ true → (k : NodeMeta) × (meta_at m.graph n ≡ maybe_meta.Some k)
+pub block_has_meta : (m : MultiPortGraph) (n : ℕ) → is_block m n ≡ true → (k : NodeMeta) × (meta_at m.graph n ≡ Some k)
 unfolding is_block
 block_has_meta m n = go (is_hidden m n) (meta_at m.graph n) refl
   where
-    go : (b : Bool) (v : MaybeNodeMeta) → meta_at m.graph n ≡ v → cond b false (is_some v) ≡ true → (k : NodeMeta) × (meta_at m.graph n ≡ maybe_meta.Some k)
+    go : (b : Bool) (v : Option NodeMeta) → meta_at m.graph n ≡ v → cond b false (is_some v) ≡ true → (k : NodeMeta) × (meta_at m.graph n ≡ Some k)
     go true v e h = absurd (zero_is_not_one (cc))
-    go false maybe_meta.None e h = absurd (zero_is_not_one (cc))
-    go false (maybe_meta.Some k) e h = (k, e)
+    go false None e h = absurd (zero_is_not_one (cc))
+    go false (Some k) e h = (k, e)
 
-module _ {m : MultiPortGraph} (w : MultiWf m) (n : ℕ) (k : NodeMeta) (open_node : is_hidden m n ≡ false) (meta : meta_at m.graph n ≡ maybe_meta.Some k) where
+module _ {m : MultiPortGraph} (w : MultiWf m) (n : ℕ) (k : NodeMeta) (open_node : is_hidden m n ≡ false) (meta : meta_at m.graph n ≡ Some k) where
   pub port_seen_there : (d : Direction) (p : ℕ) → ports_from k (One d) ≤ p → p < ports_from k (One d) + ports_on k d → seen m p ≡ visible n d
   port_seen_there d p l h =
       let s : w.model.node n ≡ live k = node_of_meta w.fine.good w.fine.holds n k meta in

@@ -1,6 +1,6 @@
 -- What the scans over lent tables list is what the walks list: under MultiWf the links of a port, of a row of ports beyond what a
 -- cursor holds, and of all blocks.
-use Rattle.std.specs.Prelude.{◌≡◌, Bool, eqb, leb, get_or}
+use Rattle.std.specs.Prelude.{◌≡◌, Bool, eqb, leb, get_or, Some}
 use Rattle.std.proofs.Math.Path.{refl, sym, ap}
 use Rattle.std.proofs.Common.{◌∙◌}
 use Rattle.std.proofs.Math.Bool.{true, false, cond}
@@ -24,7 +24,6 @@ use Rattle.port_tables.specs.declared.sides.Sides.TheVariants.{One}
 use Rattle.port_tables.specs.declared.node_entry.NodeMeta.{NodeMeta}
 use Rattle.port_tables.specs.declared.node_entry.NodeEntry.{NodeEntry}
 use Rattle.port_tables.specs.declared.node_entry.NodeEntry.TheVariants as node_variants
-use Rattle.port_tables.specs.declared.node_entry.MaybeNodeMeta.TheVariants as maybe_meta
 use Rattle.port_tables.specs.declared.port_entry.PortMeta.{PortMeta}
 use Rattle.port_tables.specs.declared.port_entry.PortEntry.TheVariants as port_variants
 use Rattle.multiportgraph.specs.Reading.{is_hidden, is_split, seen, subports, subport_at, end_at, link_of_end}
@@ -249,7 +248,7 @@ module _ (m : MultiPortGraph) (w : MultiWf m) where
       let r = row_read c (suc p) in
       (λ i. a i ++ r i) ∙ sym (links_on m p c)
 
-  module _ (n : ℕ) (k : NodeMeta) (open_node : is_hidden m n ≡ false) (meta : meta_at m.graph n ≡ maybe_meta.Some k) (t : SubportLink → Bool) (sides : Sides) where
+  module _ (n : ℕ) (k : NodeMeta) (open_node : is_hidden m n ≡ false) (meta : meta_at m.graph n ≡ Some k) (t : SubportLink → Bool) (sides : Sides) where
     fits : min (ports_to k sides) port_slots ≡ ports_to k sides
     fits = let r = row_fits w n k open_node meta sides in omega arith
 

@@ -1,6 +1,6 @@
 -- Other counts for a block: the lower resize leaves the hidden nodes of dropped ports hanging on nothing (`Loose`), and they go
 -- one after the other. Every wire at a dropped position goes, all others stay.
-use Rattle.std.specs.Prelude.{◌≡◌, Bool, ◌||◌, List, [], ◌∷◌, ◌++◌, ◌⊎◌, leb, set, length}
+use Rattle.std.specs.Prelude.{◌≡◌, Bool, ◌||◌, List, [], ◌∷◌, ◌++◌, ◌⊎◌, leb, set, length, Option, Some, None, Ok, Err, Result}
 use Rattle.std.proofs.Math.Path.{refl, sym, ap, subst}
 use Rattle.std.proofs.Common.{◌∙◌, inl, inr, leb-true, leb-false, le-leb, eq-eqb, ne_eqb}
 use Rattle.std.proofs.Math.Bool.{true, false, cond}
@@ -29,11 +29,7 @@ use Rattle.portgraph.specs.PlaceLaws.{meta_of_node, node_of_meta, port_index_is}
 use Rattle.port_tables.specs.declared.direction.Direction.{Direction}
 use Rattle.port_tables.specs.declared.direction.Direction.TheVariants.{Incoming, Outgoing}
 use Rattle.port_tables.specs.declared.node_entry.NodeMeta.{NodeMeta}
-use Rattle.port_tables.specs.declared.node_entry.MaybeNodeMeta.{MaybeNodeMeta}
-use Rattle.port_tables.specs.declared.node_entry.MaybeNodeMeta.TheVariants as maybe_meta
 use Rattle.portgraph.specs.declared.portgraph.PortGraph.{PortGraph}
-use Rattle.portgraph.specs.declared.resize.SetAnswer as lower_set_answer
-use Rattle.portgraph.specs.declared.resize.SetAnswer.TheVariants as lower_set
 use Rattle.multiportgraph.specs.Reading.{is_hidden, is_split, copy_side, copy_node, port_number, port_of, subports}
 use Rattle.multiportgraph.specs.Calls.{set_as, set_counts}
 use Rattle.multiportgraph.specs.WellFormed.{inner#, copy_place, Fine, Marked, copy_port, main_port_lem, BlockIs, Seen, outer, IsEnd, Wiring, subports_of_slot}
@@ -44,11 +40,12 @@ use Rattle.multiportgraph.specs.declared.multiportgraph.MultiPortGraph.{MultiPor
 use Rattle.multiportgraph.specs.declared.multiportgraph.PortsSet.{PortsSet}
 use Rattle.multi_tables.specs.declared.answers.Refusal.{Refusal}
 use Rattle.multi_tables.specs.declared.answers.Refusal.TheVariants.{TooManyPorts, UnknownNode, HiddenNode}
-use Rattle.multiportgraph.specs.declared.multiportgraph.SetAnswer.TheVariants as resize
 use Rattle.port_tables.specs.Places.{Wire, touches, of_dropped, flag}
 use Rattle.multiportgraph.specs.HiddenNodes.{recounted, copies_in, copies_dropped, remove_copy, remove_lone, remove_all}
 use Rattle.multiportgraph.specs.Cases.{resized, set_meta}
 use Rattle.multiportgraph.specs.CaseLaws.{set_cases}
+use Rattle.portgraph.specs.declared.resize.SetError.TheVariants as set_error
+use Rattle.portgraph.specs.declared.resize.SetError.{SetError}
 
 -- Lists.
 
@@ -891,13 +888,13 @@ pub record SetDone (m : MultiPortGraph) (M : Model) (m' : MultiPortGraph) (n i o
 
 -- answer and graph of a resize on m
 abbrev SetSays : MultiPortGraph → Model → ℕ → ℕ → ℕ → PortsSet → Type 0
-SetSays m M n i o s = ((e : ℕ) → s.answer ≡ resize.Set e → SetDone m M s.graph n i o) × ((x : Refusal) → s.answer ≡ resize.Refused x → s.graph ≡ m)
+SetSays m M n i o s = ((e : ℕ) → s.answer ≡ Ok e → SetDone m M s.graph n i o) × ((x : Refusal) → s.answer ≡ Err x → s.graph ≡ m)
 
 module _ {m : MultiPortGraph} {M : Model} (f : Fine m M) (n i o room : ℕ) where
   set_says : SetSays m M n i o (set_counts m n i o room)
   set_says = subst (SetSays m M n i o) (sym (set_cases present m n i o room)) (few (leb (i + o) node_ports))
     where
-      refused : (x : Refusal) → SetSays m M n i o (record { graph = m; answer = resize.Refused x })
+      refused : (x : Refusal) → SetSays m M n i o (record { graph = m; answer = Err x })
       refused x = ((λ e q. absurd (zero_is_not_one (cc))), (λ y q. refl))
 
       done : (k : NodeMeta) → is_hidden m n ≡ false → M.node n ≡ live k → (g' : PortGraph) → SomeRecount g' M n i o
@@ -924,17 +921,17 @@ module _ {m : MultiPortGraph} {M : Model} (f : Fine m M) (n i o room : ℕ) wher
                 splits = splits_left f n k shown here i o z;
               }
 
-      lower : (k : NodeMeta) → is_hidden m n ≡ false → M.node n ≡ live k → (t : lower_set_answer.SetAnswer) → (set_num_ports m.graph n i o room).answer ≡ t
+      lower : (k : NodeMeta) → is_hidden m n ≡ false → M.node n ≡ live k → (t : Result ℕ SetError) → (set_num_ports m.graph n i o room).answer ≡ t
           → SetSays m M n i o (record { graph = resized m n k i o (set_num_ports m.graph n i o room).graph t; answer = set_as t })
-      lower k shown here (lower_set.Set e) q =
+      lower k shown here (Ok e) q =
           ((λ x p. done k shown here (set_num_ports m.graph n i o room).graph (set_recounts f.good f.holds n i o room e q)), (λ x p. absurd (zero_is_not_one (cc))))
-      lower k shown here lower_set.TooManyPorts q = ((λ e q. absurd (zero_is_not_one (cc))), (λ y q. refl))
-      lower k shown here lower_set.UnknownNode q = ((λ e q. absurd (zero_is_not_one (cc))), (λ y q. refl))
-      lower k shown here lower_set.MovesTooShort q = ((λ e q. absurd (zero_is_not_one (cc))), (λ y q. refl))
-      lower k shown here lower_set.NoRoom q = ((λ e q. absurd (zero_is_not_one (cc))), (λ y q. refl))
+      lower k shown here (Err set_error.TooManyPorts) q = ((λ e q. absurd (zero_is_not_one (cc))), (λ y q. refl))
+      lower k shown here (Err set_error.UnknownNode) q = ((λ e q. absurd (zero_is_not_one (cc))), (λ y q. refl))
+      lower k shown here (Err set_error.MovesTooShort) q = ((λ e q. absurd (zero_is_not_one (cc))), (λ y q. refl))
+      lower k shown here (Err set_error.NoRoom) q = ((λ e q. absurd (zero_is_not_one (cc))), (λ y q. refl))
 
       block : (k : NodeMeta) → M.node n ≡ live k → (t : Bool) → is_hidden m n ≡ t
-          → SetSays m M n i o (cond t (record { graph = m; answer = resize.Refused HiddenNode })
+          → SetSays m M n i o (cond t (record { graph = m; answer = Err HiddenNode })
           (record {
             graph = resized m n k i o (set_num_ports m.graph n i o room).graph (set_num_ports m.graph n i o room).answer;
             answer = set_as (set_num_ports m.graph n i o room).answer;
@@ -942,18 +939,18 @@ module _ {m : MultiPortGraph} {M : Model} (f : Fine m M) (n i o room : ℕ) wher
       block k here true q = refused HiddenNode
       block k here false q = lower k q here (set_num_ports m.graph n i o room).answer refl
 
-      node : (t : MaybeNodeMeta) → meta_at m.graph n ≡ t → SetSays m M n i o (set_meta m n i o room t)
-      node maybe_meta.None q = refused UnknownNode
-      node (maybe_meta.Some k) q = block k (node_of_meta f.good f.holds n k q) (is_hidden m n) refl
+      node : (t : Option NodeMeta) → meta_at m.graph n ≡ t → SetSays m M n i o (set_meta m n i o room t)
+      node None q = refused UnknownNode
+      node (Some k) q = block k (node_of_meta f.good f.holds n k q) (is_hidden m n) refl
 
-      few : (t : Bool) → SetSays m M n i o (cond t (set_meta m n i o room (meta_at m.graph n)) (record { graph = m; answer = resize.Refused TooManyPorts }))
+      few : (t : Bool) → SetSays m M n i o (cond t (set_meta m n i o room (meta_at m.graph n)) (record { graph = m; answer = Err TooManyPorts }))
       few true = node (meta_at m.graph n) refl
       few false = refused TooManyPorts
 
   -- an accepted resize
-  pub set_counts_law : (e : ℕ) → (set_counts m n i o room).answer ≡ resize.Set e → SetDone m M (set_counts m n i o room).graph n i o
+  pub set_counts_law : (e : ℕ) → (set_counts m n i o room).answer ≡ Ok e → SetDone m M (set_counts m n i o room).graph n i o
   set_counts_law = set_says.0
 
   -- a refused one changes nothing
-  pub set_refused_law : (x : Refusal) → (set_counts m n i o room).answer ≡ resize.Refused x → (set_counts m n i o room).graph ≡ m
+  pub set_refused_law : (x : Refusal) → (set_counts m n i o room).answer ≡ Err x → (set_counts m n i o room).graph ≡ m
   set_refused_law = set_says.1

@@ -1,6 +1,6 @@
 -- Refusal 10 by the work it speaks of: the free node slots and blocks with the used lengths (`Room`), what each work takes or
 -- gives back without any limit, and the works of each call, in order, up to the answer that it reaches.
-use Rattle.std.specs.Prelude.{Bool, cond, ◌||◌, ℕ, ◌+◌, ◌*◌, eqb, leb, ltb}
+use Rattle.std.specs.Prelude.{Bool, cond, ◌||◌, ℕ, ◌+◌, ◌*◌, eqb, leb, ltb, Option, Some, None}
 use mathlib.Core.List.{List, [], ◌∷◌, ◌++◌, flat_map}
 use Rattle.port_tables.specs.Limits.{node_slots, port_slots}
 use Rattle.portgraph.specs.Model.{Model}
@@ -11,8 +11,6 @@ use Rattle.portgraph.specs.Lookups.{meta_at}
 use Rattle.port_tables.specs.ResizeLinks.{round_up, same_counts, fits_inside}
 use Rattle.port_tables.specs.declared.direction.Direction.{Direction}
 use Rattle.port_tables.specs.declared.node_entry.NodeMeta.{NodeMeta}
-use Rattle.port_tables.specs.declared.node_entry.MaybeNodeMeta.{MaybeNodeMeta}
-use Rattle.port_tables.specs.declared.node_entry.MaybeNodeMeta.TheVariants as maybe_meta
 use Rattle.multiportgraph.specs.Reading.{has_link, is_split, seen, copy_node, subports}
 use Rattle.multi_tables.specs.Forms.{Port, dead, hidden, visible}
 use Rattle.multiportgraph.specs.Refusals.{input_taken}
@@ -100,9 +98,9 @@ abbrev pub add_works : ℕ → ℕ → List Work
 add_works incoming outgoing = take_node ∷ take_block (incoming + outgoing) ∷ []
 
 -- a node goes
-abbrev pub gone_works : ℕ → MaybeNodeMeta → List Work
-gone_works n maybe_meta.None = []
-gone_works n (maybe_meta.Some k) = give_node n ∷ give_block k.first_port.0 k.capacity ∷ []
+abbrev pub gone_works : ℕ → Option NodeMeta → List Work
+gone_works n None = []
+gone_works n (Some k) = give_node n ∷ give_block k.first_port.0 k.capacity ∷ []
 
 -- hidden nodes go, one after the other
 abbrev pub copies_gone : MultiPortGraph → List ℕ → List Work
@@ -118,9 +116,9 @@ recount_works k incoming outgoing =
     cond (same_counts k incoming outgoing) [] (cond (fits_inside k incoming outgoing) [] (move_works k (incoming + outgoing)))
 
 -- changing a block's counts: then the hidden nodes of dropped ports go
-abbrev pub set_meta_works : MultiPortGraph → ℕ → ℕ → MaybeNodeMeta → List Work
-set_meta_works m incoming outgoing maybe_meta.None = []
-set_meta_works m incoming outgoing (maybe_meta.Some k) = recount_works k incoming outgoing ++ copies_gone m (copies_dropped m k incoming outgoing)
+abbrev pub set_meta_works : MultiPortGraph → ℕ → ℕ → Option NodeMeta → List Work
+set_meta_works m incoming outgoing None = []
+set_meta_works m incoming outgoing (Some k) = recount_works k incoming outgoing ++ copies_gone m (copies_dropped m k incoming outgoing)
 
 unfoldable pub set_works : MultiPortGraph → ℕ → ℕ → ℕ → List Work
 set_works m n incoming outgoing = set_meta_works m incoming outgoing (meta_at m.graph n)
@@ -130,9 +128,9 @@ abbrev pub split_works : List Work
 split_works = take_node ∷ take_block 3 ∷ []
 
 -- one more subport of a hidden node
-abbrev pub grow_works : MaybeNodeMeta → List Work
-grow_works maybe_meta.None = []
-grow_works (maybe_meta.Some k) = cond (ltb (k.incoming + k.outgoing + 1) k.capacity) [] (move_works k (k.incoming + k.outgoing + 1))
+abbrev pub grow_works : Option NodeMeta → List Work
+grow_works None = []
+grow_works (Some k) = cond (ltb (k.incoming + k.outgoing + 1) k.capacity) [] (move_works k (k.incoming + k.outgoing + 1))
 
 -- an end, by the cases of mark and link
 unfoldable pub reuse_works : MultiPortGraph → ℕ → ℕ → ℕ → List Work
@@ -172,10 +170,10 @@ unfoldable pub link_clean_works : MultiPortGraph → ℕ → ℕ → List Work
 link_clean_works m a b = cond (input_taken m a b) [] (link_clean_seen_works m a b (seen m a) (seen m b))
 
 -- removing a block: its hidden nodes by ascending port, then the node itself
-abbrev pub remove_meta_works : MultiPortGraph → ℕ → MaybeNodeMeta → List Work
-remove_meta_works m n maybe_meta.None = []
-remove_meta_works m n (maybe_meta.Some k) =
-    copies_gone m (copies_in m k.first_port.0 (k.incoming + k.outgoing)) ++ gone_works n (maybe_meta.Some k)
+abbrev pub remove_meta_works : MultiPortGraph → ℕ → Option NodeMeta → List Work
+remove_meta_works m n None = []
+remove_meta_works m n (Some k) =
+    copies_gone m (copies_in m k.first_port.0 (k.incoming + k.outgoing)) ++ gone_works n (Some k)
 
 unfoldable pub remove_works : MultiPortGraph → ℕ → List Work
 remove_works m n = remove_meta_works m n (meta_at m.graph n)
@@ -190,9 +188,9 @@ tidy_works m p d = cond (is_split m p) (cond (ltb 1 (subports_left m p d)) [] (g
 
 -- The works of every call; none where it is refused before 10.
 
-abbrev pub told_works : MultiPortGraph → ℕ → ℕ → ℕ → ℕ → MaybeNodeMeta → List Work
-told_works m n incoming outgoing room maybe_meta.None = []
-told_works m n incoming outgoing room (maybe_meta.Some k) =
+abbrev pub told_works : MultiPortGraph → ℕ → ℕ → ℕ → ℕ → Option NodeMeta → List Work
+told_works m n incoming outgoing room None = []
+told_works m n incoming outgoing room (Some k) =
     cond (leb (3 * (k.incoming + k.outgoing)) room) (set_works m n incoming outgoing) []
 
 abbrev pub cut_seen_works : MultiPortGraph → ℕ → Port → List Work

@@ -1,6 +1,6 @@
 -- Refusal 10 is given exactly where the works of a call would lengthen a table past its limit, and after an accepted call the
 -- room is that after its works.
-use Rattle.std.specs.Prelude.{◌≡◌, Bool, cond, not, ◌||◌, ◌↔◌, ℕ, zero, suc, ◌+◌, ◌*◌, ◌≤◌, ◌<◌, eqb, leb, ltb, get_or, set}
+use Rattle.std.specs.Prelude.{◌≡◌, Bool, cond, not, ◌||◌, ◌↔◌, ℕ, zero, suc, ◌+◌, ◌*◌, ◌≤◌, ◌<◌, eqb, leb, ltb, get_or, set, Option, Some, None, Result, Ok, Err}
 use Rattle.std.proofs.Math.Path.{refl, sym, ap, subst, transport}
 use Rattle.std.proofs.Common.{◌∙◌, inl, inr, arith, ltb-true, leb-true, leb-false, eqb-true, lt-ltb, le-ltb, le-leb, ne_eqb}
 use Rattle.std.proofs.Math.Bool.{true, false}
@@ -29,12 +29,6 @@ use Rattle.portgraph.specs.GoodLaws.{good_add, good_resize, good_move, good_remo
 use Rattle.portgraph.specs.Lookups.{meta_at, num_ports}
 use Rattle.portgraph.specs.PlaceLaws.{meta_of_node, node_of_meta, gone_has_no_meta}
 use Rattle.port_tables.specs.declared.node_entry.NodeMeta.{NodeMeta}
-use Rattle.port_tables.specs.declared.node_entry.MaybeNodeMeta.{MaybeNodeMeta}
-use Rattle.port_tables.specs.declared.node_entry.MaybeNodeMeta.TheVariants as maybe_meta
-use Rattle.portgraph.specs.declared.portgraph.PortLink.{PortLink}
-use Rattle.portgraph.specs.declared.portgraph.PortLink.TheVariants as lower_cut
-use Rattle.portgraph.specs.declared.portgraph.LinkAnswer as lower_link_answer
-use Rattle.portgraph.specs.declared.portgraph.LinkAnswer.TheVariants as lower_link
 use Rattle.port_tables.specs.declared.node_entry.NodeSlot.{NodeSlot}
 use Rattle.port_tables.specs.declared.node_entry.FreeNodeEntry.{FreeNodeEntry}
 use Rattle.port_tables.specs.declared.node_entry.NodeEntry.TheVariants.{Free}
@@ -43,10 +37,6 @@ use Rattle.port_tables.specs.declared.direction.Direction.{Direction}
 use Rattle.port_tables.specs.declared.direction.Direction.TheVariants.{Incoming, Outgoing}
 use Rattle.portgraph.specs.declared.alloc.NodeAdded as lower_added
 use Rattle.portgraph.specs.declared.resize.PortsSet as lower_set_done
-use Rattle.portgraph.specs.declared.resize.SetAnswer as lower_set_answer
-use Rattle.portgraph.specs.declared.resize.SetAnswer.TheVariants as lower_set
-use Rattle.portgraph.specs.declared.alloc.AddAnswer as lower_add_answer
-use Rattle.portgraph.specs.declared.alloc.AddAnswer.TheVariants as lower_add
 use Rattle.multiportgraph.specs.Calls.{drop_block, remove_block, added_as, add_block, set_as, set_counts, cut_sub, link_sub, link_sub_if, set_counts_under, link_pair, link_pair_if, link_clean, link_clean_if, tidy_port}
 use Rattle.multiportgraph.specs.WellFormed.{inner#, copy_place, Fine, Seen, BlockIs, SameBlocks}
 use Rattle.multiportgraph.specs.Reading.{owner_of, copy_side, has_link, port_of, is_hidden, is_split, seen, copy_node, subports, end_at, as_read, far_subport, far_port, subport_at}
@@ -65,24 +55,25 @@ use Rattle.multi_tables.specs.declared.answers.Refusal.TheVariants.{BadOffset, T
 use Rattle.multi_tables.specs.declared.answers.SubportIndex.{SubportIndex}
 use Rattle.multiportgraph.specs.declared.multiportgraph.NodeAdded.{NodeAdded}
 use Rattle.multiportgraph.specs.declared.multiportgraph.NodeRemoved.{NodeRemoved}
-use Rattle.multiportgraph.specs.declared.multiportgraph.RemoveAnswer.TheVariants as remove
 use Rattle.multiportgraph.specs.declared.multiportgraph.PortUnlinked.{PortUnlinked}
-use Rattle.multi_tables.specs.declared.answers.CutAnswer.TheVariants as cutting
-use Rattle.multiportgraph.specs.declared.multiportgraph.TidyAnswer.TheVariants as tidying
 use Rattle.multiportgraph.specs.declared.multiportgraph.PortTidied.{PortTidied}
 use Rattle.multiportgraph.specs.declared.multiportgraph.PortsSet.{PortsSet}
-use Rattle.multiportgraph.specs.declared.multiportgraph.SetAnswer.TheVariants as resize
 use Rattle.multiportgraph.specs.declared.multiportgraph.PortsLinked.{PortsLinked}
-use Rattle.multiportgraph.specs.declared.multiportgraph.LinkAnswer.TheVariants as link
-use Rattle.multi_tables.specs.declared.named.NamedPair.{NamedPair}
-use Rattle.multi_tables.specs.declared.named.NamedPair.TheVariants as pair
-use Rattle.multiportgraph.specs.declared.multiportgraph.AddAnswer.TheVariants as add
 use Rattle.multiportgraph.specs.HiddenNodes.{unsplit_range, copies_in, recounted, Prepared, ready, full, copy_incoming, copy_outgoing, split, split_by, split_port, split_graph, lowest_free, more_incoming, more_outgoing, enough, grow, grown_by, reuse, prepare, remove_copy, remove_lone, remove_all, copies_dropped, unsplit, split_under, grow_under, prepare_under, reuse_under}
 use Rattle.multiportgraph.specs.Cases.{remove_refused, remove_meta, link_first, link_second, link_seen, link_refused, set_refused, resized, set_meta, cut_refused, cut_end, cut_sub_seen, link_inner, link_second_end, link_first_end, link_sub_seen, link_live, link_clean_by, taken_sub_seen, tidy_seen}
 use Rattle.multi_tables.specs.NamedEnds.{pair_seen, taken_seen, taken_second, taken_first}
 use Rattle.multiportgraph.specs.Graph.{with_graph}
 use Rattle.multiportgraph.specs.Refusals.{input_taken}
 use Rattle.multiportgraph.specs.CaseLaws.{add_cases, set_cases, link_cases, link_taken, link_clean_cases, link_clean_taken, link_sub_cases, link_sub_taken, cut_sub_cases, remove_cases, tidy_cases}
+use Rattle.port_tables.specs.declared.index.PortIndex.{PortIndex}
+use Rattle.portgraph.specs.declared.portgraph.NoSuchPort.{NoSuchPort}
+use Rattle.portgraph.specs.declared.alloc.AddError.TheVariants as add_error
+use Rattle.portgraph.specs.declared.portgraph.LinkError.TheVariants as link_error
+use Rattle.portgraph.specs.declared.resize.SetError.TheVariants as set_error
+use Rattle.port_tables.specs.declared.index.NodeIndex.{NodeIndex}
+use Rattle.portgraph.specs.declared.alloc.AddError.{AddError}
+use Rattle.portgraph.specs.declared.portgraph.LinkError.{LinkError}
+use Rattle.portgraph.specs.declared.resize.SetError.{SetError}
 
 -- Lengths never shrink, so what is passed on the way is passed at the end.
 
@@ -202,21 +193,21 @@ room_is h k = room_of_graph k h.holds ∙ h.is
 pub link_keeps_room : {g : PortGraph} {r : Room} → HasRoom g r → (a b : ℕ) → HasRoom (link_ports g a b).graph r
 link_keeps_room {g} {r} h a b = go (link_ports g a b).graph (link_ports g a b).answer (link_law h.good h.holds a b)
   where
-    go : (g' : PortGraph) (t : lower_link_answer.LinkAnswer) → LinkSays g h.model a b g' t → HasRoom g' r
-    go g' (lower_link.Linked p q) s =
+    go : (g' : PortGraph) (t : Result (PortIndex × PortIndex) LinkError) → LinkSays g h.model a b g' t → HasRoom g' r
+    go g' (Ok (p, q)) s =
         record { model = link_model h.model s.0.ends.first s.0.ends.second; good = s.0.good; holds = s.0.holds; is = h.is }
-    go g' (lower_link.UnknownPort p) s = subst (λ (v : PortGraph). HasRoom v r) (sym s.0) h
-    go g' (lower_link.UnknownSecondPort q) s = subst (λ (v : PortGraph). HasRoom v r) (sym s.0) h
-    go g' (lower_link.IncompatibleDirections p q d) s = subst (λ (v : PortGraph). HasRoom v r) (sym s.0) h
-    go g' (lower_link.AlreadyLinked p) s = subst (λ (v : PortGraph). HasRoom v r) (sym s.0) h
+    go g' (Err (link_error.UnknownPort p)) s = subst (λ (v : PortGraph). HasRoom v r) (sym s.0) h
+    go g' (Err (link_error.UnknownSecondPort q)) s = subst (λ (v : PortGraph). HasRoom v r) (sym s.0) h
+    go g' (Err (link_error.IncompatibleDirections p q d)) s = subst (λ (v : PortGraph). HasRoom v r) (sym s.0) h
+    go g' (Err (link_error.AlreadyLinked p)) s = subst (λ (v : PortGraph). HasRoom v r) (sym s.0) h
 
 pub unlink_keeps_room : {g : PortGraph} {r : Room} → HasRoom g r → (p : ℕ) → HasRoom (unlink_port g p).graph r
 unlink_keeps_room {g} {r} h p = go (unlink_port g p).graph (unlink_port g p).answer (unlink_law h.good h.holds p)
   where
-    go : (g' : PortGraph) (t : PortLink) → UnlinkSays g h.model p g' t → HasRoom g' r
-    go g' (lower_cut.Linked q) s = record { model = unlink_model h.model s.near; good = s.good; holds = s.holds; is = h.is }
-    go g' lower_cut.Unlinked s = subst (λ (v : PortGraph). HasRoom v r) (sym s.0) h
-    go g' (lower_cut.UnknownPort q) s = subst (λ (v : PortGraph). HasRoom v r) (sym s.0) h
+    go : (g' : PortGraph) (t : Result (Option PortIndex) NoSuchPort) → UnlinkSays g h.model p g' t → HasRoom g' r
+    go g' (Ok (Some q)) s = record { model = unlink_model h.model s.near; good = s.good; holds = s.holds; is = h.is }
+    go g' (Ok None) s = subst (λ (v : PortGraph). HasRoom v r) (sym s.0) h
+    go g' (Err q) s = subst (λ (v : PortGraph). HasRoom v r) (sym s.0) h
 
 -- Taking and giving back, said of the model.
 
@@ -247,7 +238,7 @@ pub room_added : {M : Model} → Good M → (incoming outgoing : ℕ) → room_o
 unfolding after_works after_work
 room_added {M} good incoming outgoing = sym (block_taken_lem (after_work (room_of M) take_node) (incoming + outgoing) (no_empty_block good))
 
-pub room_removed : (M : Model) (n : ℕ) (k : NodeMeta) → room_of (remove_model M n k) ≡ after_works (room_of M) (gone_works n (maybe_meta.Some k))
+pub room_removed : (M : Model) (n : ℕ) (k : NodeMeta) → room_of (remove_model M n k) ≡ after_works (room_of M) (gone_works n (Some k))
 unfolding after_works after_work
 room_removed M n k = refl
 
@@ -274,10 +265,10 @@ add_overflows {M} good incoming outgoing =
 -- Adding.
 
 -- g is the graph before
-abbrev pub AddSpace : PortGraph → PortGraph → Model → List Work → lower_add_answer.AddAnswer → Type 0
-AddSpace g g' M works (lower_add.Added n p) = (overflows (room_of M) works ≡ false) × HasRoom g' (after_works (room_of M) works)
-AddSpace g g' M works lower_add.TooManyPorts = ⊥
-AddSpace g g' M works lower_add.NoRoom = (overflows (room_of M) works ≡ true) × (g' ≡ g)
+abbrev pub AddSpace : PortGraph → PortGraph → Model → List Work → Result (NodeIndex × PortIndex) AddError → Type 0
+AddSpace g g' M works (Ok (n, p)) = (overflows (room_of M) works ≡ false) × HasRoom g' (after_works (room_of M) works)
+AddSpace g g' M works (Err add_error.TooManyPorts) = ⊥
+AddSpace g g' M works (Err add_error.NoRoom) = (overflows (room_of M) works ≡ true) × (g' ≡ g)
 
 pub add_node_space : {g : PortGraph} {M : Model} → Good M → Holds g M → (incoming outgoing : ℕ) → incoming + outgoing ≤ node_ports
     → AddSpace g (add_node g incoming outgoing).graph M (add_works incoming outgoing) (add_node g incoming outgoing).answer
@@ -319,15 +310,15 @@ spaced_refused : {m : MultiPortGraph} {M : Model} {works : List Work} {refused :
 spaced_refused c e u = record { no_room_iff = (λ t. e, λ t. c); unchanged = λ t. u; room_after = λ t. absurd (zero_is_not_one (cc)) }
 
 pub add_space : {m : MultiPortGraph} {M : Model} → Fine m M → (incoming outgoing : ℕ) → incoming + outgoing ≤ node_ports
-    → Spaced m M (add_works incoming outgoing) ((add_block m incoming outgoing).answer ≡ add.Refused NoRoom) (add_block m incoming outgoing).graph
+    → Spaced m M (add_works incoming outgoing) ((add_block m incoming outgoing).answer ≡ Err NoRoom) (add_block m incoming outgoing).graph
 add_space {m} {M} f incoming outgoing few =
-    subst (λ (v : NodeAdded). Spaced m M (add_works incoming outgoing) (v.answer ≡ add.Refused NoRoom) v.graph) (sym (add_cases present m incoming outgoing))
+    subst (λ (v : NodeAdded). Spaced m M (add_works incoming outgoing) (v.answer ≡ Err NoRoom) v.graph) (sym (add_cases present m incoming outgoing))
     (go (add_node m.graph incoming outgoing).graph (add_node m.graph incoming outgoing).answer (add_node_space f.good f.holds incoming outgoing few))
   where
-    go : (g : PortGraph) (a : lower_add_answer.AddAnswer) → AddSpace m.graph g M (add_works incoming outgoing) a → Spaced m M (add_works incoming outgoing) (added_as a ≡ add.Refused NoRoom) (with_graph m g)
-    go g (lower_add.Added n p) s = spaced_done (λ e. zero_is_not_one (cc)) s.0 s.1
-    go g lower_add.TooManyPorts s = absurd s
-    go g lower_add.NoRoom s = spaced_refused refl s.0 (ap (λ (v : PortGraph). with_graph m v) s.1)
+    go : (g : PortGraph) (a : Result (NodeIndex × PortIndex) AddError) → AddSpace m.graph g M (add_works incoming outgoing) a → Spaced m M (add_works incoming outgoing) (added_as a ≡ Err NoRoom) (with_graph m g)
+    go g (Ok (n, p)) s = spaced_done (λ e. zero_is_not_one (cc)) s.0 s.1
+    go g (Err add_error.TooManyPorts) s = absurd s
+    go g (Err add_error.NoRoom) s = spaced_refused refl s.0 (ap (λ (v : PortGraph). with_graph m v) s.1)
 
 -- Preparing an end.
 
@@ -350,10 +341,10 @@ split_space {m} {M} f p d =
     small Incoming = omega arith
     small Outgoing = omega arith
 
-    go : (g : PortGraph) (a : lower_add_answer.AddAnswer) → AddSpace m.graph g M (add_works (copy_incoming d) (copy_outgoing d)) a → PreparedSpace M (add_works (copy_incoming d) (copy_outgoing d)) (split_by m p d g a)
-    go g (lower_add.Added c first) s = (s.0, link_keeps_room (link_keeps_room (unlink_keeps_room s.1 p) p _) _ _)
-    go g lower_add.TooManyPorts s = absurd s
-    go g lower_add.NoRoom s = s.0
+    go : (g : PortGraph) (a : Result (NodeIndex × PortIndex) AddError) → AddSpace m.graph g M (add_works (copy_incoming d) (copy_outgoing d)) a → PreparedSpace M (add_works (copy_incoming d) (copy_outgoing d)) (split_by m p d g a)
+    go g (Ok (c, first)) s = (s.0, link_keeps_room (link_keeps_room (unlink_keeps_room s.1 p) p _) _ _)
+    go g (Err add_error.TooManyPorts) s = absurd s
+    go g (Err add_error.NoRoom) s = s.0
 
 -- Other counts.
 
@@ -368,12 +359,12 @@ move_overflows {M} good k size =
     ∙ (ap (λ (r : Room). overfull r) (sym (room_moved good 0 k 0 0 size))
     ∙ (λ i. ((le-ltb node_slots M.node_len good.nodes_fit i) || (past_not_within port_slots (M.port_len + growth size (M.free_blocks size)) i))))
 
-abbrev pub SetSpace : PortGraph → Model → List Work → lower_set_answer.SetAnswer → Type 0
-SetSpace g M works (lower_set.Set e) = (overflows (room_of M) works ≡ false) × HasRoom g (after_works (room_of M) works)
-SetSpace g M works lower_set.TooManyPorts = ⊥
-SetSpace g M works lower_set.UnknownNode = ⊥
-SetSpace g M works lower_set.MovesTooShort = ⊥
-SetSpace g M works lower_set.NoRoom = overflows (room_of M) works ≡ true
+abbrev pub SetSpace : PortGraph → Model → List Work → Result ℕ SetError → Type 0
+SetSpace g M works (Ok e) = (overflows (room_of M) works ≡ false) × HasRoom g (after_works (room_of M) works)
+SetSpace g M works (Err set_error.TooManyPorts) = ⊥
+SetSpace g M works (Err set_error.UnknownNode) = ⊥
+SetSpace g M works (Err set_error.MovesTooShort) = ⊥
+SetSpace g M works (Err set_error.NoRoom) = overflows (room_of M) works ≡ true
 
 inside_fits : (k : NodeMeta) (i o : ℕ) → fits_inside k i o ≡ true → i + o ≤ k.capacity
 unfolding fits_inside
@@ -397,7 +388,7 @@ set_space {g} {M} good holds n k here i o room few told =
     planned =
         set_law good holds n i o room
         ∙ ((λ j. set_by g n i o (plan_where M i o room (le-leb (i + o) node_ports few j) (here j)))
-        ∙ ap (λ (b : Bool). set_by g n i o (cond b (plan_live M i o k (same_counts k i o) (fits_inside k i o) (block_room M (round_up (i + o)))) (refuse lower_set.MovesTooShort)))
+        ∙ ap (λ (b : Bool). set_by g n i o (cond b (plan_live M i o k (same_counts k i o) (fits_inside k i o) (block_room M (round_up (i + o)))) (refuse (Err set_error.MovesTooShort))))
         (le-leb (3 * (k.incoming + k.outgoing)) room told))
 
     go : (a b c : Bool) → fits_inside k i o ≡ b → block_room M (round_up (i + o)) ≡ c
@@ -423,7 +414,7 @@ set_space {g} {M} good holds n k here i o room few told =
 
 -- One more subport.
 
-grow_works_lem : (k : NodeMeta) (i o : ℕ) → i + o ≡ k.incoming + k.outgoing + 1 → recount_works k i o ≡ grow_works (maybe_meta.Some k)
+grow_works_lem : (k : NodeMeta) (i o : ℕ) → i + o ≡ k.incoming + k.outgoing + 1 → recount_works k i o ≡ grow_works (Some k)
 unfolding recount_works same_counts fits_inside
 grow_works_lem k i o e =
     rw (differ (eqb i k.incoming) (eqb o k.outgoing) refl refl, lt-ltb 0 (i + o) (omega arith), e)
@@ -435,7 +426,7 @@ grow_works_lem k i o e =
 
 -- a node that has as many ports as a node can have gets no more, beside another node's port
 grown_beyond : {M : Model} → Good M → (n : ℕ) (k : NodeMeta) → M.node n ≡ live k → (x : model.InnerPlace) → Valid M.node x → (x.node ≡ n → ⊥)
-    → node_ports < k.incoming + k.outgoing + 1 → overflows (room_of M) (grow_works (maybe_meta.Some k)) ≡ true
+    → node_ports < k.incoming + k.outgoing + 1 → overflows (room_of M) (grow_works (Some k)) ≡ true
 grown_beyond {M} good n k here x valid apart h =
     let b = good.block_small n k here in
     let e = none_beyond good n k here x valid apart (k.incoming + k.outgoing + 1) h (omega arith) in
@@ -446,24 +437,24 @@ module _ {m : MultiPortGraph} {M : Model} (f : Fine m M) where
   pub grow_space : (c : ℕ) (k : NodeMeta) (d : Direction) → M.node c ≡ live k → (x : model.InnerPlace) → Valid M.node x → (x.node ≡ c → ⊥) → PreparedSpace M (grow_works (meta_at m.graph c)) (grow m c d)
   unfolding grow_under recounted
   grow_space c k d here x valid apart =
-      subst (λ (v : MaybeNodeMeta). PreparedSpace M (grow_works v) (grow m c d)) (sym meta_is)
+      subst (λ (v : Option NodeMeta). PreparedSpace M (grow_works v) (grow m c d)) (sym meta_is)
       (few (leb (more_incoming m.graph c d + more_outgoing m.graph c d) node_ports) refl)
     where
-      meta_is : meta_at m.graph c ≡ maybe_meta.Some k
+      meta_is : meta_at m.graph c ≡ Some k
       meta_is = meta_of_node f.good f.holds c k here
 
       one_more : (d : Direction) → more_incoming m.graph c d + more_outgoing m.graph c d ≡ k.incoming + k.outgoing + 1
       one_more Incoming = rw meta_is (omega arith)
       one_more Outgoing = rw meta_is (omega arith)
 
-      said : (g : PortGraph) (a : lower_set_answer.SetAnswer) → SetSpace g M (grow_works (maybe_meta.Some k)) a → PreparedSpace M (grow_works (maybe_meta.Some k)) (grown_by m c d g a)
-      said g (lower_set.Set e) s = s
-      said g lower_set.TooManyPorts s = absurd s
-      said g lower_set.UnknownNode s = absurd s
-      said g lower_set.MovesTooShort s = absurd s
-      said g lower_set.NoRoom s = s
+      said : (g : PortGraph) (a : Result ℕ SetError) → SetSpace g M (grow_works (Some k)) a → PreparedSpace M (grow_works (Some k)) (grown_by m c d g a)
+      said g (Ok e) s = s
+      said g (Err set_error.TooManyPorts) s = absurd s
+      said g (Err set_error.UnknownNode) s = absurd s
+      said g (Err set_error.MovesTooShort) s = absurd s
+      said g (Err set_error.NoRoom) s = s
 
-      few : (b : Bool) → leb (more_incoming m.graph c d + more_outgoing m.graph c d) node_ports ≡ b → PreparedSpace M (grow_works (maybe_meta.Some k)) (grow m c d)
+      few : (b : Bool) → leb (more_incoming m.graph c d + more_outgoing m.graph c d) node_ports ≡ b → PreparedSpace M (grow_works (Some k)) (grow m c d)
       few true e =
           let one = one_more d in
           let short = leb-true (more_incoming m.graph c d + more_outgoing m.graph c d) node_ports e in
@@ -476,7 +467,7 @@ module _ {m : MultiPortGraph} {M : Model} (f : Fine m M) where
       few false e =
           let one = one_more d in
           let long : node_ports < more_incoming m.graph c d + more_outgoing m.graph c d = leb-false (more_incoming m.graph c d + more_outgoing m.graph c d) node_ports e in
-          subst (λ (v : lower_set_done.PortsSet). PreparedSpace M (grow_works (maybe_meta.Some k)) (grown_by m c d v.graph v.answer))
+          subst (λ (v : lower_set_done.PortsSet). PreparedSpace M (grow_works (Some k)) (grown_by m c d v.graph v.answer))
           (sym (set_too_many f.good f.holds c (more_incoming m.graph c d) (more_outgoing m.graph c d) enough long))
           (grown_beyond f.good c k here x valid apart (omega arith))
 
@@ -532,7 +523,7 @@ still_seen {m} {M} {m'} {M'} f f' same p n d e =
     ap (seen m') (sym (k.1 ∙ b.slot)) ∙ (seen_block f' b.place k.0 ∙ (λ i. visible (b.node i) (b.side i)))
 
 -- 7, 8 and 18 are not 10
-not_room : (a b : ℕ) (u v : Port) → link.Refused (taken_seen a b u v) ≡ link.Refused NoRoom → ⊥
+not_room : (a b : ℕ) (u v : Port) → ◌≡◌ {A = Result (SubportIndex × SubportIndex) Refusal} (Err (taken_seen a b u v)) (Err NoRoom) → ⊥
 not_room a b dead v e = zero_is_not_one (cc)
 not_room a b hidden v e = zero_is_not_one (cc)
 not_room a b (visible n d) hidden e = zero_is_not_one (cc)
@@ -540,24 +531,24 @@ not_room a b (visible n d) dead e = zero_is_not_one (cc)
 not_room a b (visible n d) (visible k c) e = zero_is_not_one (cc)
 
 link_space_if : {m : MultiPortGraph} {M : Model} → Fine m M → (taken : Bool) (a b : ℕ) →
-    Spaced m M (cond taken [] (link_seen_works m a b (seen m a) (seen m b))) ((link_pair_if taken present m a b).answer ≡ link.Refused NoRoom) (link_pair_if taken present m a b).graph
+    Spaced m M (cond taken [] (link_seen_works m a b (seen m a) (seen m b))) ((link_pair_if taken present m a b).answer ≡ Err NoRoom) (link_pair_if taken present m a b).graph
 link_space_if {m} {M} f true a b =
-    subst (λ (v : PortsLinked). Spaced m M [] (v.answer ≡ link.Refused NoRoom) v.graph) (sym (link_taken present m a b))
+    subst (λ (v : PortsLinked). Spaced m M [] (v.answer ≡ Err NoRoom) v.graph) (sym (link_taken present m a b))
     (let s = nothing_taken f 0 0 in spaced_done (not_room a b (seen m a) (seen m b)) s.0 s.1)
 link_space_if {m} {M} f false a b =
-    subst (λ (v : PortsLinked). Spaced m M (link_seen_works m a b (seen m a) (seen m b)) (v.answer ≡ link.Refused NoRoom) v.graph) (sym (link_cases present m a b)) (go (seen m a) refl (seen m b) refl)
+    subst (λ (v : PortsLinked). Spaced m M (link_seen_works m a b (seen m a) (seen m b)) (v.answer ≡ Err NoRoom) v.graph) (sym (link_cases present m a b)) (go (seen m a) refl (seen m b) refl)
   where
     -- nothing is done
-    idle : (r : PortsLinked) → r.graph ≡ m → (r.answer ≡ link.Refused NoRoom → ⊥) → Spaced m M [] (r.answer ≡ link.Refused NoRoom) r.graph
+    idle : (r : PortsLinked) → r.graph ≡ m → (r.answer ≡ Err NoRoom → ⊥) → Spaced m M [] (r.answer ≡ Err NoRoom) r.graph
     idle r e never = let s = nothing_taken f 0 0 in spaced_done never s.0 (subst (λ (g : MultiPortGraph). HasRoom g.graph (after_works (room_of M) [])) (sym e) s.1)
 
-    first : (d : Direction) (t : Prepared) → PreparedSpace M (prepare_works m a d) t → Spaced m M (prepare_works m a d) ((link_first m b t).answer ≡ link.Refused NoRoom) (link_first m b t).graph
+    first : (d : Direction) (t : Prepared) → PreparedSpace M (prepare_works m a d) t → Spaced m M (prepare_works m a d) ((link_first m b t).answer ≡ Err NoRoom) (link_first m b t).graph
     first d full s = spaced_refused refl s refl
     first d (ready m₁ x o) s = spaced_done (λ e. zero_is_not_one (cc)) s.0 s.1
 
     -- the second end, where the first left m₁ with the room after its works
     second : (d : Direction) (x o : ℕ) (e : Direction) (works works₂ : List Work) (M₁ : Model) → room_of M₁ ≡ after_works (room_of M) works → (t : Prepared) → PreparedSpace M₁ works₂ t
-        → Spaced m M (works ++ works₂) ((link_second m a d x o b e t).answer ≡ link.Refused NoRoom) (link_second m a d x o b e t).graph
+        → Spaced m M (works ++ works₂) ((link_second m a d x o b e t).answer ≡ Err NoRoom) (link_second m a d x o b e t).graph
     second d x o e works works₂ M₁ r full s = spaced_refused refl (overflows_append (room_of M) works works₂ ∙ (ap (λ (v : Room). overflows v works₂) (sym r) ∙ s)) refl
     second d x o e works works₂ M₁ r (ready m₂ y i) s =
         ended (same_side d e) (overflows_append (room_of M) works works₂ ∙ (ap (λ (v : Room). overflows v works₂) (sym r) ∙ s.0))
@@ -565,13 +556,13 @@ link_space_if {m} {M} f false a b =
       where
         ended : (c : Bool) → overflows (room_of M) (works ++ works₂) ≡ false → HasRoom m₂.graph (after_works (room_of M) (works ++ works₂))
             → Spaced m M (works ++ works₂)
-            ((cond c (link_refused m₂ (IncompatibleDirections (port# x) (port# y) d)) (record { graph = with_graph m₂ (link_ports m₂.graph x y).graph; answer = link.Linked (subport# a o) (subport# b i) })).answer ≡ link.Refused NoRoom)
-            (cond c (link_refused m₂ (IncompatibleDirections (port# x) (port# y) d)) (record { graph = with_graph m₂ (link_ports m₂.graph x y).graph; answer = link.Linked (subport# a o) (subport# b i) })).graph
+            ((cond c (link_refused m₂ (IncompatibleDirections (port# x) (port# y) d)) (record { graph = with_graph m₂ (link_ports m₂.graph x y).graph; answer = Ok (subport# a o, subport# b i) })).answer ≡ Err NoRoom)
+            (cond c (link_refused m₂ (IncompatibleDirections (port# x) (port# y) d)) (record { graph = with_graph m₂ (link_ports m₂.graph x y).graph; answer = Ok (subport# a o, subport# b i) })).graph
         ended true e h = spaced_done (λ q. zero_is_not_one (cc)) e h
         ended false e h = spaced_done (λ q. zero_is_not_one (cc)) e (link_keeps_room h x y)
 
     both : (n : ℕ) (d : Direction) → seen m a ≡ visible n d → (k : ℕ) (e : Direction) → seen m b ≡ visible k e → (t : Prepared) → prepare m a d ≡ t → PreparedSpace M (prepare_works m a d) t
-        → Spaced m M (prepare_works m a d ++ second_works b e t) ((link_live m a d b e t).answer ≡ link.Refused NoRoom) (link_live m a d b e t).graph
+        → Spaced m M (prepare_works m a d ++ second_works b e t) ((link_live m a d b e t).answer ≡ Err NoRoom) (link_live m a d b e t).graph
     both n d p k e q full u s =
         spaced_refused refl (overflows_no_more (room_of M) (prepare_works m a d) ∙ s) refl
     both n d p k e q (ready m₁ x o) u s =
@@ -581,22 +572,22 @@ link_space_if {m} {M} f false a b =
         second d x o e (prepare_works m a d) (prepare_works m₁ b e) r.0 (room_is s.1 r.1.fine.holds) (prepare m₁ b e)
         (prepare_seen_space r.1.fine b k e (still_seen f r.1.fine r.1.blocks b k e q))
 
-    go : (s : Port) → seen m a ≡ s → (t : Port) → seen m b ≡ t → Spaced m M (link_seen_works m a b s t) ((link_seen m a b s t).answer ≡ link.Refused NoRoom) (link_seen m a b s t).graph
+    go : (s : Port) → seen m a ≡ s → (t : Port) → seen m b ≡ t → Spaced m M (link_seen_works m a b s t) ((link_seen m a b s t).answer ≡ Err NoRoom) (link_seen m a b s t).graph
     go dead p t q = idle (link_seen m a b dead t) refl (λ e. zero_is_not_one (cc))
     go hidden p t q = idle (link_seen m a b hidden t) refl (λ e. zero_is_not_one (cc))
     go (visible n d) p hidden q = idle (link_seen m a b (visible n d) hidden) refl (λ e. zero_is_not_one (cc))
     go (visible n d) p dead q = first d (prepare m a d) (prepare_seen_space f a n d p)
     go (visible n d) p (visible k e) q = both n d p k e q (prepare m a d) refl (prepare_seen_space f a n d p)
 
-pub link_space : {m : MultiPortGraph} {M : Model} → Fine m M → (a b : ℕ) → Spaced m M (link_works m a b) ((link_pair m a b).answer ≡ link.Refused NoRoom) (link_pair m a b).graph
+pub link_space : {m : MultiPortGraph} {M : Model} → Fine m M → (a b : ℕ) → Spaced m M (link_works m a b) ((link_pair m a b).answer ≡ Err NoRoom) (link_pair m a b).graph
 unfolding link_works
 link_space {m} f a b = link_space_if f (input_taken m a b) a b
 
 -- Nodes that go.
 
-abbrev meta_of_slots : Slots → MaybeNodeMeta
-meta_of_slots gone = maybe_meta.None
-meta_of_slots (live k) = maybe_meta.Some k
+abbrev meta_of_slots : Slots → Option NodeMeta
+meta_of_slots gone = None
+meta_of_slots (live k) = Some k
 
 meta_by_model : {g : PortGraph} {M : Model} → Good M → Holds g M → (n : ℕ) → meta_at g n ≡ meta_of_slots (M.node n)
 meta_by_model {g} {M} good holds n = go (M.node n) refl
@@ -617,7 +608,7 @@ gone_node_room {g} {r} h c =
           model = remove_model h.model c k;
           good = good_remove h.good c k e;
           holds = free_holds h.good h.holds c k e;
-          is = room_removed h.model c k ∙ ap (λ (v : Room). after_works v (gone_works c (maybe_meta.Some k))) h.is;
+          is = room_removed h.model c k ∙ ap (λ (v : Room). after_works v (gone_works c (Some k))) h.is;
         }
 
 other_node_stays : {g : PortGraph} {M : Model} → Good M → Holds g M → (c n : ℕ) → (n ≡ c → ⊥) → meta_at (remove_node g c).graph n ≡ meta_at g n
@@ -638,15 +629,15 @@ module _ (m : MultiPortGraph) where
   all_gone_room (c ∷ cs) m' r h once same =
       subst (HasRoom (remove_all (remove_lone m' c) cs).graph) (sym (after_append (gone_works c (meta_at m.graph c)) (copies_gone m cs) r))
       (all_gone_room cs (remove_lone m' c) (after_works r (gone_works c (meta_at m.graph c)))
-      (subst (λ (v : MaybeNodeMeta). HasRoom (remove_node m'.graph c).graph (after_works r (gone_works c v))) (same c (inl refl)) (gone_node_room h c))
+      (subst (λ (v : Option NodeMeta). HasRoom (remove_node m'.graph c).graph (after_works r (gone_works c v))) (same c (inl refl)) (gone_node_room h c))
       once.1
       (λ b i. other_node_stays h.good h.holds c b (λ q. once.0 (subst (λ (a : ℕ). Member a cs) q i)) ∙ same b (inr i)))
 
 -- what goes lengthens nothing
-gone_lengthens_nothing : (r : Room) (n : ℕ) (v : MaybeNodeMeta) → overfull (after_works r (gone_works n v)) ≡ overfull r
+gone_lengthens_nothing : (r : Room) (n : ℕ) (v : Option NodeMeta) → overfull (after_works r (gone_works n v)) ≡ overfull r
 unfolding after_works after_work
-gone_lengthens_nothing r n maybe_meta.None = refl
-gone_lengthens_nothing r n (maybe_meta.Some k) = refl
+gone_lengthens_nothing r n None = refl
+gone_lengthens_nothing r n (Some k) = refl
 
 copies_lengthen_nothing : (m : MultiPortGraph) (cs : List ℕ) (r : Room) → overfull (after_works r (copies_gone m cs)) ≡ overfull r
 unfolding flat_map after_works
@@ -663,18 +654,18 @@ overflows_before_copies m cs r l =
 -- Changing a block's counts, past refusals 3 to 6.
 
 pub set_counts_space : {m : MultiPortGraph} {M : Model} → Fine m M → (n : ℕ) (k : NodeMeta) → BlockIs m M n k → (i o room : ℕ) → i + o ≤ node_ports → 3 * (k.incoming + k.outgoing) ≤ room
-    → Spaced m M (set_works m n i o) ((set_counts m n i o room).answer ≡ resize.Refused NoRoom) (set_counts m n i o room).graph
+    → Spaced m M (set_works m n i o) ((set_counts m n i o room).answer ≡ Err NoRoom) (set_counts m n i o room).graph
 unfolding set_counts_under set_works recounted is_hidden
 set_counts_space {m} {M} f n k block i o room few told =
     subst Says (sym called)
-    (subst (λ (v : MaybeNodeMeta). Spaced m M (set_meta_works m i o v) (set_as (set_num_ports m.graph n i o room).answer ≡ resize.Refused NoRoom)
+    (subst (λ (v : Option NodeMeta). Spaced m M (set_meta_works m i o v) (set_as (set_num_ports m.graph n i o room).answer ≡ Err NoRoom)
     (resized m n k i o (set_num_ports m.graph n i o room).graph (set_num_ports m.graph n i o room).answer)) (sym meta_is)
     (go (set_num_ports m.graph n i o room).answer refl (set_space f.good f.holds n k block.1 i o room few told)))
   where
     Says : PortsSet → Type 0
-    Says v = Spaced m M (set_meta_works m i o (meta_at m.graph n)) (v.answer ≡ resize.Refused NoRoom) v.graph
+    Says v = Spaced m M (set_meta_works m i o (meta_at m.graph n)) (v.answer ≡ Err NoRoom) v.graph
 
-    meta_is : meta_at m.graph n ≡ maybe_meta.Some k
+    meta_is : meta_at m.graph n ≡ Some k
     meta_is = meta_of_node f.good f.holds n k block.1
 
     called : set_counts m n i o room
@@ -709,15 +700,15 @@ set_counts_space {m} {M} f n k block i o room few told =
             let other : b ≡ n → ⊥ = λ e. let y : is_hidden m n ≡ true = subst (λ (z : ℕ). is_hidden m z ≡ true) e x in let w = block.0 in zero_is_not_one (cc) in
             meta_by_model r.good r.holds b ∙ (ap meta_of_slots (r.others b other) ∙ sym (meta_by_model f.good f.holds b))))
 
-    go : (t : lower_set_answer.SetAnswer) → (set_num_ports m.graph n i o room).answer ≡ t → SetSpace (set_num_ports m.graph n i o room).graph M (recount_works k i o) t
-        → Spaced m M (recount_works k i o ++ copies_gone m (copies_dropped m k i o)) (set_as t ≡ resize.Refused NoRoom) (resized m n k i o (set_num_ports m.graph n i o room).graph t)
-    go (lower_set.Set e) q s =
+    go : (t : Result ℕ SetError) → (set_num_ports m.graph n i o room).answer ≡ t → SetSpace (set_num_ports m.graph n i o room).graph M (recount_works k i o) t
+        → Spaced m M (recount_works k i o ++ copies_gone m (copies_dropped m k i o)) (set_as t ≡ Err NoRoom) (resized m n k i o (set_num_ports m.graph n i o room).graph t)
+    go (Ok e) q s =
         spaced_done (λ c. zero_is_not_one (cc)) (overflows_before_copies m (copies_dropped m k i o) (room_of M) (recount_works k i o) ∙ s.0)
         (dropped (set_num_ports m.graph n i o room).graph (set_recounts f.good f.holds n i o room e q) s.1)
-    go lower_set.TooManyPorts q s = absurd s
-    go lower_set.UnknownNode q s = absurd s
-    go lower_set.MovesTooShort q s = absurd s
-    go lower_set.NoRoom q s = spaced_refused refl (overflows_before_copies m (copies_dropped m k i o) (room_of M) (recount_works k i o) ∙ s) refl
+    go (Err set_error.TooManyPorts) q s = absurd s
+    go (Err set_error.UnknownNode) q s = absurd s
+    go (Err set_error.MovesTooShort) q s = absurd s
+    go (Err set_error.NoRoom) q s = spaced_refused refl (overflows_before_copies m (copies_dropped m k i o) (room_of M) (recount_works k i o) ∙ s) refl
 
 -- Cutting, linking without a stub, and linking subports.
 
@@ -761,24 +752,24 @@ unfolding tidy_works
 tidies_nothing m p d e = rw e
 
 module _ {m : MultiPortGraph} {M : Model} (f : Fine m M) where
-  pub cut_sub_space : (p o : ℕ) → Spaced m M [] ((cut_sub m p o).answer ≡ cutting.Refused NoRoom) (cut_sub m p o).graph
-  cut_sub_space p o = subst (λ (v : PortUnlinked). Spaced m M [] (v.answer ≡ cutting.Refused NoRoom) v.graph) (sym (cut_sub_cases m p o)) (offset (good_offset o))
+  pub cut_sub_space : (p o : ℕ) → Spaced m M [] ((cut_sub m p o).answer ≡ Err NoRoom) (cut_sub m p o).graph
+  cut_sub_space p o = subst (λ (v : PortUnlinked). Spaced m M [] (v.answer ≡ Err NoRoom) v.graph) (sym (cut_sub_cases m p o)) (offset (good_offset o))
     where
-      far : (v : PortLink) → far_subport m v ≡ cutting.Refused NoRoom → ⊥
-      far (lower_cut.Linked q) e = zero_is_not_one (cc)
-      far lower_cut.Unlinked e = zero_is_not_one (cc)
-      far (lower_cut.UnknownPort q) e = zero_is_not_one (cc)
+      far : (v : Result (Option PortIndex) NoSuchPort) → far_subport m v ≡ Err NoRoom → ⊥
+      far (Ok (Some q)) e = zero_is_not_one (cc)
+      far (Ok None) e = zero_is_not_one (cc)
+      far (Err q) e = zero_is_not_one (cc)
 
-      end : (v : End) → Spaced m M [] ((cut_end m p v).answer ≡ cutting.Refused NoRoom) (cut_end m p v).graph
+      end : (v : End) → Spaced m M [] ((cut_end m p v).answer ≡ Err NoRoom) (cut_end m p v).graph
       end lacking = no_work f (λ e. zero_is_not_one (cc)) (own_room f)
       end (inner x) = no_work f (far (unlink_port m.graph x).answer) (unlink_keeps_room (own_room f) x)
 
-      port : (s : Port) → Spaced m M [] ((cut_sub_seen m p o s).answer ≡ cutting.Refused NoRoom) (cut_sub_seen m p o s).graph
+      port : (s : Port) → Spaced m M [] ((cut_sub_seen m p o s).answer ≡ Err NoRoom) (cut_sub_seen m p o s).graph
       port dead = no_work f (λ e. zero_is_not_one (cc)) (own_room f)
       port hidden = no_work f (λ e. zero_is_not_one (cc)) (own_room f)
       port (visible n d) = end (end_at m p d o)
 
-      offset : (b : Bool) → Spaced m M [] ((cond b (cut_sub_seen m p o (seen m p)) (cut_refused m BadOffset)).answer ≡ cutting.Refused NoRoom) (cond b (cut_sub_seen m p o (seen m p)) (cut_refused m BadOffset)).graph
+      offset : (b : Bool) → Spaced m M [] ((cond b (cut_sub_seen m p o (seen m p)) (cut_refused m BadOffset)).answer ≡ Err NoRoom) (cond b (cut_sub_seen m p o (seen m p)) (cut_refused m BadOffset)).graph
       offset true = port (seen m p)
       offset false = no_work f (λ e. zero_is_not_one (cc)) (own_room f)
 
@@ -835,8 +826,8 @@ module _ {m : MultiPortGraph} {M : Model} (f : Fine m M) where
             (unsplit_room m room (slot_of M.node x))),
       )
 
-  pub tidy_space : (p : ℕ) → Spaced m M (tidy_seen_works m p (seen m p)) ((tidy_port m p).answer ≡ tidying.Refused NoRoom) (tidy_port m p).graph
-  tidy_space p = subst (λ (v : PortTidied). Spaced m M (tidy_seen_works m p (seen m p)) (v.answer ≡ tidying.Refused NoRoom) v.graph) (sym (tidy_cases m p)) (go (seen m p) refl)
+  pub tidy_space : (p : ℕ) → Spaced m M (tidy_seen_works m p (seen m p)) ((tidy_port m p).answer ≡ Err NoRoom) (tidy_port m p).graph
+  tidy_space p = subst (λ (v : PortTidied). Spaced m M (tidy_seen_works m p (seen m p)) (v.answer ≡ Err NoRoom) v.graph) (sym (tidy_cases m p)) (go (seen m p) refl)
     where
       marks : (n : ℕ) (d : Direction) → BlockPort m M p n d → (b : Bool) → is_split m p ≡ b →
           (overflows (room_of M) (tidy_works m p d) ≡ false) × HasRoom (cond b (tidied m p d) m).graph (after_works (room_of M) (tidy_works m p d))
@@ -846,7 +837,7 @@ module _ {m : MultiPortGraph} {M : Model} (f : Fine m M) where
       marks n d b false e =
           subst (λ (l : List Work). (overflows (room_of M) l ≡ false) × HasRoom m.graph (after_works (room_of M) l)) (sym (tidies_nothing m p d e)) (fits f.good, own_room f)
 
-      go : (s : Port) → seen m p ≡ s → Spaced m M (tidy_seen_works m p s) ((tidy_seen m p s).answer ≡ tidying.Refused NoRoom) (tidy_seen m p s).graph
+      go : (s : Port) → seen m p ≡ s → Spaced m M (tidy_seen_works m p s) ((tidy_seen m p s).answer ≡ Err NoRoom) (tidy_seen m p s).graph
       go dead e = no_work f (λ q. zero_is_not_one (cc)) (own_room f)
       go hidden e = no_work f (λ q. zero_is_not_one (cc)) (own_room f)
       go (visible n d) e =
@@ -855,16 +846,16 @@ module _ {m : MultiPortGraph} {M : Model} (f : Fine m M) where
 
   -- leaving no stub: nothing is taken where 7, 8, 18, 11 or 12 is given
   link_clean_space_if : (taken : Bool) (a b : ℕ) → Spaced m M (cond taken [] (link_clean_seen_works m a b (seen m a) (seen m b)))
-      ((link_clean_if taken present m a b).answer ≡ link.Refused NoRoom) (link_clean_if taken present m a b).graph
+      ((link_clean_if taken present m a b).answer ≡ Err NoRoom) (link_clean_if taken present m a b).graph
   link_clean_space_if true a b =
-      subst (λ (v : PortsLinked). Spaced m M [] (v.answer ≡ link.Refused NoRoom) v.graph) (sym (link_clean_taken present m a b))
+      subst (λ (v : PortsLinked). Spaced m M [] (v.answer ≡ Err NoRoom) v.graph) (sym (link_clean_taken present m a b))
       (no_work f (not_room a b (seen m a) (seen m b)) (own_room f))
   link_clean_space_if false a b =
-      subst (λ (v : PortsLinked). Spaced m M (link_clean_seen_works m a b (seen m a) (seen m b)) (v.answer ≡ link.Refused NoRoom) v.graph)
+      subst (λ (v : PortsLinked). Spaced m M (link_clean_seen_works m a b (seen m a) (seen m b)) (v.answer ≡ Err NoRoom) v.graph)
       (sym (link_clean_cases present m a b)) (go (seen m a) (seen m b))
     where
-      Says : List Work → NamedPair → Type 0
-      Says l v = Spaced m M l ((link_clean_by present m a b v).answer ≡ link.Refused NoRoom) (link_clean_by present m a b v).graph
+      Says : List Work → Result (Unit {0}) Refusal → Type 0
+      Says l v = Spaced m M l ((link_clean_by present m a b v).answer ≡ Err NoRoom) (link_clean_by present m a b v).graph
 
       go : (u v : Port) → Says (link_clean_seen_works m a b u v) (pair_seen a b u v)
       go dead v = no_work f (λ e. zero_is_not_one (cc)) (own_room f)
@@ -873,19 +864,19 @@ module _ {m : MultiPortGraph} {M : Model} (f : Fine m M) where
       go (visible n d) dead = no_work f (λ e. zero_is_not_one (cc)) (own_room f)
       go (visible n d) (visible k e) = sides (same_side d e)
         where
-          sides : (c : Bool) → Says (cond c [] (link_seen_works m a b (seen m a) (seen m b))) (cond c (pair.Refused (IncompatibleDirections (port# a) (port# b) d)) pair.Opposite)
+          sides : (c : Bool) → Says (cond c [] (link_seen_works m a b (seen m a) (seen m b))) (cond c (Err (IncompatibleDirections (port# a) (port# b) d)) (Ok tt))
           sides true = no_work f (λ e. zero_is_not_one (cc)) (own_room f)
           sides false = link_space_if f false a b
 
-  pub link_clean_space : (a b : ℕ) → Spaced m M (link_clean_works m a b) ((link_clean m a b).answer ≡ link.Refused NoRoom) (link_clean m a b).graph
+  pub link_clean_space : (a b : ℕ) → Spaced m M (link_clean_works m a b) ((link_clean m a b).answer ≡ Err NoRoom) (link_clean m a b).graph
   unfolding link_clean_works
   link_clean_space a b = link_clean_space_if (input_taken m a b) a b
 
-  sub_not_room : (p o q r : ℕ) → link.Refused (cond (good_offset o) (cond (good_offset r) (taken_sub_seen m p o q r (seen m p) (seen m q)) BadOffset) BadOffset) ≡ link.Refused NoRoom → ⊥
+  sub_not_room : (p o q r : ℕ) → ◌≡◌ {A = Result (SubportIndex × SubportIndex) Refusal} (Err (cond (good_offset o) (cond (good_offset r) (taken_sub_seen m p o q r (seen m p) (seen m q)) BadOffset) BadOffset)) (Err NoRoom) → ⊥
   sub_not_room p o q r = offset (good_offset o)
     where
       Never : Refusal → Type 0
-      Never v = link.Refused v ≡ link.Refused NoRoom → ⊥
+      Never v = ◌≡◌ {A = Result (SubportIndex × SubportIndex) Refusal} (Err v) (Err NoRoom) → ⊥
 
       second : (v : End) → Never (taken_second q v)
       second lacking e = zero_is_not_one (cc)
@@ -910,18 +901,18 @@ module _ {m : MultiPortGraph} {M : Model} (f : Fine m M) where
       offset true = offsets (good_offset r)
       offset false = λ e. zero_is_not_one (cc)
 
-  pub link_sub_space : (p o q r : ℕ) → Spaced m M [] ((link_sub m p o q r).answer ≡ link.Refused NoRoom) (link_sub m p o q r).graph
+  pub link_sub_space : (p o q r : ℕ) → Spaced m M [] ((link_sub m p o q r).answer ≡ Err NoRoom) (link_sub m p o q r).graph
   link_sub_space p o q r = checked (input_taken m p q)
     where
       Says : PortsLinked → Type 0
-      Says v = Spaced m M [] (v.answer ≡ link.Refused NoRoom) v.graph
+      Says v = Spaced m M [] (v.answer ≡ Err NoRoom) v.graph
 
-      ends : (s t : SubportIndex) (x y : ℕ) (v : lower_link_answer.LinkAnswer) → Says (link_inner m s t v (link_ports m.graph x y).graph)
-      ends s t x y (lower_link.Linked a b) = no_work f (λ e. zero_is_not_one (cc)) (link_keeps_room (own_room f) x y)
-      ends s t x y (lower_link.UnknownPort a) = no_work f (λ e. zero_is_not_one (cc)) (own_room f)
-      ends s t x y (lower_link.UnknownSecondPort b) = no_work f (λ e. zero_is_not_one (cc)) (own_room f)
-      ends s t x y (lower_link.IncompatibleDirections a b d) = no_work f (λ e. zero_is_not_one (cc)) (own_room f)
-      ends s t x y (lower_link.AlreadyLinked a) = no_work f (λ e. zero_is_not_one (cc)) (own_room f)
+      ends : (s t : SubportIndex) (x y : ℕ) (v : Result (PortIndex × PortIndex) LinkError) → Says (link_inner m s t v (link_ports m.graph x y).graph)
+      ends s t x y (Ok (a, b)) = no_work f (λ e. zero_is_not_one (cc)) (link_keeps_room (own_room f) x y)
+      ends s t x y (Err (link_error.UnknownPort a)) = no_work f (λ e. zero_is_not_one (cc)) (own_room f)
+      ends s t x y (Err (link_error.UnknownSecondPort b)) = no_work f (λ e. zero_is_not_one (cc)) (own_room f)
+      ends s t x y (Err (link_error.IncompatibleDirections a b d)) = no_work f (λ e. zero_is_not_one (cc)) (own_room f)
+      ends s t x y (Err (link_error.AlreadyLinked a)) = no_work f (λ e. zero_is_not_one (cc)) (own_room f)
 
       second : (x : ℕ) (v : End) → Says (link_second_end m p o q r x v)
       second x lacking = no_work f (λ e. zero_is_not_one (cc)) (own_room f)
@@ -948,11 +939,11 @@ module _ {m : MultiPortGraph} {M : Model} (f : Fine m M) where
       offset true = offsets (good_offset r)
       offset false = no_work f (λ e. zero_is_not_one (cc)) (own_room f)
 
-      checked : (taken : Bool) → Spaced m M [] ((link_sub_if taken m p o q r).answer ≡ link.Refused NoRoom) (link_sub_if taken m p o q r).graph
+      checked : (taken : Bool) → Spaced m M [] ((link_sub_if taken m p o q r).answer ≡ Err NoRoom) (link_sub_if taken m p o q r).graph
       checked true =
-          subst (λ (v : PortsLinked). Spaced m M [] (v.answer ≡ link.Refused NoRoom) v.graph) (sym (link_sub_taken m p o q r))
+          subst (λ (v : PortsLinked). Spaced m M [] (v.answer ≡ Err NoRoom) v.graph) (sym (link_sub_taken m p o q r))
           (no_work f (sub_not_room p o q r) (own_room f))
-      checked false = subst (λ (v : PortsLinked). Spaced m M [] (v.answer ≡ link.Refused NoRoom) v.graph) (sym (link_sub_cases m p o q r)) (offset (good_offset o))
+      checked false = subst (λ (v : PortsLinked). Spaced m M [] (v.answer ≡ Err NoRoom) v.graph) (sym (link_sub_cases m p o q r)) (offset (good_offset o))
 
 -- Removing a block.
 
@@ -1048,7 +1039,7 @@ copies_alike m m' (suc j) q same =
     go true e a rest =
         let c = (a.1 e).0 in
         (λ i. gone_works (c i) (meta_at m'.graph (c i)) ++ rest i)
-        ∙ ap (λ (v : MaybeNodeMeta). gone_works (copy_node m q) v ++ copies_gone m (copies_in m (suc q) j)) (a.1 e).1
+        ∙ ap (λ (v : Option NodeMeta). gone_works (copy_node m q) v ++ copies_gone m (copies_in m (suc q) j)) (a.1 e).1
     go false e a rest = rest
 
 -- so many ports of a block from p on lose their hidden nodes
@@ -1056,7 +1047,7 @@ abbrev RangeRoom : ℕ → Type 0
 RangeRoom j =
     (m : MultiPortGraph) (M : Model) → Fine m M → (n : ℕ) (k : NodeMeta) → BlockIs m M n k → (p : ℕ) → k.first_port.0 ≤ p → p + j ≤ k.first_port.0 + (k.incoming + k.outgoing)
     → (r : Room) → HasRoom m.graph r
-    → HasRoom (unsplit_range m p j).graph (after_works r (copies_gone m (copies_in m p j))) × (meta_at (unsplit_range m p j).graph n ≡ maybe_meta.Some k)
+    → HasRoom (unsplit_range m p j).graph (after_works r (copies_gone m (copies_in m p j))) × (meta_at (unsplit_range m p j).graph n ≡ Some k)
 
 copy_gone_room : (m : MultiPortGraph) (p c : ℕ) {r : Room} → HasRoom m.graph r → HasRoom (remove_copy m p c).graph (after_works r (gone_works c (meta_at m.graph c)))
 unfolding remove_copy
@@ -1077,7 +1068,7 @@ range_next m p j = refl
 -- the rest, after one port lost its hidden node
 range_split : (j : ℕ) → RangeRoom j → (m m' : MultiPortGraph) (n : ℕ) (k : NodeMeta) (p : ℕ) → k.first_port.0 ≤ p → p + suc j ≤ k.first_port.0 + (k.incoming + k.outgoing)
     → CopyOut m n k p m' → (r : Room) (works : List Work) → HasRoom m'.graph (after_works r works)
-    → HasRoom (unsplit_range m' (suc p) j).graph (after_works r (works ++ copies_gone m (copies_in m (suc p) j))) × (meta_at (unsplit_range m' (suc p) j).graph n ≡ maybe_meta.Some k)
+    → HasRoom (unsplit_range m' (suc p) j).graph (after_works r (works ++ copies_gone m (copies_in m (suc p) j))) × (meta_at (unsplit_range m' (suc p) j).graph n ≡ Some k)
 range_split j ih m m' n k p low high o r works h =
     let t = ih m' o.model' o.fine n k o.block (suc p) (omega arith) (omega arith) (after_works r works) h in (
       subst (HasRoom (unsplit_range m' (suc p) j).graph)
@@ -1087,7 +1078,7 @@ range_split j ih m m' n k p low high o r works h =
     )
 
 abbrev RangeSays : MultiPortGraph → ℕ → NodeMeta → List Work → Room → Type 0
-RangeSays m' n k works r = HasRoom m'.graph (after_works r works) × (meta_at m'.graph n ≡ maybe_meta.Some k)
+RangeSays m' n k works r = HasRoom m'.graph (after_works r works) × (meta_at m'.graph n ≡ Some k)
 
 range_step : (j : ℕ) → RangeRoom j → RangeRoom (suc j)
 range_step j ih m M f n k block p low high r h = go (is_split m p) refl
@@ -1113,74 +1104,74 @@ range_room : (j : ℕ) → RangeRoom j
 range_room zero = range_none
 range_room (suc j) = range_step j (range_room j)
 
-pub drop_block_room : {m : MultiPortGraph} {M : Model} → Fine m M → (n : ℕ) (k : NodeMeta) → BlockIs m M n k → HasRoom (drop_block m n k).graph (after_works (room_of M) (remove_meta_works m n (maybe_meta.Some k)))
+pub drop_block_room : {m : MultiPortGraph} {M : Model} → Fine m M → (n : ℕ) (k : NodeMeta) → BlockIs m M n k → HasRoom (drop_block m n k).graph (after_works (room_of M) (remove_meta_works m n (Some k)))
 unfolding drop_block
 drop_block_room {m} {M} f n k block =
     let t = range_room (k.incoming + k.outgoing) m M f n k block k.first_port.0 (omega arith) (omega arith) (room_of M) (record { model = M; good = f.good; holds = f.holds; is = refl }) in
     subst (HasRoom (drop_block m n k).graph)
-    (ap (λ (v : MaybeNodeMeta). after_works (after_works (room_of M) (copies_gone m (copies_in m k.first_port.0 (k.incoming + k.outgoing)))) (gone_works n v)) t.1
-    ∙ sym (after_append (copies_gone m (copies_in m k.first_port.0 (k.incoming + k.outgoing))) (gone_works n (maybe_meta.Some k)) (room_of M)))
+    (ap (λ (v : Option NodeMeta). after_works (after_works (room_of M) (copies_gone m (copies_in m k.first_port.0 (k.incoming + k.outgoing)))) (gone_works n v)) t.1
+    ∙ sym (after_append (copies_gone m (copies_in m k.first_port.0 (k.incoming + k.outgoing))) (gone_works n (Some k)) (room_of M)))
     (gone_node_room t.0 n)
 
-pub remove_fits : {m : MultiPortGraph} {M : Model} → Fine m M → (n : ℕ) (k : NodeMeta) → overflows (room_of M) (remove_meta_works m n (maybe_meta.Some k)) ≡ false
+pub remove_fits : {m : MultiPortGraph} {M : Model} → Fine m M → (n : ℕ) (k : NodeMeta) → overflows (room_of M) (remove_meta_works m n (Some k)) ≡ false
 unfolding after_works
 remove_fits {m} {M} f n k =
     let cs = copies_in m k.first_port.0 (k.incoming + k.outgoing) in
-    overflows_append (room_of M) (copies_gone m cs) (gone_works n (maybe_meta.Some k))
-    ∙ (overflows_at_end (after_works (room_of M) (copies_gone m cs)) (gone_works n (maybe_meta.Some k))
-    ∙ (gone_lengthens_nothing (after_works (room_of M) (copies_gone m cs)) n (maybe_meta.Some k)
+    overflows_append (room_of M) (copies_gone m cs) (gone_works n (Some k))
+    ∙ (overflows_at_end (after_works (room_of M) (copies_gone m cs)) (gone_works n (Some k))
+    ∙ (gone_lengthens_nothing (after_works (room_of M) (copies_gone m cs)) n (Some k)
     ∙ (copies_lengthen_nothing m cs (room_of M) ∙ (sym (overflows_at_end (room_of M) []) ∙ fits f.good))))
 
-pub remove_space : {m : MultiPortGraph} {M : Model} → Fine m M → (n : ℕ) → Spaced m M (cond (is_hidden m n) [] (remove_works m n)) ((remove_block m n).answer ≡ remove.Refused NoRoom) (remove_block m n).graph
+pub remove_space : {m : MultiPortGraph} {M : Model} → Fine m M → (n : ℕ) → Spaced m M (cond (is_hidden m n) [] (remove_works m n)) ((remove_block m n).answer ≡ Err NoRoom) (remove_block m n).graph
 unfolding remove_works
 remove_space {m} {M} f n =
-    subst (λ (v : NodeRemoved). Spaced m M (cond (is_hidden m n) [] (remove_meta_works m n (meta_at m.graph n))) (v.answer ≡ remove.Refused NoRoom) v.graph) (sym (remove_cases m n)) (go (meta_at m.graph n) refl)
+    subst (λ (v : NodeRemoved). Spaced m M (cond (is_hidden m n) [] (remove_meta_works m n (meta_at m.graph n))) (v.answer ≡ Err NoRoom) v.graph) (sym (remove_cases m n)) (go (meta_at m.graph n) refl)
   where
     Says : List Work → NodeRemoved → Type 0
-    Says works v = Spaced m M works (v.answer ≡ remove.Refused NoRoom) v.graph
+    Says works v = Spaced m M works (v.answer ≡ Err NoRoom) v.graph
 
     idle : (b : Bool) → Says (cond b [] []) (remove_refused m UnknownNode)
     idle true = no_work f (λ q. zero_is_not_one (cc)) (own_room f)
     idle false = no_work f (λ q. zero_is_not_one (cc)) (own_room f)
 
-    by : (k : NodeMeta) → meta_at m.graph n ≡ maybe_meta.Some k → (b : Bool) → is_hidden m n ≡ b
-        → Says (cond b [] (remove_meta_works m n (maybe_meta.Some k))) (cond b (remove_refused m HiddenNode) (record { graph = drop_block m n k; answer = remove.Removed }))
+    by : (k : NodeMeta) → meta_at m.graph n ≡ Some k → (b : Bool) → is_hidden m n ≡ b
+        → Says (cond b [] (remove_meta_works m n (Some k))) (cond b (remove_refused m HiddenNode) (record { graph = drop_block m n k; answer = Ok tt }))
     by k e true h = no_work f (λ q. zero_is_not_one (cc)) (own_room f)
     by k e false h = spaced_done (λ q. zero_is_not_one (cc)) (remove_fits f n k) (drop_block_room f n k (h, node_of_meta f.good f.holds n k e))
 
-    go : (v : MaybeNodeMeta) → meta_at m.graph n ≡ v → Says (cond (is_hidden m n) [] (remove_meta_works m n v)) (remove_meta m n v)
-    go maybe_meta.None e = idle (is_hidden m n)
-    go (maybe_meta.Some k) e = by k e (is_hidden m n) refl
+    go : (v : Option NodeMeta) → meta_at m.graph n ≡ v → Says (cond (is_hidden m n) [] (remove_meta_works m n v)) (remove_meta m n v)
+    go None e = idle (is_hidden m n)
+    go (Some k) e = by k e (is_hidden m n) refl
 
 -- Every call.
 
 module _ {m : MultiPortGraph} {M : Model} (f : Fine m M) where
-  pub add_call_space : (i o : ℕ) → Spaced m M (cond (leb (i + o) node_ports) (add_works i o) []) ((add_block m i o).answer ≡ add.Refused NoRoom) (add_block m i o).graph
+  pub add_call_space : (i o : ℕ) → Spaced m M (cond (leb (i + o) node_ports) (add_works i o) []) ((add_block m i o).answer ≡ Err NoRoom) (add_block m i o).graph
   add_call_space i o = go (leb (i + o) node_ports) refl
     where
-      go : (a : Bool) → leb (i + o) node_ports ≡ a → Spaced m M (cond a (add_works i o) []) ((add_block m i o).answer ≡ add.Refused NoRoom) (add_block m i o).graph
+      go : (a : Bool) → leb (i + o) node_ports ≡ a → Spaced m M (cond a (add_works i o) []) ((add_block m i o).answer ≡ Err NoRoom) (add_block m i o).graph
       go true e = add_space f i o (leb-true (i + o) node_ports e)
       go false e =
-          subst (λ (v : NodeAdded). Spaced m M [] (v.answer ≡ add.Refused NoRoom) v.graph) (sym (add_cases present m i o))
-          (subst (λ (v : lower_added.NodeAdded). Spaced m M [] (added_as v.answer ≡ add.Refused NoRoom) (with_graph m v.graph))
+          subst (λ (v : NodeAdded). Spaced m M [] (v.answer ≡ Err NoRoom) v.graph) (sym (add_cases present m i o))
+          (subst (λ (v : lower_added.NodeAdded). Spaced m M [] (added_as v.answer ≡ Err NoRoom) (with_graph m v.graph))
           (sym (add_law f.good f.holds i o ∙ ap (λ (a : Bool). add_where m.graph M i o a (slot_room M) (block_room M (i + o))) e))
           (no_work f (λ q. zero_is_not_one (cc)) (own_room f)))
 
   pub set_call_space : (n i o room : ℕ)
       → Spaced m M (cond (leb (i + o) node_ports) (cond (is_hidden m n) [] (told_works m n i o room (meta_at m.graph n))) [])
-      ((set_counts m n i o room).answer ≡ resize.Refused NoRoom) (set_counts m n i o room).graph
+      ((set_counts m n i o room).answer ≡ Err NoRoom) (set_counts m n i o room).graph
   set_call_space n i o room = few (leb (i + o) node_ports) refl
     where
       Says : List Work → PortsSet → Type 0
-      Says works v = Spaced m M works (v.answer ≡ resize.Refused NoRoom) v.graph
+      Says works v = Spaced m M works (v.answer ≡ Err NoRoom) v.graph
 
-      refused : (x : Refusal) → ((q : resize.Refused x ≡ resize.Refused NoRoom) → ⊥) → cond (leb (i + o) node_ports) (set_meta m n i o room (meta_at m.graph n)) (set_refused m TooManyPorts) ≡ set_refused m x → Says [] (set_counts m n i o room)
+      refused : (x : Refusal) → ((q : ◌≡◌ {A = Result ℕ Refusal} (Err x) (Err NoRoom)) → ⊥) → cond (leb (i + o) node_ports) (set_meta m n i o room (meta_at m.graph n)) (set_refused m TooManyPorts) ≡ set_refused m x → Says [] (set_counts m n i o room)
       refused x never e = subst (Says []) (sym (set_cases present m n i o room ∙ e)) (no_work f never (own_room f))
 
       done : NodeMeta → lower_set_done.PortsSet → PortsSet
       done k v = record { graph = resized m n k i o v.graph v.answer; answer = set_as v.answer }
 
-      told : (k : NodeMeta) → leb (i + o) node_ports ≡ true → meta_at m.graph n ≡ maybe_meta.Some k → is_hidden m n ≡ false → (c : Bool) → leb (3 * (k.incoming + k.outgoing)) room ≡ c
+      told : (k : NodeMeta) → leb (i + o) node_ports ≡ true → meta_at m.graph n ≡ Some k → is_hidden m n ≡ false → (c : Bool) → leb (3 * (k.incoming + k.outgoing)) room ≡ c
           → Says (cond c (set_works m n i o) []) (set_counts m n i o room)
       told k e q h true t = set_counts_space f n k (h, node_of_meta f.good f.holds n k q) i o room (leb-true (i + o) node_ports e) (leb-true (3 * (k.incoming + k.outgoing)) room t)
       told k e q h false t =
@@ -1189,13 +1180,13 @@ module _ {m : MultiPortGraph} {M : Model} (f : Fine m M) where
           ∙ (ap (λ (b : Bool). cond b (set_refused m HiddenNode) (done k (set_num_ports m.graph n i o room))) h
           ∙ ap (done k) (set_moves_too_short f.good f.holds n i o room (leb-true (i + o) node_ports e) k (node_of_meta f.good f.holds n k q) (leb-false (3 * (k.incoming + k.outgoing)) room t))))
 
-      node : leb (i + o) node_ports ≡ true → (v : MaybeNodeMeta) → meta_at m.graph n ≡ v → (b : Bool) → is_hidden m n ≡ b → Says (cond b [] (told_works m n i o room v)) (set_counts m n i o room)
-      node e maybe_meta.None q true h = refused UnknownNode (λ z. zero_is_not_one (cc)) (λ j. cond (e j) (set_meta m n i o room (q j)) (set_refused m TooManyPorts))
-      node e maybe_meta.None q false h = refused UnknownNode (λ z. zero_is_not_one (cc)) (λ j. cond (e j) (set_meta m n i o room (q j)) (set_refused m TooManyPorts))
-      node e (maybe_meta.Some k) q true h =
+      node : leb (i + o) node_ports ≡ true → (v : Option NodeMeta) → meta_at m.graph n ≡ v → (b : Bool) → is_hidden m n ≡ b → Says (cond b [] (told_works m n i o room v)) (set_counts m n i o room)
+      node e None q true h = refused UnknownNode (λ z. zero_is_not_one (cc)) (λ j. cond (e j) (set_meta m n i o room (q j)) (set_refused m TooManyPorts))
+      node e None q false h = refused UnknownNode (λ z. zero_is_not_one (cc)) (λ j. cond (e j) (set_meta m n i o room (q j)) (set_refused m TooManyPorts))
+      node e (Some k) q true h =
           refused HiddenNode (λ z. zero_is_not_one (cc))
           ((λ j. cond (e j) (set_meta m n i o room (q j)) (set_refused m TooManyPorts)) ∙ ap (λ (b : Bool). cond b (set_refused m HiddenNode) (done k (set_num_ports m.graph n i o room))) h)
-      node e (maybe_meta.Some k) q false h = told k e q h (leb (3 * (k.incoming + k.outgoing)) room) refl
+      node e (Some k) q false h = told k e q h (leb (3 * (k.incoming + k.outgoing)) room) refl
 
       few : (a : Bool) → leb (i + o) node_ports ≡ a → Says (cond a (cond (is_hidden m n) [] (told_works m n i o room (meta_at m.graph n))) []) (set_counts m n i o room)
       few true e = node e (meta_at m.graph n) refl (is_hidden m n) refl

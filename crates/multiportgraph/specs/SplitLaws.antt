@@ -1,6 +1,6 @@
 -- What preparing an end of a port does (`PreparedEnd`), and its first case: splitting a linked port. A hidden node with two
 -- subports comes, the port's link moves to offset 0, and offset 1 is free.
-use Rattle.std.specs.Prelude.{◌≡◌, Bool, ◌⊎◌, ℕ, suc, ◌+◌, ◌-◌, ◌≤◌, ◌<◌, leb}
+use Rattle.std.specs.Prelude.{◌≡◌, Bool, ◌⊎◌, ℕ, suc, ◌+◌, ◌-◌, ◌≤◌, ◌<◌, leb, Ok}
 use Rattle.std.proofs.Math.Path.{refl, ap, subst, transport}
 use Rattle.std.proofs.Common.{sym, ◌∙◌, inl, inr, ⊎_elim, lt-length-set}
 use Rattle.std.proofs.Math.Bool.{true, false, cond}
@@ -30,7 +30,6 @@ use Rattle.portgraph.specs.declared.portgraph.PortGraph.{PortGraph}
 use Rattle.portgraph.specs.declared.portgraph.PortsLinked as lower_linked
 use Rattle.portgraph.specs.declared.portgraph.PortUnlinked as lower_unlinked
 use Rattle.portgraph.specs.declared.alloc.NodeAdded.{NodeAdded}
-use Rattle.portgraph.specs.declared.alloc.AddAnswer.TheVariants as lower_add
 use Rattle.portgraph.specs.Model as model
 use Rattle.portgraph.specs.Model.{Model, Far, nowhere, to, gone, live, Good, Holds, Valid, slot_of, ports_of, count_of, first_of, side_start}
 use Rattle.port_tables.specs.declared.direction.Direction.{Direction}
@@ -976,7 +975,7 @@ split_says {m} {M} f x y sx plain linked =
 
 -- the tables after a split
 pub split_tables : {m : MultiPortGraph} {M : Model} → Fine m M → (x y : model.InnerPlace) → Seen m M x → M.join x ≡ to y →
-    (r : NodeAdded) → r ≡ add_node m.graph (copy_incoming x.side) (copy_outgoing x.side) → (n : NodeIndex) (p : PortIndex) → r.answer ≡ lower_add.Added n p →
+    (r : NodeAdded) → r ≡ add_node m.graph (copy_incoming x.side) (copy_outgoing x.side) → (n : NodeIndex) (p : PortIndex) → r.answer ≡ Ok (n, p) →
     SplitTables (slot_of M.node x) x.side r.graph n.0 p.0
 split_tables {m} {M} f x y sx linked r e n p h =
     go (leb (copy_incoming x.side + copy_outgoing x.side) node_ports) (slot_room M) (block_room M (copy_incoming x.side + copy_outgoing x.side)) refl refl refl
@@ -988,9 +987,10 @@ split_tables {m} {M} f x y sx linked r e n p h =
         let small = leb-true (copy_incoming x.side + copy_outgoing x.side) node_ports a in
         let node_room = leb-true (M.node_len + growth 1 M.free_nodes) node_slots b in
         let port_room = leb-true (M.port_len + growth (copy_incoming x.side + copy_outgoing x.side) (M.free_blocks (copy_incoming x.side + copy_outgoing x.side))) port_slots c in
-        let is : r.answer ≡ lower_add.Added (node# (next_slot M)) (port# (next_block M (copy_incoming x.side + copy_outgoing x.side))) = ap (λ (z : NodeAdded). z.answer) k in
-        let same : node# (next_slot M) ≡ n = cc in
-        let at₁ : port# (next_block M (copy_incoming x.side + copy_outgoing x.side)) ≡ p = cc in
+        let is : r.answer ≡ Ok (node# (next_slot M), port# (next_block M (copy_incoming x.side + copy_outgoing x.side))) = ap (λ (z : NodeAdded). z.answer) k in
+        let both : ◌≡◌ {A = NodeIndex × PortIndex} (node# (next_slot M), port# (next_block M (copy_incoming x.side + copy_outgoing x.side))) (n, p) = cc in
+        let same : node# (next_slot M) ≡ n = ap (λ (z : NodeIndex × PortIndex). z.0) both in
+        let at₁ : port# (next_block M (copy_incoming x.side + copy_outgoing x.side)) ≡ p = ap (λ (z : NodeIndex × PortIndex). z.1) both in
         transport (λ i. SplitTables (slot_of M.node x) x.side (sym k i).graph (same i).0 (at₁ i).0) (tables₄ f x y sx linked small node_room port_room)
     go true true false a b c k = absurd (zero_is_not_one (let z = ap (λ (u : NodeAdded). u.answer) k in cc))
     go true false block a b c k = absurd (zero_is_not_one (let z = ap (λ (u : NodeAdded). u.answer) k in cc))

@@ -1,20 +1,42 @@
 -- What the steps of the starts of walks amount to, over plain values.
-use Rattle.std.specs.Prelude.{◌≡◌, Bool, false, ℕ, length}
+use Rattle.std.specs.Prelude.{◌≡◌, Bool, false, ℕ, length, List, Result, Ok, Err}
 use Rattle.std.proofs.Math.Path.{refl, ap}
-use Rattle.std.proofs.Common.{sym, ◌∙◌, true≢false}
+use Rattle.std.proofs.Common.{sym, ◌∙◌, true≢false, arith}
 use Rattle.std.proofs.Math.Bool.{true, cond}
 use Rattle.std.proofs.lemmas.Bool.{false≢true}
+use Rattle.std.specs.Result.{is_ok}
 use Rattle.port_tables.specs.Limits.{node_slots}
 use Rattle.portgraph.specs.Lookups.{contains_node, port_at}
 use Rattle.port_tables.specs.declared.port_entry.PortEntry.{PortEntry}
 use Rattle.port_tables.specs.declared.port_entry.PortEntry.TheVariants as port_variants
 use Rattle.multiportgraph.specs.Reading.{is_hidden, seen_entry, seen}
-use Rattle.multi_tables.specs.Forms.{Port, hidden, visible, flag_at}
+use Rattle.multi_tables.specs.Forms.{Port, dead, hidden, visible, flag_at}
 use Rattle.multi_tables.specs.FormSteps.{flag_is}
+use Rattle.multi_tables.specs.NamedEnds.{block_or, block_port}
+use Rattle.multi_tables.specs.NamedEndSteps.{block_seen, block_refused, block_found}
 use Rattle.multi_tables.specs.TableReads.{seen_owner, seen_in}
-use Rattle.multiportgraph.specs.Walks.{Start, started, refused, start_at_node, start_between, start_seen, start_at_port}
+use Rattle.port_tables.specs.Entries.{port#}
+use Rattle.port_tables.specs.declared.direction.Direction.{Direction}
+use Rattle.port_tables.specs.declared.index.NodeIndex.{NodeIndex}
+use Rattle.multi_tables.specs.declared.answers.Refusal.{Refusal}
+use Rattle.multiportgraph.specs.Walks.{is_seen, Start, started, refused, start_at_node, start_between, start_seen, start_at_port}
 use Rattle.multiportgraph.specs.declared.multiportgraph.MultiPortGraph.{MultiPortGraph}
-use Rattle.multi_tables.specs.declared.answers.Refusal.TheVariants.{UnknownNode, HiddenNode}
+use Rattle.multi_tables.specs.declared.answers.Refusal.TheVariants.{UnknownNode, HiddenNode, UnknownPort, HiddenPort}
+
+seen_is_ok : (p : ℕ) (s : Port) → is_ok (block_or p s) ≡ is_seen s
+seen_is_ok p dead = refl
+seen_is_ok p hidden = refl
+seen_is_ok p (visible n d) = refl
+
+-- a port that is not refused is seen
+pub port_is_ok : (owners : List ℕ) (flags : List Bool) (p : ℕ) → is_ok (block_port owners flags p) ≡ is_seen (seen_in owners flags p)
+port_is_ok owners flags p = ap is_ok (sym (block_seen owners flags p (seen_in owners flags p) refl)) ∙ seen_is_ok p (seen_in owners flags p)
+
+-- what is the same of a port that is not live and of a hidden one is so of a refused one
+unseen_as : (p : ℕ) {A : Type 0} (f : Port → A) (z : A) (s : Port) (r : Refusal) → f dead ≡ z → f hidden ≡ z → block_or p s ≡ Err r → f s ≡ z
+unseen_as p f z dead r g h e = g
+unseen_as p f z hidden r g h e = h
+unseen_as p f z (visible n d) r g h e = let k : ◌≡◌ {A = ℕ} 0 1 = cc in absurd (omega arith)
 
 module _ (m : MultiPortGraph) where
   owner_by : (e : PortEntry) → length m.copy_node ≡ node_slots → seen_owner m.copy_node e ≡ seen_entry m e
@@ -27,6 +49,21 @@ module _ (m : MultiPortGraph) where
   pub seen_read : (p : ℕ) → length m.copy_node ≡ node_slots → seen_in m.graph.port_meta m.copy_node p ≡ seen m p
   unfolding seen_in seen
   seen_read p long = owner_by (port_at m.graph p) long
+
+  -- a port that is refused is refused alike by all that refuse 7 and 8; one that is not is of a block
+  module _ (p : ℕ) (long : length m.copy_node ≡ node_slots) where
+    pub block_told : {A : Type 0} (f : Port → Result A Refusal) (r : Refusal) → f dead ≡ Err (UnknownPort (port# p)) → f hidden ≡ Err (HiddenPort (port# p))
+        → block_port m.graph.port_meta m.copy_node p ≡ Err r → Err r ≡ f (seen m p)
+    block_told f r g h e = block_refused m.graph.port_meta m.copy_node p f r g h e ∙ ap f (seen_read p long)
+
+    pub block_is : (n : NodeIndex) (d : Direction) → block_port m.graph.port_meta m.copy_node p ≡ Ok (n, d) → seen m p ≡ visible n.0 d
+    block_is n d e = sym (seen_read p long) ∙ block_found m.graph.port_meta m.copy_node p n d e
+
+    pub block_is_seen : is_ok (block_port m.graph.port_meta m.copy_node p) ≡ is_seen (seen m p)
+    block_is_seen = port_is_ok m.graph.port_meta m.copy_node p ∙ ap is_seen (seen_read p long)
+
+    pub block_unseen : {A : Type 0} (f : Port → A) (z : A) (r : Refusal) → f dead ≡ z → f hidden ≡ z → block_port m.graph.port_meta m.copy_node p ≡ Err r → f (seen m p) ≡ z
+    block_unseen f z r g h e = unseen_as p f z (seen m p) r g h (block_seen m.graph.port_meta m.copy_node p (seen m p) (seen_read p long) ∙ e)
 
   pub start_port : (p : ℕ) (s : Port) → seen m p ≡ s → start_seen p s ≡ start_at_port m p
   unfolding start_at_port

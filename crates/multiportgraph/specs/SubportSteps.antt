@@ -1,7 +1,7 @@
 -- Steps of the walk over the subports of a block, over plain values.
 use Rattle.std.proofs.Math.Path.{◌≡◌, refl, sym, ap}
 use Rattle.std.proofs.Common.{◌∙◌, le-leb, ltb-true, ltb-false, leb-true, leb-false}
-use Rattle.std.specs.Prelude.{Bool, false, leb, ltb}
+use Rattle.std.specs.Prelude.{Bool, false, leb, ltb, Option, Some, None, Ok}
 use Rattle.std.proofs.Math.Bool.{true}
 use mathlib.Core.List.{List, [], ◌∷◌, ◌++◌, map}
 use Prim.Native.Nat.{ℕ, zero, suc, ◌+◌, ◌-◌, ◌≤◌, ◌<◌, min}
@@ -14,7 +14,6 @@ use Rattle.port_tables.specs.Entries.{ports_from, ports_to}
 use Rattle.port_tables.specs.declared.direction.Direction.{Direction}
 use Rattle.port_tables.specs.declared.sides.Sides.{Sides}
 use Rattle.port_tables.specs.declared.node_entry.NodeMeta.{NodeMeta}
-use Rattle.port_tables.specs.declared.node_entry.MaybeNodeMeta.TheVariants as maybe_meta
 use Rattle.multiportgraph.specs.Reading.{is_hidden, is_split, seen, subports}
 use Rattle.multi_tables.specs.Forms.{Port, dead, hidden, visible, subport#}
 use Rattle.multiportgraph.specs.WellFormed.{MultiWf}
@@ -29,30 +28,25 @@ use Rattle.multiportgraph.specs.WalkScans.{held_in, first_subport, subport_port,
 use Rattle.multiportgraph.specs.WalkSteps.{both_found}
 use Rattle.multiportgraph.specs.declared.multiportgraph.MultiPortGraph.{MultiPortGraph}
 use Rattle.multi_tables.specs.declared.answers.SubportIndex.{SubportIndex}
-use Rattle.multiportgraph.specs.declared.lookups.BlockFound.TheVariants as block_found_lem
 use Rattle.multiportgraph.specs.declared.iter.NodeSubports.{NodeSubports}
-use Rattle.multiportgraph.specs.declared.iter.NodeSubportsStep.{NodeSubportsStep}
-use Rattle.multiportgraph.specs.declared.iter.NodeSubportsStep.TheVariants as subports_step
-use Rattle.multiportgraph.specs.declared.subports.SubportFound.{SubportFound}
-use Rattle.multiportgraph.specs.declared.subports.SubportFound.TheVariants as subport_found
 use Rattle.multiportgraph.specs.CodeForms.{block_found}
 
 -- The first of two lists, one after the other.
 
-first_here : (a b : List SubportIndex) (s : SubportIndex) → first_subport a ≡ subport_found.Subport s → first_subport (a ++ b) ≡ subport_found.Subport s
+first_here : (a b : List SubportIndex) (s : SubportIndex) → first_subport a ≡ Some s → first_subport (a ++ b) ≡ Some s
 unfolding first_subport on_first
 first_here [] b s e = let z : ◌≡◌ {A = ℕ} 0 1 = cc in absurd (omega arith)
 first_here (x ∷ a) b s e = e
 
-first_later : (a b : List SubportIndex) → first_subport a ≡ subport_found.None → first_subport (a ++ b) ≡ first_subport b
+first_later : (a b : List SubportIndex) → first_subport a ≡ None → first_subport (a ++ b) ≡ first_subport b
 unfolding first_subport on_first
 first_later [] b e = refl
 first_later (x ∷ a) b e = let z : ◌≡◌ {A = ℕ} 0 1 = cc in absurd (omega arith)
 
 -- a subport that was found stands at its port
-pub subport_below : (p k : ℕ) (r : SubportFound) → subport_port p r ≡ p → p < k → 0 < k → subport_port 0 r < k
-subport_below p k (subport_found.Subport s) e h z = omega arith
-subport_below p k subport_found.None e h z = z
+pub subport_below : (p k : ℕ) (r : Option SubportIndex) → subport_port p r ≡ p → p < k → 0 < k → subport_port 0 r < k
+subport_below p k (Some s) e h z = omega arith
+subport_below p k None e h z = z
 
 one_less : (o end : ℕ) → o < end → end - o ≡ suc (end - (o + 1))
 one_less o end h = omega arith
@@ -65,41 +59,41 @@ module _ (marks : List Bool) (links owners : List ℕ) (flags : List Bool) where
     unfolding port_subports_in
     subports_by s e = ap (λ (x : Port). first_subport (port_subports_by marks links owners p o x)) (sym e)
 
-    pub subports_unseen : (s : Port) → seen_in owners flags p ≡ s → port_subports_by marks links owners p o s ≡ [] → subport_found.None ≡ first_subport (port_subports_in marks links owners flags p o)
+    pub subports_unseen : (s : Port) → seen_in owners flags p ≡ s → port_subports_by marks links owners p o s ≡ [] → None ≡ first_subport (port_subports_in marks links owners flags p o)
     unfolding first_subport on_first
     subports_unseen s e f = ap first_subport (sym f) ∙ subports_by s e
 
     module _ (n : ℕ) (d : Direction) (c : ℕ) (e : seen_in owners flags p ≡ visible n d) (g : c ≡ span_count marks links owners p d) where
-      pub subport_there : o < c → subport_found.Subport (subport# p o) ≡ first_subport (port_subports_in marks links owners flags p o)
+      pub subport_there : o < c → Some (subport# p o) ≡ first_subport (port_subports_in marks links owners flags p o)
       unfolding first_subport on_first range
       subport_there h =
           let l : span_count marks links owners p d - o ≡ suc (c - (o + 1)) = omega arith in
-          let f : subport_found.Subport (subport# p o) ≡ first_subport (map (subport# p) (range o (span_count marks links owners p d - o))) = rw l in
+          let f : Some (subport# p o) ≡ first_subport (map (subport# p) (range o (span_count marks links owners p d - o))) = rw l in
           f ∙ subports_by (visible n d) e
 
-      pub subport_past_lem : c ≤ o → subport_found.None ≡ first_subport (port_subports_in marks links owners flags p o)
+      pub subport_past_lem : c ≤ o → None ≡ first_subport (port_subports_in marks links owners flags p o)
       unfolding first_subport on_first range
       subport_past_lem h =
           let l : span_count marks links owners p d - o ≡ 0 = omega arith in
-          let f : subport_found.None ≡ first_subport (map (subport# p) (range o (span_count marks links owners p d - o))) = rw l in
+          let f : None ≡ first_subport (map (subport# p) (range o (span_count marks links owners p d - o))) = rw l in
           f ∙ subports_by (visible n d) e
 
     -- A row of ports.
 
     module _ (stop : ℕ) where
-      pub subports_turn : (r : SubportFound) → p < stop → r ≡ first_subport (port_subports_in marks links owners flags p o) → r ≡ subport_found.None
+      pub subports_turn : (r : Option SubportIndex) → p < stop → r ≡ first_subport (port_subports_in marks links owners flags p o) → r ≡ None
           → first_subport (subports_rest marks links owners flags (p + 1) 0 (stop - (p + 1))) ≡ first_subport (subports_rest marks links owners flags p o (stop - p))
       unfolding subports_rest
       subports_turn r h e n =
           let a : p + 1 ≡ suc p = omega arith in
           rw (one_less p stop h, a) (sym (first_later _ _ (sym e ∙ n)))
 
-      pub subports_found : (r : SubportFound) (s : SubportIndex) → p < stop → r ≡ first_subport (port_subports_in marks links owners flags p o) → r ≡ subport_found.Subport s
+      pub subports_found : (r : Option SubportIndex) (s : SubportIndex) → p < stop → r ≡ first_subport (port_subports_in marks links owners flags p o) → r ≡ Some s
           → r ≡ first_subport (subports_rest marks links owners flags p o (stop - p))
       unfolding subports_rest
       subports_found r s h e n = rw (one_less p stop h) (n ∙ sym (first_here _ _ s (sym e ∙ n)))
 
-      pub subports_done : stop ≤ p → subport_found.None ≡ first_subport (subports_rest marks links owners flags p o (stop - p))
+      pub subports_done : stop ≤ p → None ≡ first_subport (subports_rest marks links owners flags p o (stop - p))
       unfolding subports_rest first_subport on_first
       subports_done h = let a : stop - p ≡ 0 = omega arith in rw a
 
@@ -195,7 +189,7 @@ module _ (m : MultiPortGraph) (w : MultiWf m) where
       let r = row_read c (suc p) in
       (λ i. a i ++ r i) ∙ sym (subports_on m p c)
 
-  module _ (n : ℕ) (k : NodeMeta) (open_node : is_hidden m n ≡ false) (meta : meta_at m.graph n ≡ maybe_meta.Some k) (sides : Sides) (held o : ℕ) where
+  module _ (n : ℕ) (k : NodeMeta) (open_node : is_hidden m n ≡ false) (meta : meta_at m.graph n ≡ Some k) (sides : Sides) (held o : ℕ) where
     abbrev scanned : List SubportIndex
     scanned = subports_beyond m.multiport m.graph.port_link m.graph.port_meta m.copy_node (ports_from k sides) (ports_to k sides) held o
 
@@ -248,45 +242,45 @@ module _ (m : MultiPortGraph) (w : MultiWf m) where
 
 -- what was found, as a step has it
 module _ {B : Type 0} (end : B) (item : SubportIndex → B) where
-  first_item : (l : List SubportIndex) (r : SubportFound) (s : SubportIndex) → r ≡ first_subport l → r ≡ subport_found.Subport s → item s ≡ on_first end item l
+  first_item : (l : List SubportIndex) (r : Option SubportIndex) (s : SubportIndex) → r ≡ first_subport l → r ≡ Some s → item s ≡ on_first end item l
   unfolding first_subport on_first
   first_item [] r s e h = let z : ◌≡◌ {A = ℕ} 0 1 = cc in absurd (omega arith)
   first_item (v ∷ l) r s e h = let q : s ≡ v = cc in ap item q
 
-  first_end : (l : List SubportIndex) (r : SubportFound) → r ≡ first_subport l → r ≡ subport_found.None → end ≡ on_first end item l
+  first_end : (l : List SubportIndex) (r : Option SubportIndex) → r ≡ first_subport l → r ≡ None → end ≡ on_first end item l
   unfolding first_subport on_first
   first_end [] r e h = refl
   first_end (v ∷ l) r e h = let z : ◌≡◌ {A = ℕ} 0 1 = cc in absurd (omega arith)
 
 module _ (m : MultiPortGraph) (c : NodeSubports) where
-  abbrev subports_item : SubportIndex → NodeSubportsStep
-  subports_item s = subports_step.Item s (record { node = c.node; sides = c.sides; held = suc s.port.0; offset = s.subport_offset })
+  abbrev subports_item : SubportIndex → Option (SubportIndex × NodeSubports)
+  subports_item s = Some (s, record { node = c.node; sides = c.sides; held = suc s.port.0; offset = s.subport_offset })
 
-  pub subports_gone : both_seen m c.node.0 c.held ≡ false → subports_step.End ≡ step_subports m c
+  pub subports_gone : both_seen m c.node.0 c.held ≡ false → None ≡ step_subports m c
   unfolding step_subports
   subports_gone e = rw e
 
-  module _ (w : MultiWf m) (k : NodeMeta) (e : block_found m c.node.0 ≡ block_found_lem.Block k) (there : held_in m.graph.port_meta m.copy_node c.held ≡ true)
-      (a b : ℕ) (r : SubportFound) (ea : a ≡ ports_from k c.sides) (eb : b ≡ ports_to k c.sides)
+  module _ (w : MultiWf m) (k : NodeMeta) (e : block_found m c.node.0 ≡ Ok k) (there : held_in m.graph.port_meta m.copy_node c.held ≡ true)
+      (a b : ℕ) (r : Option SubportIndex) (ea : a ≡ ports_from k c.sides) (eb : b ≡ ports_to k c.sides)
       (er : r ≡ first_subport (subports_beyond m.multiport m.graph.port_link m.graph.port_meta m.copy_node a b c.held c.offset)) where
     listed : r ≡ first_subport (filter (subport_beyond c.held c.offset) (subports_of m c.node.0 c.sides))
     listed =
-        let read = subports_read m w c.node.0 k (block_not_hidden m c.node.0 (sym (block_at m c.node.0 (block_found_lem.Block k) e))) (meta_is m c.node.0 k e) c.sides c.held c.offset in
+        let read = subports_read m w c.node.0 k (block_not_hidden m c.node.0 (sym (block_at m c.node.0 (Ok k) e))) (meta_is m c.node.0 k e) c.sides c.held c.offset in
         er
         ∙ ap (λ (x : ℕ). first_subport (subports_beyond m.multiport m.graph.port_link m.graph.port_meta m.copy_node x b c.held c.offset)) ea
         ∙ ap (λ (x : ℕ). first_subport (subports_beyond m.multiport m.graph.port_link m.graph.port_meta m.copy_node (ports_from k c.sides) x c.held c.offset)) eb
         ∙ ap first_subport read
 
-    pub subports_item_lem : (s : SubportIndex) → r ≡ subport_found.Subport s
-        → subports_step.Item s (record { node = c.node; sides = c.sides; held = s.port.0 + 1; offset = s.subport_offset }) ≡ step_subports m c
+    pub subports_item_lem : (s : SubportIndex) → r ≡ Some s
+        → Some (s, record { node = c.node; sides = c.sides; held = s.port.0 + 1; offset = s.subport_offset }) ≡ step_subports m c
     unfolding step_subports
     subports_item_lem s h =
         let one : s.port.0 + 1 ≡ suc s.port.0 = omega arith in
         rw (both_found m c.node.0 k c.held true w e there)
-        (ap (λ (x : ℕ). subports_step.Item s (record { node = c.node; sides = c.sides; held = x; offset = s.subport_offset })) one
-        ∙ first_item subports_step.End subports_item _ r s listed h)
+        (ap (λ (x : ℕ). Some (s, record { node = c.node; sides = c.sides; held = x; offset = s.subport_offset })) one
+        ∙ first_item None subports_item _ r s listed h)
 
-    pub subports_none : r ≡ subport_found.None → subports_step.End ≡ step_subports m c
+    pub subports_none : r ≡ None → None ≡ step_subports m c
     unfolding step_subports
     subports_none h =
-        rw (both_found m c.node.0 k c.held true w e there) (first_end subports_step.End subports_item _ r listed h)
+        rw (both_found m c.node.0 k c.held true w e there) (first_end None subports_item _ r listed h)

@@ -1,5 +1,6 @@
 -- What the tables alone tell of a graph of the calls is what the graph tells: ports, subports, ends and wires.
-use Rattle.std.specs.Prelude.{◌≡◌, Bool, List, eqb}
+use Rattle.multi_tables.specs.declared.answers.PortPlace.{PortPlace}
+use Rattle.std.specs.Prelude.{◌≡◌, Bool, List, eqb, Some, None, Ok}
 use Rattle.std.proofs.Math.Path.{refl, sym, ap}
 use Rattle.std.proofs.Common.{◌∙◌, subst}
 use Rattle.std.proofs.Math.Bool.{true, false, cond}
@@ -29,8 +30,6 @@ use Rattle.multiportgraph.specs.Ends.{BlockPort, EndOf, block_seen, Hangs, split
 use Rattle.multi_tables.specs.TableReads.{far_in, owner_in, seen_owner, seen_in, in_row, owns_up, owns_down, run_up, run_down, count_beside, first_beside, end_beside, subports_in, first_in, end_in, copy_beside, subport_owned, subport_in, leaps_down, leap_down, row_below, place_owned, place_in, far_place_in, wire_in, wire_end_in, plain_in}
 use Rattle.multiportgraph.specs.declared.multiportgraph.MultiPortGraph.{MultiPortGraph}
 use Rattle.multi_tables.specs.declared.answers.SubportIndex.{SubportIndex}
-use Rattle.multi_tables.specs.declared.answers.CutAnswer.TheVariants as cutting
-use Rattle.multi_tables.specs.declared.answers.EndAnswer.TheVariants as end
 use Rattle.multi_tables.specs.EndAnswers.{unplaced}
 
 -- Runs.
@@ -191,8 +190,8 @@ pub wire_unplaced : (links owners : List ℕ) (flags : List Bool) (q : ℕ) → 
 unfolding wire_end_in wire_in
 wire_unplaced links owners flags q = go (eqb (at links q) 0)
   where
-    go : (b : Bool) → cond b end.Nothing (end.Found (subport_in links owners flags (far_in links q)))
-        ≡ unplaced (cond b cutting.Nothing (cutting.Found (subport_in links owners flags (far_in links q)) (place_in owners (subport_in links owners flags (far_in links q)).port.0)))
+    go : (b : Bool) → cond b (Ok None) (Ok (Some (subport_in links owners flags (far_in links q))))
+        ≡ unplaced (cond b (Ok None) (Ok (Some (subport_in links owners flags (far_in links q), place_in owners (subport_in links owners flags (far_in links q)).port.0))))
     go true = refl
     go false = refl
 
@@ -345,9 +344,8 @@ module _ {m : MultiPortGraph} {M : Model} (f : Fine m M) where
   wire_there x e = go (M.join x) refl
     where
       go : (y : Far) → M.join x ≡ y →
-          cond (eqb (at m.graph.port_link (slot_of M.node x)) 0) cutting.Nothing
-          (cutting.Found (subport_in m.graph.port_link m.graph.port_meta m.copy_node (far_in m.graph.port_link (slot_of M.node x)))
-          (far_place_in m.graph.port_link m.graph.port_meta m.copy_node (far_in m.graph.port_link (slot_of M.node x))))
+          cond (eqb (at m.graph.port_link (slot_of M.node x)) 0) (Ok None)
+          (Ok (Some (subport_in m.graph.port_link m.graph.port_meta m.copy_node (far_in m.graph.port_link (slot_of M.node x)), far_place_in m.graph.port_link m.graph.port_meta m.copy_node (far_in m.graph.port_link (slot_of M.node x)))))
           ≡ far_subport m (port_link m.graph (slot_of M.node x))
       go nowhere j =
           rw (eq-eqb (at m.graph.port_link (slot_of M.node x)) 0 (link_none f.good f.holds x e.valid j))
@@ -355,7 +353,7 @@ module _ {m : MultiPortGraph} {M : Model} (f : Fine m M) where
       go (to y) j =
           let l = link_to f.good f.holds x y e.valid j in
           rw (ne_eqb (at m.graph.port_link (slot_of M.node x)) 0 (λ z. omega arith), far_is x y j)
-          ((λ i. cutting.Found (subport_there y (ends_join_ends f x y e j) i) (far_place_there y (ends_join_ends f x y e j) i))
+          ((λ i. Ok (Some (subport_there y (ends_join_ends f x y e j) i, far_place_there y (ends_join_ends f x y e j) i)))
           ∙ sym (ap (far_subport m) (port_link_to f.good f.holds x y e.valid j)))
 
   -- an unsplit port: what cutting it answers
@@ -365,8 +363,8 @@ module _ {m : MultiPortGraph} {M : Model} (f : Fine m M) where
   plain_there x e = go (M.join x) refl
     where
       go : (y : Far) → M.join x ≡ y →
-          cond (eqb (at m.graph.port_link (slot_of M.node x)) 0) cutting.Nothing
-          (cutting.Found (subport# (far_in m.graph.port_link (slot_of M.node x)) 0) (far_place_in m.graph.port_link m.graph.port_meta m.copy_node (far_in m.graph.port_link (slot_of M.node x))))
+          cond (eqb (at m.graph.port_link (slot_of M.node x)) 0) (Ok None)
+          (Ok (Some (subport# (far_in m.graph.port_link (slot_of M.node x)) 0, far_place_in m.graph.port_link m.graph.port_meta m.copy_node (far_in m.graph.port_link (slot_of M.node x)))))
           ≡ cut_plain m (port_link m.graph (slot_of M.node x))
       go nowhere j =
           rw (eq-eqb (at m.graph.port_link (slot_of M.node x)) 0 (link_none f.good f.holds x e.valid j))
@@ -374,7 +372,7 @@ module _ {m : MultiPortGraph} {M : Model} (f : Fine m M) where
       go (to y) j =
           let l = link_to f.good f.holds x y e.valid j in
           rw (ne_eqb (at m.graph.port_link (slot_of M.node x)) 0 (λ z. omega arith), far_is x y j)
-          (ap (cutting.Found (subport# (slot_of M.node y) 0)) (far_place_there y (ends_join_ends f x y e j))
+          (ap (λ (x : PortPlace). Ok (Some (subport# (slot_of M.node y) 0, x))) (far_place_there y (ends_join_ends f x y e j))
           ∙ sym (ap (cut_plain m) (port_link_to f.good f.holds x y e.valid j)))
 
   -- By numbers, as the code has them.

@@ -1,7 +1,7 @@
 -- Steps of a split and of one more subport, made in the tables.
 use Rattle.std.proofs.Math.Path.{◌≡◌, refl, sym, ap, transport}
 use Rattle.std.proofs.Common.{◌∙◌, inl, inr, arith}
-use Rattle.std.specs.Prelude.{Bool, List, ◌⊎◌, ℕ, ◌+◌, ◌-◌}
+use Rattle.std.specs.Prelude.{Bool, List, ◌⊎◌, ℕ, ◌+◌, ◌-◌, Result, Ok, Err}
 use Rattle.std.proofs.Math.Bool.{true, false}
 use Rattle.std.proofs.Math.ListN.{set}
 use Rattle.port_tables.specs.Limits.{node_slots, port_slots}
@@ -18,10 +18,7 @@ use Rattle.port_tables.specs.declared.index.PortIndex.{PortIndex}
 use Rattle.portgraph.specs.declared.portgraph.PortGraph.{PortGraph}
 use Rattle.portgraph.specs.declared.portgraph.PortUnlinked.{PortUnlinked}
 use Rattle.portgraph.specs.declared.portgraph.PortsLinked.{PortsLinked}
-use Rattle.portgraph.specs.declared.alloc.AddAnswer.TheVariants as lower_add
 use Rattle.portgraph.specs.declared.alloc.NodeAdded.{NodeAdded}
-use Rattle.portgraph.specs.declared.resize.SetAnswer.{SetAnswer}
-use Rattle.portgraph.specs.declared.resize.SetAnswer.TheVariants as lower_set
 use Rattle.portgraph.specs.declared.resize.PortsSet.{PortsSet}
 use Rattle.multiportgraph.specs.Graph.{multi}
 use Rattle.multiportgraph.specs.Reading.{far_port, port_of, copy_node, subports}
@@ -39,6 +36,8 @@ use Rattle.multiportgraph.specs.declared.multiportgraph.MultiPortGraph.{MultiPor
 use Rattle.multiportgraph.specs.declared.prepare.Prepared.{Prepared}
 use Rattle.multiportgraph.specs.HiddenNodes.{copy_incoming, copy_outgoing, split_graph, split_port, split_by, split, recounted, more, enough, grown_by, grow, split_under, grow_under}
 use Rattle.multiportgraph.specs.Presumed.{LinkedPort, SplitPort}
+use Rattle.portgraph.specs.declared.resize.SetError.{SetError}
+use Rattle.portgraph.specs.declared.resize.SetError.TheVariants as set_error
 
 -- The links of a split.
 pub hung : (t t₁ t₂ t₃ : List ℕ) (p copy first far w v : ℕ) → w ≡ p → far ≡ far_in t w → v ≡ p → t₁ ≡ cut t v → t₂ ≡ link_both t₁ p copy → t₃ ≡ link_both t₂ first far → t₃ ≡ hang_on t p copy first
@@ -47,7 +46,7 @@ hung t t₁ t₂ t₃ p copy first far w v e₁ e₂ e₃ e₄ e₅ e₆ = rw (e
 
 -- A split.
 module _ {m : MultiPortGraph} {p : ℕ} {d : Direction} (b : LinkedPort m p d) {i o : ℕ} {r : NodeAdded} (e₁ : i ≡ copy_incoming d) (e₂ : o ≡ copy_outgoing d) (e₃ : r ≡ add_node m.graph i o)
-    {n : NodeIndex} {f : PortIndex} (a : r.answer ≡ lower_add.Added n f) where
+    {n : NodeIndex} {f : PortIndex} (a : r.answer ≡ Ok (n, f)) where
   added_is : r ≡ add_node m.graph (copy_incoming d) (copy_outgoing d)
   added_is = rw (e₃, e₁, e₂)
 
@@ -181,23 +180,23 @@ module _ {m : MultiPortGraph} {p : ℕ} {d : Direction} {copy node count : ℕ} 
         let g = grown_counts s.port count s.count_is in
         f₄ ∙ (λ j. set_num_ports m.graph (s.node_is j) ((f₁ ∙ g.0) j) ((f₂ ∙ g.1) j) (f₃ j))
 
-    pub grow_full : (tag : SetAnswer → ℕ) → ((e : ℕ) → tag (lower_set.Set e) ≡ 0) → (tag r.answer ≡ 1) ⊎ ((tag r.answer ≡ 2) ⊎ ((tag r.answer ≡ 3) ⊎ (tag r.answer ≡ 4))) →
+    pub grow_full : (tag : Result ℕ SetError → ℕ) → ((e : ℕ) → tag (Ok e) ≡ 0) → (tag r.answer ≡ 1) ⊎ ((tag r.answer ≡ 2) ⊎ ((tag r.answer ≡ 3) ⊎ (tag r.answer ≡ 4))) →
         ◌≡◌ {A = Prepared} (record { graph = m; port = 0; offset = 0; ready = false }) (prepared_as m (grow m (copy_node m p) d))
     unfolding grow_under
     grow_full tag zeroth z = go r.answer z ∙ (λ j. prepared_as m (grown_by m (copy_node m p) d (set_is j).graph (set_is j).answer))
       where
-        go : (x : SetAnswer) → (tag x ≡ 1) ⊎ ((tag x ≡ 2) ⊎ ((tag x ≡ 3) ⊎ (tag x ≡ 4))) →
+        go : (x : Result ℕ SetError) → (tag x ≡ 1) ⊎ ((tag x ≡ 2) ⊎ ((tag x ≡ 3) ⊎ (tag x ≡ 4))) →
             ◌≡◌ {A = Prepared} (record { graph = m; port = 0; offset = 0; ready = false }) (prepared_as m (grown_by m (copy_node m p) d r.graph x))
-        go (lower_set.Set e) (inl t) = let k = zeroth e in absurd (omega arith)
-        go (lower_set.Set e) (inr (inl t)) = let k = zeroth e in absurd (omega arith)
-        go (lower_set.Set e) (inr (inr (inl t))) = let k = zeroth e in absurd (omega arith)
-        go (lower_set.Set e) (inr (inr (inr t))) = let k = zeroth e in absurd (omega arith)
-        go lower_set.TooManyPorts t = refl
-        go lower_set.UnknownNode t = refl
-        go lower_set.MovesTooShort t = refl
-        go lower_set.NoRoom t = refl
+        go (Ok e) (inl t) = let k = zeroth e in absurd (omega arith)
+        go (Ok e) (inr (inl t)) = let k = zeroth e in absurd (omega arith)
+        go (Ok e) (inr (inr (inl t))) = let k = zeroth e in absurd (omega arith)
+        go (Ok e) (inr (inr (inr t))) = let k = zeroth e in absurd (omega arith)
+        go (Err set_error.TooManyPorts) t = refl
+        go (Err set_error.UnknownNode) t = refl
+        go (Err set_error.MovesTooShort) t = refl
+        go (Err set_error.NoRoom) t = refl
 
-    module _ {e : ℕ} (a : r.answer ≡ lower_set.Set e) where
+    module _ {e : ℕ} (a : r.answer ≡ Ok e) where
       pub grow_told : GrowTables m p d (copy_node m p) count r.graph
       grow_told =
           transport (λ j. GrowTables m p d (copy_node m p) (sym s.count_is j) (sym set_is j).graph)

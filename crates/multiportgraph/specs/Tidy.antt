@@ -1,19 +1,18 @@
 -- Tidying a split port: empty subports above the highest wired one go. Where only offset 0 is then wired, or none is, the hidden node
 -- goes, and the wire, if there is one, is linked to the port directly.
-use Rattle.std.specs.Prelude.{cond, ℕ, zero, suc, ◌-◌, ltb}
+use Rattle.std.specs.Prelude.{cond, ℕ, zero, suc, ◌-◌, ltb, Option, Some, None}
 use Rattle.portgraph.specs.Lookups.{meta_at, num_ports}
 use Rattle.portgraph.specs.Calls.{link_ports}
 use Rattle.portgraph.specs.Resize.{resize_inside}
 use Rattle.port_tables.specs.ResizeLinks.{same_counts}
 use Rattle.port_tables.specs.declared.direction.Direction.{Direction}
 use Rattle.port_tables.specs.declared.direction.Direction.TheVariants.{Incoming, Outgoing}
-use Rattle.port_tables.specs.declared.node_entry.MaybeNodeMeta.{MaybeNodeMeta}
-use Rattle.port_tables.specs.declared.node_entry.MaybeNodeMeta.TheVariants as maybe_meta
 use Rattle.portgraph.specs.declared.portgraph.PortGraph.{PortGraph}
 use Rattle.multiportgraph.specs.Reading.{far_port, has_link, port_of, copy_node, subports, subport_at}
 use Rattle.multiportgraph.specs.declared.multiportgraph.MultiPortGraph.{MultiPortGraph}
 use Rattle.multiportgraph.specs.Graph.{with_graph, with_subports}
 use Rattle.multiportgraph.specs.HiddenNodes.{recounted, unsplit}
+use Rattle.port_tables.specs.declared.node_entry.NodeMeta.{NodeMeta}
 
 -- how many of the first n positions of a node's side are left without the unlinked ones above the highest linked one
 unfoldable pub linked_up_to : PortGraph → ℕ → Direction → ℕ → ℕ
@@ -34,9 +33,9 @@ left_outgoing Incoming n = 1
 left_outgoing Outgoing n = n
 
 -- a node with other counts, by a resize within its block; equal counts change nothing
-abbrev pub within_block : PortGraph → ℕ → ℕ → ℕ → MaybeNodeMeta → PortGraph
-within_block g n incoming outgoing maybe_meta.None = g
-within_block g n incoming outgoing (maybe_meta.Some k) = cond (same_counts k incoming outgoing) g (resize_inside g n k incoming outgoing)
+abbrev pub within_block : PortGraph → ℕ → ℕ → ℕ → Option NodeMeta → PortGraph
+within_block g n incoming outgoing None = g
+within_block g n incoming outgoing (Some k) = cond (same_counts k incoming outgoing) g (resize_inside g n k incoming outgoing)
 
 unfoldable pub resized_within : PortGraph → ℕ → ℕ → ℕ → PortGraph
 resized_within g n incoming outgoing = within_block g n incoming outgoing (meta_at g n)

@@ -1,6 +1,6 @@
 -- Tidying a port: what is left of its hidden node, that every wire and every block stays where it is, that tidying again changes
 -- nothing, and that nothing is taken for it.
-use Rattle.std.specs.Prelude.{◌≡◌, Bool, [], ◌∷◌, ◌⊎◌, eqb, ltb}
+use Rattle.std.specs.Prelude.{◌≡◌, Bool, [], ◌∷◌, ◌⊎◌, eqb, ltb, Some, Result, Ok, Err}
 use Rattle.std.proofs.Math.Path.{refl, ap, subst, transport}
 use Rattle.std.proofs.Common.{sym, ◌∙◌, inl, inr, ⊎_elim}
 use Rattle.std.proofs.Math.Bool.{true, false, cond}
@@ -26,9 +26,7 @@ use Rattle.portgraph.specs.GoodSlots.{zero_is_not_one, same_place_lem}
 use Rattle.port_tables.specs.declared.direction.Direction.{Direction}
 use Rattle.port_tables.specs.declared.direction.Direction.TheVariants.{Incoming, Outgoing}
 use Rattle.port_tables.specs.declared.node_entry.NodeMeta.{NodeMeta}
-use Rattle.port_tables.specs.declared.node_entry.MaybeNodeMeta.TheVariants as maybe_meta
 use Rattle.portgraph.specs.declared.portgraph.PortGraph.{PortGraph}
-use Rattle.portgraph.specs.declared.resize.SetAnswer.TheVariants as lower_set
 use Rattle.portgraph.specs.declared.resize.PortsSet.{PortsSet}
 use Rattle.multiportgraph.specs.Reading.{far_port, has_link, port_of, is_hidden, is_split, copy_side, copy_node, subports, subport_at, seen}
 use Rattle.multi_tables.specs.Forms.{Port, dead, hidden, visible}
@@ -40,8 +38,6 @@ use Rattle.multiportgraph.specs.LinkCutLaws.{Joined, join_ends, to_same, nowhere
 use Rattle.multiportgraph.specs.CopyLaws.{port_at, CopyGone, copy_goes, copy_frame, copy_alike, hidden_other, end_elsewhere, unsplit_split}
 use Rattle.multiportgraph.specs.RecountLaws.{SomeRecount, set_recounts, number_cases, counted, copy_place_same, same_wires, recount_ends, recount_fine, recount_blocks}
 use Rattle.multiportgraph.specs.declared.multiportgraph.MultiPortGraph.{MultiPortGraph}
-use Rattle.multiportgraph.specs.declared.multiportgraph.TidyAnswer.{TidyAnswer}
-use Rattle.multiportgraph.specs.declared.multiportgraph.TidyAnswer.TheVariants as tidying
 use Rattle.multiportgraph.specs.declared.multiportgraph.PortTidied.{PortTidied}
 use Rattle.port_tables.specs.Places.{Wire, touches, wire_of_sides}
 use Rattle.multiportgraph.specs.Graph.{with_graph, with_marks, with_subports}
@@ -53,6 +49,7 @@ use Rattle.multi_tables.specs.TableReads.{far_in}
 use Rattle.multiportgraph.specs.TableReadLaws.{far_is}
 use Rattle.multiportgraph.specs.GrowLaws.{slot_x, mark_moves}
 use Rattle.multiportgraph.specs.Tidy.{linked_up_to, subports_left, left_incoming, left_outgoing, resized_within, drop_subports, link_directly, tidied}
+use Rattle.multi_tables.specs.declared.answers.Refusal.{Refusal}
 
 -- What is left.
 
@@ -116,11 +113,11 @@ pub record TidyDone (m : MultiPortGraph) (M : Model) (m' : MultiPortGraph) : Typ
 -- Empty subports go, and two or more are left.
 
 -- a resize within the block, to equal counts and to others
-same_within : (g : PortGraph) (n i o : ℕ) (k : NodeMeta) → meta_at g n ≡ maybe_meta.Some k → i ≡ k.incoming → o ≡ k.outgoing → resized_within g n i o ≡ g
+same_within : (g : PortGraph) (n i o : ℕ) (k : NodeMeta) → meta_at g n ≡ Some k → i ≡ k.incoming → o ≡ k.outgoing → resized_within g n i o ≡ g
 unfolding resized_within same_counts
 same_within g n i o k e a b = rw (e, eq-eqb i k.incoming a, eq-eqb o k.outgoing b) refl
 
-other_within : (g : PortGraph) (n i o : ℕ) (k : NodeMeta) → meta_at g n ≡ maybe_meta.Some k → (i ≡ k.incoming → o ≡ k.outgoing → ⊥) → resized_within g n i o ≡ resize_inside g n k i o
+other_within : (g : PortGraph) (n i o : ℕ) (k : NodeMeta) → meta_at g n ≡ Some k → (i ≡ k.incoming → o ≡ k.outgoing → ⊥) → resized_within g n i o ≡ resize_inside g n k i o
 unfolding resized_within same_counts
 other_within g n i o k e other = rw e (go (eqb i k.incoming) (eqb o k.outgoing) refl refl)
   where
@@ -131,11 +128,11 @@ other_within g n i o k e other = rw e (go (eqb i k.incoming) (eqb o k.outgoing) 
 
 -- a resize, as of any node, that changes no count, or is done within the block
 pub data DropWithin (g : PortGraph) (n : ℕ) (k : NodeMeta) (incoming outgoing : ℕ) : Type 0 where
-  no_change : set_num_ports g n incoming outgoing enough ≡ record { graph = g; answer = lower_set.Set 0 } → resized_within g n incoming outgoing ≡ g →
+  no_change : set_num_ports g n incoming outgoing enough ≡ record { graph = g; answer = Ok 0 } → resized_within g n incoming outgoing ≡ g →
       DropWithin g n k incoming outgoing
   in_block : 3 ≤ incoming + outgoing → incoming + outgoing < k.capacity →
       set_num_ports g n incoming outgoing enough
-      ≡ record { graph = resize_inside g n k incoming outgoing; answer = lower_set.Set (dropped k incoming outgoing + kept_outgoing k outgoing) } →
+      ≡ record { graph = resize_inside g n k incoming outgoing; answer = Ok (dropped k incoming outgoing + kept_outgoing k outgoing) } →
       resized_within g n incoming outgoing ≡ resize_inside g n k incoming outgoing → DropWithin g n k incoming outgoing
 
 -- so dropping within the block is the resize as of any node, which is not refused
@@ -143,7 +140,7 @@ pub within_is : {g : PortGraph} {n : ℕ} {k : NodeMeta} {i o : ℕ} → DropWit
 within_is (no_change e w) = w ∙ sym (ap (λ (r : PortsSet). r.graph) e)
 within_is (in_block some less e w) = w ∙ sym (ap (λ (r : PortsSet). r.graph) e)
 
-pub within_set : {g : PortGraph} {n : ℕ} {k : NodeMeta} {i o : ℕ} → DropWithin g n k i o → (e : ℕ) × ((set_num_ports g n i o enough).answer ≡ lower_set.Set e)
+pub within_set : {g : PortGraph} {n : ℕ} {k : NodeMeta} {i o : ℕ} → DropWithin g n k i o → (e : ℕ) × ((set_num_ports g n i o enough).answer ≡ Ok e)
 within_set (no_change e w) = (0, ap (λ (r : PortsSet). r.answer) e)
 within_set (in_block some less e w) = (_, ap (λ (r : PortsSet). r.answer) e)
 
@@ -151,8 +148,8 @@ within_set (in_block some less e w) = (_, ap (λ (r : PortsSet). r.answer) e)
 pub record SameBlock (g g' : PortGraph) (n : ℕ) : Type 0 where
   pub before : NodeMeta
   pub after : NodeMeta
-  pub was : meta_at g n ≡ maybe_meta.Some before
-  pub is : meta_at g' n ≡ maybe_meta.Some after
+  pub was : meta_at g n ≡ Some before
+  pub is : meta_at g' n ≡ Some after
   pub first : after.first_port.0 ≡ before.first_port.0
   pub capacity : after.capacity ≡ before.capacity
 
@@ -237,7 +234,7 @@ module _ {m : MultiPortGraph} {M : Model} (f : Fine m M) (x : model.InnerPlace) 
           (other_within m.graph h.copy _ _ k (meta_of_node f.good f.holds h.copy k here) (λ i o. q (sym (left_on k x.side n (sym i) (sym o)).0)))
 
   -- so it is never refused for room
-  pub drop_set : (e : ℕ) × (sized.answer ≡ lower_set.Set e)
+  pub drop_set : (e : ℕ) × (sized.answer ≡ Ok e)
   drop_set = within_set drop_within
 
   abbrev subs_left : ℕ
@@ -660,9 +657,9 @@ module _ {m : MultiPortGraph} {M : Model} (f : Fine m M) where
 
 -- The call.
 
-abbrev pub TidySays : MultiPortGraph → Model → MultiPortGraph → TidyAnswer → Type 0
-TidySays m M m' tidying.Tidied = TidyDone m M m'
-TidySays m M m' (tidying.Refused r) = m' ≡ m
+abbrev pub TidySays : MultiPortGraph → Model → MultiPortGraph → Result (Unit {0}) Refusal → Type 0
+TidySays m M m' (Ok tt) = TidyDone m M m'
+TidySays m M m' (Err r) = m' ≡ m
 
 module _ {m : MultiPortGraph} {M : Model} (f : Fine m M) (p : ℕ) where
   abbrev TidySaid : PortTidied → Type 0
@@ -700,17 +697,17 @@ module _ {m : MultiPortGraph} {M : Model} (f : Fine m M) (p : ℕ) where
   pub tidy_again : tidy_port (tidy_port m p).graph p ≡ tidy_port m p
   tidy_again = subst (λ (v : PortTidied). tidy_port v.graph p ≡ v) (sym (tidy_cases m p)) (ports (seen m p) refl)
     where
-      port : (n : ℕ) (d : Direction) → seen m p ≡ visible n d → BlockPort m M p n d → is_split m p ≡ true → tidy_port (tidied m p d) p ≡ record { graph = tidied m p d; answer = tidying.Tidied }
+      port : (n : ℕ) (d : Direction) → seen m p ≡ visible n d → BlockPort m M p n d → is_split m p ≡ true → tidy_port (tidied m p d) p ≡ record { graph = tidied m p d; answer = Ok tt }
       port n d e b s =
           let t = tidied_done f b.place b.is_seen (ap (is_split m) b.slot ∙ s) in
           let u = tidied_left f b.place b.is_seen (ap (is_split m) b.slot ∙ s) in
           transport
-          (λ i. tidy_port (tidied m (b.slot i) (b.side i)) p ≡ record { graph = tidied m (b.slot i) (b.side i); answer = tidying.Tidied }) (again n d e b t u)
+          (λ i. tidy_port (tidied m (b.slot i) (b.side i)) p ≡ record { graph = tidied m (b.slot i) (b.side i); answer = Ok tt }) (again n d e b t u)
         where
           again : (n : ℕ) (d : Direction) → seen m p ≡ visible n d → (b : BlockPort m M p n d) → TidyDone m M (tidied m (slot_of M.node b.place) b.place.side)
               → TidyLeft (tidied m (slot_of M.node b.place) b.place.side) (slot_of M.node b.place) b.place.side
               → tidy_port (tidied m (slot_of M.node b.place) b.place.side) p
-              ≡ record { graph = tidied m (slot_of M.node b.place) b.place.side; answer = tidying.Tidied }
+              ≡ record { graph = tidied m (slot_of M.node b.place) b.place.side; answer = Ok tt }
           again n d e b t u =
               let m' : MultiPortGraph = tidied m (slot_of M.node b.place) b.place.side in
               let x = b.place in
@@ -719,10 +716,10 @@ module _ {m : MultiPortGraph} {M : Model} (f : Fine m M) (p : ℕ) where
               let z = tidied_again t.fine x k.0 (subst (λ (i : ℕ). TidyLeft m' i x.side) (sym k.1) u) in
               let y : cond (is_split m' p) (tidied m' p x.side) m' ≡ m' = subst (λ (i : ℕ). cond (is_split m' i) (tidied m' i x.side) m' ≡ m') q z in
               let o : seen m' p ≡ visible x.node x.side = ap (seen m') (sym q) ∙ seen_block t.fine x k.0 in
-              tidy_cases m' p ∙ (ap (tidy_seen m' p) o ∙ (λ i. record { graph = y i; answer = tidying.Tidied }))
+              tidy_cases m' p ∙ (ap (tidy_seen m' p) o ∙ (λ i. record { graph = y i; answer = Ok tt }))
 
       marks : (n : ℕ) (d : Direction) → seen m p ≡ visible n d → (b : Bool) → is_split m p ≡ b →
-          tidy_port (cond b (tidied m p d) m) p ≡ record { graph = cond b (tidied m p d) m; answer = tidying.Tidied }
+          tidy_port (cond b (tidied m p d) m) p ≡ record { graph = cond b (tidied m p d) m; answer = Ok tt }
       marks n d e true s = port n d e (block_seen f p n d e) s
       marks n d e false s = tidy_cases m p ∙ (ap (tidy_seen m p) e ∙ rw s refl)
 

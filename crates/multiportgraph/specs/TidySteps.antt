@@ -1,5 +1,5 @@
 -- What the code's steps of a tidy amount to.
-use Rattle.std.specs.Prelude.{◌≡◌, Bool, List, eqb}
+use Rattle.std.specs.Prelude.{◌≡◌, Bool, List, eqb, Ok, Err}
 use Rattle.std.proofs.Math.Path.{refl, sym, ap, transport}
 use Rattle.std.proofs.Common.{◌∙◌, subst, eq-eqb, ne_eqb, lt-ltb, le-ltb}
 use Rattle.std.proofs.Math.Bool.{true, false, cond}
@@ -40,8 +40,6 @@ use Rattle.multiportgraph.specs.Presumed.{OnBlock, SplitPort, LeftPort}
 use Rattle.multiportgraph.specs.declared.multiportgraph.MultiPortGraph.{MultiPortGraph}
 use Rattle.multi_tables.specs.declared.answers.Refusal.{Refusal}
 use Rattle.multi_tables.specs.declared.answers.Refusal.TheVariants.{UnknownPort, HiddenPort}
-use Rattle.multiportgraph.specs.declared.lookups.DirectionAnswer.TheVariants as direction_of_lem
-use Rattle.multiportgraph.specs.declared.multiportgraph.TidyAnswer.TheVariants as tidying
 use Rattle.multiportgraph.specs.declared.multiportgraph.PortTidied.{PortTidied}
 
 -- The loop of linked_from.
@@ -57,13 +55,15 @@ turn : (t : List ℕ) (f k : ℕ) → at t (f + k) ≡ 0 → linked_from t f (su
 unfolding linked_from
 turn t f k e = rw (eq-eqb (at t (f + k)) 0 e) refl
 
-pub linked_stop : (t : List ℕ) (f n : ℕ) → 0 < n → (at t (f + (n - 1)) ≡ 0 → ⊥) → n ≡ linked_from t f n
-linked_stop t f n h e = subst (λ (k : ℕ). k ≡ linked_from t f k) (sym (one_less n h)) (stop t f (n - 1) e)
+pub linked_stop : (t : List ℕ) (f n : ℕ) → 0 < n → (at t (f + (n - 1)) ≡ 0 → ⊥) → n - 1 + 1 ≡ linked_from t f n
+linked_stop t f n h e =
+    let one : n - 1 + 1 ≡ n = omega arith in
+    one ∙ subst (λ (k : ℕ). k ≡ linked_from t f k) (sym (one_less n h)) (stop t f (n - 1) e)
 
 pub linked_turn : (t : List ℕ) (f n : ℕ) → 0 < n → at t (f + (n - 1)) ≡ 0 → linked_from t f n ≡ linked_from t f (n - 1)
 linked_turn t f n h e = ap (linked_from t f) (one_less n h) ∙ turn t f (n - 1) e
 
-pub linked_end : (t : List ℕ) (f n : ℕ) → n ≤ 0 → linked_from t f n ≡ n
+pub linked_end : (t : List ℕ) (f n : ℕ) → n ≤ 0 → linked_from t f n ≡ 0
 unfolding linked_from
 linked_end t f n h = let e : n ≡ 0 = omega arith in rw e
 
@@ -298,14 +298,14 @@ module _ (m : MultiPortGraph) (p : ℕ) where
   tidy_seen_lem : (s : Port) → seen m p ≡ s → tidy_seen m p s ≡ tidy_port m p
   tidy_seen_lem s e = ap (tidy_seen m p) (sym e) ∙ sym (tidy_cases m p)
 
-  pub tidy_done : {r : MultiPortGraph} {d : Direction} → OnBlock m p d → r ≡ cond (is_split m p) (tidied m p d) m → ◌≡◌ {A = PortTidied} (record { graph = r; answer = tidying.Tidied }) (tidy_port m p)
-  tidy_done {d = d} b k = ap (λ (u : MultiPortGraph). record { graph = u; answer = tidying.Tidied }) k ∙ tidy_seen_lem (visible b.node d) b.is
+  pub tidy_done : {r : MultiPortGraph} {d : Direction} → OnBlock m p d → r ≡ cond (is_split m p) (tidied m p d) m → ◌≡◌ {A = PortTidied} (record { graph = r; answer = Ok tt }) (tidy_port m p)
+  tidy_done {d = d} b k = ap (λ (u : MultiPortGraph). record { graph = u; answer = Ok tt }) k ∙ tidy_seen_lem (visible b.node d) b.is
 
-  pub tidy_refused_lem : {a : Refusal} → direction_of m p ≡ direction_of_lem.Refused a → tidy_refused m a ≡ tidy_port m p
+  pub tidy_refused_lem : {a : Refusal} → direction_of m p ≡ Err a → tidy_refused m a ≡ tidy_port m p
   unfolding direction_of
   tidy_refused_lem {a} e = go (seen m p) refl e
     where
-      go : (s : Port) → seen m p ≡ s → direction_seen p s ≡ direction_of_lem.Refused a → tidy_refused m a ≡ tidy_port m p
+      go : (s : Port) → seen m p ≡ s → direction_seen p s ≡ Err a → tidy_refused m a ≡ tidy_port m p
       go dead t e = let q : UnknownPort (port# p) ≡ a = cc in ap (tidy_refused m) (sym q) ∙ tidy_seen_lem dead t
       go hidden t e = let q : HiddenPort (port# p) ≡ a = cc in ap (tidy_refused m) (sym q) ∙ tidy_seen_lem hidden t
       go (visible n d) t e = absurd (zero_is_not_one (cc))

@@ -1,6 +1,6 @@
 -- The walk over all wires: the list of all wires ascends, the cursor gives it whole, and it has exactly the wires of the model,
 -- each once. So it is known by the set of its wires.
-use Rattle.std.specs.Prelude.{◌≡◌, Bool, ◌⊎◌, ◌↔◌, eqb, ltb, length}
+use Rattle.std.specs.Prelude.{◌≡◌, Bool, ◌⊎◌, ◌↔◌, eqb, ltb, length, Option, Some, None, Result, Ok, Err}
 use Rattle.std.proofs.Math.Path.{refl, sym, ap, subst}
 use Rattle.std.proofs.Common.{◌∙◌, ⊎_elim}
 use Rattle.std.proofs.Math.Bool.{true, false, cond}
@@ -27,10 +27,10 @@ use Rattle.multiportgraph.specs.Ends.{Hangs, ends_join_ends, place_of_sub, subpo
 use Rattle.multiportgraph.specs.declared.multiportgraph.MultiPortGraph.{MultiPortGraph}
 use Rattle.multi_tables.specs.declared.answers.SubportIndex.{SubportIndex}
 use Rattle.multi_tables.specs.declared.answers.SubportLink.{SubportLink}
-use Rattle.multi_tables.specs.declared.answers.CutAnswer.{CutAnswer}
-use Rattle.multi_tables.specs.declared.answers.CutAnswer.TheVariants as cutting
 use Rattle.multiportgraph.specs.declared.iter.Wires.{Wires}
 use Rattle.port_tables.specs.Places.{Place, Wire}
+use Rattle.multi_tables.specs.declared.answers.Refusal.{Refusal}
+use Rattle.multi_tables.specs.declared.answers.PortPlace.{PortPlace}
 
 -- a listed subport: the port x of a block that it stands at, and the end z that it is
 pub record SubportIs (m : MultiPortGraph) (M : Model) (x z : model.InnerPlace) (s : SubportIndex) : Type 0 where
@@ -100,20 +100,20 @@ wire_from : (m : MultiPortGraph) (d : Direction) (s : SubportIndex) (w : Subport
 unfolding wire_of
 wire_from m d s w = go (link_of_end m s.port.0 (end_at m s.port.0 d s.subport_offset))
   where
-    go : (a : CutAnswer) → Member w (wire_to s a) → w.from ≡ s
-    go (cutting.Found t x) (inl e) = ap (λ (v : SubportLink). v.from) e
-    go (cutting.Found t x) (inr i) = absurd i
-    go cutting.Nothing i = absurd i
-    go (cutting.Refused r) i = absurd i
+    go : (a : Result (Option (SubportIndex × PortPlace)) Refusal) → Member w (wire_to s a) → w.from ≡ s
+    go (Ok (Some (t, x))) (inl e) = ap (λ (v : SubportLink). v.from) e
+    go (Ok (Some (t, x))) (inr i) = absurd i
+    go (Ok None) i = absurd i
+    go (Err r) i = absurd i
 
 wire_rises : (R : SubportLink → SubportLink → Type 0) (m : MultiPortGraph) (d : Direction) (s : SubportIndex) → Rising R (wire_of m d s)
 unfolding wire_of
 wire_rises R m d s = go (link_of_end m s.port.0 (end_at m s.port.0 d s.subport_offset))
   where
-    go : (a : CutAnswer) → Rising R (wire_to s a)
-    go (cutting.Found t x) = ((λ y i. absurd i), tt)
-    go cutting.Nothing = tt
-    go (cutting.Refused r) = tt
+    go : (a : Result (Option (SubportIndex × PortPlace)) Refusal) → Rising R (wire_to s a)
+    go (Ok (Some (t, x))) = ((λ y i. absurd i), tt)
+    go (Ok None) = tt
+    go (Err r) = tt
 
 -- the subports of a port stand at it, by ascending offset
 subport_at : (m : MultiPortGraph) (p : ℕ) (s : SubportIndex) → Member s (subports_of_port m Outgoing p) → s.port.0 ≡ p

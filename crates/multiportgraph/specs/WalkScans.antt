@@ -1,5 +1,5 @@
 -- What the steps of walks find, over lent tables and over the graph's listings.
-use Rattle.std.specs.Prelude.{Bool, true, false, cond, List, [], ◌++◌, map, ℕ, zero, suc, ◌-◌, min, eqb, leb}
+use Rattle.std.specs.Prelude.{Bool, true, false, cond, List, [], ◌++◌, map, ℕ, zero, suc, ◌-◌, min, eqb, leb, Option, Some, None}
 use Rattle.port_tables.specs.Limits.{port_slots}
 use Rattle.port_tables.specs.Lists.{range, filter, on_first, on_last}
 use Rattle.port_tables.specs.Entries.{is_node}
@@ -15,22 +15,17 @@ use Rattle.multi_tables.specs.Scans.{span_first, span_count, passes_in, links_in
 use Rattle.multiportgraph.specs.declared.multiportgraph.MultiPortGraph.{MultiPortGraph}
 use Rattle.multi_tables.specs.declared.answers.SubportIndex.{SubportIndex}
 use Rattle.multi_tables.specs.declared.answers.SubportLink.{SubportLink}
-use Rattle.multiportgraph.specs.declared.iter.WiresStep.{WiresStep}
-use Rattle.multiportgraph.specs.declared.iter.WiresStep.TheVariants as wires_step
 use Rattle.multi_tables.specs.declared.scans.LinkFilter.{LinkFilter}
 use Rattle.multi_tables.specs.declared.scans.LinkFilter.TheVariants as filters
-use Rattle.multi_tables.specs.declared.scans.LinkFound.{LinkFound}
-use Rattle.multi_tables.specs.declared.scans.LinkFound.TheVariants as found
-use Rattle.multiportgraph.specs.declared.subports.SubportFound.{SubportFound}
-use Rattle.multiportgraph.specs.declared.subports.SubportFound.TheVariants as subport_found
+use Rattle.multiportgraph.specs.declared.iter.Wires.{Wires}
 
 -- the port that a cursor holds is still there
 unfoldable pub held_in : List ℕ → List Bool → ℕ → Bool
 held_in owners flags held = cond (eqb held 0) true (is_seen (seen_in owners flags (held - 1)))
 
-abbrev pub wires_found : LinkFound → WiresStep
-wires_found (found.Link w) = wires_step.Item w (record { held = suc w.from.port.0; offset = w.from.subport_offset })
-wires_found found.None = wires_step.End
+abbrev pub wires_found : Option SubportLink → Option (SubportLink × Wires)
+wires_found (Some w) = Some (w, record { held = suc w.from.port.0; offset = w.from.subport_offset })
+wires_found None = None
 
 -- the links of a block that a cursor has left, under a filter
 unfoldable pub block_left : MultiPortGraph → ℕ → Sides → LinkFilter → ℕ → ℕ → List SubportLink
@@ -43,8 +38,8 @@ abbrev pub self_filter : NodeIndex → Bool → LinkFilter
 self_filter n flag = cond flag (filters.NotOutputOf n) filters.All
 
 -- the last link of a list
-unfoldable pub last_found : List SubportLink → LinkFound
-last_found l = on_last found.None found.Link l
+unfoldable pub last_found : List SubportLink → Option SubportLink
+last_found l = on_last None Some l
 
 -- the links of a port strictly between the offsets given from the front and from the back
 unfoldable pub left_in : List Bool → List ℕ → List ℕ → List Bool → ℕ → Direction → ℕ → ℕ → List SubportLink
@@ -68,13 +63,13 @@ last_or d l = on_last d (λ x. x) l
 
 -- Subports.
 
-unfoldable pub first_subport : List SubportIndex → SubportFound
-first_subport l = on_first subport_found.None subport_found.Subport l
+unfoldable pub first_subport : List SubportIndex → Option SubportIndex
+first_subport l = on_first None Some l
 
 -- the port of a subport that was found, or a given number
-abbrev pub subport_port : ℕ → SubportFound → ℕ
-subport_port p (subport_found.Subport s) = s.port.0
-subport_port p subport_found.None = p
+abbrev pub subport_port : ℕ → Option SubportIndex → ℕ
+subport_port p (Some s) = s.port.0
+subport_port p None = p
 
 abbrev pub port_subports_by : List Bool → List ℕ → List ℕ → ℕ → ℕ → Port → List SubportIndex
 port_subports_by marks links owners p o dead = []

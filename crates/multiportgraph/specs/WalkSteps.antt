@@ -1,5 +1,5 @@
 -- Steps of the walks over blocks, ports and a block's ports, over plain values.
-use Rattle.std.specs.Prelude.{◌≡◌, Bool, eqb, leb, get_or, length}
+use Rattle.std.specs.Prelude.{◌≡◌, Bool, eqb, leb, get_or, length, Option, Some, None, Ok, Err}
 use Rattle.std.proofs.Math.Path.{refl, sym, ap}
 use Rattle.std.proofs.Common.{◌∙◌, inl, inr, eq-eqb, ne_eqb}
 use Rattle.std.proofs.Math.Bool.{true, false, cond}
@@ -29,15 +29,11 @@ use Rattle.multiportgraph.specs.LookupSteps.{block_at, meta_is}
 use Rattle.multiportgraph.specs.WalkScans.{held_in, block_slot, ports_in, first_or, last_or}
 use Rattle.multiportgraph.specs.declared.multiportgraph.MultiPortGraph.{MultiPortGraph}
 use Rattle.multi_tables.specs.declared.answers.Refusal.{Refusal}
-use Rattle.multiportgraph.specs.declared.lookups.BlockFound.TheVariants as block_found_lem
 use Rattle.multiportgraph.specs.declared.iter.Nodes.{Nodes}
-use Rattle.multiportgraph.specs.declared.iter.NodesStep.TheVariants as nodes_step
 use Rattle.multiportgraph.specs.declared.iter.Ports.{Ports}
-use Rattle.multiportgraph.specs.declared.iter.PortsStep.TheVariants as ports_step
 use Rattle.multiportgraph.specs.declared.iter.NodePorts.{NodePorts}
-use Rattle.multiportgraph.specs.declared.iter.NodePortsStep.{NodePortsStep}
-use Rattle.multiportgraph.specs.declared.iter.NodePortsStep.TheVariants as node_ports_step
 use Rattle.multi_tables.specs.Scans.{end_before}
+use Rattle.port_tables.specs.declared.index.PortIndex.{PortIndex}
 
 -- What a cursor holds.
 
@@ -63,13 +59,13 @@ held_read m w held = ap (λ (s : Port). cond (eqb held 0) true (is_seen s)) (see
 
 -- a block with the port that a cursor holds
 module _ (m : MultiPortGraph) (n : ℕ) where
-  pub both_refused : (r : Refusal) (held : ℕ) → block_found m n ≡ block_found_lem.Refused r → both_seen m n held ≡ false
-  both_refused r held e = ap (λ (b : Bool). cond b (held_seen m held) false) (sym (block_at m n (block_found_lem.Refused r) e))
+  pub both_refused : (r : Refusal) (held : ℕ) → block_found m n ≡ Err r → both_seen m n held ≡ false
+  both_refused r held e = ap (λ (b : Bool). cond b (held_seen m held) false) (sym (block_at m n (Err r) e))
 
-  pub both_found : (k : NodeMeta) (held : ℕ) (b : Bool) → MultiWf m → block_found m n ≡ block_found_lem.Block k
+  pub both_found : (k : NodeMeta) (held : ℕ) (b : Bool) → MultiWf m → block_found m n ≡ Ok k
       → held_in m.graph.port_meta m.copy_node held ≡ b → both_seen m n held ≡ b
   both_found k held b w e h =
-      ap (λ (x : Bool). cond x (held_seen m held) false) (sym (block_at m n (block_found_lem.Block k) e)) ∙ sym (held_read m w held) ∙ h
+      ap (λ (x : Bool). cond x (held_seen m held) false) (sym (block_at m n (Ok k) e)) ∙ sym (held_read m w held) ∙ h
 
 -- Ends from the back.
 
@@ -165,19 +161,19 @@ module _ (m : MultiPortGraph) where
       ∙ ap (cond (get_or m.copy_node n false) false) (sym (node_some (entry_at m.graph n)))
 
   module _ (c : Nodes) where
-    pub nodes_front_gone : node_held m c.front ≡ false → nodes_step.End ≡ step_nodes m c
+    pub nodes_front_gone : node_held m c.front ≡ false → None ≡ step_nodes m c
     unfolding step_nodes blocks_left on_first
     nodes_front_gone e = rw e
 
-    pub nodes_back_gone : node_held m c.front ≡ true → node_held m c.back ≡ false → nodes_step.End ≡ step_nodes m c
+    pub nodes_back_gone : node_held m c.front ≡ true → node_held m c.back ≡ false → None ≡ step_nodes m c
     unfolding step_nodes blocks_left on_first
     nodes_back_gone e f = rw (e, f)
 
-    pub back_front_gone : node_held m c.front ≡ false → nodes_step.End ≡ step_nodes_back m c
+    pub back_front_gone : node_held m c.front ≡ false → None ≡ step_nodes_back m c
     unfolding step_nodes_back blocks_left on_last
     back_front_gone e = rw e
 
-    pub back_back_gone : node_held m c.front ≡ true → node_held m c.back ≡ false → nodes_step.End ≡ step_nodes_back m c
+    pub back_back_gone : node_held m c.front ≡ true → node_held m c.back ≡ false → None ≡ step_nodes_back m c
     unfolding step_nodes_back blocks_left on_last
     back_back_gone e f = rw (e, f)
 
@@ -190,33 +186,33 @@ module _ (m : MultiPortGraph) where
           ∙ rw (he, hf) (sym (left_between (is_block m) c.front c.back node_slots))
 
       module _ (n : ℕ) (inv : filter (is_block m) (range n (end - n)) ≡ filter (is_block m) (range front (end - front))) where
-        pub nodes_item : n < end → is_block m n ≡ true → nodes_step.Item (node# n) (record { front = n + 1; back = c.back }) ≡ step_nodes m c
+        pub nodes_item : n < end → is_block m n ≡ true → Some (node# n, record { front = n + 1; back = c.back }) ≡ step_nodes m c
         unfolding step_nodes
         nodes_item h e =
             let one : n + 1 ≡ suc n = omega arith in
-            ap (λ (x : ℕ). nodes_step.Item (node# n) (record { front = x; back = c.back })) one
-            ∙ sym (search_found (is_block m) n end nodes_step.End (λ x. nodes_step.Item (node# x) (record { front = suc x; back = c.back })) h e)
-            ∙ ap (on_first nodes_step.End (λ x. nodes_step.Item (node# x) (record { front = suc x; back = c.back }))) (inv ∙ blocks_left_lem)
+            ap (λ (x : ℕ). Some (node# n, record { front = x; back = c.back })) one
+            ∙ sym (search_found (is_block m) n end None (λ x. Some (node# x, record { front = suc x; back = c.back })) h e)
+            ∙ ap (on_first None (λ x. Some (node# x, record { front = suc x; back = c.back }))) (inv ∙ blocks_left_lem)
 
-        pub nodes_none : end ≤ n → nodes_step.End ≡ step_nodes m c
+        pub nodes_none : end ≤ n → None ≡ step_nodes m c
         unfolding step_nodes on_first
         nodes_none h =
-            ap (on_first nodes_step.End (λ x. nodes_step.Item (node# x) (record { front = suc x; back = c.back }))) (sym (search_done (is_block m) n end h) ∙ inv ∙ blocks_left_lem)
+            ap (on_first None (λ x. Some (node# x, record { front = suc x; back = c.back }))) (sym (search_done (is_block m) n end h) ∙ inv ∙ blocks_left_lem)
 
       module _ (stop : ℕ) (inv : filter (is_block m) (range front (stop - front)) ≡ filter (is_block m) (range front (end - front))) where
         pub back_item : front < stop → is_block m (stop - 1) ≡ true
-            → nodes_step.Item (node# (stop - 1)) (record { front = c.front; back = stop - 1 + 1 }) ≡ step_nodes_back m c
+            → Some (node# (stop - 1), record { front = c.front; back = stop - 1 + 1 }) ≡ step_nodes_back m c
         unfolding step_nodes_back
         back_item h e =
             let one : stop - 1 + 1 ≡ suc (stop - 1) = omega arith in
-            ap (λ (x : ℕ). nodes_step.Item (node# (stop - 1)) (record { front = c.front; back = x })) one
-            ∙ sym (back_found (is_block m) front stop h nodes_step.End (λ x. nodes_step.Item (node# x) (record { front = c.front; back = suc x })) e)
-            ∙ ap (on_last nodes_step.End (λ x. nodes_step.Item (node# x) (record { front = c.front; back = suc x }))) (inv ∙ blocks_left_lem)
+            ap (λ (x : ℕ). Some (node# (stop - 1), record { front = c.front; back = x })) one
+            ∙ sym (back_found (is_block m) front stop h None (λ x. Some (node# x, record { front = c.front; back = suc x })) e)
+            ∙ ap (on_last None (λ x. Some (node# x, record { front = c.front; back = suc x }))) (inv ∙ blocks_left_lem)
 
-        pub back_none : stop ≤ front → nodes_step.End ≡ step_nodes_back m c
+        pub back_none : stop ≤ front → None ≡ step_nodes_back m c
         unfolding step_nodes_back on_last
         back_none h =
-            ap (on_last nodes_step.End (λ x. nodes_step.Item (node# x) (record { front = c.front; back = suc x }))) (sym (search_done (is_block m) front stop h) ∙ inv ∙ blocks_left_lem)
+            ap (on_last None (λ x. Some (node# x, record { front = c.front; back = suc x }))) (sym (search_done (is_block m) front stop h) ∙ inv ∙ blocks_left_lem)
 
 -- All ports.
 
@@ -299,11 +295,11 @@ module _ (m : MultiPortGraph) (w : MultiWf m) (c : Ports) where
     front_is : (q : Bool) → a ≡ q → held_seen m c.front ≡ q
     front_is q h = sym (held_read m w c.front) ∙ sym ea ∙ h
 
-    pub ports_front_gone : a ≡ false → ports_step.End ≡ step_all_ports m c
+    pub ports_front_gone : a ≡ false → None ≡ step_all_ports m c
     unfolding step_all_ports ports_left on_first
     ports_front_gone h = rw (front_is false h)
 
-    pub ports_back_front_gone : a ≡ false → ports_step.End ≡ step_all_ports_back m c
+    pub ports_back_front_gone : a ≡ false → None ≡ step_all_ports_back m c
     unfolding step_all_ports_back ports_left on_last
     ports_back_front_gone h = rw (front_is false h)
 
@@ -311,11 +307,11 @@ module _ (m : MultiPortGraph) (w : MultiWf m) (c : Ports) where
       back_is : (q : Bool) → b ≡ q → held_seen m c.back ≡ q
       back_is q h = sym (held_read m w c.back) ∙ sym eb ∙ h
 
-      pub ports_back_gone : b ≡ false → ports_step.End ≡ step_all_ports m c
+      pub ports_back_gone : b ≡ false → None ≡ step_all_ports m c
       unfolding step_all_ports ports_left on_first
       ports_back_gone h = rw (front_is true ha, back_is false h)
 
-      pub ports_back_back_gone : b ≡ false → ports_step.End ≡ step_all_ports_back m c
+      pub ports_back_back_gone : b ≡ false → None ≡ step_all_ports_back m c
       unfolding step_all_ports_back ports_left on_last
       ports_back_back_gone h = rw (front_is true ha, back_is false h)
 
@@ -331,75 +327,75 @@ module _ (m : MultiPortGraph) (w : MultiWf m) (c : Ports) where
             ∙ ap (λ (x : ℕ). filter (λ p. is_seen (seen m p)) (range c.front (x - c.front))) ee
             ∙ rw (front_is true ha, back_is true hb) (sym (left_between (λ p. is_seen (seen m p)) c.front c.back port_slots))
 
-        pub ports_item_lem : (p : ℕ) → p ≡ first_or port_slots scanned → p < port_slots → ports_step.Item (port# p) (record { front = p + 1; back = c.back }) ≡ step_all_ports m c
+        pub ports_item_lem : (p : ℕ) → p ≡ first_or port_slots scanned → p < port_slots → Some (port# p, record { front = p + 1; back = c.back }) ≡ step_all_ports m c
         unfolding step_all_ports
         ports_item_lem p e h =
             let one : p + 1 ≡ suc p = omega arith in
-            ap (λ (x : ℕ). ports_step.Item (port# p) (record { front = x; back = c.back })) one
-            ∙ first_by ports_step.End (λ x. ports_step.Item (port# x) (record { front = suc x; back = c.back })) port_slots scanned p e h
-            ∙ ap (on_first ports_step.End (λ x. ports_step.Item (port# x) (record { front = suc x; back = c.back }))) ports_left_lem
+            ap (λ (x : ℕ). Some (port# p, record { front = x; back = c.back })) one
+            ∙ first_by None (λ x. Some (port# x, record { front = suc x; back = c.back })) port_slots scanned p e h
+            ∙ ap (on_first None (λ x. Some (port# x, record { front = suc x; back = c.back }))) ports_left_lem
 
-        pub ports_none : (p : ℕ) → p ≡ first_or port_slots scanned → port_slots ≤ p → ports_step.End ≡ step_all_ports m c
+        pub ports_none : (p : ℕ) → p ≡ first_or port_slots scanned → port_slots ≤ p → None ≡ step_all_ports m c
         unfolding step_all_ports
         ports_none p e h =
-            first_lacks ports_step.End (λ x. ports_step.Item (port# x) (record { front = suc x; back = c.back })) port_slots scanned p (ports_below _ _ front end le) e h
-            ∙ ap (on_first ports_step.End (λ x. ports_step.Item (port# x) (record { front = suc x; back = c.back }))) ports_left_lem
+            first_lacks None (λ x. Some (port# x, record { front = suc x; back = c.back })) port_slots scanned p (ports_below _ _ front end le) e h
+            ∙ ap (on_first None (λ x. Some (port# x, record { front = suc x; back = c.back }))) ports_left_lem
 
-        pub ports_back_item : (p : ℕ) → p ≡ last_or port_slots scanned → p < port_slots → ports_step.Item (port# p) (record { front = c.front; back = p + 1 }) ≡ step_all_ports_back m c
+        pub ports_back_item : (p : ℕ) → p ≡ last_or port_slots scanned → p < port_slots → Some (port# p, record { front = c.front; back = p + 1 }) ≡ step_all_ports_back m c
         unfolding step_all_ports_back
         ports_back_item p e h =
             let one : p + 1 ≡ suc p = omega arith in
-            ap (λ (x : ℕ). ports_step.Item (port# p) (record { front = c.front; back = x })) one
-            ∙ last_by ports_step.End (λ x. ports_step.Item (port# x) (record { front = c.front; back = suc x })) port_slots scanned p e h
-            ∙ ap (on_last ports_step.End (λ x. ports_step.Item (port# x) (record { front = c.front; back = suc x }))) ports_left_lem
+            ap (λ (x : ℕ). Some (port# p, record { front = c.front; back = x })) one
+            ∙ last_by None (λ x. Some (port# x, record { front = c.front; back = suc x })) port_slots scanned p e h
+            ∙ ap (on_last None (λ x. Some (port# x, record { front = c.front; back = suc x }))) ports_left_lem
 
-        pub ports_back_none : (p : ℕ) → p ≡ last_or port_slots scanned → port_slots ≤ p → ports_step.End ≡ step_all_ports_back m c
+        pub ports_back_none : (p : ℕ) → p ≡ last_or port_slots scanned → port_slots ≤ p → None ≡ step_all_ports_back m c
         unfolding step_all_ports_back
         ports_back_none p e h =
-            last_lacks ports_step.End (λ x. ports_step.Item (port# x) (record { front = c.front; back = suc x })) port_slots scanned p (ports_below _ _ front end le) e h
-            ∙ ap (on_last ports_step.End (λ x. ports_step.Item (port# x) (record { front = c.front; back = suc x }))) ports_left_lem
+            last_lacks None (λ x. Some (port# x, record { front = c.front; back = suc x })) port_slots scanned p (ports_below _ _ front end le) e h
+            ∙ ap (on_last None (λ x. Some (port# x, record { front = c.front; back = suc x }))) ports_left_lem
 
 -- Ports of a block.
 
 module _ (m : MultiPortGraph) (c : NodePorts) where
-  abbrev ports_item : ℕ → NodePortsStep
-  ports_item p = node_ports_step.Item (port# p) (record { node = c.node; sides = c.sides; held = suc p })
+  abbrev ports_item : ℕ → Option (PortIndex × NodePorts)
+  ports_item p = Some (port# p, record { node = c.node; sides = c.sides; held = suc p })
 
-  pub node_ports_gone : both_seen m c.node.0 c.held ≡ false → node_ports_step.End ≡ step_node_ports m c
+  pub node_ports_gone : both_seen m c.node.0 c.held ≡ false → None ≡ step_node_ports m c
   unfolding step_node_ports
   node_ports_gone e = rw e
 
-  module _ (w : MultiWf m) (k : NodeMeta) (e : block_found m c.node.0 ≡ block_found_lem.Block k) where
+  module _ (w : MultiWf m) (k : NodeMeta) (e : block_found m c.node.0 ≡ Ok k) where
     ports_of_block : filter (leb c.held) (ports_of_node m c.node.0 c.sides) ≡ range (max (ports_from k c.sides) c.held) (ports_to k c.sides - max (ports_from k c.sides) c.held)
     ports_of_block =
-        block_ports_rest w c.node.0 k (block_not_hidden m c.node.0 (sym (block_at m c.node.0 (block_found_lem.Block k) e))) (meta_is m c.node.0 k e) c.sides c.held
+        block_ports_rest w c.node.0 k (block_not_hidden m c.node.0 (sym (block_at m c.node.0 (Ok k) e))) (meta_is m c.node.0 k e) c.sides c.held
 
     -- the slots of a block lie in the tables
     pub ports_inside : (p b : ℕ) → b ≡ ports_to k c.sides → p < b → p < port_slots
     ports_inside p b h l =
-        let r = row_fits w c.node.0 k (block_not_hidden m c.node.0 (sym (block_at m c.node.0 (block_found_lem.Block k) e))) (meta_is m c.node.0 k e) c.sides in
+        let r = row_fits w c.node.0 k (block_not_hidden m c.node.0 (sym (block_at m c.node.0 (Ok k) e))) (meta_is m c.node.0 k e) c.sides in
         omega arith
 
     module _ (held-there : held_in m.graph.port_meta m.copy_node c.held ≡ true) (a h p b : ℕ)
         (ea : a ≡ ports_from k c.sides) (eh : h ≡ c.held) (ep : p ≡ max a h) (eb : b ≡ ports_to k c.sides) where
-      step_is : on_first node_ports_step.End ports_item (range p (b - p)) ≡ step_node_ports m c
+      step_is : on_first None ports_item (range p (b - p)) ≡ step_node_ports m c
       unfolding step_node_ports
       step_is =
           let q : p ≡ max (ports_from k c.sides) c.held = omega arith in
           rw (both_found m c.node.0 k c.held true w e held-there)
-          (ap (λ (x : ℕ). on_first node_ports_step.End ports_item (range p (x - p))) eb
-          ∙ ap (λ (x : ℕ). on_first node_ports_step.End ports_item (range x (ports_to k c.sides - x))) q
-          ∙ ap (on_first node_ports_step.End ports_item) (sym ports_of_block))
+          (ap (λ (x : ℕ). on_first None ports_item (range p (x - p))) eb
+          ∙ ap (λ (x : ℕ). on_first None ports_item (range x (ports_to k c.sides - x))) q
+          ∙ ap (on_first None ports_item) (sym ports_of_block))
 
-      pub node_ports_item : p < b → node_ports_step.Item (port# p) (record { node = c.node; sides = c.sides; held = p + 1 }) ≡ step_node_ports m c
+      pub node_ports_item : p < b → Some (port# p, record { node = c.node; sides = c.sides; held = p + 1 }) ≡ step_node_ports m c
       unfolding range on_first
       node_ports_item l =
           let one : p + 1 ≡ suc p = omega arith in
           let more : b - p ≡ suc (b - (p + 1)) = omega arith in
-          ap (λ (x : ℕ). node_ports_step.Item (port# p) (record { node = c.node; sides = c.sides; held = x })) one
+          ap (λ (x : ℕ). Some (port# p, record { node = c.node; sides = c.sides; held = x })) one
           ∙ (rw more at step_is)
 
-      pub node_ports_none : b ≤ p → node_ports_step.End ≡ step_node_ports m c
+      pub node_ports_none : b ≤ p → None ≡ step_node_ports m c
       unfolding range on_first
       node_ports_none l =
           let none : b - p ≡ 0 = omega arith in

@@ -1,7 +1,7 @@
 -- Every other walk of 01: the list that it gives, and the step of its cursor on any graph.
 -- A step gives the next item of the present listing beyond the port and offset held; a cursor whose node or port is gone or
 -- hidden ends the walk.
-use Rattle.std.specs.Prelude.{Bool, true, false, cond, ℕ, suc, ◌-◌, eqb, leb, ltb, length}
+use Rattle.std.specs.Prelude.{Bool, true, false, cond, ℕ, suc, ◌-◌, eqb, leb, ltb, length, Option, Some, None, Result, Ok, Err}
 use mathlib.Core.List.{List, [], ◌++◌, flat_map, map}
 use Rattle.port_tables.specs.Limits.{port_slots}
 use Rattle.port_tables.specs.Lists.{on_first, on_last, range, filter}
@@ -22,41 +22,13 @@ use Rattle.multi_tables.specs.declared.answers.Refusal.TheVariants.{UnknownNode,
 use Rattle.multi_tables.specs.declared.answers.SubportIndex.{SubportIndex}
 use Rattle.multi_tables.specs.declared.answers.SubportLink.{SubportLink}
 use Rattle.multiportgraph.specs.declared.iter.Nodes.{Nodes}
-use Rattle.multiportgraph.specs.declared.iter.NodesStep.{NodesStep}
-use Rattle.multiportgraph.specs.declared.iter.NodesStep.TheVariants as nodes_step
 use Rattle.multiportgraph.specs.declared.iter.Ports.{Ports}
-use Rattle.multiportgraph.specs.declared.iter.PortsStep.{PortsStep}
-use Rattle.multiportgraph.specs.declared.iter.PortsStep.TheVariants as ports_step
 use Rattle.multiportgraph.specs.declared.iter.NodePorts.{NodePorts}
-use Rattle.multiportgraph.specs.declared.iter.NodePortsStep.{NodePortsStep}
-use Rattle.multiportgraph.specs.declared.iter.NodePortsStep.TheVariants as node_ports_step
-use Rattle.multiportgraph.specs.declared.iter.NodePortsStart.{NodePortsStart}
-use Rattle.multiportgraph.specs.declared.iter.NodePortsStart.TheVariants as node_ports_start
 use Rattle.multiportgraph.specs.declared.iter.NodeSubports.{NodeSubports}
-use Rattle.multiportgraph.specs.declared.iter.NodeSubportsStep.{NodeSubportsStep}
-use Rattle.multiportgraph.specs.declared.iter.NodeSubportsStep.TheVariants as subports_step
-use Rattle.multiportgraph.specs.declared.iter.NodeSubportsStart.{NodeSubportsStart}
-use Rattle.multiportgraph.specs.declared.iter.NodeSubportsStart.TheVariants as subports_start
 use Rattle.multiportgraph.specs.declared.iter.PortLinks.{PortLinks}
-use Rattle.multiportgraph.specs.declared.iter.PortLinksStep.{PortLinksStep}
-use Rattle.multiportgraph.specs.declared.iter.PortLinksStep.TheVariants as port_step
-use Rattle.multiportgraph.specs.declared.iter.PortLinksStart.{PortLinksStart}
-use Rattle.multiportgraph.specs.declared.iter.PortLinksStart.TheVariants as port_start
 use Rattle.multiportgraph.specs.declared.iter.NodeLinks.{NodeLinks}
-use Rattle.multiportgraph.specs.declared.iter.NodeLinksStep.{NodeLinksStep}
-use Rattle.multiportgraph.specs.declared.iter.NodeLinksStep.TheVariants as links_step
-use Rattle.multiportgraph.specs.declared.iter.NodeLinksStart.{NodeLinksStart}
-use Rattle.multiportgraph.specs.declared.iter.NodeLinksStart.TheVariants as links_start
 use Rattle.multiportgraph.specs.declared.iter.Neighbours.{Neighbours}
-use Rattle.multiportgraph.specs.declared.iter.NeighboursStep.{NeighboursStep}
-use Rattle.multiportgraph.specs.declared.iter.NeighboursStep.TheVariants as neighbours_step
-use Rattle.multiportgraph.specs.declared.iter.NeighboursStart.{NeighboursStart}
-use Rattle.multiportgraph.specs.declared.iter.NeighboursStart.TheVariants as neighbours_start
 use Rattle.multiportgraph.specs.declared.iter.NodeConnections.{NodeConnections}
-use Rattle.multiportgraph.specs.declared.iter.NodeConnectionsStep.{NodeConnectionsStep}
-use Rattle.multiportgraph.specs.declared.iter.NodeConnectionsStep.TheVariants as connections_step
-use Rattle.multiportgraph.specs.declared.iter.NodeConnectionsStart.{NodeConnectionsStart}
-use Rattle.multiportgraph.specs.declared.iter.NodeConnectionsStart.TheVariants as connections_start
 
 -- Starting a walk is a call.
 
@@ -114,11 +86,11 @@ unfoldable pub blocks_left : MultiPortGraph → Nodes → List ℕ
 blocks_left m c =
     cond (node_held m c.front) (cond (node_held m c.back) (filter (between c.front c.back) (blocks m)) []) []
 
-unfoldable pub step_nodes : MultiPortGraph → Nodes → NodesStep
-step_nodes m c = on_first nodes_step.End (λ n. nodes_step.Item (node# n) (record { front = suc n; back = c.back })) (blocks_left m c)
+unfoldable pub step_nodes : MultiPortGraph → Nodes → Option (NodeIndex × Nodes)
+step_nodes m c = on_first None (λ n. Some (node# n, record { front = suc n; back = c.back })) (blocks_left m c)
 
-unfoldable pub step_nodes_back : MultiPortGraph → Nodes → NodesStep
-step_nodes_back m c = on_last nodes_step.End (λ n. nodes_step.Item (node# n) (record { front = c.front; back = suc n })) (blocks_left m c)
+unfoldable pub step_nodes_back : MultiPortGraph → Nodes → Option (NodeIndex × Nodes)
+step_nodes_back m c = on_last None (λ n. Some (node# n, record { front = c.front; back = suc n })) (blocks_left m c)
 
 -- All ports of blocks, by ascending number, from either end.
 
@@ -129,11 +101,11 @@ unfoldable pub ports_left : MultiPortGraph → Ports → List ℕ
 ports_left m c =
     cond (held_seen m c.front) (cond (held_seen m c.back) (filter (between c.front c.back) (all_ports m)) []) []
 
-unfoldable pub step_all_ports : MultiPortGraph → Ports → PortsStep
-step_all_ports m c = on_first ports_step.End (λ p. ports_step.Item (port# p) (record { front = suc p; back = c.back })) (ports_left m c)
+unfoldable pub step_all_ports : MultiPortGraph → Ports → Option (PortIndex × Ports)
+step_all_ports m c = on_first None (λ p. Some (port# p, record { front = suc p; back = c.back })) (ports_left m c)
 
-unfoldable pub step_all_ports_back : MultiPortGraph → Ports → PortsStep
-step_all_ports_back m c = on_last ports_step.End (λ p. ports_step.Item (port# p) (record { front = c.front; back = suc p })) (ports_left m c)
+unfoldable pub step_all_ports_back : MultiPortGraph → Ports → Option (PortIndex × Ports)
+step_all_ports_back m c = on_last None (λ p. Some (port# p, record { front = c.front; back = suc p })) (ports_left m c)
 
 -- the same ports by ascending block, incoming first: what the count of ports counts
 unfoldable pub ports_by_block : MultiPortGraph → List ℕ
@@ -148,12 +120,12 @@ by_sides f Both = f Incoming ++ f Outgoing
 unfoldable pub ports_of_node : MultiPortGraph → ℕ → Sides → List ℕ
 ports_of_node m n sides = by_sides (λ d. ports_of_side m d n) sides
 
-unfoldable pub step_node_ports : MultiPortGraph → NodePorts → NodePortsStep
+unfoldable pub step_node_ports : MultiPortGraph → NodePorts → Option (PortIndex × NodePorts)
 step_node_ports m c =
     cond (both_seen m c.node.0 c.held)
-    (on_first node_ports_step.End (λ p. node_ports_step.Item (port# p) (record { node = c.node; sides = c.sides; held = suc p }))
+    (on_first None (λ p. Some (port# p, record { node = c.node; sides = c.sides; held = suc p }))
     (filter (leb c.held) (ports_of_node m c.node.0 c.sides)))
-    node_ports_step.End
+    None
 
 -- Subports of a block, on one side or both.
 
@@ -164,13 +136,13 @@ unfoldable pub subport_beyond : ℕ → ℕ → SubportIndex → Bool
 subport_beyond held o s =
     cond (eqb held 0) true (cond (eqb s.port.0 (held - 1)) (ltb o s.subport_offset) (ltb (held - 1) s.port.0))
 
-unfoldable pub step_subports : MultiPortGraph → NodeSubports → NodeSubportsStep
+unfoldable pub step_subports : MultiPortGraph → NodeSubports → Option (SubportIndex × NodeSubports)
 step_subports m c =
     cond (both_seen m c.node.0 c.held)
-    (on_first subports_step.End
-    (λ s. subports_step.Item s (record { node = c.node; sides = c.sides; held = suc s.port.0; offset = s.subport_offset }))
+    (on_first None
+    (λ s. Some (s, record { node = c.node; sides = c.sides; held = suc s.port.0; offset = s.subport_offset }))
     (filter (subport_beyond c.held c.offset) (subports_of m c.node.0 c.sides)))
-    subports_step.End
+    None
 
 -- Links of a port, from either end.
 
@@ -194,14 +166,14 @@ block_fan_out m n = sum_of (fan_out m) (ports_of_side m Outgoing n)
 unfoldable pub links_left : MultiPortGraph → PortLinks → List SubportLink
 links_left m c = filter (λ w. between c.front c.back w.from.subport_offset) (port_links m c.port.0)
 
-unfoldable pub step_front : MultiPortGraph → PortLinks → PortLinksStep
+unfoldable pub step_front : MultiPortGraph → PortLinks → Option (SubportLink × PortLinks)
 step_front m c =
-    on_first port_step.End (λ w. port_step.Item w (record { port = c.port; front = suc w.from.subport_offset; back = c.back }))
+    on_first None (λ w. Some (w, record { port = c.port; front = suc w.from.subport_offset; back = c.back }))
     (links_left m c)
 
-unfoldable pub step_back : MultiPortGraph → PortLinks → PortLinksStep
+unfoldable pub step_back : MultiPortGraph → PortLinks → Option (SubportLink × PortLinks)
 step_back m c =
-    on_last port_step.End (λ w. port_step.Item w (record { port = c.port; front = c.front; back = suc w.from.subport_offset }))
+    on_last None (λ w. Some (w, record { port = c.port; front = c.front; back = suc w.from.subport_offset }))
     (links_left m c)
 
 -- Links of a block, on one side or both, without those to a range of ports.
@@ -215,24 +187,26 @@ node_links m n sides lo hi = filter (not_skipped lo hi) (by_sides (λ d. side_li
 abbrev pub link_beyond : ℕ → ℕ → SubportLink → Bool
 link_beyond held o w = cond (eqb held 0) true (is_beyond (held - 1) o w)
 
-abbrev pub links_item : NodeLinks → SubportLink → NodeLinksStep
+abbrev pub links_item : NodeLinks → SubportLink → Option (SubportLink × NodeLinks)
 links_item c w =
-    links_step.Item w
-    (record {
-      node = c.node;
-      sides = c.sides;
-      skip_from = c.skip_from;
-      skip_to = c.skip_to;
-      held = suc w.from.port.0;
-      offset = w.from.subport_offset;
-    })
+    Some (
+      w,
+      record {
+        node = c.node;
+        sides = c.sides;
+        skip_from = c.skip_from;
+        skip_to = c.skip_to;
+        held = suc w.from.port.0;
+        offset = w.from.subport_offset;
+      },
+    )
 
-unfoldable pub step_links : MultiPortGraph → NodeLinks → NodeLinksStep
+unfoldable pub step_links : MultiPortGraph → NodeLinks → Option (SubportLink × NodeLinks)
 step_links m c =
     cond (both_seen m c.node.0 c.held)
-    (on_first links_step.End (links_item c)
+    (on_first None (links_item c)
     (filter (link_beyond c.held c.offset) (node_links m c.node.0 c.sides c.skip_from c.skip_to)))
-    links_step.End
+    None
 
 -- Neighbours, one for each link.
 
@@ -251,86 +225,87 @@ neighbour_links m n sides flag = filter (not_ignored m n flag) (by_sides (λ d. 
 unfoldable pub neighbours : MultiPortGraph → ℕ → Sides → Bool → List ℕ
 neighbours m n sides flag = map (λ (w : SubportLink). owner_of m.graph w.to.port.0) (neighbour_links m n sides flag)
 
-abbrev pub neighbours_item : MultiPortGraph → Neighbours → SubportLink → NeighboursStep
+abbrev pub neighbours_item : MultiPortGraph → Neighbours → SubportLink → Option (NodeIndex × Neighbours)
 neighbours_item m c w =
-    neighbours_step.Item (node# (owner_of m.graph w.to.port.0))
-    (record {
-      node = c.node;
-      sides = c.sides;
-      ignore_self = c.ignore_self;
-      held = suc w.from.port.0;
-      offset = w.from.subport_offset;
-    })
+    Some (
+      node# (owner_of m.graph w.to.port.0),
+      record {
+        node = c.node;
+        sides = c.sides;
+        ignore_self = c.ignore_self;
+        held = suc w.from.port.0;
+        offset = w.from.subport_offset;
+      },
+    )
 
-unfoldable pub step_neighbours : MultiPortGraph → Neighbours → NeighboursStep
+unfoldable pub step_neighbours : MultiPortGraph → Neighbours → Option (NodeIndex × Neighbours)
 step_neighbours m c =
     cond (both_seen m c.node.0 c.held)
-    (on_first neighbours_step.End (neighbours_item m c)
+    (on_first None (neighbours_item m c)
     (filter (link_beyond c.held c.offset) (neighbour_links m c.node.0 c.sides c.ignore_self)))
-    neighbours_step.End
+    None
 
 -- Connections from one block's outgoing side to another block, repeated per wire.
 
 unfoldable pub connections : MultiPortGraph → ℕ → ℕ → List SubportLink
 connections m n k = filter (λ (w : SubportLink). eqb (owner_of m.graph w.to.port.0) k) (side_links m Outgoing n)
 
-abbrev pub connections_item : NodeConnections → SubportLink → NodeConnectionsStep
+abbrev pub connections_item : NodeConnections → SubportLink → Option (SubportLink × NodeConnections)
 connections_item c w =
-    connections_step.Item w
-    (record { node = c.node; target = c.target; held = suc w.from.port.0; offset = w.from.subport_offset })
+    Some (w, record { node = c.node; target = c.target; held = suc w.from.port.0; offset = w.from.subport_offset })
 
 -- both blocks are still there, and the port held
-unfoldable pub step_connections : MultiPortGraph → NodeConnections → NodeConnectionsStep
+unfoldable pub step_connections : MultiPortGraph → NodeConnections → Option (SubportLink × NodeConnections)
 step_connections m c =
     cond (is_block m c.target.0)
     (cond (both_seen m c.node.0 c.held)
-    (on_first connections_step.End (connections_item c)
+    (on_first None (connections_item c)
     (filter (link_beyond c.held c.offset) (connections m c.node.0 c.target.0)))
-    connections_step.End)
-    connections_step.End
+    None)
+    None
 
 -- Starts: 4 and 5 at a node, 7 and 8 at a port, else a cursor that holds nothing yet.
 
-abbrev pub node_ports_from : NodeIndex → Sides → Start → NodePortsStart
-node_ports_from n sides started = node_ports_start.Started (record { node = n; sides = sides; held = 0 })
-node_ports_from n sides (refused r) = node_ports_start.Refused r
+abbrev pub node_ports_from : NodeIndex → Sides → Start → Result NodePorts Refusal
+node_ports_from n sides started = Ok (record { node = n; sides = sides; held = 0 })
+node_ports_from n sides (refused r) = Err r
 
-abbrev pub start_node_ports : MultiPortGraph → NodeIndex → Sides → NodePortsStart
+abbrev pub start_node_ports : MultiPortGraph → NodeIndex → Sides → Result NodePorts Refusal
 start_node_ports m n sides = node_ports_from n sides (start_at_node m n.0)
 
-abbrev pub subports_from : NodeIndex → Sides → Start → NodeSubportsStart
-subports_from n sides started = subports_start.Started (record { node = n; sides = sides; held = 0; offset = 0 })
-subports_from n sides (refused r) = subports_start.Refused r
+abbrev pub subports_from : NodeIndex → Sides → Start → Result NodeSubports Refusal
+subports_from n sides started = Ok (record { node = n; sides = sides; held = 0; offset = 0 })
+subports_from n sides (refused r) = Err r
 
-abbrev pub start_subports : MultiPortGraph → NodeIndex → Sides → NodeSubportsStart
+abbrev pub start_subports : MultiPortGraph → NodeIndex → Sides → Result NodeSubports Refusal
 start_subports m n sides = subports_from n sides (start_at_node m n.0)
 
-abbrev pub port_links_from : PortIndex → Start → PortLinksStart
-port_links_from p started = port_start.Started (record { port = p; front = 0; back = 0 })
-port_links_from p (refused r) = port_start.Refused r
+abbrev pub port_links_from : PortIndex → Start → Result PortLinks Refusal
+port_links_from p started = Ok (record { port = p; front = 0; back = 0 })
+port_links_from p (refused r) = Err r
 
-abbrev pub start_port_links : MultiPortGraph → PortIndex → PortLinksStart
+abbrev pub start_port_links : MultiPortGraph → PortIndex → Result PortLinks Refusal
 start_port_links m p = port_links_from p (start_at_port m p.0)
 
-abbrev pub links_from : NodeIndex → Sides → ℕ → ℕ → Start → NodeLinksStart
+abbrev pub links_from : NodeIndex → Sides → ℕ → ℕ → Start → Result NodeLinks Refusal
 links_from n sides lo hi started =
-    links_start.Started (record { node = n; sides = sides; skip_from = lo; skip_to = hi; held = 0; offset = 0 })
-links_from n sides lo hi (refused r) = links_start.Refused r
+    Ok (record { node = n; sides = sides; skip_from = lo; skip_to = hi; held = 0; offset = 0 })
+links_from n sides lo hi (refused r) = Err r
 
-abbrev pub start_links : MultiPortGraph → NodeIndex → Sides → ℕ → ℕ → NodeLinksStart
+abbrev pub start_links : MultiPortGraph → NodeIndex → Sides → ℕ → ℕ → Result NodeLinks Refusal
 start_links m n sides lo hi = links_from n sides lo hi (start_at_node m n.0)
 
-abbrev pub neighbours_from : NodeIndex → Sides → Bool → Start → NeighboursStart
+abbrev pub neighbours_from : NodeIndex → Sides → Bool → Start → Result Neighbours Refusal
 neighbours_from n sides flag started =
-    neighbours_start.Started (record { node = n; sides = sides; ignore_self = flag; held = 0; offset = 0 })
-neighbours_from n sides flag (refused r) = neighbours_start.Refused r
+    Ok (record { node = n; sides = sides; ignore_self = flag; held = 0; offset = 0 })
+neighbours_from n sides flag (refused r) = Err r
 
-abbrev pub start_neighbours : MultiPortGraph → NodeIndex → Sides → Bool → NeighboursStart
+abbrev pub start_neighbours : MultiPortGraph → NodeIndex → Sides → Bool → Result Neighbours Refusal
 start_neighbours m n sides flag = neighbours_from n sides flag (start_at_node m n.0)
 
-abbrev pub connections_from : NodeIndex → NodeIndex → Start → NodeConnectionsStart
-connections_from n k started = connections_start.Started (record { node = n; target = k; held = 0; offset = 0 })
-connections_from n k (refused r) = connections_start.Refused r
+abbrev pub connections_from : NodeIndex → NodeIndex → Start → Result NodeConnections Refusal
+connections_from n k started = Ok (record { node = n; target = k; held = 0; offset = 0 })
+connections_from n k (refused r) = Err r
 
-abbrev pub start_connections : MultiPortGraph → NodeIndex → NodeIndex → NodeConnectionsStart
+abbrev pub start_connections : MultiPortGraph → NodeIndex → NodeIndex → Result NodeConnections Refusal
 start_connections m n k = connections_from n k (start_between m n.0 k.0)

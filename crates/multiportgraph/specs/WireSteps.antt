@@ -1,5 +1,5 @@
 -- Steps of the walk over all wires, over plain values.
-use Rattle.std.specs.Prelude.{◌≡◌, refl, List, [], ◌∷◌, ℕ, suc, ◌+◌, ◌-◌}
+use Rattle.std.specs.Prelude.{◌≡◌, refl, List, [], ◌∷◌, ℕ, suc, ◌+◌, ◌-◌, Option, Some, None}
 use Rattle.std.proofs.Common.{sym, ◌∙◌, arith, eq-eqb, ne_eqb}
 use Rattle.std.proofs.Math.Path.{ap}
 use Rattle.port_tables.specs.Limits.{node_slots}
@@ -14,18 +14,14 @@ use Rattle.multiportgraph.specs.WalkScans.{wires_found}
 use Rattle.multiportgraph.specs.declared.multiportgraph.MultiPortGraph.{MultiPortGraph}
 use Rattle.multi_tables.specs.declared.answers.SubportLink.{SubportLink}
 use Rattle.multiportgraph.specs.declared.iter.Wires.{Wires}
-use Rattle.multiportgraph.specs.declared.iter.WiresStep.{WiresStep}
-use Rattle.multiportgraph.specs.declared.iter.WiresStep.TheVariants.{Item, End}
-use Rattle.multi_tables.specs.declared.scans.LinkFound.{LinkFound}
-use Rattle.multi_tables.specs.declared.scans.LinkFound.TheVariants as found
 
-pub item_held : (x : LinkFound) (w : SubportLink) → x ≡ found.Link w
-    → Item w (record { held = w.from.port.0 + 1; offset = w.from.subport_offset }) ≡ wires_found x
+pub item_held : (x : Option SubportLink) (w : SubportLink) → x ≡ Some w
+    → Some (w, record { held = w.from.port.0 + 1; offset = w.from.subport_offset }) ≡ wires_found x
 item_held x w e =
     let one : w.from.port.0 + 1 ≡ suc w.from.port.0 = omega arith in
-    ap (λ (h : ℕ). Item w (record { held = h; offset = w.from.subport_offset })) one ∙ ap wires_found (sym e)
+    ap (λ (h : ℕ). Some (w, record { held = h; offset = w.from.subport_offset })) one ∙ ap wires_found (sym e)
 
-pub item_end : (x : LinkFound) → x ≡ found.None → End ≡ wires_found x
+pub item_end : (x : Option SubportLink) → x ≡ None → None ≡ wires_found x
 item_end x e = ap wires_found (sym e)
 
 found_first : (l : List SubportLink) → wires_found (first_found l) ≡ first_item l
@@ -34,7 +30,7 @@ found_first [] = refl
 found_first (w ∷ l) = refl
 
 module _ (m : MultiPortGraph) (w : MultiWf m) (c : Wires) where
-  pub step_start : (r : LinkFound) (s : WiresStep) → c.held ≡ 0
+  pub step_start : (r : Option SubportLink) (s : Option (SubportLink × Wires)) → c.held ≡ 0
       → r ≡ first_found (wires_in m.multiport m.graph.port_link m.graph.port_meta m.copy_node m.graph.node_meta 0 0 0 node_slots)
       → s ≡ wires_found r → s ≡ step_wires m c
   unfolding step_wires
@@ -46,7 +42,7 @@ module _ (m : MultiPortGraph) (w : MultiWf m) (c : Wires) where
   unfolding step_wires
   step_seen p z e = rw (ne_eqb c.held 0 z, e)
 
-  pub step_on : (n k : ℕ) (d : Direction) (r : LinkFound) (s : WiresStep) → (c.held ≡ 0 → ⊥) → seen m (c.held - 1) ≡ visible n d → k ≡ n
+  pub step_on : (n k : ℕ) (d : Direction) (r : Option SubportLink) (s : Option (SubportLink × Wires)) → (c.held ≡ 0 → ⊥) → seen m (c.held - 1) ≡ visible n d → k ≡ n
       → r ≡ first_found (wires_in m.multiport m.graph.port_link m.graph.port_meta m.copy_node m.graph.node_meta k c.held c.offset (node_slots - k))
       → s ≡ wires_found r → s ≡ step_wires m c
   step_on n k d r s z e g h f =

@@ -1,5 +1,5 @@
 -- The list of all wires, and the cursor that walks it.
-use Rattle.std.specs.Prelude.{Bool, true, false, cond, ℕ, zero, suc, ◌-◌, eqb, ltb}
+use Rattle.std.specs.Prelude.{Bool, true, false, cond, ℕ, zero, suc, ◌-◌, eqb, ltb, Option, Some, None}
 use mathlib.Core.List.{List, [], ◌∷◌, ◌++◌, map, flat_map}
 use Rattle.port_tables.specs.Limits.{node_slots, port_slots}
 use Rattle.port_tables.specs.Lists.{filter, range}
@@ -13,8 +13,6 @@ use Rattle.multiportgraph.specs.declared.multiportgraph.MultiPortGraph.{MultiPor
 use Rattle.multi_tables.specs.declared.answers.SubportIndex.{SubportIndex}
 use Rattle.multi_tables.specs.declared.answers.SubportLink.{SubportLink}
 use Rattle.multiportgraph.specs.declared.iter.Wires.{Wires}
-use Rattle.multiportgraph.specs.declared.iter.WiresStep.{WiresStep}
-use Rattle.multiportgraph.specs.declared.iter.WiresStep.TheVariants.{Item, End}
 use Rattle.port_tables.specs.Places.{Wire}
 
 -- Listings.
@@ -56,9 +54,9 @@ all_wires m = flat_map (side_links m Outgoing) (blocks m)
 unfoldable pub is_beyond : ℕ → ℕ → SubportLink → Bool
 is_beyond p o w = cond (eqb w.from.port.0 p) (ltb o w.from.subport_offset) (ltb p w.from.port.0)
 
-abbrev pub first_item : List SubportLink → WiresStep
-first_item [] = End
-first_item (w ∷ l) = Item w (record { held = suc w.from.port.0; offset = w.from.subport_offset })
+abbrev pub first_item : List SubportLink → Option (SubportLink × Wires)
+first_item [] = None
+first_item (w ∷ l) = Some (w, record { held = suc w.from.port.0; offset = w.from.subport_offset })
 
 -- what is left of the listing beyond a port of block n and an offset: the rest of that block, then later blocks
 unfoldable pub wires_beyond : MultiPortGraph → ℕ → ℕ → ℕ → List SubportLink
@@ -66,12 +64,12 @@ wires_beyond m n p o =
     filter (is_beyond p o) (side_links m Outgoing n) ++ flat_map (side_links m Outgoing) (filter (ltb n) (blocks m))
 
 -- a cursor whose port is gone or hidden ends the walk
-abbrev pub wires_seen : MultiPortGraph → ℕ → ℕ → Port → WiresStep
-wires_seen m p o dead = End
-wires_seen m p o hidden = End
+abbrev pub wires_seen : MultiPortGraph → ℕ → ℕ → Port → Option (SubportLink × Wires)
+wires_seen m p o dead = None
+wires_seen m p o hidden = None
 wires_seen m p o (visible n d) = first_item (wires_beyond m n p o)
 
-unfoldable pub step_wires : MultiPortGraph → Wires → WiresStep
+unfoldable pub step_wires : MultiPortGraph → Wires → Option (SubportLink × Wires)
 step_wires m c = cond (eqb c.held 0) (first_item (all_wires m)) (wires_seen m (c.held - 1) c.offset (seen m (c.held - 1)))
 
 abbrev pub start_wires : Wires
@@ -85,9 +83,9 @@ pub record Walked : Type 0 where
 abbrev pub walked_on : SubportLink → Walked → Walked
 walked_on w r = record { items = w ∷ r.items; ended = r.ended }
 
-abbrev pub walk_by : (Wires → Walked) → WiresStep → Walked
-walk_by go End = record { items = []; ended = true }
-walk_by go (Item w c) = walked_on w (go c)
+abbrev pub walk_by : (Wires → Walked) → Option (SubportLink × Wires) → Walked
+walk_by go None = record { items = []; ended = true }
+walk_by go (Some (w, c)) = walked_on w (go c)
 
 unfoldable pub walk_wires : MultiPortGraph → ℕ → Wires → Walked
 walk_wires m zero c = record { items = []; ended = false }

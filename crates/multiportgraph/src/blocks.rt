@@ -1,51 +1,53 @@
 // Removing blocks, and changing their counts.
-ghost use Rattle.std.specs.Prelude.{◌≡◌, cond, leb, ◌+◌, ◌≤◌, length, take};
+ghost use Rattle.std.specs.Prelude.{◌≡◌, cond, leb, ◌+◌, ◌≤◌, length, take, Ok, Err};
 ghost use Rattle.std.proofs.lemmas.List.Edits.{sets};
 ghost use Rattle.port_tables.specs.Limits.{port_slots, node_ports};
 ghost use Rattle.portgraph.specs.Model.{Wf};
 ghost use Rattle.port_tables.specs.ResizeLinks.{BlockFits};
 ghost use Rattle.multiportgraph.specs.Calls.{drop_block, remove_block, set_as, set_counts, moves_told};
 ghost use Rattle.multiportgraph.specs.CodeForms.{block_found};
-ghost use Rattle.multiportgraph.specs.declared.lookups.BlockFound.TheVariants.{Block, Refused};
 ghost use Rattle.multi_tables.specs.declared.answers.Refusal.TheVariants.{TooManyPorts};
 ghost use Rattle.multiportgraph.specs.WellFormed.{MultiWf};
 ghost use Rattle.multiportgraph.specs.HiddenNodes.{unsplit_range, copies_in, copies_dropped, recounted, remove_lone, remove_all};
 ghost use Rattle.multiportgraph.specs.Answers.{remove_numbers, set_numbers};
 
 use crate::ends::port_of;
-use crate::lookups::BlockFound;
-use crate::multiportgraph::{MultiPortGraph, NodeRemoved, PortsSet, RemoveAnswer, SetAnswer};
+use crate::multiportgraph::{MultiPortGraph, NodeRemoved, PortsSet};
 use multi_tables::answers::Refusal;
 use multi_tables::marks::marked;
 use port_tables::index::{NODE_PORTS, NodeIndex};
 use port_tables::node_entry::NodeMeta;
-use port_tables::numbers::{smaller, wide, wide16};
+use port_tables::numbers::wide;
 use portgraph::portgraph::PortGraph;
-use portgraph::resize::SetAnswer as LowerSet;
+use portgraph::resize::SetError;
 
 // A block that is to have so many ports, or why that is refused.
-fn within(found: BlockFound, incoming: usize, outgoing: usize) -> BlockFound
-    ensures { result ≡ cond (leb (incoming + outgoing) node_ports) found (Refused TooManyPorts) }
+fn within(
+    found: Result<NodeMeta, Refusal>,
+    incoming: usize,
+    outgoing: usize,
+) -> Result<NodeMeta, Refusal>
+    ensures { result ≡ cond (leb (incoming + outgoing) node_ports) found (Err TooManyPorts) }
 {
     if NODE_PORTS < incoming {
-        return BlockFound::Refused(Refusal::TooManyPorts);
+        return Err(Refusal::TooManyPorts);
     }
     if NODE_PORTS - incoming < outgoing {
-        return BlockFound::Refused(Refusal::TooManyPorts);
+        return Err(Refusal::TooManyPorts);
     }
     found
 }
 
 // What a change of counts answers, where the single-link graph answers this.
-fn set_answer(lower: LowerSet) -> SetAnswer
+pub fn set_answer(lower: Result<usize, SetError>) -> Result<usize, Refusal>
     ensures { result ≡ set_as lower }
 {
     match lower {
-        LowerSet::Set(events) => SetAnswer::Set(events),
-        LowerSet::TooManyPorts => SetAnswer::Refused(Refusal::TooManyPorts),
-        LowerSet::UnknownNode => SetAnswer::Refused(Refusal::UnknownNode),
-        LowerSet::MovesTooShort => SetAnswer::Refused(Refusal::MovesTooShort),
-        LowerSet::NoRoom => SetAnswer::Refused(Refusal::NoRoom),
+        Ok(events) => Ok(events),
+        Err(SetError::TooManyPorts) => Err(Refusal::TooManyPorts),
+        Err(SetError::UnknownNode) => Err(Refusal::UnknownNode),
+        Err(SetError::MovesTooShort) => Err(Refusal::MovesTooShort),
+        Err(SetError::NoRoom) => Err(Refusal::NoRoom),
     }
 }
 
@@ -56,13 +58,11 @@ impl MultiPortGraph {
         ensures { result ≡ unsplit_range self first count }
     {
         let mut graph = self;
-        let mut k: usize = 0;
-        while k < count {
+        for k in 0..count {
             let port = wide(first) + k;
             if marked(&graph.multiport, port) {
                 graph = graph.unsplit(port as u32);
             }
-            k += 1;
         }
         graph
     }
@@ -73,16 +73,16 @@ impl MultiPortGraph {
         ensures { (result ≡ remove_block self node.0) × (remove_numbers result.answer ≡ remove_numbers (remove_block self node.0).answer) }
     {
         match self.block(node) {
-            BlockFound::Block(meta) => {
+            Ok(meta) => {
                 return NodeRemoved {
                     graph: self.without_block(node, meta),
-                    answer: RemoveAnswer::Removed,
+                    answer: Ok(()),
                 };
             }
-            BlockFound::Refused(refusal) => {
+            Err(refusal) => {
                 return NodeRemoved {
                     graph: self,
-                    answer: RemoveAnswer::Refused(refusal),
+                    answer: Err(refusal),
                 };
             }
         }
@@ -106,8 +106,7 @@ impl MultiPortGraph {
         ensures { (result ≡ at + length (copies_in self first count)) × (list.new ≡ sets list.old at (copies_in self first count)) }
     {
         let mut place = at;
-        let mut k: usize = 0;
-        while k < count {
+        for k in 0..count {
             let port = (first + k) as u32;
             if marked(&self.multiport, first + k) {
                 if place < NODE_PORTS {
@@ -115,7 +114,6 @@ impl MultiPortGraph {
                     place += 1;
                 }
             }
-            k += 1;
         }
         place
     }
@@ -126,10 +124,8 @@ impl MultiPortGraph {
         ensures { result ≡ remove_all self (take count list.now) }
     {
         let mut graph = self;
-        let mut k: usize = 0;
-        while k < count {
-            graph = graph.remove_lone(list[k]);
-            k += 1;
+        for node in &list[..count] {
+            graph = graph.remove_lone(*node);
         }
         graph
     }
@@ -158,13 +154,13 @@ impl MultiPortGraph {
             × (set_numbers result.answer ≡ set_numbers (set_counts self node.0 incoming outgoing (length moves.old)).answer) }
     {
         match within(self.block(node), incoming, outgoing) {
-            BlockFound::Block(meta) => {
+            Ok(meta) => {
                 return self.resize(node, meta, incoming, outgoing, moves);
             }
-            BlockFound::Refused(refusal) => {
+            Err(refusal) => {
                 return PortsSet {
                     graph: self,
-                    answer: SetAnswer::Refused(refusal),
+                    answer: Err(refusal),
                 };
             }
         }
@@ -179,14 +175,14 @@ impl MultiPortGraph {
         outgoing: usize,
         moves: &mut [u32],
     ) -> PortsSet
-        requires { MultiWf self × (incoming + outgoing ≤ node_ports) × (Block meta ≡ block_found self node.0) }
+        requires { MultiWf self × (incoming + outgoing ≤ node_ports) × (Ok meta ≡ block_found self node.0) }
         ensures { (result ≡ set_counts self node.0 incoming outgoing (length moves.old))
             × (moves.new ≡ moves_told self node.0 incoming outgoing moves.old) }
     {
         let sized = self.graph.set_num_ports(node, incoming, outgoing, moves);
         let lower = sized.answer;
         let answer = set_answer(lower);
-        let SetAnswer::Set(_) = answer else {
+        let Ok(_) = answer else {
             return PortsSet {
                 graph: self,
                 answer: answer,
@@ -228,10 +224,10 @@ impl MultiPortGraph {
         ensures { (result ≡ length (copies_dropped self meta incoming outgoing)) × (list.new ≡ sets list.old 0 (copies_dropped self meta incoming outgoing)) }
     {
         let first = wide(meta.first_port.0);
-        let old_in = wide16(meta.incoming);
-        let old_out = wide16(meta.outgoing);
-        let kept_in = smaller(old_in, incoming);
-        let kept_out = smaller(old_out, outgoing);
+        let old_in = usize::from(meta.incoming);
+        let old_out = usize::from(meta.outgoing);
+        let kept_in = old_in.min(incoming);
+        let kept_out = old_out.min(outgoing);
         let middle = self.copies_in(list, 0, first + kept_in, old_in - kept_in);
         self.copies_in(list, middle, first + old_in + kept_out, old_out - kept_out)
     }

@@ -9,28 +9,29 @@ ghost use Rattle.multiportgraph.specs.Reading.{is_split, seen, side_of};
 ghost use Rattle.multi_tables.specs.NamedEnds.{end_named};
 ghost use Rattle.multiportgraph.specs.Answers.{add_numbers, link_numbers, cut_numbers};
 
-use crate::lookups::DirectionAnswer;
-use crate::multiportgraph::{AddAnswer, MultiPortGraph, NodeAdded, PortUnlinked, PortsLinked};
-use multi_tables::answers::{CutAnswer, Refusal, SubportIndex};
+use crate::multiportgraph::{MultiPortGraph, NodeAdded, PortUnlinked, PortsLinked};
+use multi_tables::answers::{PortPlace, Refusal, SubportIndex};
 use multi_tables::inputs::link_named_under;
 use multi_tables::marks::marked;
-use multi_tables::named::{NamedEnd, NamedLink, end_named, read_in};
+use multi_tables::named::{end_named, read_in};
 use multi_tables::reads::{place_in, plain_in, wire_in};
 use port_tables::direction::Direction;
-use port_tables::index::{NODE_SLOTS, PORT_SLOTS, PortIndex};
-use port_tables::numbers::{less, wide};
+use port_tables::index::{NODE_SLOTS, NodeIndex, PORT_SLOTS, PortIndex};
+use port_tables::numbers::wide;
 use port_tables::release::Release;
-use portgraph::alloc::AddAnswer as LowerAdd;
+use portgraph::alloc::AddError;
 use portgraph::portgraph::PortGraph;
 
 // What the lower graph answers to an added node, as this graph answers it.
-fn added_as(answer: LowerAdd) -> AddAnswer
+pub fn added_as(
+    answer: Result<(NodeIndex, PortIndex), AddError>,
+) -> Result<(NodeIndex, PortIndex), Refusal>
     ensures { result ≡ added_as answer }
 {
     match answer {
-        LowerAdd::Added(node, first) => AddAnswer::Added(node, first),
-        LowerAdd::TooManyPorts => AddAnswer::Refused(Refusal::TooManyPorts),
-        LowerAdd::NoRoom => AddAnswer::Refused(Refusal::NoRoom),
+        Ok((node, first)) => Ok((node, first)),
+        Err(AddError::TooManyPorts) => Err(Refusal::TooManyPorts),
+        Err(AddError::NoRoom) => Err(Refusal::NoRoom),
     }
 }
 
@@ -77,7 +78,7 @@ impl MultiPortGraph {
         ensures { result ≡ visible_nodes self }
     {
         let graph = self.graph;
-        less(graph.node_count(), self.copy_node_count)
+        graph.node_count().saturating_sub(self.copy_node_count)
     }
 
     // The number of ports of blocks.
@@ -85,10 +86,10 @@ impl MultiPortGraph {
         ensures { result ≡ visible_ports self }
     {
         let graph = self.graph;
-        less(
-            less(graph.port_count(), self.subport_count),
-            self.copy_node_count,
-        )
+        graph
+            .port_count()
+            .saturating_sub(self.subport_count)
+            .saturating_sub(self.copy_node_count)
     }
 
     // The number of wires.
@@ -96,11 +97,11 @@ impl MultiPortGraph {
         ensures { result ≡ visible_links self }
     {
         let graph = self.graph;
-        less(graph.link_count(), self.copy_node_count)
+        graph.link_count().saturating_sub(self.copy_node_count)
     }
 
     // The end that a subport means.
-    fn end_of(self, subport: SubportIndex) -> NamedEnd
+    fn end_of(self, subport: SubportIndex) -> Result<u32, Refusal>
         ensures { result ≡ end_named self.multiport self.graph.port_link self.graph.port_meta self.copy_node subport.port.0 subport.subport_offset }
     {
         end_named(
@@ -113,21 +114,20 @@ impl MultiPortGraph {
     }
 
     // What a subport is linked with, and where that stands.
-    pub fn subport_link(self, subport: SubportIndex) -> CutAnswer
+    pub fn subport_link(
+        self,
+        subport: SubportIndex,
+    ) -> Result<Option<(SubportIndex, PortPlace)>, Refusal>
         requires { MultiWf self }
         ensures { (result ≡ subport_link self subport.port.0 subport.subport_offset) × (cut_numbers result ≡ cut_numbers (subport_link self subport.port.0 subport.subport_offset)) }
     {
-        match self.end_of(subport) {
-            NamedEnd::At(inner) => {
-                wire_in(
-                    &self.graph.port_link,
-                    &self.graph.port_meta,
-                    &self.copy_node,
-                    inner,
-                )
-            }
-            NamedEnd::Refused(refusal) => CutAnswer::Refused(refusal),
-        }
+        let inner = self.end_of(subport)?;
+        wire_in(
+            &self.graph.port_link,
+            &self.graph.port_meta,
+            &self.copy_node,
+            inner,
+        )
     }
 
     // The graph with the link of an inner port cut.
@@ -156,7 +156,7 @@ impl MultiPortGraph {
         requires { MultiWf self }
         ensures { result ≡ (cut_sub self subport.port.0 subport.subport_offset).graph }
     {
-        let NamedEnd::At(inner) = self.end_of(subport) else {
+        let Ok(inner) = self.end_of(subport) else {
             return self;
         };
         self.without_wire(PortIndex(inner))
@@ -169,16 +169,16 @@ impl MultiPortGraph {
         ensures { (result ≡ cut_port self port.0) × (cut_numbers result.answer ≡ cut_numbers (cut_port self port.0).answer) }
     {
         match self.port_direction(port) {
-            DirectionAnswer::Found(direction) => {
+            Ok(direction) => {
                 return PortUnlinked {
                     graph: self.without_wires(port, direction),
                     answer: self.cut_answer(port),
                 };
             }
-            DirectionAnswer::Refused(refusal) => {
+            Err(refusal) => {
                 return PortUnlinked {
                     graph: self,
-                    answer: CutAnswer::Refused(refusal),
+                    answer: Err(refusal),
                 };
             }
         }
@@ -203,19 +203,19 @@ impl MultiPortGraph {
     }
 
     // What cutting the wires at a port of a block answers.
-    fn cut_answer(self, port: PortIndex) -> CutAnswer
+    fn cut_answer(self, port: PortIndex) -> Result<Option<(SubportIndex, PortPlace)>, Refusal>
         requires { OnBlock self port.0 (side_of (seen self port.0)) }
         ensures { result ≡ (cut_port self port.0).answer }
     {
         if self.is_split(port.0) {
             let place = place_in(&self.graph.port_meta, port.0);
-            return CutAnswer::Found(
+            return Ok(Some((
                 SubportIndex {
                     port: port,
                     subport_offset: 0,
                 },
                 place,
-            );
+            )));
         }
         plain_in(
             &self.graph.port_link,
@@ -241,12 +241,12 @@ impl MultiPortGraph {
             from,
             to,
         ) {
-            NamedLink::Ends(x, y) => {
+            Ok((x, y)) => {
                 let first = read_in(&self.multiport, from);
                 let second = read_in(&self.multiport, to);
                 return self.link_ends(x, y, first, second);
             }
-            NamedLink::Refused(refusal) => {
+            Err(refusal) => {
                 return self.link_refused(refusal);
             }
         }

@@ -15,8 +15,7 @@ use multi_tables::marks::{lay_marks, marked, put_flag, put_marks};
 use multi_tables::reads::{far_in, owner_in, subports_in};
 use port_tables::direction::Direction;
 use port_tables::index::{NodeIndex, PORT_SLOTS};
-use port_tables::node_entry::MaybeNodeMeta;
-use port_tables::numbers::{less, wide};
+use port_tables::numbers::wide;
 use portgraph::portgraph::PortGraph;
 
 // The hidden node of a split port: its copy port, its number, and how many subports it has.
@@ -90,8 +89,8 @@ impl MultiPortGraph {
         requires { Wf self.graph }
         ensures { result ≡ multi (remove_node self.graph node).graph (put_flag (put_flag self.multiport port_slots copy false) port_slots port false) (put_flag self.copy_node node_slots node false) (self.copy_node_count - 1) (self.subport_count - count) self.release }
     {
-        let copies = less(self.copy_node_count, 1);
-        let subports = less(self.subport_count, count);
+        let copies = self.copy_node_count.saturating_sub(1);
+        let subports = self.subport_count.saturating_sub(count);
         let removed = self.graph.remove_node(NodeIndex(node));
         self.with_copy(removed.graph, port, copy, node, false, copies, subports)
     }
@@ -139,10 +138,10 @@ impl MultiPortGraph {
     {
         let before = self.graph;
         self.graph = graph;
-        let MaybeNodeMeta::Some(a) = before.node_meta_valid(NodeIndex(node)) else {
+        let Some(a) = before.node_meta_valid(NodeIndex(node)) else {
             return self;
         };
-        let MaybeNodeMeta::Some(b) = graph.node_meta_valid(NodeIndex(node)) else {
+        let Some(b) = graph.node_meta_valid(NodeIndex(node)) else {
             return self;
         };
         lay_marks(&mut self.multiport, a, b);

@@ -7,28 +7,28 @@ ghost use Rattle.multiportgraph.specs.Reading.{far_port, owner_of, port_of, posi
 use crate::multiportgraph::MultiPortGraph;
 use multi_tables::marks::marked;
 use port_tables::direction::Direction;
-use port_tables::index::{
-    MaybeNodeIndex, MaybePortIndex, MaybePortOffset, NodeIndex, PortIndex, PortOffset,
-};
+use port_tables::index::{NodeIndex, PortIndex, PortOffset};
 use port_tables::numbers::wide;
-use portgraph::portgraph::{PortGraph, PortLink};
+use portgraph::portgraph::PortGraph;
 
 // The port that a port is linked with; 0 for none.
 pub(crate) fn far_port(graph: PortGraph, port: u32) -> u32
     ensures { result ≡ far_port graph port }
 {
-    match graph.port_link(PortIndex(port)) {
-        PortLink::Linked(far) => far.0,
-        PortLink::Unlinked => 0,
-        PortLink::UnknownPort(_) => 0,
-    }
+    let Ok(link) = graph.port_link(PortIndex(port)) else {
+        return 0;
+    };
+    let Some(far) = link else {
+        return 0;
+    };
+    far.0
 }
 
 // The node that has a port; 0 for a port that is not live.
 pub(crate) fn owner_of(graph: PortGraph, port: u32) -> u32
     ensures { result ≡ owner_of graph port }
 {
-    let MaybeNodeIndex::Some(node) = graph.port_node(PortIndex(port)) else {
+    let Some(node) = graph.port_node(PortIndex(port)) else {
         return 0;
     };
     node.0
@@ -43,7 +43,7 @@ pub(crate) fn port_of(graph: PortGraph, node: u32, direction: Direction, index: 
         direction: direction,
         index: index,
     };
-    let MaybePortIndex::Some(port) = graph.port_index(NodeIndex(node), offset) else {
+    let Some(port) = graph.port_index(NodeIndex(node), offset) else {
         return 0;
     };
     port.0
@@ -53,7 +53,7 @@ pub(crate) fn port_of(graph: PortGraph, node: u32, direction: Direction, index: 
 pub(crate) fn position_of(graph: PortGraph, port: u32) -> u16
     ensures { result ≡ position_of graph port }
 {
-    let MaybePortOffset::Some(offset) = graph.port_offset(PortIndex(port)) else {
+    let Some(offset) = graph.port_offset(PortIndex(port)) else {
         return 0;
     };
     offset.index

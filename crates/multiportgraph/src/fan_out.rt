@@ -6,12 +6,10 @@ ghost use Rattle.multiportgraph.specs.WellFormed.{MultiWf};
 ghost use Rattle.multiportgraph.specs.Lookups.{port_fan_out, node_fan_out, count_numbers};
 ghost use Rattle.multi_tables.specs.FanOutScans.{fan_out_in};
 
-use crate::lookups::{BlockFound, CountAnswer};
 use crate::multiportgraph::MultiPortGraph;
 use multi_tables::answers::Refusal;
-use multi_tables::reads::seen_in;
+use multi_tables::named::block_port;
 use multi_tables::scans::capped;
-use multi_tables::seen::SeenPort;
 use multi_tables::wire_counts::wires_at;
 use port_tables::direction::Direction;
 use port_tables::index::{NodeIndex, PORT_SLOTS, PortIndex};
@@ -28,53 +26,42 @@ fn fan_out_sum<'a>(
     ensures { result ≡ fan_out_in marks.now links.now owners.now from (min end port_slots - from) }
 {
     let stop = capped(end);
-    let mut port = from;
     let mut sum: usize = 0;
-    while port < stop {
+    for port in from..stop {
         sum += wires_at(marks, links, owners, port as u32, Direction::Outgoing);
-        port += 1;
     }
     sum
 }
 
 impl MultiPortGraph {
     // How many wires a port has, on either side; 0 for one that is not linked.
-    pub fn port_fan_out(self, port: PortIndex) -> CountAnswer
+    pub fn port_fan_out(self, port: PortIndex) -> Result<usize, Refusal>
         requires { MultiWf self }
         ensures { (result ≡ port_fan_out self port.0) × (count_numbers result ≡ count_numbers (port_fan_out self port.0)) }
     {
-        let seen = seen_in(&self.graph.port_meta, &self.copy_node, port.0);
-        match seen {
-            SeenPort::Dead => CountAnswer::Refused(Refusal::UnknownPort(port)),
-            SeenPort::Hidden => CountAnswer::Refused(Refusal::HiddenPort(port)),
-            SeenPort::Visible(_, direction) => CountAnswer::Count(wires_at(
-                &self.multiport,
-                &self.graph.port_link,
-                &self.graph.port_meta,
-                port.0,
-                direction,
-            )),
-        }
+        let (_, direction) = block_port(&self.graph.port_meta, &self.copy_node, port)?;
+        Ok(wires_at(
+            &self.multiport,
+            &self.graph.port_link,
+            &self.graph.port_meta,
+            port.0,
+            direction,
+        ))
     }
 
     // How many wires leave a block: the sum of the fan-outs of its outgoing ports.
-    pub fn node_fan_out(self, node: NodeIndex) -> CountAnswer
+    pub fn node_fan_out(self, node: NodeIndex) -> Result<usize, Refusal>
         requires { MultiWf self }
         ensures { (result ≡ node_fan_out self node.0) × (count_numbers result ≡ count_numbers (node_fan_out self node.0)) }
     {
-        let block = self.block(node);
-        match block {
-            BlockFound::Refused(refusal) => CountAnswer::Refused(refusal),
-            BlockFound::Block(meta) => {
-                let side = Sides::One(Direction::Outgoing);
-                CountAnswer::Count(fan_out_sum(
-                    &self.multiport,
-                    &self.graph.port_link,
-                    &self.graph.port_meta,
-                    ports_from(meta, side),
-                    ports_to(meta, side),
-                ))
-            }
-        }
+        let meta = self.block(node)?;
+        let side = Sides::One(Direction::Outgoing);
+        Ok(fan_out_sum(
+            &self.multiport,
+            &self.graph.port_link,
+            &self.graph.port_meta,
+            ports_from(meta, side),
+            ports_to(meta, side),
+        ))
     }
 }

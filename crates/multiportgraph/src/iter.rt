@@ -12,23 +12,11 @@ pub struct Nodes {
     pub back: u32,
 }
 
-#[derive(Clone, Copy)]
-pub enum NodesStep {
-    Item(NodeIndex, Nodes),
-    End,
-}
-
 // A walk over all ports of blocks, by ascending number, from either end.
 #[derive(Clone, Copy)]
 pub struct Ports {
     pub front: u32,
     pub back: u32,
-}
-
-#[derive(Clone, Copy)]
-pub enum PortsStep {
-    Item(PortIndex, Ports),
-    End,
 }
 
 // A walk over the ports of a block.
@@ -37,19 +25,6 @@ pub struct NodePorts {
     pub node: NodeIndex,
     pub sides: Sides,
     pub held: u32,
-}
-
-#[derive(Clone, Copy)]
-pub enum NodePortsStep {
-    Item(PortIndex, NodePorts),
-    End,
-}
-
-// A start of a walk is a call.
-#[derive(Clone, Copy)]
-pub enum NodePortsStart {
-    Started(NodePorts),
-    Refused(Refusal),
 }
 
 // A walk over the subports of a block.
@@ -61,18 +36,6 @@ pub struct NodeSubports {
     pub offset: u16,
 }
 
-#[derive(Clone, Copy)]
-pub enum NodeSubportsStep {
-    Item(SubportIndex, NodeSubports),
-    End,
-}
-
-#[derive(Clone, Copy)]
-pub enum NodeSubportsStart {
-    Started(NodeSubports),
-    Refused(Refusal),
-}
-
 // A walk over the links of a port, from either end: the offsets given last from the front and from the back, each one higher,
 // with 0 for none.
 #[derive(Clone, Copy)]
@@ -80,18 +43,6 @@ pub struct PortLinks {
     pub port: PortIndex,
     pub front: u32,
     pub back: u32,
-}
-
-#[derive(Clone, Copy)]
-pub enum PortLinksStep {
-    Item(SubportLink, PortLinks),
-    End,
-}
-
-#[derive(Clone, Copy)]
-pub enum PortLinksStart {
-    Started(PortLinks),
-    Refused(Refusal),
 }
 
 // A walk over the links of a block; links to a port from `skip_from` on, `skip_to` excluded, are left out.
@@ -105,18 +56,6 @@ pub struct NodeLinks {
     pub offset: u16,
 }
 
-#[derive(Clone, Copy)]
-pub enum NodeLinksStep {
-    Item(SubportLink, NodeLinks),
-    End,
-}
-
-#[derive(Clone, Copy)]
-pub enum NodeLinksStart {
-    Started(NodeLinks),
-    Refused(Refusal),
-}
-
 // A walk over the neighbours of a block, one for each link; with the flag, links to outgoing ports of the block itself are
 // left out.
 #[derive(Clone, Copy)]
@@ -128,18 +67,6 @@ pub struct Neighbours {
     pub offset: u16,
 }
 
-#[derive(Clone, Copy)]
-pub enum NeighboursStep {
-    Item(NodeIndex, Neighbours),
-    End,
-}
-
-#[derive(Clone, Copy)]
-pub enum NeighboursStart {
-    Started(Neighbours),
-    Refused(Refusal),
-}
-
 // A walk over the links from one block's outgoing side to another block.
 #[derive(Clone, Copy)]
 pub struct NodeConnections {
@@ -149,27 +76,9 @@ pub struct NodeConnections {
     pub offset: u16,
 }
 
-#[derive(Clone, Copy)]
-pub enum NodeConnectionsStep {
-    Item(SubportLink, NodeConnections),
-    End,
-}
-
-#[derive(Clone, Copy)]
-pub enum NodeConnectionsStart {
-    Started(NodeConnections),
-    Refused(Refusal),
-}
-
 // A walk over all wires.
 #[derive(Clone, Copy)]
 pub struct Wires {
     pub held: u32,
     pub offset: u16,
-}
-
-#[derive(Clone, Copy)]
-pub enum WiresStep {
-    Item(SubportLink, Wires),
-    End,
 }

@@ -2,12 +2,10 @@
 ghost use Rattle.std.specs.Prelude.{◌≡◌, ◌-◌};
 ghost use Rattle.multiportgraph.specs.MultiLent.{no_totals, totals_counts, totals_links};
 
-use crate::multiportgraph::{AddAnswer, LinkAnswer, RemoveAnswer, SetAnswer};
-use multi_tables::answers::EndAnswer;
-use port_tables::index::NodeIndex;
+use multi_tables::answers::{Refusal, SubportIndex};
+use port_tables::index::{NodeIndex, PortIndex};
 use port_tables::lent::Counts;
 use port_tables::node_entry::NodeMeta;
-use port_tables::numbers::less;
 use port_tables::release::Release;
 
 // What a graph has besides its tables.
@@ -24,19 +22,19 @@ pub struct Totals {
 #[derive(Clone, Copy)]
 pub struct AddedLent {
     pub totals: Totals,
-    pub answer: AddAnswer,
+    pub answer: Result<(NodeIndex, PortIndex), Refusal>,
 }
 
 #[derive(Clone, Copy)]
 pub struct LinkedLent {
     pub totals: Totals,
-    pub answer: LinkAnswer,
+    pub answer: Result<(SubportIndex, SubportIndex), Refusal>,
 }
 
 #[derive(Clone, Copy)]
 pub struct CutLent {
     pub totals: Totals,
-    pub answer: EndAnswer,
+    pub answer: Result<Option<SubportIndex>, Refusal>,
 }
 
 // What the end that a link of a port takes needs.
@@ -72,13 +70,13 @@ pub struct PreparedLent {
 #[derive(Clone, Copy)]
 pub struct RemovedLent {
     pub totals: Totals,
-    pub answer: RemoveAnswer,
+    pub answer: Result<(), Refusal>,
 }
 
 #[derive(Clone, Copy)]
 pub struct SetLent {
     pub totals: Totals,
-    pub answer: SetAnswer,
+    pub answer: Result<usize, Refusal>,
 }
 
 // The numbers of the empty graph that is made for this release.
@@ -104,21 +102,25 @@ pub fn no_totals(release: Release) -> Totals
 pub fn node_count_lent(totals: Totals) -> usize
     ensures { result ≡ totals.counts.node_count - totals.copies }
 {
-    less(totals.counts.node_count, totals.copies)
+    totals.counts.node_count.saturating_sub(totals.copies)
 }
 
 // The number of ports of blocks.
 pub fn port_count_lent(totals: Totals) -> usize
     ensures { result ≡ totals.counts.port_count - totals.subs - totals.copies }
 {
-    less(less(totals.counts.port_count, totals.subs), totals.copies)
+    totals
+        .counts
+        .port_count
+        .saturating_sub(totals.subs)
+        .saturating_sub(totals.copies)
 }
 
 // The number of wires.
 pub fn link_count_lent(totals: Totals) -> usize
     ensures { result ≡ totals.counts.link_count - totals.copies }
 {
-    less(totals.counts.link_count, totals.copies)
+    totals.counts.link_count.saturating_sub(totals.copies)
 }
 
 pub fn with_counts(totals: Totals, counts: Counts) -> Totals

@@ -7,14 +7,12 @@ ghost use Rattle.multiportgraph.specs.WellFormed.{MultiWf};
 ghost use Rattle.multi_tables.specs.Scans.{first_found, link_port};
 ghost use Rattle.multiportgraph.specs.WalkScans.{block_left, self_filter};
 
-use crate::iter::{
-    Neighbours, NeighboursStep, NodeConnections, NodeConnectionsStep, NodeLinks, NodeLinksStep,
-};
-use crate::lookups::BlockFound;
+use crate::iter::{Neighbours, NodeConnections, NodeLinks};
 use crate::multiportgraph::MultiPortGraph;
 use crate::walks::held_seen;
+use multi_tables::answers::SubportLink;
 use multi_tables::reads::owner_in;
-use multi_tables::scans::{LinkFilter, LinkFound, next_beyond};
+use multi_tables::scans::{LinkFilter, next_beyond};
 use port_tables::direction::Direction;
 use port_tables::index::NodeIndex;
 use port_tables::sides::{Sides, ports_from, ports_to};
@@ -28,13 +26,13 @@ impl MultiPortGraph {
         filter: LinkFilter,
         held: u32,
         offset: u16,
-    ) -> LinkFound
+    ) -> Option<SubportLink>
         requires { MultiWf self }
         ensures { (result ≡ first_found (block_left self node.0 sides filter held offset)) × (link_port 0 result < port_slots) }
     {
         let block = self.block(node);
-        let BlockFound::Block(meta) = block else {
-            return LinkFound::None;
+        let Ok(meta) = block else {
+            return None;
         };
         if held_seen(&self.graph.port_meta, &self.copy_node, held) {
             return next_beyond(
@@ -49,12 +47,12 @@ impl MultiPortGraph {
                 offset,
             );
         }
-        LinkFound::None
+        None
     }
 }
 
 impl NodeLinks {
-    pub fn step(self, graph: MultiPortGraph) -> NodeLinksStep
+    pub fn step(self, graph: MultiPortGraph) -> Option<(SubportLink, NodeLinks)>
         requires { MultiWf graph }
         ensures { (result ≡ step_links graph self) × (node_links_values result ≡ node_links_values (step_links graph self)) }
     {
@@ -63,11 +61,11 @@ impl NodeLinks {
         let filter = LinkFilter::Skip(self.skip_from, self.skip_to);
         let found = graph.next_of_block(node, sides, filter, self.held, self.offset);
         match found {
-            LinkFound::None => NodeLinksStep::End,
-            LinkFound::Link(link) => {
+            None => None,
+            Some(link) => {
                 let from = link.from;
                 let port = from.port;
-                NodeLinksStep::Item(
+                Some((
                     link,
                     NodeLinks {
                         node: node,
@@ -77,7 +75,7 @@ impl NodeLinks {
                         held: port.0 + 1,
                         offset: from.subport_offset,
                     },
-                )
+                ))
             }
         }
     }
@@ -95,7 +93,7 @@ fn self_filter(node: NodeIndex, ignore_self: bool) -> LinkFilter
 }
 
 impl Neighbours {
-    pub fn step(self, graph: MultiPortGraph) -> NeighboursStep
+    pub fn step(self, graph: MultiPortGraph) -> Option<(NodeIndex, Neighbours)>
         requires { MultiWf graph }
         ensures { (result ≡ step_neighbours graph self) × (neighbours_values result ≡ neighbours_values (step_neighbours graph self)) }
     {
@@ -104,13 +102,13 @@ impl Neighbours {
         let filter = self_filter(node, self.ignore_self);
         let found = graph.next_of_block(node, sides, filter, self.held, self.offset);
         match found {
-            LinkFound::None => NeighboursStep::End,
-            LinkFound::Link(link) => {
+            None => None,
+            Some(link) => {
                 let from = link.from;
                 let port = from.port;
                 let to = link.to;
                 let far = to.port;
-                NeighboursStep::Item(
+                Some((
                     NodeIndex(owner_in(&graph.graph.port_meta, far.0)),
                     Neighbours {
                         node: node,
@@ -119,14 +117,14 @@ impl Neighbours {
                         held: port.0 + 1,
                         offset: from.subport_offset,
                     },
-                )
+                ))
             }
         }
     }
 }
 
 impl NodeConnections {
-    pub fn step(self, graph: MultiPortGraph) -> NodeConnectionsStep
+    pub fn step(self, graph: MultiPortGraph) -> Option<(SubportLink, NodeConnections)>
         requires { MultiWf graph }
         ensures { (result ≡ step_connections graph self) × (node_connections_values result ≡ node_connections_values (step_connections graph self)) }
     {
@@ -137,11 +135,11 @@ impl NodeConnections {
             let filter = LinkFilter::To(target);
             let found = graph.next_of_block(node, side, filter, self.held, self.offset);
             return match found {
-                LinkFound::None => NodeConnectionsStep::End,
-                LinkFound::Link(link) => {
+                None => None,
+                Some(link) => {
                     let from = link.from;
                     let port = from.port;
-                    NodeConnectionsStep::Item(
+                    Some((
                         link,
                         NodeConnections {
                             node: node,
@@ -149,10 +147,10 @@ impl NodeConnections {
                             held: port.0 + 1,
                             offset: from.subport_offset,
                         },
-                    )
+                    ))
                 }
             };
         }
-        NodeConnectionsStep::End
+        None
     }
 }

@@ -1,7 +1,6 @@
 // Linking ports: each end is prepared, and the two inner ports are linked.
-ghost use Rattle.std.specs.Prelude.{◌≡◌};
+ghost use Rattle.std.specs.Prelude.{◌≡◌, Ok};
 ghost use Rattle.portgraph.specs.Calls.{link_ports};
-ghost use Rattle.multiportgraph.specs.declared.multiportgraph.LinkAnswer.TheVariants.{Linked};
 ghost use Rattle.multiportgraph.specs.WellFormed.{MultiWf};
 ghost use Rattle.multiportgraph.specs.Graph.{with_graph};
 ghost use Rattle.multiportgraph.specs.Answers.{link_numbers};
@@ -10,13 +9,12 @@ ghost use Rattle.multiportgraph.specs.HiddenNodes.{prepare};
 ghost use Rattle.multiportgraph.specs.Presumed.{OnBlock, BothOnBlock};
 ghost use Rattle.multiportgraph.specs.Calls.{link_pair, link_clean};
 
-use crate::multiportgraph::{LinkAnswer, MultiPortGraph, PortsLinked};
+use crate::multiportgraph::{MultiPortGraph, PortsLinked};
 use multi_tables::answers::{Refusal, SubportIndex};
 use multi_tables::inputs::{link_need_under, pair_named_under};
-use multi_tables::named::{LinkNeed, NamedPair};
+use multi_tables::named::LinkNeed;
 use port_tables::direction::Direction;
 use port_tables::index::PortIndex;
-use port_tables::numbers::same_side;
 
 impl MultiPortGraph {
     // A link that is refused, with the graph as it is.
@@ -25,7 +23,7 @@ impl MultiPortGraph {
     {
         PortsLinked {
             graph: self,
-            answer: LinkAnswer::Refused(refusal),
+            answer: Err(refusal),
         }
     }
 
@@ -38,7 +36,7 @@ impl MultiPortGraph {
         to: SubportIndex,
     ) -> PortsLinked
         requires { MultiWf self }
-        ensures { result ≡ record { graph = with_graph self (link_ports self.graph x y).graph; answer = Linked from to } }
+        ensures { result ≡ record { graph = with_graph self (link_ports self.graph x y).graph; answer = Ok (from, to) } }
     {
         let graph = self.graph;
         let linked = graph.link_ports(PortIndex(x), PortIndex(y));
@@ -46,7 +44,7 @@ impl MultiPortGraph {
         self.graph = after;
         PortsLinked {
             graph: self,
-            answer: LinkAnswer::Linked(from, to),
+            answer: Ok((from, to)),
         }
     }
 
@@ -63,7 +61,7 @@ impl MultiPortGraph {
         requires { MultiWf self }
         ensures { result ≡ link_prepared self from.port.0 d x from.subport_offset to.port.0 e y to.subport_offset }
     {
-        if same_side(d, e) {
+        if d == e {
             return self.link_refused(Refusal::IncompatibleDirections(
                 PortIndex(x),
                 PortIndex(y),
@@ -129,7 +127,7 @@ impl MultiPortGraph {
             port_a,
             port_b,
         ) {
-            LinkNeed::Ends(x, o, y, r) => {
+            Ok(LinkNeed::Ends(x, o, y, r)) => {
                 let from = SubportIndex {
                     port: port_a,
                     subport_offset: o,
@@ -140,13 +138,13 @@ impl MultiPortGraph {
                 };
                 return self.link_ends(x, y, from, to);
             }
-            LinkNeed::Refused(refusal) => {
+            Err(refusal) => {
                 return self.link_refused(refusal);
             }
-            LinkNeed::First(d) => {
+            Ok(LinkNeed::First(d)) => {
                 return self.link_first(port_a.0, d, port_b);
             }
-            LinkNeed::Both(d, e) => {
+            Ok(LinkNeed::Both(d, e)) => {
                 return self.link_both(port_a.0, d, port_b.0, e);
             }
         }
@@ -167,10 +165,10 @@ impl MultiPortGraph {
             port_a,
             port_b,
         ) {
-            NamedPair::Opposite => {
+            Ok(()) => {
                 return self.link_ports(port_a, port_b);
             }
-            NamedPair::Refused(refusal) => {
+            Err(refusal) => {
                 return self.link_refused(refusal);
             }
         }

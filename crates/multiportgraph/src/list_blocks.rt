@@ -9,11 +9,11 @@ ghost use Rattle.multiportgraph.specs.Listed.{blocks_listed, list_after, list_an
 ghost use Rattle.multiportgraph.specs.ListScans.{port_of_meta, node_block, table_blocks};
 
 use crate::lent::{Totals, node_count_lent};
-use crate::list_ends::{ListAnswer, put_four};
+use crate::list_ends::{TooShort, put_four};
 use multi_tables::marks::flagged;
 use port_tables::index::{FREE_LISTS, NODE_SLOTS, PORT_SLOTS};
 use port_tables::lent::{NODE_WORDS, meta_in};
-use port_tables::node_entry::{MaybeNodeMeta, NodeMeta};
+use port_tables::node_entry::NodeMeta;
 use port_tables::numbers::wide;
 
 // The first port of a block; 0 for a block without ports.
@@ -42,7 +42,7 @@ fn list_block<'a>(
     if flagged(flags, wide(node)) {
         return place;
     }
-    let MaybeNodeMeta::Some(meta) = meta_in(nodes, node) else {
+    let Some(meta) = meta_in(nodes, node) else {
         return place;
     };
     let first = port_of_meta(meta);
@@ -68,10 +68,8 @@ fn list_slots<'a>(
     ensures { list.new ≡ sets list.old 0 (table_blocks nodes.now flags.now len) }
 {
     let mut next: usize = 0;
-    let mut node: usize = 0;
-    while node < len {
+    for node in 0..len {
         next = list_block(nodes, flags, list, next, node as u32);
-        node += 1;
     }
 }
 
@@ -85,7 +83,7 @@ pub fn blocks_lent<'a>(
     flags: &'a [bool; NODE_SLOTS],
     totals: Totals,
     list: &mut [u32],
-) -> ListAnswer
+) -> Result<usize, TooShort>
     requires { MultiWf (multi_in nodes.now links.now owners.now heads.now marks.now flags.now totals) }
     ensures { (result ≡ list_answer (length (blocks (multi_in nodes.now links.now owners.now heads.now marks.now flags.now totals)))
         (blocks_listed (multi_in nodes.now links.now owners.now heads.now marks.now flags.now totals)) list.old)
@@ -94,8 +92,8 @@ pub fn blocks_lent<'a>(
     let count = node_count_lent(totals);
     let needed = 4 * count;
     if list.len() < needed {
-        return ListAnswer::TooShort(needed);
+        return Err(TooShort(needed));
     }
     list_slots(nodes, flags, list, totals.counts.node_len);
-    ListAnswer::Listed(count)
+    Ok(count)
 }

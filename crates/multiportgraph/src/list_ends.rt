@@ -8,17 +8,11 @@ use multi_tables::marks::flagged;
 use multi_tables::reads::{far_in, owner_in};
 use port_tables::index::{NODE_SLOTS, PORT_SLOTS};
 use port_tables::lent::{NODE_WORDS, meta_in};
-use port_tables::node_entry::MaybeNodeMeta;
-use port_tables::numbers::{wide, wide16};
+use port_tables::numbers::wide;
 
-// What a listing comes to.
+// The list is too short and stayed as it was: it must have so many numbers.
 #[derive(Clone, Copy)]
-pub enum ListAnswer {
-    // So many items were written.
-    Listed(usize),
-    // The list is too short and stayed as it was: it must have so many numbers.
-    TooShort(usize),
-}
+pub struct TooShort(pub usize);
 
 // An end of a wire.
 #[derive(Clone, Copy)]
@@ -30,18 +24,11 @@ pub struct WireEnd {
     pub position: u32,
 }
 
-// The difference, 0 at the least.
-fn beyond(a: u32, b: u32) -> u32
-    ensures { result ≡ a - b }
-{
-    if a < b { 0 } else { a - b }
-}
-
 // The first port of a node; 0 for a node that is not live.
 fn first_of(nodes: &[u32; NODE_WORDS], node: u32) -> u32
     ensures { result ≡ first_of_meta (meta_in nodes.now node) }
 {
-    let MaybeNodeMeta::Some(meta) = meta_in(nodes, node) else {
+    let Some(meta) = meta_in(nodes, node) else {
         return 0;
     };
     meta.first_port.0
@@ -61,7 +48,7 @@ fn in_end<'a>(
         port: port,
         offset: offset,
         node: node,
-        position: beyond(port, first_of(nodes, node)),
+        position: port.saturating_sub(first_of(nodes, node)),
     }
 }
 
@@ -77,12 +64,12 @@ pub(crate) fn far_end<'a>(
 {
     let node = owner_in(owners, inner);
     if flagged(flags, wide(node)) {
-        let MaybeNodeMeta::Some(meta) = meta_in(nodes, node) else {
+        let Some(meta) = meta_in(nodes, node) else {
             return in_end(nodes, owners, inner, 0);
         };
         let first = meta.first_port.0;
-        let main = far_in(links, wide(first) + wide16(meta.incoming));
-        return in_end(nodes, owners, main, beyond(inner, first));
+        let main = far_in(links, wide(first) + usize::from(meta.incoming));
+        return in_end(nodes, owners, main, inner.saturating_sub(first));
     }
     in_end(nodes, owners, inner, 0)
 }

@@ -10,13 +10,13 @@ ghost use Rattle.multiportgraph.specs.Listed.{wires_listed, list_after, list_ans
 ghost use Rattle.multiportgraph.specs.ListScans.{slot_wire, split_wires, port_wires, side_wires, node_wires, table_wires, AllFit};
 
 use crate::lent::{Totals, link_count_lent};
-use crate::list_ends::{ListAnswer, WireEnd, far_end, put_four};
+use crate::list_ends::{TooShort, WireEnd, far_end, put_four};
 use multi_tables::marks::{flagged, marked};
 use multi_tables::reads::{far_in, owner_in};
 use port_tables::index::{FREE_LISTS, NODE_SLOTS, PORT_SLOTS};
 use port_tables::lent::{NODE_WORDS, meta_in};
-use port_tables::node_entry::{MaybeNodeMeta, NodeMeta};
-use port_tables::numbers::{wide, wide16};
+use port_tables::node_entry::NodeMeta;
+use port_tables::numbers::wide;
 use port_tables::tables::at;
 
 // Lists the wire at a slot of an outgoing end, if there is one; answers the place after it.
@@ -68,11 +68,10 @@ fn list_split<'a>(
     ensures { (result ≡ place + length (split_wires nodes.now links.now owners.now flags.now port node position copy))
         × (list.new ≡ sets list.old place (split_wires nodes.now links.now owners.now flags.now port node position copy)) }
 {
-    let first = wide(copy.first_port.0) + wide16(copy.incoming);
-    let count = wide16(copy.outgoing);
+    let first = wide(copy.first_port.0) + usize::from(copy.incoming);
+    let count = usize::from(copy.outgoing);
     let mut next = place;
-    let mut offset: usize = 0;
-    while offset < count {
+    for offset in 0..count {
         let from = WireEnd {
             port: port,
             offset: offset as u32,
@@ -89,7 +88,6 @@ fn list_split<'a>(
             from,
             first + offset,
         );
-        offset += 1;
     }
     next
 }
@@ -113,7 +111,7 @@ fn list_port<'a>(
 {
     if marked(marks, wide(port)) {
         let hidden = owner_in(owners, far_in(links, wide(port)));
-        let MaybeNodeMeta::Some(copy) = meta_in(nodes, hidden) else {
+        let Some(copy) = meta_in(nodes, hidden) else {
             return place;
         };
         return list_split(
@@ -145,11 +143,10 @@ fn list_side<'a>(
     ensures { (result ≡ place + length (side_wires nodes.now links.now owners.now marks.now flags.now node meta))
         × (list.new ≡ sets list.old place (side_wires nodes.now links.now owners.now marks.now flags.now node meta)) }
 {
-    let first = wide(meta.first_port.0) + wide16(meta.incoming);
-    let count = wide16(meta.outgoing);
+    let first = wide(meta.first_port.0) + usize::from(meta.incoming);
+    let count = usize::from(meta.outgoing);
     let mut next = place;
-    let mut position: usize = 0;
-    while position < count {
+    for position in 0..count {
         next = list_port(
             nodes,
             links,
@@ -162,7 +159,6 @@ fn list_side<'a>(
             node,
             position as u32,
         );
-        position += 1;
     }
     next
 }
@@ -185,7 +181,7 @@ fn list_node<'a>(
     if flagged(flags, wide(node)) {
         return place;
     }
-    let MaybeNodeMeta::Some(meta) = meta_in(nodes, node) else {
+    let Some(meta) = meta_in(nodes, node) else {
         return place;
     };
     list_side(nodes, links, owners, marks, flags, list, place, node, meta)
@@ -205,10 +201,8 @@ fn list_nodes<'a>(
     ensures { list.new ≡ sets list.old 0 (table_wires nodes.now links.now owners.now marks.now flags.now len) }
 {
     let mut next: usize = 0;
-    let mut node: usize = 0;
-    while node < len {
+    for node in 0..len {
         next = list_node(nodes, links, owners, marks, flags, list, next, node as u32);
-        node += 1;
     }
 }
 
@@ -222,7 +216,7 @@ pub fn wires_lent<'a>(
     flags: &'a [bool; NODE_SLOTS],
     totals: Totals,
     list: &mut [u32],
-) -> ListAnswer
+) -> Result<usize, TooShort>
     requires { MultiWf (multi_in nodes.now links.now owners.now heads.now marks.now flags.now totals) }
     ensures { (result ≡ list_answer (length (all_wires (multi_in nodes.now links.now owners.now heads.now marks.now flags.now totals)))
         (wires_listed (multi_in nodes.now links.now owners.now heads.now marks.now flags.now totals)) list.old)
@@ -231,7 +225,7 @@ pub fn wires_lent<'a>(
     let count = link_count_lent(totals);
     let needed = 8 * count;
     if list.len() < needed {
-        return ListAnswer::TooShort(needed);
+        return Err(TooShort(needed));
     }
     list_nodes(
         nodes,
@@ -242,5 +236,5 @@ pub fn wires_lent<'a>(
         list,
         totals.counts.node_len,
     );
-    ListAnswer::Listed(count)
+    Ok(count)
 }

@@ -6,7 +6,7 @@ ghost use Rattle.multiportgraph.specs.Listed.{wires_listed, blocks_listed, list_
 
 use crate::lent::Totals;
 use crate::list_blocks::blocks_lent;
-use crate::list_ends::ListAnswer;
+use crate::list_ends::TooShort;
 use crate::list_wires::wires_lent;
 use crate::multiportgraph::MultiPortGraph;
 use port_tables::lent::NODE_WORDS;
@@ -15,7 +15,7 @@ use portgraph::lent_graph::put_slots;
 impl MultiPortGraph {
     // Lists all wires, in the order of the walk, with eight numbers each: port, offset, node and position of the outgoing end,
     // then of the incoming one. Numbers past the last wire keep their contents, and so does a list that is too short.
-    pub fn list_wires(self, list: &mut [u32]) -> ListAnswer
+    pub fn list_wires(self, list: &mut [u32]) -> Result<usize, TooShort>
         requires { MultiWf self }
         ensures { (result ≡ list_answer (length (all_wires self)) (wires_listed self) list.old) × (list.new ≡ list_after (wires_listed self) list.old) }
     {
@@ -46,7 +46,7 @@ impl MultiPortGraph {
 
     // Lists all blocks, by ascending number, with four numbers each: node, incoming and outgoing ports, and the first port, 0 for
     // a block without ports. Numbers past the last block keep their contents, and so does a list that is too short.
-    pub fn list_blocks(self, list: &mut [u32]) -> ListAnswer
+    pub fn list_blocks(self, list: &mut [u32]) -> Result<usize, TooShort>
         requires { MultiWf self }
         ensures { (result ≡ list_answer (length (blocks self)) (blocks_listed self) list.old) × (list.new ≡ list_after (blocks_listed self) list.old) }
     {

@@ -1,5 +1,5 @@
 // Wrapper around a port graph that provides multiports through hidden copy nodes.
-use multi_tables::answers::{CutAnswer, Refusal, SubportIndex};
+use multi_tables::answers::{PortPlace, Refusal, SubportIndex};
 use port_tables::index::{NODE_SLOTS, NodeIndex, PORT_SLOTS, PortIndex};
 use port_tables::release::Release;
 use portgraph::portgraph::PortGraph;
@@ -20,69 +20,37 @@ pub struct MultiPortGraph {
 }
 
 #[derive(Clone, Copy)]
-pub enum AddAnswer {
-    // The node, and its first port; 0 for a node without ports.
-    Added(NodeIndex, PortIndex),
-    Refused(Refusal),
-}
-
-#[derive(Clone, Copy)]
 pub struct NodeAdded {
     pub graph: MultiPortGraph,
-    pub answer: AddAnswer,
-}
-
-#[derive(Clone, Copy)]
-pub enum RemoveAnswer {
-    Removed,
-    Refused(Refusal),
+    pub answer: Result<(NodeIndex, PortIndex), Refusal>,
 }
 
 #[derive(Clone, Copy)]
 pub struct NodeRemoved {
     pub graph: MultiPortGraph,
-    pub answer: RemoveAnswer,
-}
-
-#[derive(Clone, Copy)]
-pub enum SetAnswer {
-    // Done, with so many events in the move list.
-    Set(usize),
-    Refused(Refusal),
+    pub answer: Result<(), Refusal>,
 }
 
 #[derive(Clone, Copy)]
 pub struct PortsSet {
     pub graph: MultiPortGraph,
-    pub answer: SetAnswer,
-}
-
-#[derive(Clone, Copy)]
-pub enum LinkAnswer {
-    Linked(SubportIndex, SubportIndex),
-    Refused(Refusal),
+    pub answer: Result<usize, Refusal>,
 }
 
 #[derive(Clone, Copy)]
 pub struct PortsLinked {
     pub graph: MultiPortGraph,
-    pub answer: LinkAnswer,
+    pub answer: Result<(SubportIndex, SubportIndex), Refusal>,
 }
 
 #[derive(Clone, Copy)]
 pub struct PortUnlinked {
     pub graph: MultiPortGraph,
-    pub answer: CutAnswer,
-}
-
-#[derive(Clone, Copy)]
-pub enum TidyAnswer {
-    Tidied,
-    Refused(Refusal),
+    pub answer: Result<Option<(SubportIndex, PortPlace)>, Refusal>,
 }
 
 #[derive(Clone, Copy)]
 pub struct PortTidied {
     pub graph: MultiPortGraph,
-    pub answer: TidyAnswer,
+    pub answer: Result<(), Refusal>,
 }

@@ -7,12 +7,12 @@ ghost use Rattle.multiportgraph.specs.WellFormed.{MultiWf};
 ghost use Rattle.multi_tables.specs.Scans.{first_found, links_in};
 ghost use Rattle.multiportgraph.specs.WalkScans.{last_found, left_in};
 
-use crate::iter::{PortLinks, PortLinksStep};
+use crate::iter::PortLinks;
 use crate::multiportgraph::MultiPortGraph;
 use crate::walks::end_before;
-use multi_tables::reads::seen_in;
-use multi_tables::scans::{LinkFilter, LinkFound, link_at, scan_port, span_count, span_first};
-use multi_tables::seen::SeenPort;
+use multi_tables::answers::SubportLink;
+use multi_tables::named::block_port;
+use multi_tables::scans::{LinkFilter, link_at, scan_port, span_count, span_first};
 use port_tables::direction::Direction;
 use port_tables::index::{NODE_SLOTS, PORT_SLOTS};
 use port_tables::numbers::wide;
@@ -26,13 +26,11 @@ fn scan_back<'a>(
     first: usize,
     from: usize,
     end: usize,
-) -> LinkFound
+) -> Option<SubportLink>
     requires { (first ≤ port_slots) × (end ≤ port_slots) }
     ensures { result ≡ last_found (links_in links.now owners.now flags.now port first from (end - from)) }
 {
-    let mut stop = end;
-    while from < stop {
-        let offset = stop - 1;
+    for offset in (from..end).rev() {
         let found = link_at(
             links,
             owners,
@@ -42,16 +40,11 @@ fn scan_back<'a>(
             first + offset,
             offset as u16,
         );
-        match found {
-            LinkFound::Link(_) => {
-                return found;
-            }
-            LinkFound::None => {
-                stop = offset;
-            }
+        if let Some(_) = found {
+            return found;
         }
     }
-    LinkFound::None
+    None
 }
 
 // The first link of a port between the offsets given from the front and from the back.
@@ -64,7 +57,7 @@ fn first_left<'a>(
     direction: Direction,
     front: u32,
     back: u32,
-) -> LinkFound
+) -> Option<SubportLink>
     ensures { result ≡ first_found (left_in marks.now links.now owners.now flags.now port direction front back) }
 {
     let first = span_first(marks, links, owners, port, direction);
@@ -91,7 +84,7 @@ fn last_left<'a>(
     direction: Direction,
     front: u32,
     back: u32,
-) -> LinkFound
+) -> Option<SubportLink>
     ensures { result ≡ last_found (left_in marks.now links.now owners.now flags.now port direction front back) }
 {
     let first = span_first(marks, links, owners, port, direction);
@@ -100,79 +93,65 @@ fn last_left<'a>(
 }
 
 impl PortLinks {
-    pub fn step(self, graph: MultiPortGraph) -> PortLinksStep
+    pub fn step(self, graph: MultiPortGraph) -> Option<(SubportLink, PortLinks)>
         requires { MultiWf graph }
         ensures { (result ≡ step_front graph self) × (port_links_values result ≡ port_links_values (step_front graph self)) }
     {
         let port = self.port;
-        let seen = seen_in(&graph.graph.port_meta, &graph.copy_node, port.0);
-        match seen {
-            SeenPort::Dead => PortLinksStep::End,
-            SeenPort::Hidden => PortLinksStep::End,
-            SeenPort::Visible(_, direction) => {
-                let found = first_left(
-                    &graph.multiport,
-                    &graph.graph.port_link,
-                    &graph.graph.port_meta,
-                    &graph.copy_node,
-                    port.0,
-                    direction,
-                    self.front,
-                    self.back,
-                );
-                match found {
-                    LinkFound::None => PortLinksStep::End,
-                    LinkFound::Link(link) => {
-                        let from = link.from;
-                        PortLinksStep::Item(
-                            link,
-                            PortLinks {
-                                port: port,
-                                front: from.subport_offset as u32 + 1,
-                                back: self.back,
-                            },
-                        )
-                    }
-                }
-            }
-        }
+        let Ok((_, direction)) = block_port(&graph.graph.port_meta, &graph.copy_node, port) else {
+            return None;
+        };
+        let Some(link) = first_left(
+            &graph.multiport,
+            &graph.graph.port_link,
+            &graph.graph.port_meta,
+            &graph.copy_node,
+            port.0,
+            direction,
+            self.front,
+            self.back,
+        ) else {
+            return None;
+        };
+        let from = link.from;
+        Some((
+            link,
+            PortLinks {
+                port: port,
+                front: from.subport_offset as u32 + 1,
+                back: self.back,
+            },
+        ))
     }
 
-    pub fn step_back(self, graph: MultiPortGraph) -> PortLinksStep
+    pub fn step_back(self, graph: MultiPortGraph) -> Option<(SubportLink, PortLinks)>
         requires { MultiWf graph }
         ensures { (result ≡ step_back graph self) × (port_links_values result ≡ port_links_values (step_back graph self)) }
     {
         let port = self.port;
-        let seen = seen_in(&graph.graph.port_meta, &graph.copy_node, port.0);
-        match seen {
-            SeenPort::Dead => PortLinksStep::End,
-            SeenPort::Hidden => PortLinksStep::End,
-            SeenPort::Visible(_, direction) => {
-                let found = last_left(
-                    &graph.multiport,
-                    &graph.graph.port_link,
-                    &graph.graph.port_meta,
-                    &graph.copy_node,
-                    port.0,
-                    direction,
-                    self.front,
-                    self.back,
-                );
-                match found {
-                    LinkFound::None => PortLinksStep::End,
-                    LinkFound::Link(link) => {
-                        let from = link.from;
-                        PortLinksStep::Item(
-                            link,
-                            PortLinks {
-                                port: port,
-                                front: self.front,
-                                back: from.subport_offset as u32 + 1,
-                            },
-                        )
-                    }
-                }
-            }
-        }
+        let Ok((_, direction)) = block_port(&graph.graph.port_meta, &graph.copy_node, port) else {
+            return None;
+        };
+        let Some(link) = last_left(
+            &graph.multiport,
+            &graph.graph.port_link,
+            &graph.graph.port_meta,
+            &graph.copy_node,
+            port.0,
+            direction,
+            self.front,
+            self.back,
+        ) else {
+            return None;
+        };
+        let from = link.from;
+        Some((
+            link,
+            PortLinks {
+                port: port,
+                front: self.front,
+                back: from.subport_offset as u32 + 1,
+            },
+        ))
     }
 }

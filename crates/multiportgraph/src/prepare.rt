@@ -1,10 +1,9 @@
 // Preparing an end of a link: by the cases of mark and link.
-ghost use Rattle.std.specs.Prelude.{true, false, ◌≡◌, ◌+◌, ◌≤◌};
+ghost use Rattle.std.specs.Prelude.{true, false, ◌≡◌, ◌+◌, ◌≤◌, Ok};
 ghost use Rattle.port_tables.specs.Limits.{port_slots};
 ghost use Rattle.portgraph.specs.Calls.{add_node, link_ports, unlink_port};
 ghost use Rattle.portgraph.specs.Resize.{set_num_ports};
 ghost use Rattle.portgraph.specs.Model.{Wf};
-ghost use Rattle.portgraph.specs.declared.alloc.AddAnswer.TheVariants as lower_add;
 ghost use Rattle.multiportgraph.specs.Graph.{multi};
 ghost use Rattle.multiportgraph.specs.WellFormed.{MultiWf};
 ghost use Rattle.multiportgraph.specs.Reading.{copy_node};
@@ -21,9 +20,9 @@ use multi_tables::reads::{far_in, first_in};
 use port_tables::direction::Direction;
 use port_tables::index::{NODE_PORTS, NodeIndex, PortIndex};
 use port_tables::numbers::wide;
-use portgraph::alloc::{AddAnswer as LowerAdd, NodeAdded as LowerAdded};
+use portgraph::alloc::NodeAdded as LowerAdded;
 use portgraph::portgraph::PortGraph;
-use portgraph::resize::{PortsSet, SetAnswer as LowerSet};
+use portgraph::resize::PortsSet;
 
 // A move list that is long enough for every node.
 const MOVES: usize = 3 * NODE_PORTS;
@@ -135,7 +134,7 @@ impl MultiPortGraph {
         port: u32,
         direction: Direction,
     ) -> Prepared
-        requires { LinkedPort self port direction × (added ≡ add_node self.graph (copy_incoming direction) (copy_outgoing direction)) × (added.answer ≡ lower_add.Added node first) }
+        requires { LinkedPort self port direction × (added ≡ add_node self.graph (copy_incoming direction) (copy_outgoing direction)) × (added.answer ≡ Ok (node, first)) }
         ensures { result ≡ prepared_as self (split self port direction) }
     {
         let copy = first.0 + copy_at(direction);
@@ -160,7 +159,7 @@ impl MultiPortGraph {
             .graph
             .add_node(copy_incoming(direction), copy_outgoing(direction));
         let answer = added.answer;
-        let LowerAdd::Added(node, first) = answer else {
+        let Ok((node, first)) = answer else {
             return Prepared {
                 graph: self,
                 port: 0,
@@ -203,7 +202,7 @@ impl MultiPortGraph {
         let more_out = grown_outgoing(direction, hidden.count);
         let sized = resized(graph, hidden.node, more_in, more_out);
         let answer = sized.answer;
-        let LowerSet::Set(_) = answer else {
+        let Ok(_) = answer else {
             return Prepared {
                 graph: self,
                 port: 0,

@@ -5,16 +5,12 @@ ghost use Rattle.multiportgraph.specs.Walks.{start_node_ports, start_subports, s
 ghost use Rattle.multiportgraph.specs.WalkNumbers.{node_ports_start_numbers, node_subports_start_numbers, port_links_start_numbers, node_links_start_numbers, neighbours_start_numbers, node_connections_start_numbers};
 
 use crate::iter::{
-    Neighbours, NeighboursStart, NodeConnections, NodeConnectionsStart, NodeLinks, NodeLinksStart,
-    NodePorts, NodePortsStart, NodeSubports, NodeSubportsStart, Nodes, PortLinks, PortLinksStart,
-    Ports, Wires,
+    Neighbours, NodeConnections, NodeLinks, NodePorts, NodeSubports, Nodes, PortLinks, Ports, Wires,
 };
-use crate::lookups::BlockFound;
 use crate::multiportgraph::MultiPortGraph;
 use multi_tables::answers::Refusal;
 use multi_tables::marks::either_flagged;
-use multi_tables::reads::seen_in;
-use multi_tables::seen::SeenPort;
+use multi_tables::named::block_port;
 use port_tables::index::{NodeIndex, PortIndex};
 use port_tables::sides::Sides;
 
@@ -41,50 +37,40 @@ impl MultiPortGraph {
     }
 
     // Starts a walk over the ports of a block on one side or both.
-    pub fn ports(self, node: NodeIndex, sides: Sides) -> NodePortsStart
+    pub fn ports(self, node: NodeIndex, sides: Sides) -> Result<NodePorts, Refusal>
         ensures { (result ≡ start_node_ports self node sides) × (node_ports_start_numbers result ≡ node_ports_start_numbers (start_node_ports self node sides)) }
     {
-        let found = self.block(node);
-        match found {
-            BlockFound::Refused(refusal) => NodePortsStart::Refused(refusal),
-            BlockFound::Block(_) => NodePortsStart::Started(NodePorts {
-                node: node,
-                sides: sides,
-                held: 0,
-            }),
-        }
+        self.block(node)?;
+        Ok(NodePorts {
+            node: node,
+            sides: sides,
+            held: 0,
+        })
     }
 
     // Starts a walk over the subports of a block on one side or both.
-    pub fn subports(self, node: NodeIndex, sides: Sides) -> NodeSubportsStart
+    pub fn subports(self, node: NodeIndex, sides: Sides) -> Result<NodeSubports, Refusal>
         ensures { (result ≡ start_subports self node sides) × (node_subports_start_numbers result ≡ node_subports_start_numbers (start_subports self node sides)) }
     {
-        let found = self.block(node);
-        match found {
-            BlockFound::Refused(refusal) => NodeSubportsStart::Refused(refusal),
-            BlockFound::Block(_) => NodeSubportsStart::Started(NodeSubports {
-                node: node,
-                sides: sides,
-                held: 0,
-                offset: 0,
-            }),
-        }
+        self.block(node)?;
+        Ok(NodeSubports {
+            node: node,
+            sides: sides,
+            held: 0,
+            offset: 0,
+        })
     }
 
     // Starts a walk over the links of a port.
-    pub fn port_links(self, port: PortIndex) -> PortLinksStart
+    pub fn port_links(self, port: PortIndex) -> Result<PortLinks, Refusal>
         ensures { (result ≡ start_port_links self port) × (port_links_start_numbers result ≡ port_links_start_numbers (start_port_links self port)) }
     {
-        let seen = seen_in(&self.graph.port_meta, &self.copy_node, port.0);
-        match seen {
-            SeenPort::Dead => PortLinksStart::Refused(Refusal::UnknownPort(port)),
-            SeenPort::Hidden => PortLinksStart::Refused(Refusal::HiddenPort(port)),
-            SeenPort::Visible(_, _) => PortLinksStart::Started(PortLinks {
-                port: port,
-                front: 0,
-                back: 0,
-            }),
-        }
+        block_port(&self.graph.port_meta, &self.copy_node, port)?;
+        Ok(PortLinks {
+            port: port,
+            front: 0,
+            back: 0,
+        })
     }
 
     // Starts a walk over the links of a block; links to a port from `skip_from` on, `skip_to` excluded, are left out.
@@ -94,51 +80,50 @@ impl MultiPortGraph {
         sides: Sides,
         skip_from: u32,
         skip_to: u32,
-    ) -> NodeLinksStart
+    ) -> Result<NodeLinks, Refusal>
         ensures { (result ≡ start_links self node sides skip_from skip_to) × (node_links_start_numbers result ≡ node_links_start_numbers (start_links self node sides skip_from skip_to)) }
     {
-        let found = self.block(node);
-        match found {
-            BlockFound::Refused(refusal) => NodeLinksStart::Refused(refusal),
-            BlockFound::Block(_) => NodeLinksStart::Started(NodeLinks {
-                node: node,
-                sides: sides,
-                skip_from: skip_from,
-                skip_to: skip_to,
-                held: 0,
-                offset: 0,
-            }),
-        }
+        self.block(node)?;
+        Ok(NodeLinks {
+            node: node,
+            sides: sides,
+            skip_from: skip_from,
+            skip_to: skip_to,
+            held: 0,
+            offset: 0,
+        })
     }
 
     // Starts a walk over the neighbours of a block; with the flag, links to its own outgoing ports are left out.
-    pub fn neighbours(self, node: NodeIndex, sides: Sides, ignore_self: bool) -> NeighboursStart
+    pub fn neighbours(
+        self,
+        node: NodeIndex,
+        sides: Sides,
+        ignore_self: bool,
+    ) -> Result<Neighbours, Refusal>
         ensures { (result ≡ start_neighbours self node sides ignore_self) × (neighbours_start_numbers result ≡ neighbours_start_numbers (start_neighbours self node sides ignore_self)) }
     {
-        let found = self.block(node);
-        match found {
-            BlockFound::Refused(refusal) => NeighboursStart::Refused(refusal),
-            BlockFound::Block(_) => NeighboursStart::Started(Neighbours {
-                node: node,
-                sides: sides,
-                ignore_self: ignore_self,
-                held: 0,
-                offset: 0,
-            }),
-        }
+        self.block(node)?;
+        Ok(Neighbours {
+            node: node,
+            sides: sides,
+            ignore_self: ignore_self,
+            held: 0,
+            offset: 0,
+        })
     }
 
     // Starts a walk over the links from one block's outgoing side to another block.
-    pub fn get_connections(self, from: NodeIndex, to: NodeIndex) -> NodeConnectionsStart
+    pub fn get_connections(self, from: NodeIndex, to: NodeIndex) -> Result<NodeConnections, Refusal>
         ensures { (result ≡ start_connections self from to) × (node_connections_start_numbers result ≡ node_connections_start_numbers (start_connections self from to)) }
     {
         let graph = self.graph;
         if graph.contains_node(from) {
             if graph.contains_node(to) {
                 if either_flagged(&self.copy_node, from.0, to.0) {
-                    return NodeConnectionsStart::Refused(Refusal::HiddenNode);
+                    return Err(Refusal::HiddenNode);
                 }
-                return NodeConnectionsStart::Started(NodeConnections {
+                return Ok(NodeConnections {
                     node: from,
                     target: to,
                     held: 0,
@@ -146,6 +131,6 @@ impl MultiPortGraph {
                 });
             }
         }
-        NodeConnectionsStart::Refused(Refusal::UnknownNode)
+        Err(Refusal::UnknownNode)
     }
 }

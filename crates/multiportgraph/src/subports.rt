@@ -6,8 +6,7 @@ ghost use Rattle.multiportgraph.specs.WalkNumbers.{node_subports_values};
 ghost use Rattle.multiportgraph.specs.WellFormed.{MultiWf};
 ghost use Rattle.multiportgraph.specs.WalkScans.{first_subport, subport_port, port_subports_in, subports_rest, subports_beyond};
 
-use crate::iter::{NodeSubports, NodeSubportsStep};
-use crate::lookups::BlockFound;
+use crate::iter::NodeSubports;
 use crate::multiportgraph::MultiPortGraph;
 use crate::walks::held_seen;
 use multi_tables::answers::SubportIndex;
@@ -15,14 +14,8 @@ use multi_tables::reads::seen_in;
 use multi_tables::scans::{capped, span_count};
 use multi_tables::seen::SeenPort;
 use port_tables::index::{NODE_SLOTS, PORT_SLOTS, PortIndex};
-use port_tables::numbers::{wide, wide16};
+use port_tables::numbers::wide;
 use port_tables::sides::{ports_from, ports_to};
-
-#[derive(Clone, Copy)]
-pub enum SubportFound {
-    Subport(SubportIndex),
-    None,
-}
 
 // The subport of a port at an offset, if it has one.
 fn subport_from<'a>(
@@ -32,22 +25,22 @@ fn subport_from<'a>(
     flags: &'a [bool; NODE_SLOTS],
     port: u32,
     offset: usize,
-) -> SubportFound
+) -> Option<SubportIndex>
     ensures { (result ≡ first_subport (port_subports_in marks.now links.now owners.now flags.now port offset))
         × (subport_port port result ≡ port) }
 {
     let seen = seen_in(owners, flags, port);
     match seen {
-        SeenPort::Dead => SubportFound::None,
-        SeenPort::Hidden => SubportFound::None,
+        SeenPort::Dead => None,
+        SeenPort::Hidden => None,
         SeenPort::Visible(_, direction) => {
             if offset < span_count(marks, links, owners, port, direction) {
-                return SubportFound::Subport(SubportIndex {
+                return Some(SubportIndex {
                     port: PortIndex(port),
                     subport_offset: offset as u16,
                 });
             }
-            SubportFound::None
+            None
         }
     }
 }
@@ -61,26 +54,20 @@ fn next_subport<'a>(
     from: usize,
     offset: usize,
     end: usize,
-) -> SubportFound
+) -> Option<SubportIndex>
     ensures { (result ≡ first_subport (subports_rest marks.now links.now owners.now flags.now from offset (min end port_slots - from)))
         × (subport_port 0 result < port_slots) }
 {
     let stop = capped(end);
-    let mut port = from;
     let mut first = offset;
-    while port < stop {
+    for port in from..stop {
         let found = subport_from(marks, links, owners, flags, port as u32, first);
-        match found {
-            SubportFound::Subport(_) => {
-                return found;
-            }
-            SubportFound::None => {
-                port += 1;
-                first = 0;
-            }
+        if let Some(_) = found {
+            return found;
         }
+        first = 0;
     }
-    SubportFound::None
+    None
 }
 
 // The first subport of the ports from `from` on and below `end` that lies beyond what a cursor holds.
@@ -93,7 +80,7 @@ fn subport_beyond<'a>(
     end: usize,
     held: u32,
     offset: u16,
-) -> SubportFound
+) -> Option<SubportIndex>
     ensures { (result ≡ first_subport (subports_beyond marks.now links.now owners.now flags.now from end held offset))
         × (subport_port 0 result < port_slots) }
 {
@@ -107,21 +94,21 @@ fn subport_beyond<'a>(
         owners,
         flags,
         place - 1,
-        wide16(offset) + 1,
+        usize::from(offset) + 1,
         end,
     )
 }
 
 impl NodeSubports {
-    pub fn step(self, graph: MultiPortGraph) -> NodeSubportsStep
+    pub fn step(self, graph: MultiPortGraph) -> Option<(SubportIndex, NodeSubports)>
         requires { MultiWf graph }
         ensures { (result ≡ step_subports graph self) × (node_subports_values result ≡ node_subports_values (step_subports graph self)) }
     {
         let node = self.node;
         let sides = self.sides;
         let block = graph.block(node);
-        let BlockFound::Block(meta) = block else {
-            return NodeSubportsStep::End;
+        let Ok(meta) = block else {
+            return None;
         };
         if held_seen(&graph.graph.port_meta, &graph.copy_node, self.held) {
             let found = subport_beyond(
@@ -135,10 +122,10 @@ impl NodeSubports {
                 self.offset,
             );
             return match found {
-                SubportFound::None => NodeSubportsStep::End,
-                SubportFound::Subport(subport) => {
+                None => None,
+                Some(subport) => {
                     let port = subport.port;
-                    NodeSubportsStep::Item(
+                    Some((
                         subport,
                         NodeSubports {
                             node: node,
@@ -146,10 +133,10 @@ impl NodeSubports {
                             held: port.0 + 1,
                             offset: subport.subport_offset,
                         },
-                    )
+                    ))
                 }
             };
         }
-        NodeSubportsStep::End
+        None
     }
 }

@@ -12,14 +12,13 @@ ghost use Rattle.multiportgraph.specs.WellFormed.{MultiWf};
 ghost use Rattle.multiportgraph.specs.Presumed.{OnBlock, SplitPort, LeftPort};
 
 use crate::copies::copy_in;
-use crate::lookups::DirectionAnswer;
-use crate::multiportgraph::{MultiPortGraph, PortTidied, TidyAnswer};
+use crate::multiportgraph::{MultiPortGraph, PortTidied};
 use crate::prepare::{linked, resized};
 use multi_tables::marks::marked;
 use multi_tables::reads::{first_in, subports_in};
 use port_tables::direction::Direction;
 use port_tables::index::{PORT_SLOTS, PortIndex};
-use port_tables::numbers::{less, wide};
+use port_tables::numbers::wide;
 use port_tables::tables::at;
 
 // How many of `count` ports from `first` on are left without the unlinked ones above the highest linked one.
@@ -27,14 +26,12 @@ pub(crate) fn linked_from(links: &[u32; PORT_SLOTS], first: usize, count: usize)
     requires { first + count ≤ port_slots }
     ensures { result ≡ linked_from links.now first count }
 {
-    let mut left: usize = count;
-    while 0 < left {
-        if links[first + (left - 1)] != 0 {
-            return left;
+    for k in (0..count).rev() {
+        if links[first + k] != 0 {
+            return k + 1;
         }
-        left -= 1;
     }
-    left
+    0
 }
 
 // The counts of a hidden node with so many subports on this side.
@@ -85,7 +82,9 @@ impl MultiPortGraph {
         let incoming = left_incoming(direction, left);
         let outgoing = left_outgoing(direction, left);
         let sized = resized(graph, hidden.node, incoming, outgoing);
-        let subports = less(self.subport_count, less(count, left));
+        let subports = self
+            .subport_count
+            .saturating_sub(count.saturating_sub(left));
         self.copy_moved(sized.graph, port, hidden.copy, subports)
     }
 
@@ -117,16 +116,16 @@ impl MultiPortGraph {
         ensures { (result ≡ tidy_port self port.0) × (tidy_numbers result.answer ≡ tidy_numbers (tidy_port self port.0).answer) }
     {
         match self.port_direction(port) {
-            DirectionAnswer::Found(direction) => {
+            Ok(direction) => {
                 return PortTidied {
                     graph: self.tidied(port.0, direction),
-                    answer: TidyAnswer::Tidied,
+                    answer: Ok(()),
                 };
             }
-            DirectionAnswer::Refused(refusal) => {
+            Err(refusal) => {
                 return PortTidied {
                     graph: self,
-                    answer: TidyAnswer::Refused(refusal),
+                    answer: Err(refusal),
                 };
             }
         }

@@ -7,15 +7,13 @@ ghost use Rattle.multiportgraph.specs.WellFormed.{MultiWf};
 ghost use Rattle.multiportgraph.specs.WalkScans.{held_in, block_slot, ports_in, first_or, last_or};
 ghost use Rattle.multi_tables.specs.Scans.{end_before};
 
-use crate::iter::{NodePorts, NodePortsStep, Nodes, NodesStep, Ports, PortsStep};
-use crate::lookups::BlockFound;
+use crate::iter::{NodePorts, Nodes, Ports};
 use crate::multiportgraph::MultiPortGraph;
 use multi_tables::marks::flagged;
-use multi_tables::reads::seen_in;
-use multi_tables::seen::SeenPort;
+use multi_tables::named::block_port;
 use port_tables::index::{NODE_SLOTS, NodeIndex, PORT_SLOTS, PortIndex};
 use port_tables::node_entry::NodeSlot;
-use port_tables::numbers::{larger, wide};
+use port_tables::numbers::wide;
 use port_tables::sides::{ports_from, ports_to};
 
 // Whether the port that a cursor holds is still there.
@@ -29,12 +27,7 @@ pub(crate) fn held_seen<'a>(
     if held == 0 {
         return true;
     }
-    let seen = seen_in(owners, flags, held - 1);
-    match seen {
-        SeenPort::Dead => false,
-        SeenPort::Hidden => false,
-        SeenPort::Visible(_, _) => true,
-    }
+    block_port(owners, flags, PortIndex(held - 1)).is_ok()
 }
 
 // Of `count` items those before what was given last from the back.
@@ -59,7 +52,7 @@ fn is_block(slot: NodeSlot, hidden: bool) -> bool
 }
 
 impl MultiPortGraph {
-    // Whether the block that a cursor holds is still there.
+    // Whether the block that a cursor holds is still there. Stays beside the other graph's: each asks its own graph what it contains.
     fn node_held(self, held: u32) -> bool
         ensures { result ≡ node_held self held }
     {
@@ -71,7 +64,7 @@ impl MultiPortGraph {
 }
 
 impl Nodes {
-    pub fn step(self, graph: MultiPortGraph) -> NodesStep
+    pub fn step(self, graph: MultiPortGraph) -> Option<(NodeIndex, Nodes)>
         ensures { (result ≡ step_nodes graph self) × (nodes_values result ≡ nodes_values (step_nodes graph self)) }
     {
         let front = self.front;
@@ -81,26 +74,24 @@ impl Nodes {
                 let lower = graph.graph;
                 let slots = lower.node_slots();
                 let end = end_before(back, NODE_SLOTS);
-                let mut n = wide(front);
-                while n < end {
+                for n in wide(front)..end {
                     let slot = slots[n];
                     if is_block(slot, flagged(&graph.copy_node, n)) {
-                        return NodesStep::Item(
+                        return Some((
                             NodeIndex(n as u32),
                             Nodes {
                                 front: n as u32 + 1,
                                 back: back,
                             },
-                        );
+                        ));
                     }
-                    n += 1;
                 }
             }
         }
-        NodesStep::End
+        None
     }
 
-    pub fn step_back(self, graph: MultiPortGraph) -> NodesStep
+    pub fn step_back(self, graph: MultiPortGraph) -> Option<(NodeIndex, Nodes)>
         ensures { (result ≡ step_nodes_back graph self) × (nodes_values result ≡ nodes_values (step_nodes_back graph self)) }
     {
         let front = self.front;
@@ -110,24 +101,22 @@ impl Nodes {
                 let lower = graph.graph;
                 let slots = lower.node_slots();
                 let from = wide(front);
-                let mut end = end_before(back, NODE_SLOTS);
-                while from < end {
-                    let n = end - 1;
+                let end = end_before(back, NODE_SLOTS);
+                for n in (from..end).rev() {
                     let slot = slots[n];
                     if is_block(slot, flagged(&graph.copy_node, n)) {
-                        return NodesStep::Item(
+                        return Some((
                             NodeIndex(n as u32),
                             Nodes {
                                 front: front,
                                 back: n as u32 + 1,
                             },
-                        );
+                        ));
                     }
-                    end = n;
                 }
             }
         }
-        NodesStep::End
+        None
     }
 }
 
@@ -141,12 +130,10 @@ fn first_port<'a>(
     requires { end ≤ port_slots }
     ensures { result ≡ first_or port_slots (ports_in owners.now flags.now from end) }
 {
-    let mut port = from;
-    while port < end {
+    for port in from..end {
         if held_seen(owners, flags, port as u32 + 1) {
             return port;
         }
-        port += 1;
     }
     PORT_SLOTS
 }
@@ -161,19 +148,16 @@ fn last_port<'a>(
     requires { end ≤ port_slots }
     ensures { result ≡ last_or port_slots (ports_in owners.now flags.now from end) }
 {
-    let mut stop = end;
-    while from < stop {
-        let port = stop - 1;
+    for port in (from..end).rev() {
         if held_seen(owners, flags, port as u32 + 1) {
             return port;
         }
-        stop = port;
     }
     PORT_SLOTS
 }
 
 impl Ports {
-    pub fn step(self, graph: MultiPortGraph) -> PortsStep
+    pub fn step(self, graph: MultiPortGraph) -> Option<(PortIndex, Ports)>
         requires { MultiWf graph }
         ensures { (result ≡ step_all_ports graph self) × (ports_values result ≡ ports_values (step_all_ports graph self)) }
     {
@@ -184,20 +168,20 @@ impl Ports {
                 let end = end_before(back, PORT_SLOTS);
                 let port = first_port(&graph.graph.port_meta, &graph.copy_node, wide(front), end);
                 if port < PORT_SLOTS {
-                    return PortsStep::Item(
+                    return Some((
                         PortIndex(port as u32),
                         Ports {
                             front: port as u32 + 1,
                             back: back,
                         },
-                    );
+                    ));
                 }
             }
         }
-        PortsStep::End
+        None
     }
 
-    pub fn step_back(self, graph: MultiPortGraph) -> PortsStep
+    pub fn step_back(self, graph: MultiPortGraph) -> Option<(PortIndex, Ports)>
         requires { MultiWf graph }
         ensures { (result ≡ step_all_ports_back graph self) × (ports_values result ≡ ports_values (step_all_ports_back graph self)) }
     {
@@ -208,22 +192,22 @@ impl Ports {
                 let end = end_before(back, PORT_SLOTS);
                 let port = last_port(&graph.graph.port_meta, &graph.copy_node, wide(front), end);
                 if port < PORT_SLOTS {
-                    return PortsStep::Item(
+                    return Some((
                         PortIndex(port as u32),
                         Ports {
                             front: front,
                             back: port as u32 + 1,
                         },
-                    );
+                    ));
                 }
             }
         }
-        PortsStep::End
+        None
     }
 }
 
 impl NodePorts {
-    pub fn step(self, graph: MultiPortGraph) -> NodePortsStep
+    pub fn step(self, graph: MultiPortGraph) -> Option<(PortIndex, NodePorts)>
         requires { MultiWf graph }
         ensures { (result ≡ step_node_ports graph self) × (node_ports_values result ≡ node_ports_values (step_node_ports graph self)) }
     {
@@ -231,22 +215,22 @@ impl NodePorts {
         let sides = self.sides;
         let held = self.held;
         let block = graph.block(node);
-        let BlockFound::Block(meta) = block else {
-            return NodePortsStep::End;
+        let Ok(meta) = block else {
+            return None;
         };
         if held_seen(&graph.graph.port_meta, &graph.copy_node, held) {
-            let port = larger(ports_from(meta, sides), wide(held));
+            let port = ports_from(meta, sides).max(wide(held));
             if port < ports_to(meta, sides) {
-                return NodePortsStep::Item(
+                return Some((
                     PortIndex(port as u32),
                     NodePorts {
                         node: node,
                         sides: sides,
                         held: port as u32 + 1,
                     },
-                );
+                ));
             }
         }
-        NodePortsStep::End
+        None
     }
 }

@@ -1,5 +1,5 @@
 -- What the entries of the tables mean.
-use Rattle.std.specs.Prelude.{cond, Bool, true, false, List, [], ◌∷◌, ℕ, ◌+◌, ◌*◌, ◌-◌, ◌/◌, ◌%◌, eqb, get_or, set}
+use Rattle.std.specs.Prelude.{cond, Bool, true, false, List, [], ◌∷◌, ℕ, ◌+◌, ◌*◌, ◌-◌, ◌/◌, ◌%◌, eqb, get_or, set, Option, Some, None}
 use Rattle.port_tables.specs.declared.direction.Direction.{Direction}
 use Rattle.port_tables.specs.declared.direction.Direction.TheVariants.{Incoming, Outgoing}
 use Rattle.port_tables.specs.declared.port_entry.PortEntry.{PortEntry}
@@ -9,14 +9,10 @@ use Rattle.port_tables.specs.declared.node_entry.NodeMeta.{NodeMeta}
 use Rattle.port_tables.specs.declared.node_entry.NodeEntry.{NodeEntry}
 use Rattle.port_tables.specs.declared.index.NodeIndex.{NodeIndex}
 use Rattle.port_tables.specs.declared.index.PortIndex.{PortIndex}
-use Rattle.port_tables.specs.declared.node_entry.MaybeNodeMeta.{MaybeNodeMeta}
-use Rattle.port_tables.specs.declared.index.MaybeNodeIndex.{MaybeNodeIndex}
 use Rattle.port_tables.specs.declared.sides.Sides.{Sides}
 use Rattle.port_tables.specs.declared.sides.Sides.TheVariants.{One, Both}
 use Rattle.port_tables.specs.declared.port_entry.PortEntry.TheVariants as port_variants
 use Rattle.port_tables.specs.declared.node_entry.NodeEntry.TheVariants as node_variants
-use Rattle.port_tables.specs.declared.node_entry.MaybeNodeMeta.TheVariants as maybe_meta
-use Rattle.port_tables.specs.declared.index.MaybeNodeIndex.TheVariants as maybe_node
 
 abbrev pub reversed : Direction → Direction
 reversed Incoming = Outgoing
@@ -84,13 +80,13 @@ node# n = record { 0 = n }
 abbrev pub port# : ℕ → PortIndex
 port# p = record { 0 = p }
 
-abbrev pub meta_of_entry : NodeEntry → MaybeNodeMeta
-meta_of_entry (node_variants.Free f) = maybe_meta.None
-meta_of_entry (node_variants.Node m) = maybe_meta.Some m
+abbrev pub meta_of_entry : NodeEntry → Option NodeMeta
+meta_of_entry (node_variants.Free f) = None
+meta_of_entry (node_variants.Node m) = Some m
 
-abbrev pub node_of : PortEntry → MaybeNodeIndex
-node_of port_variants.Free = maybe_node.None
-node_of (port_variants.Port m) = maybe_node.Some m.node
+abbrev pub node_of : PortEntry → Option NodeIndex
+node_of port_variants.Free = None
+node_of (port_variants.Port m) = Some m.node
 
 abbrev pub same_side : Direction → Direction → Bool
 same_side Incoming Incoming = true

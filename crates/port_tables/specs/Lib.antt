@@ -17,6 +17,7 @@ pub mod Places
 -- laws of lists
 pub mod Listing
 -- steps that the functions' proofs cite
+pub mod SameSides
 pub mod TableSteps
 pub mod ResizeLinkSteps
 pub mod NodeWordSteps

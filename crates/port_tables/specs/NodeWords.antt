@@ -1,11 +1,11 @@
 -- The node table as numbers, five for each slot, and which of them are canonical: those that the table itself has.
-use Rattle.std.specs.Prelude.{cond, List, [], ◌∷◌, ◌++◌, ◌≡◌, ℕ, ◌+◌, ◌*◌, ltb, eqb, get_or, set}
+use Rattle.std.specs.Prelude.{cond, List, [], ◌∷◌, ◌++◌, ◌≡◌, ℕ, ◌+◌, ◌*◌, ltb, eqb, get_or, set, Option}
 use Rattle.port_tables.specs.Entries.{free_slot_of, node_slot_of, meta_of, fresh_slot, meta_of_entry}
 use Rattle.port_tables.specs.declared.node_entry.NodeSlot.{NodeSlot}
 use Rattle.port_tables.specs.declared.node_entry.NodeEntry.{NodeEntry}
 use Rattle.port_tables.specs.Limits.{node_slots}
-use Rattle.port_tables.specs.declared.node_entry.MaybeNodeMeta.{MaybeNodeMeta}
 use Rattle.port_tables.specs.declared.node_entry.NodeEntry.TheVariants as node_variants
+use Rattle.port_tables.specs.declared.node_entry.NodeMeta.{NodeMeta}
 
 -- a number as one of 16 bits; 0 for one that is too large, which no call stores
 unfoldable pub narrow : ℕ → ℕ
@@ -58,5 +58,5 @@ unfoldable pub put_slot : List NodeSlot → ℕ → NodeSlot → List NodeSlot
 put_slot nodes n s = cond (ltb n node_slots) (set nodes n s) nodes
 
 -- the node with a number, if it is live
-abbrev pub meta_in : List ℕ → ℕ → MaybeNodeMeta
+abbrev pub meta_in : List ℕ → ℕ → Option NodeMeta
 meta_in words n = meta_of_entry (slot_in words n).entry

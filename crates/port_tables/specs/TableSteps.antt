@@ -1,9 +1,11 @@
 -- What single steps and single turns of a loop do to the port tables.
 -- A law of a step says which definition its stores amount to; a law of a turn takes one port off the work that is left.
-use Rattle.std.specs.Prelude.{◌≡◌, refl, List, [], ◌∷◌, Bool, true, false, cond, ℕ, ◌<◌, ◌≤◌, zero, suc, ◌+◌, ◌-◌, ◌*◌, get_or, set, length, eqb}
-use Rattle.std.proofs.Common.{ap, arith, suc-add, zero-add, lt-ltb, le-ltb, le-leb, ne_eqb, eq-eqb}
+use Rattle.std.specs.Prelude.{◌≡◌, refl, List, [], ◌∷◌, ◌++◌, Bool, true, false, cond, ℕ, ◌<◌, ◌≤◌, zero, suc, ◌+◌, ◌-◌, ◌*◌, get_or, set, length, take, drop, eqb}
+use Rattle.std.proofs.Common.{ap, arith, length-drop, suc-add, zero-add, lt-ltb, le-ltb, le-leb, ne_eqb, eq-eqb}
+use Rattle.std.proofs.Math.ListN.{replicate}
 use Rattle.std.proofs.lemmas.List.Edits.{sets}
 use Rattle.std.proofs.lemmas.Bool.{lt-leb}
+use Rattle.std.proofs.Math.Seq.{length-take-le}
 use Rattle.port_tables.specs.Limits.{port_slots, node_ports, no_port}
 use Rattle.port_tables.specs.Tables.{at, put, head_at, put_head, fill, fill_range, link_both, cut_far, cut, link_count, told_link, relink, move_port, chain_block, cut_range, cut_count, move_up, transfer, drop_events, move_up_events, move_down_events, move_down}
 
@@ -60,6 +62,22 @@ fill_more (x ∷ l) (suc i) k v = rw suc-add (ap (λ r. x ∷ r) (fill_more l i 
 
 pub fill_turn : (t : List ℕ) (i k v : ℕ) → set (fill t i k v) (i + k) v ≡ fill t i (k + 1) v
 fill_turn t i k v = let e : k + 1 ≡ suc k = omega arith in rw e (fill_more t i k v)
+
+-- the list with a part of n elements, all of them v, in the place of those that stood there
+pub fill_part {ℓ} : {A : Type ℓ} (t : List A) (i n : ℕ) (v : A) → i + n ≤ length t → take i t ++ (replicate n v ++ drop n (drop i t)) ≡ fill t i n v
+unfolding fill
+fill_part [] zero zero v h = refl
+fill_part [] zero (suc n) v h = absurd (omega arith)
+fill_part [] (suc i) n v h = absurd (omega arith)
+fill_part (x ∷ l) zero zero v h = refl
+fill_part (x ∷ l) zero (suc n) v h = ap (λ r. v ∷ r) (fill_part l zero n v (omega arith))
+fill_part (x ∷ l) (suc i) n v h = ap (λ r. x ∷ r) (fill_part l i n v (omega arith))
+
+-- what `fill` on the part of m = n slots from the i-th on leaves
+pub part_filled : (t new : List ℕ) (i m n v : ℕ) → m ≡ n → i + n ≤ length t → new ≡ replicate (length (take m (drop i t))) v → take i t ++ (new ++ drop m (drop i t)) ≡ fill t i n v
+part_filled t new i m n v e h f =
+    let long : n ≤ length (drop i t) = omega (arith, length-drop i t) in
+    rw (f, e, length-take-le n (drop i t) long) (fill_part t i n v h)
 
 pub fill_range_done : (t t' : List ℕ) (i i' n k v : ℕ) → i' ≡ i → k ≡ n → i + n ≤ port_slots → t' ≡ fill t i' k v → t' ≡ fill_range t i n v
 unfolding fill_range

@@ -2,7 +2,7 @@
 ghost use Rattle.std.specs.Prelude.{◌≡◌};
 ghost use Rattle.port_tables.specs.Entries.{reversed, side_number};
 
-#[derive(Clone, Copy)]
+#[derive(Clone, Copy, PartialEq, Eq)]
 pub enum Direction {
     // Input to a node.
     Incoming,
@@ -11,7 +11,7 @@ pub enum Direction {
 }
 
 impl Direction {
-    // The opposite direction.
+    // The opposite direction. Stays a method: portgraph has it under this name.
     pub fn reverse(self) -> Direction
         ensures { (result ≡ reversed self) × (side_number result ≡ side_number (reversed self)) }
     {
@@ -21,7 +21,7 @@ impl Direction {
         }
     }
 
-    // 0 for incoming, 1 for outgoing.
+    // 0 for incoming, 1 for outgoing. Stays a method: portgraph has it under this name.
     pub fn index(self) -> u32
         ensures { result ≡ side_number self }
     {

@@ -21,39 +21,11 @@ pub struct NodeIndex(pub u32);
 #[derive(Clone, Copy)]
 pub struct PortIndex(pub u32);
 
-// A node's number, or none.
-#[derive(Clone, Copy)]
-pub enum MaybeNodeIndex {
-    Some(NodeIndex),
-    None,
-}
-
-// A port's number, or none.
-#[derive(Clone, Copy)]
-pub enum MaybePortIndex {
-    Some(PortIndex),
-    None,
-}
-
 // A port's place within its node: the direction, and the position on that side.
 #[derive(Clone, Copy)]
 pub struct PortOffset {
     pub direction: Direction,
     pub index: u16,
-}
-
-// A port's place within its node, or none.
-#[derive(Clone, Copy)]
-pub enum MaybePortOffset {
-    Some(PortOffset),
-    None,
-}
-
-// A direction, or none.
-#[derive(Clone, Copy)]
-pub enum MaybeDirection {
-    Some(Direction),
-    None,
 }
 
 impl PortOffset {
@@ -66,6 +38,7 @@ impl PortOffset {
         }
     }
 
+    // Stays beside new_outgoing: portgraph has both names.
     pub fn new_incoming(index: u16) -> Self
         ensures { (result.direction ≡ Direction.Incoming) × (result.index ≡ index) }
     {

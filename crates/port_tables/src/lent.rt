@@ -5,7 +5,7 @@ ghost use Rattle.port_tables.specs.Entries.{next_of, with_prev};
 ghost use Rattle.port_tables.specs.NodeWords.{narrow, slot_of_words, slots_in, slot_in, put_slot, meta_in, Own, StaysCanonical};
 
 use crate::index::{NODE_SLOTS, PortIndex};
-use crate::node_entry::{MaybeNodeMeta, NodeEntry, NodeMeta, NodeSlot};
+use crate::node_entry::{NodeEntry, NodeMeta, NodeSlot};
 use crate::numbers::wide;
 
 // The numbers of all node slots.
@@ -28,7 +28,7 @@ pub struct Counts {
 fn narrow(x: u32) -> u16
     ensures { result ≡ narrow x }
 {
-    if x < 65536 { x as u16 } else { 0 }
+    u16::try_from(x).unwrap_or(0)
 }
 
 // Five numbers, read as a slot.
@@ -125,13 +125,13 @@ pub fn put_prev(nodes: &mut [u32; NODE_WORDS], n: usize, prev: u16)
 }
 
 // The meta data of a node, if it is live.
-pub fn meta_in(nodes: &[u32; NODE_WORDS], node: u32) -> MaybeNodeMeta
+pub fn meta_in(nodes: &[u32; NODE_WORDS], node: u32) -> Option<NodeMeta>
     ensures { result ≡ meta_in nodes.now node }
 {
     let slot = slot_in(nodes, wide(node));
     let entry = slot.entry;
     let NodeEntry::Node(meta) = entry else {
-        return MaybeNodeMeta::None;
+        return None;
     };
-    MaybeNodeMeta::Some(meta)
+    Some(meta)
 }

@@ -4,7 +4,6 @@ ghost use Rattle.port_tables.specs.Entries.{is_node, next_of, with_prev, free_sl
 
 use crate::direction::Direction;
 use crate::index::PortIndex;
-use crate::numbers::wide16;
 
 // Meta data of a valid node.
 #[derive(Clone, Copy)]
@@ -33,13 +32,6 @@ pub enum NodeEntry {
     Node(NodeMeta),
 }
 
-// A node's meta data, or none.
-#[derive(Clone, Copy)]
-pub enum MaybeNodeMeta {
-    Some(NodeMeta),
-    None,
-}
-
 // An element of the node table.
 #[derive(Clone, Copy)]
 pub struct NodeSlot {
@@ -50,26 +42,26 @@ impl NodeMeta {
     pub fn incoming(self) -> usize
         ensures { result ≡ self.incoming }
     {
-        wide16(self.incoming)
+        usize::from(self.incoming)
     }
 
     pub fn outgoing(self) -> usize
         ensures { result ≡ self.outgoing }
     {
-        wide16(self.outgoing)
+        usize::from(self.outgoing)
     }
 
     pub fn capacity(self) -> usize
         ensures { result ≡ self.capacity }
     {
-        wide16(self.capacity)
+        usize::from(self.capacity)
     }
 
     // The number of ports on both sides.
     pub fn port_count(self) -> usize
         ensures { result ≡ self.incoming + self.outgoing }
     {
-        wide16(self.incoming) + wide16(self.outgoing)
+        usize::from(self.incoming) + usize::from(self.outgoing)
     }
 
     // The number of ports on one side.
@@ -77,8 +69,8 @@ impl NodeMeta {
         ensures { result ≡ ports_on self direction }
     {
         match direction {
-            Direction::Incoming => wide16(self.incoming),
-            Direction::Outgoing => wide16(self.outgoing),
+            Direction::Incoming => usize::from(self.incoming),
+            Direction::Outgoing => usize::from(self.outgoing),
         }
     }
 }

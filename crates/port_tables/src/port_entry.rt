@@ -15,7 +15,7 @@ pub struct PortMeta {
     pub direction: Direction,
 }
 
-// An entry, read.
+// An entry, read. Stays an enum of its own: portgraph has it under these names, beside the node's entry.
 #[derive(Clone, Copy)]
 pub enum PortEntry {
     // No port is stored here.

@@ -6,7 +6,7 @@ ghost use Rattle.port_tables.specs.ResizeLinks.{round_up, same_counts, fits_insi
 
 use crate::index::PORT_SLOTS;
 use crate::node_entry::NodeMeta;
-use crate::numbers::{less, smaller, wide, wide16};
+use crate::numbers::wide;
 use crate::tables::{drop_ports, fill, shift_ports, transfer_ports};
 
 // A total rounded up to a power of two; 1 for a total of 0.
@@ -14,19 +14,15 @@ pub fn round_up(total: usize) -> usize
     requires { total ≤ port_slots }
     ensures { result ≡ round_up total }
 {
-    let mut power: usize = 1;
-    while power < total {
-        power = power * 2;
-    }
-    power
+    total.next_power_of_two()
 }
 
 // Whether a node has these counts already.
 pub fn same_counts(meta: NodeMeta, incoming: usize, outgoing: usize) -> bool
     ensures { result ≡ same_counts meta incoming outgoing }
 {
-    if incoming == wide16(meta.incoming) {
-        return outgoing == wide16(meta.outgoing);
+    if incoming == usize::from(meta.incoming) {
+        return outgoing == usize::from(meta.outgoing);
     }
     false
 }
@@ -38,7 +34,7 @@ pub fn fits_inside(meta: NodeMeta, incoming: usize, outgoing: usize) -> bool
 {
     let total = incoming + outgoing;
     if 0 < total {
-        return total < wide16(meta.capacity);
+        return total < usize::from(meta.capacity);
     }
     false
 }
@@ -57,10 +53,10 @@ pub fn drop_both(
         × (moves.new ≡ sets moves.old 0 (drop_told links.old meta incoming outgoing)) }
 {
     let first = wide(meta.first_port.0);
-    let old_in = wide16(meta.incoming);
-    let old_out = wide16(meta.outgoing);
-    let kept_in = smaller(old_in, incoming);
-    let kept_out = smaller(old_out, outgoing);
+    let old_in = usize::from(meta.incoming);
+    let old_out = usize::from(meta.outgoing);
+    let kept_in = old_in.min(incoming);
+    let kept_out = old_out.min(outgoing);
     let a = drop_ports(links, moves, 0, first + kept_in, old_in - kept_in);
     let b = drop_ports(
         links,
@@ -79,9 +75,9 @@ pub fn inside_links(links: &mut [u32; PORT_SLOTS], meta: NodeMeta, incoming: usi
     ensures { links.new ≡ inside_links links.old meta incoming outgoing }
 {
     let first = wide(meta.first_port.0);
-    let old_in = wide16(meta.incoming);
-    let old_out = wide16(meta.outgoing);
-    let kept = smaller(old_out, outgoing);
+    let old_in = usize::from(meta.incoming);
+    let old_out = usize::from(meta.outgoing);
+    let kept = old_out.min(outgoing);
     shift_ports(
         links,
         incoming < old_in,
@@ -92,19 +88,19 @@ pub fn inside_links(links: &mut [u32; PORT_SLOTS], meta: NodeMeta, incoming: usi
     fill(
         links,
         (first + old_in) as u32,
-        less(incoming, old_in) as u16,
+        incoming.saturating_sub(old_in) as u16,
         0,
     );
     fill(
         links,
         (first + incoming + old_out) as u32,
-        less(outgoing, old_out) as u16,
+        outgoing.saturating_sub(old_out) as u16,
         0,
     );
     fill(
         links,
         (first + (incoming + outgoing)) as u32,
-        less(old_in + old_out, incoming + outgoing) as u16,
+        (old_in + old_out).saturating_sub(incoming + outgoing) as u16,
         0,
     );
 }
@@ -123,14 +119,14 @@ pub fn anew_links(
     ensures { links.new ≡ anew_links links.old meta incoming outgoing new_first size }
 {
     let first = wide(meta.first_port.0);
-    let old_in = wide16(meta.incoming);
-    let old_out = wide16(meta.outgoing);
+    let old_in = usize::from(meta.incoming);
+    let old_out = usize::from(meta.outgoing);
     fill(links, new_first as u32, size as u16, 0);
-    transfer_ports(links, first, new_first, smaller(old_in, incoming));
+    transfer_ports(links, first, new_first, old_in.min(incoming));
     transfer_ports(
         links,
         first + old_in,
         new_first + incoming,
-        smaller(old_out, outgoing),
+        old_out.min(outgoing),
     );
 }

@@ -4,7 +4,7 @@ ghost use Rattle.port_tables.specs.Entries.{ports_from, ports_to};
 
 use crate::direction::Direction;
 use crate::node_entry::NodeMeta;
-use crate::numbers::{wide, wide16};
+use crate::numbers::wide;
 
 // One side of a node, or both, incoming first.
 #[derive(Clone, Copy)]
@@ -21,7 +21,7 @@ pub fn ports_from(meta: NodeMeta, sides: Sides) -> usize
     match sides {
         Sides::One(direction) => match direction {
             Direction::Incoming => first,
-            Direction::Outgoing => first + wide16(meta.incoming),
+            Direction::Outgoing => first + usize::from(meta.incoming),
         },
         Sides::Both => first,
     }
@@ -31,12 +31,12 @@ pub fn ports_from(meta: NodeMeta, sides: Sides) -> usize
 pub fn ports_to(meta: NodeMeta, sides: Sides) -> usize
     ensures { result ≡ ports_to meta sides }
 {
-    let end = wide(meta.first_port.0) + wide16(meta.incoming);
+    let end = wide(meta.first_port.0) + usize::from(meta.incoming);
     match sides {
         Sides::One(direction) => match direction {
             Direction::Incoming => end,
-            Direction::Outgoing => end + wide16(meta.outgoing),
+            Direction::Outgoing => end + usize::from(meta.outgoing),
         },
-        Sides::Both => end + wide16(meta.outgoing),
+        Sides::Both => end + usize::from(meta.outgoing),
     }
 }

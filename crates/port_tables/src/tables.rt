@@ -7,7 +7,7 @@ ghost use Rattle.port_tables.specs.Tables.{at, put, fill_range, head_at, put_hea
 
 use crate::index::{FREE_LISTS, NODE_PORTS, PORT_SLOTS};
 use crate::node_entry::NodeMeta;
-use crate::numbers::{less, wide, wide16};
+use crate::numbers::wide;
 
 // What a table holds at a slot; 0 outside.
 pub fn at(table: &[u32; PORT_SLOTS], slot: usize) -> u32
@@ -29,7 +29,11 @@ pub fn put(table: &mut [u32; PORT_SLOTS], slot: usize, value: u32)
 pub fn without_link(count: usize, far: u32) -> usize
     ensures { result ≡ count - link_count far }
 {
-    if far == 0 { count } else { less(count, 1) }
+    if far == 0 {
+        count
+    } else {
+        count.saturating_sub(1)
+    }
 }
 
 // Sets `count` slots from `first` on; a range that runs past the table is left alone.
@@ -37,17 +41,14 @@ pub fn fill(table: &mut [u32; PORT_SLOTS], first: u32, count: u16, value: u32)
     ensures { table.new ≡ fill_range table.old first count value }
 {
     let start = wide(first);
-    let n = wide16(count);
+    let n = usize::from(count);
     if start + n <= PORT_SLOTS {
-        let mut k: usize = 0;
-        while k < n {
-            table[start + k] = value;
-            k += 1;
-        }
+        table[start..start + n].fill(value);
     }
 }
 
 // The first free block of a size, one higher than its first slot; 0 for none.
+// Stays beside at: each says its own table's definition, so that one function over the size would stand below both as a third.
 pub fn head_at(heads: &[u32; FREE_LISTS], size: usize) -> u32
     ensures { result ≡ head_at heads.now size }
 {
@@ -117,11 +118,9 @@ pub fn cut_range(links: &mut [u32; PORT_SLOTS], first: usize, count: usize) -> u
     ensures { (result ≡ cut_count links.old first count) × (links.new ≡ cut_range links.old first count) }
 {
     let mut n: usize = 0;
-    let mut k: usize = 0;
-    while k < count {
+    for k in 0..count {
         let far = cut(links, first + k);
         n += link_count(far);
-        k += 1;
     }
     n
 }
@@ -143,10 +142,8 @@ fn move_up(links: &mut [u32; PORT_SLOTS], old: usize, new: usize, count: usize)
     requires { (old + count ≤ port_slots) × (new + count ≤ port_slots) }
     ensures { links.new ≡ move_up links.old old new count }
 {
-    let mut k: usize = 0;
-    while k < count {
+    for k in 0..count {
         move_port(links, old + k, new + k);
-        k += 1;
     }
 }
 
@@ -155,9 +152,7 @@ fn move_down(links: &mut [u32; PORT_SLOTS], old: usize, new: usize, count: usize
     requires { (old + count ≤ port_slots) × (new + count ≤ port_slots) }
     ensures { links.new ≡ move_down links.old old new count }
 {
-    let mut k: usize = count;
-    while 0 < k {
-        k -= 1;
+    for k in (0..count).rev() {
         move_port(links, old + k, new + k);
     }
 }
@@ -185,11 +180,9 @@ pub fn transfer_ports(links: &mut [u32; PORT_SLOTS], old: usize, new: usize, cou
     requires { (old + count ≤ port_slots) × (new + count ≤ port_slots) }
     ensures { links.new ≡ transfer links.old old new count }
 {
-    let mut k: usize = 0;
-    while k < count {
+    for k in 0..count {
         move_port(links, old + k, new + k);
         put(links, old + k, 0);
-        k += 1;
     }
 }
 
@@ -242,8 +235,7 @@ pub fn drop_ports(
         × (moves.new ≡ sets moves.old (3 * event) (drop_events links.old first count)) }
 {
     let mut n: usize = 0;
-    let mut k: usize = 0;
-    while k < count {
+    for k in 0..count {
         let far = cut(links, first + k);
         put_event(
             moves,
@@ -253,7 +245,6 @@ pub fn drop_ports(
             told_link(far),
         );
         n += link_count(far);
-        k += 1;
     }
     n
 }
@@ -262,8 +253,7 @@ fn tell_up(moves: &mut [u32], event: usize, old: usize, new: usize, count: usize
     requires { (event + count ≤ port_slots) × (old + count ≤ port_slots) × (new + count ≤ port_slots) }
     ensures { moves.new ≡ sets moves.old (3 * event) (move_up_events old new count) }
 {
-    let mut k: usize = 0;
-    while k < count {
+    for k in 0..count {
         put_event(
             moves,
             (event + k) as u32,
@@ -271,7 +261,6 @@ fn tell_up(moves: &mut [u32], event: usize, old: usize, new: usize, count: usize
             0,
             (new + k) as u32,
         );
-        k += 1;
     }
 }
 
@@ -279,8 +268,7 @@ fn tell_down(moves: &mut [u32], event: usize, old: usize, new: usize, count: usi
     requires { (event + count ≤ port_slots) × (old + count ≤ port_slots) × (new + count ≤ port_slots) }
     ensures { moves.new ≡ sets moves.old (3 * event) (move_down_events old new count) }
 {
-    let mut k: usize = 0;
-    while k < count {
+    for k in 0..count {
         let at = count - (k + 1);
         put_event(
             moves,
@@ -289,7 +277,6 @@ fn tell_down(moves: &mut [u32], event: usize, old: usize, new: usize, count: usi
             0,
             (new + at) as u32,
         );
-        k += 1;
     }
 }
 

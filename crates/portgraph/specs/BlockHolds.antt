@@ -1,6 +1,6 @@
 -- Blocks of port slots, tables against model: which block is taken next, the lists of free blocks where one is taken or given back,
 -- the owners and places of the other nodes, and the cut of all links of a node's block.
-use Rattle.std.specs.Prelude.{◌≡◌, refl, Bool, true, false, cond, List, [], ◌∷◌, ℕ, suc, ◌+◌, ◌-◌, ◌≤◌, ◌<◌, eqb, leb, ltb, length}
+use Rattle.std.specs.Prelude.{◌≡◌, refl, Bool, true, false, cond, List, [], ◌∷◌, ℕ, suc, ◌+◌, ◌-◌, ◌≤◌, ◌<◌, eqb, leb, ltb, length, Some, None}
 use Rattle.std.proofs.Common.{sym, ◌∙◌, ap, subst, inl, arith, eqb-true, eq-eqb, ne_eqb, ltb-true, ltb-false, le-leb}
 use Rattle.std.proofs.Math.Dec.{eqb-suc-zero}
 use Rattle.std.proofs.lemmas.Bool.{eqb-false}
@@ -21,7 +21,6 @@ use Rattle.portgraph.specs.PlaceLaws.{spare_vacant, rep_of}
 use Rattle.port_tables.specs.declared.direction.Direction.TheVariants.{Incoming, Outgoing}
 use Rattle.port_tables.specs.declared.node_entry.NodeMeta.{NodeMeta}
 use Rattle.portgraph.specs.declared.portgraph.PortGraph.{PortGraph}
-use Rattle.portgraph.specs.declared.alloc.Found.TheVariants.{At, NoRoom}
 
 -- Taking from a list of free ones.
 
@@ -43,7 +42,7 @@ grown_by h len size (b ∷ l) e = rw (e, eqb-suc-zero b) (omega arith)
 
 -- the block of this size freed last, else the end; refused exactly where the tables would grow past their limit
 pub block_found_lem : {g : PortGraph} {M : Model} → Good M → Holds g M → (size : ℕ)
-    → find_block g.port_free g.port_len size ≡ cond (leb (M.port_len + growth size (M.free_blocks size)) port_slots) (At (next_block M size)) NoRoom
+    → find_block g.port_free g.port_len size ≡ cond (leb (M.port_len + growth size (M.free_blocks size)) port_slots) (Some (next_block M size)) None
 unfolding find_block_under
 block_found_lem {g} {M} good h size = rw h.port_len (go (eqb size 0) refl (M.free_blocks size) (h.block_chain size))
   where
@@ -52,10 +51,10 @@ block_found_lem {g} {M} good h size = rw h.port_len (go (eqb size 0) refl (M.fre
     fits e (b ∷ l) = let f : M.port_len ≤ port_slots = good.ports_fit in omega arith
 
     go : (z : Bool) → eqb size 0 ≡ z → (l : List ℕ) → Chain g.port_link (head_at g.port_free size) l
-        → cond z (At 0)
-        (cond (eqb (head_at g.port_free size) 0) (cond (leb (M.port_len + size) port_slots) (At M.port_len) NoRoom)
-        (At (head_at g.port_free size - 1)))
-        ≡ cond (leb (M.port_len + growth size l) port_slots) (At (cond z 0 (first_or M.port_len l))) NoRoom
+        → cond z (Some 0)
+        (cond (eqb (head_at g.port_free size) 0) (cond (leb (M.port_len + size) port_slots) (Some M.port_len) None)
+        (Some (head_at g.port_free size - 1)))
+        ≡ cond (leb (M.port_len + growth size l) port_slots) (Some (cond z 0 (first_or M.port_len l))) None
     go true e l c = rw (le-leb (M.port_len + growth size l) port_slots (fits (eqb-true size 0 e) l))
     go false e [] c = rw c
     go false e (b ∷ l) c =

@@ -1,5 +1,5 @@
 -- Adding and removing nodes, linking and unlinking ports: answer and graph of each call, and each answer's number and values in 01.
-use Rattle.std.specs.Prelude.{cond, List, [], ◌∷◌, ℕ, ◌+◌, ◌-◌, eqb, leb, ltb, set, replicate}
+use Rattle.std.specs.Prelude.{cond, List, [], ◌∷◌, ℕ, ◌+◌, ◌-◌, eqb, leb, ltb, set, replicate, Option, Some, None, Result, Ok, Err}
 use Rattle.port_tables.specs.Limits.{node_slots, port_slots, node_ports, free_lists, Limits, present}
 use Rattle.port_tables.specs.Entries.{fresh_slot, free_slot_of, node_slot_of, next_of, set_prev, side_number, node#, port#, meta_of, same_side}
 use Rattle.port_tables.specs.Tables.{at, fill_range, head_at, put_head, own_block, link_both, cut, cut_range, cut_count, link_count, chain_block}
@@ -11,18 +11,17 @@ use Rattle.port_tables.specs.declared.node_entry.NodeEntry.TheVariants as node_v
 use Rattle.port_tables.specs.declared.port_entry.PortEntry.{PortEntry}
 use Rattle.port_tables.specs.declared.port_entry.PortEntry.TheVariants as port_variants
 use Rattle.portgraph.specs.declared.portgraph.PortGraph.{PortGraph}
-use Rattle.portgraph.specs.declared.portgraph.LinkAnswer.{LinkAnswer}
-use Rattle.portgraph.specs.declared.portgraph.LinkAnswer.TheVariants as linked
 use Rattle.portgraph.specs.declared.portgraph.PortsLinked.{PortsLinked}
 use Rattle.portgraph.specs.declared.portgraph.PortUnlinked.{PortUnlinked}
-use Rattle.portgraph.specs.declared.alloc.Found.{Found}
-use Rattle.portgraph.specs.declared.alloc.Found.TheVariants.{At, NoRoom}
-use Rattle.portgraph.specs.declared.alloc.AddAnswer.{AddAnswer}
-use Rattle.portgraph.specs.declared.alloc.AddAnswer.TheVariants as added
 use Rattle.portgraph.specs.declared.alloc.NodeAdded.{NodeAdded}
-use Rattle.portgraph.specs.declared.alloc.RemoveAnswer.{RemoveAnswer}
-use Rattle.portgraph.specs.declared.alloc.RemoveAnswer.TheVariants as removed
 use Rattle.portgraph.specs.declared.alloc.NodeRemoved.{NodeRemoved}
+use Rattle.port_tables.specs.declared.index.NodeIndex.{NodeIndex}
+use Rattle.port_tables.specs.declared.index.PortIndex.{PortIndex}
+use Rattle.portgraph.specs.declared.alloc.AddError.{AddError}
+use Rattle.portgraph.specs.declared.alloc.NoSuchNode.{NoSuchNode}
+use Rattle.portgraph.specs.declared.portgraph.LinkError.{LinkError}
+use Rattle.portgraph.specs.declared.alloc.AddError.TheVariants as add_error
+use Rattle.portgraph.specs.declared.portgraph.LinkError.TheVariants as link_error
 
 -- the empty graph: every slot is free
 unfoldable pub new_graph : PortGraph
@@ -43,19 +42,19 @@ new_graph =
 -- Taking slots.
 
 -- the node slot that is taken next: the one freed last, else the next at the end
-unfoldable pub find_slot_under : Limits → ℕ → ℕ → Found
-find_slot_under L free len = cond (eqb free 0) (cond (ltb len L.nodes) (At len) NoRoom) (At (free - 1))
+unfoldable pub find_slot_under : Limits → ℕ → ℕ → Option ℕ
+find_slot_under L free len = cond (eqb free 0) (cond (ltb len L.nodes) (Some len) None) (Some (free - 1))
 
-abbrev pub find_slot : ℕ → ℕ → Found
+abbrev pub find_slot : ℕ → ℕ → Option ℕ
 find_slot = find_slot_under present
 
 -- the block that is taken next: the one of exactly this size freed last, else the end; a size of 0 takes none
-unfoldable pub find_block_under : Limits → List ℕ → ℕ → ℕ → Found
+unfoldable pub find_block_under : Limits → List ℕ → ℕ → ℕ → Option ℕ
 find_block_under L heads len size =
-    cond (eqb size 0) (At 0)
-    (cond (eqb (head_at heads size) 0) (cond (leb (len + size) L.ports) (At len) NoRoom) (At (head_at heads size - 1)))
+    cond (eqb size 0) (Some 0)
+    (cond (eqb (head_at heads size) 0) (cond (leb (len + size) L.ports) (Some len) None) (Some (head_at heads size - 1)))
 
-abbrev pub find_block : List ℕ → ℕ → ℕ → Found
+abbrev pub find_block : List ℕ → ℕ → ℕ → Option ℕ
 find_block = find_block_under present
 
 -- the first of a list of free ones after its first is taken, which names the next; an empty list stays empty
@@ -96,29 +95,29 @@ place_node g n first incoming outgoing =
       link_count = g.link_count;
     }
 
-abbrev pub add_refused : PortGraph → AddAnswer → NodeAdded
+abbrev pub add_refused : PortGraph → Result (NodeIndex × PortIndex) AddError → NodeAdded
 add_refused g a = record { graph = g; answer = a }
 
-abbrev pub add_found : PortGraph → ℕ → ℕ → Found → Found → NodeAdded
-add_found g incoming outgoing NoRoom block = add_refused g added.NoRoom
-add_found g incoming outgoing (At n) NoRoom = add_refused g added.NoRoom
-add_found g incoming outgoing (At n) (At first) =
-    record { graph = place_node g n first incoming outgoing; answer = added.Added (node# n) (port# first) }
+abbrev pub add_found : PortGraph → ℕ → ℕ → Option ℕ → Option ℕ → NodeAdded
+add_found g incoming outgoing None block = add_refused g (Err add_error.NoRoom)
+add_found g incoming outgoing (Some n) None = add_refused g (Err add_error.NoRoom)
+add_found g incoming outgoing (Some n) (Some first) =
+    record { graph = place_node g n first incoming outgoing; answer = Ok (node# n, port# first) }
 
 -- refused with too many ports, else for lack of space, else done
 unfoldable pub add_node_under : Limits → PortGraph → ℕ → ℕ → NodeAdded
 add_node_under L g incoming outgoing =
     cond (leb (incoming + outgoing) node_ports)
     (add_found g incoming outgoing (find_slot_under L g.node_free g.node_len) (find_block_under L g.port_free g.port_len (incoming + outgoing)))
-    (add_refused g added.TooManyPorts)
+    (add_refused g (Err add_error.TooManyPorts))
 
 abbrev pub add_node : PortGraph → ℕ → ℕ → NodeAdded
 add_node = add_node_under present
 
-abbrev pub add_numbers : AddAnswer → List ℕ
-add_numbers (added.Added n p) = 0 ∷ n.0 ∷ p.0 ∷ []
-add_numbers added.TooManyPorts = 3 ∷ []
-add_numbers added.NoRoom = 10 ∷ []
+abbrev pub add_numbers : Result (NodeIndex × PortIndex) AddError → List ℕ
+add_numbers (Ok (n, p)) = 0 ∷ n.0 ∷ p.0 ∷ []
+add_numbers (Err add_error.TooManyPorts) = 3 ∷ []
+add_numbers (Err add_error.NoRoom) = 10 ∷ []
 
 -- Removing a node.
 
@@ -141,15 +140,15 @@ free_node g n m =
     }
 
 abbrev pub remove_entry : PortGraph → ℕ → NodeEntry → NodeRemoved
-remove_entry g n (node_variants.Free f) = record { graph = g; answer = removed.UnknownNode }
-remove_entry g n (node_variants.Node m) = record { graph = free_node g n m; answer = removed.Removed }
+remove_entry g n (node_variants.Free f) = record { graph = g; answer = Err (record {}) }
+remove_entry g n (node_variants.Node m) = record { graph = free_node g n m; answer = Ok tt }
 
 unfoldable pub remove_node : PortGraph → ℕ → NodeRemoved
 remove_node g n = remove_entry g n (entry_at g n)
 
-abbrev pub remove_numbers : RemoveAnswer → List ℕ
-remove_numbers removed.Removed = 0 ∷ []
-remove_numbers removed.UnknownNode = 4 ∷ []
+abbrev pub remove_numbers : Result (Unit {0}) NoSuchNode → List ℕ
+remove_numbers (Ok tt) = 0 ∷ []
+remove_numbers (Err _) = 4 ∷ []
 
 -- Links.
 
@@ -168,7 +167,7 @@ with_links g links count =
       link_count = count;
     }
 
-abbrev pub link_refused : PortGraph → LinkAnswer → PortsLinked
+abbrev pub link_refused : PortGraph → Result (PortIndex × PortIndex) LinkError → PortsLinked
 link_refused g a = record { graph = g; answer = a }
 
 -- both ports are live and on opposite sides: each must be free
@@ -178,29 +177,29 @@ link_free g a b =
     (cond (eqb (at g.port_link b) 0)
     (record {
       graph = with_links g (link_both g.port_link a b) (g.link_count + 1);
-      answer = linked.Linked (port# a) (port# b);
+      answer = Ok (port# a, port# b);
     })
-    (link_refused g (linked.AlreadyLinked (port# b))))
-    (link_refused g (linked.AlreadyLinked (port# a)))
+    (link_refused g (Err (link_error.AlreadyLinked (port# b)))))
+    (link_refused g (Err (link_error.AlreadyLinked (port# a))))
 
 abbrev pub link_sides : PortGraph → ℕ → ℕ → Direction → Direction → PortsLinked
 link_sides g a b d e =
-    cond (same_side d e) (link_refused g (linked.IncompatibleDirections (port# a) (port# b) d)) (link_free g a b)
+    cond (same_side d e) (link_refused g (Err (link_error.IncompatibleDirections (port# a) (port# b) d))) (link_free g a b)
 
 abbrev pub link_entries : PortGraph → ℕ → ℕ → PortEntry → PortEntry → PortsLinked
-link_entries g a b port_variants.Free second = link_refused g (linked.UnknownPort (port# a))
-link_entries g a b (port_variants.Port m) port_variants.Free = link_refused g (linked.UnknownSecondPort (port# b))
+link_entries g a b port_variants.Free second = link_refused g (Err (link_error.UnknownPort (port# a)))
+link_entries g a b (port_variants.Port m) port_variants.Free = link_refused g (Err (link_error.UnknownSecondPort (port# b)))
 link_entries g a b (port_variants.Port m) (port_variants.Port k) = link_sides g a b m.direction k.direction
 
 unfoldable pub link_ports : PortGraph → ℕ → ℕ → PortsLinked
 link_ports g a b = link_entries g a b (port_at g a) (port_at g b)
 
-abbrev pub link_numbers : LinkAnswer → List ℕ
-link_numbers (linked.Linked a b) = 0 ∷ a.0 ∷ b.0 ∷ []
-link_numbers (linked.UnknownPort a) = 7 ∷ a.0 ∷ []
-link_numbers (linked.UnknownSecondPort b) = 11 ∷ b.0 ∷ []
-link_numbers (linked.IncompatibleDirections a b d) = 12 ∷ a.0 ∷ b.0 ∷ side_number d ∷ []
-link_numbers (linked.AlreadyLinked p) = 13 ∷ p.0 ∷ []
+abbrev pub link_numbers : Result (PortIndex × PortIndex) LinkError → List ℕ
+link_numbers (Ok (a, b)) = 0 ∷ a.0 ∷ b.0 ∷ []
+link_numbers (Err (link_error.UnknownPort a)) = 7 ∷ a.0 ∷ []
+link_numbers (Err (link_error.UnknownSecondPort b)) = 11 ∷ b.0 ∷ []
+link_numbers (Err (link_error.IncompatibleDirections a b d)) = 12 ∷ a.0 ∷ b.0 ∷ side_number d ∷ []
+link_numbers (Err (link_error.AlreadyLinked p)) = 13 ∷ p.0 ∷ []
 
 abbrev pub unlink_entry : PortGraph → ℕ → PortEntry → PortGraph
 unlink_entry g p port_variants.Free = g

@@ -1,6 +1,6 @@
 -- The graph's tables as a run lends them: each an array of its own, the nodes as numbers, and the counts beside them.
 -- A node slot is five numbers: 0, previous and next free entry, 0, 0; or 1, first port, incoming, outgoing, capacity.
-use Rattle.std.specs.Prelude.{◌≡◌, List, ℕ, ◌+◌, ◌*◌, ◌≤◌, ◌<◌, ltb, cond}
+use Rattle.std.specs.Prelude.{◌≡◌, List, ℕ, ◌+◌, ◌*◌, ◌≤◌, ◌<◌, ltb, cond, Option, Some, None}
 use Rattle.port_tables.specs.Limits.{node_slots, port_slots, node_ports}
 use Rattle.port_tables.specs.Entries.{port_entry}
 use Rattle.port_tables.specs.Tables.{at}
@@ -8,10 +8,6 @@ use Rattle.portgraph.specs.Lookups.{entry_at, port_in, offset_in}
 use Rattle.portgraph.specs.Model.{Wf}
 use Rattle.port_tables.specs.ResizeLinks.{BlockFits}
 use Rattle.port_tables.specs.declared.index.PortOffset.{PortOffset}
-use Rattle.port_tables.specs.declared.index.MaybePortIndex.{MaybePortIndex}
-use Rattle.port_tables.specs.declared.index.MaybePortIndex.TheVariants as maybe_port
-use Rattle.port_tables.specs.declared.index.MaybePortOffset.{MaybePortOffset}
-use Rattle.port_tables.specs.declared.index.MaybePortOffset.TheVariants as maybe_offset
 use Rattle.port_tables.specs.declared.node_entry.NodeMeta.{NodeMeta}
 use Rattle.port_tables.specs.declared.node_entry.NodeEntry.TheVariants as node_variants
 use Rattle.port_tables.specs.declared.port_entry.PortEntry.{PortEntry}
@@ -19,26 +15,27 @@ use Rattle.port_tables.specs.declared.port_entry.PortEntry.TheVariants as port_v
 use Rattle.portgraph.specs.declared.portgraph.PortGraph.{PortGraph}
 use Rattle.port_tables.specs.declared.lent.Counts.{Counts}
 use Rattle.port_tables.specs.NodeWords.{meta_in, slots_in}
+use Rattle.port_tables.specs.declared.index.PortIndex.{PortIndex}
 
 -- the numbers of all node slots
 abbrev pub node_words : ℕ
 node_words = 5 * node_slots
 
 -- a port outside the tables is none
-abbrev pub port_within : MaybePortIndex → MaybePortIndex
-port_within maybe_port.None = maybe_port.None
-port_within (maybe_port.Some p) = cond (ltb p.0 port_slots) (maybe_port.Some p) maybe_port.None
+abbrev pub port_within : Option PortIndex → Option PortIndex
+port_within None = None
+port_within (Some p) = cond (ltb p.0 port_slots) (Some p) None
 
 -- the port at a side and position of a node
-abbrev pub port_index_in : List ℕ → ℕ → PortOffset → MaybePortIndex
+abbrev pub port_index_in : List ℕ → ℕ → PortOffset → Option PortIndex
 port_index_in words n o = port_within (port_in (meta_in words n) o)
 
-abbrev pub offset_of_in : List ℕ → ℕ → PortEntry → MaybePortOffset
-offset_of_in words p port_variants.Free = maybe_offset.None
+abbrev pub offset_of_in : List ℕ → ℕ → PortEntry → Option PortOffset
+offset_of_in words p port_variants.Free = None
 offset_of_in words p (port_variants.Port m) = offset_in p m.direction (meta_in words m.node.0)
 
 -- the side and position of a port
-abbrev pub port_offset_in : List ℕ → List ℕ → ℕ → MaybePortOffset
+abbrev pub port_offset_in : List ℕ → List ℕ → ℕ → Option PortOffset
 port_offset_in words owners p = offset_of_in words p (port_entry (at owners p))
 
 -- the graph that lent tables and counts are

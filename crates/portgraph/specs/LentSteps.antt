@@ -1,5 +1,5 @@
 -- The node table as numbers reads and stores as the table of slots, and each call over lent tables leaves what its definition says.
-use Rattle.std.specs.Prelude.{◌≡◌, refl, Bool, true, false, List, ◌∷◌, ℕ, zero, suc, ◌+◌, ◌-◌, ◌*◌, ◌≤◌, ◌<◌, min, ltb, length, get_or, replicate}
+use Rattle.std.specs.Prelude.{◌≡◌, refl, Bool, true, false, List, ◌∷◌, ℕ, zero, suc, ◌+◌, ◌-◌, ◌*◌, ◌≤◌, ◌<◌, min, ltb, length, get_or, replicate, Option, Some, None, Result, Ok, Err, Result}
 use Rattle.std.proofs.Common.{sym, ap, ◌∙◌, lt-ltb, le-ltb, ltb-true, ltb-false}
 use native.Mathlib.Omega.{arith}
 use Rattle.std.proofs.Math.ListN.{set, get_or-eq_default}
@@ -20,11 +20,7 @@ use Rattle.portgraph.specs.ResizeSteps.{round_up_positive, rest_after, plan_same
 use Rattle.portgraph.specs.ResizeLaws.{anew_in_steps}
 use Rattle.portgraph.specs.LentResize.{take_block, drop_ports, settle_inside, settle_anew, inside_in_steps}
 use Rattle.port_tables.specs.declared.index.PortOffset.{PortOffset}
-use Rattle.port_tables.specs.declared.index.MaybePortIndex.TheVariants as maybe_port
-use Rattle.port_tables.specs.declared.index.MaybePortOffset.TheVariants as maybe_offset
 use Rattle.port_tables.specs.declared.node_entry.NodeMeta.{NodeMeta}
-use Rattle.port_tables.specs.declared.node_entry.MaybeNodeMeta.{MaybeNodeMeta}
-use Rattle.port_tables.specs.declared.node_entry.MaybeNodeMeta.TheVariants as maybe_meta
 use Rattle.port_tables.specs.declared.node_entry.FreeNodeEntry.{FreeNodeEntry}
 use Rattle.port_tables.specs.declared.node_entry.NodeSlot.{NodeSlot}
 use Rattle.port_tables.specs.declared.node_entry.NodeEntry.{NodeEntry}
@@ -33,18 +29,17 @@ use Rattle.port_tables.specs.declared.port_entry.PortMeta.{PortMeta}
 use Rattle.port_tables.specs.declared.port_entry.PortEntry.{PortEntry}
 use Rattle.port_tables.specs.declared.port_entry.PortEntry.TheVariants as port_variants
 use Rattle.portgraph.specs.declared.portgraph.PortGraph.{PortGraph}
-use Rattle.portgraph.specs.declared.resize.SetAnswer.{SetAnswer}
-use Rattle.portgraph.specs.declared.resize.SetAnswer.TheVariants as set_variants
 use Rattle.portgraph.specs.declared.resize.PortsSet.{PortsSet}
-use Rattle.portgraph.specs.declared.alloc.Found.TheVariants.{At, NoRoom}
-use Rattle.portgraph.specs.declared.alloc.AddAnswer.{AddAnswer}
-use Rattle.portgraph.specs.declared.alloc.AddAnswer.TheVariants as added
 use Rattle.portgraph.specs.declared.alloc.NodeAdded.{NodeAdded}
-use Rattle.portgraph.specs.declared.alloc.RemoveAnswer.{RemoveAnswer}
-use Rattle.portgraph.specs.declared.alloc.RemoveAnswer.TheVariants as removed
 use Rattle.portgraph.specs.declared.alloc.NodeRemoved.{NodeRemoved}
 use Rattle.port_tables.specs.declared.lent.Counts.{Counts}
 use Rattle.port_tables.specs.NodeWordSteps.{next_five, put_inside, slot_read_inside}
+use Rattle.port_tables.specs.declared.index.NodeIndex.{NodeIndex}
+use Rattle.port_tables.specs.declared.index.PortIndex.{PortIndex}
+use Rattle.portgraph.specs.declared.alloc.AddError.{AddError}
+use Rattle.portgraph.specs.declared.alloc.NoSuchNode.{NoSuchNode}
+use Rattle.portgraph.specs.declared.resize.SetError.{SetError}
+use Rattle.portgraph.specs.declared.resize.SetError.TheVariants as set_error
 
 pub zeros_read : (n : ℕ) → slots_in (replicate (5 * n) 0) ≡ replicate n fresh_slot
 unfolding slots_in slot_of_words narrow
@@ -73,19 +68,19 @@ meta_read nodes links owners heads counts n long = ap (λ (s : NodeSlot). meta_o
 -- Lookups.
 
 -- a node that is found, or not, as the entry that the graph has
-entry_of_none : (e : NodeEntry) → maybe_meta.None ≡ meta_of_entry e → (f : FreeNodeEntry) × (e ≡ node_variants.Free f)
+entry_of_none : (e : NodeEntry) → None ≡ meta_of_entry e → (f : FreeNodeEntry) × (e ≡ node_variants.Free f)
 entry_of_none (node_variants.Free f) h = (f, refl)
 entry_of_none (node_variants.Node m) h = let z : ◌≡◌ {A = ℕ} 0 1 = cc in absurd (omega arith)
 
-pub entry_of_some : (e : NodeEntry) (m : NodeMeta) → maybe_meta.Some m ≡ meta_of_entry e → e ≡ node_variants.Node m
+pub entry_of_some : (e : NodeEntry) (m : NodeMeta) → Some m ≡ meta_of_entry e → e ≡ node_variants.Node m
 entry_of_some (node_variants.Free f) m h = let z : ◌≡◌ {A = ℕ} 0 1 = cc in absurd (omega arith)
 entry_of_some (node_variants.Node k) m h = cc
 
 module _ (nodes links owners heads : List ℕ) (counts : Counts) (long : length (slots_in nodes) ≡ node_slots) where
-  pub unknown_in : (n : ℕ) (x : MaybeNodeMeta) → x ≡ meta_in nodes n → x ≡ maybe_meta.None → (f : FreeNodeEntry) × (entry_at (graph_in nodes links owners heads counts) n ≡ node_variants.Free f)
+  pub unknown_in : (n : ℕ) (x : Option NodeMeta) → x ≡ meta_in nodes n → x ≡ None → (f : FreeNodeEntry) × (entry_at (graph_in nodes links owners heads counts) n ≡ node_variants.Free f)
   unknown_in n x p q = entry_of_none (entry_at (graph_in nodes links owners heads counts) n) (sym q ∙ p ∙ meta_read nodes links owners heads counts n long)
 
-  pub found_in : (n : ℕ) (x : MaybeNodeMeta) (m : NodeMeta) → x ≡ meta_in nodes n → x ≡ maybe_meta.Some m → entry_at (graph_in nodes links owners heads counts) n ≡ node_variants.Node m
+  pub found_in : (n : ℕ) (x : Option NodeMeta) (m : NodeMeta) → x ≡ meta_in nodes n → x ≡ Some m → entry_at (graph_in nodes links owners heads counts) n ≡ node_variants.Node m
   found_in n x m p q = entry_of_some (entry_at (graph_in nodes links owners heads counts) n) m (sym q ∙ p ∙ meta_read nodes links owners heads counts n long)
 
   -- the side and position that are read are the graph's
@@ -97,10 +92,10 @@ module _ (nodes links owners heads : List ℕ) (counts : Counts) (long : length 
       go (port_variants.Port m) q = rw q (ap (offset_in p m.direction) (meta_read nodes links owners heads counts m.node.0 long))
 
 -- every port of a node lies within the tables
-within_tables : (m : NodeMeta) (o : PortOffset) → BlockFits m → port_within (port_in (maybe_meta.Some m) o) ≡ port_in (maybe_meta.Some m) o
+within_tables : (m : NodeMeta) (o : PortOffset) → BlockFits m → port_within (port_in (Some m) o) ≡ port_in (Some m) o
 within_tables m o f = go (ltb o.index (ports_on m o.direction)) refl
   where
-    go : (b : Bool) → ltb o.index (ports_on m o.direction) ≡ b → port_within (port_in (maybe_meta.Some m) o) ≡ port_in (maybe_meta.Some m) o
+    go : (b : Bool) → ltb o.index (ports_on m o.direction) ≡ b → port_within (port_in (Some m) o) ≡ port_in (Some m) o
     go true e =
         let fits = side_fits m o.direction f in
         let small = ltb-true o.index (ports_on m o.direction) e in
@@ -110,57 +105,57 @@ within_tables m o f = go (ltb o.index (ports_on m o.direction)) refl
 -- the port that is read is the graph's
 pub index_read : (nodes links owners heads : List ℕ) (counts : Counts) → Wf (graph_in nodes links owners heads counts) → (n : ℕ) (o : PortOffset) → port_index_in nodes n o ≡ port_index (graph_in nodes links owners heads counts) n o
 index_read nodes links owners heads counts w n o =
-    ap (λ (x : MaybeNodeMeta). port_within (port_in x o)) (meta_read nodes links owners heads counts n w.holds.nodes_long) ∙ go (entry_at (graph_in nodes links owners heads counts) n) refl
+    ap (λ (x : Option NodeMeta). port_within (port_in x o)) (meta_read nodes links owners heads counts n w.holds.nodes_long) ∙ go (entry_at (graph_in nodes links owners heads counts) n) refl
   where
     go : (e : NodeEntry) → entry_at (graph_in nodes links owners heads counts) n ≡ e → port_within (port_in (meta_at (graph_in nodes links owners heads counts) n) o) ≡ port_in (meta_at (graph_in nodes links owners heads counts) n) o
     go (node_variants.Free f) e = rw e
     go (node_variants.Node m) e = rw e (within_tables m o (block_fits (graph_in nodes links owners heads counts) w n m e))
 
 -- the ways out of a lookup
-pub index_unknown : (t : List ℕ) (n : ℕ) (o : PortOffset) (x : MaybeNodeMeta) → x ≡ meta_in t n → x ≡ maybe_meta.None → maybe_port.None ≡ port_index_in t n o
-index_unknown t n o x p q = ap (λ (y : MaybeNodeMeta). port_within (port_in y o)) (sym q ∙ p)
+pub index_unknown : (t : List ℕ) (n : ℕ) (o : PortOffset) (x : Option NodeMeta) → x ≡ meta_in t n → x ≡ None → None ≡ port_index_in t n o
+index_unknown t n o x p q = ap (λ (y : Option NodeMeta). port_within (port_in y o)) (sym q ∙ p)
 
-module _ (t : List ℕ) (n : ℕ) (o : PortOffset) (x : MaybeNodeMeta) (m : NodeMeta) (i k : ℕ) (p : x ≡ meta_in t n) (q : x ≡ maybe_meta.Some m) (hi : i ≡ o.index) (hk : k ≡ ports_on m o.direction) where
-  pub index_beyond : k ≤ i → maybe_port.None ≡ port_index_in t n o
+module _ (t : List ℕ) (n : ℕ) (o : PortOffset) (x : Option NodeMeta) (m : NodeMeta) (i k : ℕ) (p : x ≡ meta_in t n) (q : x ≡ Some m) (hi : i ≡ o.index) (hk : k ≡ ports_on m o.direction) where
+  pub index_beyond : k ≤ i → None ≡ port_index_in t n o
   index_beyond h =
-      let e : maybe_port.None ≡ port_within (port_in (maybe_meta.Some m) o) = rw (le-ltb o.index (ports_on m o.direction) (omega arith)) in
-      e ∙ ap (λ (y : MaybeNodeMeta). port_within (port_in y o)) (sym q ∙ p)
+      let e : None ≡ port_within (port_in (Some m) o) = rw (le-ltb o.index (ports_on m o.direction) (omega arith)) in
+      e ∙ ap (λ (y : Option NodeMeta). port_within (port_in y o)) (sym q ∙ p)
 
   module _ (f start : ℕ) (ef : f ≡ m.first_port.0) (es : start ≡ start_of m o.direction) (h : i < k) where
-    pub index_outside : port_slots ≤ f + start + i → maybe_port.None ≡ port_index_in t n o
+    pub index_outside : port_slots ≤ f + start + i → None ≡ port_index_in t n o
     index_outside l =
-        let e : maybe_port.None ≡ port_within (port_in (maybe_meta.Some m) o) =
+        let e : None ≡ port_within (port_in (Some m) o) =
         rw (lt-ltb o.index (ports_on m o.direction) (omega arith), le-ltb (m.first_port.0 + start_of m o.direction + o.index) port_slots (omega arith)) in
-        e ∙ ap (λ (y : MaybeNodeMeta). port_within (port_in y o)) (sym q ∙ p)
+        e ∙ ap (λ (y : Option NodeMeta). port_within (port_in y o)) (sym q ∙ p)
 
-    pub index_inside : f + start + i < port_slots → maybe_port.Some (port# (f + start + i)) ≡ port_index_in t n o
+    pub index_inside : f + start + i < port_slots → Some (port# (f + start + i)) ≡ port_index_in t n o
     index_inside l =
         let g : f + start + i ≡ m.first_port.0 + start_of m o.direction + o.index = omega arith in
-        let e : maybe_port.Some (port# (f + start + i)) ≡ port_within (port_in (maybe_meta.Some m) o) =
+        let e : Some (port# (f + start + i)) ≡ port_within (port_in (Some m) o) =
         rw (lt-ltb o.index (ports_on m o.direction) (omega arith), lt-ltb (m.first_port.0 + start_of m o.direction + o.index) port_slots (omega arith))
-        (ap (λ (y : ℕ). maybe_port.Some (port# y)) g) in
-        e ∙ ap (λ (y : MaybeNodeMeta). port_within (port_in y o)) (sym q ∙ p)
+        (ap (λ (y : ℕ). Some (port# y)) g) in
+        e ∙ ap (λ (y : Option NodeMeta). port_within (port_in y o)) (sym q ∙ p)
 
-pub offset_without_node : (t owners : List ℕ) (p : ℕ) (o : PortMeta) (x : MaybeNodeMeta) → port_variants.Port o ≡ port_entry (at owners p) → x ≡ meta_in t o.node.0 → x ≡ maybe_meta.None
-    → maybe_offset.None ≡ port_offset_in t owners p
+pub offset_without_node : (t owners : List ℕ) (p : ℕ) (o : PortMeta) (x : Option NodeMeta) → port_variants.Port o ≡ port_entry (at owners p) → x ≡ meta_in t o.node.0 → x ≡ None
+    → None ≡ port_offset_in t owners p
 offset_without_node t owners p o x ho hm hx = ap (offset_in p o.direction) (sym hx ∙ hm) ∙ ap (offset_of_in t p) ho
 
-pub offset_found : (t owners : List ℕ) (p i : ℕ) (o : PortMeta) (m : NodeMeta) (x : MaybeNodeMeta) → port_variants.Port o ≡ port_entry (at owners p) → x ≡ meta_in t o.node.0 → x ≡ maybe_meta.Some m
+pub offset_found : (t owners : List ℕ) (p i : ℕ) (o : PortMeta) (m : NodeMeta) (x : Option NodeMeta) → port_variants.Port o ≡ port_entry (at owners p) → x ≡ meta_in t o.node.0 → x ≡ Some m
     → i ≡ p - m.first_port.0 - start_of m o.direction
-    → maybe_offset.Some (record { direction = o.direction; index = i }) ≡ port_offset_in t owners p
+    → Some (record { direction = o.direction; index = i }) ≡ port_offset_in t owners p
 offset_found t owners p i o m x ho hm hx hi =
-    ap (λ (y : ℕ). maybe_offset.Some (record { direction = o.direction; index = y })) hi
+    ap (λ (y : ℕ). Some (record { direction = o.direction; index = y })) hi
     ∙ ap (offset_in p o.direction) (sym hx ∙ hm) ∙ ap (offset_of_in t p) ho
 
 -- Graph and answer of a call, from the equation of both.
 
-pub added_in : {g : PortGraph} {a : AddAnswer} {r : NodeAdded} → ◌≡◌ {A = NodeAdded} (record { graph = g; answer = a }) r → (g ≡ r.graph) × (a ≡ r.answer)
+pub added_in : {g : PortGraph} {a : Result (NodeIndex × PortIndex) AddError} {r : NodeAdded} → ◌≡◌ {A = NodeAdded} (record { graph = g; answer = a }) r → (g ≡ r.graph) × (a ≡ r.answer)
 added_in e = (ap (λ (x : NodeAdded). x.graph) e, ap (λ (x : NodeAdded). x.answer) e)
 
-pub removed_in : {g : PortGraph} {a : RemoveAnswer} {r : NodeRemoved} → ◌≡◌ {A = NodeRemoved} (record { graph = g; answer = a }) r → (g ≡ r.graph) × (a ≡ r.answer)
+pub removed_in : {g : PortGraph} {a : Result (Unit {0}) NoSuchNode} {r : NodeRemoved} → ◌≡◌ {A = NodeRemoved} (record { graph = g; answer = a }) r → (g ≡ r.graph) × (a ≡ r.answer)
 removed_in e = (ap (λ (x : NodeRemoved). x.graph) e, ap (λ (x : NodeRemoved). x.answer) e)
 
-set_lent : {g : PortGraph} {a : SetAnswer} {r : PortsSet} → ◌≡◌ {A = PortsSet} (record { graph = g; answer = a }) r → (g ≡ r.graph) × (a ≡ r.answer)
+set_lent : {g : PortGraph} {a : Result ℕ SetError} {r : PortsSet} → ◌≡◌ {A = PortsSet} (record { graph = g; answer = a }) r → (g ≡ r.graph) × (a ≡ r.answer)
 set_lent e = (ap (λ (x : PortsSet). x.graph) e, ap (λ (x : PortsSet). x.answer) e)
 
 -- Adding and removing a node.
@@ -170,8 +165,8 @@ module _ (nodes links owners heads : List ℕ) (counts : Counts) (w : Wf (graph_
   pub node_added_in :
       (i o n b : ℕ) (nodes₁ nodes₂ : List ℕ) {next free after nlen head link first plen : ℕ} {slot neighbour beside own : NodeSlot} {heads' links' owners' : List ℕ} →
       i + o ≤ node_ports →
-      find_slot counts.node_free counts.node_len ≡ At n →
-      find_block heads counts.port_len (i + o) ≡ At b →
+      find_slot counts.node_free counts.node_len ≡ Some n →
+      find_block heads counts.port_len (i + o) ≡ Some b →
       slot ≡ slot_in nodes n →
       next ≡ next_of slot.entry →
       free ≡ rest_of counts.node_free next →
@@ -197,7 +192,7 @@ module _ (nodes links owners heads : List ℕ) (counts : Counts) (w : Wf (graph_
         port_count = counts.port_count + (i + o);
         link_count = counts.link_count;
       }) ≡ (add_node (graph_in nodes links owners heads counts) i o).graph)
-      × (added.Added (node# n) (port# b) ≡ (add_node (graph_in nodes links owners heads counts) i o).answer)
+      × (Ok (node# n, port# b) ≡ (add_node (graph_in nodes links owners heads counts) i o).answer)
   node_added_in i o n b nodes₁ nodes₂ {next} {free} {after} {nlen} {head} {link} {first} {plen} {slot} {neighbour} {beside} {own} {heads'} {links'} {owners'} few fs fb e1 e2 e3 e4 e5 e6 e7 e8 e9 e10 e11 e12 e13 e14 e15 e16 e17 =
       let long = w.holds.nodes_long in
       let below : n < node_slots = node_slot_fits (graph_in nodes links owners heads counts) w n fs in
@@ -237,7 +232,7 @@ module _ (nodes links owners heads : List ℕ) (counts : Counts) (w : Wf (graph_
         port_count = port_count;
         link_count = link_count;
       }) ≡ (remove_node (graph_in nodes links owners heads counts) n).graph)
-      × (removed.Removed ≡ (remove_node (graph_in nodes links owners heads counts) n).answer)
+      × (Ok tt ≡ (remove_node (graph_in nodes links owners heads counts) n).answer)
   node_removed_in n m nodes₁ nodes₂ {place} {first} {size} {after} {cuts} {head} {node_count} {ports} {port_count} {link_count} {neighbour} {beside} {own} {cutLinks} {links'} {owners'} {heads'} e p e1 e2 e3 e4 e5 e6 e7 e8 e9 e10 e11 e12 e13 e14 e15 e16 e17 =
       let long = w.holds.nodes_long in
       let below : n < node_slots = node_below (graph_in nodes links owners heads counts) w n m e in
@@ -252,7 +247,7 @@ module _ (nodes links owners heads : List ℕ) (counts : Counts) (w : Wf (graph_
 -- Changing a node's counts: what each step leaves.
 
 module _ (nodes links owners heads : List ℕ) (counts : Counts) where
-  pub taken_in : (size first : ℕ) {heads' : List ℕ} {counts' : Counts} → 0 < size → find_block heads counts.port_len size ≡ At first
+  pub taken_in : (size first : ℕ) {heads' : List ℕ} {counts' : Counts} → 0 < size → find_block heads counts.port_len size ≡ Some first
       → counts' ≡ count_ports counts (grown (head_at heads size) counts.port_len size)
       → heads' ≡ put_head heads size (rest_of (head_at heads size) (at links first))
       → graph_in nodes links owners heads' counts' ≡ take_block (graph_in nodes links owners heads counts) size
@@ -306,11 +301,11 @@ module _ (nodes links owners heads : List ℕ) (counts : Counts) where
 
 -- how many events the code counts
 pub inside_events : (m : NodeMeta) (i o : ℕ) {oi ki ports events : ℕ} → oi ≡ m.incoming → ki ≡ min oi i → ports ≡ m.incoming + m.outgoing → events ≡ ports - ki
-    → set_variants.Set events ≡ set_variants.Set (dropped m i o + kept_outgoing m o)
-inside_events m i o e f g h = ap (λ (k : ℕ). set_variants.Set k) (omega arith)
+    → ◌≡◌ {A = Result ℕ SetError} (Ok events) (Ok (dropped m i o + kept_outgoing m o))
+inside_events m i o e f g h = ap (λ (k : ℕ). Ok k) (omega arith)
 
-pub anew_events : (m : NodeMeta) (i o : ℕ) {ports : ℕ} → ports ≡ m.incoming + m.outgoing → set_variants.Set ports ≡ set_variants.Set (dropped m i o + (kept_incoming m i + kept_outgoing m o))
-anew_events m i o e = ap (λ (k : ℕ). set_variants.Set k) (omega arith)
+pub anew_events : (m : NodeMeta) (i o : ℕ) {ports : ℕ} → ports ≡ m.incoming + m.outgoing → ◌≡◌ {A = Result ℕ SetError} (Ok ports) (Ok (dropped m i o + (kept_incoming m i + kept_outgoing m o)))
+anew_events m i o e = ap (λ (k : ℕ). Ok k) (omega arith)
 
 -- the steps together are the change of counts
 module _ (nodes links owners heads : List ℕ) (counts : Counts) (n : ℕ) (m : NodeMeta) (i o : ℕ) where
@@ -321,7 +316,7 @@ module _ (nodes links owners heads : List ℕ) (counts : Counts) (n : ℕ) (m : 
       ∙ sym (inside_in_steps (graph_in nodes links owners heads counts) n m i o))
 
   pub anew_done : {size first : ℕ} {links₁ heads₁ : List ℕ} {counts₁ counts₂ : Counts} {g : PortGraph} → Resizes (graph_in nodes links owners heads counts) n m i o
-      → size ≡ round_up (i + o) → find_block heads counts.port_len (round_up (i + o)) ≡ At first
+      → size ≡ round_up (i + o) → find_block heads counts.port_len (round_up (i + o)) ≡ Some first
       → counts₁ ≡ count_ports counts (grown (head_at heads size) counts.port_len size) → heads₁ ≡ put_head heads size (rest_of (head_at heads size) (at links first))
       → counts₂ ≡ count_links counts₁ (counts₁.link_count - drop_count links m i o) → links₁ ≡ drop_links links m i o
       → g ≡ settle_anew (graph_in nodes links₁ owners heads₁ counts₂) n m i o first size → g ≡ (set_by (graph_in nodes links owners heads counts) n i o (anew m first)).graph
@@ -335,7 +330,7 @@ module _ (nodes links owners heads : List ℕ) (counts : Counts) (n : ℕ) (m : 
       ∙ sym (anew_in_steps g n i o r.wf m first r.few r.live found)))
 
 -- graph and answer for a plan
-pub planned_in : (g h : PortGraph) (n i o room : ℕ) (a : SetAnswer) (p : Plan) → plan_of g n i o room ≡ p → h ≡ (set_by g n i o p).graph → a ≡ (set_by g n i o p).answer
+pub planned_in : (g h : PortGraph) (n i o room : ℕ) (a : Result ℕ SetError) (p : Plan) → plan_of g n i o room ≡ p → h ≡ (set_by g n i o p).graph → a ≡ (set_by g n i o p).answer
     → (h ≡ (set_num_ports g n i o room).graph) × (a ≡ (set_num_ports g n i o room).answer)
 unfolding set_num_ports_under
 planned_in g h n i o room a p e eg ea = (rw e eg, rw e ea)
@@ -348,20 +343,20 @@ module _ (nodes links owners heads : List ℕ) (counts : Counts) (n : ℕ) (m : 
   long : 3 * (m.incoming + m.outgoing) ≤ 3 * node_ports
   long = let f = r.fits in omega arith
 
-  pub quiet_same : same_counts m i o ≡ true → (whole ≡ (set_num_ports whole n i o (3 * node_ports)).graph) × (set_variants.Set 0 ≡ (set_num_ports whole n i o (3 * node_ports)).answer)
+  pub quiet_same : same_counts m i o ≡ true → (whole ≡ (set_num_ports whole n i o (3 * node_ports)).graph) × (Ok 0 ≡ (set_num_ports whole n i o (3 * node_ports)).answer)
   quiet_same s = planned_in whole whole n i o (3 * node_ports) _ same (plan_same whole n i o (3 * node_ports) r.few m r.live long s) refl refl
 
   module _ (s : same_counts m i o ≡ false) where
-    pub quiet_inside : {g : PortGraph} {a : SetAnswer} → fits_inside m i o ≡ true → g ≡ (set_by whole n i o (inside m)).graph → a ≡ (set_by whole n i o (inside m)).answer
+    pub quiet_inside : {g : PortGraph} {a : Result ℕ SetError} → fits_inside m i o ≡ true → g ≡ (set_by whole n i o (inside m)).graph → a ≡ (set_by whole n i o (inside m)).answer
         → (g ≡ (set_num_ports whole n i o (3 * node_ports)).graph) × (a ≡ (set_num_ports whole n i o (3 * node_ports)).answer)
     quiet_inside {g} t = planned_in whole g n i o (3 * node_ports) _ (inside m) (plan_inside whole n i o (3 * node_ports) r.few m r.live long s t)
 
     module _ (t : fits_inside m i o ≡ false) where
-      pub quiet_no_room : find_block heads counts.port_len (round_up (i + o)) ≡ NoRoom
-          → (whole ≡ (set_num_ports whole n i o (3 * node_ports)).graph) × (set_variants.NoRoom ≡ (set_num_ports whole n i o (3 * node_ports)).answer)
-      quiet_no_room f = planned_in whole whole n i o (3 * node_ports) _ (refuse set_variants.NoRoom) (plan_no_room whole n i o (3 * node_ports) r.few m r.live long s t f) refl refl
+      pub quiet_no_room : find_block heads counts.port_len (round_up (i + o)) ≡ None
+          → (whole ≡ (set_num_ports whole n i o (3 * node_ports)).graph) × (Err set_error.NoRoom ≡ (set_num_ports whole n i o (3 * node_ports)).answer)
+      quiet_no_room f = planned_in whole whole n i o (3 * node_ports) _ (refuse (Err set_error.NoRoom)) (plan_no_room whole n i o (3 * node_ports) r.few m r.live long s t f) refl refl
 
-      pub quiet_anew : (first : ℕ) {g : PortGraph} {a : SetAnswer} → find_block heads counts.port_len (round_up (i + o)) ≡ At first → g ≡ (set_by whole n i o (anew m first)).graph → a ≡ (set_by whole n i o (anew m first)).answer
+      pub quiet_anew : (first : ℕ) {g : PortGraph} {a : Result ℕ SetError} → find_block heads counts.port_len (round_up (i + o)) ≡ Some first → g ≡ (set_by whole n i o (anew m first)).graph → a ≡ (set_by whole n i o (anew m first)).answer
           → (g ≡ (set_num_ports whole n i o (3 * node_ports)).graph) × (a ≡ (set_num_ports whole n i o (3 * node_ports)).answer)
       quiet_anew first {g} f = planned_in whole g n i o (3 * node_ports) _ (anew m first) (plan_anew whole n i o (3 * node_ports) r.few m r.live long first s t f)
 

@@ -1,6 +1,6 @@
 -- The empty graph, and graphs after ports are linked and unlinked: their tables stand for the models that the calls mean.
 -- What each answer of linking and unlinking says of the places of the ports, and that well-formed graphs stay so.
-use Rattle.std.specs.Prelude.{◌≡◌, refl, Bool, true, false, cond, List, ◌⊎◌, ℕ, zero, suc, ◌+◌, ◌-◌, ◌≤◌, ◌<◌, leb, ltb, length, get_or, replicate}
+use Rattle.std.specs.Prelude.{◌≡◌, refl, Bool, true, false, cond, List, ◌⊎◌, ℕ, zero, suc, ◌+◌, ◌-◌, ◌≤◌, ◌<◌, leb, ltb, length, get_or, replicate, Option, Some, None, Result, Ok, Err}
 use Rattle.std.proofs.Common.{sym, ◌∙◌, subst, inl, inr, arith, add-one, eq-eqb, ne_eqb}
 use Rattle.std.proofs.Math.Path.{ap}
 use Rattle.std.proofs.lemmas.List.{length-replicate}
@@ -27,12 +27,11 @@ use Rattle.port_tables.specs.declared.node_entry.NodeSlot.{NodeSlot}
 use Rattle.port_tables.specs.declared.port_entry.PortEntry.{PortEntry}
 use Rattle.port_tables.specs.declared.port_entry.PortEntry.TheVariants as port_variants
 use Rattle.portgraph.specs.declared.portgraph.PortGraph.{PortGraph}
-use Rattle.portgraph.specs.declared.portgraph.PortLink.{PortLink}
-use Rattle.portgraph.specs.declared.portgraph.PortLink.TheVariants as link_variants
-use Rattle.portgraph.specs.declared.portgraph.LinkAnswer.{LinkAnswer}
-use Rattle.portgraph.specs.declared.portgraph.LinkAnswer.TheVariants as linked
 use Rattle.portgraph.specs.declared.portgraph.PortsLinked.{PortsLinked}
 use Rattle.portgraph.specs.declared.portgraph.PortUnlinked.{PortUnlinked}
+use Rattle.portgraph.specs.declared.portgraph.LinkError.{LinkError}
+use Rattle.portgraph.specs.declared.portgraph.NoSuchPort.{NoSuchPort}
+use Rattle.portgraph.specs.declared.portgraph.LinkError.TheVariants as link_error
 
 -- The empty graph.
 
@@ -210,13 +209,13 @@ pub record LinkMade (M : Model) (a b : ℕ) (h : PortGraph) : Type 0 where
   pub holds : Holds h (link_model M ends.first ends.second)
 
 -- what each answer to linking a and b says of their places, and of the graph h after the call
-abbrev pub LinkSays : PortGraph → Model → ℕ → ℕ → PortGraph → LinkAnswer → Type 0
-LinkSays g M a b h (linked.Linked p q) = LinkMade M a b h × (p ≡ port# a) × (q ≡ port# b)
-LinkSays g M a b h (linked.UnknownPort p) = (h ≡ g) × (p ≡ port# a) × Dead M a
-LinkSays g M a b h (linked.UnknownSecondPort q) = (h ≡ g) × (q ≡ port# b) × ((x : InnerPlace) × IsPort M a x) × Dead M b
-LinkSays g M a b h (linked.IncompatibleDirections p q d) =
+abbrev pub LinkSays : PortGraph → Model → ℕ → ℕ → PortGraph → Result (PortIndex × PortIndex) LinkError → Type 0
+LinkSays g M a b h (Ok (p, q)) = LinkMade M a b h × (p ≡ port# a) × (q ≡ port# b)
+LinkSays g M a b h (Err (link_error.UnknownPort p)) = (h ≡ g) × (p ≡ port# a) × Dead M a
+LinkSays g M a b h (Err (link_error.UnknownSecondPort q)) = (h ≡ g) × (q ≡ port# b) × ((x : InnerPlace) × IsPort M a x) × Dead M b
+LinkSays g M a b h (Err (link_error.IncompatibleDirections p q d)) =
     (h ≡ g) × (p ≡ port# a) × (q ≡ port# b) × ((e : Ends M a b) × (e.first.side ≡ d) × (e.second.side ≡ d))
-LinkSays g M a b h (linked.AlreadyLinked p) =
+LinkSays g M a b h (Err (link_error.AlreadyLinked p)) =
     (h ≡ g)
     × ((e : Ends M a b) × (e.first.side ≡ e.second.side → ⊥)
     × (((p ≡ port# a) × (M.join e.first ≡ nowhere → ⊥)) ⊎ ((p ≡ port# b) × (M.join e.first ≡ nowhere) × (M.join e.second ≡ nowhere → ⊥))))
@@ -231,32 +230,32 @@ pub record LinkCut (M : Model) (p q : ℕ) (h : PortGraph) : Type 0 where
   pub good : Good (unlink_model M near)
   pub holds : Holds h (unlink_model M near)
 
-abbrev pub UnlinkSays : PortGraph → Model → ℕ → PortGraph → PortLink → Type 0
-UnlinkSays g M p h (link_variants.Linked q) = LinkCut M p q.0 h
-UnlinkSays g M p h link_variants.Unlinked = (h ≡ g) × ((x : InnerPlace) × IsPort M p x × (M.join x ≡ nowhere))
-UnlinkSays g M p h (link_variants.UnknownPort q) = (h ≡ g) × (q ≡ port# p) × Dead M p
+abbrev pub UnlinkSays : PortGraph → Model → ℕ → PortGraph → Result (Option PortIndex) NoSuchPort → Type 0
+UnlinkSays g M p h (Ok (Some q)) = LinkCut M p q.0 h
+UnlinkSays g M p h (Ok None) = (h ≡ g) × ((x : InnerPlace) × IsPort M p x × (M.join x ≡ nowhere))
+UnlinkSays g M p h (Err q) = (h ≡ g) × (q.0 ≡ port# p) × Dead M p
 
 module _ (g : PortGraph) (a b : ℕ) (d e : Direction) where
-  sides_same : same_side d e ≡ true → link_sides g a b d e ≡ link_refused g (linked.IncompatibleDirections (port# a) (port# b) d)
+  sides_same : same_side d e ≡ true → link_sides g a b d e ≡ link_refused g (Err (link_error.IncompatibleDirections (port# a) (port# b) d))
   sides_same t = rw t
 
-  first_taken : same_side d e ≡ false → (at g.port_link a ≡ 0 → ⊥) → link_sides g a b d e ≡ link_refused g (linked.AlreadyLinked (port# a))
+  first_taken : same_side d e ≡ false → (at g.port_link a ≡ 0 → ⊥) → link_sides g a b d e ≡ link_refused g (Err (link_error.AlreadyLinked (port# a)))
   first_taken t n = rw (t, ne_eqb (at g.port_link a) 0 n)
 
-  second_taken : same_side d e ≡ false → at g.port_link a ≡ 0 → (at g.port_link b ≡ 0 → ⊥) → link_sides g a b d e ≡ link_refused g (linked.AlreadyLinked (port# b))
+  second_taken : same_side d e ≡ false → at g.port_link a ≡ 0 → (at g.port_link b ≡ 0 → ⊥) → link_sides g a b d e ≡ link_refused g (Err (link_error.AlreadyLinked (port# b)))
   second_taken t z n = rw (t, eq-eqb (at g.port_link a) 0 z, ne_eqb (at g.port_link b) 0 n)
 
   both_free : same_side d e ≡ false → at g.port_link a ≡ 0 → at g.port_link b ≡ 0 →
-      link_sides g a b d e ≡ record { graph = with_links g (link_both g.port_link a b) (g.link_count + 1); answer = linked.Linked (port# a) (port# b) }
+      link_sides g a b d e ≡ record { graph = with_links g (link_both g.port_link a b) (g.link_count + 1); answer = Ok (port# a, port# b) }
   both_free t z y = rw (t, eq-eqb (at g.port_link a) 0 z, eq-eqb (at g.port_link b) 0 y)
 
 -- whether a link was made
-abbrev pub is_made : LinkAnswer → Bool
-is_made (linked.Linked p q) = true
-is_made (linked.UnknownPort p) = false
-is_made (linked.UnknownSecondPort q) = false
-is_made (linked.IncompatibleDirections p q d) = false
-is_made (linked.AlreadyLinked p) = false
+abbrev pub is_made : Result (PortIndex × PortIndex) LinkError → Bool
+is_made (Ok (p, q)) = true
+is_made (Err (link_error.UnknownPort p)) = false
+is_made (Err (link_error.UnknownSecondPort q)) = false
+is_made (Err (link_error.IncompatibleDirections p q d)) = false
+is_made (Err (link_error.AlreadyLinked p)) = false
 
 is_nowhere : (f : Far) → (f ≡ nowhere) ⊎ (f ≡ nowhere → ⊥)
 is_nowhere nowhere = inl refl
@@ -265,12 +264,12 @@ is_nowhere (to y) = inr (λ e. zero_is_not_one (cc))
 module _ {g : PortGraph} {M : Model} (good : Good M) (holds : Holds g M) where
   -- Each case's answer.
 
-  pub link_first_dead : (a b : ℕ) → Dead M a → link_ports g a b ≡ link_refused g (linked.UnknownPort (port# a))
+  pub link_first_dead : (a b : ℕ) → Dead M a → link_ports g a b ≡ link_refused g (Err (link_error.UnknownPort (port# a)))
   unfolding link_ports
   link_first_dead a b none = ap (λ (v : PortEntry). link_entries g a b v (port_at g b)) (vacant_is_dead good holds a none)
 
   pub link_second_dead : (x : InnerPlace) (b : ℕ) → Valid M.node x → Dead M b →
-      link_ports g (slot_of M.node x) b ≡ link_refused g (linked.UnknownSecondPort (port# b))
+      link_ports g (slot_of M.node x) b ≡ link_refused g (Err (link_error.UnknownSecondPort (port# b)))
   unfolding link_ports
   link_second_dead x b v none =
       ap (λ (w : PortEntry). link_entries g (slot_of M.node x) b w (port_at g b)) (port_of_place good holds x v)
@@ -284,15 +283,15 @@ module _ {g : PortGraph} {M : Model} (good : Good M) (holds : Holds g M) where
         ∙ ap (link_entries g (slot_of M.node x) (slot_of M.node y) (port_variants.Port (meta_of_place x))) (port_of_place good holds y vy)
 
     pub link_same_side : x.side ≡ y.side →
-        link_ports g (slot_of M.node x) (slot_of M.node y) ≡ link_refused g (linked.IncompatibleDirections (port# (slot_of M.node x)) (port# (slot_of M.node y)) x.side)
+        link_ports g (slot_of M.node x) (slot_of M.node y) ≡ link_refused g (Err (link_error.IncompatibleDirections (port# (slot_of M.node x)) (port# (slot_of M.node y)) x.side))
     link_same_side s = link_live ∙ sides_same g _ _ x.side y.side (ap (same_side x.side) (sym s) ∙ same_side_refl x.side)
 
     pub link_first_taken : (x.side ≡ y.side → ⊥) → (M.join x ≡ nowhere → ⊥) →
-        link_ports g (slot_of M.node x) (slot_of M.node y) ≡ link_refused g (linked.AlreadyLinked (port# (slot_of M.node x)))
+        link_ports g (slot_of M.node x) (slot_of M.node y) ≡ link_refused g (Err (link_error.AlreadyLinked (port# (slot_of M.node x))))
     link_first_taken opposite n = link_live ∙ first_taken g _ _ x.side y.side (same_side_distinct _ _ opposite) (λ z. n (none_linked good holds x vx z))
 
     pub link_second_taken : (x.side ≡ y.side → ⊥) → M.join x ≡ nowhere → (M.join y ≡ nowhere → ⊥) →
-        link_ports g (slot_of M.node x) (slot_of M.node y) ≡ link_refused g (linked.AlreadyLinked (port# (slot_of M.node y)))
+        link_ports g (slot_of M.node x) (slot_of M.node y) ≡ link_refused g (Err (link_error.AlreadyLinked (port# (slot_of M.node y))))
     link_second_taken opposite f n =
         link_live ∙ second_taken g _ _ x.side y.side (same_side_distinct _ _ opposite) (link_none good holds x vx f) (λ z. n (none_linked good holds y vy z))
 
@@ -300,7 +299,7 @@ module _ {g : PortGraph} {M : Model} (good : Good M) (holds : Holds g M) where
         link_ports g (slot_of M.node x) (slot_of M.node y)
         ≡ record {
           graph = with_links g (link_both g.port_link (slot_of M.node x) (slot_of M.node y)) (g.link_count + 1);
-          answer = linked.Linked (port# (slot_of M.node x)) (port# (slot_of M.node y));
+          answer = Ok (port# (slot_of M.node x), port# (slot_of M.node y));
         }
     link_done opposite f h =
         link_live ∙ both_free g _ _ x.side y.side (same_side_distinct _ _ opposite) (link_none good holds x vx f) (link_none good holds y vy h)
@@ -359,23 +358,23 @@ module _ {g : PortGraph} {M : Model} (good : Good M) (holds : Holds g M) where
       first (inl r) = subst (λ (c : ℕ). LinkSaid c b (link_ports g c b)) r.2 (second r.0 r.1 (slot_cases good holds b))
 
   -- an accepted link is made between free ports of opposite sides
-  pub link_accepted : (a b : ℕ) (p q : PortIndex) → (link_ports g a b).answer ≡ linked.Linked p q → LinkMade M a b (link_ports g a b).graph
+  pub link_accepted : (a b : ℕ) (p q : PortIndex) → (link_ports g a b).answer ≡ Ok (p, q) → LinkMade M a b (link_ports g a b).graph
   link_accepted a b p q e = (subst (LinkSays g M a b (link_ports g a b).graph) e (link_law a b)).0
 
   -- with every other answer the graph stays as it is
   pub link_refused_lem : (a b : ℕ) → is_made (link_ports g a b).answer ≡ false → (link_ports g a b).graph ≡ g
   link_refused_lem a b = go (link_ports g a b).answer (link_law a b)
     where
-      go : (r : LinkAnswer) → LinkSays g M a b (link_ports g a b).graph r → is_made r ≡ false → (link_ports g a b).graph ≡ g
-      go (linked.Linked p q) s e = absurd (zero_is_not_one (cc))
-      go (linked.UnknownPort p) s e = s.0
-      go (linked.UnknownSecondPort q) s e = s.0
-      go (linked.IncompatibleDirections p q d) s e = s.0
-      go (linked.AlreadyLinked p) s e = s.0
+      go : (r : Result (PortIndex × PortIndex) LinkError) → LinkSays g M a b (link_ports g a b).graph r → is_made r ≡ false → (link_ports g a b).graph ≡ g
+      go (Ok (p, q)) s e = absurd (zero_is_not_one (cc))
+      go (Err (link_error.UnknownPort p)) s e = s.0
+      go (Err (link_error.UnknownSecondPort q)) s e = s.0
+      go (Err (link_error.IncompatibleDirections p q d)) s e = s.0
+      go (Err (link_error.AlreadyLinked p)) s e = s.0
 
   -- Unlinking.
 
-  pub unlink_dead : (p : ℕ) → Dead M p → unlink_port g p ≡ record { graph = g; answer = link_variants.UnknownPort (port# p) }
+  pub unlink_dead : (p : ℕ) → Dead M p → unlink_port g p ≡ record { graph = g; answer = Err (record { 0 = port# p }) }
   unfolding unlink_port
   unlink_dead p none = λ i. record { graph = unlink_entry g p (vacant_is_dead good holds p none i); answer = port_link_dead good holds p none i }
 
@@ -383,13 +382,13 @@ module _ {g : PortGraph} {M : Model} (good : Good M) (holds : Holds g M) where
       unlink_port g (slot_of M.node x)
       ≡ record {
         graph = with_links g (cut g.port_link (slot_of M.node x)) (g.link_count - link_count (at g.port_link (slot_of M.node x)));
-        answer = link_variants.Linked (port# (slot_of M.node y));
+        answer = Ok (Some (port# (slot_of M.node y)));
       }
   unfolding unlink_port
   unlink_linked x y v e =
       λ i. record { graph = unlink_entry g (slot_of M.node x) (port_of_place good holds x v i); answer = port_link_to good holds x y v e i }
 
-  pub unlink_free : (x : InnerPlace) → Valid M.node x → M.join x ≡ nowhere → unlink_port g (slot_of M.node x) ≡ record { graph = g; answer = link_variants.Unlinked }
+  pub unlink_free : (x : InnerPlace) → Valid M.node x → M.join x ≡ nowhere → unlink_port g (slot_of M.node x) ≡ record { graph = g; answer = Ok None }
   unfolding unlink_port
   unlink_free x v e =
       let z : at g.port_link (slot_of M.node x) ≡ 0 = link_none good holds x v e in
@@ -397,7 +396,7 @@ module _ {g : PortGraph} {M : Model} (good : Good M) (holds : Holds g M) where
       let c : g.link_count - link_count (at g.port_link (slot_of M.node x)) ≡ g.link_count =
       ap (λ (n : ℕ). g.link_count - n) (sym (link_count_none (at g.port_link (slot_of M.node x)) z)) ∙ none_less g.link_count in
       (λ i. record { graph = unlink_entry g (slot_of M.node x) (port_of_place good holds x v i); answer = port_link_none good holds x v e i })
-      ∙ (λ i. record { graph = with_links g (t i) (c i); answer = link_variants.Unlinked })
+      ∙ (λ i. record { graph = with_links g (t i) (c i); answer = Ok None })
 
   abbrev UnlinkSaid : ℕ → PortUnlinked → Type 0
   UnlinkSaid p r = UnlinkSays g M p r.graph r.answer
@@ -427,21 +426,21 @@ module _ {g : PortGraph} {M : Model} (good : Good M) (holds : Holds g M) where
 
 -- Well-formed graphs stay well-formed.
 
-wf_linked : (g h : PortGraph) (w : Wf g) (a b : ℕ) (r : LinkAnswer) → LinkSays g w.model a b h r → Wf h
-wf_linked g h w a b (linked.Linked p q) s =
+wf_linked : (g h : PortGraph) (w : Wf g) (a b : ℕ) (r : Result (PortIndex × PortIndex) LinkError) → LinkSays g w.model a b h r → Wf h
+wf_linked g h w a b (Ok (p, q)) s =
     record { model = link_model w.model s.0.ends.first s.0.ends.second; good = s.0.good; holds = s.0.holds }
-wf_linked g h w a b (linked.UnknownPort p) s = subst Wf (sym s.0) w
-wf_linked g h w a b (linked.UnknownSecondPort q) s = subst Wf (sym s.0) w
-wf_linked g h w a b (linked.IncompatibleDirections p q d) s = subst Wf (sym s.0) w
-wf_linked g h w a b (linked.AlreadyLinked p) s = subst Wf (sym s.0) w
+wf_linked g h w a b (Err (link_error.UnknownPort p)) s = subst Wf (sym s.0) w
+wf_linked g h w a b (Err (link_error.UnknownSecondPort q)) s = subst Wf (sym s.0) w
+wf_linked g h w a b (Err (link_error.IncompatibleDirections p q d)) s = subst Wf (sym s.0) w
+wf_linked g h w a b (Err (link_error.AlreadyLinked p)) s = subst Wf (sym s.0) w
 
 pub wf_link : (g : PortGraph) (a b : ℕ) → Wf g → Wf (link_ports g a b).graph
 wf_link g a b w = wf_linked g (link_ports g a b).graph w a b (link_ports g a b).answer (link_law w.good w.holds a b)
 
-wf_unlinked : (g h : PortGraph) (w : Wf g) (p : ℕ) (r : PortLink) → UnlinkSays g w.model p h r → Wf h
-wf_unlinked g h w p (link_variants.Linked q) s = record { model = unlink_model w.model s.near; good = s.good; holds = s.holds }
-wf_unlinked g h w p link_variants.Unlinked s = subst Wf (sym s.0) w
-wf_unlinked g h w p (link_variants.UnknownPort q) s = subst Wf (sym s.0) w
+wf_unlinked : (g h : PortGraph) (w : Wf g) (p : ℕ) (r : Result (Option PortIndex) NoSuchPort) → UnlinkSays g w.model p h r → Wf h
+wf_unlinked g h w p (Ok (Some q)) s = record { model = unlink_model w.model s.near; good = s.good; holds = s.holds }
+wf_unlinked g h w p (Ok None) s = subst Wf (sym s.0) w
+wf_unlinked g h w p (Err q) s = subst Wf (sym s.0) w
 
 pub wf_unlink : (g : PortGraph) (p : ℕ) → Wf g → Wf (unlink_port g p).graph
 wf_unlink g p w = wf_unlinked g (unlink_port g p).graph w p (unlink_port g p).answer (unlink_law w.good w.holds p)

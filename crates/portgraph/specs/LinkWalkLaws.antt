@@ -2,7 +2,7 @@
 -- Each item is a link of the model; a cursor whose node or port is gone ends the walk.
 use Rattle.std.proofs.Math.Path.{◌≡◌, refl, sym, ap}
 use Rattle.std.proofs.Common.{◌∙◌, inl, inr}
-use Rattle.std.specs.Prelude.{Bool, ◌⊎◌, ℕ, zero, suc, ◌+◌, ◌-◌, ◌≤◌, ◌<◌, max, eqb, leb}
+use Rattle.std.specs.Prelude.{Bool, ◌⊎◌, ℕ, zero, suc, ◌+◌, ◌-◌, ◌≤◌, ◌<◌, max, eqb, leb, Option, Some, None}
 use Rattle.std.proofs.Math.Bool.{true, false, cond}
 use mathlib.Core.List.{List, [], ◌∷◌, map}
 use native.Mathlib.Omega.{arith}
@@ -25,23 +25,15 @@ use Rattle.port_tables.specs.declared.index.NodeIndex.{NodeIndex}
 use Rattle.port_tables.specs.declared.port_entry.PortMeta.{PortMeta}
 use Rattle.port_tables.specs.declared.port_entry.PortEntry.TheVariants as port_variants
 use Rattle.port_tables.specs.declared.node_entry.NodeMeta.{NodeMeta}
-use Rattle.port_tables.specs.declared.node_entry.MaybeNodeMeta.TheVariants as maybe_meta
 use Rattle.portgraph.specs.declared.portgraph.PortGraph.{PortGraph}
 use Rattle.port_tables.specs.declared.sides.Sides.{Sides}
 use Rattle.port_tables.specs.declared.sides.Sides.TheVariants.{One, Both}
 use Rattle.portgraph.specs.declared.link_iter.Link.{Link}
 use Rattle.portgraph.specs.declared.link_iter.NodeLinks.{NodeLinks}
-use Rattle.portgraph.specs.declared.link_iter.NodeLinksStep.{NodeLinksStep}
-use Rattle.portgraph.specs.declared.link_iter.NodeLinksStep.TheVariants as links_step
 use Rattle.portgraph.specs.declared.link_iter.Neighbours.{Neighbours}
-use Rattle.portgraph.specs.declared.link_iter.NeighboursStep.{NeighboursStep}
-use Rattle.portgraph.specs.declared.link_iter.NeighboursStep.TheVariants as neighbours_step
 use Rattle.portgraph.specs.declared.link_iter.NodeConnections.{NodeConnections}
-use Rattle.portgraph.specs.declared.link_iter.NodeConnectionsStep.{NodeConnectionsStep}
-use Rattle.portgraph.specs.declared.link_iter.NodeConnectionsStep.TheVariants as connections_step
 use Rattle.portgraph.specs.declared.link_iter.Ports.{Ports}
-use Rattle.portgraph.specs.declared.link_iter.PortsStep.{PortsStep}
-use Rattle.portgraph.specs.declared.link_iter.PortsStep.TheVariants as all_step
+use Rattle.port_tables.specs.declared.index.PortIndex.{PortIndex}
 
 -- Any walk that stops at some of consecutive slots.
 
@@ -156,33 +148,33 @@ module _ {A : Type 0} (item : ℕ → A) (f : ℕ → Bool) (there : ℕ → Boo
 
 -- The walks of at most so many steps.
 
-abbrev pub after_link : (NodeLinks → Walked Link) → NodeLinksStep → Walked Link
-after_link walk (links_step.Item w c) = more w (walk c)
-after_link walk links_step.End = whole []
+abbrev pub after_link : (NodeLinks → Walked Link) → Option (Link × NodeLinks) → Walked Link
+after_link walk (Some (w, c)) = more w (walk c)
+after_link walk None = whole []
 
 unfoldable pub walk_links : PortGraph → ℕ → NodeLinks → Walked Link
 walk_links g zero c = unfinished
 walk_links g (suc fuel) c = after_link (walk_links g fuel) (step_links g c)
 
-abbrev pub after_neighbour : (Neighbours → Walked NodeIndex) → NeighboursStep → Walked NodeIndex
-after_neighbour walk (neighbours_step.Item n c) = more n (walk c)
-after_neighbour walk neighbours_step.End = whole []
+abbrev pub after_neighbour : (Neighbours → Walked NodeIndex) → Option (NodeIndex × Neighbours) → Walked NodeIndex
+after_neighbour walk (Some (n, c)) = more n (walk c)
+after_neighbour walk None = whole []
 
 unfoldable pub walk_neighbours : PortGraph → ℕ → Neighbours → Walked NodeIndex
 walk_neighbours g zero c = unfinished
 walk_neighbours g (suc fuel) c = after_neighbour (walk_neighbours g fuel) (step_neighbours g c)
 
-abbrev pub after_connection : (NodeConnections → Walked Link) → NodeConnectionsStep → Walked Link
-after_connection walk (connections_step.Item w c) = more w (walk c)
-after_connection walk connections_step.End = whole []
+abbrev pub after_connection : (NodeConnections → Walked Link) → Option (Link × NodeConnections) → Walked Link
+after_connection walk (Some (w, c)) = more w (walk c)
+after_connection walk None = whole []
 
 unfoldable pub walk_connections : PortGraph → ℕ → NodeConnections → Walked Link
 walk_connections g zero c = unfinished
 walk_connections g (suc fuel) c = after_connection (walk_connections g fuel) (step_connections g c)
 
-abbrev pub after_any_port : (Ports → Walked ℕ) → PortsStep → Walked ℕ
-after_any_port walk (all_step.Item p c) = more p.0 (walk c)
-after_any_port walk all_step.End = whole []
+abbrev pub after_any_port : (Ports → Walked ℕ) → Option (PortIndex × Ports) → Walked ℕ
+after_any_port walk (Some (p, c)) = more p.0 (walk c)
+after_any_port walk None = whole []
 
 unfoldable pub walk_all_ports : PortGraph → ℕ → Ports → Walked ℕ
 walk_all_ports g zero c = unfinished
@@ -222,7 +214,7 @@ all_ports_on : (g : PortGraph) (fuel held : ℕ)
     → walk_all_ports g (suc fuel) (ports_cursor held)
     ≡ beyond (held_in g.port_meta held) held (whole []) (λ p. more p (walk_all_ports g fuel (ports_cursor (suc p)))) (filter (is_port_in g.port_meta) (range 0 port_slots))
 unfolding walk_all_ports step_all_ports all_ports
-all_ports_on g fuel held = step_then (after_any_port (walk_all_ports g fuel)) _ held all_step.End all_ports_item _
+all_ports_on g fuel held = step_then (after_any_port (walk_all_ports g fuel)) _ held None all_ports_item _
 
 -- from the start: all live ports of the graph, and then the end
 pub walk_gives_all_live_ports : (g : PortGraph) → walk_all_ports g (port_slots + 1) (ports_cursor 0) ≡ whole (all_ports g)
@@ -234,22 +226,22 @@ walk_gives_all_live_ports g =
 
 -- The walks over the links of a node.
 
-module _ (g : PortGraph) (n : ℕ) (m : NodeMeta) (meta : meta_at g n ≡ maybe_meta.Some m) where
+module _ (g : PortGraph) (n : ℕ) (m : NodeMeta) (meta : meta_at g n ≡ Some m) where
   links_on : (sides : Sides) (lo hi fuel held : ℕ)
       → walk_links g (suc fuel) (links_cursor n sides lo hi held)
       ≡ beyond (held_in g.port_meta held) held (whole []) (λ p. more (link_at g p) (walk_links g fuel (links_cursor n sides lo hi (suc p)))) (filter (link_kept g.port_link lo hi) (ports_of_node m sides))
   unfolding walk_links step_links
   links_on sides lo hi fuel held =
-      step_then (after_link (walk_links g fuel)) _ held links_step.End (links_item g (links_cursor n sides lo hi held)) _ ∙
+      step_then (after_link (walk_links g fuel)) _ held None (links_item g (links_cursor n sides lo hi held)) _ ∙
       ap (λ x. beyond (held_in g.port_meta held) held (whole []) (λ p. more (link_at g p) (walk_links g fuel (links_cursor n sides lo hi (suc p)))) (filter (link_kept g.port_link lo hi) (ports_in x sides))) meta
 
   neighbours_on : (sides : Sides) (flag : Bool) (fuel held : ℕ)
       → walk_neighbours g (suc fuel) (neighbours_cursor n sides flag held)
       ≡ beyond (held_in g.port_meta held) held (whole []) (λ p. more (neighbour_at g p) (walk_neighbours g fuel (neighbours_cursor n sides flag (suc p))))
-      (filter (link_kept g.port_link (own_from flag (maybe_meta.Some m)) (own_to flag (maybe_meta.Some m))) (ports_of_node m sides))
+      (filter (link_kept g.port_link (own_from flag (Some m)) (own_to flag (Some m))) (ports_of_node m sides))
   unfolding walk_neighbours step_neighbours
   neighbours_on sides flag fuel held =
-      step_then (after_neighbour (walk_neighbours g fuel)) _ held neighbours_step.End (neighbours_item g (neighbours_cursor n sides flag held)) _ ∙
+      step_then (after_neighbour (walk_neighbours g fuel)) _ held None (neighbours_item g (neighbours_cursor n sides flag held)) _ ∙
       ap (λ x. beyond (held_in g.port_meta held) held (whole []) (λ p. more (neighbour_at g p) (walk_neighbours g fuel (neighbours_cursor n sides flag (suc p)))) (filter (link_kept g.port_link (own_from flag x) (own_to flag x)) (ports_in x sides))) meta
 
   connections_on : (k fuel held : ℕ)
@@ -257,14 +249,14 @@ module _ (g : PortGraph) (n : ℕ) (m : NodeMeta) (meta : meta_at g n ≡ maybe_
       ≡ beyond (held_in g.port_meta held) held (whole []) (λ p. more (link_at g p) (walk_connections g fuel (connections_cursor n k (suc p)))) (filter (link_to g.port_link g.port_meta k) (ports_of_node m (One Outgoing)))
   unfolding walk_connections step_connections
   connections_on k fuel held =
-      step_then (after_connection (walk_connections g fuel)) _ held connections_step.End (connections_item g (connections_cursor n k held)) _ ∙
+      step_then (after_connection (walk_connections g fuel)) _ held None (connections_item g (connections_cursor n k held)) _ ∙
       ap (λ x. beyond (held_in g.port_meta held) held (whole []) (λ p. more (link_at g p) (walk_connections g fuel (connections_cursor n k (suc p)))) (filter (link_to g.port_link g.port_meta k) (ports_in x (One Outgoing)))) meta
 
   listed_links : (sides : Sides) (lo hi : ℕ) → map (link_at g) (filter (link_kept g.port_link lo hi) (ports_of_node m sides)) ≡ node_links g n sides lo hi
   unfolding node_links
   listed_links sides lo hi = sym (ap (λ x. map (link_at g) (filter (link_kept g.port_link lo hi) (ports_in x sides))) meta)
 
-  listed_neighbours : (sides : Sides) (flag : Bool) → map (neighbour_at g) (filter (link_kept g.port_link (own_from flag (maybe_meta.Some m)) (own_to flag (maybe_meta.Some m))) (ports_of_node m sides)) ≡ neighbours g n sides flag
+  listed_neighbours : (sides : Sides) (flag : Bool) → map (neighbour_at g) (filter (link_kept g.port_link (own_from flag (Some m)) (own_to flag (Some m))) (ports_of_node m sides)) ≡ neighbours g n sides flag
   unfolding neighbours
   listed_neighbours sides flag = sym (ap (λ x. map (neighbour_at g) (filter (link_kept g.port_link (own_from flag x) (own_to flag x)) (ports_in x sides))) meta)
 
@@ -285,7 +277,7 @@ few m Both = omega arith
 
 module _ (g : PortGraph) (M : Model) (good : Good M) (holds : Holds g M) where
   module _ (n : ℕ) (m : NodeMeta) (node : M.node n ≡ live m) where
-    meta : meta_at g n ≡ maybe_meta.Some m
+    meta : meta_at g n ≡ Some m
     meta = meta_of_node good holds n m node
 
     alive : (sides : Sides) (f : ℕ → Bool) (p : ℕ) → ports_from m sides ≤ p → p < ports_from m sides + (ports_to m sides - ports_from m sides) → f p ≡ true → held_in g.port_meta (suc p) ≡ true
@@ -308,9 +300,9 @@ module _ (g : PortGraph) (M : Model) (good : Good M) (holds : Holds g M) where
     -- from the start: a neighbour for each of the node's links, in order, and then the end
     pub walk_gives_all_neighbours : (sides : Sides) (flag : Bool) → walk_neighbours g (node_ports + 1) (neighbours_cursor n sides flag 0) ≡ whole (neighbours g n sides flag)
     walk_gives_all_neighbours sides flag =
-        all_walked (neighbour_at g) (link_kept g.port_link (own_from flag (maybe_meta.Some m)) (own_to flag (maybe_meta.Some m))) (held_in g.port_meta) (ports_from m sides) (ports_to m sides - ports_from m sides)
+        all_walked (neighbour_at g) (link_kept g.port_link (own_from flag (Some m)) (own_to flag (Some m))) (held_in g.port_meta) (ports_from m sides) (ports_to m sides - ports_from m sides)
         (λ fuel held. walk_neighbours g fuel (neighbours_cursor n sides flag held)) (neighbours_on g n m meta sides flag)
-        (alive sides (link_kept g.port_link (own_from flag (maybe_meta.Some m)) (own_to flag (maybe_meta.Some m)))) (node_ports + 1) (enough sides) (held_at_start g.port_meta)
+        (alive sides (link_kept g.port_link (own_from flag (Some m)) (own_to flag (Some m)))) (node_ports + 1) (enough sides) (held_at_start g.port_meta)
         ∙ ap whole (listed_neighbours g n m meta sides flag)
 
     -- from the start: all links from the node's outgoing side to the other node, in order, and then the end
@@ -395,9 +387,9 @@ module _ (g : PortGraph) (M : Model) (good : Good M) (holds : Holds g M) where
           absurd (omega arith)
 
   -- no link leads to a node that is gone
-  pub gone_target_ends_connections : (c : NodeConnections) → contains_node g c.target.0 ≡ false → step_connections g c ≡ connections_step.End
+  pub gone_target_ends_connections : (c : NodeConnections) → contains_node g c.target.0 ≡ false → step_connections g c ≡ None
   unfolding step_connections link_to
-  gone_target_ends_connections c h = ap (beyond (held_in g.port_meta c.held) c.held connections_step.End (connections_item g c)) (none_of _ _ none) ∙ sym (nothing_beyond _ _ _ _)
+  gone_target_ends_connections c h = ap (beyond (held_in g.port_meta c.held) c.held None (connections_item g c)) (none_of _ _ none) ∙ sym (nothing_beyond _ _ _ _)
     where
       none : (p : ℕ) → link_to g.port_link g.port_meta c.target.0 p ≡ false
       none p = go (eqb (at g.port_link p) 0) (is_of c.target.0 (at g.port_meta (far_in g.port_link p))) refl
@@ -413,31 +405,31 @@ module _ (g : PortGraph) (M : Model) (good : Good M) (holds : Holds g M) where
 -- A cursor whose node or port is gone ends the walk.
 
 module _ (g : PortGraph) where
-  pub gone_port_ends_links : (c : NodeLinks) → held_in g.port_meta c.held ≡ false → step_links g c ≡ links_step.End
+  pub gone_port_ends_links : (c : NodeLinks) → held_in g.port_meta c.held ≡ false → step_links g c ≡ None
   unfolding step_links
   gone_port_ends_links c h = step_gone _ c.held _ _ _ h
 
-  pub gone_port_ends_neighbours : (c : Neighbours) → held_in g.port_meta c.held ≡ false → step_neighbours g c ≡ neighbours_step.End
+  pub gone_port_ends_neighbours : (c : Neighbours) → held_in g.port_meta c.held ≡ false → step_neighbours g c ≡ None
   unfolding step_neighbours
   gone_port_ends_neighbours c h = step_gone _ c.held _ _ _ h
 
-  pub gone_port_ends_connections : (c : NodeConnections) → held_in g.port_meta c.held ≡ false → step_connections g c ≡ connections_step.End
+  pub gone_port_ends_connections : (c : NodeConnections) → held_in g.port_meta c.held ≡ false → step_connections g c ≡ None
   unfolding step_connections
   gone_port_ends_connections c h = step_gone _ c.held _ _ _ h
 
-  pub gone_port_ends_all_ports : (c : Ports) → held_in g.port_meta c.held ≡ false → step_all_ports g c ≡ all_step.End
+  pub gone_port_ends_all_ports : (c : Ports) → held_in g.port_meta c.held ≡ false → step_all_ports g c ≡ None
   unfolding step_all_ports
   gone_port_ends_all_ports c h = step_gone _ c.held _ _ _ h
 
-  pub gone_node_ends_links : (c : NodeLinks) → meta_at g c.node.0 ≡ maybe_meta.None → step_links g c ≡ links_step.End
+  pub gone_node_ends_links : (c : NodeLinks) → meta_at g c.node.0 ≡ None → step_links g c ≡ None
   unfolding step_links
   gone_node_ends_links c h = sym (no_node_no_step _ _ _ _ c.held c.sides _ (sym h))
 
-  pub gone_node_ends_neighbours : (c : Neighbours) → meta_at g c.node.0 ≡ maybe_meta.None → step_neighbours g c ≡ neighbours_step.End
+  pub gone_node_ends_neighbours : (c : Neighbours) → meta_at g c.node.0 ≡ None → step_neighbours g c ≡ None
   unfolding step_neighbours
   gone_node_ends_neighbours c h = sym (no_node_no_step _ _ _ _ c.held c.sides _ (sym h))
 
-  pub gone_node_ends_connections : (c : NodeConnections) → meta_at g c.node.0 ≡ maybe_meta.None → step_connections g c ≡ connections_step.End
+  pub gone_node_ends_connections : (c : NodeConnections) → meta_at g c.node.0 ≡ None → step_connections g c ≡ None
   unfolding step_connections
   gone_node_ends_connections c h = sym (no_node_no_step _ _ _ _ c.held (One Outgoing) _ (sym h))
 

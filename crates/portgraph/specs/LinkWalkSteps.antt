@@ -1,5 +1,5 @@
 -- What the code of a step finds: a search over consecutive slots stops at the first port of the listing beyond the port held.
-use Rattle.std.specs.Prelude.{◌≡◌, Bool, List, ◌∷◌, length}
+use Rattle.std.specs.Prelude.{◌≡◌, Bool, List, ◌∷◌, length, Option, Some, None}
 use Rattle.std.proofs.Math.Path.{refl, ap}
 use Rattle.std.proofs.Common.{sym, ◌∙◌, arith, add-one}
 use Rattle.std.proofs.Math.Bool.{true, false, cond}
@@ -21,20 +21,14 @@ use Rattle.port_tables.specs.declared.node_entry.FreeNodeEntry.{FreeNodeEntry}
 use Rattle.port_tables.specs.declared.port_entry.PortEntry.TheVariants as port_variants
 use Rattle.port_tables.specs.declared.node_entry.NodeEntry.{NodeEntry}
 use Rattle.port_tables.specs.declared.node_entry.NodeEntry.TheVariants.{Free, Node}
-use Rattle.port_tables.specs.declared.node_entry.MaybeNodeMeta.{MaybeNodeMeta}
-use Rattle.port_tables.specs.declared.node_entry.MaybeNodeMeta.TheVariants as maybe_meta
 use Rattle.portgraph.specs.declared.portgraph.PortGraph.{PortGraph}
 use Rattle.port_tables.specs.declared.sides.Sides.{Sides}
 use Rattle.port_tables.specs.declared.sides.Sides.TheVariants.{One, Both}
 use Rattle.portgraph.specs.declared.link_iter.Span.{Span}
 use Rattle.portgraph.specs.declared.link_iter.NodeLinks.{NodeLinks}
-use Rattle.portgraph.specs.declared.link_iter.NodeLinksStep.TheVariants as links_step
 use Rattle.portgraph.specs.declared.link_iter.Neighbours.{Neighbours}
-use Rattle.portgraph.specs.declared.link_iter.NeighboursStep.TheVariants as neighbours_step
 use Rattle.portgraph.specs.declared.link_iter.NodeConnections.{NodeConnections}
-use Rattle.portgraph.specs.declared.link_iter.NodeConnectionsStep.TheVariants as connections_step
 use Rattle.portgraph.specs.declared.link_iter.Ports.{Ports}
-use Rattle.portgraph.specs.declared.link_iter.PortsStep.TheVariants as all_step
 
 -- A turn of a search.
 
@@ -67,6 +61,14 @@ search_ends f p end l = go (end - p) (omega arith)
 
     go : (k : ℕ) → k ≡ 0 → p ≡ first_where f p k
     go k a = rw a none
+
+-- a search of numbers from one on, the end excluded, that stopped at none
+pub search_none : (f : ℕ → Bool) (p end q r : ℕ) → r ≡ max p end → (p ≤ end → q ≤ end) → end ≤ q → first_where f q (end - q) ≡ first_where f p (end - p) → r ≡ first_where f p (end - p)
+search_none f p end q r is within done rest = go (leb p end) refl
+  where
+    go : (b : Bool) → leb p end ≡ b → r ≡ first_where f p (end - p)
+    go true h = let l : p ≤ end = leb-true p end h in let w : q ≤ end = within l in let e : r ≡ q = omega arith in e ∙ (search_ends f q end done ∙ rest)
+    go false h = let l : end < p = leb-false p end h in let e : r ≡ p = omega arith in e ∙ search_ends f p end (omega arith)
 
 -- A search against the listing.
 
@@ -251,7 +253,7 @@ module _ (e : NodeEntry) where
   unfolding own_ports
   own_free f flag h = rw h (go flag)
     where
-      go : (b : Bool) → span 0 0 ≡ span (own_from b maybe_meta.None) (own_to b maybe_meta.None)
+      go : (b : Bool) → span 0 0 ≡ span (own_from b None) (own_to b None)
       go true = refl
       go false = refl
 
@@ -282,7 +284,7 @@ module _ {A B : Type 0} (f : A → B) (x y : A) (r b s d : Bool) (first : r ≡ 
 -- Steps, from what the code has computed: the node's place w, whether the port held is there, the ports left l, and where the
 -- search stops, r.
 
-pub no_node_no_step {ℓ} : {A : Type ℓ} (end : A) (item : ℕ → A) (f : ℕ → Bool) (there : Bool) (held : ℕ) (sides : Sides) (m : MaybeNodeMeta) → maybe_meta.None ≡ m → end ≡ beyond there held end item (filter f (ports_in m sides))
+pub no_node_no_step {ℓ} : {A : Type ℓ} (end : A) (item : ℕ → A) (f : ℕ → Bool) (there : Bool) (held : ℕ) (sides : Sides) (m : Option NodeMeta) → None ≡ m → end ≡ beyond there held end item (filter f (ports_in m sides))
 unfolding beyond on_first filter
 no_node_no_step end item f there held sides m e = rw (sym e) (go there)
   where
@@ -301,15 +303,15 @@ left_inside g wf w sides held there l h = rw h (go (entry_at g w) refl there)
     go (Node m) a false = omega arith
 
 module _ (g : PortGraph) (w : ℕ) where
-  pub links_outside : (c : NodeLinks) → length g.node_meta ≡ node_slots → w ≡ c.node.0 → node_slots ≤ w → links_step.End ≡ step_links g c
+  pub links_outside : (c : NodeLinks) → length g.node_meta ≡ node_slots → w ≡ c.node.0 → node_slots ≤ w → None ≡ step_links g c
   unfolding step_links
   links_outside c long e h = no_node_no_step _ _ _ _ _ c.sides _ (node_outside g.node_meta c.node.0 w long e h)
 
-  pub neighbours_outside : (c : Neighbours) → length g.node_meta ≡ node_slots → w ≡ c.node.0 → node_slots ≤ w → neighbours_step.End ≡ step_neighbours g c
+  pub neighbours_outside : (c : Neighbours) → length g.node_meta ≡ node_slots → w ≡ c.node.0 → node_slots ≤ w → None ≡ step_neighbours g c
   unfolding step_neighbours
   neighbours_outside c long e h = no_node_no_step _ _ _ _ _ c.sides _ (node_outside g.node_meta c.node.0 w long e h)
 
-  pub connections_outside : (c : NodeConnections) → length g.node_meta ≡ node_slots → w ≡ c.node.0 → node_slots ≤ w → connections_step.End ≡ step_connections g c
+  pub connections_outside : (c : NodeConnections) → length g.node_meta ≡ node_slots → w ≡ c.node.0 → node_slots ≤ w → None ≡ step_connections g c
   unfolding step_connections
   connections_outside c long e h = no_node_no_step _ _ _ _ _ (One Outgoing) _ (node_outside g.node_meta c.node.0 w long e h)
 
@@ -319,10 +321,10 @@ module _ (g : PortGraph) (w : ℕ) (there : Bool) (l : Span) (r : ℕ) where
 
   pub links_by_search : (c : NodeLinks) (lo hi : ℕ) → w ≡ c.node.0 → there ≡ held_in g.port_meta c.held → l ≡ ports_left (entry_at g w) c.sides c.held there
       → lo ≡ c.skip_from → hi ≡ c.skip_to → r ≡ first_where (link_kept g.port_link lo hi) l.from (l.to - l.from)
-      → step_links g c ≡ cond (ltb r l.to) (links_item g c r) links_step.End
+      → step_links g c ≡ cond (ltb r l.to) (links_item g c r) None
   unfolding step_links
   links_by_search c lo hi hw ht hl ha hb hr =
-      step_by_search links_step.End (links_item g c) (link_kept g.port_link c.skip_from c.skip_to) (entry_at g c.node.0) c.sides c.held (held_in g.port_meta c.held) l r
+      step_by_search None (links_item g c) (link_kept g.port_link c.skip_from c.skip_to) (entry_at g c.node.0) c.sides c.held (held_in g.port_meta c.held) l r
       (left_at c.node.0 c.sides c.held (held_in g.port_meta c.held) hw ht hl)
       (hr
       ∙ ap (λ x. first_where (link_kept g.port_link x hi) l.from (l.to - l.from)) ha
@@ -330,66 +332,66 @@ module _ (g : PortGraph) (w : ℕ) (there : Bool) (l : Span) (r : ℕ) where
 
   pub neighbours_by_search : (c : Neighbours) (skip : Span) → w ≡ c.node.0 → there ≡ held_in g.port_meta c.held → l ≡ ports_left (entry_at g w) c.sides c.held there
       → skip ≡ own_ports (entry_at g w) c.ignore_self → r ≡ first_where (link_kept g.port_link skip.from skip.to) l.from (l.to - l.from)
-      → step_neighbours g c ≡ cond (ltb r l.to) (neighbours_item g c r) neighbours_step.End
+      → step_neighbours g c ≡ cond (ltb r l.to) (neighbours_item g c r) None
   unfolding step_neighbours own_ports
   neighbours_by_search c skip hw ht hl hs hr =
-      step_by_search neighbours_step.End (neighbours_item g c) (link_kept g.port_link (own_from c.ignore_self (meta_at g c.node.0)) (own_to c.ignore_self (meta_at g c.node.0)))
+      step_by_search None (neighbours_item g c) (link_kept g.port_link (own_from c.ignore_self (meta_at g c.node.0)) (own_to c.ignore_self (meta_at g c.node.0)))
       (entry_at g c.node.0) c.sides c.held (held_in g.port_meta c.held) l r
       (left_at c.node.0 c.sides c.held (held_in g.port_meta c.held) hw ht hl)
       (hr ∙ ap (λ (x : Span). first_where (link_kept g.port_link x.from x.to) l.from (l.to - l.from)) (hs ∙ ap (λ x. own_ports (entry_at g x) c.ignore_self) hw))
 
   pub connections_by_search : (c : NodeConnections) → w ≡ c.node.0 → there ≡ held_in g.port_meta c.held → l ≡ ports_left (entry_at g w) (One Outgoing) c.held there
       → r ≡ first_where (link_to g.port_link g.port_meta c.target.0) l.from (l.to - l.from)
-      → step_connections g c ≡ cond (ltb r l.to) (connections_item g c r) connections_step.End
+      → step_connections g c ≡ cond (ltb r l.to) (connections_item g c r) None
   unfolding step_connections
   connections_by_search c hw ht hl hr =
-      step_by_search connections_step.End (connections_item g c) (link_to g.port_link g.port_meta c.target.0) (entry_at g c.node.0) (One Outgoing) c.held (held_in g.port_meta c.held) l r
+      step_by_search None (connections_item g c) (link_to g.port_link g.port_meta c.target.0) (entry_at g c.node.0) (One Outgoing) c.held (held_in g.port_meta c.held) l r
       (left_at c.node.0 (One Outgoing) c.held (held_in g.port_meta c.held) hw ht hl) hr
 
 module _ (g : PortGraph) (end r : ℕ) where
-  pub links_given : (c : NodeLinks) (far : ℕ) → step_links g c ≡ cond (ltb r end) (links_item g c r) links_step.End → r < end → far ≡ far_in g.port_link r
-      → links_step.Item (record { from = port# r; to = port# far }) (record { node = c.node; sides = c.sides; skip_from = c.skip_from; skip_to = c.skip_to; held = r + 1 }) ≡ step_links g c
+  pub links_given : (c : NodeLinks) (far : ℕ) → step_links g c ≡ cond (ltb r end) (links_item g c r) None → r < end → far ≡ far_in g.port_link r
+      → Some (record { from = port# r; to = port# far }, record { node = c.node; sides = c.sides; skip_from = c.skip_from; skip_to = c.skip_to; held = r + 1 }) ≡ step_links g c
   links_given c far s h e = rw (s, lt-ltb r end h, add-one, e)
 
-  pub links_over : (c : NodeLinks) → step_links g c ≡ cond (ltb r end) (links_item g c r) links_step.End → end ≤ r → links_step.End ≡ step_links g c
+  pub links_over : (c : NodeLinks) → step_links g c ≡ cond (ltb r end) (links_item g c r) None → end ≤ r → None ≡ step_links g c
   links_over c s h = rw (s, le-ltb r end h)
 
-  pub neighbours_given : (c : Neighbours) (far v n : ℕ) → step_neighbours g c ≡ cond (ltb r end) (neighbours_item g c r) neighbours_step.End → r < end
+  pub neighbours_given : (c : Neighbours) (far v n : ℕ) → step_neighbours g c ≡ cond (ltb r end) (neighbours_item g c r) None → r < end
       → far ≡ far_in g.port_link r → v ≡ far → n ≡ owner_in g.port_meta v
-      → neighbours_step.Item (node# n) (record { node = c.node; sides = c.sides; ignore_self = c.ignore_self; held = r + 1 }) ≡ step_neighbours g c
+      → Some (node# n, record { node = c.node; sides = c.sides; ignore_self = c.ignore_self; held = r + 1 }) ≡ step_neighbours g c
   neighbours_given c far v n s h e d o = rw (s, lt-ltb r end h, add-one, o, d, e)
 
-  pub neighbours_over : (c : Neighbours) → step_neighbours g c ≡ cond (ltb r end) (neighbours_item g c r) neighbours_step.End → end ≤ r → neighbours_step.End ≡ step_neighbours g c
+  pub neighbours_over : (c : Neighbours) → step_neighbours g c ≡ cond (ltb r end) (neighbours_item g c r) None → end ≤ r → None ≡ step_neighbours g c
   neighbours_over c s h = rw (s, le-ltb r end h)
 
-  pub connections_given : (c : NodeConnections) (far : ℕ) → step_connections g c ≡ cond (ltb r end) (connections_item g c r) connections_step.End → r < end → far ≡ far_in g.port_link r
-      → connections_step.Item (record { from = port# r; to = port# far }) (record { node = c.node; target = c.target; held = r + 1 }) ≡ step_connections g c
+  pub connections_given : (c : NodeConnections) (far : ℕ) → step_connections g c ≡ cond (ltb r end) (connections_item g c r) None → r < end → far ≡ far_in g.port_link r
+      → Some (record { from = port# r; to = port# far }, record { node = c.node; target = c.target; held = r + 1 }) ≡ step_connections g c
   connections_given c far s h e = rw (s, lt-ltb r end h, add-one, e)
 
-  pub connections_over : (c : NodeConnections) → step_connections g c ≡ cond (ltb r end) (connections_item g c r) connections_step.End → end ≤ r → connections_step.End ≡ step_connections g c
+  pub connections_over : (c : NodeConnections) → step_connections g c ≡ cond (ltb r end) (connections_item g c r) None → end ≤ r → None ≡ step_connections g c
   connections_over c s h = rw (s, le-ltb r end h)
 
 -- the walk over all ports
-pub ports_gone : (g : PortGraph) (c : Ports) (there : Bool) → there ≡ held_in g.port_meta c.held → there ≡ false → all_step.End ≡ step_all_ports g c
+pub ports_gone : (g : PortGraph) (c : Ports) (there : Bool) → there ≡ held_in g.port_meta c.held → there ≡ false → None ≡ step_all_ports g c
 unfolding step_all_ports beyond
 ports_gone g c there e h = rw (sym e, h)
 
 module _ (g : PortGraph) (c : Ports) (there : Bool) (w r : ℕ) (held : there ≡ held_in g.port_meta c.held) (t : there ≡ true) (at_held : w ≡ c.held)
     (search : r ≡ first_where (is_port_in g.port_meta) w (port_slots - w)) where
-  ports_by_search : step_all_ports g c ≡ cond (ltb r port_slots) (all_ports_item r) all_step.End
+  ports_by_search : step_all_ports g c ≡ cond (ltb r port_slots) (all_ports_item r) None
   unfolding step_all_ports all_ports beyond
   ports_by_search =
       rw (sym held, t, search, at_held)
-      (ap (on_first all_step.End all_ports_item) (filter_beyond (is_port_in g.port_meta) c.held 0 port_slots) ∙ go (max 0 c.held) (0 + port_slots - max 0 c.held) (omega arith) (omega arith) (leb c.held port_slots) refl)
+      (ap (on_first None all_ports_item) (filter_beyond (is_port_in g.port_meta) c.held 0 port_slots) ∙ go (max 0 c.held) (0 + port_slots - max 0 c.held) (omega arith) (omega arith) (leb c.held port_slots) refl)
     where
       go : (p k : ℕ) → p ≡ c.held → k ≡ port_slots - c.held → (b : Bool) → leb c.held port_slots ≡ b
-          → on_first all_step.End all_ports_item (filter (is_port_in g.port_meta) (range p k))
-          ≡ cond (ltb (first_where (is_port_in g.port_meta) c.held (port_slots - c.held)) port_slots) (all_ports_item (first_where (is_port_in g.port_meta) c.held (port_slots - c.held))) all_step.End
+          → on_first None all_ports_item (filter (is_port_in g.port_meta) (range p k))
+          ≡ cond (ltb (first_where (is_port_in g.port_meta) c.held (port_slots - c.held)) port_slots) (all_ports_item (first_where (is_port_in g.port_meta) c.held (port_slots - c.held))) None
       go p k a b true e = let i : c.held ≤ port_slots = leb-true _ _ e in rw (a, b) (first_of_filter _ _ _ _ _ port_slots (omega arith))
       go p k a b false e = let i : port_slots < c.held = leb-false _ _ e in rw (a, b) (past _ _ _ _ _ port_slots (omega arith) (omega arith))
 
-  pub ports_given : r < port_slots → all_step.Item (port# r) (record { held = r + 1 }) ≡ step_all_ports g c
+  pub ports_given : r < port_slots → Some (port# r, record { held = r + 1 }) ≡ step_all_ports g c
   ports_given h = rw (ports_by_search, lt-ltb r port_slots h, add-one)
 
-  pub ports_over : port_slots ≤ r → all_step.End ≡ step_all_ports g c
+  pub ports_over : port_slots ≤ r → None ≡ step_all_ports g c
   ports_over h = rw (ports_by_search, le-ltb r port_slots h)

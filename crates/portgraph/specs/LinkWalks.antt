@@ -1,6 +1,6 @@
 -- Walks over the links of a node and over all ports: the list that each gives, and the step of its cursor on any graph.
 -- A step gives the next item of the present listing beyond the port held; a cursor whose node or port is gone ends the walk.
-use Rattle.std.specs.Prelude.{Bool, true, false, cond, List, [], ◌∷◌, map, ℕ, suc, ◌-◌, zero, max, eqb, leb}
+use Rattle.std.specs.Prelude.{Bool, true, false, cond, List, [], ◌∷◌, map, ℕ, suc, ◌-◌, zero, max, eqb, leb, Option, Some, None, Result, Ok, Err}
 use Rattle.port_tables.specs.Limits.{port_slots}
 use Rattle.port_tables.specs.Lists.{filter, on_first, range}
 use Rattle.port_tables.specs.Entries.{port_entry, node#, port#, node_of, meta_of_entry, ports_from, ports_to}
@@ -9,35 +9,20 @@ use Rattle.portgraph.specs.Lookups.{meta_at, contains_node, is_port}
 use Rattle.portgraph.specs.WalkLaws.{ports_of_node}
 use Rattle.port_tables.specs.declared.direction.Direction.TheVariants.{Outgoing}
 use Rattle.port_tables.specs.declared.index.NodeIndex.{NodeIndex}
-use Rattle.port_tables.specs.declared.index.MaybeNodeIndex.{MaybeNodeIndex}
-use Rattle.port_tables.specs.declared.index.MaybeNodeIndex.TheVariants as maybe_node
-use Rattle.port_tables.specs.declared.node_entry.MaybeNodeMeta.{MaybeNodeMeta}
-use Rattle.port_tables.specs.declared.node_entry.MaybeNodeMeta.TheVariants as maybe_meta
 use Rattle.portgraph.specs.declared.portgraph.PortGraph.{PortGraph}
 use Rattle.port_tables.specs.declared.sides.Sides.{Sides}
 use Rattle.port_tables.specs.declared.sides.Sides.TheVariants.{One}
 use Rattle.portgraph.specs.declared.link_iter.Link.{Link}
 use Rattle.portgraph.specs.declared.link_iter.NodeLinks.{NodeLinks}
-use Rattle.portgraph.specs.declared.link_iter.NodeLinksStep.{NodeLinksStep}
-use Rattle.portgraph.specs.declared.link_iter.NodeLinksStep.TheVariants as links_step
-use Rattle.portgraph.specs.declared.link_iter.NodeLinksStart.{NodeLinksStart}
-use Rattle.portgraph.specs.declared.link_iter.NodeLinksStart.TheVariants as links_start
 use Rattle.portgraph.specs.declared.link_iter.Neighbours.{Neighbours}
-use Rattle.portgraph.specs.declared.link_iter.NeighboursStep.{NeighboursStep}
-use Rattle.portgraph.specs.declared.link_iter.NeighboursStep.TheVariants as neighbours_step
-use Rattle.portgraph.specs.declared.link_iter.NeighboursStart.{NeighboursStart}
-use Rattle.portgraph.specs.declared.link_iter.NeighboursStart.TheVariants as neighbours_start
 use Rattle.portgraph.specs.declared.link_iter.NodeConnections.{NodeConnections}
-use Rattle.portgraph.specs.declared.link_iter.NodeConnectionsStep.{NodeConnectionsStep}
-use Rattle.portgraph.specs.declared.link_iter.NodeConnectionsStep.TheVariants as connections_step
-use Rattle.portgraph.specs.declared.link_iter.NodeConnectionsStart.{NodeConnectionsStart}
-use Rattle.portgraph.specs.declared.link_iter.NodeConnectionsStart.TheVariants as connections_start
 use Rattle.portgraph.specs.declared.link_iter.Ports.{Ports}
-use Rattle.portgraph.specs.declared.link_iter.PortsStep.{PortsStep}
-use Rattle.portgraph.specs.declared.link_iter.PortsStep.TheVariants as all_step
 use Rattle.portgraph.specs.declared.link_iter.Span.{Span}
 use Rattle.port_tables.specs.declared.node_entry.NodeEntry.{NodeEntry}
 use Rattle.port_tables.specs.declared.node_entry.NodeEntry.TheVariants.{Free, Node}
+use Rattle.port_tables.specs.declared.index.PortIndex.{PortIndex}
+use Rattle.port_tables.specs.declared.node_entry.NodeMeta.{NodeMeta}
+use Rattle.portgraph.specs.declared.alloc.NoSuchNode.{NoSuchNode}
 
 -- A step: the first of the ports at which the walk stops, beyond the port held, if that one is still there.
 unfoldable pub beyond {ℓ} : {A : Type ℓ} → Bool → ℕ → A → (ℕ → A) → List ℕ → A
@@ -49,9 +34,9 @@ beyond there held end item ports = cond there (on_first end item (filter (leb he
 abbrev pub far_in : List ℕ → ℕ → ℕ
 far_in links p = at links p - 1
 
-abbrev pub node_number : MaybeNodeIndex → ℕ
-node_number (maybe_node.Some n) = n.0
-node_number maybe_node.None = 0
+abbrev pub node_number : Option NodeIndex → ℕ
+node_number (Some n) = n.0
+node_number None = 0
 
 -- the node that has a port; 0 where there is none
 unfoldable pub owner_in : List ℕ → ℕ → ℕ
@@ -71,9 +56,9 @@ is_kept far lo hi = cond (eqb far 0) false (cond (leb lo (far - 1)) (leb hi (far
 unfoldable pub link_kept : List ℕ → ℕ → ℕ → ℕ → Bool
 link_kept links lo hi p = is_kept (at links p) lo hi
 
-abbrev pub is_node_of : ℕ → MaybeNodeIndex → Bool
-is_node_of n (maybe_node.Some k) = eqb k.0 n
-is_node_of n maybe_node.None = false
+abbrev pub is_node_of : ℕ → Option NodeIndex → Bool
+is_node_of n (Some k) = eqb k.0 n
+is_node_of n None = false
 
 unfoldable pub is_of : ℕ → ℕ → Bool
 is_of n owner = is_node_of n (node_of (port_entry owner))
@@ -83,9 +68,9 @@ unfoldable pub link_to : List ℕ → List ℕ → ℕ → ℕ → Bool
 link_to links owners n p = cond (eqb (at links p) 0) false (is_of n (at owners (far_in links p)))
 
 -- the ports of a node on these sides; none where it is not live
-abbrev pub ports_in : MaybeNodeMeta → Sides → List ℕ
-ports_in maybe_meta.None sides = []
-ports_in (maybe_meta.Some m) sides = ports_of_node m sides
+abbrev pub ports_in : Option NodeMeta → Sides → List ℕ
+ports_in None sides = []
+ports_in (Some m) sides = ports_of_node m sides
 
 -- Links of a node, on one side or both, without those to a range of ports.
 
@@ -99,27 +84,26 @@ linked_ports g n sides lo hi = filter (link_kept g.port_link lo hi) (ports_in (m
 unfoldable pub node_links : PortGraph → ℕ → Sides → ℕ → ℕ → List Link
 node_links g n sides lo hi = map (link_at g) (linked_ports g n sides lo hi)
 
-abbrev pub links_item : PortGraph → NodeLinks → ℕ → NodeLinksStep
+abbrev pub links_item : PortGraph → NodeLinks → ℕ → Option (Link × NodeLinks)
 links_item g c p =
-    links_step.Item (link_at g p)
-    (record { node = c.node; sides = c.sides; skip_from = c.skip_from; skip_to = c.skip_to; held = suc p })
+    Some (link_at g p, record { node = c.node; sides = c.sides; skip_from = c.skip_from; skip_to = c.skip_to; held = suc p })
 
-unfoldable pub step_links : PortGraph → NodeLinks → NodeLinksStep
+unfoldable pub step_links : PortGraph → NodeLinks → Option (Link × NodeLinks)
 step_links g c =
-    beyond (held_in g.port_meta c.held) c.held links_step.End (links_item g c)
+    beyond (held_in g.port_meta c.held) c.held None (links_item g c)
     (linked_ports g c.node.0 c.sides c.skip_from c.skip_to)
 
 -- Neighbours of a node, one for each link; with the flag without links to the node's own outgoing ports.
 
-abbrev pub own_from : Bool → MaybeNodeMeta → ℕ
+abbrev pub own_from : Bool → Option NodeMeta → ℕ
 own_from false m = 0
-own_from true maybe_meta.None = 0
-own_from true (maybe_meta.Some m) = ports_from m (One Outgoing)
+own_from true None = 0
+own_from true (Some m) = ports_from m (One Outgoing)
 
-abbrev pub own_to : Bool → MaybeNodeMeta → ℕ
+abbrev pub own_to : Bool → Option NodeMeta → ℕ
 own_to false m = 0
-own_to true maybe_meta.None = 0
-own_to true (maybe_meta.Some m) = ports_to m (One Outgoing)
+own_to true None = 0
+own_to true (Some m) = ports_to m (One Outgoing)
 
 -- the ports that are linked with a neighbour
 abbrev pub neighbour_ports : PortGraph → ℕ → Sides → Bool → List ℕ
@@ -132,14 +116,13 @@ neighbour_at g p = node# (owner_in g.port_meta (far_in g.port_link p))
 unfoldable pub neighbours : PortGraph → ℕ → Sides → Bool → List NodeIndex
 neighbours g n sides flag = map (neighbour_at g) (neighbour_ports g n sides flag)
 
-abbrev pub neighbours_item : PortGraph → Neighbours → ℕ → NeighboursStep
+abbrev pub neighbours_item : PortGraph → Neighbours → ℕ → Option (NodeIndex × Neighbours)
 neighbours_item g c p =
-    neighbours_step.Item (neighbour_at g p)
-    (record { node = c.node; sides = c.sides; ignore_self = c.ignore_self; held = suc p })
+    Some (neighbour_at g p, record { node = c.node; sides = c.sides; ignore_self = c.ignore_self; held = suc p })
 
-unfoldable pub step_neighbours : PortGraph → Neighbours → NeighboursStep
+unfoldable pub step_neighbours : PortGraph → Neighbours → Option (NodeIndex × Neighbours)
 step_neighbours g c =
-    beyond (held_in g.port_meta c.held) c.held neighbours_step.End (neighbours_item g c)
+    beyond (held_in g.port_meta c.held) c.held None (neighbours_item g c)
     (neighbour_ports g c.node.0 c.sides c.ignore_self)
 
 -- Connections: the links from one node's outgoing side to another node.
@@ -150,12 +133,12 @@ connected_ports g n k = filter (link_to g.port_link g.port_meta k) (ports_in (me
 unfoldable pub connections : PortGraph → ℕ → ℕ → List Link
 connections g n k = map (link_at g) (connected_ports g n k)
 
-abbrev pub connections_item : PortGraph → NodeConnections → ℕ → NodeConnectionsStep
-connections_item g c p = connections_step.Item (link_at g p) (record { node = c.node; target = c.target; held = suc p })
+abbrev pub connections_item : PortGraph → NodeConnections → ℕ → Option (Link × NodeConnections)
+connections_item g c p = Some (link_at g p, record { node = c.node; target = c.target; held = suc p })
 
-unfoldable pub step_connections : PortGraph → NodeConnections → NodeConnectionsStep
+unfoldable pub step_connections : PortGraph → NodeConnections → Option (Link × NodeConnections)
 step_connections g c =
-    beyond (held_in g.port_meta c.held) c.held connections_step.End (connections_item g c)
+    beyond (held_in g.port_meta c.held) c.held None (connections_item g c)
     (connected_ports g c.node.0 c.target.0)
 
 -- All live ports, by ascending number.
@@ -163,61 +146,61 @@ step_connections g c =
 unfoldable pub all_ports : PortGraph → List ℕ
 all_ports g = filter (is_port_in g.port_meta) (range 0 port_slots)
 
-abbrev pub all_ports_item : ℕ → PortsStep
-all_ports_item p = all_step.Item (port# p) (record { held = suc p })
+abbrev pub all_ports_item : ℕ → Option (PortIndex × Ports)
+all_ports_item p = Some (port# p, record { held = suc p })
 
-unfoldable pub step_all_ports : PortGraph → Ports → PortsStep
-step_all_ports g c = beyond (held_in g.port_meta c.held) c.held all_step.End all_ports_item (all_ports g)
+unfoldable pub step_all_ports : PortGraph → Ports → Option (PortIndex × Ports)
+step_all_ports g c = beyond (held_in g.port_meta c.held) c.held None all_ports_item (all_ports g)
 
 -- Starts: refused for a node that is not live.
 
-abbrev pub start_links : PortGraph → NodeIndex → Sides → ℕ → ℕ → NodeLinksStart
+abbrev pub start_links : PortGraph → NodeIndex → Sides → ℕ → ℕ → Result NodeLinks NoSuchNode
 start_links g n sides lo hi =
     cond (contains_node g n.0)
-    (links_start.Started (record { node = n; sides = sides; skip_from = lo; skip_to = hi; held = 0 }))
-    links_start.UnknownNode
+    (Ok (record { node = n; sides = sides; skip_from = lo; skip_to = hi; held = 0 }))
+    (Err (record {}))
 
-abbrev pub start_neighbours : PortGraph → NodeIndex → Sides → Bool → NeighboursStart
+abbrev pub start_neighbours : PortGraph → NodeIndex → Sides → Bool → Result Neighbours NoSuchNode
 start_neighbours g n sides flag =
     cond (contains_node g n.0)
-    (neighbours_start.Started (record { node = n; sides = sides; ignore_self = flag; held = 0 }))
-    neighbours_start.UnknownNode
+    (Ok (record { node = n; sides = sides; ignore_self = flag; held = 0 }))
+    (Err (record {}))
 
-abbrev pub start_connections : PortGraph → NodeIndex → NodeIndex → NodeConnectionsStart
+abbrev pub start_connections : PortGraph → NodeIndex → NodeIndex → Result NodeConnections NoSuchNode
 start_connections g n k =
     cond (contains_node g n.0)
-    (cond (contains_node g k.0) (connections_start.Started (record { node = n; target = k; held = 0 })) connections_start.UnknownNode)
-    connections_start.UnknownNode
+    (cond (contains_node g k.0) (Ok (record { node = n; target = k; held = 0 })) (Err (record {})))
+    (Err (record {}))
 
 -- 01's numbers: a start answers no value, or refusal 4; a step has its item, and nothing at the end.
 
-abbrev pub links_start_numbers : NodeLinksStart → List ℕ
-links_start_numbers (links_start.Started c) = 0 ∷ []
-links_start_numbers links_start.UnknownNode = 4 ∷ []
+abbrev pub links_start_numbers : Result NodeLinks NoSuchNode → List ℕ
+links_start_numbers (Ok c) = 0 ∷ []
+links_start_numbers (Err _) = 4 ∷ []
 
-abbrev pub neighbours_start_numbers : NeighboursStart → List ℕ
-neighbours_start_numbers (neighbours_start.Started c) = 0 ∷ []
-neighbours_start_numbers neighbours_start.UnknownNode = 4 ∷ []
+abbrev pub neighbours_start_numbers : Result Neighbours NoSuchNode → List ℕ
+neighbours_start_numbers (Ok c) = 0 ∷ []
+neighbours_start_numbers (Err _) = 4 ∷ []
 
-abbrev pub connections_start_numbers : NodeConnectionsStart → List ℕ
-connections_start_numbers (connections_start.Started c) = 0 ∷ []
-connections_start_numbers connections_start.UnknownNode = 4 ∷ []
+abbrev pub connections_start_numbers : Result NodeConnections NoSuchNode → List ℕ
+connections_start_numbers (Ok c) = 0 ∷ []
+connections_start_numbers (Err _) = 4 ∷ []
 
-abbrev pub links_numbers : NodeLinksStep → List ℕ
-links_numbers (links_step.Item w c) = w.from.0 ∷ w.to.0 ∷ []
-links_numbers links_step.End = []
+abbrev pub links_numbers : Option (Link × NodeLinks) → List ℕ
+links_numbers (Some (w, c)) = w.from.0 ∷ w.to.0 ∷ []
+links_numbers None = []
 
-abbrev pub neighbours_numbers : NeighboursStep → List ℕ
-neighbours_numbers (neighbours_step.Item n c) = n.0 ∷ []
-neighbours_numbers neighbours_step.End = []
+abbrev pub neighbours_numbers : Option (NodeIndex × Neighbours) → List ℕ
+neighbours_numbers (Some (n, c)) = n.0 ∷ []
+neighbours_numbers None = []
 
-abbrev pub connections_numbers : NodeConnectionsStep → List ℕ
-connections_numbers (connections_step.Item w c) = w.from.0 ∷ w.to.0 ∷ []
-connections_numbers connections_step.End = []
+abbrev pub connections_numbers : Option (Link × NodeConnections) → List ℕ
+connections_numbers (Some (w, c)) = w.from.0 ∷ w.to.0 ∷ []
+connections_numbers None = []
 
-abbrev pub all_ports_numbers : PortsStep → List ℕ
-all_ports_numbers (all_step.Item p c) = p.0 ∷ []
-all_ports_numbers all_step.End = []
+abbrev pub all_ports_numbers : Option (PortIndex × Ports) → List ℕ
+all_ports_numbers (Some (p, c)) = p.0 ∷ []
+all_ports_numbers None = []
 
 -- How the code goes over ports: the first for which a test holds, and the ports that are left.
 

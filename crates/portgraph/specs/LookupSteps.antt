@@ -1,6 +1,6 @@
 -- What the code reads of a graph, said of the definitions: the entries that it reads are those of the lookups,
 -- and each way out of a lookup, of a link or of an unlink gives what the definition gives.
-use Rattle.std.specs.Prelude.{◌≡◌, Bool, false, cond, List, map, ℕ, ◌+◌, ◌-◌, ◌≤◌, ◌<◌, length, get_or, replicate}
+use Rattle.std.specs.Prelude.{◌≡◌, Bool, false, cond, List, map, ℕ, ◌+◌, ◌-◌, ◌≤◌, ◌<◌, length, get_or, replicate, Option, Some, None, Result, Ok, Err}
 use Rattle.std.proofs.Common.{sym, ◌∙◌, arith, lt-ltb, le-ltb, eq-eqb, ne_eqb}
 use Rattle.std.proofs.Math.Path.{ap}
 use Rattle.std.proofs.lemmas.List.{length-map}
@@ -17,23 +17,19 @@ use Rattle.portgraph.specs.WfFacts.{block_fits}
 use Rattle.port_tables.specs.declared.direction.Direction.{Direction}
 use Rattle.port_tables.specs.declared.direction.Direction.TheVariants.{Incoming, Outgoing}
 use Rattle.port_tables.specs.declared.index.PortOffset.{PortOffset}
-use Rattle.port_tables.specs.declared.index.MaybePortIndex.TheVariants as maybe_port
-use Rattle.port_tables.specs.declared.index.MaybePortOffset.TheVariants as maybe_offset
 use Rattle.port_tables.specs.declared.node_entry.NodeSlot.{NodeSlot}
 use Rattle.port_tables.specs.declared.node_entry.NodeMeta.{NodeMeta}
 use Rattle.port_tables.specs.declared.node_entry.NodeEntry.{NodeEntry}
 use Rattle.port_tables.specs.declared.node_entry.NodeEntry.TheVariants as node_variants
-use Rattle.port_tables.specs.declared.node_entry.MaybeNodeMeta.{MaybeNodeMeta}
-use Rattle.port_tables.specs.declared.node_entry.MaybeNodeMeta.TheVariants as maybe_meta
 use Rattle.port_tables.specs.declared.port_entry.PortMeta.{PortMeta}
 use Rattle.port_tables.specs.declared.port_entry.PortEntry.{PortEntry}
 use Rattle.port_tables.specs.declared.port_entry.PortEntry.TheVariants as port_variants
 use Rattle.portgraph.specs.declared.portgraph.PortGraph.{PortGraph}
-use Rattle.portgraph.specs.declared.portgraph.PortLink.{PortLink}
-use Rattle.portgraph.specs.declared.portgraph.PortLink.TheVariants.{Linked, Unlinked, UnknownPort}
-use Rattle.portgraph.specs.declared.portgraph.LinkAnswer.TheVariants as linked
 use Rattle.portgraph.specs.declared.portgraph.PortsLinked.{PortsLinked}
 use Rattle.portgraph.specs.declared.portgraph.PortUnlinked.{PortUnlinked}
+use Rattle.port_tables.specs.declared.index.PortIndex.{PortIndex}
+use Rattle.portgraph.specs.declared.portgraph.NoSuchPort.{NoSuchPort}
+use Rattle.portgraph.specs.declared.portgraph.LinkError.TheVariants as link_error
 
 -- the empty graph with a given slot in its node table
 abbrev pub graph_of : NodeSlot → PortGraph
@@ -61,19 +57,19 @@ graph_of_fresh s e = ap graph_of e
 pub length_of_map : (X Y : Type 0) (f : X → Y) (l : List X) (n : ℕ) → length (map f l) ≡ n → length l ≡ n
 length_of_map X Y f l n h = sym (length-map l f) ∙ h
 
-pub node_outside : (l : List NodeSlot) (n w : ℕ) → length l ≡ node_slots → w ≡ n → node_slots ≤ w → maybe_meta.None ≡ meta_of_entry (get_or l n fresh_slot).entry
+pub node_outside : (l : List NodeSlot) (n w : ℕ) → length l ≡ node_slots → w ≡ n → node_slots ≤ w → None ≡ meta_of_entry (get_or l n fresh_slot).entry
 node_outside l n w long e h =
     ap (λ (s : NodeSlot). meta_of_entry s.entry) (sym (get_or-eq_default l fresh_slot {n = n} (omega arith)))
 
 pub node_read : (l : List NodeSlot) (n w : ℕ) (e : NodeEntry) → w ≡ n → (get_or l w fresh_slot).entry ≡ e → meta_of_entry e ≡ meta_of_entry (get_or l n fresh_slot).entry
 node_read l n w e hw he = ap meta_of_entry (sym he ∙ ap (λ (x : ℕ). (get_or l x fresh_slot).entry) hw)
 
-entry_of_meta : (e : NodeEntry) (m : NodeMeta) → maybe_meta.Some m ≡ meta_of_entry e → e ≡ node_variants.Node m
+entry_of_meta : (e : NodeEntry) (m : NodeMeta) → Some m ≡ meta_of_entry e → e ≡ node_variants.Node m
 entry_of_meta (node_variants.Free f) m h = let z : ◌≡◌ {A = ℕ} 0 1 = cc in absurd (omega arith)
 entry_of_meta (node_variants.Node k) m h = cc
 
 -- the block of a node that is found lies within the tables
-pub found_block_fits : (g : PortGraph) → Wf g → (n : ℕ) (m : NodeMeta) → maybe_meta.Some m ≡ meta_at g n → BlockFits m
+pub found_block_fits : (g : PortGraph) → Wf g → (n : ℕ) (m : NodeMeta) → Some m ≡ meta_at g n → BlockFits m
 found_block_fits g w n m h = block_fits g w n m (entry_of_meta (get_or g.node_meta n fresh_slot).entry m h)
 
 -- so do the ports of each side
@@ -91,54 +87,54 @@ port_outside t p w e h = ap port_entry (at_outside t p (omega arith))
 
 -- Offsets.
 
-pub offset_found : (g : PortGraph) (p i : ℕ) (o : PortMeta) (m : NodeMeta) → port_variants.Port o ≡ port_at g p → maybe_meta.Some m ≡ meta_at g o.node.0
+pub offset_found : (g : PortGraph) (p i : ℕ) (o : PortMeta) (m : NodeMeta) → port_variants.Port o ≡ port_at g p → Some m ≡ meta_at g o.node.0
     → i ≡ p - m.first_port.0 - start_of m o.direction
-    → maybe_offset.Some (record { direction = o.direction; index = i }) ≡ port_offset g p
+    → Some (record { direction = o.direction; index = i }) ≡ port_offset g p
 offset_found g p i o m ho hm hi =
-    ap (λ (x : ℕ). maybe_offset.Some (record { direction = o.direction; index = x })) hi
+    ap (λ (x : ℕ). Some (record { direction = o.direction; index = x })) hi
     ∙ ap (offset_in p o.direction) hm ∙ ap (offset_of g p) ho
 
-pub offset_without_node : (g : PortGraph) (p : ℕ) (o : PortMeta) → port_variants.Port o ≡ port_at g p → maybe_meta.None ≡ meta_at g o.node.0
-    → maybe_offset.None ≡ port_offset g p
+pub offset_without_node : (g : PortGraph) (p : ℕ) (o : PortMeta) → port_variants.Port o ≡ port_at g p → None ≡ meta_at g o.node.0
+    → None ≡ port_offset g p
 offset_without_node g p o ho hm = ap (offset_in p o.direction) hm ∙ ap (offset_of g p) ho
 
-pub index_outside : (g : PortGraph) (n i k : ℕ) (m : NodeMeta) (o : PortOffset) → maybe_meta.Some m ≡ meta_at g n
-    → i ≡ o.index → k ≡ ports_on m o.direction → k ≤ i → maybe_port.None ≡ port_in (meta_at g n) o
+pub index_outside : (g : PortGraph) (n i k : ℕ) (m : NodeMeta) (o : PortOffset) → Some m ≡ meta_at g n
+    → i ≡ o.index → k ≡ ports_on m o.direction → k ≤ i → None ≡ port_in (meta_at g n) o
 index_outside g n i k m o hm hi hk h =
-    let e : maybe_port.None ≡ port_in (maybe_meta.Some m) o = rw (le-ltb o.index (ports_on m o.direction) (omega arith)) in
-    e ∙ ap (λ (x : MaybeNodeMeta). port_in x o) hm
+    let e : None ≡ port_in (Some m) o = rw (le-ltb o.index (ports_on m o.direction) (omega arith)) in
+    e ∙ ap (λ (x : Option NodeMeta). port_in x o) hm
 
-pub index_inside : (g : PortGraph) (n i k q : ℕ) (m : NodeMeta) (o : PortOffset) → maybe_meta.Some m ≡ meta_at g n
+pub index_inside : (g : PortGraph) (n i k q : ℕ) (m : NodeMeta) (o : PortOffset) → Some m ≡ meta_at g n
     → i ≡ o.index → k ≡ ports_on m o.direction → i < k → q ≡ m.first_port.0 + start_of m o.direction + i
-    → maybe_port.Some (port# q) ≡ port_in (meta_at g n) o
+    → Some (port# q) ≡ port_in (meta_at g n) o
 index_inside g n i k q m o hm hi hk h hq =
     let f : q ≡ m.first_port.0 + start_of m o.direction + o.index = omega arith in
-    let e : maybe_port.Some (port# q) ≡ port_in (maybe_meta.Some m) o =
-    rw (lt-ltb o.index (ports_on m o.direction) (omega arith)) (ap (λ (x : ℕ). maybe_port.Some (port# x)) f) in
-    e ∙ ap (λ (x : MaybeNodeMeta). port_in x o) hm
+    let e : Some (port# q) ≡ port_in (Some m) o =
+    rw (lt-ltb o.index (ports_on m o.direction) (omega arith)) (ap (λ (x : ℕ). Some (port# x)) f) in
+    e ∙ ap (λ (x : Option NodeMeta). port_in x o) hm
 
 -- Links.
 
 pub no_link : (g : PortGraph) (p w far : ℕ) (o : PortMeta) → port_variants.Port o ≡ port_at g p → w ≡ p → far ≡ at g.port_link w → far ≡ 0
-    → Unlinked ≡ port_link g p
+    → Ok None ≡ port_link g p
 no_link g p w far o ho hw hf h =
     let z = sym (hf ∙ ap (at g.port_link) hw) ∙ h in
-    let e : Unlinked ≡ link_of g p (port_variants.Port o) = rw (eq-eqb (at g.port_link p) 0 z) in
+    let e : (Ok None) ≡ link_of g p (port_variants.Port o) = rw (eq-eqb (at g.port_link p) 0 z) in
     e ∙ ap (link_of g p) ho
 
 pub link_to : (g : PortGraph) (p w far : ℕ) (o : PortMeta) → port_variants.Port o ≡ port_at g p → w ≡ p → far ≡ at g.port_link w → (far ≡ 0 → ⊥)
-    → Linked (port# (far - 1)) ≡ port_link g p
+    → Ok (Some (port# (far - 1))) ≡ port_link g p
 link_to g p w far o ho hw hf h =
     let z = hf ∙ ap (at g.port_link) hw in
-    let e : Linked (port# (at g.port_link p - 1)) ≡ link_of g p (port_variants.Port o) = rw (ne_eqb (at g.port_link p) 0 (λ q. h (z ∙ q))) in
-    ap (λ (x : ℕ). Linked (port# (x - 1))) z ∙ e ∙ ap (link_of g p) ho
+    let e : Ok (Some (port# (at g.port_link p - 1))) ≡ link_of g p (port_variants.Port o) = rw (ne_eqb (at g.port_link p) 0 (λ q. h (z ∙ q))) in
+    ap (λ (x : ℕ). Ok (Some (port# (x - 1)))) z ∙ e ∙ ap (link_of g p) ho
 
-pub link_unknown : (g : PortGraph) (a b : ℕ) → port_variants.Free ≡ port_at g a → link_refused g (linked.UnknownPort (port# a)) ≡ link_ports g a b
+pub link_unknown : (g : PortGraph) (a b : ℕ) → port_variants.Free ≡ port_at g a → link_refused g (Err (link_error.UnknownPort (port# a))) ≡ link_ports g a b
 unfolding link_ports
 link_unknown g a b e = ap (λ (x : PortEntry). link_entries g a b x (port_at g b)) e
 
 pub link_unknown_second : (g : PortGraph) (a b : ℕ) (m : PortMeta) → port_variants.Port m ≡ port_at g a → port_variants.Free ≡ port_at g b
-    → link_refused g (linked.UnknownSecondPort (port# b)) ≡ link_ports g a b
+    → link_refused g (Err (link_error.UnknownSecondPort (port# b))) ≡ link_ports g a b
 unfolding link_ports
 link_unknown_second g a b m e f =
     ap (λ (x : PortEntry). link_entries g a b x port_variants.Free) e ∙ ap (link_entries g a b (port_at g a)) f
@@ -150,44 +146,44 @@ module _ (g : PortGraph) (a b : ℕ) (m k : PortMeta) (first : port_variants.Por
 
   -- both ports are live: their sides decide
   pub link_by_sides : (t : Bool) → same_side m.direction k.direction ≡ t
-      → cond t (link_refused g (linked.IncompatibleDirections (port# a) (port# b) m.direction)) (link_free g a b) ≡ link_ports g a b
+      → cond t (link_refused g (Err (link_error.IncompatibleDirections (port# a) (port# b) m.direction))) (link_free g a b) ≡ link_ports g a b
   link_by_sides t h =
-      ap (λ (x : Bool). cond x (link_refused g (linked.IncompatibleDirections (port# a) (port# b) m.direction)) (link_free g a b)) (sym h) ∙ both_live
+      ap (λ (x : Bool). cond x (link_refused g (Err (link_error.IncompatibleDirections (port# a) (port# b) m.direction))) (link_free g a b)) (sym h) ∙ both_live
 
   pub link_first_taken : same_side m.direction k.direction ≡ false → (at g.port_link a ≡ 0 → ⊥)
-      → link_refused g (linked.AlreadyLinked (port# a)) ≡ link_ports g a b
+      → link_refused g (Err (link_error.AlreadyLinked (port# a))) ≡ link_ports g a b
   link_first_taken h n =
-      let e : link_refused g (linked.AlreadyLinked (port# a)) ≡ link_free g a b = rw (ne_eqb (at g.port_link a) 0 n) in
+      let e : link_refused g (Err (link_error.AlreadyLinked (port# a))) ≡ link_free g a b = rw (ne_eqb (at g.port_link a) 0 n) in
       e ∙ link_by_sides false h
 
   pub link_second_taken : same_side m.direction k.direction ≡ false → at g.port_link a ≡ 0 → (at g.port_link b ≡ 0 → ⊥)
-      → link_refused g (linked.AlreadyLinked (port# b)) ≡ link_ports g a b
+      → link_refused g (Err (link_error.AlreadyLinked (port# b))) ≡ link_ports g a b
   link_second_taken h z n =
-      let e : link_refused g (linked.AlreadyLinked (port# b)) ≡ link_free g a b =
+      let e : link_refused g (Err (link_error.AlreadyLinked (port# b))) ≡ link_free g a b =
       rw (eq-eqb (at g.port_link a) 0 z, ne_eqb (at g.port_link b) 0 n) in
       e ∙ link_by_sides false h
 
   pub link_made : (t : List ℕ) → same_side m.direction k.direction ≡ false → at g.port_link a ≡ 0 → at g.port_link b ≡ 0
       → t ≡ link_both g.port_link a b
-      → ◌≡◌ {A = PortsLinked} (record { graph = with_links g t (g.link_count + 1); answer = linked.Linked (port# a) (port# b) }) (link_ports g a b)
+      → ◌≡◌ {A = PortsLinked} (record { graph = with_links g t (g.link_count + 1); answer = Ok (port# a, port# b) }) (link_ports g a b)
   link_made t h y z et =
-      let e : ◌≡◌ {A = PortsLinked} (record { graph = with_links g t (g.link_count + 1); answer = linked.Linked (port# a) (port# b) }) (link_free g a b) =
+      let e : ◌≡◌ {A = PortsLinked} (record { graph = with_links g t (g.link_count + 1); answer = Ok (port# a, port# b) }) (link_free g a b) =
       rw (eq-eqb (at g.port_link a) 0 y, eq-eqb (at g.port_link b) 0 z, et) in
       e ∙ link_by_sides false h
 
-abbrev unlinked : PortGraph → List ℕ → ℕ → PortLink → PortUnlinked
+abbrev unlinked : PortGraph → List ℕ → ℕ → Result (Option PortIndex) NoSuchPort → PortUnlinked
 unlinked g t n l = record { graph = with_links g t n; answer = l }
 
-abbrev answered : PortGraph → PortLink → PortUnlinked
+abbrev answered : PortGraph → Result (Option PortIndex) NoSuchPort → PortUnlinked
 answered g l = record { graph = g; answer = l }
 
 pub unlink_unknown : (g : PortGraph) (p : ℕ) → port_variants.Free ≡ port_at g p
-    → ◌≡◌ {A = PortUnlinked} (record { graph = g; answer = UnknownPort (port# p) }) (unlink_port g p)
+    → ◌≡◌ {A = PortUnlinked} (record { graph = g; answer = Err (record { 0 = port# p }) }) (unlink_port g p)
 unfolding unlink_port
 unlink_unknown g p h = ap (λ (e : PortEntry). answered (unlink_entry g p e) (link_of g p e)) h
 
 -- the link of a live port is cut, and the answer is what it was linked with
-pub unlink_live : (g : PortGraph) (p w far n : ℕ) (t : List ℕ) (l : PortLink) (o : PortMeta) → port_variants.Port o ≡ port_at g p → w ≡ p
+pub unlink_live : (g : PortGraph) (p w far n : ℕ) (t : List ℕ) (l : Result (Option PortIndex) NoSuchPort) (o : PortMeta) → port_variants.Port o ≡ port_at g p → w ≡ p
     → far ≡ at g.port_link w → t ≡ cut g.port_link w → n ≡ g.link_count - link_count far → l ≡ port_link g p
     → ◌≡◌ {A = PortUnlinked} (record { graph = with_links g t n; answer = l }) (unlink_port g p)
 unfolding unlink_port

@@ -1,6 +1,6 @@
 -- Which place a port number is: a slot of the tables is the slot of one valid place, or of none and then no port is live there.
 -- With this the lookups answer for places, and the link table stands for the links of the model.
-use Rattle.std.specs.Prelude.{◌≡◌, refl, Bool, true, false, cond, ◌⊎◌, ℕ, suc, ◌+◌, ◌-◌, ◌*◌, ◌/◌, ◌%◌, ◌≤◌, ◌<◌, eqb, ltb}
+use Rattle.std.specs.Prelude.{◌≡◌, refl, Bool, true, false, cond, ◌⊎◌, ℕ, suc, ◌+◌, ◌-◌, ◌*◌, ◌/◌, ◌%◌, ◌≤◌, ◌<◌, eqb, ltb, Option, Some, None, Ok, Result, Err}
 use Rattle.std.proofs.Common.{sym, ◌∙◌, ap, inl, inr, ⊎_elim, arith, ltb-true, ltb-false, lt-ltb, le-ltb, eq-eqb, ne_eqb}
 use Rattle.port_tables.specs.Lists.{Member}
 use Rattle.port_tables.specs.Entries.{owner_number, port_entry, ports_on, node#, port#, meta_of_entry}
@@ -13,18 +13,14 @@ use Rattle.portgraph.specs.GoodSlots.{gone_not_live, slot_in_block, slot_held, s
 use Rattle.port_tables.specs.declared.direction.Direction.{Direction}
 use Rattle.port_tables.specs.declared.direction.Direction.TheVariants.{Incoming, Outgoing}
 use Rattle.port_tables.specs.declared.index.PortIndex.{PortIndex}
+use Rattle.portgraph.specs.declared.portgraph.NoSuchPort.{NoSuchPort}
 use Rattle.port_tables.specs.declared.index.PortOffset.{PortOffset}
-use Rattle.port_tables.specs.declared.index.MaybePortIndex.TheVariants as maybe_port
-use Rattle.port_tables.specs.declared.index.MaybePortOffset.TheVariants as maybe_offset
 use Rattle.port_tables.specs.declared.node_entry.NodeMeta.{NodeMeta}
-use Rattle.port_tables.specs.declared.node_entry.MaybeNodeMeta.{MaybeNodeMeta}
-use Rattle.port_tables.specs.declared.node_entry.MaybeNodeMeta.TheVariants as maybe_meta
 use Rattle.port_tables.specs.declared.node_entry.NodeEntry.{NodeEntry}
 use Rattle.port_tables.specs.declared.node_entry.NodeEntry.TheVariants as node_variants
 use Rattle.port_tables.specs.declared.port_entry.PortMeta.{PortMeta}
 use Rattle.port_tables.specs.declared.port_entry.PortEntry.TheVariants as port_variants
 use Rattle.portgraph.specs.declared.portgraph.PortGraph.{PortGraph}
-use Rattle.portgraph.specs.declared.portgraph.PortLink.TheVariants as link_variants
 
 -- the node and side of a place, as a port's entry names them
 abbrev pub meta_of_place : InnerPlace → PortMeta
@@ -66,10 +62,10 @@ owner_at n (live m) Outgoing p h =
     )
 
 -- a link's number, told
-told_unlinked : (far : ℕ) → far ≡ 0 → cond (eqb far 0) link_variants.Unlinked (link_variants.Linked (port# (far - 1))) ≡ link_variants.Unlinked
+told_unlinked : (far : ℕ) → far ≡ 0 → ◌≡◌ {A = Result (Option PortIndex) NoSuchPort} (cond (eqb far 0) (Ok None) (Ok (Some (port# (far - 1))))) (Ok None)
 told_unlinked far z = rw (eq-eqb far 0 z)
 
-told_linked : (far s : ℕ) → far ≡ suc s → cond (eqb far 0) link_variants.Unlinked (link_variants.Linked (port# (far - 1))) ≡ link_variants.Linked (port# s)
+told_linked : (far s : ℕ) → far ≡ suc s → ◌≡◌ {A = Result (Option PortIndex) NoSuchPort} (cond (eqb far 0) (Ok None) (Ok (Some (port# (far - 1))))) (Ok (Some (port# s)))
 told_linked far s e =
     let d : far - 1 ≡ s = omega arith in
     rw (ne_eqb far 0 (λ z. omega arith), d)
@@ -187,13 +183,13 @@ module _ {g : PortGraph} {M : Model} (good : Good M) (holds : Holds g M) where
       go nowhere e = let z = link_none x h e in absurd (omega arith)
       go (to y) e = let z = link_to x y h e in (y, e, omega arith)
 
-  pub port_link_dead : (p : ℕ) → Vacant (Valid M.node) (slot_of M.node) p → port_link g p ≡ link_variants.UnknownPort (port# p)
+  pub port_link_dead : (p : ℕ) → Vacant (Valid M.node) (slot_of M.node) p → port_link g p ≡ Err (record { 0 = port# p })
   port_link_dead p none = ap (link_of g p) (vacant_is_dead p none)
 
-  pub port_link_none : (x : InnerPlace) → Valid M.node x → M.join x ≡ nowhere → port_link g (slot_of M.node x) ≡ link_variants.Unlinked
+  pub port_link_none : (x : InnerPlace) → Valid M.node x → M.join x ≡ nowhere → port_link g (slot_of M.node x) ≡ Ok None
   port_link_none x h e = ap (link_of g (slot_of M.node x)) (port_of_place x h) ∙ told_unlinked (at g.port_link (slot_of M.node x)) (link_none x h e)
 
-  pub port_link_to : (x y : InnerPlace) → Valid M.node x → M.join x ≡ to y → port_link g (slot_of M.node x) ≡ link_variants.Linked (port# (slot_of M.node y))
+  pub port_link_to : (x y : InnerPlace) → Valid M.node x → M.join x ≡ to y → port_link g (slot_of M.node x) ≡ Ok (Some (port# (slot_of M.node y)))
   port_link_to x y h e =
       ap (link_of g (slot_of M.node x)) (port_of_place x h) ∙ told_linked (at g.port_link (slot_of M.node x)) (slot_of M.node y) (link_to x y h e)
 
@@ -206,47 +202,47 @@ module _ {g : PortGraph} {M : Model} (good : Good M) (holds : Holds g M) where
       go (node_variants.Free f) q = absurd (gone_not_live refl q)
       go (node_variants.Node k) q = cc
 
-  pub meta_of_node : (n : ℕ) (m : NodeMeta) → M.node n ≡ live m → meta_at g n ≡ maybe_meta.Some m
+  pub meta_of_node : (n : ℕ) (m : NodeMeta) → M.node n ≡ live m → meta_at g n ≡ Some m
   meta_of_node n m e = ap meta_of_entry (entry_of_node n m e)
 
-  pub node_of_meta : (n : ℕ) (m : NodeMeta) → meta_at g n ≡ maybe_meta.Some m → M.node n ≡ live m
+  pub node_of_meta : (n : ℕ) (m : NodeMeta) → meta_at g n ≡ Some m → M.node n ≡ live m
   node_of_meta n m e = sym (holds.nodes n) ∙ go (entry_at g n) e
     where
-      go : (v : NodeEntry) → meta_of_entry v ≡ maybe_meta.Some m → slots_of_entry v ≡ live m
+      go : (v : NodeEntry) → meta_of_entry v ≡ Some m → slots_of_entry v ≡ live m
       go (node_variants.Free f) q = absurd (zero_is_not_one (cc))
       go (node_variants.Node k) q = cc
 
-  pub no_meta_is_gone : (n : ℕ) → meta_at g n ≡ maybe_meta.None → M.node n ≡ gone
+  pub no_meta_is_gone : (n : ℕ) → meta_at g n ≡ None → M.node n ≡ gone
   no_meta_is_gone n e = sym (holds.nodes n) ∙ go (entry_at g n) e
     where
-      go : (v : NodeEntry) → meta_of_entry v ≡ maybe_meta.None → slots_of_entry v ≡ gone
+      go : (v : NodeEntry) → meta_of_entry v ≡ None → slots_of_entry v ≡ gone
       go (node_variants.Free f) q = refl
       go (node_variants.Node k) q = absurd (zero_is_not_one (cc))
 
-  pub gone_has_no_meta : (n : ℕ) → M.node n ≡ gone → meta_at g n ≡ maybe_meta.None
+  pub gone_has_no_meta : (n : ℕ) → M.node n ≡ gone → meta_at g n ≡ None
   gone_has_no_meta n e = go (entry_at g n) (holds.nodes n ∙ e)
     where
-      go : (v : NodeEntry) → slots_of_entry v ≡ gone → meta_of_entry v ≡ maybe_meta.None
+      go : (v : NodeEntry) → slots_of_entry v ≡ gone → meta_of_entry v ≡ None
       go (node_variants.Free f) q = refl
       go (node_variants.Node k) q = absurd (gone_not_live q refl)
 
   -- Ports by side and position.
 
   index_in : (m : NodeMeta) (d : Direction) (p : ℕ) → p < ports_on m d →
-      port_in (maybe_meta.Some m) (record { direction = d; index = p }) ≡ maybe_port.Some (port# (m.first_port.0 + (side_start (live m) d + p)))
-  index_in m Incoming p h = rw (lt-ltb p m.incoming h) (ap (λ (s : ℕ). maybe_port.Some (port# s)) (omega arith))
-  index_in m Outgoing p h = rw (lt-ltb p m.outgoing h) (ap (λ (s : ℕ). maybe_port.Some (port# s)) (omega arith))
+      port_in (Some m) (record { direction = d; index = p }) ≡ Some (port# (m.first_port.0 + (side_start (live m) d + p)))
+  index_in m Incoming p h = rw (lt-ltb p m.incoming h) (ap (λ (s : ℕ). Some (port# s)) (omega arith))
+  index_in m Outgoing p h = rw (lt-ltb p m.outgoing h) (ap (λ (s : ℕ). Some (port# s)) (omega arith))
 
-  pub port_index_is : (x : InnerPlace) → Valid M.node x → port_index g x.node (offset_of_place x) ≡ maybe_port.Some (port# (slot_of M.node x))
+  pub port_index_is : (x : InnerPlace) → Valid M.node x → port_index g x.node (offset_of_place x) ≡ Some (port# (slot_of M.node x))
   port_index_is x h =
       let r = slot_in_block good x h in
       let k : x.pos < ports_on r.0 x.side = rw r.1 at h in
-      ap (λ (v : MaybeNodeMeta). port_in v (offset_of_place x)) (meta_of_node x.node r.0 r.1)
+      ap (λ (v : Option NodeMeta). port_in v (offset_of_place x)) (meta_of_node x.node r.0 r.1)
       ∙ (index_in r.0 x.side x.pos k
-      ∙ ap (λ (v : Slots). maybe_port.Some (port# (first_of v + (side_start v x.side + x.pos)))) (sym r.1))
+      ∙ ap (λ (v : Slots). Some (port# (first_of v + (side_start v x.side + x.pos)))) (sym r.1))
 
   -- an answered port is the port of that valid place
-  pub place_of_index : (x : InnerPlace) (p : PortIndex) → port_index g x.node (offset_of_place x) ≡ maybe_port.Some p → Valid M.node x × (slot_of M.node x ≡ p.0)
+  pub place_of_index : (x : InnerPlace) (p : PortIndex) → port_index g x.node (offset_of_place x) ≡ Some p → Valid M.node x × (slot_of M.node x ≡ p.0)
   place_of_index x p e = go (meta_at g x.node) refl
     where
       slot : Valid M.node x → slot_of M.node x ≡ p.0
@@ -255,32 +251,32 @@ module _ {g : PortGraph} {M : Model} (good : Good M) (holds : Holds g M) where
           let same : port# (slot_of M.node x) ≡ p = cc in
           ap (λ (i : PortIndex). i.0) same
 
-      go : (v : MaybeNodeMeta) → meta_at g x.node ≡ v → Valid M.node x × (slot_of M.node x ≡ p.0)
-      go maybe_meta.None q =
-          let f : port_index g x.node (offset_of_place x) ≡ maybe_port.None = ap (λ (v : MaybeNodeMeta). port_in v (offset_of_place x)) q in
+      go : (v : Option NodeMeta) → meta_at g x.node ≡ v → Valid M.node x × (slot_of M.node x ≡ p.0)
+      go None q =
+          let f : port_index g x.node (offset_of_place x) ≡ None = ap (λ (v : Option NodeMeta). port_in v (offset_of_place x)) q in
           absurd (zero_is_not_one (cc))
-      go (maybe_meta.Some m) q = test (ltb x.pos (ports_on m x.side)) refl
+      go (Some m) q = test (ltb x.pos (ports_on m x.side)) refl
         where
-          answer : port_index g x.node (offset_of_place x) ≡ port_in (maybe_meta.Some m) (offset_of_place x)
-          answer = ap (λ (v : MaybeNodeMeta). port_in v (offset_of_place x)) q
+          answer : port_index g x.node (offset_of_place x) ≡ port_in (Some m) (offset_of_place x)
+          answer = ap (λ (v : Option NodeMeta). port_in v (offset_of_place x)) q
 
           test : (b : Bool) → ltb x.pos (ports_on m x.side) ≡ b → Valid M.node x × (slot_of M.node x ≡ p.0)
           test true t =
               let h : Valid M.node x = rw (node_of_meta x.node m q) (ltb-true _ _ t) in
               (h, slot h)
           test false t =
-              let f : port_index g x.node (offset_of_place x) ≡ maybe_port.None = answer ∙ rw t in
+              let f : port_index g x.node (offset_of_place x) ≡ None = answer ∙ rw t in
               absurd (zero_is_not_one (cc))
 
   offset_in_lem : (m : NodeMeta) (d : Direction) (p : ℕ) →
-      offset_in (m.first_port.0 + (side_start (live m) d + p)) d (maybe_meta.Some m) ≡ maybe_offset.Some (record { direction = d; index = p })
-  offset_in_lem m Incoming p = ap (λ (i : ℕ). maybe_offset.Some (record { direction = Incoming; index = i })) (omega arith)
-  offset_in_lem m Outgoing p = ap (λ (i : ℕ). maybe_offset.Some (record { direction = Outgoing; index = i })) (omega arith)
+      offset_in (m.first_port.0 + (side_start (live m) d + p)) d (Some m) ≡ Some (record { direction = d; index = p })
+  offset_in_lem m Incoming p = ap (λ (i : ℕ). Some (record { direction = Incoming; index = i })) (omega arith)
+  offset_in_lem m Outgoing p = ap (λ (i : ℕ). Some (record { direction = Outgoing; index = i })) (omega arith)
 
-  pub port_offset_is : (x : InnerPlace) → Valid M.node x → port_offset g (slot_of M.node x) ≡ maybe_offset.Some (offset_of_place x)
+  pub port_offset_is : (x : InnerPlace) → Valid M.node x → port_offset g (slot_of M.node x) ≡ Some (offset_of_place x)
   port_offset_is x h =
       let r = slot_in_block good x h in
       ap (offset_of g (slot_of M.node x)) (port_of_place x h)
       ∙ (ap (offset_in (slot_of M.node x) x.side) (meta_of_node x.node r.0 r.1)
-      ∙ (ap (λ (v : Slots). offset_in (first_of v + (side_start v x.side + x.pos)) x.side (maybe_meta.Some r.0)) r.1
+      ∙ (ap (λ (v : Slots). offset_in (first_of v + (side_start v x.side + x.pos)) x.side (Some r.0)) r.1
       ∙ offset_in_lem r.0 x.side x.pos))

@@ -1,5 +1,5 @@
 -- Changing a node's counts: where a new block is taken, what happens to links and owners, and the move list.
-use Rattle.std.specs.Prelude.{cond, List, [], ◌∷◌, ◌++◌, ℕ, ◌+◌, ◌-◌, ◌*◌, leb, ltb, set, length}
+use Rattle.std.specs.Prelude.{cond, List, [], ◌∷◌, ◌++◌, ℕ, ◌+◌, ◌-◌, ◌*◌, leb, ltb, set, length, Option, Some, None, Result, Ok, Err}
 use Rattle.std.proofs.lemmas.List.Edits.{sets}
 use Rattle.port_tables.specs.Limits.{node_ports, Limits, present}
 use Rattle.port_tables.specs.Entries.{node_slot_of, meta_of}
@@ -10,23 +10,21 @@ use Rattle.port_tables.specs.declared.node_entry.NodeMeta.{NodeMeta}
 use Rattle.port_tables.specs.declared.node_entry.NodeEntry.{NodeEntry}
 use Rattle.port_tables.specs.declared.node_entry.NodeEntry.TheVariants as node_variants
 use Rattle.portgraph.specs.declared.portgraph.PortGraph.{PortGraph}
-use Rattle.portgraph.specs.declared.alloc.Found.{Found}
-use Rattle.portgraph.specs.declared.alloc.Found.TheVariants as found
-use Rattle.portgraph.specs.declared.resize.SetAnswer.{SetAnswer}
-use Rattle.portgraph.specs.declared.resize.SetAnswer.TheVariants as set_variants
 use Rattle.portgraph.specs.declared.resize.PortsSet.{PortsSet}
 use Rattle.port_tables.specs.ResizeLinks.{anew_links, drop_count, drop_links, drop_told, first_slot, fits_inside, inside_links, kept_incoming, kept_outgoing, round_up, same_counts}
+use Rattle.portgraph.specs.declared.resize.SetError.{SetError}
+use Rattle.portgraph.specs.declared.resize.SetError.TheVariants as set_error
 
 -- What is to be done: refused, nothing, within the block, or in a new block.
 pub data Plan : Type 0 where
-  refuse : SetAnswer → Plan
+  refuse : Result ℕ SetError → Plan
   same : Plan
   inside : NodeMeta → Plan
   anew : NodeMeta → ℕ → Plan
 
-abbrev pub plan_block : NodeMeta → Found → Plan
-plan_block m (found.At first) = anew m first
-plan_block m found.NoRoom = refuse set_variants.NoRoom
+abbrev pub plan_block : NodeMeta → Option ℕ → Plan
+plan_block m (Some first) = anew m first
+plan_block m None = refuse (Err set_error.NoRoom)
 
 abbrev pub plan_counts_under : Limits → PortGraph → NodeMeta → ℕ → ℕ → Plan
 plan_counts_under L g m incoming outgoing =
@@ -39,16 +37,16 @@ plan_counts = plan_counts_under present
 
 -- the move list has to hold three numbers for each port of the node
 abbrev pub plan_entry_under : Limits → PortGraph → ℕ → ℕ → ℕ → NodeEntry → Plan
-plan_entry_under L g incoming outgoing room (node_variants.Free f) = refuse set_variants.UnknownNode
+plan_entry_under L g incoming outgoing room (node_variants.Free f) = refuse (Err set_error.UnknownNode)
 plan_entry_under L g incoming outgoing room (node_variants.Node m) =
-    cond (leb (3 * (m.incoming + m.outgoing)) room) (plan_counts_under L g m incoming outgoing) (refuse set_variants.MovesTooShort)
+    cond (leb (3 * (m.incoming + m.outgoing)) room) (plan_counts_under L g m incoming outgoing) (refuse (Err set_error.MovesTooShort))
 
 abbrev pub plan_entry : PortGraph → ℕ → ℕ → ℕ → NodeEntry → Plan
 plan_entry = plan_entry_under present
 
 unfoldable pub plan_of_under : Limits → PortGraph → ℕ → ℕ → ℕ → ℕ → Plan
 plan_of_under L g n incoming outgoing room =
-    cond (leb (incoming + outgoing) node_ports) (plan_entry_under L g incoming outgoing room (entry_at g n)) (refuse set_variants.TooManyPorts)
+    cond (leb (incoming + outgoing) node_ports) (plan_entry_under L g incoming outgoing room (entry_at g n)) (refuse (Err set_error.TooManyPorts))
 
 abbrev pub plan_of : PortGraph → ℕ → ℕ → ℕ → ℕ → Plan
 plan_of = plan_of_under present
@@ -111,16 +109,16 @@ anew_told g m incoming outgoing first =
 
 abbrev pub set_by : PortGraph → ℕ → ℕ → ℕ → Plan → PortsSet
 set_by g n incoming outgoing (refuse a) = record { graph = g; answer = a }
-set_by g n incoming outgoing same = record { graph = g; answer = set_variants.Set 0 }
+set_by g n incoming outgoing same = record { graph = g; answer = Ok 0 }
 set_by g n incoming outgoing (inside m) =
     record {
       graph = resize_inside g n m incoming outgoing;
-      answer = set_variants.Set (dropped m incoming outgoing + kept_outgoing m outgoing);
+      answer = Ok (dropped m incoming outgoing + kept_outgoing m outgoing);
     }
 set_by g n incoming outgoing (anew m first) =
     record {
       graph = resize_anew g n m incoming outgoing first (round_up (incoming + outgoing));
-      answer = set_variants.Set (dropped m incoming outgoing + (kept_incoming m incoming + kept_outgoing m outgoing));
+      answer = Ok (dropped m incoming outgoing + (kept_incoming m incoming + kept_outgoing m outgoing));
     }
 
 abbrev pub told_by : PortGraph → ℕ → ℕ → Plan → List ℕ
@@ -143,9 +141,9 @@ moves_after_under L g n incoming outgoing moves = sets moves 0 (told_by g incomi
 abbrev pub moves_after : PortGraph → ℕ → ℕ → ℕ → List ℕ → List ℕ
 moves_after = moves_after_under present
 
-abbrev pub set_numbers : SetAnswer → List ℕ
-set_numbers (set_variants.Set events) = 0 ∷ events ∷ []
-set_numbers set_variants.TooManyPorts = 3 ∷ []
-set_numbers set_variants.UnknownNode = 4 ∷ []
-set_numbers set_variants.MovesTooShort = 6 ∷ []
-set_numbers set_variants.NoRoom = 10 ∷ []
+abbrev pub set_numbers : Result ℕ SetError → List ℕ
+set_numbers (Ok events) = 0 ∷ events ∷ []
+set_numbers (Err set_error.TooManyPorts) = 3 ∷ []
+set_numbers (Err set_error.UnknownNode) = 4 ∷ []
+set_numbers (Err set_error.MovesTooShort) = 6 ∷ []
+set_numbers (Err set_error.NoRoom) = 10 ∷ []

@@ -1,6 +1,6 @@
 -- Changing a node's counts, said of the call: what it answers and leaves in each case, that a well-formed graph stays one,
 -- what the move list holds afterwards, and that a kept port keeps its link.
-use Rattle.std.specs.Prelude.{◌≡◌, Bool, List, [], ◌∷◌, eqb, leb, ltb, get_or, set, take}
+use Rattle.std.specs.Prelude.{◌≡◌, Bool, List, [], ◌∷◌, eqb, leb, ltb, get_or, set, take, Option, Some, None, Result, Ok, Err}
 use Rattle.std.proofs.Math.Path.{refl, ap, subst}
 use Rattle.std.proofs.Common.{sym, ◌∙◌, inl, arith, get_or-set_other, ltb-true, ltb-false, leb-true, leb-false, eqb-true, lt-ltb, le-leb, eq-eqb}
 use Rattle.std.proofs.Math.Bool.{true, false, cond}
@@ -35,10 +35,8 @@ use Rattle.port_tables.specs.declared.node_entry.NodeMeta.{NodeMeta}
 use Rattle.port_tables.specs.declared.node_entry.NodeEntry.{NodeEntry}
 use Rattle.port_tables.specs.declared.node_entry.NodeEntry.TheVariants as node_variants
 use Rattle.portgraph.specs.declared.portgraph.PortGraph.{PortGraph}
-use Rattle.portgraph.specs.declared.alloc.Found.{Found}
-use Rattle.portgraph.specs.declared.alloc.Found.TheVariants as found
-use Rattle.portgraph.specs.declared.resize.SetAnswer.{SetAnswer}
-use Rattle.portgraph.specs.declared.resize.SetAnswer.TheVariants as set_variants
+use Rattle.portgraph.specs.declared.resize.SetError.{SetError}
+use Rattle.portgraph.specs.declared.resize.SetError.TheVariants as set_error
 
 -- The tests.
 
@@ -82,32 +80,32 @@ fits_below m i o e = go (ltb 0 (i + o)) (ltb (i + o) m.capacity) refl e
 -- of a live node whose ports fit the move list
 abbrev pub plan_live : Model → ℕ → ℕ → NodeMeta → Bool → Bool → Bool → Plan
 plan_live M incoming outgoing m equal fits room =
-    cond equal same (cond fits (inside m) (cond room (anew m (next_block M (round_up (incoming + outgoing)))) (refuse set_variants.NoRoom)))
+    cond equal same (cond fits (inside m) (cond room (anew m (next_block M (round_up (incoming + outgoing)))) (refuse (Err set_error.NoRoom))))
 
 abbrev pub plan_slots : Model → ℕ → ℕ → ℕ → Slots → Plan
-plan_slots M incoming outgoing room gone = refuse set_variants.UnknownNode
+plan_slots M incoming outgoing room gone = refuse (Err set_error.UnknownNode)
 plan_slots M incoming outgoing room (live m) =
     cond (leb (3 * (m.incoming + m.outgoing)) room)
     (plan_live M incoming outgoing m (same_counts m incoming outgoing) (fits_inside m incoming outgoing) (block_room M (round_up (incoming + outgoing))))
-    (refuse set_variants.MovesTooShort)
+    (refuse (Err set_error.MovesTooShort))
 
 abbrev pub plan_where : Model → ℕ → ℕ → ℕ → Bool → Slots → Plan
-plan_where M incoming outgoing room few s = cond few (plan_slots M incoming outgoing room s) (refuse set_variants.TooManyPorts)
+plan_where M incoming outgoing room few s = cond few (plan_slots M incoming outgoing room s) (refuse (Err set_error.TooManyPorts))
 
 module _ {g : PortGraph} {M : Model} (good : Good M) (holds : Holds g M) (n incoming outgoing room : ℕ) where
   pub plan_law : plan_of g n incoming outgoing room ≡ plan_where M incoming outgoing room (leb (incoming + outgoing) node_ports) (M.node n)
   unfolding plan_of_under
-  plan_law = rw (← holds.nodes n) (ap (λ (p : Plan). cond (leb (incoming + outgoing) node_ports) p (refuse set_variants.TooManyPorts)) (go (entry_at g n)))
+  plan_law = rw (← holds.nodes n) (ap (λ (p : Plan). cond (leb (incoming + outgoing) node_ports) p (refuse (Err set_error.TooManyPorts))) (go (entry_at g n)))
     where
-      block : (m : NodeMeta) (f : Found) (c : Bool) → f ≡ cond c (found.At (next_block M (round_up (incoming + outgoing)))) found.NoRoom
-          → plan_block m f ≡ cond c (anew m (next_block M (round_up (incoming + outgoing)))) (refuse set_variants.NoRoom)
+      block : (m : NodeMeta) (f : Option ℕ) (c : Bool) → f ≡ cond c (Some (next_block M (round_up (incoming + outgoing)))) None
+          → plan_block m f ≡ cond c (anew m (next_block M (round_up (incoming + outgoing)))) (refuse (Err set_error.NoRoom))
       block m f true e = rw e
       block m f false e = rw e
 
       go : (e : NodeEntry) → plan_entry g incoming outgoing room e ≡ plan_slots M incoming outgoing room (slots_of_entry e)
       go (node_variants.Free f) = refl
       go (node_variants.Node m) =
-          ap (λ (p : Plan). cond (leb (3 * (m.incoming + m.outgoing)) room) (cond (same_counts m incoming outgoing) same (cond (fits_inside m incoming outgoing) (inside m) p)) (refuse set_variants.MovesTooShort))
+          ap (λ (p : Plan). cond (leb (3 * (m.incoming + m.outgoing)) room) (cond (same_counts m incoming outgoing) same (cond (fits_inside m incoming outgoing) (inside m) p)) (refuse (Err set_error.MovesTooShort)))
           (block m (find_block g.port_free g.port_len (round_up (incoming + outgoing))) (block_room M (round_up (incoming + outgoing))) (block_found_lem good holds (round_up (incoming + outgoing))))
 
   -- the call does what the plan says
@@ -117,7 +115,7 @@ module _ {g : PortGraph} {M : Model} (good : Good M) (holds : Holds g M) (n inco
 
   -- Case by case.
 
-  pub set_too_many : node_ports < incoming + outgoing → set_num_ports g n incoming outgoing room ≡ record { graph = g; answer = set_variants.TooManyPorts }
+  pub set_too_many : node_ports < incoming + outgoing → set_num_ports g n incoming outgoing room ≡ record { graph = g; answer = Err set_error.TooManyPorts }
   set_too_many h = set_law ∙ ap (λ (b : Bool). set_by g n incoming outgoing (plan_where M incoming outgoing room b (M.node n))) (lt-leb (incoming + outgoing) node_ports h)
 
   module _ (few : incoming + outgoing ≤ node_ports) where
@@ -127,11 +125,11 @@ module _ {g : PortGraph} {M : Model} (good : Good M) (holds : Holds g M) (n inco
         ∙ (ap (λ (b : Bool). set_by g n incoming outgoing (plan_where M incoming outgoing room b (M.node n))) (le-leb (incoming + outgoing) node_ports few)
         ∙ ap (λ (v : Slots). set_by g n incoming outgoing (plan_slots M incoming outgoing room v)) e)
 
-    pub set_unknown : M.node n ≡ gone → set_num_ports g n incoming outgoing room ≡ record { graph = g; answer = set_variants.UnknownNode }
+    pub set_unknown : M.node n ≡ gone → set_num_ports g n incoming outgoing room ≡ record { graph = g; answer = Err set_error.UnknownNode }
     set_unknown e = set_few gone e
 
     module _ (m : NodeMeta) (here : M.node n ≡ live m) where
-      pub set_moves_too_short : room < 3 * (m.incoming + m.outgoing) → set_num_ports g n incoming outgoing room ≡ record { graph = g; answer = set_variants.MovesTooShort }
+      pub set_moves_too_short : room < 3 * (m.incoming + m.outgoing) → set_num_ports g n incoming outgoing room ≡ record { graph = g; answer = Err set_error.MovesTooShort }
       set_moves_too_short h = set_few (live m) here ∙ rw (lt-leb (3 * (m.incoming + m.outgoing)) room h)
 
       module _ (told : 3 * (m.incoming + m.outgoing) ≤ room) where
@@ -140,25 +138,25 @@ module _ {g : PortGraph} {M : Model} (good : Good M) (holds : Holds g M) (n inco
         set_told a b c p q r = set_few (live m) here ∙ rw (le-leb (3 * (m.incoming + m.outgoing)) room told, p, q, r)
 
         -- equal counts change nothing
-        pub set_same : incoming ≡ m.incoming → outgoing ≡ m.outgoing → set_num_ports g n incoming outgoing room ≡ record { graph = g; answer = set_variants.Set 0 }
+        pub set_same : incoming ≡ m.incoming → outgoing ≡ m.outgoing → set_num_ports g n incoming outgoing room ≡ record { graph = g; answer = Ok 0 }
         set_same e f = set_told true _ _ (same_counts_lem m incoming outgoing e f) refl refl
 
         module _ (other : incoming ≡ m.incoming → outgoing ≡ m.outgoing → ⊥) where
           -- a total from 1 to capacity - 1
           pub set_inside : 0 < incoming + outgoing → incoming + outgoing < m.capacity
-              → set_num_ports g n incoming outgoing room ≡ record { graph = resize_inside g n m incoming outgoing; answer = set_variants.Set (dropped m incoming outgoing + kept_outgoing m outgoing) }
+              → set_num_ports g n incoming outgoing room ≡ record { graph = resize_inside g n m incoming outgoing; answer = Ok (dropped m incoming outgoing + kept_outgoing m outgoing) }
           set_inside h k = set_told false true _ (other_counts m incoming outgoing other) (fits_so m incoming outgoing h k) refl
 
           module _ (away : 0 < incoming + outgoing → incoming + outgoing < m.capacity → ⊥) where
             pub set_no_room : port_slots < M.port_len + growth (round_up (incoming + outgoing)) (M.free_blocks (round_up (incoming + outgoing)))
-                → set_num_ports g n incoming outgoing room ≡ record { graph = g; answer = set_variants.NoRoom }
+                → set_num_ports g n incoming outgoing room ≡ record { graph = g; answer = Err set_error.NoRoom }
             set_no_room h = set_told false false false (other_counts m incoming outgoing other) (fits_not m incoming outgoing away) (lt-leb _ port_slots h)
 
             pub set_anew : M.port_len + growth (round_up (incoming + outgoing)) (M.free_blocks (round_up (incoming + outgoing))) ≤ port_slots
                 → set_num_ports g n incoming outgoing room
                 ≡ record {
                   graph = resize_anew g n m incoming outgoing (next_block M (round_up (incoming + outgoing))) (round_up (incoming + outgoing));
-                  answer = set_variants.Set (dropped m incoming outgoing + (kept_incoming m incoming + kept_outgoing m outgoing));
+                  answer = Ok (dropped m incoming outgoing + (kept_incoming m incoming + kept_outgoing m outgoing));
                 }
             set_anew h = set_told false false true (other_counts m incoming outgoing other) (fits_not m incoming outgoing away) (le-leb _ port_slots h)
 
@@ -166,18 +164,18 @@ module _ {g : PortGraph} {M : Model} (good : Good M) (holds : Holds g M) (n inco
 
 -- what holds of every refusal, of an unchanged graph, and of both ways to change it, holds of the plan
 plan_elim {ℓ} : (P : Plan → Type ℓ) (g : PortGraph) (n incoming outgoing room : ℕ)
-    → P (refuse set_variants.TooManyPorts) → P (refuse set_variants.UnknownNode) → P (refuse set_variants.MovesTooShort) → P (refuse set_variants.NoRoom) → P same
+    → P (refuse (Err set_error.TooManyPorts)) → P (refuse (Err set_error.UnknownNode)) → P (refuse (Err set_error.MovesTooShort)) → P (refuse (Err set_error.NoRoom)) → P same
     → ((m : NodeMeta) → entry_at g n ≡ node_variants.Node m → 3 * (m.incoming + m.outgoing) ≤ room → fits_inside m incoming outgoing ≡ true → P (inside m))
     → ((m : NodeMeta) (first : ℕ) → incoming + outgoing ≤ node_ports → entry_at g n ≡ node_variants.Node m → 3 * (m.incoming + m.outgoing) ≤ room
-    → find_block g.port_free g.port_len (round_up (incoming + outgoing)) ≡ found.At first → P (anew m first))
+    → find_block g.port_free g.port_len (round_up (incoming + outgoing)) ≡ Some first → P (anew m first))
     → P (plan_of g n incoming outgoing room)
 unfolding plan_of_under
 plan_elim P g n incoming outgoing room many unknown short full none within away = few (leb (incoming + outgoing) node_ports) refl
   where
-    block : incoming + outgoing ≤ node_ports → (m : NodeMeta) → entry_at g n ≡ node_variants.Node m → 3 * (m.incoming + m.outgoing) ≤ room → (f : Found)
+    block : incoming + outgoing ≤ node_ports → (m : NodeMeta) → entry_at g n ≡ node_variants.Node m → 3 * (m.incoming + m.outgoing) ≤ room → (f : Option ℕ)
         → find_block g.port_free g.port_len (round_up (incoming + outgoing)) ≡ f → P (plan_block m f)
-    block h m e k (found.At first) q = away m first h e k q
-    block h m e k found.NoRoom q = full
+    block h m e k (Some first) q = away m first h e k q
+    block h m e k None q = full
 
     counts : incoming + outgoing ≤ node_ports → (m : NodeMeta) → entry_at g n ≡ node_variants.Node m → 3 * (m.incoming + m.outgoing) ≤ room
         → (a b : Bool) → fits_inside m incoming outgoing ≡ b
@@ -187,7 +185,7 @@ plan_elim P g n incoming outgoing room many unknown short full none within away 
     counts h m e k false false q = block h m e k (find_block g.port_free g.port_len (round_up (incoming + outgoing))) refl
 
     told : incoming + outgoing ≤ node_ports → (m : NodeMeta) → entry_at g n ≡ node_variants.Node m → (b : Bool) → leb (3 * (m.incoming + m.outgoing)) room ≡ b
-        → P (cond b (plan_counts g m incoming outgoing) (refuse set_variants.MovesTooShort))
+        → P (cond b (plan_counts g m incoming outgoing) (refuse (Err set_error.MovesTooShort)))
     told h m e true q = counts h m e (leb-true _ _ q) (same_counts m incoming outgoing) (fits_inside m incoming outgoing) refl
     told h m e false q = short
 
@@ -195,7 +193,7 @@ plan_elim P g n incoming outgoing room many unknown short full none within away 
     entry h (node_variants.Free f) e = unknown
     entry h (node_variants.Node m) e = told h m e (leb (3 * (m.incoming + m.outgoing)) room) refl
 
-    few : (b : Bool) → leb (incoming + outgoing) node_ports ≡ b → P (cond b (plan_entry g incoming outgoing room (entry_at g n)) (refuse set_variants.TooManyPorts))
+    few : (b : Bool) → leb (incoming + outgoing) node_ports ≡ b → P (cond b (plan_entry g incoming outgoing room (entry_at g n)) (refuse (Err set_error.TooManyPorts)))
     few true q = entry (leb-true _ _ q) (entry_at g n) refl
     few false q = many
 
@@ -213,13 +211,13 @@ module _ (g : PortGraph) (n incoming outgoing : ℕ) (w : Wf g) where
       }
 
   wf_anew : (m : NodeMeta) (first : ℕ) → incoming + outgoing ≤ node_ports → entry_at g n ≡ node_variants.Node m
-      → find_block g.port_free g.port_len (round_up (incoming + outgoing)) ≡ found.At first → Wf (resize_anew g n m incoming outgoing first (round_up (incoming + outgoing)))
+      → find_block g.port_free g.port_len (round_up (incoming + outgoing)) ≡ Some first → Wf (resize_anew g n m incoming outgoing first (round_up (incoming + outgoing)))
   wf_anew m first few e f = go (block_room w.model size) refl (sym (block_found_lem w.good w.holds size) ∙ f)
     where
       size : ℕ
       size = round_up (incoming + outgoing)
 
-      go : (b : Bool) → block_room w.model size ≡ b → cond b (found.At (next_block w.model size)) found.NoRoom ≡ found.At first → Wf (resize_anew g n m incoming outgoing first size)
+      go : (b : Bool) → block_room w.model size ≡ b → cond b (Some (next_block w.model size)) None ≡ Some first → Wf (resize_anew g n m incoming outgoing first size)
       go true q k =
           let here : w.model.node n ≡ live m = node_of_entry g w n m e in
           let at_next : next_block w.model size ≡ first = cc in
@@ -237,7 +235,7 @@ module _ (g : PortGraph) (n incoming outgoing : ℕ) (w : Wf g) where
 
   -- taken, cut and settled: nothing is left to cut in the old block
   pub anew_in_steps : (m : NodeMeta) (first : ℕ) → incoming + outgoing ≤ node_ports → entry_at g n ≡ node_variants.Node m
-      → find_block g.port_free g.port_len (round_up (incoming + outgoing)) ≡ found.At first
+      → find_block g.port_free g.port_len (round_up (incoming + outgoing)) ≡ Some first
       → resize_anew g n m incoming outgoing first (round_up (incoming + outgoing))
       ≡ settle_anew (drop_ports (take_block g (round_up (incoming + outgoing))) m incoming outgoing) n m incoming outgoing first (round_up (incoming + outgoing))
   unfolding resize_anew settle_anew anew_links
@@ -246,7 +244,7 @@ module _ (g : PortGraph) (n incoming outgoing : ℕ) (w : Wf g) where
       size : ℕ
       size = round_up (incoming + outgoing)
 
-      go : (b : Bool) → block_room w.model size ≡ b → cond b (found.At (next_block w.model size)) found.NoRoom ≡ found.At first
+      go : (b : Bool) → block_room w.model size ≡ b → cond b (Some (next_block w.model size)) None ≡ Some first
           → resize_anew g n m incoming outgoing first size ≡ settle_anew (drop_ports (take_block g size) m incoming outgoing) n m incoming outgoing first size
       go true q k =
           let here : w.model.node n ≡ live m = node_of_entry g w n m e in
@@ -281,12 +279,12 @@ length_shift_events true old new n = length_move_up_events old new n
 length_shift_events false old new n = length_move_down_events old new n
 
 -- the number of events that an answer says
-abbrev pub events_of : SetAnswer → ℕ
-events_of (set_variants.Set events) = events
-events_of set_variants.TooManyPorts = 0
-events_of set_variants.UnknownNode = 0
-events_of set_variants.MovesTooShort = 0
-events_of set_variants.NoRoom = 0
+abbrev pub events_of : Result ℕ SetError → ℕ
+events_of (Ok events) = events
+events_of (Err set_error.TooManyPorts) = 0
+events_of (Err set_error.UnknownNode) = 0
+events_of (Err set_error.MovesTooShort) = 0
+events_of (Err set_error.NoRoom) = 0
 
 module _ (g : PortGraph) (n incoming outgoing room : ℕ) where
   -- three numbers for each event

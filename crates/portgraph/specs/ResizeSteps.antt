@@ -1,6 +1,6 @@
 -- What the code of a change of counts takes from the definitions: the rounded total, the choices of the plan,
 -- and the events, which go one run after the other into the move list.
-use Rattle.std.specs.Prelude.{◌≡◌, Bool, cond, List, ◌++◌, ℕ, zero, suc, ◌+◌, ◌-◌, ◌*◌, ◌^◌, ◌≤◌, ◌<◌, min, ltb, length, set}
+use Rattle.std.specs.Prelude.{◌≡◌, Bool, cond, List, ◌++◌, ℕ, zero, suc, ◌+◌, ◌-◌, ◌*◌, ◌^◌, ◌≤◌, ◌<◌, min, ltb, length, set, Option, Some, None, Ok, Err}
 use Rattle.std.proofs.Math.Path.{refl}
 use Rattle.std.proofs.Common.{sym, ap, ◌∙◌, append_assoc, pow-suc, arith}
 use Rattle.std.proofs.Math.Bool.{true, false}
@@ -25,11 +25,9 @@ use Rattle.port_tables.specs.declared.node_entry.NodeSlot.{NodeSlot}
 use Rattle.port_tables.specs.declared.node_entry.NodeEntry.{NodeEntry}
 use Rattle.port_tables.specs.declared.node_entry.NodeEntry.TheVariants as node_variants
 use Rattle.portgraph.specs.declared.portgraph.PortGraph.{PortGraph}
-use Rattle.portgraph.specs.declared.resize.SetAnswer.TheVariants as set_variants
 use Rattle.portgraph.specs.declared.resize.PortsSet.{PortsSet}
-use Rattle.portgraph.specs.declared.alloc.Found.{Found}
-use Rattle.portgraph.specs.declared.alloc.Found.TheVariants.{At, NoRoom}
 use Rattle.port_tables.specs.ResizeLinkSteps.{length_drop_events, told_after}
+use Rattle.portgraph.specs.declared.resize.SetError.TheVariants as set_error
 
 powers_rise : (i j : ℕ) → i ≤ j → 2 ^ i ≤ 2 ^ j
 powers_rise i j h = pow-le-pow_right (omega arith) h
@@ -120,22 +118,22 @@ length_drop_told t m incoming outgoing =
     omega arith
 
 module _ (heads : List ℕ) (len size head : ℕ) (some : size ≡ 0 → ⊥) (first : head ≡ head_at heads size) where
-  pub block_at_end : head ≡ 0 → len + size ≤ port_slots → At len ≡ find_block heads len size
+  pub block_at_end : head ≡ 0 → len + size ≤ port_slots → Some len ≡ find_block heads len size
   unfolding find_block_under
   block_at_end e h = rw (ne_eqb size 0 some, ← first, eq-eqb head 0 e, le-leb (len + size) port_slots h)
 
-  pub no_block : head ≡ 0 → port_slots < len + size → NoRoom ≡ find_block heads len size
+  pub no_block : head ≡ 0 → port_slots < len + size → None ≡ find_block heads len size
   unfolding find_block_under
   no_block e h = rw (ne_eqb size 0 some, ← first, eq-eqb head 0 e, lt-leb (len + size) port_slots h)
 
-  pub block_of_list : (place : ℕ) → (head ≡ 0 → ⊥) → place ≡ head - 1 → At place ≡ find_block heads len size
+  pub block_of_list : (place : ℕ) → (head ≡ 0 → ⊥) → place ≡ head - 1 → Some place ≡ find_block heads len size
   unfolding find_block_under
   block_of_list place e f = rw (ne_eqb size 0 some, ← first, ne_eqb head 0 e, f)
 
 -- The block that is found.
 
-module _ (g : PortGraph) (size first : ℕ) (some : 0 < size) (found : find_block g.port_free g.port_len size ≡ At first) where
-  found_cases : (size ≡ 0 → ⊥) → (b : Bool) → eqb (head_at g.port_free size) 0 ≡ b → (c : Bool) → leb (g.port_len + size) port_slots ≡ c → cond b (cond c (At g.port_len) NoRoom) (At (head_at g.port_free size - 1)) ≡ At first
+module _ (g : PortGraph) (size first : ℕ) (some : 0 < size) (found : find_block g.port_free g.port_len size ≡ Some first) where
+  found_cases : (size ≡ 0 → ⊥) → (b : Bool) → eqb (head_at g.port_free size) 0 ≡ b → (c : Bool) → leb (g.port_len + size) port_slots ≡ c → cond b (cond c (Some g.port_len) None) (Some (head_at g.port_free size - 1)) ≡ Some first
   unfolding find_block_under
   found_cases h b e c f = rw (ne_eqb size 0 h, e, f) at found
 
@@ -147,7 +145,7 @@ module _ (g : PortGraph) (size first : ℕ) (some : 0 < size) (found : find_bloc
       go : (b : Bool) → eqb (head_at g.port_free size) 0 ≡ b → (c : Bool) → leb (g.port_len + size) port_slots ≡ c → rest ≡ head_after g size
       go true q c r = rw (h, e, q)
       go false q c r =
-          let i : At (head_at g.port_free size - 1) ≡ At first = found_cases (λ z. omega arith) false q c r in
+          let i : Some (head_at g.port_free size - 1) ≡ Some first = found_cases (λ z. omega arith) false q c r in
           let k : head_at g.port_free size - 1 ≡ first = cc in
           rw (h, e, q, f, k)
 
@@ -156,15 +154,15 @@ module _ (g : PortGraph) (size first : ℕ) (some : 0 < size) (found : find_bloc
     where
       go : (b : Bool) → eqb (head_at g.port_free size) 0 ≡ b → (c : Bool) → leb (g.port_len + size) port_slots ≡ c → first + size ≤ port_slots
       go true q true r =
-          let i : At g.port_len ≡ At first = found_cases (λ z. omega arith) true q true r in
+          let i : Some g.port_len ≡ Some first = found_cases (λ z. omega arith) true q true r in
           let k : g.port_len ≡ first = cc in
           omega (arith, leb-true (g.port_len + size) port_slots r)
       go true q false r =
-          let i : NoRoom ≡ At first = found_cases (λ z. omega arith) true q false r in
+          let i : None ≡ Some first = found_cases (λ z. omega arith) true q false r in
           let k : ◌≡◌ {A = ℕ} 0 1 = cc in
           absurd (omega arith)
       go false q c r =
-          let i : At (head_at g.port_free size - 1) ≡ At first = found_cases (λ z. omega arith) false q c r in
+          let i : Some (head_at g.port_free size - 1) ≡ Some first = found_cases (λ z. omega arith) false q c r in
           let k : head_at g.port_free size - 1 ≡ first = cc in
           let l = head_fits g w size (eqb-false (head_at g.port_free size) 0 q) in
           omega arith
@@ -198,7 +196,7 @@ module _ (g : PortGraph) (m : NodeMeta) (n i o f oi oo ki ko : ℕ) (ef : f ≡ 
               port_count = count + (i + o);
               link_count = links;
             };
-        answer = set_variants.Set (((oi - ki) + (oo - ko)) + ko);
+        answer = Ok (((oi - ki) + (oo - ko)) + ko);
       })
       (set_by g n i o (inside m))
   unfolding resize_inside
@@ -222,7 +220,7 @@ module _ (g : PortGraph) (m : NodeMeta) (n i o f oi oo ki ko : ℕ) (ef : f ≡ 
       (rw (eki, eko, ef, ei, eo) at e₃))
 
   pub anew_graph : (cap size first place head next rest cuts more old len count links links' : ℕ) (slot : NodeSlot) (t t₁ t₂ t₃ heads heads' owners owners' : List ℕ)
-      → cap ≡ m.capacity → size ≡ round_up (i + o) → find_block g.port_free g.port_len (round_up (i + o)) ≡ At first
+      → cap ≡ m.capacity → size ≡ round_up (i + o) → find_block g.port_free g.port_len (round_up (i + o)) ≡ Some first
       → head ≡ head_at g.port_free size → next ≡ at g.port_link first → rest ≡ rest_of head next
       → t ≡ drop_links g.port_link m i o → cuts ≡ drop_count g.port_link m i o
       → heads ≡ put_head g.port_free size rest → len ≡ grown head g.port_len size
@@ -246,7 +244,7 @@ module _ (g : PortGraph) (m : NodeMeta) (n i o f oi oo ki ko : ℕ) (ef : f ≡ 
               port_count = count + (i + o);
               link_count = links';
             };
-        answer = set_variants.Set (((oi - ki) + (oo - ko)) + (ki + ko));
+        answer = Ok (((oi - ki) + (oo - ko)) + (ki + ko));
       })
       (set_by g n i o (anew m first))
   unfolding resize_anew
@@ -259,7 +257,7 @@ module _ (g : PortGraph) (m : NodeMeta) (n i o f oi oo ki ko : ℕ) (ef : f ≡ 
 pub entry_at_lem : (g : PortGraph) (n place : ℕ) (e : NodeEntry) → place ≡ n → entry_at g place ≡ e → entry_at g n ≡ e
 entry_at_lem g n place e h f = ap (entry_at g) (sym h) ∙ f
 
-pub block_found_lem : (heads : List ℕ) (len size total : ℕ) (r f : Found) → size ≡ round_up total → r ≡ find_block heads len size → r ≡ f → find_block heads len (round_up total) ≡ f
+pub block_found_lem : (heads : List ℕ) (len size total : ℕ) (r f : Option ℕ) → size ≡ round_up total → r ≡ find_block heads len size → r ≡ f → find_block heads len (round_up total) ≡ f
 block_found_lem heads len size total r f e h k = rw (← e) (sym h ∙ k)
 
 pub fits_below : (m : NodeMeta) (i o : ℕ) → fits_inside m i o ≡ true → i + o ≤ m.capacity
@@ -273,20 +271,20 @@ fits_below m i o h = go (ltb 0 (i + o)) h
 -- The call: what is planned in each case, and what is answered then.
 
 module _ (g : PortGraph) (n i o room : ℕ) where
-  pub plan_too_many : node_ports < i + o → plan_of g n i o room ≡ refuse set_variants.TooManyPorts
+  pub plan_too_many : node_ports < i + o → plan_of g n i o room ≡ refuse (Err set_error.TooManyPorts)
   unfolding plan_of_under
   plan_too_many h = rw (lt-leb (i + o) node_ports h)
 
   module _ (few : i + o ≤ node_ports) where
-    pub plan_unknown : (x : FreeNodeEntry) → entry_at g n ≡ node_variants.Free x → plan_of g n i o room ≡ refuse set_variants.UnknownNode
+    pub plan_unknown : (x : FreeNodeEntry) → entry_at g n ≡ node_variants.Free x → plan_of g n i o room ≡ refuse (Err set_error.UnknownNode)
     unfolding plan_of_under
     plan_unknown x e = rw (le-leb (i + o) node_ports few, e)
 
-    pub plan_outside : length g.node_meta ≤ n → plan_of g n i o room ≡ refuse set_variants.UnknownNode
+    pub plan_outside : length g.node_meta ≤ n → plan_of g n i o room ≡ refuse (Err set_error.UnknownNode)
     plan_outside h = plan_unknown _ (ap (λ (s : NodeSlot). s.entry) (get_or-eq_default g.node_meta fresh_slot h))
 
     module _ (m : NodeMeta) (e : entry_at g n ≡ node_variants.Node m) where
-      pub plan_short : room < 3 * (m.incoming + m.outgoing) → plan_of g n i o room ≡ refuse set_variants.MovesTooShort
+      pub plan_short : room < 3 * (m.incoming + m.outgoing) → plan_of g n i o room ≡ refuse (Err set_error.MovesTooShort)
       unfolding plan_of_under
       plan_short h = rw (le-leb (i + o) node_ports few, e, lt-leb (3 * (m.incoming + m.outgoing)) room h)
 
@@ -299,11 +297,11 @@ module _ (g : PortGraph) (n i o room : ℕ) where
         unfolding plan_of_under
         plan_inside s t = rw (le-leb (i + o) node_ports few, e, le-leb (3 * (m.incoming + m.outgoing)) room h, s, t)
 
-        pub plan_no_room : same_counts m i o ≡ false → fits_inside m i o ≡ false → find_block g.port_free g.port_len (round_up (i + o)) ≡ NoRoom → plan_of g n i o room ≡ refuse set_variants.NoRoom
+        pub plan_no_room : same_counts m i o ≡ false → fits_inside m i o ≡ false → find_block g.port_free g.port_len (round_up (i + o)) ≡ None → plan_of g n i o room ≡ refuse (Err set_error.NoRoom)
         unfolding plan_of_under
         plan_no_room s t f = rw (le-leb (i + o) node_ports few, e, le-leb (3 * (m.incoming + m.outgoing)) room h, s, t, f)
 
-        pub plan_anew : (first : ℕ) → same_counts m i o ≡ false → fits_inside m i o ≡ false → find_block g.port_free g.port_len (round_up (i + o)) ≡ At first → plan_of g n i o room ≡ anew m first
+        pub plan_anew : (first : ℕ) → same_counts m i o ≡ false → fits_inside m i o ≡ false → find_block g.port_free g.port_len (round_up (i + o)) ≡ Some first → plan_of g n i o room ≡ anew m first
         unfolding plan_of_under
         plan_anew first s t f = rw (le-leb (i + o) node_ports few, e, le-leb (3 * (m.incoming + m.outgoing)) room h, s, t, f)
 

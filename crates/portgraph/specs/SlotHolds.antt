@@ -1,6 +1,6 @@
 -- Adding and removing nodes, tables against model: which node slot is taken next, what the tables stand for after each call,
 -- what each call answers, and that a well-formed graph stays so.
-use Rattle.std.specs.Prelude.{◌≡◌, refl, Bool, true, false, cond, ◌⊎◌, eqb, leb, ltb, length, set}
+use Rattle.std.specs.Prelude.{◌≡◌, refl, Bool, true, false, cond, ◌⊎◌, eqb, leb, ltb, length, set, Some, None, Ok, Err}
 use Rattle.std.proofs.Math.Path.{sym, ap}
 use Rattle.std.proofs.Common.{◌∙◌, subst, inl, inr, length-set, eqb-true, eq-eqb, ltb-true, ltb-false, leb-true, le-leb}
 use mathlib.Core.List.{List, [], ◌∷◌}
@@ -32,11 +32,9 @@ use Rattle.port_tables.specs.declared.node_entry.NodeSlot.{NodeSlot}
 use Rattle.port_tables.specs.declared.node_entry.NodeEntry.{NodeEntry}
 use Rattle.port_tables.specs.declared.node_entry.NodeEntry.TheVariants.{Free, Node}
 use Rattle.portgraph.specs.declared.portgraph.PortGraph.{PortGraph}
-use Rattle.portgraph.specs.declared.alloc.Found.TheVariants.{At, NoRoom}
-use Rattle.portgraph.specs.declared.alloc.AddAnswer.TheVariants as added
 use Rattle.portgraph.specs.declared.alloc.NodeAdded.{NodeAdded}
-use Rattle.portgraph.specs.declared.alloc.RemoveAnswer.TheVariants as removed
 use Rattle.portgraph.specs.declared.alloc.NodeRemoved.{NodeRemoved}
+use Rattle.portgraph.specs.declared.alloc.AddError.TheVariants as add_error
 
 -- The node slot that is taken next.
 
@@ -49,12 +47,12 @@ below_is_one_more a b = go (ltb a b) refl
 
 -- the slot freed last, else the next at the end; refused exactly where the table would grow past its limit
 pub slot_found : {g : PortGraph} {M : Model} → Good M → Holds g M
-    → find_slot g.node_free g.node_len ≡ cond (leb (M.node_len + growth 1 M.free_nodes) node_slots) (At (next_slot M)) NoRoom
+    → find_slot g.node_free g.node_len ≡ cond (leb (M.node_len + growth 1 M.free_nodes) node_slots) (Some (next_slot M)) None
 unfolding find_slot_under
 slot_found {g} {M} good h = rw (h.node_head, h.node_len) (go M.free_nodes)
   where
-    go : (l : List ℕ) → cond (eqb (number_of_first l) 0) (cond (ltb M.node_len node_slots) (At M.node_len) NoRoom) (At (number_of_first l - 1))
-        ≡ cond (leb (M.node_len + growth 1 l) node_slots) (At (first_or M.node_len l)) NoRoom
+    go : (l : List ℕ) → cond (eqb (number_of_first l) 0) (cond (ltb M.node_len node_slots) (Some M.node_len) None) (Some (number_of_first l - 1))
+        ≡ cond (leb (M.node_len + growth 1 l) node_slots) (Some (first_or M.node_len l)) None
     go [] = rw (below_is_one_more M.node_len node_slots)
     go (n ∷ l) =
         let d : suc n - 1 ≡ n = omega arith in
@@ -423,11 +421,11 @@ add_where g M incoming outgoing few slot block =
     (cond block
     (record {
       graph = place_node g (next_slot M) (next_block M (incoming + outgoing)) incoming outgoing;
-      answer = added.Added (node# (next_slot M)) (port# (next_block M (incoming + outgoing)));
+      answer = Ok (node# (next_slot M), port# (next_block M (incoming + outgoing)));
     })
-    (add_refused g added.NoRoom))
-    (add_refused g added.NoRoom))
-    (add_refused g added.TooManyPorts)
+    (add_refused g (Err add_error.NoRoom)))
+    (add_refused g (Err add_error.NoRoom)))
+    (add_refused g (Err add_error.TooManyPorts))
 
 pub add_law : {g : PortGraph} {M : Model} → Good M → Holds g M → (incoming outgoing : ℕ)
     → add_node g incoming outgoing ≡ add_where g M incoming outgoing (leb (incoming + outgoing) node_ports) (slot_room M) (block_room M (incoming + outgoing))
@@ -437,8 +435,8 @@ add_law {g} {M} good h incoming outgoing =
     (go (leb (incoming + outgoing) node_ports) (slot_room M) (block_room M (incoming + outgoing)))
   where
     go : (a b c : Bool)
-        → cond a (add_found g incoming outgoing (cond b (At (next_slot M)) NoRoom) (cond c (At (next_block M (incoming + outgoing))) NoRoom))
-        (add_refused g added.TooManyPorts)
+        → cond a (add_found g incoming outgoing (cond b (Some (next_slot M)) None) (cond c (Some (next_block M (incoming + outgoing))) None))
+        (add_refused g (Err add_error.TooManyPorts))
         ≡ add_where g M incoming outgoing a b c
     go true true true = refl
     go true true false = refl
@@ -446,8 +444,8 @@ add_law {g} {M} good h incoming outgoing =
     go false b c = refl
 
 abbrev pub remove_slots : PortGraph → ℕ → Slots → NodeRemoved
-remove_slots g n gone = record { graph = g; answer = removed.UnknownNode }
-remove_slots g n (live m) = record { graph = free_node g n m; answer = removed.Removed }
+remove_slots g n gone = record { graph = g; answer = Err (record {}) }
+remove_slots g n (live m) = record { graph = free_node g n m; answer = Ok tt }
 
 -- a live node is removed; without one the graph stays as it is
 pub remove_law : {g : PortGraph} {M : Model} → Holds g M → (n : ℕ) → remove_node g n ≡ remove_slots g n (M.node n)

@@ -1,6 +1,6 @@
 -- Taking and giving back node slots and blocks: what a found slot or block is, and which definition the stores of a call amount to.
 -- A law of a found slot takes the equation that says so; the last laws give the graph and answer of a whole call, field by field.
-use Rattle.std.specs.Prelude.{◌≡◌, refl, Bool, true, false, cond, List, ℕ, ◌+◌, ◌-◌, ◌≤◌, ◌<◌, eqb, leb, ltb, length, get_or, set}
+use Rattle.std.specs.Prelude.{◌≡◌, refl, Bool, true, false, cond, List, ℕ, ◌+◌, ◌-◌, ◌≤◌, ◌<◌, eqb, leb, ltb, length, get_or, set, Some, None, Ok, Err}
 use Rattle.std.proofs.Common.{ap, ◌∙◌, arith, set-set, lt-ltb, le-ltb, le-leb, eq-eqb, ne_eqb, ltb-true, leb-true, leb-false, eqb-true}
 use Rattle.std.proofs.Math.ListN.{get_or-eq_default}
 use Rattle.std.proofs.Math.Seq.{set_out}
@@ -17,38 +17,36 @@ use Rattle.port_tables.specs.declared.node_entry.FreeNodeEntry.{FreeNodeEntry}
 use Rattle.port_tables.specs.declared.node_entry.NodeSlot.{NodeSlot}
 use Rattle.port_tables.specs.declared.node_entry.NodeEntry.TheVariants as node_variants
 use Rattle.portgraph.specs.declared.portgraph.PortGraph.{PortGraph}
-use Rattle.portgraph.specs.declared.alloc.Found.TheVariants.{At, NoRoom}
-use Rattle.portgraph.specs.declared.alloc.AddAnswer.TheVariants as added
 use Rattle.portgraph.specs.declared.alloc.NodeAdded.{NodeAdded}
-use Rattle.portgraph.specs.declared.alloc.RemoveAnswer.TheVariants as removed
 use Rattle.portgraph.specs.declared.alloc.NodeRemoved.{NodeRemoved}
+use Rattle.portgraph.specs.declared.alloc.AddError.TheVariants as add_error
 
 -- Which case of a definition applies.
-pub slot_at_end : (free len : ℕ) → free ≡ 0 → len < node_slots → At len ≡ find_slot free len
+pub slot_at_end : (free len : ℕ) → free ≡ 0 → len < node_slots → Some len ≡ find_slot free len
 unfolding find_slot_under
 slot_at_end free len e h = rw (eq-eqb free 0 e, lt-ltb len node_slots h)
 
-pub slot_nowhere : (free len : ℕ) → free ≡ 0 → node_slots ≤ len → NoRoom ≡ find_slot free len
+pub slot_nowhere : (free len : ℕ) → free ≡ 0 → node_slots ≤ len → None ≡ find_slot free len
 unfolding find_slot_under
 slot_nowhere free len e h = rw (eq-eqb free 0 e, le-ltb len node_slots h)
 
-pub slot_from_list : (free len : ℕ) → (free ≡ 0 → ⊥) → At (free - 1) ≡ find_slot free len
+pub slot_from_list : (free len : ℕ) → (free ≡ 0 → ⊥) → Some (free - 1) ≡ find_slot free len
 unfolding find_slot_under
 slot_from_list free len n = rw (ne_eqb free 0 n)
 
-pub block_of_nothing : (heads : List ℕ) (len size : ℕ) → size ≡ 0 → At 0 ≡ find_block heads len size
+pub block_of_nothing : (heads : List ℕ) (len size : ℕ) → size ≡ 0 → Some 0 ≡ find_block heads len size
 unfolding find_block_under
 block_of_nothing heads len size e = rw (eq-eqb size 0 e)
 
-pub block_at_end : (heads : List ℕ) (len size : ℕ) → (size ≡ 0 → ⊥) → head_at heads size ≡ 0 → len + size ≤ port_slots → At len ≡ find_block heads len size
+pub block_at_end : (heads : List ℕ) (len size : ℕ) → (size ≡ 0 → ⊥) → head_at heads size ≡ 0 → len + size ≤ port_slots → Some len ≡ find_block heads len size
 unfolding find_block_under
 block_at_end heads len size n e h = rw (ne_eqb size 0 n, eq-eqb (head_at heads size) 0 e, le-leb (len + size) port_slots h)
 
-pub block_nowhere : (heads : List ℕ) (len size : ℕ) → (size ≡ 0 → ⊥) → head_at heads size ≡ 0 → port_slots < len + size → NoRoom ≡ find_block heads len size
+pub block_nowhere : (heads : List ℕ) (len size : ℕ) → (size ≡ 0 → ⊥) → head_at heads size ≡ 0 → port_slots < len + size → None ≡ find_block heads len size
 unfolding find_block_under
 block_nowhere heads len size n e h = rw (ne_eqb size 0 n, eq-eqb (head_at heads size) 0 e, lt-leb (len + size) port_slots h)
 
-pub block_from_list : (heads : List ℕ) (len size : ℕ) → (size ≡ 0 → ⊥) → (head_at heads size ≡ 0 → ⊥) → At (head_at heads size - 1) ≡ find_block heads len size
+pub block_from_list : (heads : List ℕ) (len size : ℕ) → (size ≡ 0 → ⊥) → (head_at heads size ≡ 0 → ⊥) → Some (head_at heads size - 1) ≡ find_block heads len size
 unfolding find_block_under
 block_from_list heads len size n e = rw (ne_eqb size 0 n, ne_eqb (head_at heads size) 0 e)
 
@@ -85,17 +83,17 @@ pub data SlotIs (free len n : ℕ) : Type 0 where
   at_end : free ≡ 0 → n ≡ len → len < node_slots → SlotIs free len n
   listed : (free ≡ 0 → ⊥) → n ≡ free - 1 → SlotIs free len n
 
-pub slot_found : (free len n : ℕ) → find_slot free len ≡ At n → SlotIs free len n
+pub slot_found : (free len n : ℕ) → find_slot free len ≡ Some n → SlotIs free len n
 unfolding find_slot_under
 slot_found free len n e = go (eqb free 0) refl
   where
-    inner : free ≡ 0 → (b : Bool) → ltb len node_slots ≡ b → cond b (At len) NoRoom ≡ At n → SlotIs free len n
+    inner : free ≡ 0 → (b : Bool) → ltb len node_slots ≡ b → cond b (Some len) None ≡ Some n → SlotIs free len n
     inner z true f q = at_end z (cc) (ltb-true len node_slots f)
     inner z false f q = let k : ◌≡◌ {A = ℕ} 0 1 = cc in absurd (omega arith)
 
     go : (b : Bool) → eqb free 0 ≡ b → SlotIs free len n
     go true f = inner (eqb-true free 0 f) (ltb len node_slots) refl (rw f at e)
-    go false f = let q : At (free - 1) ≡ At n = rw f at e in listed (eqb-false free 0 f) (cc)
+    go false f = let q : Some (free - 1) ≡ Some n = rw f at e in listed (eqb-false free 0 f) (cc)
 
 pub found_slot_below : (free len n : ℕ) → free ≤ node_slots → SlotIs free len n → n < node_slots
 found_slot_below free len n h (at_end z e l) = omega arith
@@ -113,20 +111,20 @@ pub data BlockIs (head len size b : ℕ) : Type 0 where
   at_end : head ≡ 0 → b ≡ len → len + size ≤ port_slots → BlockIs head len size b
   listed : (head ≡ 0 → ⊥) → b ≡ head - 1 → BlockIs head len size b
 
-pub block_found_lem : (heads : List ℕ) (len size b : ℕ) → find_block heads len size ≡ At b → BlockIs (head_at heads size) len size b
+pub block_found_lem : (heads : List ℕ) (len size b : ℕ) → find_block heads len size ≡ Some b → BlockIs (head_at heads size) len size b
 unfolding find_block_under
 block_found_lem heads len size b e = go (eqb size 0) refl
   where
-    room : head_at heads size ≡ 0 → (t : Bool) → leb (len + size) port_slots ≡ t → cond t (At len) NoRoom ≡ At b → BlockIs (head_at heads size) len size b
+    room : head_at heads size ≡ 0 → (t : Bool) → leb (len + size) port_slots ≡ t → cond t (Some len) None ≡ Some b → BlockIs (head_at heads size) len size b
     room z true f q = BlockIs.at_end z (cc) (leb-true (len + size) port_slots f)
     room z false f q = let k : ◌≡◌ {A = ℕ} 0 1 = cc in absurd (omega arith)
 
-    list : (t : Bool) → eqb (head_at heads size) 0 ≡ t → cond t (cond (leb (len + size) port_slots) (At len) NoRoom) (At (head_at heads size - 1)) ≡ At b → BlockIs (head_at heads size) len size b
+    list : (t : Bool) → eqb (head_at heads size) 0 ≡ t → cond t (cond (leb (len + size) port_slots) (Some len) None) (Some (head_at heads size - 1)) ≡ Some b → BlockIs (head_at heads size) len size b
     list true f q = room (eqb-true (head_at heads size) 0 f) (leb (len + size) port_slots) refl q
     list false f q = BlockIs.listed (eqb-false (head_at heads size) 0 f) (cc)
 
     go : (t : Bool) → eqb size 0 ≡ t → BlockIs (head_at heads size) len size b
-    go true f = let q : At 0 ≡ At b = rw f at e in nothing (eqb-true size 0 f) (cc)
+    go true f = let q : Some 0 ≡ Some b = rw f at e in nothing (eqb-true size 0 f) (cc)
     go false f = list (eqb (head_at heads size) 0) refl (rw f at e)
 
 pub found_block_ends : (head len size b : ℕ) → size ≤ port_slots → ((head ≡ 0 → ⊥) → (head - 1) + size ≤ port_slots) → BlockIs head len size b → b + size ≤ port_slots
@@ -158,19 +156,19 @@ stores_after nodes code n p s e = go (eqb code 0) refl
     go false f = rw f (inside (eqb-false code 0 f) (leb code node_slots) refl)
 
 -- Adding a node. Refusals first.
-pub too_many_ports : (g : PortGraph) (i o : ℕ) → node_ports < i + o → add_refused g added.TooManyPorts ≡ add_node g i o
+pub too_many_ports : (g : PortGraph) (i o : ℕ) → node_ports < i + o → add_refused g (Err add_error.TooManyPorts) ≡ add_node g i o
 unfolding add_node_under
 too_many_ports g i o h = rw (lt-leb (i + o) node_ports h)
 
-pub no_node_slot : (g : PortGraph) (i o : ℕ) → i + o ≤ node_ports → find_slot g.node_free g.node_len ≡ NoRoom → add_refused g added.NoRoom ≡ add_node g i o
+pub no_node_slot : (g : PortGraph) (i o : ℕ) → i + o ≤ node_ports → find_slot g.node_free g.node_len ≡ None → add_refused g (Err add_error.NoRoom) ≡ add_node g i o
 unfolding add_node_under
 no_node_slot g i o h e = rw (le-leb (i + o) node_ports h, e)
 
-pub no_block : (g : PortGraph) (i o n : ℕ) → i + o ≤ node_ports → find_slot g.node_free g.node_len ≡ At n → find_block g.port_free g.port_len (i + o) ≡ NoRoom → add_refused g added.NoRoom ≡ add_node g i o
+pub no_block : (g : PortGraph) (i o n : ℕ) → i + o ≤ node_ports → find_slot g.node_free g.node_len ≡ Some n → find_block g.port_free g.port_len (i + o) ≡ None → add_refused g (Err add_error.NoRoom) ≡ add_node g i o
 unfolding add_node_under
 no_block g i o n h e f = rw (le-leb (i + o) node_ports h, e, f)
 
-node_placed : (g : PortGraph) (i o n b : ℕ) → i + o ≤ node_ports → find_slot g.node_free g.node_len ≡ At n → find_block g.port_free g.port_len (i + o) ≡ At b → ◌≡◌ {A = NodeAdded} (record { graph = place_node g n b i o; answer = added.Added (node# n) (port# b) }) (add_node g i o)
+node_placed : (g : PortGraph) (i o n b : ℕ) → i + o ≤ node_ports → find_slot g.node_free g.node_len ≡ Some n → find_block g.port_free g.port_len (i + o) ≡ Some b → ◌≡◌ {A = NodeAdded} (record { graph = place_node g n b i o; answer = Ok (node# n, port# b) }) (add_node g i o)
 unfolding add_node_under
 node_placed g i o n b h e f = rw (le-leb (i + o) node_ports h, e, f)
 
@@ -181,8 +179,8 @@ added_numbers e = (e, ap (λ (x : NodeAdded). add_numbers x.answer) e)
 pub node_added :
     (g : PortGraph) (i o n b : ℕ) {next free after nlen head link first plen : ℕ} {beside own : NodeSlot} {heads links owners : List ℕ} →
     i + o ≤ node_ports →
-    find_slot g.node_free g.node_len ≡ At n →
-    find_block g.port_free g.port_len (i + o) ≡ At b →
+    find_slot g.node_free g.node_len ≡ Some n →
+    find_block g.port_free g.port_len (i + o) ≡ Some b →
     length g.node_meta ≡ node_slots →
     next ≡ next_of (entry_at g n) →
     free ≡ rest_of g.node_free next →
@@ -210,7 +208,7 @@ pub node_added :
         port_count = g.port_count + (i + o);
         link_count = g.link_count;
       };
-      answer = added.Added (node# n) (port# b);
+      answer = Ok (node# n, port# b);
     }) (add_node g i o)
 unfolding place_node
 node_added g i o n b {next} {free} {after} {nlen} {head} {link} {first} {plen} {beside} {own} {heads} {links} {owners} h s f long e1 e2 e3 e4 e5 e6 e7 e8 e9 e10 e11 e12 e13 =
@@ -223,11 +221,11 @@ node_added g i o n b {next} {free} {after} {nlen} {head} {link} {first} {plen} {
     rw (nodes_is, e12, e13, heads_is, free_is, e6, plen_is) (node_placed g i o n b h s f)
 
 -- Removing a node.
-pub no_node : (g : PortGraph) (n : ℕ) {f : FreeNodeEntry} → entry_at g n ≡ node_variants.Free f → ◌≡◌ {A = NodeRemoved} (record { graph = g; answer = removed.UnknownNode }) (remove_node g n)
+pub no_node : (g : PortGraph) (n : ℕ) {f : FreeNodeEntry} → entry_at g n ≡ node_variants.Free f → ◌≡◌ {A = NodeRemoved} (record { graph = g; answer = Err (record {}) }) (remove_node g n)
 unfolding remove_node
 no_node g n e = rw e
 
-pub no_node_outside : (g : PortGraph) (n : ℕ) → length g.node_meta ≤ n → ◌≡◌ {A = NodeRemoved} (record { graph = g; answer = removed.UnknownNode }) (remove_node g n)
+pub no_node_outside : (g : PortGraph) (n : ℕ) → length g.node_meta ≤ n → ◌≡◌ {A = NodeRemoved} (record { graph = g; answer = Err (record {}) }) (remove_node g n)
 no_node_outside g n h = no_node g n (ap (λ (s : NodeSlot). s.entry) (get_or-eq_default g.node_meta fresh_slot h))
 
 pub removed_numbers : {r s : NodeRemoved} → r ≡ s → (r ≡ s) × (remove_numbers r.answer ≡ remove_numbers s.answer)
@@ -266,7 +264,7 @@ pub node_removed :
         port_count = port_count;
         link_count = link_count;
       };
-      answer = removed.Removed;
+      answer = Ok tt;
     }) (remove_node g n)
 unfolding remove_node free_node
 node_removed g n m {place} {first} {size} {after} {cuts} {head} {node_count} {ports} {port_count} {link_count} {beside} {own} {cutLinks} {links} {owners} {heads} e long p e1 e2 e3 e4 e5 e6 e7 e8 e9 e10 e11 e12 e13 e14 e15 =
@@ -280,8 +278,8 @@ node_removed g n m {place} {first} {size} {after} {cuts} {head} {node_count} {po
 
 -- What a well-formed graph adds.
 module _ (g : PortGraph) (w : Wf g) where
-  pub node_slot_fits : (n : ℕ) → find_slot g.node_free g.node_len ≡ At n → n < node_slots
+  pub node_slot_fits : (n : ℕ) → find_slot g.node_free g.node_len ≡ Some n → n < node_slots
   node_slot_fits n e = found_slot_below g.node_free g.node_len n (node_free_fits g w) (slot_found _ _ n e)
 
-  pub new_block_fits : (size b : ℕ) → size ≤ node_ports → find_block g.port_free g.port_len size ≡ At b → b + size ≤ port_slots
+  pub new_block_fits : (size b : ℕ) → size ≤ node_ports → find_block g.port_free g.port_len size ≡ Some b → b + size ≤ port_slots
   new_block_fits size b h e = found_block_ends (head_at g.port_free size) g.port_len size b (omega arith) (head_fits g w size) (block_found_lem _ _ size b e)

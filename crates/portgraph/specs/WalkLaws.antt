@@ -1,6 +1,6 @@
 -- Laws of the walks: a walk from its start gives the whole listing, in order, each item once, and comes to its end.
 -- From any position that is still there it gives the rest of the listing; where that is gone it ends.
-use Rattle.std.specs.Prelude.{◌≡◌, refl, Bool, true, false, cond, List, [], ◌∷◌, ◌⊎◌, ℕ, zero, suc, ◌+◌, ◌-◌, ◌≤◌, ◌<◌, max, eqb, ltb, get_or}
+use Rattle.std.specs.Prelude.{◌≡◌, refl, Bool, true, false, cond, List, [], ◌∷◌, ◌⊎◌, ℕ, zero, suc, ◌+◌, ◌-◌, ◌≤◌, ◌<◌, max, eqb, ltb, get_or, Option, Some, None}
 use Rattle.std.proofs.Common.{sym, ap, ◌∙◌, inl, inr, arith, add-one, lt-ltb, le-ltb, ne_eqb, ltb-true, ltb-false, eqb-true}
 use Rattle.std.proofs.lemmas.Bool.{eqb-false}
 use Rattle.port_tables.specs.Limits.{node_slots, port_slots, node_ports}
@@ -15,24 +15,19 @@ use Rattle.portgraph.specs.Walks.{node_from, node_held, step_nodes, port_held, p
 use Rattle.port_tables.specs.declared.direction.Direction.{Direction}
 use Rattle.port_tables.specs.declared.direction.Direction.TheVariants.{Incoming, Outgoing}
 use Rattle.port_tables.specs.declared.index.PortOffset.{PortOffset}
-use Rattle.port_tables.specs.declared.index.MaybePortOffset.TheVariants as maybe_offset
 use Rattle.port_tables.specs.declared.port_entry.PortEntry.TheVariants.{Port}
 use Rattle.port_tables.specs.declared.node_entry.NodeMeta.{NodeMeta}
 use Rattle.port_tables.specs.declared.node_entry.NodeSlot.{NodeSlot}
 use Rattle.port_tables.specs.declared.node_entry.NodeEntry.{NodeEntry}
 use Rattle.port_tables.specs.declared.node_entry.NodeEntry.TheVariants.{Free, Node}
-use Rattle.port_tables.specs.declared.node_entry.MaybeNodeMeta.TheVariants as maybe_meta
 use Rattle.portgraph.specs.declared.portgraph.PortGraph.{PortGraph}
 use Rattle.port_tables.specs.declared.sides.Sides.{Sides}
 use Rattle.port_tables.specs.declared.sides.Sides.TheVariants.{One, Both}
-use Rattle.portgraph.specs.declared.iter.NodesStep.{NodesStep}
-use Rattle.portgraph.specs.declared.iter.NodesStep.TheVariants as nodes_step
 use Rattle.portgraph.specs.declared.iter.NodePorts.{NodePorts}
-use Rattle.portgraph.specs.declared.iter.NodePortsStep.{NodePortsStep}
-use Rattle.portgraph.specs.declared.iter.NodePortsStep.TheVariants as ports_step
 use Rattle.portgraph.specs.declared.iter.NodePortOffsets.{NodePortOffsets}
-use Rattle.portgraph.specs.declared.iter.NodePortOffsetsStep.{NodePortOffsetsStep}
-use Rattle.portgraph.specs.declared.iter.NodePortOffsetsStep.TheVariants as offsets_step
+use Rattle.port_tables.specs.declared.index.NodeIndex.{NodeIndex}
+use Rattle.port_tables.specs.declared.index.PortIndex.{PortIndex}
+use Rattle.portgraph.specs.declared.iter.Nodes.{Nodes}
 
 -- What a walk of several steps gives: its items, and whether it came to its end.
 pub record Walked (A : Type 0) : Type 0 where
@@ -61,9 +56,9 @@ nodes_from nodes n (suc k) = cond (is_node (get_or nodes n fresh_slot).entry) (n
 abbrev pub nodes_of : PortGraph → List ℕ
 nodes_of g = nodes_from g.node_meta 0 node_slots
 
-abbrev pub after_node : (ℕ → Walked ℕ) → NodesStep → Walked ℕ
-after_node walk (nodes_step.Item n c) = more n.0 (walk c.held)
-after_node walk nodes_step.End = whole []
+abbrev pub after_node : (ℕ → Walked ℕ) → Option (NodeIndex × Nodes) → Walked ℕ
+after_node walk (Some (n, c)) = more n.0 (walk c.held)
+after_node walk None = whole []
 
 -- at most as many steps as fuel
 unfoldable pub walk_nodes : PortGraph → ℕ → ℕ → Walked ℕ
@@ -72,18 +67,18 @@ walk_nodes g (suc fuel) held = after_node (walk_nodes g fuel) (step_nodes g held
 
 -- the first node from n on heads the listing
 record Next (nodes : List NodeSlot) (n k m : ℕ) : Type 0 where
-  pub found : node_from nodes n k ≡ nodes_step.Item (node# m) (record { held = suc m })
+  pub found : node_from nodes n k ≡ Some (node# m, record { held = suc m })
   pub listed : nodes_from nodes n k ≡ m ∷ nodes_from nodes (suc m) (n + k - suc m)
   pub after : n ≤ m
   pub before : m < n + k
   pub there : is_node (get_or nodes m fresh_slot).entry ≡ true
 
-record None (nodes : List NodeSlot) (n k : ℕ) : Type 0 where
-  pub found : node_from nodes n k ≡ nodes_step.End
+record NoneLeft (nodes : List NodeSlot) (n k : ℕ) : Type 0 where
+  pub found : node_from nodes n k ≡ None
   pub listed : nodes_from nodes n k ≡ []
 
 -- one slot of the table: a node there is the next one, and a free slot is passed over
-pub node_here : (nodes : List NodeSlot) (n k : ℕ) → is_node (get_or nodes n fresh_slot).entry ≡ true → node_from nodes n (suc k) ≡ nodes_step.Item (node# n) (record { held = suc n })
+pub node_here : (nodes : List NodeSlot) (n k : ℕ) → is_node (get_or nodes n fresh_slot).entry ≡ true → node_from nodes n (suc k) ≡ Some (node# n, record { held = suc n })
 unfolding node_from
 node_here nodes n k e = rw e
 
@@ -91,7 +86,7 @@ pub node_not_here : (nodes : List NodeSlot) (n k : ℕ) → is_node (get_or node
 unfolding node_from
 node_not_here nodes n k e = rw e
 
-pub no_node_left : (nodes : List NodeSlot) (n : ℕ) → node_from nodes n 0 ≡ nodes_step.End
+pub no_node_left : (nodes : List NodeSlot) (n : ℕ) → node_from nodes n 0 ≡ None
 unfolding node_from
 no_node_left nodes n = refl
 
@@ -110,11 +105,11 @@ none_listed nodes n = refl
 same_rest : (nodes : List NodeSlot) (n m i j : ℕ) → i ≡ j → m ∷ nodes_from nodes n i ≡ m ∷ nodes_from nodes n j
 same_rest nodes n m i j e = ap (λ r. m ∷ nodes_from nodes n r) e
 
-next_or_none : (nodes : List NodeSlot) (n k : ℕ) → ((m : ℕ) × Next nodes n k m) ⊎ None nodes n k
+next_or_none : (nodes : List NodeSlot) (n k : ℕ) → ((m : ℕ) × Next nodes n k m) ⊎ NoneLeft nodes n k
 next_or_none nodes n zero = inr (record { found = no_node_left nodes n; listed = none_listed nodes n })
 next_or_none nodes n (suc k) = go (is_node (get_or nodes n fresh_slot).entry) refl (next_or_none nodes (suc n) k)
   where
-    later : is_node (get_or nodes n fresh_slot).entry ≡ false → ((m : ℕ) × Next nodes (suc n) k m) ⊎ None nodes (suc n) k → ((m : ℕ) × Next nodes n (suc k) m) ⊎ None nodes n (suc k)
+    later : is_node (get_or nodes n fresh_slot).entry ≡ false → ((m : ℕ) × Next nodes (suc n) k m) ⊎ NoneLeft nodes (suc n) k → ((m : ℕ) × Next nodes n (suc k) m) ⊎ NoneLeft nodes n (suc k)
     later e (inl x) =
         let m = x.0 in
         let a : suc n ≤ m = x.1.after in
@@ -131,7 +126,7 @@ next_or_none nodes n (suc k) = go (is_node (get_or nodes n fresh_slot).entry) re
         )
     later e (inr x) = inr (record { found = node_not_here nodes n k e ∙ x.found; listed = not_listed_here nodes n k e ∙ x.listed })
 
-    go : (b : Bool) → is_node (get_or nodes n fresh_slot).entry ≡ b → ((m : ℕ) × Next nodes (suc n) k m) ⊎ None nodes (suc n) k → ((m : ℕ) × Next nodes n (suc k) m) ⊎ None nodes n (suc k)
+    go : (b : Bool) → is_node (get_or nodes n fresh_slot).entry ≡ b → ((m : ℕ) × Next nodes (suc n) k m) ⊎ NoneLeft nodes (suc n) k → ((m : ℕ) × Next nodes n (suc k) m) ⊎ NoneLeft nodes n (suc k)
     go true e x =
         inl (
           n,
@@ -164,7 +159,7 @@ step_where_held : (g : PortGraph) (held : ℕ) → node_held g held ≡ true →
 unfolding step_nodes
 step_where_held g held h = rw h
 
-pub step_where_gone : (g : PortGraph) (held : ℕ) → node_held g held ≡ false → step_nodes g held ≡ nodes_step.End
+pub step_where_gone : (g : PortGraph) (held : ℕ) → node_held g held ≡ false → step_nodes g held ≡ None
 unfolding step_nodes
 step_where_gone g held h = rw h
 
@@ -177,21 +172,21 @@ pub walk_gives_rest : (g : PortGraph) (fuel held : ℕ) → node_slots - held < 
 walk_gives_rest g zero held l h = absurd (omega arith)
 walk_gives_rest g (suc fuel) held l h = go (walk_gives_rest g fuel) (next_or_none g.node_meta held (node_slots - held))
   where
-    to_step : (s : NodesStep) → node_from g.node_meta held (node_slots - held) ≡ s → walk_nodes g (suc fuel) held ≡ after_node (walk_nodes g fuel) s
+    to_step : (s : Option (NodeIndex × Nodes)) → node_from g.node_meta held (node_slots - held) ≡ s → walk_nodes g (suc fuel) held ≡ after_node (walk_nodes g fuel) s
     to_step s e = walk_on g fuel held ∙ ap (after_node (walk_nodes g fuel)) (step_where_held g held h ∙ e)
 
     go : ((after : ℕ) → node_slots - after < fuel → node_held g after ≡ true → walk_nodes g fuel after ≡ whole (nodes_from g.node_meta after (node_slots - after)))
-        → ((m : ℕ) × Next g.node_meta held (node_slots - held) m) ⊎ None g.node_meta held (node_slots - held) → walk_nodes g (suc fuel) held ≡ whole (nodes_from g.node_meta held (node_slots - held))
+        → ((m : ℕ) × Next g.node_meta held (node_slots - held) m) ⊎ NoneLeft g.node_meta held (node_slots - held) → walk_nodes g (suc fuel) held ≡ whole (nodes_from g.node_meta held (node_slots - held))
     go rest (inl x) =
         let m = x.0 in
         let a : held ≤ m = x.1.after in
         let b : m < held + (node_slots - held) = x.1.before in
         let ih : walk_nodes g fuel (suc m) ≡ whole (nodes_from g.node_meta (suc m) (node_slots - suc m)) =
         rest (suc m) (omega arith) (held_is_node g m ∙ (some_is_node (entry_at g m) ∙ x.1.there)) in
-        to_step (nodes_step.Item (node# m) (record { held = suc m })) x.1.found ∙
+        to_step (Some (node# m, record { held = suc m })) x.1.found ∙
         (ap (more m) ih ∙
         ap whole (same_rest g.node_meta (suc m) m (node_slots - suc m) (held + (node_slots - held) - suc m) (omega arith) ∙ sym x.1.listed))
-    go rest (inr x) = to_step nodes_step.End x.found ∙ ap whole (sym x.listed)
+    go rest (inr x) = to_step None x.found ∙ ap whole (sym x.listed)
 
 -- from the start: all nodes of the graph, and then the end
 pub walk_gives_all_nodes : (g : PortGraph) → walk_nodes g (node_slots + 1) 0 ≡ whole (nodes_of g)
@@ -271,9 +266,9 @@ ports_of_node m sides = range (ports_from m sides) (ports_to m sides - ports_fro
 abbrev pub ports_cursor : ℕ → Sides → ℕ → NodePorts
 ports_cursor n sides held = record { node = node# n; sides = sides; held = held }
 
-abbrev pub after_port : (NodePorts → Walked ℕ) → NodePortsStep → Walked ℕ
-after_port walk (ports_step.Item p c) = more p.0 (walk c)
-after_port walk ports_step.End = whole []
+abbrev pub after_port : (NodePorts → Walked ℕ) → Option (PortIndex × NodePorts) → Walked ℕ
+after_port walk (Some (p, c)) = more p.0 (walk c)
+after_port walk None = whole []
 
 unfoldable pub walk_ports : PortGraph → ℕ → NodePorts → Walked ℕ
 walk_ports g zero c = unfinished
@@ -292,27 +287,27 @@ unfolding range
 no_numbers p k e = rw e
 
 -- a step of a walk over a live node's ports, from a position that is still there
-pub step_of_node : (g : PortGraph) (c : NodePorts) (m : NodeMeta) → meta_at g c.node.0 ≡ maybe_meta.Some m → port_held g c.held ≡ true → step_ports g c ≡ ports_item c.node.0 c.sides (max (ports_from m c.sides) c.held) (ports_to m c.sides)
+pub step_of_node : (g : PortGraph) (c : NodePorts) (m : NodeMeta) → meta_at g c.node.0 ≡ Some m → port_held g c.held ≡ true → step_ports g c ≡ ports_item c.node.0 c.sides (max (ports_from m c.sides) c.held) (ports_to m c.sides)
 unfolding step_ports
 step_of_node g c m e h = rw h (ap (ports_beyond c.node.0 c.sides c.held) e)
 
-pub step_where_port_gone : (g : PortGraph) (c : NodePorts) → port_held g c.held ≡ false → step_ports g c ≡ ports_step.End
+pub step_where_port_gone : (g : PortGraph) (c : NodePorts) → port_held g c.held ≡ false → step_ports g c ≡ None
 unfolding step_ports
 step_where_port_gone g c h = rw h
 
-pub item_there : (n : ℕ) (sides : Sides) (p end : ℕ) → p < end → ports_item n sides p end ≡ ports_step.Item (port# p) (ports_cursor n sides (suc p))
+pub item_there : (n : ℕ) (sides : Sides) (p end : ℕ) → p < end → ports_item n sides p end ≡ Some (port# p, ports_cursor n sides (suc p))
 item_there n sides p end l = rw (lt-ltb p end l)
 
-pub item_beyond : (n : ℕ) (sides : Sides) (p end : ℕ) → end ≤ p → ports_item n sides p end ≡ ports_step.End
+pub item_beyond : (n : ℕ) (sides : Sides) (p end : ℕ) → end ≤ p → ports_item n sides p end ≡ None
 item_beyond n sides p end l = rw (le-ltb p end l)
 
-module _ (g : PortGraph) (n : ℕ) (sides : Sides) (m : NodeMeta) (node : meta_at g n ≡ maybe_meta.Some m)
+module _ (g : PortGraph) (n : ℕ) (sides : Sides) (m : NodeMeta) (node : meta_at g n ≡ Some m)
     (alive : (p : ℕ) → ports_from m sides ≤ p → p < ports_to m sides → contains_port g p ≡ true) where
   ports_rest : (fuel held p : ℕ) → p ≡ max (ports_from m sides) held → ports_to m sides - p < fuel → port_held g held ≡ true → walk_ports g fuel (ports_cursor n sides held) ≡ whole (range p (ports_to m sides - p))
   ports_rest zero held p e l h = absurd (omega arith)
   ports_rest (suc fuel) held p e l h = go (ltb p (ports_to m sides)) refl (ports_rest fuel (suc p) (suc p))
     where
-      to_step : (s : NodePortsStep) → ports_item n sides p (ports_to m sides) ≡ s → walk_ports g (suc fuel) (ports_cursor n sides held) ≡ after_port (walk_ports g fuel) s
+      to_step : (s : Option (PortIndex × NodePorts)) → ports_item n sides p (ports_to m sides) ≡ s → walk_ports g (suc fuel) (ports_cursor n sides held) ≡ after_port (walk_ports g fuel) s
       to_step s d =
           walk_ports_on g fuel (ports_cursor n sides held) ∙
           ap (after_port (walk_ports g fuel)) (step_of_node g (ports_cursor n sides held) m node h ∙ (ap (λ q. ports_item n sides q (ports_to m sides)) (sym e) ∙ d))
@@ -324,11 +319,11 @@ module _ (g : PortGraph) (n : ℕ) (sides : Sides) (m : NodeMeta) (node : meta_a
           let a : p < ports_to m sides = ltb-true _ _ t in
           let ih : walk_ports g fuel (ports_cursor n sides (suc p)) ≡ whole (range (suc p) (ports_to m sides - suc p)) =
           rest (omega arith) (omega arith) (held_is_port g p ∙ alive p (omega arith) a) in
-          to_step (ports_step.Item (port# p) (ports_cursor n sides (suc p))) (item_there n sides p (ports_to m sides) a) ∙
+          to_step (Some (port# p, ports_cursor n sides (suc p))) (item_there n sides p (ports_to m sides) a) ∙
           (ap (more p) ih ∙ ap whole (sym (numbers_on p (ports_to m sides - p) (ports_to m sides - suc p) (omega arith))))
       go false t rest =
           let a : ports_to m sides ≤ p = ltb-false _ _ t in
-          to_step ports_step.End (item_beyond n sides p (ports_to m sides) a) ∙
+          to_step None (item_beyond n sides p (ports_to m sides) a) ∙
           ap whole (sym (no_numbers p (ports_to m sides - p) (omega arith)))
 
 -- the ports on these sides lie within the node's ports
@@ -357,9 +352,9 @@ offsets_at m (p ∷ l) = offset_at m p ∷ offsets_at m l
 abbrev pub each_offset : NodeMeta → Walked ℕ → Walked PortOffset
 each_offset m w = record { items = offsets_at m w.items; ended = w.ended }
 
-abbrev pub after_offset : (NodePortOffsets → Walked PortOffset) → NodePortOffsetsStep → Walked PortOffset
-after_offset walk (offsets_step.Item o c) = more o (walk c)
-after_offset walk offsets_step.End = whole []
+abbrev pub after_offset : (NodePortOffsets → Walked PortOffset) → Option (PortOffset × NodePortOffsets) → Walked PortOffset
+after_offset walk (Some (o, c)) = more o (walk c)
+after_offset walk None = whole []
 
 unfoldable pub walk_offsets : PortGraph → ℕ → NodePortOffsets → Walked PortOffset
 walk_offsets g zero c = unfinished
@@ -381,7 +376,7 @@ owner_in_block_lem n m p l = go (ltb p (m.first_port.0 + m.incoming))
     go false = rw (lt-ltb p (m.first_port.0 + (m.incoming + m.outgoing)) l)
 
 module _ (g : PortGraph) (M : Model) (good : Good M) (holds : Holds g M) (n : ℕ) (m : NodeMeta) (node : M.node n ≡ live m) where
-  live_meta : meta_at g n ≡ maybe_meta.Some m
+  live_meta : meta_at g n ≡ Some m
   live_meta = meta_of_node good holds n m node
 
   -- each slot from a live node's first port to its last is a port of that node
@@ -395,7 +390,7 @@ module _ (g : PortGraph) (M : Model) (good : Good M) (holds : Holds g M) (n : �
   pub ports_alive : (p : ℕ) → m.first_port.0 ≤ p → p < m.first_port.0 + (m.incoming + m.outgoing) → contains_port g p ≡ true
   ports_alive p a b = ap is_port (port_of_node p a b)
 
-  pub offset_of_port : (p : ℕ) → m.first_port.0 ≤ p → p < m.first_port.0 + (m.incoming + m.outgoing) → port_offset g p ≡ maybe_offset.Some (offset_at m p)
+  pub offset_of_port : (p : ℕ) → m.first_port.0 ≤ p → p < m.first_port.0 + (m.incoming + m.outgoing) → port_offset g p ≡ Some (offset_at m p)
   offset_of_port p a b = ap (offset_of g p) (port_of_node p a b) ∙ ap (offset_in p (side_at m p)) live_meta
 
   -- from any position that is still there a walk gives the rest of the node's ports, and ends
@@ -414,13 +409,13 @@ module _ (g : PortGraph) (M : Model) (good : Good M) (holds : Holds g M) (n : �
   -- Offsets: the same walk, with the offset of each port.
 
   step_cases : (sides : Sides) (held : ℕ)
-      → (step_ports g (ports_cursor n sides held) ≡ ports_step.End)
-      ⊎ ((p : ℕ) × (step_ports g (ports_cursor n sides held) ≡ ports_step.Item (port# p) (ports_cursor n sides (suc p))) × (ports_from m sides ≤ p) × (p < ports_to m sides))
+      → (step_ports g (ports_cursor n sides held) ≡ None)
+      ⊎ ((p : ℕ) × (step_ports g (ports_cursor n sides held) ≡ Some (port# p, ports_cursor n sides (suc p))) × (ports_from m sides ≤ p) × (p < ports_to m sides))
   step_cases sides held = go (port_held g held) refl (ltb (max (ports_from m sides) held) (ports_to m sides)) refl
     where
       go : (b : Bool) → port_held g held ≡ b → (l : Bool) → ltb (max (ports_from m sides) held) (ports_to m sides) ≡ l
-          → (step_ports g (ports_cursor n sides held) ≡ ports_step.End)
-          ⊎ ((p : ℕ) × (step_ports g (ports_cursor n sides held) ≡ ports_step.Item (port# p) (ports_cursor n sides (suc p))) × (ports_from m sides ≤ p) × (p < ports_to m sides))
+          → (step_ports g (ports_cursor n sides held) ≡ None)
+          ⊎ ((p : ℕ) × (step_ports g (ports_cursor n sides held) ≡ Some (port# p, ports_cursor n sides (suc p))) × (ports_from m sides ≤ p) × (p < ports_to m sides))
       go false h l e = inl (step_where_port_gone g (ports_cursor n sides held) h)
       go true h true e =
           let a : max (ports_from m sides) held < ports_to m sides = ltb-true _ _ e in
@@ -433,8 +428,8 @@ module _ (g : PortGraph) (M : Model) (good : Good M) (holds : Holds g M) (n : �
   offsets_walk_with_ports sides zero held = no_fuel g m (ports_cursor n sides held)
   offsets_walk_with_ports sides (suc fuel) held = go (step_cases sides held) (λ h. offsets_walk_with_ports sides fuel h)
     where
-      go : (step_ports g (ports_cursor n sides held) ≡ ports_step.End)
-          ⊎ ((p : ℕ) × (step_ports g (ports_cursor n sides held) ≡ ports_step.Item (port# p) (ports_cursor n sides (suc p))) × (ports_from m sides ≤ p) × (p < ports_to m sides))
+      go : (step_ports g (ports_cursor n sides held) ≡ None)
+          ⊎ ((p : ℕ) × (step_ports g (ports_cursor n sides held) ≡ Some (port# p, ports_cursor n sides (suc p))) × (ports_from m sides ≤ p) × (p < ports_to m sides))
           → ((h : ℕ) → walk_offsets g fuel (record { ports = ports_cursor n sides h }) ≡ each_offset m (walk_ports g fuel (ports_cursor n sides h)))
           → walk_offsets g (suc fuel) (record { ports = ports_cursor n sides held }) ≡ each_offset m (walk_ports g (suc fuel) (ports_cursor n sides held))
       go (inl e) rest =
@@ -464,20 +459,20 @@ no_port_twice m sides = ascending_once (ports_from m sides) (ports_of_node m sid
 
 -- A cursor whose node or port is gone ends the walk.
 
-pub gone_node_ends_walk : (g : PortGraph) (n : ℕ) → contains_node g n ≡ false → step_nodes g (suc n) ≡ nodes_step.End
+pub gone_node_ends_walk : (g : PortGraph) (n : ℕ) → contains_node g n ≡ false → step_nodes g (suc n) ≡ None
 gone_node_ends_walk g n e = step_where_gone g (suc n) (held_is_node g n ∙ e)
 
-pub gone_port_ends_walk : (g : PortGraph) (n : ℕ) (sides : Sides) (p : ℕ) → contains_port g p ≡ false → step_ports g (ports_cursor n sides (suc p)) ≡ ports_step.End
+pub gone_port_ends_walk : (g : PortGraph) (n : ℕ) (sides : Sides) (p : ℕ) → contains_port g p ≡ false → step_ports g (ports_cursor n sides (suc p)) ≡ None
 gone_port_ends_walk g n sides p e = step_where_port_gone g (ports_cursor n sides (suc p)) (held_is_port g p ∙ e)
 
 either_way {ℓ} : {A : Type ℓ} (b : Bool) (x : A) → cond b x x ≡ x
 either_way true x = refl
 either_way false x = refl
 
-pub gone_node_ends_its_ports : (g : PortGraph) (c : NodePorts) → meta_at g c.node.0 ≡ maybe_meta.None → step_ports g c ≡ ports_step.End
+pub gone_node_ends_its_ports : (g : PortGraph) (c : NodePorts) → meta_at g c.node.0 ≡ None → step_ports g c ≡ None
 unfolding step_ports
 gone_node_ends_its_ports g c e =
-    ap (λ x. cond (port_held g c.held) (ports_beyond c.node.0 c.sides c.held x) ports_step.End) e ∙ either_way (port_held g c.held) ports_step.End
+    ap (λ x. cond (port_held g c.held) (ports_beyond c.node.0 c.sides c.held x) None) e ∙ either_way (port_held g c.held) None
 
 -- What the code of a step finds.
 
@@ -490,33 +485,33 @@ search_turn nodes n l e = go (node_slots - n) (node_slots - (n + 1)) (n + 1) (om
 
 module _ (g : PortGraph) (held n : ℕ) (h : node_held g held ≡ true)
     (rest : node_from g.node_meta n (node_slots - n) ≡ node_from g.node_meta held (node_slots - held)) where
-  pub search_found : n < node_slots → is_node (entry_at g n) ≡ true → nodes_step.Item (node# n) (record { held = n + 1 }) ≡ step_nodes g held
+  pub search_found : n < node_slots → is_node (entry_at g n) ≡ true → Some (node# n, record { held = n + 1 }) ≡ step_nodes g held
   search_found l e = sym (step_where_held g held h ∙ (sym rest ∙ go (node_slots - n) (node_slots - suc n) (n + 1) (omega arith) (omega arith)))
     where
-      go : (k j i : ℕ) → k ≡ suc j → i ≡ suc n → node_from g.node_meta n k ≡ nodes_step.Item (node# n) (record { held = i })
+      go : (k j i : ℕ) → k ≡ suc j → i ≡ suc n → node_from g.node_meta n k ≡ Some (node# n, record { held = i })
       go k j i p q = rw (p, q) (node_here g.node_meta n j e)
 
-  pub search_done : node_slots ≤ n → nodes_step.End ≡ step_nodes g held
+  pub search_done : node_slots ≤ n → None ≡ step_nodes g held
   search_done l = sym (step_where_held g held h ∙ (sym rest ∙ go (node_slots - n) (omega arith)))
     where
-      go : (k : ℕ) → k ≡ 0 → node_from g.node_meta n k ≡ nodes_step.End
+      go : (k : ℕ) → k ≡ 0 → node_from g.node_meta n k ≡ None
       go k p = rw p (no_node_left g.node_meta n)
 
 -- a step over ports from the numbers that the code computes: first and last slot, and the place where it goes on
-pub step_at : (g : PortGraph) (c : NodePorts) (m : NodeMeta) (first place p end : ℕ) → meta_at g c.node.0 ≡ maybe_meta.Some m → port_held g c.held ≡ true → first ≡ ports_from m c.sides → place ≡ c.held → p ≡ max first place → end ≡ ports_to m c.sides → step_ports g c ≡ ports_item c.node.0 c.sides p end
+pub step_at : (g : PortGraph) (c : NodePorts) (m : NodeMeta) (first place p end : ℕ) → meta_at g c.node.0 ≡ Some m → port_held g c.held ≡ true → first ≡ ports_from m c.sides → place ≡ c.held → p ≡ max first place → end ≡ ports_to m c.sides → step_ports g c ≡ ports_item c.node.0 c.sides p end
 step_at g c m first place p end e h a b d f =
     let q : max (ports_from m c.sides) c.held ≡ p = cc in
     step_of_node g c m e h ∙ (ap (λ x. ports_item c.node.0 c.sides x (ports_to m c.sides)) q ∙ ap (ports_item c.node.0 c.sides p) (sym f))
 
-pub item_given : (n : ℕ) (sides : Sides) (p end : ℕ) → p < end → ports_step.Item (port# p) (ports_cursor n sides (p + 1)) ≡ ports_item n sides p end
-item_given n sides p end l = ap (λ k. ports_step.Item (port# p) (ports_cursor n sides k)) (add-one p) ∙ sym (item_there n sides p end l)
+pub item_given : (n : ℕ) (sides : Sides) (p end : ℕ) → p < end → Some (port# p, ports_cursor n sides (p + 1)) ≡ ports_item n sides p end
+item_given n sides p end l = ap (λ k. Some (port# p, ports_cursor n sides k)) (add-one p) ∙ sym (item_there n sides p end l)
 
-entry_of_some : (e : NodeEntry) (m : NodeMeta) → meta_of_entry e ≡ maybe_meta.Some m → e ≡ Node m
+entry_of_some : (e : NodeEntry) (m : NodeMeta) → meta_of_entry e ≡ Some m → e ≡ Node m
 entry_of_some (Free f) m h = let z : ◌≡◌ {A = ℕ} 0 1 = cc in absurd (omega arith)
 entry_of_some (Node l) m h = cc
 
 -- the ports of a node lie within the tables
-pub ports_end_inside : (g : PortGraph) → Wf g → (n : ℕ) (m : NodeMeta) (sides : Sides) → meta_at g n ≡ maybe_meta.Some m → ports_to m sides ≤ port_slots
+pub ports_end_inside : (g : PortGraph) → Wf g → (n : ℕ) (m : NodeMeta) (sides : Sides) → meta_at g n ≡ Some m → ports_to m sides ≤ port_slots
 ports_end_inside g w n m sides e = go sides
   where
     fits : BlockFits m

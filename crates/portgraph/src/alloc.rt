@@ -7,74 +7,62 @@ ghost use Rattle.portgraph.specs.Calls.{find_slot, find_block, rest_of, grown, s
 use crate::portgraph::PortGraph;
 use port_tables::index::{FREE_LISTS, NODE_PORTS, NODE_SLOTS, NodeIndex, PORT_SLOTS, PortIndex};
 use port_tables::node_entry::{NodeEntry, NodeMeta, NodeSlot};
-use port_tables::numbers::{less, wide, wide16};
+use port_tables::numbers::wide;
 use port_tables::tables::{at, chain_block, cut_range, fill, head_at, own_block, put_head};
 
-// What a search for room finds: a first slot, or none.
+// Why a node is not added.
 #[derive(Clone, Copy)]
-pub enum Found {
-    At(usize),
-    NoRoom,
-}
-
-// What adding a node comes to.
-#[derive(Clone, Copy)]
-pub enum AddAnswer {
-    // The node, and its first port; 0 for a node without ports.
-    Added(NodeIndex, PortIndex),
+pub enum AddError {
     TooManyPorts,
     NoRoom,
 }
 
+// The node named is not live.
+#[derive(Clone, Copy)]
+pub struct NoSuchNode;
+
 #[derive(Clone, Copy)]
 pub struct NodeAdded {
     pub graph: PortGraph,
-    pub answer: AddAnswer,
-}
-
-// What removing a node comes to.
-#[derive(Clone, Copy)]
-pub enum RemoveAnswer {
-    Removed,
-    // The node is not live.
-    UnknownNode,
+    // The node, and its first port; 0 for a node without ports.
+    pub answer: Result<(NodeIndex, PortIndex), AddError>,
 }
 
 #[derive(Clone, Copy)]
 pub struct NodeRemoved {
     pub graph: PortGraph,
-    pub answer: RemoveAnswer,
+    pub answer: Result<(), NoSuchNode>,
 }
 
 // The node slot that is taken next: the one freed last, else the next at the end.
-pub fn find_slot(free: u32, len: usize) -> Found
+pub fn find_slot(free: u32, len: usize) -> Option<usize>
     ensures { result ≡ find_slot free len }
 {
     if free == 0 {
         if len < NODE_SLOTS {
-            return Found::At(len);
+            return Some(len);
         }
-        return Found::NoRoom;
+        return None;
     }
-    Found::At(wide(free - 1))
+    Some(wide(free - 1))
 }
 
 // The block that is taken next: the one of exactly this size freed last, else the end.
-pub fn find_block(heads: &[u32; FREE_LISTS], len: usize, size: usize) -> Found
+pub fn find_block(heads: &[u32; FREE_LISTS], len: usize, size: usize) -> Option<usize>
     requires { (len ≤ port_slots) × (size ≤ port_slots) }
     ensures { result ≡ find_block heads.now len size }
 {
     if size == 0 {
-        return Found::At(0);
+        return Some(0);
     }
     let head = head_at(heads, size);
     if head == 0 {
         if len + size <= PORT_SLOTS {
-            return Found::At(len);
+            return Some(len);
         }
-        return Found::NoRoom;
+        return None;
     }
-    Found::At(wide(head - 1))
+    Some(wide(head - 1))
 }
 
 // The first of a list of free ones after its first is taken, which names the next.
@@ -115,26 +103,26 @@ impl PortGraph {
         if NODE_PORTS < incoming {
             return NodeAdded {
                 graph: self,
-                answer: AddAnswer::TooManyPorts,
+                answer: Err(AddError::TooManyPorts),
             };
         }
         if NODE_PORTS - incoming < outgoing {
             return NodeAdded {
                 graph: self,
-                answer: AddAnswer::TooManyPorts,
+                answer: Err(AddError::TooManyPorts),
             };
         }
         let size = incoming + outgoing;
-        let Found::At(node) = find_slot(self.node_free, self.node_len) else {
+        let Some(node) = find_slot(self.node_free, self.node_len) else {
             return NodeAdded {
                 graph: self,
-                answer: AddAnswer::NoRoom,
+                answer: Err(AddError::NoRoom),
             };
         };
-        let Found::At(first) = find_block(&self.port_free, self.port_len, size) else {
+        let Some(first) = find_block(&self.port_free, self.port_len, size) else {
             return NodeAdded {
                 graph: self,
-                answer: AddAnswer::NoRoom,
+                answer: Err(AddError::NoRoom),
             };
         };
         let meta = NodeMeta {
@@ -161,7 +149,7 @@ impl PortGraph {
         self.port_count = self.port_count + size;
         NodeAdded {
             graph: self,
-            answer: AddAnswer::Added(NodeIndex(node as u32), PortIndex(first as u32)),
+            answer: Ok((NodeIndex(node as u32), PortIndex(first as u32))),
         }
     }
 
@@ -174,7 +162,7 @@ impl PortGraph {
         if NODE_SLOTS <= place {
             return NodeRemoved {
                 graph: self,
-                answer: RemoveAnswer::UnknownNode,
+                answer: Err(NoSuchNode),
             };
         }
         let slot = self.node_meta[place];
@@ -182,11 +170,11 @@ impl PortGraph {
         let NodeEntry::Node(meta) = entry else {
             return NodeRemoved {
                 graph: self,
-                answer: RemoveAnswer::UnknownNode,
+                answer: Err(NoSuchNode),
             };
         };
         let first = wide(meta.first_port.0);
-        let size = wide16(meta.capacity);
+        let size = usize::from(meta.capacity);
         let after = slot_after(self.node_free, place);
         let neighbour = self.node_meta[after];
         self.node_meta[after] = neighbour.with_prev((node.0 + 1) as u16);
@@ -197,12 +185,12 @@ impl PortGraph {
         chain_block(&mut self.port_link, first, size, head);
         fill(&mut self.port_meta, meta.first_port.0, meta.capacity, 0);
         put_head(&mut self.port_free, size, meta.first_port.0 + 1);
-        self.node_count = less(self.node_count, 1);
-        self.port_count = less(self.port_count, meta.port_count());
-        self.link_count = less(self.link_count, cuts);
+        self.node_count = self.node_count.saturating_sub(1);
+        self.port_count = self.port_count.saturating_sub(meta.port_count());
+        self.link_count = self.link_count.saturating_sub(cuts);
         NodeRemoved {
             graph: self,
-            answer: RemoveAnswer::Removed,
+            answer: Ok(()),
         }
     }
 }

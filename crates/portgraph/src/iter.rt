@@ -4,22 +4,16 @@ ghost use Rattle.std.specs.Prelude.{◌≡◌};
 ghost use Rattle.portgraph.specs.Model.{Wf};
 ghost use Rattle.portgraph.specs.Walks.{node_held, step_nodes, nodes_step_numbers, port_held, step_ports, ports_step_numbers, start_ports, ports_start_numbers, step_offsets, offsets_step_numbers, start_offsets, offsets_start_numbers};
 
+use crate::alloc::NoSuchNode;
 use crate::portgraph::PortGraph;
-use port_tables::index::{MaybePortOffset, NODE_SLOTS, NodeIndex, PortIndex, PortOffset};
-use port_tables::node_entry::MaybeNodeMeta;
-use port_tables::numbers::{larger, wide};
+use port_tables::index::{NODE_SLOTS, NodeIndex, PortIndex, PortOffset};
+use port_tables::numbers::wide;
 use port_tables::sides::{Sides, ports_from, ports_to};
 
 // A walk over the nodes, by ascending number.
 #[derive(Clone, Copy)]
 pub struct Nodes {
     pub held: u32,
-}
-
-#[derive(Clone, Copy)]
-pub enum NodesStep {
-    Item(NodeIndex, Nodes),
-    End,
 }
 
 // A walk over the ports of a node.
@@ -30,35 +24,10 @@ pub struct NodePorts {
     pub held: u32,
 }
 
-#[derive(Clone, Copy)]
-pub enum NodePortsStep {
-    Item(PortIndex, NodePorts),
-    End,
-}
-
-// A start of a walk over the ports of a node.
-#[derive(Clone, Copy)]
-pub enum PortsStart {
-    Started(NodePorts),
-    UnknownNode,
-}
-
 // A walk over the port offsets of a node.
 #[derive(Clone, Copy)]
 pub struct NodePortOffsets {
     pub ports: NodePorts,
-}
-
-#[derive(Clone, Copy)]
-pub enum NodePortOffsetsStep {
-    Item(PortOffset, NodePortOffsets),
-    End,
-}
-
-#[derive(Clone, Copy)]
-pub enum OffsetsStart {
-    Started(NodePortOffsets),
-    UnknownNode,
 }
 
 impl PortGraph {
@@ -70,13 +39,13 @@ impl PortGraph {
     }
 
     // Starts a walk over the ports of a node on one side or both.
-    pub fn ports(self, node: NodeIndex, sides: Sides) -> PortsStart
+    pub fn ports(self, node: NodeIndex, sides: Sides) -> Result<NodePorts, NoSuchNode>
         ensures { (result ≡ start_ports self node sides) × (ports_start_numbers result ≡ ports_start_numbers (start_ports self node sides)) }
     {
-        let MaybeNodeMeta::Some(_) = self.node_meta_valid(node) else {
-            return PortsStart::UnknownNode;
+        let Some(_) = self.node_meta_valid(node) else {
+            return Err(NoSuchNode);
         };
-        PortsStart::Started(NodePorts {
+        Ok(NodePorts {
             node: node,
             sides: sides,
             held: 0,
@@ -84,13 +53,11 @@ impl PortGraph {
     }
 
     // Starts a walk over the port offsets of a node on one side or both.
-    pub fn port_offsets(self, node: NodeIndex, sides: Sides) -> OffsetsStart
+    pub fn port_offsets(self, node: NodeIndex, sides: Sides) -> Result<NodePortOffsets, NoSuchNode>
         ensures { (result ≡ start_offsets self node sides) × (offsets_start_numbers result ≡ offsets_start_numbers (start_offsets self node sides)) }
     {
-        let PortsStart::Started(ports) = self.ports(node, sides) else {
-            return OffsetsStart::UnknownNode;
-        };
-        OffsetsStart::Started(NodePortOffsets { ports: ports })
+        let ports = self.ports(node, sides)?;
+        Ok(NodePortOffsets { ports: ports })
     }
 
     // Whether the node that a cursor holds is still there.
@@ -115,26 +82,24 @@ impl PortGraph {
 }
 
 impl Nodes {
-    pub fn step(self, graph: PortGraph) -> NodesStep
+    pub fn step(self, graph: PortGraph) -> Option<(NodeIndex, Nodes)>
         ensures { (result ≡ step_nodes graph self.held) × (nodes_step_numbers result ≡ nodes_step_numbers (step_nodes graph self.held)) }
     {
         let held = self.held;
         if graph.node_held(held) {
-            let mut n = wide(held);
-            while n < NODE_SLOTS {
+            for n in wide(held)..NODE_SLOTS {
                 let slot = graph.node_meta[n];
                 if slot.is_node() {
-                    return NodesStep::Item(NodeIndex(n as u32), Nodes { held: n as u32 + 1 });
+                    return Some((NodeIndex(n as u32), Nodes { held: n as u32 + 1 }));
                 }
-                n += 1;
             }
         }
-        NodesStep::End
+        None
     }
 }
 
 impl NodePorts {
-    pub fn step(self, graph: PortGraph) -> NodePortsStep
+    pub fn step(self, graph: PortGraph) -> Option<(PortIndex, NodePorts)>
         requires { Wf graph }
         ensures { (result ≡ step_ports graph self) × (ports_step_numbers result ≡ ports_step_numbers (step_ports graph self)) }
     {
@@ -142,37 +107,31 @@ impl NodePorts {
         if graph.port_held(held) {
             let node = self.node;
             let sides = self.sides;
-            let MaybeNodeMeta::Some(meta) = graph.node_meta_valid(node) else {
-                return NodePortsStep::End;
-            };
-            let port = larger(ports_from(meta, sides), wide(held));
+            let meta = graph.node_meta_valid(node)?;
+            let port = ports_from(meta, sides).max(wide(held));
             if port < ports_to(meta, sides) {
-                return NodePortsStep::Item(
+                return Some((
                     PortIndex(port as u32),
                     NodePorts {
                         node: node,
                         sides: sides,
                         held: port as u32 + 1,
                     },
-                );
+                ));
             }
         }
-        NodePortsStep::End
+        None
     }
 }
 
 impl NodePortOffsets {
-    pub fn step(self, graph: PortGraph) -> NodePortOffsetsStep
+    pub fn step(self, graph: PortGraph) -> Option<(PortOffset, NodePortOffsets)>
         requires { Wf graph }
         ensures { (result ≡ step_offsets graph self) × (offsets_step_numbers result ≡ offsets_step_numbers (step_offsets graph self)) }
     {
         let ports = self.ports;
-        let NodePortsStep::Item(port, next) = ports.step(graph) else {
-            return NodePortOffsetsStep::End;
-        };
-        let MaybePortOffset::Some(offset) = graph.port_offset(port) else {
-            return NodePortOffsetsStep::End;
-        };
-        NodePortOffsetsStep::Item(offset, NodePortOffsets { ports: next })
+        let (port, next) = ports.step(graph)?;
+        let offset = graph.port_offset(port)?;
+        Some((offset, NodePortOffsets { ports: next }))
     }
 }

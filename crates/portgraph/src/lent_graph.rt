@@ -46,10 +46,8 @@ fn slots_in(nodes: &[u32; NODE_WORDS]) -> [NodeSlot; NODE_SLOTS]
     ensures { result ≡ slots_in nodes.now }
 {
     let mut slots = [NodeSlot::new_free(0, 0); NODE_SLOTS];
-    let mut n: usize = 0;
-    while n < NODE_SLOTS {
-        slots[n] = slot_in(nodes, n);
-        n += 1;
+    for (n, slot) in slots.iter_mut().enumerate() {
+        *slot = slot_in(nodes, n);
     }
     slots
 }
@@ -60,11 +58,8 @@ pub fn put_slots(nodes: &mut [u32; NODE_WORDS], slots: [NodeSlot; NODE_SLOTS])
         × Canonical nodes.new }
 {
     *nodes = [0; NODE_WORDS];
-    let mut n: usize = 0;
-    while n < NODE_SLOTS {
-        let slot = slots[n];
-        put_slot(nodes, n, slot);
-        n += 1;
+    for (n, slot) in slots.iter().enumerate() {
+        put_slot(nodes, n, *slot);
     }
 }
 

@@ -5,11 +5,12 @@ ghost use Rattle.port_tables.specs.Limits.{port_slots};
 ghost use Rattle.portgraph.specs.Model.{Wf};
 ghost use Rattle.portgraph.specs.LinkWalks.{far_in, owner_in, is_port_in, held_in, is_kept, link_kept, is_of, link_to, step_links, links_numbers, start_links, links_start_numbers, step_neighbours, neighbours_numbers, start_neighbours, neighbours_start_numbers, step_connections, connections_numbers, start_connections, connections_start_numbers, step_all_ports, all_ports_numbers, first_where, ports_left, own_ports};
 
+use crate::alloc::NoSuchNode;
 use crate::portgraph::PortGraph;
 use port_tables::direction::Direction;
 use port_tables::index::{NODE_SLOTS, NodeIndex, PORT_SLOTS, PortIndex};
 use port_tables::node_entry::{NodeEntry, NodeSlot};
-use port_tables::numbers::{larger, wide};
+use port_tables::numbers::wide;
 use port_tables::sides::{Sides, ports_from, ports_to};
 use port_tables::tables::at;
 
@@ -30,18 +31,6 @@ pub struct NodeLinks {
     pub held: u32,
 }
 
-#[derive(Clone, Copy)]
-pub enum NodeLinksStep {
-    Item(Link, NodeLinks),
-    End,
-}
-
-#[derive(Clone, Copy)]
-pub enum NodeLinksStart {
-    Started(NodeLinks),
-    UnknownNode,
-}
-
 // A walk over the neighbours of a node, one for each link; with the flag, links to outgoing ports of the node itself are left
 // out.
 #[derive(Clone, Copy)]
@@ -52,18 +41,6 @@ pub struct Neighbours {
     pub held: u32,
 }
 
-#[derive(Clone, Copy)]
-pub enum NeighboursStep {
-    Item(NodeIndex, Neighbours),
-    End,
-}
-
-#[derive(Clone, Copy)]
-pub enum NeighboursStart {
-    Started(Neighbours),
-    UnknownNode,
-}
-
 // A walk over the links from one node's outgoing side to another node.
 #[derive(Clone, Copy)]
 pub struct NodeConnections {
@@ -72,28 +49,10 @@ pub struct NodeConnections {
     pub held: u32,
 }
 
-#[derive(Clone, Copy)]
-pub enum NodeConnectionsStep {
-    Item(Link, NodeConnections),
-    End,
-}
-
-#[derive(Clone, Copy)]
-pub enum NodeConnectionsStart {
-    Started(NodeConnections),
-    UnknownNode,
-}
-
 // A walk over all ports, by ascending number.
 #[derive(Clone, Copy)]
 pub struct Ports {
     pub held: u32,
-}
-
-#[derive(Clone, Copy)]
-pub enum PortsStep {
-    Item(PortIndex, Ports),
-    End,
 }
 
 // Consecutive port slots, the end excluded.
@@ -154,15 +113,12 @@ fn is_kept(far: u32, skip: Span) -> bool
 fn next_link(links: &[u32; PORT_SLOTS], left: Span, skip: Span) -> usize
     ensures { result ≡ first_where (link_kept links.now skip.from skip.to) left.from (left.to - left.from) }
 {
-    let end = left.to;
-    let mut port = left.from;
-    while port < end {
+    for port in left.from..left.to {
         if is_kept(at(links, port), skip) {
             return port;
         }
-        port += 1;
     }
-    port
+    left.from.max(left.to)
 }
 
 // Whether an owner's number is that of a port of a node.
@@ -200,29 +156,24 @@ fn next_link_to<'a>(
 ) -> usize
     ensures { result ≡ first_where (link_to links.now owners.now node) left.from (left.to - left.from) }
 {
-    let end = left.to;
-    let mut port = left.from;
-    while port < end {
+    for port in left.from..left.to {
         if link_to(links, owners, node, port) {
             return port;
         }
-        port += 1;
     }
-    port
+    left.from.max(left.to)
 }
 
 // The first live port from a slot on; the number of slots or more for none.
 fn next_port(owners: &[u32; PORT_SLOTS], from: usize) -> usize
     ensures { result ≡ first_where (is_port_in owners.now) from (port_slots - from) }
 {
-    let mut port = from;
-    while port < PORT_SLOTS {
+    for port in from..PORT_SLOTS {
         if is_port_in(owners, port) {
             return port;
         }
-        port += 1;
     }
-    port
+    from.max(PORT_SLOTS)
 }
 
 // The ports that a walk over a node's ports has left; none where the port that it holds is gone.
@@ -235,7 +186,7 @@ fn ports_left(slot: NodeSlot, sides: Sides, held: u32, there: bool) -> Span
     };
     if there {
         return Span {
-            from: larger(ports_from(meta, sides), wide(held)),
+            from: ports_from(meta, sides).max(wide(held)),
             to: ports_to(meta, sides),
         };
     }
@@ -268,11 +219,11 @@ impl PortGraph {
         sides: Sides,
         skip_from: u32,
         skip_to: u32,
-    ) -> NodeLinksStart
+    ) -> Result<NodeLinks, NoSuchNode>
         ensures { (result ≡ start_links self node sides skip_from skip_to) × (links_start_numbers result ≡ links_start_numbers (start_links self node sides skip_from skip_to)) }
     {
         if self.contains_node(node) {
-            return NodeLinksStart::Started(NodeLinks {
+            return Ok(NodeLinks {
                 node: node,
                 sides: sides,
                 skip_from: skip_from,
@@ -280,38 +231,47 @@ impl PortGraph {
                 held: 0,
             });
         }
-        NodeLinksStart::UnknownNode
+        Err(NoSuchNode)
     }
 
     // Starts a walk over the neighbours of a node on one side or both.
-    pub fn neighbours(self, node: NodeIndex, sides: Sides, ignore_self: bool) -> NeighboursStart
+    pub fn neighbours(
+        self,
+        node: NodeIndex,
+        sides: Sides,
+        ignore_self: bool,
+    ) -> Result<Neighbours, NoSuchNode>
         ensures { (result ≡ start_neighbours self node sides ignore_self) × (neighbours_start_numbers result ≡ neighbours_start_numbers (start_neighbours self node sides ignore_self)) }
     {
         if self.contains_node(node) {
-            return NeighboursStart::Started(Neighbours {
+            return Ok(Neighbours {
                 node: node,
                 sides: sides,
                 ignore_self: ignore_self,
                 held: 0,
             });
         }
-        NeighboursStart::UnknownNode
+        Err(NoSuchNode)
     }
 
     // Starts a walk over the links from one node's outgoing side to another node.
-    pub fn get_connections(self, from: NodeIndex, to: NodeIndex) -> NodeConnectionsStart
+    pub fn get_connections(
+        self,
+        from: NodeIndex,
+        to: NodeIndex,
+    ) -> Result<NodeConnections, NoSuchNode>
         ensures { (result ≡ start_connections self from to) × (connections_start_numbers result ≡ connections_start_numbers (start_connections self from to)) }
     {
         if self.contains_node(from) {
             if self.contains_node(to) {
-                return NodeConnectionsStart::Started(NodeConnections {
+                return Ok(NodeConnections {
                     node: from,
                     target: to,
                     held: 0,
                 });
             }
         }
-        NodeConnectionsStart::UnknownNode
+        Err(NoSuchNode)
     }
 
     // Starts a walk over all ports.
@@ -323,7 +283,7 @@ impl PortGraph {
 }
 
 impl NodeLinks {
-    pub fn step(self, graph: PortGraph) -> NodeLinksStep
+    pub fn step(self, graph: PortGraph) -> Option<(Link, NodeLinks)>
         requires { Wf graph }
         ensures { (result ≡ step_links graph self) × (links_numbers result ≡ links_numbers (step_links graph self)) }
     {
@@ -340,7 +300,7 @@ impl NodeLinks {
             };
             let port = next_link(&graph.port_link, left, skip);
             if port < left.to {
-                return NodeLinksStep::Item(
+                return Some((
                     Link {
                         from: PortIndex(port as u32),
                         to: PortIndex(far_in(&graph.port_link, port)),
@@ -352,15 +312,15 @@ impl NodeLinks {
                         skip_to: self.skip_to,
                         held: port as u32 + 1,
                     },
-                );
+                ));
             }
         }
-        NodeLinksStep::End
+        None
     }
 }
 
 impl Neighbours {
-    pub fn step(self, graph: PortGraph) -> NeighboursStep
+    pub fn step(self, graph: PortGraph) -> Option<(NodeIndex, Neighbours)>
         requires { Wf graph }
         ensures { (result ≡ step_neighbours graph self) × (neighbours_numbers result ≡ neighbours_numbers (step_neighbours graph self)) }
     {
@@ -375,7 +335,7 @@ impl Neighbours {
             let port = next_link(&graph.port_link, left, skip);
             if port < left.to {
                 let far = far_in(&graph.port_link, port);
-                return NeighboursStep::Item(
+                return Some((
                     NodeIndex(owner_in(&graph.port_meta, wide(far))),
                     Neighbours {
                         node: node,
@@ -383,15 +343,15 @@ impl Neighbours {
                         ignore_self: self.ignore_self,
                         held: port as u32 + 1,
                     },
-                );
+                ));
             }
         }
-        NeighboursStep::End
+        None
     }
 }
 
 impl NodeConnections {
-    pub fn step(self, graph: PortGraph) -> NodeConnectionsStep
+    pub fn step(self, graph: PortGraph) -> Option<(Link, NodeConnections)>
         requires { Wf graph }
         ensures { (result ≡ step_connections graph self) × (connections_numbers result ≡ connections_numbers (step_connections graph self)) }
     {
@@ -404,7 +364,7 @@ impl NodeConnections {
             let left = ports_left(slot, Sides::One(Direction::Outgoing), self.held, there);
             let port = next_link_to(&graph.port_link, &graph.port_meta, left, target.0);
             if port < left.to {
-                return NodeConnectionsStep::Item(
+                return Some((
                     Link {
                         from: PortIndex(port as u32),
                         to: PortIndex(far_in(&graph.port_link, port)),
@@ -414,28 +374,28 @@ impl NodeConnections {
                         target: target,
                         held: port as u32 + 1,
                     },
-                );
+                ));
             }
         }
-        NodeConnectionsStep::End
+        None
     }
 }
 
 impl Ports {
-    pub fn step(self, graph: PortGraph) -> PortsStep
+    pub fn step(self, graph: PortGraph) -> Option<(PortIndex, Ports)>
         ensures { (result ≡ step_all_ports graph self) × (all_ports_numbers result ≡ all_ports_numbers (step_all_ports graph self)) }
     {
         if held_in(&graph.port_meta, self.held) {
             let port = next_port(&graph.port_meta, wide(self.held));
             if port < PORT_SLOTS {
-                return PortsStep::Item(
+                return Some((
                     PortIndex(port as u32),
                     Ports {
                         held: port as u32 + 1,
                     },
-                );
+                ));
             }
         }
-        PortsStep::End
+        None
     }
 }

@@ -6,12 +6,9 @@ ghost use Rattle.portgraph.specs.Lookups.{meta_at, meta_numbers, port_at, port_d
 ghost use Rattle.portgraph.specs.Calls.{new_graph, link_ports, link_numbers, unlink_port};
 
 use port_tables::direction::Direction;
-use port_tables::index::{
-    FREE_LISTS, MaybeDirection, MaybeNodeIndex, MaybePortIndex, MaybePortOffset, NODE_SLOTS,
-    NodeIndex, PORT_SLOTS, PortIndex, PortOffset,
-};
-use port_tables::node_entry::{MaybeNodeMeta, NodeEntry, NodeSlot};
-use port_tables::numbers::{less, same_side, wide, wide16};
+use port_tables::index::{FREE_LISTS, NODE_SLOTS, NodeIndex, PORT_SLOTS, PortIndex, PortOffset};
+use port_tables::node_entry::{NodeEntry, NodeMeta, NodeSlot};
+use port_tables::numbers::wide;
 use port_tables::port_entry::PortEntry;
 use port_tables::tables::{at, cut, link_both, link_count};
 
@@ -37,19 +34,13 @@ pub struct PortGraph {
     pub(crate) link_count: usize,
 }
 
-// What a port is linked with.
+// The port named is not live.
 #[derive(Clone, Copy)]
-pub enum PortLink {
-    Linked(PortIndex),
-    Unlinked,
-    // The port is not live.
-    UnknownPort(PortIndex),
-}
+pub struct NoSuchPort(pub PortIndex);
 
-// What a link of two ports comes to.
+// Why two ports are not linked.
 #[derive(Clone, Copy)]
-pub enum LinkAnswer {
-    Linked(PortIndex, PortIndex),
+pub enum LinkError {
     // The first port is not live.
     UnknownPort(PortIndex),
     // The second port is not live.
@@ -62,13 +53,13 @@ pub enum LinkAnswer {
 #[derive(Clone, Copy)]
 pub struct PortsLinked {
     pub graph: PortGraph,
-    pub answer: LinkAnswer,
+    pub answer: Result<(PortIndex, PortIndex), LinkError>,
 }
 
 #[derive(Clone, Copy)]
 pub struct PortUnlinked {
     pub graph: PortGraph,
-    pub answer: PortLink,
+    pub answer: Result<Option<PortIndex>, NoSuchPort>,
 }
 
 impl PortGraph {
@@ -91,19 +82,19 @@ impl PortGraph {
     }
 
     // The meta data of a node, if it is live.
-    pub fn node_meta_valid(self, node: NodeIndex) -> MaybeNodeMeta
+    pub fn node_meta_valid(self, node: NodeIndex) -> Option<NodeMeta>
         ensures { (result ≡ meta_at self node.0) × (meta_numbers result ≡ meta_numbers (meta_at self node.0)) }
     {
         let place = wide(node.0);
         if NODE_SLOTS <= place {
-            return MaybeNodeMeta::None;
+            return None;
         }
         let slot = self.node_meta[place];
         let entry = slot.entry;
         let NodeEntry::Node(meta) = entry else {
-            return MaybeNodeMeta::None;
+            return None;
         };
-        MaybeNodeMeta::Some(meta)
+        Some(meta)
     }
 
     // The owner and direction of a port, if it is live.
@@ -113,90 +104,86 @@ impl PortGraph {
         PortEntry::read(at(&self.port_meta, wide(port.0)))
     }
 
-    pub fn port_direction(self, port: PortIndex) -> MaybeDirection
+    pub fn port_direction(self, port: PortIndex) -> Option<Direction>
         ensures { (result ≡ port_direction self port.0) × (maybe_direction_numbers result ≡ maybe_direction_numbers (port_direction self port.0)) }
     {
         let PortEntry::Port(meta) = PortEntry::read(at(&self.port_meta, wide(port.0))) else {
-            return MaybeDirection::None;
+            return None;
         };
         let direction = meta.direction;
-        MaybeDirection::Some(direction)
+        Some(direction)
     }
 
-    pub fn port_node(self, port: PortIndex) -> MaybeNodeIndex
+    pub fn port_node(self, port: PortIndex) -> Option<NodeIndex>
         ensures { (result ≡ port_node self port.0) × (maybe_node_numbers result ≡ maybe_node_numbers (port_node self port.0)) }
     {
         let PortEntry::Port(meta) = PortEntry::read(at(&self.port_meta, wide(port.0))) else {
-            return MaybeNodeIndex::None;
+            return None;
         };
         let node = meta.node;
-        MaybeNodeIndex::Some(node)
+        Some(node)
     }
 
     // The side and position of a port.
-    pub fn port_offset(self, port: PortIndex) -> MaybePortOffset
+    pub fn port_offset(self, port: PortIndex) -> Option<PortOffset>
         ensures { (result ≡ port_offset self port.0) × (maybe_offset_numbers result ≡ maybe_offset_numbers (port_offset self port.0)) }
     {
         let place = wide(port.0);
         if PORT_SLOTS <= place {
-            return MaybePortOffset::None;
+            return None;
         }
         let PortEntry::Port(owner) = PortEntry::read(at(&self.port_meta, place)) else {
-            return MaybePortOffset::None;
+            return None;
         };
         let node = owner.node;
-        let MaybeNodeMeta::Some(meta) = self.node_meta_valid(node) else {
-            return MaybePortOffset::None;
-        };
+        let meta = self.node_meta_valid(node)?;
         let direction = owner.direction;
-        let within = less(place, wide(meta.first_port.0));
+        let within = place.saturating_sub(wide(meta.first_port.0));
         match direction {
-            Direction::Incoming => MaybePortOffset::Some(PortOffset {
+            Direction::Incoming => Some(PortOffset {
                 direction: direction,
                 index: within as u16,
             }),
-            Direction::Outgoing => MaybePortOffset::Some(PortOffset {
+            Direction::Outgoing => Some(PortOffset {
                 direction: direction,
-                index: less(within, wide16(meta.incoming)) as u16,
+                index: within.saturating_sub(usize::from(meta.incoming)) as u16,
             }),
         }
     }
 
     // The port at a side and position of a node.
-    pub fn port_index(self, node: NodeIndex, offset: PortOffset) -> MaybePortIndex
+    pub fn port_index(self, node: NodeIndex, offset: PortOffset) -> Option<PortIndex>
         requires { Wf self }
         ensures { (result ≡ port_index self node.0 offset) × (maybe_port_numbers result ≡ maybe_port_numbers (port_index self node.0 offset)) }
     {
-        let MaybeNodeMeta::Some(meta) = self.node_meta_valid(node) else {
-            return MaybePortIndex::None;
-        };
+        let meta = self.node_meta_valid(node)?;
         let direction = offset.direction;
-        let index = wide16(offset.index);
+        let index = usize::from(offset.index);
         if meta.num_ports(direction) <= index {
-            return MaybePortIndex::None;
+            return None;
         }
         let first = wide(meta.first_port.0);
         match direction {
-            Direction::Incoming => MaybePortIndex::Some(PortIndex((first + index) as u32)),
-            Direction::Outgoing => MaybePortIndex::Some(PortIndex(
-                (first + wide16(meta.incoming) + index) as u32,
+            Direction::Incoming => Some(PortIndex((first + index) as u32)),
+            Direction::Outgoing => Some(PortIndex(
+                (first + usize::from(meta.incoming) + index) as u32,
             )),
         }
     }
 
     // The port that a port is linked with.
-    pub fn port_link(self, port: PortIndex) -> PortLink
+    pub fn port_link(self, port: PortIndex) -> Result<Option<PortIndex>, NoSuchPort>
         ensures { (result ≡ port_link self port.0) × (port_link_numbers result ≡ port_link_numbers (port_link self port.0)) }
     {
         let place = wide(port.0);
         let PortEntry::Port(_) = PortEntry::read(at(&self.port_meta, place)) else {
-            return PortLink::UnknownPort(port);
+            return Err(NoSuchPort(port));
         };
         let far = at(&self.port_link, place);
         if far == 0 {
-            PortLink::Unlinked
+            Ok(None)
         } else {
-            PortLink::Linked(PortIndex(far - 1))
+            Ok(Some(PortIndex(far - 1)))
         }
     }
 
@@ -204,7 +191,7 @@ impl PortGraph {
     pub fn num_ports(self, node: NodeIndex, direction: Direction) -> usize
         ensures { result ≡ num_ports self node.0 direction }
     {
-        let MaybeNodeMeta::Some(meta) = self.node_meta_valid(node) else {
+        let Some(meta) = self.node_meta_valid(node) else {
             return 0;
         };
         meta.num_ports(direction)
@@ -214,7 +201,7 @@ impl PortGraph {
     pub fn node_port_capacity(self, node: NodeIndex) -> usize
         ensures { result ≡ node_port_capacity self node.0 }
     {
-        let MaybeNodeMeta::Some(meta) = self.node_meta_valid(node) else {
+        let Some(meta) = self.node_meta_valid(node) else {
             return 0;
         };
         meta.capacity()
@@ -223,7 +210,7 @@ impl PortGraph {
     pub fn contains_node(self, node: NodeIndex) -> bool
         ensures { result ≡ contains_node self node.0 }
     {
-        let MaybeNodeMeta::Some(_) = self.node_meta_valid(node) else {
+        let Some(_) = self.node_meta_valid(node) else {
             return false;
         };
         true
@@ -275,40 +262,40 @@ impl PortGraph {
         let PortEntry::Port(meta_a) = PortEntry::read(at(&self.port_meta, a)) else {
             return PortsLinked {
                 graph: self,
-                answer: LinkAnswer::UnknownPort(port_a),
+                answer: Err(LinkError::UnknownPort(port_a)),
             };
         };
         let PortEntry::Port(meta_b) = PortEntry::read(at(&self.port_meta, b)) else {
             return PortsLinked {
                 graph: self,
-                answer: LinkAnswer::UnknownSecondPort(port_b),
+                answer: Err(LinkError::UnknownSecondPort(port_b)),
             };
         };
         let direction = meta_a.direction;
         let other = meta_b.direction;
-        if same_side(direction, other) {
+        if direction == other {
             return PortsLinked {
                 graph: self,
-                answer: LinkAnswer::IncompatibleDirections(port_a, port_b, direction),
+                answer: Err(LinkError::IncompatibleDirections(port_a, port_b, direction)),
             };
         }
         if at(&self.port_link, a) != 0 {
             return PortsLinked {
                 graph: self,
-                answer: LinkAnswer::AlreadyLinked(port_a),
+                answer: Err(LinkError::AlreadyLinked(port_a)),
             };
         }
         if at(&self.port_link, b) != 0 {
             return PortsLinked {
                 graph: self,
-                answer: LinkAnswer::AlreadyLinked(port_b),
+                answer: Err(LinkError::AlreadyLinked(port_b)),
             };
         }
         link_both(&mut self.port_link, port_a.0, port_b.0);
         self.link_count = self.link_count + 1;
         PortsLinked {
             graph: self,
-            answer: LinkAnswer::Linked(port_a, port_b),
+            answer: Ok((port_a, port_b)),
         }
     }
 
@@ -320,20 +307,20 @@ impl PortGraph {
         let PortEntry::Port(_) = PortEntry::read(at(&self.port_meta, place)) else {
             return PortUnlinked {
                 graph: self,
-                answer: PortLink::UnknownPort(port),
+                answer: Err(NoSuchPort(port)),
             };
         };
         let far = cut(&mut self.port_link, place);
-        self.link_count = less(self.link_count, link_count(far));
+        self.link_count = self.link_count.saturating_sub(link_count(far));
         if far == 0 {
             return PortUnlinked {
                 graph: self,
-                answer: PortLink::Unlinked,
+                answer: Ok(None),
             };
         }
         PortUnlinked {
             graph: self,
-            answer: PortLink::Linked(PortIndex(far - 1)),
+            answer: Ok(Some(PortIndex(far - 1))),
         }
     }
 }

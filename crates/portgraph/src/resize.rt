@@ -7,11 +7,11 @@ ghost use Rattle.portgraph.specs.Calls.{find_block};
 ghost use Rattle.portgraph.specs.Resize.{set_by, inside_told, anew_told, inside, anew, set_num_ports, moves_after, set_numbers};
 ghost use Rattle.port_tables.specs.ResizeLinks.{BlockFits, round_up};
 
-use crate::alloc::{Found, find_block, grown, rest_of};
+use crate::alloc::{find_block, grown, rest_of};
 use crate::portgraph::PortGraph;
 use port_tables::index::{NODE_PORTS, NODE_SLOTS, NodeIndex, PortIndex};
 use port_tables::node_entry::{NodeEntry, NodeMeta, NodeSlot};
-use port_tables::numbers::{less, smaller, wide, wide16};
+use port_tables::numbers::wide;
 use port_tables::resize_links::{
     anew_links, drop_both, fits_inside, inside_links, round_up, same_counts,
 };
@@ -19,11 +19,9 @@ use port_tables::tables::{
     at, chain_block, cut_range, fill, head_at, own_block, put_head, tell_moves,
 };
 
-// What a change of counts comes to.
+// Why a node's counts are not changed.
 #[derive(Clone, Copy)]
-pub enum SetAnswer {
-    // Done, with so many events in the move list.
-    Set(usize),
+pub enum SetError {
     TooManyPorts,
     // The node is not live.
     UnknownNode,
@@ -35,7 +33,8 @@ pub enum SetAnswer {
 #[derive(Clone, Copy)]
 pub struct PortsSet {
     pub graph: PortGraph,
-    pub answer: SetAnswer,
+    // So many events stand in the move list.
+    pub answer: Result<usize, SetError>,
 }
 
 impl PortGraph {
@@ -53,10 +52,10 @@ impl PortGraph {
             × (moves.new ≡ sets moves.old 0 (inside_told self meta incoming outgoing)) }
     {
         let first = wide(meta.first_port.0);
-        let old_in = wide16(meta.incoming);
-        let old_out = wide16(meta.outgoing);
-        let kept_in = smaller(old_in, incoming);
-        let kept_out = smaller(old_out, outgoing);
+        let old_in = usize::from(meta.incoming);
+        let old_out = usize::from(meta.outgoing);
+        let kept_in = old_in.min(incoming);
+        let kept_out = old_out.min(outgoing);
         let events = (old_in - kept_in) + (old_out - kept_out);
         let first_port = meta.first_port;
         let new_meta = NodeMeta {
@@ -78,11 +77,11 @@ impl PortGraph {
         own_block(&mut self.port_meta, node.0, new_meta);
         let place = wide(node.0);
         self.node_meta[place] = NodeSlot::new_node(new_meta);
-        self.port_count = less(self.port_count, old_in + old_out) + (incoming + outgoing);
-        self.link_count = less(self.link_count, cuts);
+        self.port_count = self.port_count.saturating_sub(old_in + old_out) + (incoming + outgoing);
+        self.link_count = self.link_count.saturating_sub(cuts);
         PortsSet {
             graph: self,
-            answer: SetAnswer::Set(events + kept_out),
+            answer: Ok(events + kept_out),
         }
     }
 
@@ -96,17 +95,17 @@ impl PortGraph {
         new_first: usize,
         moves: &mut [u32],
     ) -> PortsSet
-        requires { Wf self × (node.0 < node_slots) × (incoming + outgoing ≤ node_ports) × BlockFits meta × (find_block self.port_free self.port_len (round_up (incoming + outgoing)) ≡ Found.At new_first) }
+        requires { Wf self × (node.0 < node_slots) × (incoming + outgoing ≤ node_ports) × BlockFits meta × (find_block self.port_free self.port_len (round_up (incoming + outgoing)) ≡ Some new_first) }
         ensures { (result ≡ set_by self node.0 incoming outgoing (anew meta new_first))
             × (moves.new ≡ sets moves.old 0 (anew_told self meta incoming outgoing new_first)) }
     {
         let first = wide(meta.first_port.0);
-        let old_in = wide16(meta.incoming);
-        let old_out = wide16(meta.outgoing);
-        let capacity = wide16(meta.capacity);
+        let old_in = usize::from(meta.incoming);
+        let old_out = usize::from(meta.outgoing);
+        let capacity = usize::from(meta.capacity);
         let size = round_up(incoming + outgoing);
-        let kept_in = smaller(old_in, incoming);
-        let kept_out = smaller(old_out, outgoing);
+        let kept_in = old_in.min(incoming);
+        let kept_out = old_out.min(outgoing);
         let events = (old_in - kept_in) + (old_out - kept_out);
         let new_meta = NodeMeta {
             first_port: PortIndex(new_first as u32),
@@ -144,11 +143,11 @@ impl PortGraph {
         chain_block(&mut self.port_link, first, capacity, old_head);
         fill(&mut self.port_meta, meta.first_port.0, meta.capacity, 0);
         put_head(&mut self.port_free, capacity, meta.first_port.0 + 1);
-        self.port_count = less(self.port_count, old_in + old_out) + (incoming + outgoing);
-        self.link_count = less(less(self.link_count, cuts), more);
+        self.port_count = self.port_count.saturating_sub(old_in + old_out) + (incoming + outgoing);
+        self.link_count = self.link_count.saturating_sub(cuts).saturating_sub(more);
         PortsSet {
             graph: self,
-            answer: SetAnswer::Set(events + (kept_in + kept_out)),
+            answer: Ok(events + (kept_in + kept_out)),
         }
     }
 
@@ -169,20 +168,20 @@ impl PortGraph {
         if NODE_PORTS < incoming {
             return PortsSet {
                 graph: self,
-                answer: SetAnswer::TooManyPorts,
+                answer: Err(SetError::TooManyPorts),
             };
         }
         if NODE_PORTS - incoming < outgoing {
             return PortsSet {
                 graph: self,
-                answer: SetAnswer::TooManyPorts,
+                answer: Err(SetError::TooManyPorts),
             };
         }
         let place = wide(node.0);
         if NODE_SLOTS <= place {
             return PortsSet {
                 graph: self,
-                answer: SetAnswer::UnknownNode,
+                answer: Err(SetError::UnknownNode),
             };
         }
         let slot = self.node_meta[place];
@@ -190,29 +189,29 @@ impl PortGraph {
         let NodeEntry::Node(meta) = entry else {
             return PortsSet {
                 graph: self,
-                answer: SetAnswer::UnknownNode,
+                answer: Err(SetError::UnknownNode),
             };
         };
         if moves.len() < 3 * meta.port_count() {
             return PortsSet {
                 graph: self,
-                answer: SetAnswer::MovesTooShort,
+                answer: Err(SetError::MovesTooShort),
             };
         }
         if same_counts(meta, incoming, outgoing) {
             return PortsSet {
                 graph: self,
-                answer: SetAnswer::Set(0),
+                answer: Ok(0),
             };
         }
         if fits_inside(meta, incoming, outgoing) {
             return self.resize_ports_inplace(node, meta, incoming, outgoing, moves);
         }
         let size = round_up(incoming + outgoing);
-        let Found::At(new_first) = find_block(&self.port_free, self.port_len, size) else {
+        let Some(new_first) = find_block(&self.port_free, self.port_len, size) else {
             return PortsSet {
                 graph: self,
-                answer: SetAnswer::NoRoom,
+                answer: Err(SetError::NoRoom),
             };
         };
         self.resize_ports_anew(node, meta, incoming, outgoing, new_first, moves)

@@ -1,8 +1,8 @@
 -- What the requests' tests say, and numbers that fit a word.
-use Rattle.std.specs.Prelude.{◌≡◌, refl, Bool, true, false, cond, List, [], ◌∷◌, ℕ, ◌+◌, ◌*◌, ◌≤◌, ◌<◌, leb}
+use Rattle.std.specs.Prelude.{◌≡◌, refl, Bool, true, false, cond, List, [], ◌∷◌, ℕ, ◌+◌, ◌*◌, ◌≤◌, ◌<◌, leb, Option, Some, None, Result, Ok, Err}
 use Rattle.std.proofs.Common.{sym, ap, subst, ◌∙◌}
 use native.Mathlib.Omega.{arith}
-use borrow.Author.Tests.{leb-true, lt-ltb, le-ltb, eq-eqb, ne_eqb}
+use borrow.Author.Tests.{leb-true, lt-ltb, le-ltb, ne_eqb}
 use Rattle.port_tables.specs.Limits.{node_ports, present}
 use Rattle.port_tables.specs.Entries.{side_number}
 use Rattle.portgraph.specs.Lookups.{entry_at, meta_at}
@@ -15,13 +15,7 @@ use Rattle.port_tables.specs.declared.index.PortIndex.{PortIndex}
 use Rattle.port_tables.specs.declared.node_entry.NodeMeta.{NodeMeta}
 use Rattle.port_tables.specs.declared.node_entry.NodeEntry.{NodeEntry}
 use Rattle.port_tables.specs.declared.node_entry.NodeEntry.TheVariants as node_variants
-use Rattle.port_tables.specs.declared.node_entry.MaybeNodeMeta.{MaybeNodeMeta}
-use Rattle.port_tables.specs.declared.node_entry.MaybeNodeMeta.TheVariants as maybe_meta
 use Rattle.portgraph.specs.declared.portgraph.PortGraph.{PortGraph}
-use Rattle.portgraph.specs.declared.alloc.Found.{Found}
-use Rattle.portgraph.specs.declared.alloc.Found.TheVariants as found
-use Rattle.portgraph.specs.declared.resize.SetAnswer as lower_set_answer
-use Rattle.portgraph.specs.declared.resize.SetAnswer.TheVariants as lower_set
 use Rattle.multiportgraph.specs.Reading.{is_hidden}
 use Rattle.multiportgraph.specs.Calls.{set_as, set_counts, visible_nodes, visible_ports, visible_links}
 use Rattle.theorems.specs.Book.{add_call, remove_call, set_call, link_call, link_sub_call, cut_call, cut_sub_call}
@@ -31,11 +25,6 @@ use Rattle.multiportgraph.specs.declared.multiportgraph.PortsSet.{PortsSet}
 use Rattle.multiportgraph.specs.declared.multiportgraph.MultiPortGraph.{MultiPortGraph}
 use Rattle.multi_tables.specs.declared.answers.Refusal.{Refusal}
 use Rattle.multi_tables.specs.declared.answers.Refusal.TheVariants.{BadOffset, TooManyPorts, UnknownNode, HiddenNode, MovesTooShort, UnknownPort, HiddenPort, UnknownOffset, NoRoom, UnknownSecondPort, IncompatibleDirections, AlreadyLinked, InputWired}
-use Rattle.multi_tables.specs.declared.answers.CutAnswer.{CutAnswer}
-use Rattle.multi_tables.specs.declared.answers.CutAnswer.TheVariants as cutting
-use Rattle.multi_tables.specs.declared.answers.EndAnswer.{EndAnswer}
-use Rattle.multiportgraph.specs.declared.multiportgraph.SetAnswer.{SetAnswer}
-use Rattle.multiportgraph.specs.declared.multiportgraph.SetAnswer.TheVariants as resize
 use Rattle.records.specs.Words.{word_at, request_at}
 use Rattle.records.specs.Run.{Asked, call, link_of, counts, refused, all_zero, offsets, asked, asked_by, without_place, numbers, five}
 use Rattle.records.specs.Forms.{EventsFit}
@@ -44,6 +33,10 @@ use Rattle.multi_tables.specs.EndAnswers.{refusal_numbers, unplaced, unplaced_nu
 use Rattle.multiportgraph.specs.HiddenNodes.{enough}
 use Rattle.multiportgraph.specs.Cases.{set_refused, set_meta}
 use Rattle.multiportgraph.specs.CaseLaws.{set_cases}
+use Rattle.multi_tables.specs.declared.answers.SubportIndex.{SubportIndex}
+use Rattle.multi_tables.specs.declared.answers.PortPlace.{PortPlace}
+use Rattle.portgraph.specs.declared.resize.SetError.TheVariants as set_error
+use Rattle.portgraph.specs.declared.resize.SetError.{SetError}
 
 -- Event counts: a resize tells each port of the node at most once, and the move list has room for three numbers each.
 
@@ -51,12 +44,12 @@ either : {A : Type 0} (P : A → Type 0) (t : Bool) (x y : A) → (t ≡ true �
 either P true x y h k = h refl
 either P false x y h k = k
 
-abbrev LowerFit : lower_set_answer.SetAnswer → Type 0
-LowerFit (lower_set.Set e) = e < 4294967296
-LowerFit lower_set.TooManyPorts = Unit {0}
-LowerFit lower_set.UnknownNode = Unit {0}
-LowerFit lower_set.MovesTooShort = Unit {0}
-LowerFit lower_set.NoRoom = Unit {0}
+abbrev LowerFit : Result ℕ SetError → Type 0
+LowerFit (Ok e) = e < 4294967296
+LowerFit (Err set_error.TooManyPorts) = Unit {0}
+LowerFit (Err set_error.UnknownNode) = Unit {0}
+LowerFit (Err set_error.MovesTooShort) = Unit {0}
+LowerFit (Err set_error.NoRoom) = Unit {0}
 
 abbrev PlanFits : ℕ → Plan → Type 0
 PlanFits room (refuse a) = LowerFit a
@@ -65,14 +58,14 @@ PlanFits room (inside k) = 3 * (k.incoming + k.outgoing) ≤ room
 PlanFits room (anew k first) = 3 * (k.incoming + k.outgoing) ≤ room
 
 module _ (g : PortGraph) (n incoming outgoing room : ℕ) (small : room < 4294967296) where
-  block_fits : (k : NodeMeta) → 3 * (k.incoming + k.outgoing) ≤ room → (f : Found) → PlanFits room (plan_block k f)
-  block_fits k h (found.At first) = h
-  block_fits k h found.NoRoom = tt
+  block_fits : (k : NodeMeta) → 3 * (k.incoming + k.outgoing) ≤ room → (f : Option ℕ) → PlanFits room (plan_block k f)
+  block_fits k h (Some first) = h
+  block_fits k h None = tt
 
   entry_fits : (e : NodeEntry) → PlanFits room (plan_entry g incoming outgoing room e)
   entry_fits (node_variants.Free f) = tt
   entry_fits (node_variants.Node k) =
-      either (PlanFits room) (leb (3 * (k.incoming + k.outgoing)) room) (plan_counts g k incoming outgoing) (refuse lower_set.MovesTooShort)
+      either (PlanFits room) (leb (3 * (k.incoming + k.outgoing)) room) (plan_counts g k incoming outgoing) (refuse (Err set_error.MovesTooShort))
       (λ q.
       let h : 3 * (k.incoming + k.outgoing) ≤ room = leb-true _ _ q in
       either (PlanFits room) (same_counts k incoming outgoing) same _ (λ _. tt)
@@ -83,7 +76,7 @@ module _ (g : PortGraph) (n incoming outgoing room : ℕ) (small : room < 429496
   plan_fits : PlanFits room (plan_of g n incoming outgoing room)
   unfolding plan_of_under
   plan_fits =
-      either (PlanFits room) (leb (incoming + outgoing) node_ports) (plan_entry g incoming outgoing room (entry_at g n)) (refuse lower_set.TooManyPorts)
+      either (PlanFits room) (leb (incoming + outgoing) node_ports) (plan_entry g incoming outgoing room (entry_at g n)) (refuse (Err set_error.TooManyPorts))
       (λ _. entry_fits (entry_at g n)) tt
 
   by_fits : (p : Plan) → PlanFits room p → LowerFit (set_by g n incoming outgoing p).answer
@@ -96,17 +89,17 @@ module _ (g : PortGraph) (n incoming outgoing room : ℕ) (small : room < 429496
   unfolding set_num_ports_under
   lower_fits = by_fits (plan_of g n incoming outgoing room) plan_fits
 
-as_fits : (a : lower_set_answer.SetAnswer) → LowerFit a → EventsFit (set_as a)
-as_fits (lower_set.Set e) h = h
-as_fits lower_set.TooManyPorts h = tt
-as_fits lower_set.UnknownNode h = tt
-as_fits lower_set.MovesTooShort h = tt
-as_fits lower_set.NoRoom h = tt
+as_fits : (a : Result ℕ SetError) → LowerFit a → EventsFit (set_as a)
+as_fits (Ok e) h = h
+as_fits (Err set_error.TooManyPorts) h = tt
+as_fits (Err set_error.UnknownNode) h = tt
+as_fits (Err set_error.MovesTooShort) h = tt
+as_fits (Err set_error.NoRoom) h = tt
 
 module _ (m : MultiPortGraph) (n incoming outgoing room : ℕ) (small : room < 4294967296) where
-  meta_fits : (k : MaybeNodeMeta) → EventsFit (set_meta m n incoming outgoing room k).answer
-  meta_fits maybe_meta.None = tt
-  meta_fits (maybe_meta.Some k) =
+  meta_fits : (k : Option NodeMeta) → EventsFit (set_meta m n incoming outgoing room k).answer
+  meta_fits None = tt
+  meta_fits (Some k) =
       either (λ s. EventsFit s.answer) (is_hidden m n) (set_refused m HiddenNode) _ (λ _. tt)
       (as_fits (set_num_ports m.graph n incoming outgoing room).answer (lower_fits m.graph n incoming outgoing room small))
 
@@ -131,16 +124,6 @@ module _ (m : MultiPortGraph) (w : MultiWf m) where
   links_fit = let h = link_count_fits m.graph (lower_wf m w) in omega arith
 
 -- Tests on a request's words.
-
-pub zero_not : (w : ℕ) (l : List ℕ) → (w ≡ 0 → ⊥) → false ≡ all_zero (w ∷ l)
-zero_not w l h = rw (ne_eqb w 0 h)
-
-pub zero_so : (w : ℕ) (l : List ℕ) (r : Bool) → w ≡ 0 → r ≡ all_zero l → r ≡ all_zero (w ∷ l)
-zero_so w l r h e = rw (eq-eqb w 0 h) e
-
-pub zero_last : (t : Bool) → t ≡ cond t true false
-zero_last true = refl
-zero_last false = refl
 
 pub offset_bad : (o : ℕ) (l : List ℕ) (x : Asked) → 65535 ≤ o → refused ≡ offsets (o ∷ l) x
 offset_bad o l x h = rw (le-ltb o 65535 h)
@@ -221,19 +204,19 @@ refusal_kept (IncompatibleDirections p q d) = refl
 refusal_kept (AlreadyLinked p) = refl
 refusal_kept InputWired = refl
 
-unplaced_kept : (a : CutAnswer) → unplaced_numbers (unplaced a) ≡ without_place (cut_numbers a)
-unplaced_kept (cutting.Found s x) = refl
-unplaced_kept cutting.Nothing = refl
-unplaced_kept (cutting.Refused r) = refusal_kept r
+unplaced_kept : (a : Result (Option (SubportIndex × PortPlace)) Refusal) → unplaced_numbers (unplaced a) ≡ without_place (cut_numbers a)
+unplaced_kept (Ok (Some (s, x))) = refl
+unplaced_kept (Ok None) = refl
+unplaced_kept (Err r) = refusal_kept r
 
-pub cut_told : {ws : List ℕ} {v : EndAnswer} (a : CutAnswer) → ws ≡ five (unplaced_numbers v) → v ≡ unplaced a → ws ≡ five (without_place (cut_numbers a))
-cut_told a t e = t ∙ (ap (λ (x : EndAnswer). five (unplaced_numbers x)) e ∙ ap five (unplaced_kept a))
+pub cut_told : {ws : List ℕ} {v : Result (Option SubportIndex) Refusal} (a : Result (Option (SubportIndex × PortPlace)) Refusal) → ws ≡ five (unplaced_numbers v) → v ≡ unplaced a → ws ≡ five (without_place (cut_numbers a))
+cut_told a t e = t ∙ (ap (λ (x : Result (Option SubportIndex) Refusal). five (unplaced_numbers x)) e ∙ ap five (unplaced_kept a))
 
 pub counts_told : (m : MultiPortGraph) (n p l : ℕ) (r : List ℕ) → n ≡ visible_nodes m → p ≡ visible_ports m → l ≡ visible_links m → r ≡ 0 ∷ n ∷ p ∷ l ∷ 0 ∷ []
     → r ≡ five (numbers m counts)
 counts_told m n p l r e f g h = rw (← e, ← f, ← g) h
 
-pub events_word : (x : SetAnswer) (e : ℕ) → x ≡ resize.Set e → EventsFit x → e < 4294967296
+pub events_word : (x : Result ℕ Refusal) (e : ℕ) → x ≡ Ok e → EventsFit x → e < 4294967296
 events_word x e h f = subst EventsFit h f
 
 -- the five words at a byte position

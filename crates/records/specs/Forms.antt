@@ -1,13 +1,12 @@
 -- The code's forms of what the definitions say: the enum of what is asked, the struct of five words, and when an event count fits a word.
-use Rattle.std.specs.Prelude.{List, [], ◌∷◌, ℕ, ◌<◌}
+use Rattle.std.specs.Prelude.{List, [], ◌∷◌, ℕ, ◌<◌, Result, Ok, Err}
 use Rattle.theorems.specs.Book.{add_call, remove_call, set_call, link_call, link_sub_call, cut_call, cut_sub_call}
-use Rattle.multiportgraph.specs.declared.multiportgraph.SetAnswer.{SetAnswer}
-use Rattle.multiportgraph.specs.declared.multiportgraph.SetAnswer.TheVariants as resize
 use Rattle.records.specs.Run.{Asked, call, link_of, counts, refused}
 use Rattle.records.specs.declared.requests.Ask.{Ask}
 use Rattle.records.specs.declared.requests.Ask.TheVariants as ask
 use Rattle.records.specs.declared.answers.Answer5.{Answer5}
 use Rattle.multiportgraph.specs.HiddenNodes.{enough}
+use Rattle.multi_tables.specs.declared.answers.Refusal.{Refusal}
 
 abbrev pub meant : Ask → Asked
 meant (ask.Add i o) = call (add_call i o)
@@ -24,6 +23,6 @@ meant ask.Refused = refused
 abbrev pub words5 : Answer5 → List ℕ
 words5 x = x.a ∷ x.b ∷ x.c ∷ x.d ∷ x.e ∷ []
 
-abbrev pub EventsFit : SetAnswer → Type 0
-EventsFit (resize.Set e) = e < 4294967296
-EventsFit (resize.Refused r) = Unit {0}
+abbrev pub EventsFit : Result ℕ Refusal → Type 0
+EventsFit (Ok e) = e < 4294967296
+EventsFit (Err r) = Unit {0}

@@ -1,5 +1,5 @@
 -- The move list of a run is long enough for every node, so refusal 6 is never given in a run.
-use Rattle.std.specs.Prelude.{◌≡◌, refl, Bool, true, false, cond, List, [], ◌∷◌, ℕ, eqb, get_or}
+use Rattle.std.specs.Prelude.{◌≡◌, refl, Bool, true, false, cond, List, [], ◌∷◌, ℕ, eqb, get_or, Option, Some, None, Result, Ok, Err}
 use Rattle.std.proofs.Common.{sym, ap, ◌∙◌, arith}
 use Rattle.portgraph.specs.Model.{Model}
 use Rattle.portgraph.specs.GoodSlots.{zero_is_not_one}
@@ -14,13 +14,6 @@ use Rattle.multiportgraph.specs.declared.multiportgraph.MultiPortGraph.{MultiPor
 use Rattle.port_tables.specs.declared.release.Release.TheVariants.{One}
 use Rattle.multi_tables.specs.declared.answers.Refusal.{Refusal}
 use Rattle.multi_tables.specs.declared.answers.Refusal.TheVariants.{BadOffset, TooManyPorts, UnknownNode, HiddenNode, MovesTooShort, UnknownPort, HiddenPort, UnknownOffset, NoRoom, UnknownSecondPort, IncompatibleDirections, AlreadyLinked, InputWired}
-use Rattle.multiportgraph.specs.declared.multiportgraph.AddAnswer.TheVariants as add
-use Rattle.multiportgraph.specs.declared.multiportgraph.RemoveAnswer.TheVariants as remove
-use Rattle.multiportgraph.specs.declared.multiportgraph.SetAnswer.TheVariants as resize
-use Rattle.multiportgraph.specs.declared.multiportgraph.LinkAnswer.TheVariants as link
-use Rattle.multi_tables.specs.declared.answers.CutAnswer.{CutAnswer}
-use Rattle.multi_tables.specs.declared.answers.CutAnswer.TheVariants as cutting
-use Rattle.multiportgraph.specs.declared.multiportgraph.TidyAnswer.TheVariants as tidying
 use Rattle.records.specs.Words.{Request}
 use Rattle.records.specs.Run.{Asked, call, link_of, counts, refused, all_zero, good_offsets, asked, asked_by, without_place, recorded, numbers, calls_of}
 use Rattle.multiportgraph.specs.HiddenNodes.{enough}
@@ -28,6 +21,8 @@ use Rattle.multiportgraph.specs.Answers.{cut_numbers}
 use Rattle.multi_tables.specs.EndAnswers.{refusal_numbers}
 use Rattle.theorems.specs.Conditions.{AddRefused, RemoveRefused, SetRefused, CutRefused, SubRefused, LinkRefused, CleanRefused, LinkSubRefused, RefusedBy, Condition}
 use Rattle.theorems.proofs.CutSubCall.{subport_link_refused}
+use Rattle.multi_tables.specs.declared.answers.SubportIndex.{SubportIndex}
+use Rattle.multi_tables.specs.declared.answers.PortPlace.{PortPlace}
 
 -- the refusal with number 6
 refusal_six : (r : Refusal) → get_or (refusal_numbers r) 0 0 ≡ 6 → r ≡ MovesTooShort
@@ -49,28 +44,28 @@ first_kept : (l : List ℕ) → get_or (without_place l) 0 0 ≡ get_or l 0 0
 first_kept [] = refl
 first_kept (x ∷ l) = refl
 
-cut_six : (a : CutAnswer) → get_or (without_place (cut_numbers a)) 0 0 ≡ 6 → a ≡ cutting.Refused MovesTooShort
-cut_six (cutting.Found s x) h = absurd (omega arith)
-cut_six cutting.Nothing h = absurd (omega arith)
-cut_six (cutting.Refused r) h = ap cutting.Refused (refusal_six r (sym (first_kept (refusal_numbers r)) ∙ h))
+cut_six : (a : Result (Option (SubportIndex × PortPlace)) Refusal) → get_or (without_place (cut_numbers a)) 0 0 ≡ 6 → a ≡ Err MovesTooShort
+cut_six (Ok (Some (s, x))) h = absurd (omega arith)
+cut_six (Ok None) h = absurd (omega arith)
+cut_six (Err r) h = ap Err (refusal_six r (sym (first_kept (refusal_numbers r)) ∙ h))
 
 answer_six : (c : Call) (v : AnswerOf c) → get_or (recorded c (numbers_of c v)) 0 0 ≡ 6 → RefusedBy c v MovesTooShort
-answer_six (book.add_call i o) (add.Added n p) h = absurd (omega arith)
-answer_six (book.add_call i o) (add.Refused r) h = ap add.Refused (refusal_six r h)
-answer_six (book.remove_call n) remove.Removed h = absurd (omega arith)
-answer_six (book.remove_call n) (remove.Refused r) h = ap remove.Refused (refusal_six r h)
-answer_six (book.set_call n i o room) (resize.Set e) h = absurd (omega arith)
-answer_six (book.set_call n i o room) (resize.Refused r) h = ap resize.Refused (refusal_six r h)
-answer_six (book.link_call a b) (link.Linked s t) h = absurd (omega arith)
-answer_six (book.link_call a b) (link.Refused r) h = ap link.Refused (refusal_six r h)
-answer_six (book.link_clean_call a b) (link.Linked s t) h = absurd (omega arith)
-answer_six (book.link_clean_call a b) (link.Refused r) h = ap link.Refused (refusal_six r h)
-answer_six (book.link_sub_call p o q r) (link.Linked s t) h = absurd (omega arith)
-answer_six (book.link_sub_call p o q r) (link.Refused z) h = ap link.Refused (refusal_six z h)
+answer_six (book.add_call i o) (Ok (n, p)) h = absurd (omega arith)
+answer_six (book.add_call i o) (Err r) h = ap Err (refusal_six r h)
+answer_six (book.remove_call n) (Ok tt) h = absurd (omega arith)
+answer_six (book.remove_call n) (Err r) h = ap Err (refusal_six r h)
+answer_six (book.set_call n i o room) (Ok e) h = absurd (omega arith)
+answer_six (book.set_call n i o room) (Err r) h = ap Err (refusal_six r h)
+answer_six (book.link_call a b) (Ok (s, t)) h = absurd (omega arith)
+answer_six (book.link_call a b) (Err r) h = ap Err (refusal_six r h)
+answer_six (book.link_clean_call a b) (Ok (s, t)) h = absurd (omega arith)
+answer_six (book.link_clean_call a b) (Err r) h = ap Err (refusal_six r h)
+answer_six (book.link_sub_call p o q r) (Ok (s, t)) h = absurd (omega arith)
+answer_six (book.link_sub_call p o q r) (Err z) h = ap Err (refusal_six z h)
 answer_six (book.cut_call p) v h = cut_six v h
 answer_six (book.cut_sub_call p o) v h = cut_six v h
-answer_six (book.tidy_call p) tidying.Tidied h = absurd (omega arith)
-answer_six (book.tidy_call p) (tidying.Refused r) h = ap tidying.Refused (refusal_six r h)
+answer_six (book.tidy_call p) (Ok tt) h = absurd (omega arith)
+answer_six (book.tidy_call p) (Err r) h = ap Err (refusal_six r h)
 
 -- only a resize gives it, and only with a shorter move list
 abbrev Roomy : Call → Type 0

@@ -1,5 +1,5 @@
 -- A record run is of release 1, so no answer of a run is 18.
-use Rattle.std.specs.Prelude.{◌≡◌, refl, List, [], ◌∷◌, ℕ, get_or}
+use Rattle.std.specs.Prelude.{◌≡◌, refl, List, [], ◌∷◌, ℕ, get_or, Option, Some, None, Result, Ok, Err}
 use Rattle.std.proofs.Common.{◌∙◌, arith}
 use Rattle.portgraph.specs.Model.{Model}
 use Rattle.multiportgraph.specs.Answers.{cut_numbers}
@@ -9,8 +9,6 @@ use Rattle.multiportgraph.specs.WellFormed.{Fine}
 use Rattle.multiportgraph.specs.declared.multiportgraph.MultiPortGraph.{MultiPortGraph}
 use Rattle.port_tables.specs.declared.release.Release.TheVariants.{One}
 use Rattle.multi_tables.specs.declared.answers.Refusal.{Refusal}
-use Rattle.multi_tables.specs.declared.answers.CutAnswer.{CutAnswer}
-use Rattle.multi_tables.specs.declared.answers.CutAnswer.TheVariants as cutting
 use Rattle.theorems.specs.Book as book
 use Rattle.theorems.specs.Book.{Call, AnswerOf}
 use Rattle.theorems.specs.History.{run, numbers_of}
@@ -22,6 +20,8 @@ use Rattle.theorems.specs.ReleaseClaims.{first_of, number_of}
 use Rattle.theorems.proofs.ReleaseTheorems.{release_one_is_as_before}
 use Rattle.records.specs.Words.{Request}
 use Rattle.records.specs.Run.{Asked, call, link_of, counts, refused, asked, without_place, recorded, numbers, calls_of}
+use Rattle.multi_tables.specs.declared.answers.SubportIndex.{SubportIndex}
+use Rattle.multi_tables.specs.declared.answers.PortPlace.{PortPlace}
 
 -- the first of some numbers, with and without a place after them
 first_is : (l : List ℕ) → first_of l ≡ get_or l 0 0
@@ -51,10 +51,10 @@ module _ {m : MultiPortGraph} {M : Model} (f : Fine m M) (p o : ℕ) where
   never_so r (laws.sub_hidden h d) e = omega arith
   never_so r (laws.sub_lacks h x b l) e = omega arith
 
-  link_of_not : (a : CutAnswer) → subport_link m p o ≡ a → get_or (without_place (cut_numbers a)) 0 0 ≡ 18 → ⊥
-  link_of_not (cutting.Found s x) q e = omega arith
-  link_of_not cutting.Nothing q e = omega arith
-  link_of_not (cutting.Refused r) q e = never_so r (subport_link_refused f p o r q) e
+  link_of_not : (a : Result (Option (SubportIndex × PortPlace)) Refusal) → subport_link m p o ≡ a → get_or (without_place (cut_numbers a)) 0 0 ≡ 18 → ⊥
+  link_of_not (Ok (Some (s, x))) q e = omega arith
+  link_of_not (Ok None) q e = omega arith
+  link_of_not (Err r) q e = never_so r (subport_link_refused f p o r q) e
 
 pub eighteen_never_given : (l : List Request) (q : Request) → get_or (numbers (run One (calls_of l)).graph (asked q)) 0 0 ≡ 18 → ⊥
 eighteen_never_given l q = go (asked q)

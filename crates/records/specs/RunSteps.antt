@@ -1,7 +1,7 @@
 -- What the run's functions cite: the turn of a loop over the requests, and refusal 1.
-use Rattle.std.specs.Prelude.{◌≡◌, refl, true, false, List, [], ◌∷◌, ◌++◌, ℕ, suc, ◌+◌, ◌-◌, ◌*◌, ◌/◌, ◌%◌, ◌≤◌, ◌<◌, length}
+use Rattle.std.specs.Prelude.{◌≡◌, refl, Bool, true, false, cond, eqb, List, [], ◌∷◌, ◌++◌, ℕ, suc, ◌+◌, ◌-◌, ◌*◌, ◌/◌, ◌%◌, ◌≤◌, ◌<◌, length}
 use Rattle.std.proofs.Common.{sym, ap, ◌∙◌, append-nil, arith}
-use borrow.Author.Tests.{eq-eqb, ne_eqb}
+use borrow.Author.Tests.{eqb-true}
 use Rattle.std.proofs.lemmas.List.Edits.{sets, sets-eq}
 use Rattle.std.proofs.Math.Seq.{length-sets, drop-length}
 use Rattle.multiportgraph.specs.WellFormed.{MultiWf}
@@ -59,10 +59,10 @@ run_starts {requests} {answers} e long whole =
     }
 
 -- one turn: the request at this place is answered, its words are laid, and the next turn has the graph that it leaves
-pub run_turns : {requests answers answers' : List ℕ} {m m' : MultiPortGraph} {at : ℕ} {x : Asked} {words : List ℕ} → Running requests answers m at → at < length requests
-    → x ≡ asked (request_at requests at) → Answered m x words m' → answers' ≡ sets answers at (bytes_of words) → Running requests answers' m' (at + 20)
+pub run_turns : {requests answers answers' : List ℕ} {m m' : MultiPortGraph} {at next : ℕ} {x : Asked} {words : List ℕ} → Running requests answers m at → at < length requests → next ≡ at + 20
+    → x ≡ asked (request_at requests at) → Answered m x words m' → answers' ≡ sets answers at (bytes_of words) → Running requests answers' m' next
 unfolding requests_from answers_from
-run_turns {requests} {answers} {answers'} {m} {m'} {at} {x} {words} r l e d a =
+run_turns {requests} {answers} {answers'} {m} {m'} {at} {next} {x} {words} r l s e d a =
     let fits : at + 20 ≤ length requests = let h = r.whole in omega arith in
     let n : (length requests - at) / 20 ≡ suc ((length requests - (at + 20)) / 20) = let h = r.whole in omega arith in
     let later = answers_from (after m x) (requests_left requests (at + 20)) in
@@ -70,11 +70,11 @@ run_turns {requests} {answers} {answers'} {m} {m'} {at} {x} {words} r l e d a =
     let size : length (bytes_of words) ≡ 20 = rw d.told (bytes_long (five (numbers m x))) in
     let there : at + length (bytes_of words) ≡ at + 20 = omega arith in
     record {
-      inside = fits;
+      inside = omega arith;
       whole = let h = r.whole in omega arith;
       long = rw a (length-sets answers at (bytes_of words)) ∙ r.long;
       rest =
-          rw (d.graph, a)
+          rw (s, d.graph, a)
           (ap (λ (k : ℕ). sets (sets answers at (bytes_of words)) k (bytes_of later)) (sym there)
           ∙ sym (sets_parts answers at (bytes_of words) (bytes_of later))
           ∙ ap (sets answers at) (sym (bytes_append words later))
@@ -104,13 +104,13 @@ going_starts {requests} w =
     let n : length requests - 0 ≡ length requests = omega arith in
     record { inside = omega arith; rest = rw n refl; kept = w }
 
-pub going_turns : {requests : List ℕ} {start m m' : MultiPortGraph} {at : ℕ} {x : Asked} {words : List ℕ} → Going requests start m at → 20 ≤ length requests - at
-    → x ≡ asked (request_at requests at) → Answered m x words m' → Going requests start m' (at + 20)
+pub going_turns : {requests : List ℕ} {start m m' : MultiPortGraph} {at next : ℕ} {x : Asked} {words : List ℕ} → Going requests start m at → 20 ≤ length requests - at → next ≡ at + 20
+    → x ≡ asked (request_at requests at) → Answered m x words m' → Going requests start m' next
 unfolding requests_from graph_from
-going_turns {requests} {start} {m} {m'} {at} {x} {words} r l e d =
+going_turns {requests} {start} {m} {m'} {at} {next} {x} {words} r l s e d =
     let n : (length requests - at) / 20 ≡ suc ((length requests - (at + 20)) / 20) = omega arith in
     let whole : graph_from m (requests_left requests at) ≡ graph_from (after m x) (requests_left requests (at + 20)) = rw (n, e) refl in
-    record { inside = omega arith; rest = rw d.graph (sym whole) ∙ r.rest; kept = d.kept }
+    record { inside = omega arith; rest = rw (s, d.graph) (sym whole) ∙ r.rest; kept = d.kept }
 
 pub going_ends : {requests : List ℕ} {start m : MultiPortGraph} {at : ℕ} → Going requests start m at → (20 ≤ length requests - at → ⊥) → m ≡ graph_from start (requests_of requests)
 unfolding requests_from graph_from
@@ -120,17 +120,14 @@ going_ends {requests} {at = at} r l =
 
 -- Refusal 1.
 module _ (requests answers : List ℕ) where
-  pub other_length : (length requests ≡ length answers → ⊥) → list_taken requests answers ≡ false
+  -- a list that is taken has the answers' length, and is one of whole requests
+  pub taken_whole : list_taken requests answers ≡ true → (length answers ≡ length requests) × (length requests % 20 ≡ 0)
   unfolding list_taken
-  other_length h = rw (ne_eqb (length requests) (length answers) h)
-
-  pub odd_length : length requests ≡ length answers → (length requests % 20 ≡ 0 → ⊥) → list_taken requests answers ≡ false
-  unfolding list_taken
-  odd_length e h = rw (eq-eqb (length requests) (length answers) e, ne_eqb (length requests % 20) 0 h)
-
-  pub list_good : length requests ≡ length answers → length requests % 20 ≡ 0 → list_taken requests answers ≡ true
-  unfolding list_taken
-  list_good e h = rw (eq-eqb (length requests) (length answers) e, eq-eqb (length requests % 20) 0 h)
+  taken_whole h = go (eqb (length requests) (length answers)) refl h
+    where
+      go : (b : Bool) → eqb (length requests) (length answers) ≡ b → cond b (eqb (length requests % 20) 0) false ≡ true → (length answers ≡ length requests) × (length requests % 20 ≡ 0)
+      go true e h = (sym (eqb-true (length requests) (length answers) e), eqb-true (length requests % 20) 0 h)
+      go false e h = absurd (cc)
 
   pub run_refused : list_taken requests answers ≡ false → (1 ≡ returned requests answers) × (answers ≡ written requests answers)
   unfolding returned written

@@ -1,18 +1,20 @@
 -- What the leaves over bytes compute.
-use Rattle.std.specs.Prelude.{◌≡◌, List, [], ◌∷◌, ◌++◌, ℕ, suc, ◌+◌, ◌/◌, ◌%◌, set, length}
-use Rattle.std.proofs.Common.{◌∙◌, arith}
-use Rattle.std.proofs.lemmas.List.Edits.{sets}
+use Rattle.std.specs.Prelude.{◌≡◌, List, [], ◌∷◌, ◌++◌, ℕ, suc, ◌+◌, ◌/◌, ◌%◌, ◌≤◌, ◌<◌, set, length, take, drop}
+use Rattle.std.proofs.Common.{sym, ap, ◌∙◌, append_assoc, arith}
+use Rattle.std.proofs.Math.Seq.{drop-drop}
+use Rattle.std.proofs.lemmas.List.Edits.{sets, sets-eq}
 use Rattle.records.specs.Words.{bytes_of}
 
--- four stores lay a word
-pub four_bytes : (l : List ℕ) (i w : ℕ) →
-    set (set (set (set l i (w % 256)) (i + 1) (w / 256 % 256)) (i + 2) (w / 65536 % 256)) (i + 3) (w / 16777216) ≡ sets l i (bytes_of (w ∷ []))
+-- the bytes of a word
+pub four_bytes : (w : ℕ) → w < 4294967296 → w % 256 ∷ w / 256 % 256 ∷ w / 65536 % 256 ∷ w / 16777216 % 256 ∷ [] ≡ bytes_of (w ∷ [])
 unfolding bytes_of
-four_bytes l i w =
-    let a : i + 1 ≡ suc i = omega arith in
-    let b : i + 2 ≡ suc (suc i) = omega arith in
-    let c : i + 3 ≡ suc (suc (suc i)) = omega arith in
-    rw (a, b, c)
+four_bytes w h = let e : w / 16777216 % 256 ≡ w / 16777216 = omega arith in rw e
+
+-- values that take the place of as many are laid
+pub laid : (l part v : List ℕ) (i k : ℕ) → i + length v ≤ length l → part ≡ v → k ≡ length v → take i l ++ (part ++ drop k (drop i l)) ≡ sets l i v
+laid l part v i k h e n =
+    (λ j. take i l ++ (e j ++ drop (n j) (drop i l)))
+    ∙ (ap (λ (r : List ℕ). take i l ++ (v ++ r)) (drop-drop (length v) i l) ∙ (sym (append_assoc (take i l) v (drop (i + length v) l)) ∙ sym (sets-eq v l i h)))
 
 -- words are laid one after the other
 pub word_then : (l : List ℕ) (i w : ℕ) (ws : List ℕ) → sets (sets l i (bytes_of (w ∷ []))) (i + 4) (bytes_of ws) ≡ sets l i (bytes_of (w ∷ ws))

@@ -1,7 +1,6 @@
 // The five words of each answer, and their bytes.
 ghost use Rattle.std.specs.Prelude.{◌≡◌, [], ◌∷◌, ◌+◌, ◌≤◌, length};
 ghost use Rattle.std.proofs.lemmas.List.Edits.{sets};
-ghost use Rattle.port_tables.specs.Entries.{side_number};
 ghost use Rattle.multiportgraph.specs.WellFormed.{MultiWf};
 ghost use Rattle.records.specs.Words.{bytes_of};
 ghost use Rattle.records.specs.Run.{counts, numbers, five};
@@ -10,11 +9,9 @@ ghost use Rattle.multiportgraph.specs.Answers.{add_numbers, remove_numbers, set_
 ghost use Rattle.multi_tables.specs.EndAnswers.{refusal_numbers, unplaced_numbers};
 
 use crate::words::put_word;
-use multi_tables::answers::{EndAnswer, Refusal};
-use multiportgraph::multiportgraph::{
-    AddAnswer, LinkAnswer, MultiPortGraph, RemoveAnswer, SetAnswer,
-};
-use port_tables::direction::Direction;
+use multi_tables::answers::{Refusal, SubportIndex};
+use multiportgraph::multiportgraph::MultiPortGraph;
+use port_tables::index::{NodeIndex, PortIndex};
 
 // 0 or the refusal, then values, the rest 0.
 #[derive(Clone, Copy)]
@@ -38,15 +35,6 @@ pub(crate) fn five_words(a: u32, b: u32, c: u32, d: u32, e: u32) -> Answer5
     }
 }
 
-fn side_number(direction: Direction) -> u32
-    ensures { result ≡ side_number direction }
-{
-    match direction {
-        Direction::Incoming => 0,
-        Direction::Outgoing => 1,
-    }
-}
-
 // A refusal with what it carries.
 pub fn refusal_words(refusal: Refusal) -> Answer5
     ensures { words5 result ≡ five (refusal_numbers refusal) }
@@ -62,63 +50,65 @@ pub fn refusal_words(refusal: Refusal) -> Answer5
         Refusal::UnknownOffset(p) => five_words(9, p.0, 0, 0, 0),
         Refusal::NoRoom => five_words(10, 0, 0, 0, 0),
         Refusal::UnknownSecondPort(p) => five_words(11, p.0, 0, 0, 0),
-        Refusal::IncompatibleDirections(p, q, d) => five_words(12, p.0, q.0, side_number(d), 0),
+        Refusal::IncompatibleDirections(p, q, d) => five_words(12, p.0, q.0, d.index(), 0),
         Refusal::AlreadyLinked(p) => five_words(13, p.0, 0, 0, 0),
         Refusal::InputWired => five_words(18, 0, 0, 0, 0),
     }
 }
 
-pub(crate) fn add_words(answer: AddAnswer) -> Answer5
+pub(crate) fn add_words(answer: Result<(NodeIndex, PortIndex), Refusal>) -> Answer5
     ensures { words5 result ≡ five (add_numbers answer) }
 {
     match answer {
-        AddAnswer::Added(node, first) => five_words(0, node.0, first.0, 0, 0),
-        AddAnswer::Refused(refusal) => refusal_words(refusal),
+        Ok((node, first)) => five_words(0, node.0, first.0, 0, 0),
+        Err(refusal) => refusal_words(refusal),
     }
 }
 
-pub(crate) fn remove_words(answer: RemoveAnswer) -> Answer5
+pub(crate) fn remove_words(answer: Result<(), Refusal>) -> Answer5
     ensures { words5 result ≡ five (remove_numbers answer) }
 {
     match answer {
-        RemoveAnswer::Removed => five_words(0, 0, 0, 0, 0),
-        RemoveAnswer::Refused(refusal) => refusal_words(refusal),
+        Ok(()) => five_words(0, 0, 0, 0, 0),
+        Err(refusal) => refusal_words(refusal),
     }
 }
 
-pub(crate) fn set_words(answer: SetAnswer) -> Answer5
+pub(crate) fn set_words(answer: Result<usize, Refusal>) -> Answer5
     requires { EventsFit answer }
     ensures { words5 result ≡ five (set_numbers answer) }
 {
     match answer {
-        SetAnswer::Set(events) => five_words(0, events as u32, 0, 0, 0),
-        SetAnswer::Refused(refusal) => refusal_words(refusal),
+        Ok(events) => five_words(0, events as u32, 0, 0, 0),
+        Err(refusal) => refusal_words(refusal),
     }
 }
 
-pub fn link_words(answer: LinkAnswer) -> Answer5
+pub fn link_words(answer: Result<(SubportIndex, SubportIndex), Refusal>) -> Answer5
     ensures { words5 result ≡ five (link_numbers answer) }
 {
     match answer {
-        LinkAnswer::Linked(x, y) => five_words(
+        Ok((x, y)) => five_words(
             0,
             x.port.0,
             x.subport_offset as u32,
             y.port.0,
             y.subport_offset as u32,
         ),
-        LinkAnswer::Refused(refusal) => refusal_words(refusal),
+        Err(refusal) => refusal_words(refusal),
     }
 }
 
 // A record has no room for a place.
-pub(crate) fn cut_words(answer: EndAnswer) -> Answer5
+pub(crate) fn cut_words(answer: Result<Option<SubportIndex>, Refusal>) -> Answer5
     ensures { words5 result ≡ five (unplaced_numbers answer) }
 {
     match answer {
-        EndAnswer::Found(x) => five_words(0, 1, x.port.0, x.subport_offset as u32, 0),
-        EndAnswer::Nothing => five_words(0, 0, 0, 0, 0),
-        EndAnswer::Refused(refusal) => refusal_words(refusal),
+        Ok(found) => match found {
+            Some(x) => five_words(0, 1, x.port.0, x.subport_offset as u32, 0),
+            None => five_words(0, 0, 0, 0, 0),
+        },
+        Err(refusal) => refusal_words(refusal),
     }
 }
 

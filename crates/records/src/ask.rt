@@ -13,7 +13,7 @@ use crate::answers::{
     Answer5, add_words, count_words, cut_words, five_words, link_words, remove_words, set_words,
 };
 use crate::requests::{Ask, MOVES, ask_of};
-use multi_tables::answers::SubportIndex;
+use multi_tables::answers::{SubportIndex, unplaced};
 use multiportgraph::multiportgraph::{MultiPortGraph, PortTidied, PortUnlinked, PortsSet};
 use port_tables::index::{NodeIndex, PortIndex};
 use port_tables::release::Release;
@@ -144,7 +144,7 @@ pub(crate) fn answer(graph: MultiPortGraph, asked: Ask) -> Asked
             let after = cut.graph;
             Asked {
                 graph: after,
-                answer: cut_words(answer.unplaced()),
+                answer: cut_words(unplaced(answer)),
             }
         }
         Ask::LinkSubports(from, to) => {
@@ -162,12 +162,12 @@ pub(crate) fn answer(graph: MultiPortGraph, asked: Ask) -> Asked
             let after = cut.graph;
             Asked {
                 graph: after,
-                answer: cut_words(answer.unplaced()),
+                answer: cut_words(unplaced(answer)),
             }
         }
         Ask::SubportLink(subport) => Asked {
             graph: graph,
-            answer: cut_words(graph.subport_link(subport).unplaced()),
+            answer: cut_words(unplaced(graph.subport_link(subport))),
         },
         Ask::Counts => Asked {
             graph: graph,

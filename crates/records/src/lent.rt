@@ -163,8 +163,8 @@ pub(crate) fn run_list(requests: &[u8], answers: &mut [u8])
     let mut marks = [false; PORT_SLOTS];
     let mut flags = [false; NODE_SLOTS];
     let mut totals = no_totals(Release::One);
-    let mut at: usize = 0;
-    while at < requests.len() {
+    for k in 0..requests.len() / 20 {
+        let at = 20 * k;
         let ask = ask_at(requests, at);
         let told = one_request(
             &mut nodes,
@@ -179,7 +179,6 @@ pub(crate) fn run_list(requests: &[u8], answers: &mut [u8])
         let words = told.words;
         totals = told.totals;
         put_answer(answers, at, words);
-        at += 20;
     }
 }
 
@@ -201,12 +200,10 @@ pub fn run_tables(
         × StaysCanonical nodes.old nodes.new }
 {
     let mut after = totals;
-    let mut at: usize = 0;
-    while 20 <= requests.len() - at {
-        let ask = ask_at(requests, at);
+    for k in 0..requests.len() / 20 {
+        let ask = ask_at(requests, 20 * k);
         let told = one_request(nodes, links, owners, heads, marks, flags, after, ask);
         after = told.totals;
-        at += 20;
     }
     after
 }

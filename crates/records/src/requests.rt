@@ -34,16 +34,7 @@ pub(crate) const MOVES: usize = 3 * NODE_PORTS;
 fn all_zero(a: u32, b: u32, c: u32, d: u32) -> bool
     ensures { result ≡ all_zero (a ∷ b ∷ c ∷ d ∷ []) }
 {
-    if a != 0 {
-        return false;
-    }
-    if b != 0 {
-        return false;
-    }
-    if c != 0 {
-        return false;
-    }
-    d == 0
+    a == 0 && b == 0 && c == 0 && d == 0
 }
 
 fn ask_if(good: bool, ask: Ask) -> Ask
@@ -76,6 +67,7 @@ fn ask_link_subports(p: u32, o: u32, q: u32, r: u32) -> Ask
     Ask::LinkSubports(subport(p, o as u16), subport(q, r as u16))
 }
 
+// Stays beside the next one: told as a parameter, the call that is asked would be a closure over the end, which is longer than both.
 fn ask_unlink_subport(p: u32, o: u32) -> Ask
     ensures { meant result ≡ offsets (o ∷ []) (call (cut_sub_call p o)) }
 {

@@ -1,6 +1,6 @@
 // The run: each request in its turn, on the graph that the last one left.
 ghost use Rattle.std.specs.Prelude.{◌≡◌, ◌%◌, length};
-ghost use Rattle.records.specs.Run.{answer_bytes, returned, written};
+ghost use Rattle.records.specs.Run.{answer_bytes, list_taken, returned, written};
 
 use crate::answers::put_answer;
 use crate::ask::{answer, empty};
@@ -14,14 +14,20 @@ fn run_all(requests: &[u8], answers: &mut [u8])
     ensures { answers.new ≡ answer_bytes requests.now }
 {
     let mut graph = empty(Release::One);
-    let mut at: usize = 0;
-    while at < requests.len() {
+    for k in 0..requests.len() / 20 {
+        let at = 20 * k;
         let done = answer(graph, ask_at(requests, at));
         let words = done.answer;
         graph = done.graph;
         put_answer(answers, at, words);
-        at += 20;
     }
+}
+
+// Whether a list is one of whole requests, with as much space for the answers.
+fn list_taken<'a>(requests: &'a [u8], answers: &'a [u8]) -> bool
+    ensures { result ≡ list_taken requests.now answers.now }
+{
+    requests.len() == answers.len() && requests.len() % 20 == 0
 }
 
 // Runs a list of requests of five little-endian words. 1 for refusal 1, which leaves the answers as they are; else 0.
@@ -29,10 +35,7 @@ pub fn run_records(requests: &[u8], answers: &mut [u8]) -> u32
     ensures { (result ≡ returned requests.now answers.old)
         × (answers.new ≡ written requests.now answers.old) }
 {
-    if requests.len() != answers.len() {
-        return 1;
-    }
-    if requests.len() % 20 != 0 {
+    if !list_taken(requests, answers) {
         return 1;
     }
     run_list(requests, answers);
@@ -44,10 +47,7 @@ pub fn run_by_value(requests: &[u8], answers: &mut [u8]) -> u32
     ensures { (result ≡ returned requests.now answers.old)
         × (answers.new ≡ written requests.now answers.old) }
 {
-    if requests.len() != answers.len() {
-        return 1;
-    }
-    if requests.len() % 20 != 0 {
+    if !list_taken(requests, answers) {
         return 1;
     }
     run_all(requests, answers);

@@ -2,9 +2,11 @@
 // are run, and the program prints how many answers are equal. The check runs it on the list of `host/sample`.
 #![tactic(auto)]
 
-ghost use Rattle.std.specs.Prelude.{◌+◌, ◌*◌, ◌≤◌, length};
+ghost use Rattle.std.specs.Prelude.{◌≤◌, length};
 
 use records::run::run_records;
+use std::fmt;
+use std::fmt::Write;
 use std::io::Read;
 
 // The bytes of a request, and of an answer.
@@ -14,68 +16,53 @@ const LIST: usize = 65520;
 
 const INPUT: usize = 131041;
 
-fn byte_at(bytes: &[u8], at: usize) -> u8 {
-    if at < bytes.len() { bytes[at] } else { 0 }
+// Why a recording cannot be replayed.
+#[derive(Clone, Copy)]
+enum Unfit {
+    TooLong,
+    Uneven,
+    NoList,
 }
 
-// Whether the records at a place are the same.
-fn is_equal(recorded: &[u8], answers: &[u8], at: usize) -> bool
-    requires { at + 20 ≤ length recorded.now }
-{
-    let mut i: usize = 0;
-    while i < RECORD {
-        if byte_at(recorded, at + i) != byte_at(answers, at + i) {
-            return false;
-        }
-        i += 1;
+impl fmt::Display for Unfit {
+    fn fmt<W: Write>(&self, f: &mut fmt::Formatter<W>) -> fmt::Result {
+        f.write_str(match self {
+            Unfit::TooLong => "the recording is too long",
+            Unfit::Uneven => "the recording has not as many answers as requests",
+            Unfit::NoList => "the recording is no list of requests",
+        })
     }
-    true
 }
 
-// How many of so many answers are those recorded.
-fn equal_answers(recorded: &[u8], answers: &[u8], count: usize) -> usize
-    requires { 20 * count ≤ length recorded.now }
-{
-    let mut equal: usize = 0;
-    let mut k: usize = 0;
-    while k < count {
-        if is_equal(recorded, answers, RECORD * k) {
-            equal += 1;
-        }
-        k += 1;
-    }
-    equal
+// How many of the answers are those recorded.
+fn equal_answers(recorded: &[u8], answers: &[u8]) -> usize {
+    recorded
+        .chunks_exact(RECORD)
+        .zip(answers.chunks_exact(RECORD))
+        .filter(|pair| pair.0 == pair.1)
+        .count()
 }
 
-// What cannot be written is left out.
-fn show(rt: &impl Print, equal: usize, count: usize) {
-    let _ = println!(rt; "{equal} of {count} equal");
-}
-
-fn show_text(rt: &impl Print, text: &str) {
-    let _ = println!(rt; "{text}");
-}
-
-// Runs the first half of a recording and compares with the second.
-fn replay(rt: &impl Print, input: &[u8], answers: &mut [u8]) {
+// Runs the first half of a recording and compares with the second: how many answers are equal, and how many there are.
+fn replay(input: &[u8], answers: &mut [u8]) -> Result<(usize, usize), Unfit> {
     let half = input.len() / 2;
     if answers.len() < input.len() - half {
-        show_text(rt, "the recording is too long");
-        return;
+        return Err(Unfit::TooLong);
     }
     if input.len() != 2 * half {
-        show_text(rt, "the recording has not as many answers as requests");
-        return;
+        return Err(Unfit::Uneven);
     }
     if run_records(&input[..half], &mut answers[..half]) != 0 {
-        show_text(rt, "the recording is no list of requests");
-        return;
+        return Err(Unfit::NoList);
     }
-    let count = half / RECORD;
-    show(rt, equal_answers(&input[half..], answers, count), count);
+    Ok((
+        equal_answers(&input[half..], &answers[..half]),
+        half / RECORD,
+    ))
 }
 
 // Reads until the buffer is full, the input ends or a read fails, and tells how many bytes were read.
+// Stays a while: each read says itself how far it came.
 fn read_full<I: Read>(source: &mut I, input: &mut [u8]) -> usize
     ensures { result ≤ length input.new }
 {
@@ -89,17 +76,13 @@ fn read_full<I: Read>(source: &mut I, input: &mut [u8]) -> usize
     len
 }
 
-fn read_and_replay(rt: &(impl Print + Input), input: &mut [u8], answers: &mut [u8]) {
-    let len = read_full(&mut rt.reader(), input);
-    replay(rt, &input[..len], answers);
-}
-
-fn with_room(rt: &(impl Print + Input), input: &mut [u8; INPUT], answers: &mut [u8; LIST]) {
-    read_and_replay(rt, input, answers);
-}
-
+// What cannot be written is left out.
 fn main(rt: HostRuntime) {
     let mut input = [0u8; INPUT];
     let mut answers = [0u8; LIST];
-    with_room(&rt, &mut input, &mut answers);
+    let len = read_full(&mut rt.reader(), &mut input);
+    let _ = match replay(&input[..len], &mut answers) {
+        Ok((equal, count)) => println!(rt; "{equal} of {count} equal"),
+        Err(unfit) => println!(rt; "{unfit}"),
+    };
 }

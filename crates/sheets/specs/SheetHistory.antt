@@ -1,13 +1,12 @@
 -- Histories in which a whole sheet may stand where a call stands: lists of calls and sheets from the empty graph of a release, each on the
 -- graph that the last one left, with the wire book beside it. The book counts a sheet as its links.
-use Rattle.std.specs.Prelude.{cond, List, [], ◌∷◌, map}
+use Rattle.std.specs.Prelude.{cond, List, [], ◌∷◌, map, Result, Ok, Err, ⊤}
 use Rattle.multiportgraph.specs.Graph.{empty_graph}
 use Rattle.port_tables.specs.declared.release.Release.{Release}
 use Rattle.theorems.specs.Book.{Call, link_call, Book, empty_book, book_link}
 use Rattle.theorems.specs.History.{State, next}
 use Rattle.sheets.specs.declared.sheet.SheetEntry.{SheetEntry}
-use Rattle.sheets.specs.declared.sheet.SheetAnswer.{SheetAnswer}
-use Rattle.sheets.specs.declared.sheet.SheetAnswer.TheVariants.{Done, TooManyEntries}
+use Rattle.sheets.specs.declared.sheet.TooManyEntries.{TooManyEntries}
 use Rattle.sheets.specs.Sheets.{too_many, link_sheet, sheet_after}
 
 -- One call, or a sheet.
@@ -22,9 +21,9 @@ unfoldable pub book_entries : Book → List SheetEntry → Book
 book_entries B [] = B
 book_entries B (e ∷ es) = book_entries (book_link B e.port_a.0 e.port_b.0 e.answer) es
 
-abbrev pub book_sheet : Book → SheetAnswer → List SheetEntry → Book
-book_sheet B Done es = book_entries B es
-book_sheet B TooManyEntries es = B
+abbrev pub book_sheet : Book → Result ⊤ TooManyEntries → List SheetEntry → Book
+book_sheet B (Ok x) es = book_entries B es
+book_sheet B (Err x) es = B
 
 -- Graph and book after one item, and after a list of them.
 

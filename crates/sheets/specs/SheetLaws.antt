@@ -1,6 +1,6 @@
 -- A sheet is its links made one at a time, and a history with sheets is the history of its calls: so what holds of every list of calls
 -- holds with sheets in the list.
-use Rattle.std.specs.Prelude.{◌≡◌, refl, Bool, true, false, cond, ◌↔◌, ℕ, zero, suc, ◌+◌, ◌<◌, ◌≤◌, min, length, take}
+use Rattle.std.specs.Prelude.{◌≡◌, refl, Bool, true, false, cond, ◌↔◌, ℕ, zero, suc, ◌+◌, ◌<◌, ◌≤◌, min, length, take, Result, Ok, Err, ⊤}
 use Rattle.std.proofs.Common.{sym, ap, subst, ◌∙◌, not-suc-le-zero, le_of_suc-le-suc, arith, lit<, lt-ltb, le-ltb, ltb-true, ltb-false}
 use mathlib.Core.List.{List, [], ◌∷◌, ◌++◌, map, flat_map, append-nil}
 use Rattle.std.proofs.Math.Nat.{min-eq_left, min-eq_right}
@@ -15,9 +15,8 @@ use Rattle.theorems.proofs.CallLaws.{step_kept}
 use Rattle.theorems.specs.Runs.{run_from_append}
 use Rattle.sheets.specs.declared.sheet.SheetEntry.{SheetEntry}
 use Rattle.sheets.specs.declared.sheet.SheetLinked.{SheetLinked}
-use Rattle.sheets.specs.declared.sheet.SheetAnswer.{SheetAnswer}
-use Rattle.sheets.specs.declared.sheet.SheetAnswer.TheVariants.{Done, TooManyEntries}
-use Rattle.sheets.specs.Sheets.{ports_of, entry_at, sheet_entries, sheet_numbers, link_of, graph_after, answered, too_many, link_sheet, sheet_after}
+use Rattle.sheets.specs.declared.sheet.TooManyEntries.{TooManyEntries}
+use Rattle.sheets.specs.Sheets.{ports_of, entry_at, sheet_entries, sheet_numbers, link_of, graph_after, answered, too_many, link_sheet, sheet_after, too_long}
 use Rattle.sheets.specs.declared.held.HeldLinked.{HeldLinked}
 use Rattle.sheets.specs.Held.{sheet_places, link_first, link_held}
 use Rattle.sheets.specs.SheetHistory.{Item, one_call, whole_sheet, book_entries, book_sheet, next_item, run_items_from, run_items, links_of, calls_of}
@@ -31,11 +30,11 @@ long_is : (es : List SheetEntry) → sheet_entries < length es → too_many es �
 long_is es h = lt-ltb _ _ h
 
 -- the sheet's own answer and what it leaves, by the test
-abbrev answer_by : Bool → SheetAnswer
-answer_by b = cond b TooManyEntries Done
+abbrev answer_by : Bool → Result ⊤ TooManyEntries
+answer_by b = cond b (Err too_long) (Ok tt)
 
 abbrev sheet_by : MultiPortGraph → List SheetEntry → Bool → SheetLinked
-sheet_by m es b = cond b (record { graph = m; answer = TooManyEntries }) (record { graph = graph_after m es; answer = Done })
+sheet_by m es b = cond b (record { graph = m; answer = Err too_long }) (record { graph = graph_after m es; answer = Ok tt })
 
 answer_by_lem : (m : MultiPortGraph) (es : List SheetEntry) (b : Bool) → (sheet_by m es b).answer ≡ answer_by b
 answer_by_lem m es true = refl
@@ -184,7 +183,7 @@ abbrev all_by : MultiPortGraph → List SheetEntry → Bool → HeldLinked
 all_by m places b = record { graph = (sheet_by m places b).graph; answer = (sheet_by m places b).answer; places = cond b places (answered m places) ++ [] }
 
 pub uncounted_places_are_too_many : (m : MultiPortGraph) (places : List SheetEntry) (count : ℕ) → length places ≡ 65 → 64 < count →
-    link_held m places count ≡ record { graph = m; answer = TooManyEntries; places = places }
+    link_held m places count ≡ record { graph = m; answer = Err too_long; places = places }
 uncounted_places_are_too_many m places count len h =
     ap {B = HeldLinked} (λ (n : ℕ). link_first m places n) (min-eq_right h ∙ sym len)
     ∙ (λ i. record {
@@ -193,4 +192,4 @@ uncounted_places_are_too_many m places count len h =
       places = sheet_after m (take-length places i) ++ drop-length places i;
     })
     ∙ ap {B = HeldLinked} (all_by m places) (long_is places (subst (λ (n : ℕ). 64 < n) (sym len) (lit< tt)))
-    ∙ ap {B = HeldLinked} (λ (l : List SheetEntry). record { graph = m; answer = TooManyEntries; places = l }) (append-nil places)
+    ∙ ap {B = HeldLinked} (λ (l : List SheetEntry). record { graph = m; answer = Err too_long; places = l }) (append-nil places)

@@ -1,34 +1,37 @@
 -- What a wiring sheet does: its entries are done in order, each on the graph that the one before left, a refused one included, and
 -- each receives its answer. A sheet of more than 64 entries is refused with 14 before any entry, and nothing is changed.
-use Rattle.std.specs.Prelude.{Bool, cond, List, [], ◌∷◌, ℕ, ltb, length, get_or}
+use Rattle.std.specs.Prelude.{Bool, cond, List, [], ◌∷◌, ℕ, ltb, length, get_or, Result, Ok, Err, ⊤}
 use Rattle.port_tables.specs.Entries.{port#}
 use Rattle.port_tables.specs.declared.index.PortIndex.{PortIndex}
 use Rattle.multiportgraph.specs.Calls.{link_pair}
 use Rattle.multiportgraph.specs.declared.multiportgraph.MultiPortGraph.{MultiPortGraph}
 use Rattle.multiportgraph.specs.declared.multiportgraph.PortsLinked.{PortsLinked}
-use Rattle.multiportgraph.specs.declared.multiportgraph.LinkAnswer.{LinkAnswer}
-use Rattle.multiportgraph.specs.declared.multiportgraph.LinkAnswer.TheVariants as link
 use Rattle.multi_tables.specs.declared.answers.Refusal.TheVariants.{NoRoom}
 use Rattle.sheets.specs.declared.sheet.SheetEntry.{SheetEntry}
 use Rattle.sheets.specs.declared.sheet.EntryLinked.{EntryLinked}
 use Rattle.sheets.specs.declared.sheet.SheetLinked.{SheetLinked}
-use Rattle.sheets.specs.declared.sheet.SheetAnswer.{SheetAnswer}
-use Rattle.sheets.specs.declared.sheet.SheetAnswer.TheVariants.{Done, TooManyEntries}
+use Rattle.sheets.specs.declared.sheet.TooManyEntries.{TooManyEntries}
+use Rattle.multi_tables.specs.declared.answers.Refusal.{Refusal}
+use Rattle.multi_tables.specs.declared.answers.SubportIndex.{SubportIndex}
 
 -- the most entries of a sheet
 abbrev pub sheet_entries : ℕ
 sheet_entries = 64
 
+-- why a sheet is refused
+abbrev pub too_long : TooManyEntries
+too_long = record {}
+
 -- The numbers of a sheet's own answer; 14 carries nothing.
-abbrev pub sheet_numbers : SheetAnswer → List ℕ
-sheet_numbers Done = 0 ∷ []
-sheet_numbers TooManyEntries = 14 ∷ []
+abbrev pub sheet_numbers : Result ⊤ TooManyEntries → List ℕ
+sheet_numbers (Ok x) = 0 ∷ []
+sheet_numbers (Err x) = 14 ∷ []
 
 -- One entry.
 
 -- an entry that is to be done, with something in its space for the answer
 abbrev pub to_be_done : PortIndex → PortIndex → SheetEntry
-to_be_done p q = record { port_a = p; port_b = q; answer = link.Refused NoRoom }
+to_be_done p q = record { port_a = p; port_b = q; answer = Err NoRoom }
 
 -- its two ports
 abbrev pub ports_of : SheetEntry → PortIndex × PortIndex
@@ -39,7 +42,7 @@ abbrev pub link_of : MultiPortGraph → SheetEntry → PortsLinked
 link_of m e = link_pair m e.port_a.0 e.port_b.0
 
 -- an entry keeps its ports and receives an answer
-abbrev pub with_answer : SheetEntry → LinkAnswer → SheetEntry
+abbrev pub with_answer : SheetEntry → Result (SubportIndex × SubportIndex) Refusal → SheetEntry
 with_answer e x = record { port_a = e.port_a; port_b = e.port_b; answer = x }
 
 abbrev pub entry_linked : MultiPortGraph → SheetEntry → EntryLinked
@@ -72,7 +75,7 @@ too_many es = ltb sheet_entries (length es)
 
 -- the graph and the sheet's own answer
 abbrev pub link_sheet : MultiPortGraph → List SheetEntry → SheetLinked
-link_sheet m es = cond (too_many es) (record { graph = m; answer = TooManyEntries }) (record { graph = graph_after m es; answer = Done })
+link_sheet m es = cond (too_many es) (record { graph = m; answer = Err too_long }) (record { graph = graph_after m es; answer = Ok tt })
 
 -- the lent entries as they come back
 abbrev pub sheet_after : MultiPortGraph → List SheetEntry → List SheetEntry

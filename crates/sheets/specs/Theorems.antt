@@ -1,6 +1,6 @@
 -- What is proved of sheets, in plain order: statements with a sentence each; the proofs stand in SheetLaws. The words are those of
 -- Sheets and SheetHistory, over the book and the histories of the crate `theorems`.
-use Rattle.std.specs.Prelude.{◌≡◌, false, ◌↔◌, ℕ, ◌+◌, ◌<◌, ◌≤◌, length, take}
+use Rattle.std.specs.Prelude.{◌≡◌, false, ◌↔◌, ℕ, ◌+◌, ◌<◌, ◌≤◌, length, take, Err}
 use mathlib.Core.List.{List, [], ◌∷◌, ◌++◌, map, flat_map}
 use Rattle.port_tables.specs.Lists.{Member}
 use Rattle.portgraph.specs.Model.{Model}
@@ -28,8 +28,7 @@ use Rattle.theorems.specs.Conditions.{RefusedBy, Accepted, Condition, leaves_pre
 use Rattle.theorems.proofs.Theorems as calls
 use Rattle.theorems.proofs.ReleaseTheorems as releases
 use Rattle.sheets.specs.declared.sheet.SheetEntry.{SheetEntry}
-use Rattle.sheets.specs.declared.sheet.SheetAnswer.TheVariants.{TooManyEntries}
-use Rattle.sheets.specs.Sheets.{ports_of, entry_at, sheet_entries, sheet_numbers, link_sheet, sheet_after}
+use Rattle.sheets.specs.Sheets.{ports_of, entry_at, sheet_entries, sheet_numbers, link_sheet, sheet_after, too_long}
 use Rattle.sheets.specs.Held.{link_held}
 use Rattle.sheets.specs.SheetHistory.{Item, whole_sheet, next_item, run_items, links_of, calls_of}
 use Rattle.sheets.specs.SheetLaws as proofs
@@ -77,7 +76,7 @@ first_places_are_the_sheet = proofs.first_places_are_the_sheet
 
 -- and a count above 65 is too long as well.
 pub uncounted_places_are_too_many : (m : MultiPortGraph) (places : List SheetEntry) (count : ℕ) → length places ≡ 65 → 64 < count →
-    link_held m places count ≡ record { graph = m; answer = TooManyEntries; places = places }
+    link_held m places count ≡ record { graph = m; answer = Err too_long; places = places }
 uncounted_places_are_too_many = proofs.uncounted_places_are_too_many
 
 -- Histories with sheets in them: lists of calls and sheets from the empty graph of either release, refused ones included.

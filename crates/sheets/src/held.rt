@@ -3,9 +3,8 @@ ghost use Rattle.std.specs.Prelude.{◌≡◌, ◌≤◌};
 ghost use Rattle.multiportgraph.specs.WellFormed.{MultiWf};
 ghost use Rattle.sheets.specs.Held.{sheet_places, link_first, link_held};
 
-use crate::sheet::{SheetAnswer, SheetEntry, link_sheet};
+use crate::sheet::{SheetEntry, TooManyEntries, link_sheet};
 use multiportgraph::multiportgraph::MultiPortGraph;
-use port_tables::numbers::smaller;
 
 // One place more than a sheet may have entries, so that a sheet that is too long can be lent.
 pub const SHEET_PLACES: usize = 65;
@@ -13,7 +12,7 @@ pub const SHEET_PLACES: usize = 65;
 #[derive(Drop)]
 pub struct HeldLinked {
     pub graph: MultiPortGraph,
-    pub answer: SheetAnswer,
+    pub answer: Result<(), TooManyEntries>,
     pub places: [SheetEntry; SHEET_PLACES],
 }
 
@@ -39,5 +38,5 @@ pub fn link_held(
     requires { MultiWf graph }
     ensures { result ≡ link_held graph places count }
 {
-    link_first(graph, places, smaller(count, SHEET_PLACES))
+    link_first(graph, places, count.min(SHEET_PLACES))
 }

@@ -4,8 +4,8 @@ ghost use Rattle.std.specs.Prelude.{◌≡◌};
 ghost use Rattle.multiportgraph.specs.WellFormed.{MultiWf};
 ghost use Rattle.sheets.specs.Sheets.{to_be_done, entry_linked, link_sheet, sheet_after, sheet_numbers};
 
-use multi_tables::answers::Refusal;
-use multiportgraph::multiportgraph::{LinkAnswer, MultiPortGraph};
+use multi_tables::answers::{Refusal, SubportIndex};
+use multiportgraph::multiportgraph::MultiPortGraph;
 use port_tables::index::PortIndex;
 
 // The most entries of a sheet.
@@ -16,7 +16,7 @@ pub const SHEET_ENTRIES: usize = 64;
 pub struct SheetEntry {
     pub port_a: PortIndex,
     pub port_b: PortIndex,
-    pub answer: LinkAnswer,
+    pub answer: Result<(SubportIndex, SubportIndex), Refusal>,
 }
 
 impl SheetEntry {
@@ -27,23 +27,20 @@ impl SheetEntry {
         SheetEntry {
             port_a: port_a,
             port_b: port_b,
-            answer: LinkAnswer::Refused(Refusal::NoRoom),
+            answer: Err(Refusal::NoRoom),
         }
     }
 }
 
+// There are more than 64 entries: none was done.
 #[derive(Clone, Copy)]
-pub enum SheetAnswer {
-    // Every entry was done and has its answer, a refused one too.
-    Done,
-    // There are more than 64 entries: none was done.
-    TooManyEntries,
-}
+pub struct TooManyEntries;
 
 #[derive(Drop)]
 pub struct SheetLinked {
     pub graph: MultiPortGraph,
-    pub answer: SheetAnswer,
+    // Where it is `Ok`, every entry was done and has its answer, a refused one too.
+    pub answer: Result<(), TooManyEntries>,
 }
 
 // What one entry leaves.
@@ -81,19 +78,17 @@ pub fn link_sheet(graph: MultiPortGraph, sheet: &mut [SheetEntry]) -> SheetLinke
     if SHEET_ENTRIES < sheet.len() {
         return SheetLinked {
             graph: graph,
-            answer: SheetAnswer::TooManyEntries,
+            answer: Err(TooManyEntries),
         };
     }
     let mut after = graph;
-    let mut i = 0;
-    while i < sheet.len() {
-        let done = link_entry(after, sheet[i]);
-        sheet[i] = done.entry;
+    for entry in sheet.iter_mut() {
+        let done = link_entry(after, *entry);
+        *entry = done.entry;
         after = done.graph;
-        i = i + 1;
     }
     SheetLinked {
         graph: after,
-        answer: SheetAnswer::Done,
+        answer: Ok(()),
     }
 }

@@ -1,240 +1,158 @@
-// Walks: blocks, subports, wires and neighbours. One loop serves every walk, over an item that holds from where each of them goes on. What
-// is walked on both sides is walked on the incoming side first.
+// Walks: blocks, subports, wires and neighbours. One loop serves every walk. What is walked on both sides is walked on the incoming side first.
 ghost use Rattle.std.specs.Prelude.{◌≤◌};
-ghost use Rattle.sketches.specs.SketchTables.{SketchWf};
 
-use crate::items::{Item, before_first};
-use crate::orders::{
-    BACK, BLOCKS, CONNECTIONS, LINKS, NEIGHBOURS, NODELINKS, SUBPORTS, WIRES, port_at, side_of,
-};
+use crate::items::Item;
+use crate::orders::{Command, Order, port_at};
 use crate::replies::{show_number, show_refused};
-use lines::orders::Order;
 use port_tables::direction::Direction;
-use sketches::rows::WORDS;
+use port_tables::sides::Sides;
+use sketches::sketch::{Reason, SketchPort};
 use sketches::tests::{EndTest, Test};
-use sketches::totals::Totals;
-use sketches::walks::{
-    BlockStep, SubportStep, Walk, WalkStart, WireStep, links_of_port, next_block, next_subport,
-    next_wire, previous_wire, whole_walk, wires_of_block,
-};
+use sketches::totals::Sketch;
+use sketches::walks::{SubportWalk, Walk};
 
 // More items than any walk has.
 const MOST: usize = 4294967295;
 
 // What the wires of a walk are asked.
 fn test_of(order: Order, side: Direction) -> Test {
-    let command = order.command;
-    match command {
-        LINKS | BACK => Test::Wire(EndTest::AtPort(port_at(order, 0))),
-        NODELINKS => Test::Side(order.number(0), side),
-        NEIGHBOURS => Test::Neighbour(order.number(0), side, order.number(2) == 1),
-        CONNECTIONS => Test::Between(order.number(0), order.number(1)),
+    match order.command {
+        Command::Links | Command::Back => Test::Wire(EndTest::AtPort(port_at(order, 0))),
+        Command::NodeLinks => Test::Side(order.number(0), side),
+        Command::Neighbours => Test::Neighbour(order.number(0), side, order.number(2) == 1),
+        Command::Connections => Test::Between(order.number(0), order.number(1)),
         _ => Test::Every,
     }
 }
 
-fn block_after(step: BlockStep, last: Item) -> Item {
-    match step {
-        BlockStep::Block(name, walk) => last.block(name, walk),
-        BlockStep::End => last.ended(),
+// Where a walk goes on, and what it gives.
+#[derive(Clone, Copy)]
+enum Cursor {
+    Blocks(Walk),
+    Subports(SubportWalk),
+    Wires(Walk),
+    Back(Walk),
+    Neighbours(Walk),
+}
+
+// The walk that a command asks for, on a side.
+fn cursor_of(order: Order, side: Direction, walk: Walk) -> Cursor {
+    match order.command {
+        Command::Blocks => Cursor::Blocks(walk),
+        Command::Subports => Cursor::Subports(SubportWalk {
+            port: SketchPort {
+                block: order.number(0),
+                side: side,
+                position: 0,
+            },
+            offset: 0,
+        }),
+        Command::Back => Cursor::Back(walk),
+        Command::Neighbours => Cursor::Neighbours(walk),
+        _ => Cursor::Wires(walk),
     }
 }
 
-fn subport_after(step: SubportStep, last: Item) -> Item {
-    match step {
-        SubportStep::Subport(end, walk) => last.end(end, walk),
-        SubportStep::End => last.ended(),
-    }
-}
-
-fn wire_after(step: WireStep, last: Item, side: Direction) -> Item {
-    match step {
-        WireStep::Wire(wire, walk) => last.wire(wire, side, walk),
-        WireStep::End => last.ended(),
-    }
-}
-
-// The item after the last one, in the walk that a command asks for, on a side.
-fn step<'a>(
-    blocks: &'a [u32; WORDS],
-    splits: &'a [u32; WORDS],
-    wires: &'a [u32; WORDS],
-    totals: Totals,
-    command: u32,
-    side: Direction,
-    last: Item,
-) -> Item
-    requires { SketchWf blocks.now splits.now wires.now totals }
-{
-    let walk = last.walk;
-    let subports = last.subports;
-    match command {
-        BLOCKS => block_after(next_block(blocks, totals, walk), last),
-        SUBPORTS => subport_after(next_subport(blocks, splits, wires, totals, subports), last),
-        BACK => wire_after(
-            previous_wire(blocks, splits, wires, totals, walk),
-            last,
-            side,
-        ),
-        NEIGHBOURS => {
-            wire_after(next_wire(blocks, splits, wires, totals, walk), last, side).far_block()
+impl Cursor {
+    // The next item on a side, and where the walk goes on.
+    fn step(self, sketch: &Sketch, side: Direction) -> Option<(Item, Cursor)> {
+        match self {
+            Cursor::Blocks(walk) => {
+                let (name, next) = sketch.next_block(walk)?;
+                Some((Item::Block(name), Cursor::Blocks(next)))
+            }
+            Cursor::Subports(walk) => {
+                let (end, next) = sketch.next_subport(walk)?;
+                Some((Item::End(end), Cursor::Subports(next)))
+            }
+            Cursor::Wires(walk) => {
+                let (wire, next) = sketch.next_wire(walk)?;
+                Some((Item::wire(wire, side), Cursor::Wires(next)))
+            }
+            Cursor::Back(walk) => {
+                let (wire, next) = sketch.previous_wire(walk)?;
+                Some((Item::wire(wire, side), Cursor::Back(next)))
+            }
+            Cursor::Neighbours(walk) => {
+                let (wire, next) = sketch.next_wire(walk)?;
+                Some((Item::far_block(wire, side), Cursor::Neighbours(next)))
+            }
         }
-        _ => wire_after(next_wire(blocks, splits, wires, totals, walk), last, side),
     }
 }
 
 // Every item of a walk on a side, and how many there are.
-fn show_side<'a>(
-    rt: &impl Print,
-    blocks: &'a [u32; WORDS],
-    splits: &'a [u32; WORDS],
-    wires: &'a [u32; WORDS],
-    totals: Totals,
-    order: Order,
-    side: Direction,
-    walk: Walk,
-) -> usize
-    requires { SketchWf blocks.now splits.now wires.now totals }
+fn show_side(rt: &impl Print, sketch: &Sketch, order: Order, side: Direction, walk: Walk) -> usize
     ensures { result ≤ 4294967295 }
 {
-    let mut item = before_first(walk, order.number(0), side);
-    let mut count: usize = 0;
-    while count < MOST {
-        item = step(blocks, splits, wires, totals, order.command, side, item);
-        if item.count == 0 {
+    let mut cursor = cursor_of(order, side, walk);
+    for count in 0..MOST {
+        let Some((item, next)) = cursor.step(sketch, side) else {
             return count;
-        }
+        };
         item.show(rt);
-        count += 1;
+        cursor = next;
     }
-    count
+    MOST
 }
 
-// The side that a command names, 2 for both; blocks, connections and all wires are walked from the outgoing side.
-fn side_named(order: Order) -> u32 {
-    let command = order.command;
-    match command {
-        BLOCKS | CONNECTIONS | WIRES => 1,
-        _ => order.number(1),
+// The sides that a command names; blocks, connections and all wires are walked from the outgoing side.
+fn sides_named(order: Order) -> Sides {
+    match order.command {
+        Command::Blocks | Command::Connections | Command::Wires => Sides::One(Direction::Outgoing),
+        _ => match order.number(1) {
+            0 => Sides::One(Direction::Incoming),
+            1 => Sides::One(Direction::Outgoing),
+            _ => Sides::Both,
+        },
     }
 }
 
 // Every item of a walk that was started, and how many there are.
-fn show_items<'a>(
-    rt: &impl Print,
-    blocks: &'a [u32; WORDS],
-    splits: &'a [u32; WORDS],
-    wires: &'a [u32; WORDS],
-    totals: Totals,
-    order: Order,
-    walk: Walk,
-) -> usize
-    requires { SketchWf blocks.now splits.now wires.now totals }
-{
-    let side = side_named(order);
-    if side < 2 {
-        return show_side(
-            rt,
-            blocks,
-            splits,
-            wires,
-            totals,
-            order,
-            side_of(side),
-            walk,
-        );
+fn show_items(rt: &impl Print, sketch: &Sketch, order: Order, walk: Walk) -> usize {
+    if let Sides::One(side) = sides_named(order) {
+        return show_side(rt, sketch, order, side, walk);
     }
-    let incoming = show_side(
-        rt,
-        blocks,
-        splits,
-        wires,
-        totals,
-        order,
-        Direction::Incoming,
-        walk,
-    );
+    let incoming = show_side(rt, sketch, order, Direction::Incoming, walk);
     let test = test_of(order, Direction::Outgoing);
-    let rest = whole_walk(totals.wires, test);
-    let outgoing = show_side(
-        rt,
-        blocks,
-        splits,
-        wires,
-        totals,
-        order,
-        Direction::Outgoing,
-        rest,
-    );
+    let rest = sketch.wires(test);
+    let outgoing = show_side(rt, sketch, order, Direction::Outgoing, rest);
     incoming + outgoing
 }
 
 // The walk between two blocks; it is refused if one of them is not there.
-fn start_between<'a>(
-    blocks: &'a [u32; WORDS],
-    splits: &'a [u32; WORDS],
-    wires: &'a [u32; WORDS],
-    totals: Totals,
-    from: u32,
-    to: u32,
-    test: Test,
-) -> WalkStart
-    requires { SketchWf blocks.now splits.now wires.now totals }
-{
-    match wires_of_block(blocks, splits, wires, totals, from, test) {
-        WalkStart::At(_) => wires_of_block(blocks, splits, wires, totals, to, test),
-        WalkStart::Refused(reason) => WalkStart::Refused(reason),
-    }
+fn start_between(sketch: &Sketch, from: u32, to: u32, test: Test) -> Result<Walk, Reason> {
+    sketch.wires_of_block(from, test)?;
+    sketch.wires_of_block(to, test)
 }
 
 // The walk that a command asks for, on the first side of it; it is refused if the block or the port that it is asked of is not there.
-fn start<'a>(
-    blocks: &'a [u32; WORDS],
-    splits: &'a [u32; WORDS],
-    wires: &'a [u32; WORDS],
-    totals: Totals,
-    order: Order,
-) -> WalkStart
-    requires { SketchWf blocks.now splits.now wires.now totals }
-{
-    let command = order.command;
-    let test = test_of(order, first_side(side_named(order)));
+fn start(sketch: &Sketch, order: Order) -> Result<Walk, Reason> {
+    let test = test_of(order, first_side(sides_named(order)));
     let first = order.number(0);
-    match command {
-        BLOCKS => WalkStart::At(whole_walk(totals.blocks, test)),
-        WIRES => WalkStart::At(whole_walk(totals.wires, test)),
-        LINKS | BACK => links_of_port(blocks, splits, wires, totals, port_at(order, 0)),
-        CONNECTIONS => start_between(blocks, splits, wires, totals, first, order.number(1), test),
-        _ => wires_of_block(blocks, splits, wires, totals, first, test),
+    match order.command {
+        Command::Blocks => Ok(sketch.blocks()),
+        Command::Wires => Ok(sketch.wires(test)),
+        Command::Links | Command::Back => sketch.links_of_port(port_at(order, 0)),
+        Command::Connections => start_between(sketch, first, order.number(1), test),
+        _ => sketch.wires_of_block(first, test),
     }
 }
 
 // Both sides begin with the incoming one.
-fn first_side(number: u32) -> Direction {
-    match number {
-        1 => Direction::Outgoing,
-        _ => Direction::Incoming,
+fn first_side(sides: Sides) -> Direction {
+    match sides {
+        Sides::One(side) => side,
+        Sides::Both => Direction::Incoming,
     }
 }
 
 // A command that walks.
-pub(crate) fn list<'a>(
-    rt: &impl Print,
-    blocks: &'a [u32; WORDS],
-    splits: &'a [u32; WORDS],
-    wires: &'a [u32; WORDS],
-    totals: Totals,
-    order: Order,
-)
-    requires { SketchWf blocks.now splits.now wires.now totals }
-{
-    match start(blocks, splits, wires, totals, order) {
-        WalkStart::At(walk) => {
-            show_number(
-                rt,
-                show_items(rt, blocks, splits, wires, totals, order, walk) as u64,
-            );
+pub(crate) fn list(rt: &impl Print, sketch: &Sketch, order: Order) {
+    match start(sketch, order) {
+        Ok(walk) => {
+            show_number(rt, show_items(rt, sketch, order, walk) as u64);
         }
-        WalkStart::Refused(reason) => show_refused(rt, reason),
+        Err(reason) => show_refused(rt, reason),
     }
 }

@@ -1,62 +1,71 @@
-// What a line asks for: the commands, by number, and a row for each that says how it is typed.
-use lines::orders::{Order, order_by};
+// What a line asks for: the commands, and how each is typed.
+use lines::orders::order_by;
 use lines::rows::row_of;
 use lines::text::next_word;
 use port_tables::direction::Direction;
 use sketches::sketch::SketchPort;
 
-// A command's number is the line of its row, from 1.
-pub(crate) const NEW: u32 = 1;
+#[derive(Clone, Copy, PartialEq, Eq)]
+pub enum Command {
+    New,
+    Add,
+    Remove,
+    Resize,
+    Link,
+    LinkClean,
+    LinkSub,
+    Sheet,
+    Unlink,
+    UnlinkSub,
+    Tidy,
+    SubLink,
+    Counts,
+    FanOut,
+    BlockFanOut,
+    Blocks,
+    Subports,
+    Links,
+    Back,
+    NodeLinks,
+    Neighbours,
+    Connections,
+    Wires,
+    Help,
+    Quit,
+}
 
-pub(crate) const ADD: u32 = 2;
+// A command with its numbers. Stays without its text, which goes beside it: most commands need the numbers alone, and names are words of the text.
+pub type Order = lines::orders::Order<Command>;
 
-pub(crate) const REMOVE: u32 = 3;
+const COMMANDS: [(Command, &'static [u8]); 25] = [
+    (Command::New, b"new RELEASE"),
+    (Command::Add, b"add IN OUT"),
+    (Command::Remove, b"remove N"),
+    (Command::Resize, b"resize N IN OUT"),
+    (Command::Link, b"link B S P B S P"),
+    (Command::LinkClean, b"linkclean B S P B S P"),
+    (Command::LinkSub, b"linksub B S P O B S P O"),
+    (Command::Sheet, b"sheet B S P B S P .."),
+    (Command::Unlink, b"unlink B S P"),
+    (Command::UnlinkSub, b"unlinksub B S P O"),
+    (Command::Tidy, b"tidy B S P"),
+    (Command::SubLink, b"sublink B S P O"),
+    (Command::Counts, b"counts"),
+    (Command::FanOut, b"fanout B S P"),
+    (Command::BlockFanOut, b"blockfanout N"),
+    (Command::Blocks, b"blocks"),
+    (Command::Subports, b"subports N SIDE"),
+    (Command::Links, b"links B S P"),
+    (Command::Back, b"back B S P"),
+    (Command::NodeLinks, b"nodelinks N SIDE"),
+    (Command::Neighbours, b"neighbours N SIDE FLAG"),
+    (Command::Connections, b"connections N M"),
+    (Command::Wires, b"wires"),
+    (Command::Help, b"help"),
+    (Command::Quit, b"quit"),
+];
 
-pub(crate) const RESIZE: u32 = 4;
-
-pub(crate) const LINK: u32 = 5;
-
-pub(crate) const LINKCLEAN: u32 = 6;
-
-pub(crate) const LINKSUB: u32 = 7;
-
-pub(crate) const SHEET: u32 = 8;
-
-pub(crate) const UNLINK: u32 = 9;
-
-pub(crate) const UNLINKSUB: u32 = 10;
-
-pub(crate) const TIDY: u32 = 11;
-
-pub(crate) const SUBLINK: u32 = 12;
-
-pub(crate) const COUNTS: u32 = 13;
-
-pub(crate) const FANOUT: u32 = 14;
-
-pub(crate) const BLOCKFANOUT: u32 = 15;
-
-pub(crate) const BLOCKS: u32 = 16;
-
-pub(crate) const SUBPORTS: u32 = 17;
-
-pub(crate) const LINKS: u32 = 18;
-
-pub(crate) const BACK: u32 = 19;
-
-pub(crate) const NODELINKS: u32 = 20;
-
-pub(crate) const NEIGHBOURS: u32 = 21;
-
-pub(crate) const CONNECTIONS: u32 = 22;
-
-pub(crate) const WIRES: u32 = 23;
-
-pub(crate) const HELP: u32 = 24;
-
-pub(crate) const QUIT: u32 = 25;
-
-// 0 incoming, 1 outgoing.
+// 0 incoming, 1 outgoing. Stays a function of any number, as `release_of` is: a TryFrom would have a refusal that no line comes to.
 pub(crate) fn side_of(number: u32) -> Direction {
     if number == 0 {
         return Direction::Incoming;
@@ -82,44 +91,25 @@ pub(crate) fn port_at(order: Order, place: usize) -> SketchPort {
 }
 
 // How many numbers an entry of a command's list has; 0 where it has no list.
-fn entry_size(command: u32) -> usize {
+fn entry_size(command: Command) -> usize {
     match command {
-        SHEET => 6,
+        Command::Sheet => 6,
         _ => 0,
     }
 }
 
-// The order of a line that was heard.
-pub(crate) fn order_of(rt: &impl Print, text: &[u8], line: u64) -> Order {
-    let table = b"\
-new RELEASE
-add IN OUT
-remove N
-resize N IN OUT
-link B S P B S P
-linkclean B S P B S P
-linksub B S P O B S P O
-sheet B S P B S P ..
-unlink B S P
-unlinksub B S P O
-tidy B S P
-sublink B S P O
-counts
-fanout B S P
-blockfanout N
-blocks
-subports N SIDE
-links B S P
-back B S P
-nodelinks N SIDE
-neighbours N SIDE FLAG
-connections N M
-wires
-help
-quit
-";
+// The order of a line that was heard; where it is none, what is wrong with it is said. Stays in both consoles: commands and list sizes are each one's own, and the rest is
+// `order_by`.
+pub(crate) fn order_of(rt: &impl Print, text: &[u8], line: u64) -> Option<Order> {
     let first = next_word(text, 0);
-    let row = row_of(table, text, first);
-    let size = entry_size(row.number);
-    order_by(rt, table, row, size, text, first.to, line)
+    let (command, usage) = row_of(rt, &COMMANDS, text, first, line)?;
+    order_by(
+        rt,
+        command,
+        usage,
+        entry_size(command),
+        text,
+        first.to,
+        line,
+    )
 }

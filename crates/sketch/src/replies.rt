@@ -3,8 +3,7 @@ ghost use Rattle.std.specs.Prelude.{◌≡◌};
 ghost use Rattle.sketches.specs.PlanNumbers.{reason_number};
 
 use lines::show::Line;
-use port_tables::direction::Direction;
-use sketches::sketch::{CountAnswer, DoneAnswer, Reason, SketchEnd, SketchPort};
+use sketches::sketch::{Reason, SketchEnd, SketchPort};
 
 // The number of a refusal.
 fn number_of(reason: Reason) -> u32
@@ -55,41 +54,32 @@ pub(crate) fn show_refused(rt: &impl Print, reason: Reason) {
 
 // `ok` with one number.
 pub(crate) fn show_number(rt: &impl Print, value: u64) {
-    Line::of(b"ok").long(value).write(rt);
+    Line::of(b"ok").number(value).write(rt);
 }
 
-pub(crate) fn show_count(rt: &impl Print, answer: CountAnswer) {
+pub(crate) fn show_count(rt: &impl Print, answer: Result<usize, Reason>) {
     match answer {
-        CountAnswer::Count(count) => show_number(rt, count as u64),
-        CountAnswer::Refused(reason) => show_refused(rt, reason),
+        Ok(count) => show_number(rt, count as u64),
+        Err(reason) => show_refused(rt, reason),
     }
 }
 
-pub(crate) fn show_done(rt: &impl Print, answer: DoneAnswer) {
+pub(crate) fn show_done(rt: &impl Print, answer: Result<(), Reason>) {
     match answer {
-        DoneAnswer::Done => Line::of(b"ok").write(rt),
-        DoneAnswer::Refused(reason) => show_refused(rt, reason),
-    }
-}
-
-// 0 incoming, 1 outgoing.
-fn side_number(side: Direction) -> u32 {
-    match side {
-        Direction::Incoming => 0,
-        Direction::Outgoing => 1,
+        Ok(()) => Line::of(b"ok").write(rt),
+        Err(reason) => show_refused(rt, reason),
     }
 }
 
 // A port behind what a line has: block, side and position.
 pub(crate) fn with_port(line: Line, port: SketchPort) -> Line {
-    let side = port.side;
     line.number(port.block)
-        .number(side_number(side))
+        .number(port.side.index())
         .number(port.position)
 }
 
 // An end: a port and an offset.
 pub(crate) fn with_end(line: Line, end: SketchEnd) -> Line {
     let port = end.port;
-    with_port(line, port).number(end.offset as u32)
+    with_port(line, port).number(end.offset)
 }

@@ -1,5 +1,5 @@
 -- Adding, removing and resizing over the tables.
-use Rattle.std.specs.Prelude.{◌≡◌, refl, Bool, true, false, not, ◌||◌, List, ◌∷◌, map, ℕ, suc, ◌+◌, ◌≤◌, ◌<◌, eqb, leb, ltb, length}
+use Rattle.std.specs.Prelude.{◌≡◌, refl, Bool, true, false, not, ◌||◌, List, ◌∷◌, map, ℕ, suc, ◌+◌, ◌≤◌, ◌<◌, eqb, leb, ltb, length, Result, Ok, Err}
 use Rattle.std.proofs.Common.{sym, ap, ◌∙◌, subst, add-one, arith, le-leb, lt-ltb, le-ltb, leb-false}
 use Rattle.std.proofs.lemmas.Bool.{lt-leb}
 use Rattle.port_tables.specs.Lists.{filter}
@@ -21,20 +21,17 @@ use Rattle.sketches.specs.declared.totals.Totals.{Totals}
 use Rattle.sketches.specs.declared.tests.EndTest.TheVariants as ask
 use Rattle.sketches.specs.declared.tests.Test.TheVariants as test
 use Rattle.sketches.specs.declared.sketch.Reason.TheVariants.{TooManyPorts, UnknownBlock, NoRoom}
-use Rattle.sketches.specs.declared.sketch.AddAnswer.{AddAnswer}
-use Rattle.sketches.specs.declared.sketch.AddAnswer.TheVariants as add
-use Rattle.sketches.specs.declared.sketch.DoneAnswer.{DoneAnswer}
-use Rattle.sketches.specs.declared.sketch.DoneAnswer.TheVariants as done
+use Rattle.sketches.specs.declared.sketch.Reason.{Reason}
 
 -- the rows of the tables are as many as the plan's lists are long, so that they are within the tables
-pub length_blocks : (t : List ℕ) (n : ℕ) → length (blocks_in t n) ≡ n
+pub length_blocks : (t : List Row) (n : ℕ) → length (blocks_in t n) ≡ n
 length_blocks t n = length_map block_of (rows_in t n) ∙ length_rows t n
 
-pub blocks_within : {b s w : List ℕ} {h : Totals} → SketchWf b s w h → h.blocks ≤ node_slots
+pub blocks_within : {b s w : List Row} {h : Totals} → SketchWf b s w h → h.blocks ≤ node_slots
 blocks_within {b} {s} {w} {h} wf = let e = length_blocks b h.blocks in let k = wf.plan.blocks in omega arith
 
 -- a call by its definition, where that is known
-pub leaves_as : {A : Type 0} {numbers : A → List ℕ} {called : Sketched A} {b s w : List ℕ} {h : Totals} {a : A} (K : Plan) (x : A) → called ≡ leaves K x → plan_in b s w h ≡ K → a ≡ x → SketchWf b s w h →
+pub leaves_as : {A : Type 0} {numbers : A → List ℕ} {called : Sketched A} {b s w : List Row} {h : Totals} {a : A} (K : Plan) (x : A) → called ≡ leaves K x → plan_in b s w h ≡ K → a ≡ x → SketchWf b s w h →
     Leaves numbers called b s w h a
 leaves_as {A} {numbers} {called} K x e p q wf =
     record {
@@ -45,7 +42,7 @@ leaves_as {A} {numbers} {called} K x e p q wf =
     }
 
 -- the plan of new tables keeps what holds of plans
-pub tables_wf : {b s w : List ℕ} {h : Totals} {K : Plan} → Table b → Table s → Table w → plan_in b s w h ≡ K → PlanWf K → SketchWf b s w h
+pub tables_wf : {b s w : List Row} {h : Totals} {K : Plan} → Table b → Table s → Table w → plan_in b s w h ≡ K → PlanWf K → SketchWf b s w h
 tables_wf x y z e wf = record { block_table = x; split_table = y; wire_table = z; plan = subst PlanWf (sym e) wf }
 
 -- Adding.
@@ -63,52 +60,52 @@ new_block K i o =
       wires = K.wires;
     }
 
-add_too_many : (K : Plan) (i o : ℕ) → node_ports < i + o → add_block K i o ≡ leaves K (add.Refused TooManyPorts)
+add_too_many : (K : Plan) (i o : ℕ) → node_ports < i + o → add_block K i o ≡ leaves K (Err TooManyPorts)
 unfolding add_block
 add_too_many K i o h = rw (lt-leb (i + o) node_ports h)
 
-add_no_room : (K : Plan) (i o : ℕ) → i + o ≤ node_ports → no_room K.adds (length K.blocks) K.blocks (i + o) ≡ true → add_block K i o ≡ leaves K (add.Refused NoRoom)
+add_no_room : (K : Plan) (i o : ℕ) → i + o ≤ node_ports → no_room K.adds (length K.blocks) K.blocks (i + o) ≡ true → add_block K i o ≡ leaves K (Err NoRoom)
 unfolding add_block
 add_no_room K i o h k = rw (le-leb (i + o) node_ports h, k)
 
-add_accepted : (K : Plan) (i o : ℕ) → i + o ≤ node_ports → no_room K.adds (length K.blocks) K.blocks (i + o) ≡ false → add_block K i o ≡ leaves (new_block K i o) (add.Added K.adds)
+add_accepted : (K : Plan) (i o : ℕ) → i + o ≤ node_ports → no_room K.adds (length K.blocks) K.blocks (i + o) ≡ false → add_block K i o ≡ leaves (new_block K i o) (Ok K.adds)
 unfolding add_block
 add_accepted K i o h k = rw (le-leb (i + o) node_ports h, k)
 
-module _ (b s w : List ℕ) (h : Totals) (wf : SketchWf b s w h) (i o : ℕ) where
-  pub added_too_many : {n : ℕ} → n ≡ i + o → node_ports < n → Leaves add_numbers (add_block (plan_in b s w h) i o) b s w h (add.Refused TooManyPorts)
-  added_too_many e k = leaves_as (plan_in b s w h) (add.Refused TooManyPorts) (add_too_many (plan_in b s w h) i o (omega arith)) refl refl wf
+module _ (b s w : List Row) (h : Totals) (wf : SketchWf b s w h) (i o : ℕ) where
+  pub added_too_many : {n : ℕ} → n ≡ i + o → node_ports < n → Leaves add_numbers (add_block (plan_in b s w h) i o) b s w h (Err TooManyPorts)
+  added_too_many e k = leaves_as (plan_in b s w h) (Err TooManyPorts) (add_too_many (plan_in b s w h) i o (omega arith)) refl refl wf
 
   room_is : {n : ℕ} → n ≡ i + o → no_room h.adds (length (blocks_in b h.blocks)) (blocks_in b h.blocks) (i + o) ≡ no_room h.adds h.blocks (blocks_in b h.blocks) n
   room_is e = rw (length_blocks b h.blocks, ← e)
 
-  pub added_no_room : {n : ℕ} → n ≡ i + o → n ≤ node_ports → no_room h.adds h.blocks (blocks_in b h.blocks) n ≡ true → Leaves add_numbers (add_block (plan_in b s w h) i o) b s w h (add.Refused NoRoom)
-  added_no_room e k r = leaves_as (plan_in b s w h) (add.Refused NoRoom) (add_no_room (plan_in b s w h) i o (omega arith) (room_is e ∙ r)) refl refl wf
+  pub added_no_room : {n : ℕ} → n ≡ i + o → n ≤ node_ports → no_room h.adds h.blocks (blocks_in b h.blocks) n ≡ true → Leaves add_numbers (add_block (plan_in b s w h) i o) b s w h (Err NoRoom)
+  added_no_room e k r = leaves_as (plan_in b s w h) (Err NoRoom) (add_no_room (plan_in b s w h) i o (omega arith) (room_is e ∙ r)) refl refl wf
 
-  pub added : {n : ℕ} {b' : List ℕ} → n ≡ i + o → n ≤ node_ports → no_room h.adds h.blocks (blocks_in b h.blocks) n ≡ false →
+  pub added : {n : ℕ} {b' : List Row} → n ≡ i + o → n ≤ node_ports → no_room h.adds h.blocks (blocks_in b h.blocks) n ≡ false →
       b' ≡ put_row b h.blocks (record { 0 = h.adds; 1 = i; 2 = o; 3 = 0; 4 = 0; 5 = 0 }) →
-      Leaves add_numbers (add_block (plan_in b s w h) i o) b' s w (record { release = h.release; adds = h.adds + 1; blocks = h.blocks + 1; splits = h.splits; wires = h.wires }) (add.Added h.adds)
+      Leaves add_numbers (add_block (plan_in b s w h) i o) b' s w (record { release = h.release; adds = h.adds + 1; blocks = h.blocks + 1; splits = h.splits; wires = h.wires }) (Ok h.adds)
   added {n} {b'} e k r p =
-      leaves_as (new_block (plan_in b s w h) i o) (add.Added h.adds) at_once (plan b' p) refl
+      leaves_as (new_block (plan_in b s w h) i o) (Ok h.adds) at_once (plan b' p) refl
       (tables_wf (ap length p ∙ length_put b h.blocks new ∙ wf.block_table) wf.split_table wf.wire_table (plan b' p)
-      (subst (λ (c : Sketched AddAnswer). PlanWf c.plan) at_once (add_wf (plan_in b s w h) i o wf.plan)))
+      (subst (λ (c : Sketched (Result ℕ Reason)). PlanWf c.plan) at_once (add_wf (plan_in b s w h) i o wf.plan)))
     where
       new : Row
       new = record { 0 = h.adds; 1 = i; 2 = o; 3 = 0; 4 = 0; 5 = 0 }
 
-      at_once : add_block (plan_in b s w h) i o ≡ leaves (new_block (plan_in b s w h) i o) (add.Added h.adds)
+      at_once : add_block (plan_in b s w h) i o ≡ leaves (new_block (plan_in b s w h) i o) (Ok h.adds)
       at_once = add_accepted (plan_in b s w h) i o (omega arith) (room_is e ∙ r)
 
-      plan : (b' : List ℕ) → b' ≡ put_row b h.blocks new → plan_in b' s w (record { release = h.release; adds = h.adds + 1; blocks = h.blocks + 1; splits = h.splits; wires = h.wires }) ≡ new_block (plan_in b s w h) i o
+      plan : (b' : List Row) → b' ≡ put_row b h.blocks new → plan_in b' s w (record { release = h.release; adds = h.adds + 1; blocks = h.blocks + 1; splits = h.splits; wires = h.wires }) ≡ new_block (plan_in b s w h) i o
       plan b' p =
           let l : h.blocks ≤ node_slots = blocks_within wf in
           let x : blocks_in b' (h.blocks + 1) ≡ block_of new ∷ blocks_in b h.blocks =
-          ap (λ (t : List ℕ). blocks_in t (h.blocks + 1)) p ∙ ap (map block_of) (row_added b h.blocks new wf.block_table (omega arith)) in
+          ap (λ (t : List Row). blocks_in t (h.blocks + 1)) p ∙ ap (map block_of) (row_added b h.blocks new wf.block_table (omega arith)) in
           rw (x, add-one h.adds)
 
 -- Removing.
 
-remove_unknown : (K : Plan) (n : ℕ) → has_block K.blocks n ≡ false → remove_block K n ≡ leaves K (done.Refused UnknownBlock)
+remove_unknown : (K : Plan) (n : ℕ) → has_block K.blocks n ≡ false → remove_block K n ≡ leaves K (Err UnknownBlock)
 unfolding remove_block
 remove_unknown K n h = rw h
 
@@ -122,21 +119,21 @@ block_gone K n =
       wires = without (of_node n) K.wires;
     }
 
-remove_accepted : (K : Plan) (n : ℕ) → has_block K.blocks n ≡ true → remove_block K n ≡ leaves (block_gone K n) done.Done
+remove_accepted : (K : Plan) (n : ℕ) → has_block K.blocks n ≡ true → remove_block K n ≡ leaves (block_gone K n) (Ok tt)
 unfolding remove_block
 remove_accepted K n h = rw h
 
 -- Resizing.
 
-resize_too_many : (K : Plan) (n i o : ℕ) → node_ports < i + o → set_counts K n i o ≡ leaves K (done.Refused TooManyPorts)
+resize_too_many : (K : Plan) (n i o : ℕ) → node_ports < i + o → set_counts K n i o ≡ leaves K (Err TooManyPorts)
 unfolding set_counts
 resize_too_many K n i o h = rw (lt-leb (i + o) node_ports h)
 
-resize_unknown : (K : Plan) (n i o : ℕ) → i + o ≤ node_ports → has_block K.blocks n ≡ false → set_counts K n i o ≡ leaves K (done.Refused UnknownBlock)
+resize_unknown : (K : Plan) (n i o : ℕ) → i + o ≤ node_ports → has_block K.blocks n ≡ false → set_counts K n i o ≡ leaves K (Err UnknownBlock)
 unfolding set_counts
 resize_unknown K n i o h k = rw (le-leb (i + o) node_ports h, k)
 
-resize_no_room : (K : Plan) (n i o : ℕ) → i + o ≤ node_ports → has_block K.blocks n ≡ true → port_slots < ports_in_all (map (recount n i o) K.blocks) → set_counts K n i o ≡ leaves K (done.Refused NoRoom)
+resize_no_room : (K : Plan) (n i o : ℕ) → i + o ≤ node_ports → has_block K.blocks n ≡ true → port_slots < ports_in_all (map (recount n i o) K.blocks) → set_counts K n i o ≡ leaves K (Err NoRoom)
 unfolding set_counts
 resize_no_room K n i o h k l = rw (le-leb (i + o) node_ports h, k, lt-ltb port_slots (ports_in_all (map (recount n i o) K.blocks)) l)
 
@@ -150,23 +147,23 @@ block_resized K n i o =
       wires = without (of_dropped n i o) K.wires;
     }
 
-resize_accepted : (K : Plan) (n i o : ℕ) → i + o ≤ node_ports → has_block K.blocks n ≡ true → ports_in_all (map (recount n i o) K.blocks) ≤ port_slots → set_counts K n i o ≡ leaves (block_resized K n i o) done.Done
+resize_accepted : (K : Plan) (n i o : ℕ) → i + o ≤ node_ports → has_block K.blocks n ≡ true → ports_in_all (map (recount n i o) K.blocks) ≤ port_slots → set_counts K n i o ≡ leaves (block_resized K n i o) (Ok tt)
 unfolding set_counts
 resize_accepted K n i o h k l = rw (le-leb (i + o) node_ports h, k, le-ltb port_slots (ports_in_all (map (recount n i o) K.blocks)) l)
 
-module _ (b s w : List ℕ) (h : Totals) (wf : SketchWf b s w h) (n : ℕ) where
-  pub removed_unknown : has_block (blocks_in b h.blocks) n ≡ false → Leaves done_numbers (remove_block (plan_in b s w h) n) b s w h (done.Refused UnknownBlock)
-  removed_unknown e = leaves_as (plan_in b s w h) (done.Refused UnknownBlock) (remove_unknown (plan_in b s w h) n e) refl refl wf
+module _ (b s w : List Row) (h : Totals) (wf : SketchWf b s w h) (n : ℕ) where
+  pub removed_unknown : has_block (blocks_in b h.blocks) n ≡ false → Leaves done_numbers (remove_block (plan_in b s w h) n) b s w h (Err UnknownBlock)
+  removed_unknown e = leaves_as (plan_in b s w h) (Err UnknownBlock) (remove_unknown (plan_in b s w h) n e) refl refl wf
 
-  pub removed : has_block (blocks_in b h.blocks) n ≡ true → (b' s' w' : List ℕ) (nb ns nw : ℕ) →
+  pub removed : has_block (blocks_in b h.blocks) n ≡ true → (b' s' w' : List Row) (nb ns nw : ℕ) →
       (rows_in b' nb ≡ filter (missed (test.Block n)) (rows_in b h.blocks)) × Table b' →
       (rows_in s' ns ≡ filter (missed (test.Split (ask.OfBlock n))) (rows_in s h.splits)) × Table s' →
       (rows_in w' nw ≡ filter (missed (test.Wire (ask.OfBlock n))) (rows_in w h.wires)) × Table w' →
       {h' : Totals} → h' ≡ totals_counts h nb ns nw →
-      Leaves done_numbers (remove_block (plan_in b s w h) n) b' s' w' h' done.Done
+      Leaves done_numbers (remove_block (plan_in b s w h) n) b' s' w' h' (Ok tt)
   removed e b' s' w' nb ns nw p q r {h'} c =
-      leaves_as (block_gone (plan_in b s w h) n) done.Done (remove_accepted (plan_in b s w h) n e) plan refl
-      (tables_wf p.1 q.1 r.1 plan (subst (λ (c : Sketched DoneAnswer). PlanWf c.plan) (remove_accepted (plan_in b s w h) n e) (remove_wf (plan_in b s w h) n wf.plan)))
+      leaves_as (block_gone (plan_in b s w h) n) (Ok tt) (remove_accepted (plan_in b s w h) n e) plan refl
+      (tables_wf p.1 q.1 r.1 plan (subst (λ (c : Sketched (Result (Unit {0}) Reason)). PlanWf c.plan) (remove_accepted (plan_in b s w h) n e) (remove_wf (plan_in b s w h) n wf.plan)))
     where
       plan : plan_in b' s' w' h' ≡ block_gone (plan_in b s w h) n
       plan =
@@ -176,28 +173,28 @@ module _ (b s w : List ℕ) (h : Totals) (wf : SketchWf b s w h) (n : ℕ) where
           ap (plan_in b' s' w') c ∙ (λ k. record { release = h.release; adds = h.adds; blocks = x k; splits = y k; wires = z k })
 
   module _ (i o : ℕ) where
-    pub resized_too_many : {a c : ℕ} → a ≡ i → c ≡ o → node_ports < a + c → Leaves done_numbers (set_counts (plan_in b s w h) n i o) b s w h (done.Refused TooManyPorts)
-    resized_too_many p q e = leaves_as (plan_in b s w h) (done.Refused TooManyPorts) (resize_too_many (plan_in b s w h) n i o (omega arith)) refl refl wf
+    pub resized_too_many : {a c : ℕ} → a ≡ i → c ≡ o → node_ports < a + c → Leaves done_numbers (set_counts (plan_in b s w h) n i o) b s w h (Err TooManyPorts)
+    resized_too_many p q e = leaves_as (plan_in b s w h) (Err TooManyPorts) (resize_too_many (plan_in b s w h) n i o (omega arith)) refl refl wf
 
-    pub resized_unknown : {a c : ℕ} → a ≡ i → c ≡ o → a + c ≤ node_ports → has_block (blocks_in b h.blocks) n ≡ false → Leaves done_numbers (set_counts (plan_in b s w h) n i o) b s w h (done.Refused UnknownBlock)
-    resized_unknown p q e k = leaves_as (plan_in b s w h) (done.Refused UnknownBlock) (resize_unknown (plan_in b s w h) n i o (omega arith) k) refl refl wf
+    pub resized_unknown : {a c : ℕ} → a ≡ i → c ≡ o → a + c ≤ node_ports → has_block (blocks_in b h.blocks) n ≡ false → Leaves done_numbers (set_counts (plan_in b s w h) n i o) b s w h (Err UnknownBlock)
+    resized_unknown p q e k = leaves_as (plan_in b s w h) (Err UnknownBlock) (resize_unknown (plan_in b s w h) n i o (omega arith) k) refl refl wf
 
     pub resized_no_room : {a c m : ℕ} → a ≡ i → c ≡ o → a + c ≤ node_ports → has_block (blocks_in b h.blocks) n ≡ true → m ≡ ports_in_all (map (recount n i o) (blocks_in b h.blocks)) → port_slots < m →
-        Leaves done_numbers (set_counts (plan_in b s w h) n i o) b s w h (done.Refused NoRoom)
-    resized_no_room p q e k x l = leaves_as (plan_in b s w h) (done.Refused NoRoom) (resize_no_room (plan_in b s w h) n i o (omega arith) k (omega arith)) refl refl wf
+        Leaves done_numbers (set_counts (plan_in b s w h) n i o) b s w h (Err NoRoom)
+    resized_no_room p q e k x l = leaves_as (plan_in b s w h) (Err NoRoom) (resize_no_room (plan_in b s w h) n i o (omega arith) k (omega arith)) refl refl wf
 
     pub resized : {a c m : ℕ} → a ≡ i → c ≡ o → a + c ≤ node_ports → has_block (blocks_in b h.blocks) n ≡ true → m ≡ ports_in_all (map (recount n i o) (blocks_in b h.blocks)) → m ≤ port_slots →
-        (b' s' w' : List ℕ) (ns nw : ℕ) →
+        (b' s' w' : List Row) (ns nw : ℕ) →
         (blocks_in b' h.blocks ≡ map (recount n i o) (blocks_in b h.blocks)) × Table b' →
         (rows_in s' ns ≡ filter (missed (test.Split (ask.OfDropped n i o))) (rows_in s h.splits)) × Table s' →
         (rows_in w' nw ≡ filter (missed (test.Wire (ask.OfDropped n i o))) (rows_in w h.wires)) × Table w' →
         {h' : Totals} → h' ≡ totals_counts h h.blocks ns nw →
-        Leaves done_numbers (set_counts (plan_in b s w h) n i o) b' s' w' h' done.Done
+        Leaves done_numbers (set_counts (plan_in b s w h) n i o) b' s' w' h' (Ok tt)
     resized u v e k m l b' s' w' ns nw p q r {h'} c =
-        leaves_as (block_resized (plan_in b s w h) n i o) done.Done at_once plan refl
-        (tables_wf p.1 q.1 r.1 plan (subst (λ (c : Sketched DoneAnswer). PlanWf c.plan) at_once (resize_wf (plan_in b s w h) n i o wf.plan)))
+        leaves_as (block_resized (plan_in b s w h) n i o) (Ok tt) at_once plan refl
+        (tables_wf p.1 q.1 r.1 plan (subst (λ (c : Sketched (Result (Unit {0}) Reason)). PlanWf c.plan) at_once (resize_wf (plan_in b s w h) n i o wf.plan)))
       where
-        at_once : set_counts (plan_in b s w h) n i o ≡ leaves (block_resized (plan_in b s w h) n i o) done.Done
+        at_once : set_counts (plan_in b s w h) n i o ≡ leaves (block_resized (plan_in b s w h) n i o) (Ok tt)
         at_once = resize_accepted (plan_in b s w h) n i o (omega arith) k (omega arith)
 
         plan : plan_in b' s' w' h' ≡ block_resized (plan_in b s w h) n i o

@@ -1,7 +1,7 @@
 -- Every call keeps what holds of a plan.
 use Rattle.std.proofs.Math.Path.{◌≡◌, refl, ap}
 use Rattle.std.proofs.Common.{sym, ◌∙◌, subst, inl, inr, ⊎_elim, arith}
-use Rattle.std.specs.Prelude.{Bool, not, ◌||◌, ℕ, zero, suc, ◌+◌, ◌≤◌, ◌<◌, max, leb, ltb, length}
+use Rattle.std.specs.Prelude.{Bool, not, ◌||◌, ℕ, zero, suc, ◌+◌, ◌≤◌, ◌<◌, max, leb, ltb, length, Result, Ok, Err}
 use Rattle.std.proofs.Math.Bool.{true, false, cond}
 use mathlib.Core.List.{List, [], ◌∷◌, map}
 use Rattle.std.proofs.Math.Dec.{eqb}
@@ -14,12 +14,11 @@ use Rattle.port_tables.specs.declared.direction.Direction.TheVariants.{Incoming,
 use Rattle.port_tables.specs.Places.{Place, Wire, Spot, at_spot, at_end, of_node, of_dropped, touches, wire_of_sides, without, any_touches, lowest_unwired}
 use Rattle.port_tables.specs.Listing.{member_filter, member_map, length_map, rising_filter}
 use Rattle.sketches.specs.Plan.{PlanBlock, Plan, with_splits, with_wires, has_block, ports_on_side, ports_in_all, spot_named, is_there, subports_among, subports_of, set_subports, offset_read, lacks_offset, place_named, above_end, above_wired, offset_ready, subports_ready, ready}
-use Rattle.sketches.specs.PlanCalls.{most_adds, most_wires, leaves, add_block, remove_block, recount, set_counts, with_wire, both_linked, tidied}
+use Rattle.sketches.specs.PlanCalls.{most_adds, most_wires, Sketched, leaves, add_block, remove_block, recount, set_counts, with_wire, both_linked, tidied}
 use Rattle.sketches.specs.PlanWf.{PlanWf, most_subports, Elsewhere, filter_shorter, subports_wf}
 use Rattle.sketches.specs.declared.sketch.SketchPort.{SketchPort}
+use Rattle.sketches.specs.declared.sketch.Reason.{Reason}
 use Rattle.sketches.specs.declared.sketch.Reason.TheVariants.{TooManyPorts, UnknownBlock, NoRoom}
-use Rattle.sketches.specs.declared.sketch.AddAnswer.TheVariants as add
-use Rattle.sketches.specs.declared.sketch.DoneAnswer.TheVariants as done
 
 pub or_false : (a b : Bool) → (a || b) ≡ false → (a ≡ false) × (b ≡ false)
 or_false true b h = absurd (let z : ◌≡◌ {A = ℕ} 0 1 = cc in omega arith)
@@ -43,7 +42,7 @@ add_wf K i o wf = go (not (leb (i + o) node_ports)) (leb most_adds K.adds) (leb 
     grown = record { release = K.release; adds = suc K.adds; blocks = new ∷ K.blocks; splits = K.splits; wires = K.wires }
 
     go : (a b c : Bool) → leb node_slots (length K.blocks) ≡ c → (d : Bool) → ltb port_slots (ports_in_all K.blocks + (i + o)) ≡ d →
-        PlanWf (cond a (leaves K (add.Refused TooManyPorts)) (cond (b || (c || d)) (leaves K (add.Refused NoRoom)) (leaves grown (add.Added K.adds)))).plan
+        PlanWf (cond a (leaves K (Err TooManyPorts)) (cond (b || (c || d)) (leaves K (Err NoRoom)) (leaves grown (Ok K.adds)))).plan
     go true b c p d q = wf
     go false true c p d q = wf
     go false false true p d q = wf
@@ -105,7 +104,7 @@ remove_wf K n wf = go (not (has_block K.blocks n))
           wires = without (of_node n) K.wires;
         }
 
-    go : (b : Bool) → PlanWf (cond b (leaves K (done.Refused UnknownBlock)) (leaves left done.Done)).plan
+    go : (b : Bool) → PlanWf (cond {A = Sketched (Result (Unit {0}) Reason)} b (leaves K (Err UnknownBlock)) (leaves left (Ok tt))).plan
     go true = wf
     go false =
         let a = filter_shorter (λ (b : PlanBlock). not (eqb b.name n)) K.blocks in
@@ -173,7 +172,7 @@ resize_wf K n i o wf = go (not (leb (i + o) node_ports)) (has_block K.blocks n) 
         }
 
     go : (a b : Bool) → has_block K.blocks n ≡ b → (c : Bool) → ltb port_slots (ports_in_all (map (recount n i o) K.blocks)) ≡ c →
-        PlanWf (cond a (leaves K (done.Refused TooManyPorts)) (cond (not b) (leaves K (done.Refused UnknownBlock)) (cond c (leaves K (done.Refused NoRoom)) (leaves resized done.Done)))).plan
+        PlanWf (cond {A = Sketched (Result (Unit {0}) Reason)} a (leaves K (Err TooManyPorts)) (cond (not b) (leaves K (Err UnknownBlock)) (cond c (leaves K (Err NoRoom)) (leaves resized (Ok tt))))).plan
     go true b p c q = wf
     go false false p c q = wf
     go false true p true q = wf

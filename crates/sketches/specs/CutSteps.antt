@@ -1,7 +1,7 @@
 -- Cutting, looking up and tidying over the tables.
 use Rattle.std.proofs.Math.Path.{◌≡◌, refl, ap, subst}
 use Rattle.std.proofs.Common.{sym, ◌∙◌, inl, inr, arith}
-use Rattle.std.specs.Prelude.{Bool, not, ℕ, suc, ◌-◌, ◌≤◌, ◌<◌}
+use Rattle.std.specs.Prelude.{Bool, not, ℕ, ◌≤◌, ◌<◌, Option, Some, None, Result, Ok, Err}
 use Rattle.std.proofs.Math.Bool.{true, false, cond}
 use mathlib.Core.List.{List, [], ◌∷◌, map}
 use borrow.Author.Tests.{le-leb, lt-leb, eq-eqb, ne_eqb}
@@ -12,8 +12,7 @@ use Rattle.sketches.specs.PlanCalls.{leaves, bad_offset, port_found, end_found, 
 use Rattle.sketches.specs.PlanNumbers.{done_numbers, cut_numbers, found_numbers}
 use Rattle.sketches.specs.PlanWf.{most_subports}
 use Rattle.sketches.specs.CallsWf.{cut_wf, above_within, tidied_within}
-use Rattle.sketches.specs.Rows.{Table, rows_in, row_at, splits_in, wires_in, wire_of, place_in, end_hits, hits, missed, newest_hit}
-use Rattle.sketches.specs.RowSteps.{newest_none, newest_some}
+use Rattle.sketches.specs.Rows.{Table, rows_in, splits_in, wires_in, wire_of, place_in, end_hits, hits, missed, first}
 use Rattle.sketches.specs.RowReads.{wires_left}
 use Rattle.sketches.specs.BlockSteps.{leaves_as, tables_wf}
 use Rattle.sketches.specs.SplitSteps.{splits_with, SplitsRoom, IsPlan, room_for, subports_set}
@@ -24,19 +23,11 @@ use Rattle.sketches.specs.declared.totals.Totals.{Totals}
 use Rattle.sketches.specs.declared.tests.EndTest.{EndTest}
 use Rattle.sketches.specs.declared.tests.EndTest.TheVariants as ask
 use Rattle.sketches.specs.declared.tests.Test.TheVariants as test
-use Rattle.sketches.specs.declared.cuts.FarEnd.{FarEnd}
-use Rattle.sketches.specs.declared.cuts.FarEnd.TheVariants as found
-use Rattle.sketches.specs.declared.subport_links.Judged.{Judged}
-use Rattle.sketches.specs.declared.subport_links.Judged.TheVariants as judged
 use Rattle.sketches.specs.declared.sketch.SketchPort.{SketchPort}
 use Rattle.sketches.specs.declared.sketch.SketchEnd.{SketchEnd}
 use Rattle.sketches.specs.declared.sketch.Reason.{Reason}
 use Rattle.sketches.specs.declared.sketch.Reason.TheVariants.{BadOffset, UnknownPort, UnknownOffset}
-use Rattle.sketches.specs.declared.sketch.DoneAnswer.TheVariants as done
-use Rattle.sketches.specs.declared.sketch.PortAnswer.{PortAnswer}
-use Rattle.sketches.specs.declared.sketch.PortAnswer.TheVariants as port
-use Rattle.sketches.specs.declared.sketch.EndAnswer.{EndAnswer}
-use Rattle.sketches.specs.declared.sketch.EndAnswer.TheVariants as end
+use Rattle.sketches.specs.declared.tests.RowEnd.{RowEnd}
 
 -- an answer, by its definition
 pub record Answers {A : Type 0} (numbers : A → List ℕ) (called answer : A) : Type 0 where
@@ -48,14 +39,14 @@ answers_as {A} {numbers} e = record { answered = e; numbered = ap numbers e }
 
 -- The far end.
 
-abbrev pub far_of : FarEnd → Far
-far_of found.Nothing = nothing
-far_of (found.At x) = far (place_in x)
+abbrev pub far_of : Option RowEnd → Far
+far_of None = nothing
+far_of (Some x) = far (place_in x)
 
 -- its offset fits
-abbrev pub FarFits : FarEnd → Type 0
-FarFits found.Nothing = Unit {0}
-FarFits (found.At x) = x.offset < most_subports
+abbrev pub FarFits : Option RowEnd → Type 0
+FarFits None = Unit {0}
+FarFits (Some x) = x.offset < most_subports
 
 module _ (f : EndTest) where
   far_none : (l : List Row) → filter (hits (test.Wire f)) l ≡ [] → far_from (end_hits f) (map wire_of l) ≡ nothing
@@ -88,25 +79,33 @@ module _ (f : EndTest) where
           rw (p, q) (ap (λ (b : Bool). cond b (far (wire_of r).into) (far (wire_of r).out)) (sym p) ∙ ap (λ (y : Row). cond (end_hits f (wire_of y).out) (far (wire_of y).into) (far (wire_of y).out)) e)
       go false p false q h rest = let m : filter (hits (test.Wire f)) l ≡ x ∷ k = rw (p, q) at h in rw (p, q) (rest m)
 
-  module _ (t : List ℕ) (n : ℕ) {past : ℕ} (e : past ≡ newest_hit (hits (test.Wire f)) t 0 n) where
-    pub far_nothing : past ≡ 0 → nothing ≡ far_from (end_hits f) (wires_in t n)
-    far_nothing z = sym (far_none (rows_in t n) (newest_none (hits (test.Wire f)) t n (sym e ∙ z)))
+  module _ (t : List Row) (n : ℕ) {k : Option Row} (e : k ≡ first (filter (hits (test.Wire f)) (rows_in t n))) where
+    pub far_nothing : k ≡ None → nothing ≡ far_from (end_hits f) (wires_in t n)
+    far_nothing z = go (filter (hits (test.Wire f)) (rows_in t n)) refl (sym z ∙ e)
+      where
+        go : (l : List Row) → filter (hits (test.Wire f)) (rows_in t n) ≡ l → None ≡ first l → nothing ≡ far_from (end_hits f) (wires_in t n)
+        go [] p q = sym (far_none (rows_in t n) p)
+        go (r ∷ l) p q = absurd (let z : ◌≡◌ {A = ℕ} 0 1 = cc in omega arith)
 
-    pub far_in_lem : (past ≡ 0 → ⊥) → {r : Row} {x y : Place} → r ≡ row_at t (past - 1) → x ≡ (wire_of r).out → end_hits f x ≡ true → y ≡ (wire_of r).into → far y ≡ far_from (end_hits f) (wires_in t n)
-    far_in_lem z {r} {x} {y} p q c d =
-        let a : newest_hit (hits (test.Wire f)) t 0 n ≡ suc (past - 1) = sym e ∙ omega arith in
-        let h : end_hits f (wire_of r).out ≡ true = sym (ap (end_hits f) q) ∙ c in
-        ap far d ∙ ap (λ (b : Bool). cond b (far (wire_of r).into) (far (wire_of r).out)) (sym h)
-        ∙ ap (λ (u : Row). cond (end_hits f (wire_of u).out) (far (wire_of u).into) (far (wire_of u).out)) p
-        ∙ sym (far_some (rows_in t n) (row_at t (past - 1)) (filter (hits (test.Wire f)) (rows_in t (past - 1))) (newest_some (hits (test.Wire f)) t n (past - 1) a).0)
+    module _ {r : Row} (z : k ≡ Some r) where
+      far_given : cond (end_hits f (wire_of r).out) (far (wire_of r).into) (far (wire_of r).out) ≡ far_from (end_hits f) (wires_in t n)
+      far_given = go (filter (hits (test.Wire f)) (rows_in t n)) refl (sym z ∙ e)
+        where
+          go : (l : List Row) → filter (hits (test.Wire f)) (rows_in t n) ≡ l → Some r ≡ first l → cond (end_hits f (wire_of r).out) (far (wire_of r).into) (far (wire_of r).out) ≡ far_from (end_hits f) (wires_in t n)
+          go [] p q = absurd (let z : ◌≡◌ {A = ℕ} 0 1 = cc in omega arith)
+          go (x ∷ l) p q =
+              let s : r ≡ x = cc in
+              ap (λ (u : Row). cond (end_hits f (wire_of u).out) (far (wire_of u).into) (far (wire_of u).out)) s ∙ sym (far_some (rows_in t n) x l p)
 
-    pub far_out : (past ≡ 0 → ⊥) → {r : Row} {x y : Place} → r ≡ row_at t (past - 1) → x ≡ (wire_of r).out → end_hits f x ≡ false → y ≡ (wire_of r).out → far y ≡ far_from (end_hits f) (wires_in t n)
-    far_out z {r} {x} {y} p q c d =
-        let a : newest_hit (hits (test.Wire f)) t 0 n ≡ suc (past - 1) = sym e ∙ omega arith in
-        let h : end_hits f (wire_of r).out ≡ false = sym (ap (end_hits f) q) ∙ c in
-        ap far d ∙ ap (λ (b : Bool). cond b (far (wire_of r).into) (far (wire_of r).out)) (sym h)
-        ∙ ap (λ (u : Row). cond (end_hits f (wire_of u).out) (far (wire_of u).into) (far (wire_of u).out)) p
-        ∙ sym (far_some (rows_in t n) (row_at t (past - 1)) (filter (hits (test.Wire f)) (rows_in t (past - 1))) (newest_some (hits (test.Wire f)) t n (past - 1) a).0)
+      pub far_in_lem : {x y : Place} → x ≡ (wire_of r).out → end_hits f x ≡ true → y ≡ (wire_of r).into → far y ≡ far_from (end_hits f) (wires_in t n)
+      far_in_lem {x} {y} q c d =
+          let h : end_hits f (wire_of r).out ≡ true = sym (ap (end_hits f) q) ∙ c in
+          ap far d ∙ ap (λ (b : Bool). cond b (far (wire_of r).into) (far (wire_of r).out)) (sym h) ∙ far_given
+
+      pub far_out : {x y : Place} → x ≡ (wire_of r).out → end_hits f x ≡ false → y ≡ (wire_of r).out → far y ≡ far_from (end_hits f) (wires_in t n)
+      far_out {x} {y} q c d =
+          let h : end_hits f (wire_of r).out ≡ false = sym (ap (end_hits f) q) ∙ c in
+          ap far d ∙ ap (λ (b : Bool). cond b (far (wire_of r).into) (far (wire_of r).out)) (sym h) ∙ far_given
 
 -- a far end is an end of a wire
 far_fits_in : (g : Place → Bool) (l : List Wire) → ((w : Wire) → Member w l → (w.out.offset < most_subports) × (w.into.offset < most_subports)) → (x : Place) → far x ≡ far_from g l → x.offset < most_subports
@@ -119,88 +118,70 @@ far_fits_in g (w ∷ l) h x e = go (g w.out) (g w.into) e (far_fits_in g l (λ v
     go false true p rest = let q : x ≡ w.out = cc in subst (λ (y : Place). y.offset < most_subports) (sym q) (h w (inl refl)).0
     go false false p rest = rest p
 
-pub far_fits : (b s w : List ℕ) (h : Totals) → SketchWf b s w h → (g : Place → Bool) (x : FarEnd) → far_of x ≡ far_from g (wires_in w h.wires) → FarFits x
-far_fits b s w h wf g found.Nothing e = tt
-far_fits b s w h wf g (found.At x) e = far_fits_in g (wires_in w h.wires) wf.plan.offsets (place_in x) e
+pub far_fits : (b s w : List Row) (h : Totals) → SketchWf b s w h → (g : Place → Bool) (x : Option RowEnd) → far_of x ≡ far_from g (wires_in w h.wires) → FarFits x
+far_fits b s w h wf g None e = tt
+far_fits b s w h wf g (Some x) e = far_fits_in g (wires_in w h.wires) wf.plan.offsets (place_in x) e
 
 -- What an end is linked with.
 
-abbrev found_as : Far → Judged → EndAnswer
-found_as x (judged.Refused q) = end.Refused q
-found_as x judged.Fine = end_found x
+abbrev found_as : Far → Result (Unit {0}) Reason → Result (Option SketchEnd) Reason
+found_as x (Err q) = Err q
+found_as x (Ok u) = end_found x
 
 found_as_judged : (K : Plan) (x : SketchPort) (o : ℕ) → subport_link K x o ≡ found_as (far_from (at_end (spot_named x) (offset_read K x o)) K.wires) (judge_end K x o)
 unfolding subport_link judge_end
 found_as_judged K x o = go (bad_offset o) (is_there K x) (lacks_offset K x o)
   where
     go : (a b c : Bool) →
-        cond a (end.Refused BadOffset) (cond (not b) (end.Refused UnknownPort) (cond c (end.Refused UnknownOffset) (end_found (far_from (at_end (spot_named x) (offset_read K x o)) K.wires))))
+        cond a (Err BadOffset) (cond (not b) (Err UnknownPort) (cond c (Err UnknownOffset) (end_found (far_from (at_end (spot_named x) (offset_read K x o)) K.wires))))
         ≡ found_as (far_from (at_end (spot_named x) (offset_read K x o)) K.wires) (judge_by a b c)
     go true b c = refl
     go false false c = refl
     go false true true = refl
     go false true false = refl
 
-module _ (K : Plan) (x : SketchPort) (o : ℕ) {j : Judged} (e : j ≡ judge_end K x o) where
-  pub end_refused : {q : Reason} → j ≡ judged.Refused q → end.Refused q ≡ subport_link K x o
+module _ (K : Plan) (x : SketchPort) (o : ℕ) {j : Result (Unit {0}) Reason} (e : j ≡ judge_end K x o) where
+  pub end_refused : {q : Reason} → j ≡ Err q → Err q ≡ subport_link K x o
   end_refused f = sym (found_as_judged K x o ∙ ap (found_as (far_from (at_end (spot_named x) (offset_read K x o)) K.wires)) (sym e ∙ f))
 
-  pub end_asked : j ≡ judged.Fine → (y : FarEnd) {p : ℕ} {a : EndAnswer} → p ≡ offset_read K x o → far_of y ≡ far_from (at_end (spot_named x) p) K.wires → a ≡ end_found (far_of y) → a ≡ subport_link K x o
+  pub end_asked : j ≡ Ok tt → (y : Option RowEnd) {p : ℕ} {a : Result (Option SketchEnd) Reason} → p ≡ offset_read K x o → far_of y ≡ far_from (at_end (spot_named x) p) K.wires → a ≡ end_found (far_of y) → a ≡ subport_link K x o
   end_asked f y {p} {a} u v c =
       c ∙ ap end_found (v ∙ ap (λ (n : ℕ). far_from (at_end (spot_named x) n) K.wires) u)
       ∙ sym (found_as_judged K x o ∙ ap (found_as (far_from (at_end (spot_named x) (offset_read K x o)) K.wires)) (sym e ∙ f))
 
--- Cutting at an end. Where nothing is found there is nothing to drop.
+-- Cutting at an end.
 
-without_none : (g : Place → Bool) (l : List Wire) → far_from g l ≡ nothing → without g l ≡ l
-unfolding filter far_from
-without_none g [] e = refl
-without_none g (w ∷ l) e = go (g w.out) refl (g w.into) refl e (without_none g l)
-  where
-    go : (a : Bool) → g w.out ≡ a → (b : Bool) → g w.into ≡ b → cond (g w.out) (far w.into) (cond (g w.into) (far w.out) (far_from g l)) ≡ nothing → (far_from g l ≡ nothing → without g l ≡ l) →
-        cond (not (touches g w)) (w ∷ without g l) (without g l) ≡ w ∷ l
-    go true p b q h rest = let k : far w.into ≡ nothing = rw p at h in absurd (let z : ◌≡◌ {A = ℕ} 0 1 = cc in omega arith)
-    go false p true q h rest = let k : far w.out ≡ nothing = rw (p, q) at h in absurd (let z : ◌≡◌ {A = ℕ} 0 1 = cc in omega arith)
-    go false p false q h rest = let k : far_from g l ≡ nothing = rw (p, q) at h in rw (p, q) (ap (λ (x : List Wire). w ∷ x) (rest k))
+not_refused : (x : Option SketchEnd) → is_refused (Ok x) ≡ false
+not_refused None = refl
+not_refused (Some x) = refl
 
-nothing_found : (x : Far) (j : Judged) → found_as x j ≡ end.Nothing → x ≡ nothing
-nothing_found nothing j e = refl
-nothing_found (far x) judged.Fine e = absurd (let z : ◌≡◌ {A = ℕ} 0 1 = cc in omega arith)
-nothing_found (far x) (judged.Refused q) e = absurd (let z : ◌≡◌ {A = ℕ} 0 1 = cc in omega arith)
-
-module _ (b s w : List ℕ) (h : Totals) (wf : SketchWf b s w h) (x : SketchPort) (o : ℕ) {a : EndAnswer} (e : a ≡ subport_link (plan_in b s w h) x o) where
+module _ (b s w : List Row) (h : Totals) (wf : SketchWf b s w h) (x : SketchPort) (o : ℕ) {a : Result (Option SketchEnd) Reason} (e : a ≡ subport_link (plan_in b s w h) x o) where
   abbrev cut_plan : Plan
   cut_plan = with_wires (plan_in b s w h) (without (at_end (spot_named x) (offset_read (plan_in b s w h) x o)) (wires_in w h.wires))
 
   cut_as : cut_subport (plan_in b s w h) x o ≡ leaves (cond (is_refused a) (plan_in b s w h) cut_plan) a
   unfolding cut_subport
-  cut_as = ap (λ (y : EndAnswer). leaves (cond (is_refused y) (plan_in b s w h) cut_plan) y) (sym e)
+  cut_as = ap (λ (y : Result (Option SketchEnd) Reason). leaves (cond (is_refused y) (plan_in b s w h) cut_plan) y) (sym e)
 
-  pub end_cut_refused : {q : Reason} → a ≡ end.Refused q → Leaves found_numbers (cut_subport (plan_in b s w h) x o) b s w h a
-  end_cut_refused f = leaves_as (plan_in b s w h) a (cut_as ∙ ap (λ (y : EndAnswer). leaves (cond (is_refused y) (plan_in b s w h) cut_plan) a) f) refl refl wf
+  pub end_cut_refused : {q : Reason} → a ≡ Err q → Leaves found_numbers (cut_subport (plan_in b s w h) x o) b s w h (Err q)
+  end_cut_refused {q} f = leaves_as (plan_in b s w h) a (cut_as ∙ ap (λ (y : Result (Option SketchEnd) Reason). leaves (cond (is_refused y) (plan_in b s w h) cut_plan) a) f) refl (sym f) wf
 
-  pub end_cut_nothing : a ≡ end.Nothing → Leaves found_numbers (cut_subport (plan_in b s w h) x o) b s w h a
-  end_cut_nothing f =
-      let n = nothing_found (far_from (at_end (spot_named x) (offset_read (plan_in b s w h) x o)) (wires_in w h.wires)) (judge_end (plan_in b s w h) x o) (sym (found_as_judged (plan_in b s w h) x o) ∙ sym e ∙ f) in
-      let k : plan_in b s w h ≡ cut_plan = ap (with_wires (plan_in b s w h)) (sym (without_none (at_end (spot_named x) (offset_read (plan_in b s w h) x o)) (wires_in w h.wires) n)) in
-      leaves_as cut_plan a (cut_as ∙ ap (λ (y : EndAnswer). leaves (cond (is_refused y) (plan_in b s w h) cut_plan) a) f) k refl wf
-
-  pub end_cut : {y : SketchEnd} → a ≡ end.Found y → {p : ℕ} → p ≡ offset_read (plan_in b s w h) x o → (w' : List ℕ) (n : ℕ) → (rows_in w' n ≡ filter (missed (test.Wire (ask.AtEnd x p))) (rows_in w h.wires)) × Table w' →
-      {h' : Totals} → h' ≡ held_wires h n → Leaves found_numbers (cut_subport (plan_in b s w h) x o) b s w' h' a
-  end_cut f {p} u w' n d {h'} c =
+  pub end_cut : {y : Option SketchEnd} → a ≡ Ok y → {p : ℕ} → p ≡ offset_read (plan_in b s w h) x o → (w' : List Row) (n : ℕ) → (rows_in w' n ≡ filter (missed (test.Wire (ask.AtEnd x p))) (rows_in w h.wires)) × Table w' →
+      {h' : Totals} → h' ≡ held_wires h n → Leaves found_numbers (cut_subport (plan_in b s w h) x o) b s w' h' (Ok y)
+  end_cut {y} f {p} u w' n d {h'} c =
       let k : plan_in b s w' h' ≡ cut_plan =
       ap (plan_in b s w') c ∙ ap (with_wires (plan_in b s w h)) (ap (map wire_of) d.0 ∙ wires_left (ask.AtEnd x p) (rows_in w h.wires) ∙ ap (λ (m : ℕ). without (at_end (spot_named x) m) (wires_in w h.wires)) u) in
-      leaves_as cut_plan a (cut_as ∙ ap (λ (y : EndAnswer). leaves (cond (is_refused y) (plan_in b s w h) cut_plan) a) f) k refl
+      leaves_as cut_plan a (cut_as ∙ ap (λ (t : Bool). leaves (cond t (plan_in b s w h) cut_plan) a) (ap is_refused f ∙ not_refused y)) k (sym f)
       (tables_wf wf.block_table wf.split_table d.1 k (cut_wf (plan_in b s w h) (at_end (spot_named x) (offset_read (plan_in b s w h) x o)) wf.plan))
 
 -- Cutting a port.
 
-module _ (b s w : List ℕ) (h : Totals) (wf : SketchWf b s w h) (x : SketchPort) where
-  pub cut_unknown : is_there (plan_in b s w h) x ≡ false → Leaves cut_numbers (cut_port (plan_in b s w h) x) b s w h (port.Refused UnknownPort)
+module _ (b s w : List Row) (h : Totals) (wf : SketchWf b s w h) (x : SketchPort) where
+  pub cut_unknown : is_there (plan_in b s w h) x ≡ false → Leaves cut_numbers (cut_port (plan_in b s w h) x) b s w h (Err UnknownPort)
   unfolding cut_port
-  cut_unknown e = leaves_as (plan_in b s w h) (port.Refused UnknownPort) (rw e) refl refl wf
+  cut_unknown e = leaves_as (plan_in b s w h) (Err UnknownPort) (rw e) refl refl wf
 
-  module _ (there : is_there (plan_in b s w h) x ≡ true) (w' : List ℕ) (n : ℕ) (d : (rows_in w' n ≡ filter (missed (test.Wire (ask.AtPort x))) (rows_in w h.wires)) × Table w') where
+  module _ (there : is_there (plan_in b s w h) x ≡ true) (w' : List Row) (n : ℕ) (d : (rows_in w' n ≡ filter (missed (test.Wire (ask.AtPort x))) (rows_in w h.wires)) × Table w') where
     wires_cut : plan_in b s w' (held_wires h n) ≡ with_wires (plan_in b s w h) (without (at_spot (spot_named x)) (wires_in w h.wires))
     wires_cut = ap (with_wires (plan_in b s w h)) (ap (map wire_of) d.0 ∙ wires_left (ask.AtPort x) (rows_in w h.wires))
 
@@ -214,23 +195,23 @@ module _ (b s w : List ℕ) (h : Totals) (wf : SketchWf b s w h) (x : SketchPort
     pub cut_room : SplitsRoom s h.splits x 0
     cut_room = room_for b s w' (held_wires h n) cut_kept x still_there 0 (omega arith)
 
-    module _ {s' : List ℕ} {m : ℕ} (q : (splits_in s' m ≡ splits_with (splits_in s h.splits) x 0) × Table s') {h' : Totals} (c : h' ≡ totals_counts h h.blocks m n) where
+    module _ {s' : List Row} {m : ℕ} (q : (splits_in s' m ≡ splits_with (splits_in s h.splits) x 0) × Table s') {h' : Totals} (c : h' ≡ totals_counts h h.blocks m n) where
       plan_cut_lem : IsPlan (set_subports (with_wires (plan_in b s w h) (without (at_spot (spot_named x)) (wires_in w h.wires))) x 0) b s' w' h'
       plan_cut_lem =
           subst (IsPlan (set_subports (with_wires (plan_in b s w h) (without (at_spot (spot_named x)) (wires_in w h.wires))) x 0) b s' w') (sym c)
           (subst (λ (k : Plan). IsPlan (set_subports k x 0) b s' w' (totals_counts h h.blocks m n)) wires_cut (subports_set b s w' (held_wires h n) cut_kept x still_there 0 (omega arith) q))
 
-      pub cut_unsplit : {k : ℕ} → k ≡ subports_of (plan_in b s w h) x → k ≡ 0 → (y : FarEnd) {a : PortAnswer} → far_of y ≡ far_from (at_spot (spot_named x)) (wires_in w h.wires) → a ≡ port_found (far_of y) →
+      pub cut_unsplit : {k : ℕ} → k ≡ subports_of (plan_in b s w h) x → k ≡ 0 → (y : Option RowEnd) {a : Result (Option SketchPort) Reason} → far_of y ≡ far_from (at_spot (spot_named x)) (wires_in w h.wires) → a ≡ port_found (far_of y) →
           Leaves cut_numbers (cut_port (plan_in b s w h) x) b s' w' h' a
       unfolding cut_port
       cut_unsplit e z y f g =
           leaves_as (set_subports (with_wires (plan_in b s w h) (without (at_spot (spot_named x)) (wires_in w h.wires))) x 0) (port_found (far_from (at_spot (spot_named x)) (wires_in w h.wires)))
           (rw (there, eq-eqb (subports_of (plan_in b s w h) x) 0 (sym e ∙ z))) plan_cut_lem.plan (g ∙ ap port_found f) plan_cut_lem.wf
 
-      pub cut_split : {k : ℕ} → k ≡ subports_of (plan_in b s w h) x → (k ≡ 0 → ⊥) → Leaves cut_numbers (cut_port (plan_in b s w h) x) b s' w' h' (port.Found x)
+      pub cut_split : {k : ℕ} → k ≡ subports_of (plan_in b s w h) x → (k ≡ 0 → ⊥) → Leaves cut_numbers (cut_port (plan_in b s w h) x) b s' w' h' (Ok (Some x))
       unfolding cut_port
       cut_split e z =
-          leaves_as (set_subports (with_wires (plan_in b s w h) (without (at_spot (spot_named x)) (wires_in w h.wires))) x 0) (port.Found x)
+          leaves_as (set_subports (with_wires (plan_in b s w h) (without (at_spot (spot_named x)) (wires_in w h.wires))) x 0) (Ok (Some x))
           (rw (there, ne_eqb (subports_of (plan_in b s w h) x) 0 (λ q. z (e ∙ q)))) plan_cut_lem.plan refl plan_cut_lem.wf
 
 -- Tidying.
@@ -241,14 +222,14 @@ left_none n h = rw (le-leb n 1 h)
 pub left_some : (n : ℕ) → 1 < n → n ≡ tidied n
 left_some n h = rw (lt-leb n 1 h)
 
-module _ (b s w : List ℕ) (h : Totals) (wf : SketchWf b s w h) (x : SketchPort) where
-  pub tidy_unknown : is_there (plan_in b s w h) x ≡ false → Leaves done_numbers (tidy_port (plan_in b s w h) x) b s w h (done.Refused UnknownPort)
+module _ (b s w : List Row) (h : Totals) (wf : SketchWf b s w h) (x : SketchPort) where
+  pub tidy_unknown : is_there (plan_in b s w h) x ≡ false → Leaves done_numbers (tidy_port (plan_in b s w h) x) b s w h (Err UnknownPort)
   unfolding tidy_port
-  tidy_unknown e = leaves_as (plan_in b s w h) (done.Refused UnknownPort) (rw e) refl refl wf
+  tidy_unknown e = leaves_as (plan_in b s w h) (Err UnknownPort) (rw e) refl refl wf
 
-  pub tidy_unsplit : is_there (plan_in b s w h) x ≡ true → {k : ℕ} → k ≡ subports_of (plan_in b s w h) x → k ≡ 0 → Leaves done_numbers (tidy_port (plan_in b s w h) x) b s w h done.Done
+  pub tidy_unsplit : is_there (plan_in b s w h) x ≡ true → {k : ℕ} → k ≡ subports_of (plan_in b s w h) x → k ≡ 0 → Leaves done_numbers (tidy_port (plan_in b s w h) x) b s w h (Ok tt)
   unfolding tidy_port
-  tidy_unsplit there e z = leaves_as (plan_in b s w h) done.Done (rw (there, eq-eqb (subports_of (plan_in b s w h) x) 0 (sym e ∙ z))) refl refl wf
+  tidy_unsplit there e z = leaves_as (plan_in b s w h) (Ok tt) (rw (there, eq-eqb (subports_of (plan_in b s w h) x) 0 (sym e ∙ z))) refl refl wf
 
   pub above_fits : {n : ℕ} → n ≡ above_wired (spot_named x) (wires_in w h.wires) → n ≤ most_subports
   above_fits e = let k = above_within (plan_in b s w h) x wf.plan in omega arith
@@ -260,12 +241,12 @@ module _ (b s w : List ℕ) (h : Totals) (wf : SketchWf b s w h) (x : SketchPort
     pub tidy_room : SplitsRoom s h.splits x m
     tidy_room = room_for b s w h wf x there m left_within
 
-    pub tidy_split : {k : ℕ} → k ≡ subports_of (plan_in b s w h) x → (k ≡ 0 → ⊥) → {s' : List ℕ} {c : ℕ} → (splits_in s' c ≡ splits_with (splits_in s h.splits) x m) × Table s' → {h' : Totals} → h' ≡ held_splits h c →
-        Leaves done_numbers (tidy_port (plan_in b s w h) x) b s' w h' done.Done
+    pub tidy_split : {k : ℕ} → k ≡ subports_of (plan_in b s w h) x → (k ≡ 0 → ⊥) → {s' : List Row} {c : ℕ} → (splits_in s' c ≡ splits_with (splits_in s h.splits) x m) × Table s' → {h' : Totals} → h' ≡ held_splits h c →
+        Leaves done_numbers (tidy_port (plan_in b s w h) x) b s' w h' (Ok tt)
     unfolding tidy_port
     tidy_split g z {s'} {c} q {h'} p =
         let k : m ≡ tidied (above_wired (spot_named x) (wires_in w h.wires)) = f ∙ ap tidied e in
         let r : IsPlan (set_subports (plan_in b s w h) x (tidied (above_wired (spot_named x) (wires_in w h.wires)))) b s' w h' =
         subst (IsPlan (set_subports (plan_in b s w h) x (tidied (above_wired (spot_named x) (wires_in w h.wires)))) b s' w) (sym p)
         (subst (λ (n : ℕ). IsPlan (set_subports (plan_in b s w h) x n) b s' w (held_splits h c)) k (subports_set b s w h wf x there m left_within q)) in
-        leaves_as (set_subports (plan_in b s w h) x (tidied (above_wired (spot_named x) (wires_in w h.wires)))) done.Done (rw (there, ne_eqb (subports_of (plan_in b s w h) x) 0 (λ q. z (g ∙ q)))) r.plan refl r.wf
+        leaves_as (set_subports (plan_in b s w h) x (tidied (above_wired (spot_named x) (wires_in w h.wires)))) (Ok tt) (rw (there, ne_eqb (subports_of (plan_in b s w h) x) 0 (λ q. z (g ∙ q)))) r.plan refl r.wf

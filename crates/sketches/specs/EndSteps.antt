@@ -1,5 +1,5 @@
 -- Linking two ends over the tables: what is refused before any change, then one more wire.
-use Rattle.std.specs.Prelude.{◌≡◌, refl, Bool, true, false, cond, not, ◌||◌, List, ℕ, ◌+◌, ◌<◌, leb, ltb, length}
+use Rattle.std.specs.Prelude.{◌≡◌, refl, Bool, true, false, cond, not, ◌||◌, List, ℕ, ◌+◌, ◌<◌, leb, ltb, length, Result, Ok, Err}
 use Rattle.std.proofs.Common.{sym, ap, ◌∙◌, arith, leb-true, leb-false, eq-eqb, ne_eqb, ltb-true, ltb-false}
 use Rattle.port_tables.specs.Entries.{same_side}
 use Rattle.port_tables.specs.Places.{wire_of_sides}
@@ -10,40 +10,36 @@ use Rattle.sketches.specs.CallsWf.{wire_wf, read_within}
 use Rattle.sketches.specs.Rows.{row_slots, put_row, wire_of}
 use Rattle.sketches.specs.Offsets.{length_wires}
 use Rattle.sketches.specs.BlockSteps.{leaves_as, tables_wf}
-use Rattle.sketches.specs.LinkSteps.{wire_laid, refused_with, refused_as}
+use Rattle.sketches.specs.LinkSteps.{wire_laid}
 use Rattle.sketches.specs.SketchTables.{plan_in, held_wires, SketchWf, Leaves}
 use Rattle.sketches.specs.declared.rows.Row.{Row}
 use Rattle.sketches.specs.declared.totals.Totals.{Totals}
-use Rattle.sketches.specs.declared.totals.LinkedLent.{LinkedLent}
 use Rattle.sketches.specs.declared.sketch.SketchPort.{SketchPort}
 use Rattle.sketches.specs.declared.sketch.Reason.{Reason}
 use Rattle.sketches.specs.declared.sketch.Reason.TheVariants.{BadOffset, UnknownPort, UnknownOffset, NoRoom, UnknownSecondPort, SameSide, AlreadyLinked, InputWired}
-use Rattle.sketches.specs.declared.sketch.LinkAnswer.{LinkAnswer}
-use Rattle.sketches.specs.declared.sketch.LinkAnswer.TheVariants as link
-use Rattle.sketches.specs.declared.subport_links.Judged.{Judged}
-use Rattle.sketches.specs.declared.subport_links.Judged.TheVariants as judged
+use Rattle.sketches.specs.declared.sketch.SketchEnd.{SketchEnd}
 
 -- 2, 7, 9
-abbrev pub judge_by : Bool → Bool → Bool → Judged
-judge_by bad there lacks = cond bad (judged.Refused BadOffset) (cond (not there) (judged.Refused UnknownPort) (cond lacks (judged.Refused UnknownOffset) judged.Fine))
+abbrev pub judge_by : Bool → Bool → Bool → Result (Unit {0}) Reason
+judge_by bad there lacks = cond bad (Err BadOffset) (cond (not there) (Err UnknownPort) (cond lacks (Err UnknownOffset) (Ok tt)))
 
-unfoldable pub judge_end : Plan → SketchPort → ℕ → Judged
+unfoldable pub judge_end : Plan → SketchPort → ℕ → Result (Unit {0}) Reason
 judge_end K x o = judge_by (bad_offset o) (is_there K x) (lacks_offset K x o)
 
 -- 2, 7, 9, 18, 11, 12, 13, 10
-abbrev pub judge_all : Bool → Bool → Bool → Bool → Bool → Bool → Bool → Bool → Judged
+abbrev pub judge_all : Bool → Bool → Bool → Bool → Bool → Bool → Bool → Bool → Result (Unit {0}) Reason
 judge_all bad there lacks taken second sides wired full =
-    cond bad (judged.Refused BadOffset)
-    (cond (not there) (judged.Refused UnknownPort)
-    (cond lacks (judged.Refused UnknownOffset)
-    (cond taken (judged.Refused InputWired)
-    (cond (not second) (judged.Refused UnknownSecondPort)
-    (cond sides (judged.Refused SameSide)
-    (cond wired (judged.Refused AlreadyLinked)
-    (cond full (judged.Refused NoRoom)
-    judged.Fine)))))))
+    cond bad (Err BadOffset)
+    (cond (not there) (Err UnknownPort)
+    (cond lacks (Err UnknownOffset)
+    (cond taken (Err InputWired)
+    (cond (not second) (Err UnknownSecondPort)
+    (cond sides (Err SameSide)
+    (cond wired (Err AlreadyLinked)
+    (cond full (Err NoRoom)
+    (Ok tt))))))))
 
-unfoldable pub judge_ends : Plan → SketchPort → ℕ → SketchPort → ℕ → Judged
+unfoldable pub judge_ends : Plan → SketchPort → ℕ → SketchPort → ℕ → Result (Unit {0}) Reason
 judge_ends K x o y r =
     judge_all (bad_offset o || bad_offset r) (is_there K x) (lacks_offset K x o || cond (is_there K y) (lacks_offset K y r) false) (input_taken K x y) (is_there K y) (same_side x.side y.side)
     (is_wired K x o || is_wired K y r) (is_full K)
@@ -72,55 +68,55 @@ lacks_split K x o e z = ap (λ (n : ℕ). leb n o) e ∙ rw (ne_eqb (subports_of
 -- Each stage of the judgement.
 
 module _ (K : Plan) (x : SketchPort) (o : ℕ) (y : SketchPort) (r : ℕ) where
-  pub ends_bad : (bad_offset o || bad_offset r) ≡ true → judged.Refused BadOffset ≡ judge_ends K x o y r
+  pub ends_bad : (bad_offset o || bad_offset r) ≡ true → Err BadOffset ≡ judge_ends K x o y r
   unfolding judge_ends
   ends_bad a = rw (a)
 
-  pub ends_unknown : (bad_offset o || bad_offset r) ≡ false → is_there K x ≡ false → judged.Refused UnknownPort ≡ judge_ends K x o y r
+  pub ends_unknown : (bad_offset o || bad_offset r) ≡ false → is_there K x ≡ false → Err UnknownPort ≡ judge_ends K x o y r
   unfolding judge_ends
   ends_unknown a b = rw (a, b)
 
-  pub ends_lack : (bad_offset o || bad_offset r) ≡ false → is_there K x ≡ true → (lacks_offset K x o || cond (is_there K y) (lacks_offset K y r) false) ≡ true → judged.Refused UnknownOffset ≡ judge_ends K x o y r
+  pub ends_lack : (bad_offset o || bad_offset r) ≡ false → is_there K x ≡ true → (lacks_offset K x o || cond (is_there K y) (lacks_offset K y r) false) ≡ true → Err UnknownOffset ≡ judge_ends K x o y r
   unfolding judge_ends
   ends_lack a b c = rw (a, b, c)
 
-  pub ends_taken : (bad_offset o || bad_offset r) ≡ false → is_there K x ≡ true → (lacks_offset K x o || cond (is_there K y) (lacks_offset K y r) false) ≡ false → input_taken K x y ≡ true → judged.Refused InputWired ≡ judge_ends K x o y r
+  pub ends_taken : (bad_offset o || bad_offset r) ≡ false → is_there K x ≡ true → (lacks_offset K x o || cond (is_there K y) (lacks_offset K y r) false) ≡ false → input_taken K x y ≡ true → Err InputWired ≡ judge_ends K x o y r
   unfolding judge_ends
   ends_taken a b c d = rw (a, b, c, d)
 
-  pub ends_second : (bad_offset o || bad_offset r) ≡ false → is_there K x ≡ true → (lacks_offset K x o || cond (is_there K y) (lacks_offset K y r) false) ≡ false → input_taken K x y ≡ false → is_there K y ≡ false → judged.Refused UnknownSecondPort ≡ judge_ends K x o y r
+  pub ends_second : (bad_offset o || bad_offset r) ≡ false → is_there K x ≡ true → (lacks_offset K x o || cond (is_there K y) (lacks_offset K y r) false) ≡ false → input_taken K x y ≡ false → is_there K y ≡ false → Err UnknownSecondPort ≡ judge_ends K x o y r
   unfolding judge_ends
   ends_second a b c d e = rw (a, b, c, d, e)
 
-  pub ends_same_side : (bad_offset o || bad_offset r) ≡ false → is_there K x ≡ true → (lacks_offset K x o || cond (is_there K y) (lacks_offset K y r) false) ≡ false → input_taken K x y ≡ false → is_there K y ≡ true → same_side x.side y.side ≡ true → judged.Refused SameSide ≡ judge_ends K x o y r
+  pub ends_same_side : (bad_offset o || bad_offset r) ≡ false → is_there K x ≡ true → (lacks_offset K x o || cond (is_there K y) (lacks_offset K y r) false) ≡ false → input_taken K x y ≡ false → is_there K y ≡ true → same_side x.side y.side ≡ true → Err SameSide ≡ judge_ends K x o y r
   unfolding judge_ends
   ends_same_side a b c d e f = rw (a, b, c, d, e, f)
 
-  pub ends_wired : (bad_offset o || bad_offset r) ≡ false → is_there K x ≡ true → (lacks_offset K x o || cond (is_there K y) (lacks_offset K y r) false) ≡ false → input_taken K x y ≡ false → is_there K y ≡ true → same_side x.side y.side ≡ false → (is_wired K x o || is_wired K y r) ≡ true → judged.Refused AlreadyLinked ≡ judge_ends K x o y r
+  pub ends_wired : (bad_offset o || bad_offset r) ≡ false → is_there K x ≡ true → (lacks_offset K x o || cond (is_there K y) (lacks_offset K y r) false) ≡ false → input_taken K x y ≡ false → is_there K y ≡ true → same_side x.side y.side ≡ false → (is_wired K x o || is_wired K y r) ≡ true → Err AlreadyLinked ≡ judge_ends K x o y r
   unfolding judge_ends
   ends_wired a b c d e f g = rw (a, b, c, d, e, f, g)
 
-  pub ends_full : (bad_offset o || bad_offset r) ≡ false → is_there K x ≡ true → (lacks_offset K x o || cond (is_there K y) (lacks_offset K y r) false) ≡ false → input_taken K x y ≡ false → is_there K y ≡ true → same_side x.side y.side ≡ false → (is_wired K x o || is_wired K y r) ≡ false → is_full K ≡ true → judged.Refused NoRoom ≡ judge_ends K x o y r
+  pub ends_full : (bad_offset o || bad_offset r) ≡ false → is_there K x ≡ true → (lacks_offset K x o || cond (is_there K y) (lacks_offset K y r) false) ≡ false → input_taken K x y ≡ false → is_there K y ≡ true → same_side x.side y.side ≡ false → (is_wired K x o || is_wired K y r) ≡ false → is_full K ≡ true → Err NoRoom ≡ judge_ends K x o y r
   unfolding judge_ends
   ends_full a b c d e f g h = rw (a, b, c, d, e, f, g, h)
 
-  pub ends_fine : (bad_offset o || bad_offset r) ≡ false → is_there K x ≡ true → (lacks_offset K x o || cond (is_there K y) (lacks_offset K y r) false) ≡ false → input_taken K x y ≡ false → is_there K y ≡ true → same_side x.side y.side ≡ false → (is_wired K x o || is_wired K y r) ≡ false → is_full K ≡ false → judged.Fine ≡ judge_ends K x o y r
+  pub ends_fine : (bad_offset o || bad_offset r) ≡ false → is_there K x ≡ true → (lacks_offset K x o || cond (is_there K y) (lacks_offset K y r) false) ≡ false → input_taken K x y ≡ false → is_there K y ≡ true → same_side x.side y.side ≡ false → (is_wired K x o || is_wired K y r) ≡ false → is_full K ≡ false → Ok tt ≡ judge_ends K x o y r
   unfolding judge_ends
   ends_fine a b c d e f g h = rw (a, b, c, d, e, f, g, h)
 
-  pub end_bad : bad_offset o ≡ true → judged.Refused BadOffset ≡ judge_end K x o
+  pub end_bad : bad_offset o ≡ true → Err BadOffset ≡ judge_end K x o
   unfolding judge_end
   end_bad a = rw (a)
 
-  pub end_unknown : bad_offset o ≡ false → is_there K x ≡ false → judged.Refused UnknownPort ≡ judge_end K x o
+  pub end_unknown : bad_offset o ≡ false → is_there K x ≡ false → Err UnknownPort ≡ judge_end K x o
   unfolding judge_end
   end_unknown a b = rw (a, b)
 
-  pub end_lacks : bad_offset o ≡ false → is_there K x ≡ true → lacks_offset K x o ≡ true → judged.Refused UnknownOffset ≡ judge_end K x o
+  pub end_lacks : bad_offset o ≡ false → is_there K x ≡ true → lacks_offset K x o ≡ true → Err UnknownOffset ≡ judge_end K x o
   unfolding judge_end
   end_lacks a b c = rw (a, b, c)
 
-  pub end_fine : bad_offset o ≡ false → is_there K x ≡ true → lacks_offset K x o ≡ false → judged.Fine ≡ judge_end K x o
+  pub end_fine : bad_offset o ≡ false → is_there K x ≡ true → lacks_offset K x o ≡ false → Ok tt ≡ judge_end K x o
   unfolding judge_end
   end_fine a b c = rw (a, b, c)
 
@@ -137,9 +133,9 @@ pub or_second : (a b : Bool) → a ≡ false → b ≡ (a || b)
 or_second a b e = rw e
 
 -- the call, as it is judged
-abbrev pub link_as : Plan → SketchPort → ℕ → SketchPort → ℕ → Judged → Sketched LinkAnswer
-link_as K x o y r (judged.Refused q) = leaves K (link.Refused q)
-link_as K x o y r judged.Fine = leaves (with_wire K x (offset_read K x o) y (offset_read K y r)) (link.Linked (end# x (offset_read K x o)) (end# y (offset_read K y r)))
+abbrev pub link_as : Plan → SketchPort → ℕ → SketchPort → ℕ → Result (Unit {0}) Reason → Sketched (Result (SketchEnd × SketchEnd) Reason)
+link_as K x o y r (Err q) = leaves K (Err q)
+link_as K x o y r (Ok u) = leaves (with_wire K x (offset_read K x o) y (offset_read K y r)) (Ok (end# x (offset_read K x o), end# y (offset_read K y r)))
 
 pub link_as_judged : (K : Plan) (x : SketchPort) (o : ℕ) (y : SketchPort) (r : ℕ) → link_subports K x o y r ≡ link_as K x o y r (judge_ends K x o y r)
 unfolding link_subports judge_ends
@@ -147,15 +143,15 @@ link_as_judged K x o y r =
     go (bad_offset o || bad_offset r) (is_there K x) (lacks_offset K x o || cond (is_there K y) (lacks_offset K y r) false) (input_taken K x y) (is_there K y) (same_side x.side y.side) (is_wired K x o || is_wired K y r) (is_full K)
   where
     go : (a b c d e f g h : Bool) →
-        cond a (leaves K (link.Refused BadOffset))
-        (cond (not b) (leaves K (link.Refused UnknownPort))
-        (cond c (leaves K (link.Refused UnknownOffset))
-        (cond d (leaves K (link.Refused InputWired))
-        (cond (not e) (leaves K (link.Refused UnknownSecondPort))
-        (cond f (leaves K (link.Refused SameSide))
-        (cond g (leaves K (link.Refused AlreadyLinked))
-        (cond h (leaves K (link.Refused NoRoom))
-        (leaves (with_wire K x (offset_read K x o) y (offset_read K y r)) (link.Linked (end# x (offset_read K x o)) (end# y (offset_read K y r)))))))))))
+        cond a (leaves K (Err BadOffset))
+        (cond (not b) (leaves K (Err UnknownPort))
+        (cond c (leaves K (Err UnknownOffset))
+        (cond d (leaves K (Err InputWired))
+        (cond (not e) (leaves K (Err UnknownSecondPort))
+        (cond f (leaves K (Err SameSide))
+        (cond g (leaves K (Err AlreadyLinked))
+        (cond h (leaves K (Err NoRoom))
+        (leaves (with_wire K x (offset_read K x o) y (offset_read K y r)) (Ok (end# x (offset_read K x o), end# y (offset_read K y r)))))))))))
         ≡ link_as K x o y r (judge_all a b c d e f g h)
     go true b c d e f g h = refl
     go false false c d e f g h = refl
@@ -174,16 +170,16 @@ pub record Judgeable (K : Plan) (x : SketchPort) (o : ℕ) (y : SketchPort) (r :
   pub sides : same_side x.side y.side ≡ false
   pub room : length K.wires < most_wires
 
-not_fine : {q : Reason} → judged.Refused q ≡ judged.Fine → ⊥
+not_fine : {q : Reason} → ◌≡◌ {A = Result (Unit {0}) Reason} (Err q) (Ok tt) → ⊥
 not_fine e = let z : ◌≡◌ {A = ℕ} 0 1 = cc in omega arith
 
-pub fine_means : (K : Plan) (x : SketchPort) (o : ℕ) (y : SketchPort) (r : ℕ) → judge_ends K x o y r ≡ judged.Fine → Judgeable K x o y r
+pub fine_means : (K : Plan) (x : SketchPort) (o : ℕ) (y : SketchPort) (r : ℕ) → judge_ends K x o y r ≡ Ok tt → Judgeable K x o y r
 unfolding judge_ends
 fine_means K x o y r p =
     go (bad_offset o || bad_offset r) (is_there K x) (lacks_offset K x o) refl (is_there K y) (lacks_offset K y r) refl (input_taken K x y) (same_side x.side y.side) refl (is_wired K x o || is_wired K y r) (is_full K) refl p
   where
     go : (a b c : Bool) → lacks_offset K x o ≡ c → (e c' : Bool) → lacks_offset K y r ≡ c' → (d f : Bool) → same_side x.side y.side ≡ f → (g h : Bool) → is_full K ≡ h →
-        judge_all a b (c || cond e c' false) d e f g h ≡ judged.Fine → Judgeable K x o y r
+        judge_all a b (c || cond e c' false) d e f g h ≡ Ok tt → Judgeable K x o y r
     go true b c c₁ e c' c₂ d f f₁ g h h₁ p = absurd (not_fine p)
     go false false c c₁ e c' c₂ d f f₁ g h h₁ p = absurd (not_fine p)
     go false true true c₁ e c' c₂ d f f₁ g h h₁ p = absurd (not_fine p)
@@ -196,11 +192,11 @@ fine_means K x o y r p =
     go false true false c₁ true false c₂ false false f₁ false true h₁ p = absurd (not_fine p)
     go false true false c₁ true false c₂ false false f₁ false false h₁ p = record { first = c₁; second = c₂; sides = f₁; room = leb-false most_wires (length K.wires) h₁ }
 
-module _ (b s w : List ℕ) (h : Totals) (wf : SketchWf b s w h) (x : SketchPort) (o : ℕ) (y : SketchPort) (r : ℕ) where
-  pub ends_refused : {j : Judged} {q : Reason} {a : LinkedLent} → j ≡ judge_ends (plan_in b s w h) x o y r → j ≡ judged.Refused q → a ≡ refused_with h q → Leaves link_numbers (link_subports (plan_in b s w h) x o y r) b s w a.totals a.answer
-  ends_refused e f p = refused_as wf (link_as_judged (plan_in b s w h) x o y r ∙ ap (link_as (plan_in b s w h) x o y r) (sym e ∙ f)) p
+module _ (b s w : List Row) (h : Totals) (wf : SketchWf b s w h) (x : SketchPort) (o : ℕ) (y : SketchPort) (r : ℕ) where
+  pub ends_refused : {q : Reason} → Err q ≡ judge_ends (plan_in b s w h) x o y r → Leaves link_numbers (link_subports (plan_in b s w h) x o y r) b s w h (Err q)
+  ends_refused {q} e = leaves_as (plan_in b s w h) (Err q) (link_as_judged (plan_in b s w h) x o y r ∙ ap (link_as (plan_in b s w h) x o y r) (sym e)) refl refl wf
 
-  module _ {j : Judged} (e : j ≡ judge_ends (plan_in b s w h) x o y r) (f : j ≡ judged.Fine) where
+  module _ {j : Result (Unit {0}) Reason} (e : j ≡ judge_ends (plan_in b s w h) x o y r) (f : j ≡ Ok tt) where
     fine : Judgeable (plan_in b s w h) x o y r
     fine = fine_means (plan_in b s w h) x o y r (sym e ∙ f)
 
@@ -211,14 +207,14 @@ module _ (b s w : List ℕ) (h : Totals) (wf : SketchWf b s w h) (x : SketchPort
     ends_room = let k = fine.room in let n = length_wires w h.wires in omega arith
 
     pub ends_linked : {p q : ℕ} → p ≡ offset_read (plan_in b s w h) x o → q ≡ offset_read (plan_in b s w h) y r → {row : Row} → wire_of row ≡ wire_of_sides x.side (place_named x p) (place_named y q) →
-        {w' : List ℕ} → w' ≡ put_row w h.wires row → {h' : Totals} → h' ≡ held_wires h (h.wires + 1) →
-        Leaves link_numbers (link_subports (plan_in b s w h) x o y r) b s w' h' (link.Linked (end# x p) (end# y q))
+        {w' : List Row} → w' ≡ put_row w h.wires row → {h' : Totals} → h' ≡ held_wires h (h.wires + 1) →
+        Leaves link_numbers (link_subports (plan_in b s w h) x o y r) b s w' h' (Ok (end# x p, end# y q))
     ends_linked {p} {q} u v {row} c {w'} k {h'} l =
         let t = wire_laid x y p q wf refl ends_room c k l in
         let g : plan_in b s w' h' ≡ with_wire (plan_in b s w h) x (offset_read (plan_in b s w h) x o) y (offset_read (plan_in b s w h) y r) =
         t.0 ∙ ap (λ (n : ℕ). with_wire (plan_in b s w h) x n y q) u ∙ ap (λ (n : ℕ). with_wire (plan_in b s w h) x (offset_read (plan_in b s w h) x o) y n) v in
-        leaves_as (with_wire (plan_in b s w h) x (offset_read (plan_in b s w h) x o) y (offset_read (plan_in b s w h) y r)) (link.Linked (end# x (offset_read (plan_in b s w h) x o)) (end# y (offset_read (plan_in b s w h) y r)))
+        leaves_as (with_wire (plan_in b s w h) x (offset_read (plan_in b s w h) x o) y (offset_read (plan_in b s w h) y r)) (Ok (end# x (offset_read (plan_in b s w h) x o), end# y (offset_read (plan_in b s w h) y r)))
         (link_as_judged (plan_in b s w h) x o y r ∙ ap (link_as (plan_in b s w h) x o y r) (sym e ∙ f)) g
-        (ap (λ (n : ℕ). link.Linked (end# x n) (end# y q)) u ∙ ap (λ (n : ℕ). link.Linked (end# x (offset_read (plan_in b s w h) x o)) (end# y n)) v)
+        (ap (λ (n : ℕ). (Ok (end# x n, end# y q))) u ∙ ap (λ (n : ℕ). (Ok (end# x (offset_read (plan_in b s w h) x o), end# y n))) v)
         (tables_wf wf.block_table wf.split_table t.1 g
         (wire_wf (plan_in b s w h) x (offset_read (plan_in b s w h) x o) y (offset_read (plan_in b s w h) y r) wf.plan fine.room (read_within (plan_in b s w h) x o wf.plan fine.first) (read_within (plan_in b s w h) y r wf.plan fine.second)))

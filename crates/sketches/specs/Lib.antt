@@ -6,6 +6,7 @@
 --   PlanCalls     each call: its refusals in their order, else what is done; sheets
 --   PlanLists     what each walk lists, the counts and the fan-outs
 --   SketchTables  three tables as a plan, what a call presumes and keeps (SketchWf) and what it promises (Leaves)
+--   Held          a sketch as contracts see it
 --   Rows          the rows of a table, and the tests on them
 --   SketchWalks   what a step of each walk gives
 --   WalkLaws, SubportLaws   a walk gives each item of its list once, and ends
@@ -22,6 +23,7 @@ pub mod RowReads
 pub mod Offsets
 pub mod PlanWf
 pub mod SketchTables
+pub mod Held
 pub mod CallsWf
 pub mod BlockSteps
 pub mod SplitSteps

@@ -1,18 +1,18 @@
 -- Linking two ports over the tables.
-use Rattle.std.specs.Prelude.{◌≡◌, refl, Bool, true, false, cond, List, ◌∷◌, map, ℕ, ◌+◌, ◌≤◌, ◌<◌, ltb, length}
+use Rattle.std.specs.Prelude.{◌≡◌, refl, Bool, true, false, cond, List, ◌∷◌, map, ℕ, ◌+◌, ◌<◌, length, Result, Ok, Err}
 use Rattle.std.proofs.Common.{sym, ap, ◌∙◌, subst, arith}
-use borrow.Author.Tests.{le-leb, lt-leb}
+use borrow.Author.Tests.{leb-false}
 use Rattle.port_tables.specs.Entries.{same_side}
 use Rattle.port_tables.specs.declared.direction.Direction.{Direction}
 use Rattle.port_tables.specs.declared.direction.Direction.TheVariants.{Incoming, Outgoing}
 use Rattle.port_tables.specs.Places.{Wire, at_spot, wire_of_sides, any_touches}
 use Rattle.port_tables.specs.declared.release.Release.{Release}
 use Rattle.port_tables.specs.declared.release.Release.TheVariants as release
-use Rattle.sketches.specs.Plan.{Plan, with_wires, ports_on_side, spot_named, is_there, wired_side, taken_under, input_taken, place_named, end#, offset_ready, ready}
-use Rattle.sketches.specs.PlanCalls.{most_wires, Sketched, leaves, with_wire, both_linked, link_ports, link_clean}
+use Rattle.sketches.specs.Plan.{Plan, with_wires, spot_named, is_there, wired_side, taken_under, input_taken, place_named, end#, offset_ready, ready}
+use Rattle.sketches.specs.PlanCalls.{most_wires, Sketched, leaves, is_full, with_wire, both_linked, link_ports, link_clean}
 use Rattle.sketches.specs.PlanNumbers.{link_numbers}
 use Rattle.sketches.specs.CallsWf.{ready_wires, ready_there, linked_wf, offset_within}
-use Rattle.sketches.specs.Rows.{row_slots, Table, put_row, blocks_in, wires_in, wire_of}
+use Rattle.sketches.specs.Rows.{row_slots, Table, put_row, wires_in, wire_of}
 use Rattle.sketches.specs.RowSteps.{row_added, length_put}
 use Rattle.sketches.specs.Offsets.{length_wires}
 use Rattle.sketches.specs.BlockSteps.{leaves_as, tables_wf}
@@ -20,12 +20,10 @@ use Rattle.sketches.specs.SplitSteps.{IsPlan}
 use Rattle.sketches.specs.SketchTables.{plan_in, held_wires, SketchWf, Leaves}
 use Rattle.sketches.specs.declared.rows.Row.{Row}
 use Rattle.sketches.specs.declared.totals.Totals.{Totals}
-use Rattle.sketches.specs.declared.totals.LinkedLent.{LinkedLent}
 use Rattle.sketches.specs.declared.sketch.SketchPort.{SketchPort}
 use Rattle.sketches.specs.declared.sketch.Reason.{Reason}
 use Rattle.sketches.specs.declared.sketch.Reason.TheVariants.{UnknownPort, NoRoom, UnknownSecondPort, SameSide, InputWired}
-use Rattle.sketches.specs.declared.sketch.LinkAnswer.{LinkAnswer}
-use Rattle.sketches.specs.declared.sketch.LinkAnswer.TheVariants as link
+use Rattle.sketches.specs.declared.sketch.SketchEnd.{SketchEnd}
 
 -- Inputs with a wire.
 
@@ -37,11 +35,6 @@ wired_gone K x e h = (rw h) ∙ ap (wired_side K x) (sym e)
 
 pub wired_in : (K : Plan) (x : SketchPort) {d : Direction} → d ≡ Incoming → is_there K x ≡ true → any_touches (at_spot (spot_named x)) K.wires ≡ wired_side K x d
 wired_in K x e h = (rw h) ∙ ap (wired_side K x) (sym e)
-
--- a port is there, as the table of blocks has it
-pub there_is : (b s w : List ℕ) (h : Totals) (x : SketchPort) {r t : Bool} → r ≡ ltb x.position (ports_on_side (blocks_in b h.blocks) x.block x.side) → r ≡ t → is_there (plan_in b s w h) x ≡ t
-unfolding is_there
-there_is b s w h x e p = sym e ∙ p
 
 pub taken_one : (K : Plan) (x y : SketchPort) → K.release ≡ release.One → false ≡ input_taken K x y
 unfolding input_taken
@@ -78,39 +71,39 @@ row_out x y o r e h = go x.side y.side e h
     go Incoming f p q = absurd (let z : ◌≡◌ {A = ℕ} 0 1 = cc in omega arith)
 
 -- one more wire in the tables of a plan
-pub wire_laid : (x y : SketchPort) (o r : ℕ) {b s w w' : List ℕ} {h h' : Totals} {K : Plan} {row : Row} → SketchWf b s w h → plan_in b s w h ≡ K → h.wires < row_slots →
+pub wire_laid : (x y : SketchPort) (o r : ℕ) {b s w w' : List Row} {h h' : Totals} {K : Plan} {row : Row} → SketchWf b s w h → plan_in b s w h ≡ K → h.wires < row_slots →
     wire_of row ≡ wire_of_sides x.side (place_named x o) (place_named y r) → w' ≡ put_row w h.wires row → h' ≡ held_wires h (h.wires + 1) →
     (plan_in b s w' h' ≡ with_wire K x o y r) × Table w'
 wire_laid x y o r {b} {s} {w} {w'} {h} {h'} {K} {row} wf e l c p q = (
   ap (plan_in b s w') q
-      ∙ ap (with_wires (plan_in b s w h)) (ap (λ (t : List ℕ). wires_in t (h.wires + 1)) p ∙ ap (map wire_of) (row_added w h.wires row wf.wire_table l) ∙ ap (λ (v : Wire). v ∷ wires_in w h.wires) c)
+      ∙ ap (with_wires (plan_in b s w h)) (ap (λ (t : List Row). wires_in t (h.wires + 1)) p ∙ ap (map wire_of) (row_added w h.wires row wf.wire_table l) ∙ ap (λ (v : Wire). v ∷ wires_in w h.wires) c)
       ∙ ap (λ (k : Plan). with_wire k x o y r) e,
   ap length p ∙ length_put w h.wires row ∙ wf.wire_table,
 )
 
 -- the second port is there after the first was made ready
-pub both_there : (b s w : List ℕ) (h : Totals) (x y : SketchPort) {b₁ s₁ w₁ : List ℕ} {h₁ : Totals} → IsPlan (ready (plan_in b s w h) x) b₁ s₁ w₁ h₁ → is_there (plan_in b s w h) y ≡ true →
+pub both_there : (b s w : List Row) (h : Totals) (x y : SketchPort) {b₁ s₁ w₁ : List Row} {h₁ : Totals} → IsPlan (ready (plan_in b s w h) x) b₁ s₁ w₁ h₁ → is_there (plan_in b s w h) y ≡ true →
     SketchWf b₁ s₁ w₁ h₁ × (is_there (plan_in b₁ s₁ w₁ h₁) y ≡ true)
 both_there b s w h x y p e = (p.wf, ap (λ (k : Plan). is_there k y) p.plan ∙ ready_there (plan_in b s w h) x y ∙ e)
 
 -- Both ports are linked.
 
-pub record Linkable (b s w : List ℕ) (h : Totals) (x y : SketchPort) : Type 0 where
+pub record Linkable (b s w : List Row) (h : Totals) (x y : SketchPort) : Type 0 where
   pub wf : SketchWf b s w h
   pub first : is_there (plan_in b s w h) x ≡ true
   pub second : is_there (plan_in b s w h) y ≡ true
   pub sides : same_side x.side y.side ≡ false
   pub room : h.wires < row_slots
 
-module _ (b s w : List ℕ) (h : Totals) (x y : SketchPort) (l : Linkable b s w h x y) where
+module _ (b s w : List Row) (h : Totals) (x y : SketchPort) (l : Linkable b s w h x y) where
   pub offset_fits : (z : SketchPort) {o : ℕ} → o ≡ offset_ready (plan_in b s w h) z → o < row_slots
   offset_fits z e = let k = offset_within (plan_in b s w h) z in let n = length_wires w h.wires in let m = l.room in omega arith
 
-  module _ {b₁ s₁ w₁ : List ℕ} {h₁ : Totals} (p : IsPlan (ready (plan_in b s w h) x) b₁ s₁ w₁ h₁) where
+  module _ {b₁ s₁ w₁ : List Row} {h₁ : Totals} (p : IsPlan (ready (plan_in b s w h) x) b₁ s₁ w₁ h₁) where
     pub second_there : SketchWf b₁ s₁ w₁ h₁ × (is_there (plan_in b₁ s₁ w₁ h₁) y ≡ true)
     second_there = both_there b s w h x y p l.second
 
-    module _ {b₂ s₂ w₂ : List ℕ} {h₂ : Totals} (q : IsPlan (ready (plan_in b₁ s₁ w₁ h₁) y) b₂ s₂ w₂ h₂) where
+    module _ {b₂ s₂ w₂ : List Row} {h₂ : Totals} (q : IsPlan (ready (plan_in b₁ s₁ w₁ h₁) y) b₂ s₂ w₂ h₂) where
       both : plan_in b₂ s₂ w₂ h₂ ≡ ready (ready (plan_in b s w h) x) y
       both = q.plan ∙ ap (λ (k : Plan). ready k y) p.plan
 
@@ -123,123 +116,102 @@ module _ (b s w : List ℕ) (h : Totals) (x y : SketchPort) (l : Linkable b s w 
           omega arith
 
       pub both_linked_lem : {o r : ℕ} → o ≡ offset_ready (plan_in b s w h) x → r ≡ offset_ready (plan_in b s w h) y → {row : Row} → wire_of row ≡ wire_of_sides x.side (place_named x o) (place_named y r) →
-          {w₃ : List ℕ} → w₃ ≡ put_row w₂ h₂.wires row → {h₃ : Totals} → h₃ ≡ held_wires h₂ (h₂.wires + 1) →
-          Leaves link_numbers (both_linked (plan_in b s w h) x y) b₂ s₂ w₃ h₃ (link.Linked (end# x o) (end# y r))
+          {w₃ : List Row} → w₃ ≡ put_row w₂ h₂.wires row → {h₃ : Totals} → h₃ ≡ held_wires h₂ (h₂.wires + 1) →
+          Leaves link_numbers (both_linked (plan_in b s w h) x y) b₂ s₂ w₃ h₃ (Ok (end# x o, end# y r))
       both_linked_lem {o} {r} f g {row} c {w₃} u {h₃} v =
           let t = wire_laid x y o r q.wf both still_room c u v in
           let n = length_wires w h.wires in
           let m = l.room in
           let e : plan_in b₂ s₂ w₃ h₃ ≡ (both_linked (plan_in b s w h) x y).plan = t.0 ∙ ap (λ (k : ℕ). with_wire (ready (ready (plan_in b s w h) x) y) x k y r) f ∙ ap (λ (k : ℕ). with_wire (ready (ready (plan_in b s w h) x) y) x (offset_ready (plan_in b s w h) x) y k) g in
           leaves_as (both_linked (plan_in b s w h) x y).plan (both_linked (plan_in b s w h) x y).answer refl e
-          (ap (λ (k : ℕ). link.Linked (end# x k) (end# y r)) f ∙ ap (λ (k : ℕ). link.Linked (end# x (offset_ready (plan_in b s w h) x)) (end# y k)) g)
+          (ap (λ (k : ℕ). (Ok (end# x k, end# y r))) f ∙ ap (λ (k : ℕ). (Ok (end# x (offset_ready (plan_in b s w h) x), end# y k))) g)
           (tables_wf q.wf.block_table q.wf.split_table t.1 e (linked_wf (plan_in b s w h) x y l.wf.plan l.first l.second (omega arith)))
 
 -- The calls, by what they are refused with.
 
-abbrev pub refused_with : Totals → Reason → LinkedLent
-refused_with h r = record { totals = h; answer = link.Refused r }
-
--- a refusal that leaves the tables as they were, and one that leaves what was made ready
-pub stub_as : {called : Sketched LinkAnswer} {K : Plan} {b s w : List ℕ} {h : Totals} {a : LinkedLent} {r : Reason} → IsPlan K b s w h → called ≡ leaves K (link.Refused r) → a ≡ refused_with h r →
-    Leaves link_numbers called b s w a.totals a.answer
-stub_as {called} {K} {b} {s} {w} {h} {a} {r} q e p =
-    subst (λ (z : LinkedLent). Leaves link_numbers called b s w z.totals z.answer) (sym p) (leaves_as K (link.Refused r) e q.plan refl q.wf)
-
-pub refused_as : {called : Sketched LinkAnswer} {b s w : List ℕ} {h : Totals} {a : LinkedLent} {r : Reason} → SketchWf b s w h → called ≡ leaves (plan_in b s w h) (link.Refused r) → a ≡ refused_with h r →
-    Leaves link_numbers called b s w a.totals a.answer
-refused_as wf e p = stub_as (record { plan = refl; wf = wf }) e p
-
 module _ (K : Plan) (x y : SketchPort) where
-  link_unknown : is_there K x ≡ false → link_ports K x y ≡ leaves K (link.Refused UnknownPort)
+  link_unknown : is_there K x ≡ false → link_ports K x y ≡ leaves K (Err UnknownPort)
   unfolding link_ports
   link_unknown e = rw e
 
-  link_taken : is_there K x ≡ true → input_taken K x y ≡ true → link_ports K x y ≡ leaves K (link.Refused InputWired)
+  link_taken : is_there K x ≡ true → input_taken K x y ≡ true → link_ports K x y ≡ leaves K (Err InputWired)
   unfolding link_ports
   link_taken e f = rw (e, f)
 
-  link_second : is_there K x ≡ true → input_taken K x y ≡ false → is_there K y ≡ false → link_ports K x y ≡ leaves (ready K x) (link.Refused UnknownSecondPort)
+  link_second : is_there K x ≡ true → input_taken K x y ≡ false → is_there K y ≡ false → link_ports K x y ≡ leaves (ready K x) (Err UnknownSecondPort)
   unfolding link_ports
   link_second e f g = rw (e, f, g)
 
-  link_sides : is_there K x ≡ true → input_taken K x y ≡ false → is_there K y ≡ true → same_side x.side y.side ≡ true → link_ports K x y ≡ leaves (ready (ready K x) y) (link.Refused SameSide)
+  link_sides : is_there K x ≡ true → input_taken K x y ≡ false → is_there K y ≡ true → same_side x.side y.side ≡ true → link_ports K x y ≡ leaves (ready (ready K x) y) (Err SameSide)
   unfolding link_ports
   link_sides e f g d = rw (e, f, g, d)
 
-  link_full : is_there K x ≡ true → input_taken K x y ≡ false → is_there K y ≡ true → same_side x.side y.side ≡ false → most_wires ≤ length K.wires → link_ports K x y ≡ leaves K (link.Refused NoRoom)
+  link_full : is_there K x ≡ true → input_taken K x y ≡ false → is_there K y ≡ true → same_side x.side y.side ≡ false → is_full K ≡ true → link_ports K x y ≡ leaves K (Err NoRoom)
   unfolding link_ports
-  link_full e f g d l = rw (e, f, g, d, le-leb most_wires (length K.wires) l)
+  link_full e f g d l = rw (e, f, g, d, l)
 
-  link_made : is_there K x ≡ true → input_taken K x y ≡ false → is_there K y ≡ true → same_side x.side y.side ≡ false → length K.wires < most_wires → link_ports K x y ≡ both_linked K x y
+  link_made : is_there K x ≡ true → input_taken K x y ≡ false → is_there K y ≡ true → same_side x.side y.side ≡ false → is_full K ≡ false → link_ports K x y ≡ both_linked K x y
   unfolding link_ports
-  link_made e f g d l = rw (e, f, g, d, lt-leb most_wires (length K.wires) l)
+  link_made e f g d l = rw (e, f, g, d, l)
 
-  pub clean_unknown : is_there K x ≡ false → link_clean K x y ≡ leaves K (link.Refused UnknownPort)
+  pub clean_unknown : is_there K x ≡ false → link_clean K x y ≡ leaves K (Err UnknownPort)
   unfolding link_clean
   clean_unknown e = rw e
 
-  pub clean_taken : is_there K x ≡ true → input_taken K x y ≡ true → link_clean K x y ≡ leaves K (link.Refused InputWired)
+  pub clean_taken : is_there K x ≡ true → input_taken K x y ≡ true → link_clean K x y ≡ leaves K (Err InputWired)
   unfolding link_clean
   clean_taken e f = rw (e, f)
 
-  pub clean_second : is_there K x ≡ true → input_taken K x y ≡ false → is_there K y ≡ false → link_clean K x y ≡ leaves K (link.Refused UnknownSecondPort)
+  pub clean_second : is_there K x ≡ true → input_taken K x y ≡ false → is_there K y ≡ false → link_clean K x y ≡ leaves K (Err UnknownSecondPort)
   unfolding link_clean
   clean_second e f g = rw (e, f, g)
 
-  pub clean_sides : is_there K x ≡ true → input_taken K x y ≡ false → is_there K y ≡ true → same_side x.side y.side ≡ true → link_clean K x y ≡ leaves K (link.Refused SameSide)
+  pub clean_sides : is_there K x ≡ true → input_taken K x y ≡ false → is_there K y ≡ true → same_side x.side y.side ≡ true → link_clean K x y ≡ leaves K (Err SameSide)
   unfolding link_clean
   clean_sides e f g d = rw (e, f, g, d)
 
-  pub clean_full : is_there K x ≡ true → input_taken K x y ≡ false → is_there K y ≡ true → same_side x.side y.side ≡ false → most_wires ≤ length K.wires → link_clean K x y ≡ leaves K (link.Refused NoRoom)
+  pub clean_full : is_there K x ≡ true → input_taken K x y ≡ false → is_there K y ≡ true → same_side x.side y.side ≡ false → is_full K ≡ true → link_clean K x y ≡ leaves K (Err NoRoom)
   unfolding link_clean
-  clean_full e f g d l = rw (e, f, g, d, le-leb most_wires (length K.wires) l)
+  clean_full e f g d l = rw (e, f, g, d, l)
 
-  clean_made : is_there K x ≡ true → input_taken K x y ≡ false → is_there K y ≡ true → same_side x.side y.side ≡ false → length K.wires < most_wires → link_clean K x y ≡ both_linked K x y
+  clean_made : is_there K x ≡ true → input_taken K x y ≡ false → is_there K y ≡ true → same_side x.side y.side ≡ false → is_full K ≡ false → link_clean K x y ≡ both_linked K x y
   unfolding link_clean
-  clean_made e f g d l = rw (e, f, g, d, lt-leb most_wires (length K.wires) l)
+  clean_made e f g d l = rw (e, f, g, d, l)
 
 -- Linking over the tables.
 
-module _ (b s w : List ℕ) (h : Totals) (wf : SketchWf b s w h) (x y : SketchPort) where
+module _ (b s w : List Row) (h : Totals) (wf : SketchWf b s w h) (x y : SketchPort) where
   abbrev K : Plan
   K = plan_in b s w h
 
-  pub linked_unknown : {a : LinkedLent} → is_there K x ≡ false → a ≡ refused_with h UnknownPort → Leaves link_numbers (link_ports K x y) b s w a.totals a.answer
-  linked_unknown e p = refused_as wf (link_unknown K x y e) p
+  pub linked_unknown : is_there K x ≡ false → Leaves link_numbers (link_ports K x y) b s w h (Err UnknownPort)
+  linked_unknown e = leaves_as K (Err UnknownPort) (link_unknown K x y e) refl refl wf
 
-  pub linked_taken : {a : LinkedLent} → is_there K x ≡ true → input_taken K x y ≡ true → a ≡ refused_with h InputWired → Leaves link_numbers (link_ports K x y) b s w a.totals a.answer
-  linked_taken e f p = refused_as wf (link_taken K x y e f) p
+  pub linked_taken : is_there K x ≡ true → input_taken K x y ≡ true → Leaves link_numbers (link_ports K x y) b s w h (Err InputWired)
+  linked_taken e f = leaves_as K (Err InputWired) (link_taken K x y e f) refl refl wf
 
-  pub linked_second : {a : LinkedLent} → is_there K x ≡ true → input_taken K x y ≡ false → is_there K y ≡ false → {b' s' w' : List ℕ} {h' : Totals} → IsPlan (ready K x) b' s' w' h' → a ≡ refused_with h' UnknownSecondPort →
-      Leaves link_numbers (link_ports K x y) b' s' w' a.totals a.answer
-  linked_second e f g q p = stub_as q (link_second K x y e f g) p
+  pub linked_second : is_there K x ≡ true → input_taken K x y ≡ false → is_there K y ≡ false → {b' s' w' : List Row} {h' : Totals} → IsPlan (ready K x) b' s' w' h' →
+      Leaves link_numbers (link_ports K x y) b' s' w' h' (Err UnknownSecondPort)
+  linked_second e f g q = leaves_as (ready K x) (Err UnknownSecondPort) (link_second K x y e f g) q.plan refl q.wf
 
-  pub linked_sides : {a : LinkedLent} → is_there K x ≡ true → input_taken K x y ≡ false → is_there K y ≡ true → same_side x.side y.side ≡ true →
-      {b₁ s₁ w₁ : List ℕ} {h₁ : Totals} → IsPlan (ready K x) b₁ s₁ w₁ h₁ → {b' s' w' : List ℕ} {h' : Totals} → IsPlan (ready (plan_in b₁ s₁ w₁ h₁) y) b' s' w' h' → a ≡ refused_with h' SameSide →
-      Leaves link_numbers (link_ports K x y) b' s' w' a.totals a.answer
-  linked_sides e f g d q r p = stub_as (record { plan = r.plan ∙ ap (λ (k : Plan). ready k y) q.plan; wf = r.wf }) (link_sides K x y e f g d) p
+  pub linked_sides : is_there K x ≡ true → input_taken K x y ≡ false → is_there K y ≡ true → same_side x.side y.side ≡ true →
+      {b₁ s₁ w₁ : List Row} {h₁ : Totals} → IsPlan (ready K x) b₁ s₁ w₁ h₁ → {b' s' w' : List Row} {h' : Totals} → IsPlan (ready (plan_in b₁ s₁ w₁ h₁) y) b' s' w' h' →
+      Leaves link_numbers (link_ports K x y) b' s' w' h' (Err SameSide)
+  linked_sides e f g d q r = leaves_as (ready (ready K x) y) (Err SameSide) (link_sides K x y e f g d) (r.plan ∙ ap (λ (k : Plan). ready k y) q.plan) refl r.wf
 
-  pub linked_full : {a : LinkedLent} → is_there K x ≡ true → input_taken K x y ≡ false → is_there K y ≡ true → same_side x.side y.side ≡ false → row_slots ≤ h.wires → a ≡ refused_with h NoRoom →
-      Leaves link_numbers (link_ports K x y) b s w a.totals a.answer
-  linked_full e f g d l p = let n = length_wires w h.wires in refused_as wf (link_full K x y e f g d (omega arith)) p
+  pub linked_full : is_there K x ≡ true → input_taken K x y ≡ false → is_there K y ≡ true → same_side x.side y.side ≡ false → is_full K ≡ true → Leaves link_numbers (link_ports K x y) b s w h (Err NoRoom)
+  linked_full e f g d l = leaves_as K (Err NoRoom) (link_full K x y e f g d l) refl refl wf
 
-  pub linkable : is_there K x ≡ true → is_there K y ≡ true → same_side x.side y.side ≡ false → h.wires < row_slots → Linkable b s w h x y
-  linkable e g d l = record { wf = wf; first = e; second = g; sides = d; room = l }
+  pub linkable : is_there K x ≡ true → is_there K y ≡ true → same_side x.side y.side ≡ false → is_full K ≡ false → Linkable b s w h x y
+  linkable e g d l = let n = length_wires w h.wires in let k = leb-false most_wires (length K.wires) l in record { wf = wf; first = e; second = g; sides = d; room = omega arith }
 
-  pub linked_made : {a : LinkedLent} {b' s' w' : List ℕ} → is_there K x ≡ true → input_taken K x y ≡ false → is_there K y ≡ true → same_side x.side y.side ≡ false → h.wires < row_slots →
-      Leaves link_numbers (both_linked K x y) b' s' w' a.totals a.answer → Leaves link_numbers (link_ports K x y) b' s' w' a.totals a.answer
-  linked_made {a} {b'} {s'} {w'} e f g d l p =
-      let n = length_wires w h.wires in
-      subst (λ (c : Sketched LinkAnswer). Leaves link_numbers c b' s' w' a.totals a.answer) (sym (link_made K x y e f g d (omega arith))) p
+  pub linked_made : {b' s' w' : List Row} {h' : Totals} {a : Result (SketchEnd × SketchEnd) Reason} → is_there K x ≡ true → input_taken K x y ≡ false → is_there K y ≡ true → same_side x.side y.side ≡ false → is_full K ≡ false →
+      Leaves link_numbers (both_linked K x y) b' s' w' h' a → Leaves link_numbers (link_ports K x y) b' s' w' h' a
+  linked_made {b'} {s'} {w'} {h'} {a} e f g d l p = subst (λ (c : Sketched (Result (SketchEnd × SketchEnd) Reason)). Leaves link_numbers c b' s' w' h' a) (sym (link_made K x y e f g d l)) p
 
-  pub clean_refused : {a : LinkedLent} (r : Reason) → link_clean K x y ≡ leaves K (link.Refused r) → a ≡ refused_with h r → Leaves link_numbers (link_clean K x y) b s w a.totals a.answer
-  clean_refused r e p = refused_as wf e p
+  pub clean_refused : (r : Reason) → link_clean K x y ≡ leaves K (Err r) → Leaves link_numbers (link_clean K x y) b s w h (Err r)
+  clean_refused r e = leaves_as K (Err r) e refl refl wf
 
-  pub clean_linked : {a : LinkedLent} {b' s' w' : List ℕ} → is_there K x ≡ true → input_taken K x y ≡ false → is_there K y ≡ true → same_side x.side y.side ≡ false → h.wires < row_slots →
-      Leaves link_numbers (both_linked K x y) b' s' w' a.totals a.answer → Leaves link_numbers (link_clean K x y) b' s' w' a.totals a.answer
-  clean_linked {a} {b'} {s'} {w'} e f g d l p =
-      let n = length_wires w h.wires in
-      subst (λ (c : Sketched LinkAnswer). Leaves link_numbers c b' s' w' a.totals a.answer) (sym (clean_made K x y e f g d (omega arith))) p
-
-  pub no_wire_left : row_slots ≤ h.wires → most_wires ≤ length K.wires
-  no_wire_left l = let n = length_wires w h.wires in omega arith
+  pub clean_linked : {b' s' w' : List Row} {h' : Totals} {a : Result (SketchEnd × SketchEnd) Reason} → is_there K x ≡ true → input_taken K x y ≡ false → is_there K y ≡ true → same_side x.side y.side ≡ false → is_full K ≡ false →
+      Leaves link_numbers (both_linked K x y) b' s' w' h' a → Leaves link_numbers (link_clean K x y) b' s' w' h' a
+  clean_linked {b'} {s'} {w'} {h'} {a} e f g d l p = subst (λ (c : Sketched (Result (SketchEnd × SketchEnd) Reason)). Leaves link_numbers c b' s' w' h' a) (sym (clean_made K x y e f g d l)) p

@@ -115,18 +115,18 @@ module _ (m : List Bool) where
 
 -- One more row.
 
-pub wires_more : (t : List ℕ) (i : ℕ) → wires_in t (i + 1) ≡ wire_of (row_at t i) ∷ wires_in t i
+pub wires_more : (t : List Row) (i : ℕ) → wires_in t (i + 1) ≡ wire_of (row_at t i) ∷ wires_in t i
 unfolding rows_in
 wires_more t i = rw (add-one i)
 
-pub length_rows : (t : List ℕ) (n : ℕ) → length (rows_in t n) ≡ n
+pub length_rows : (t : List Row) (n : ℕ) → length (rows_in t n) ≡ n
 unfolding rows_in
 length_rows t zero = refl
 length_rows t (suc n) = ap suc (length_rows t n)
 
 -- A turn of each loop.
 
-pub marks_turn : (s : Spot) (t : List ℕ) (i : ℕ) (r : Row) (m : List Bool) {x y : Place} {m' m'' : List Bool} → Marks s (wires_in t i) m → r ≡ row_at t i → x ≡ (wire_of r).out → y ≡ (wire_of r).into →
+pub marks_turn : (s : Spot) (t : List Row) (i : ℕ) (r : Row) (m : List Bool) {x y : Place} {m' m'' : List Bool} → Marks s (wires_in t i) m → r ≡ row_at t i → x ≡ (wire_of r).out → y ≡ (wire_of r).into →
     m' ≡ marked s x m → m'' ≡ marked s y m' → Marks s (wires_in t (i + 1)) m''
 marks_turn s t i r m {x} {y} {m'} k e p q a b =
     subst (Marks s (wires_in t (i + 1)))
@@ -135,7 +135,7 @@ marks_turn s t i r m {x} {y} {m'} k e p q a b =
     (ap (λ (z : Row). wire_of z ∷ wires_in t i) e ∙ sym (wires_more t i))
     (marks_more s (wires_in t i) (wire_of r) m k))
 
-pub above_turn : (s : Spot) (t : List ℕ) (i : ℕ) {r : Row} {n n' : ℕ} → n ≡ above_wired s (wires_in t i) → r ≡ row_at t i →
+pub above_turn : (s : Spot) (t : List Row) (i : ℕ) {r : Row} {n n' : ℕ} → n ≡ above_wired s (wires_in t i) → r ≡ row_at t i →
     n' ≡ above_end s (wire_of r).out (above_end s (wire_of r).into n) → n' ≡ above_wired s (wires_in t (i + 1))
 unfolding above_wired
 above_turn s t i {r} e p h =
@@ -143,5 +143,5 @@ above_turn s t i {r} e p h =
     ∙ ap (λ (z : Row). above_wired s (wire_of z ∷ wires_in t i)) p
     ∙ ap (above_wired s) (sym (wires_more t i))
 
-pub length_wires : (t : List ℕ) (n : ℕ) → length (wires_in t n) ≡ n
+pub length_wires : (t : List Row) (n : ℕ) → length (wires_in t n) ≡ n
 length_wires t n = length_map wire_of (rows_in t n) ∙ length_rows t n

@@ -1,6 +1,6 @@
 -- Each call: its refusals in their order, else what is done. 10 is tested last, so that it is given only where the call would otherwise be
 -- accepted. A link of ports that is refused with 11 or 12 keeps what was made ready, as the kit does.
-use Rattle.std.specs.Prelude.{Bool, true, false, cond, not, ◌||◌, List, [], ◌∷◌, map, ℕ, suc, ◌+◌, eqb, leb, ltb, length}
+use Rattle.std.specs.Prelude.{Bool, true, false, cond, not, ◌||◌, List, [], ◌∷◌, map, ℕ, suc, ◌+◌, eqb, leb, ltb, length, Option, Some, None, Result, Ok, Err}
 use Rattle.port_tables.specs.Lists.{filter}
 use Rattle.port_tables.specs.Limits.{node_slots, port_slots, node_ports}
 use Rattle.port_tables.specs.Entries.{same_side}
@@ -8,19 +8,10 @@ use Rattle.port_tables.specs.Places.{Place, at_spot, at_end, of_node, of_dropped
 use Rattle.sketches.specs.Plan.{PlanBlock, Plan, with_wires, has_block, ports_in_all, spot_named, is_there, subports_of, set_subports, offset_read, lacks_offset, end#, port_at, end_at_place, place_named, input_taken, Far, nothing, far, far_from, above_wired, offset_ready, ready}
 use Rattle.sketches.specs.declared.sketch.SketchPort.{SketchPort}
 use Rattle.sketches.specs.declared.sketch.Reason.TheVariants.{BadOffset, TooManyPorts, UnknownBlock, UnknownPort, UnknownOffset, NoRoom, UnknownSecondPort, SameSide, AlreadyLinked, InputWired}
-use Rattle.sketches.specs.declared.sketch.AddAnswer.{AddAnswer}
-use Rattle.sketches.specs.declared.sketch.AddAnswer.TheVariants as add
-use Rattle.sketches.specs.declared.sketch.DoneAnswer.{DoneAnswer}
-use Rattle.sketches.specs.declared.sketch.DoneAnswer.TheVariants as done
-use Rattle.sketches.specs.declared.sketch.LinkAnswer.{LinkAnswer}
-use Rattle.sketches.specs.declared.sketch.LinkAnswer.TheVariants as link
 use Rattle.sketches.specs.declared.sketch.SheetEntry.{SheetEntry}
-use Rattle.sketches.specs.declared.sketch.SheetAnswer.{SheetAnswer}
-use Rattle.sketches.specs.declared.sketch.SheetAnswer.TheVariants as sheets
-use Rattle.sketches.specs.declared.sketch.PortAnswer.{PortAnswer}
-use Rattle.sketches.specs.declared.sketch.PortAnswer.TheVariants as port
-use Rattle.sketches.specs.declared.sketch.EndAnswer.{EndAnswer}
-use Rattle.sketches.specs.declared.sketch.EndAnswer.TheVariants as end
+use Rattle.sketches.specs.declared.sketch.Reason.{Reason}
+use Rattle.sketches.specs.declared.sketch.SketchEnd.{SketchEnd}
+use Rattle.sketches.specs.declared.sketch.TooManyEntries.{TooManyEntries}
 
 -- The most adds that are accepted, and wires that are held; blocks, ports of blocks and ports of one block have the kit's limits.
 abbrev pub most_adds : ℕ
@@ -40,10 +31,10 @@ leaves K a = record { plan = K; answer = a }
 -- Blocks.
 
 -- 3, 10
-unfoldable pub add_block : Plan → ℕ → ℕ → Sketched AddAnswer
+unfoldable pub add_block : Plan → ℕ → ℕ → Sketched (Result ℕ Reason)
 add_block K i o =
-    cond (not (leb (i + o) node_ports)) (leaves K (add.Refused TooManyPorts))
-    (cond (leb most_adds K.adds || (leb node_slots (length K.blocks) || ltb port_slots (ports_in_all K.blocks + (i + o)))) (leaves K (add.Refused NoRoom))
+    cond (not (leb (i + o) node_ports)) (leaves K (Err TooManyPorts))
+    (cond (leb most_adds K.adds || (leb node_slots (length K.blocks) || ltb port_slots (ports_in_all K.blocks + (i + o)))) (leaves K (Err NoRoom))
     (leaves
     (record {
       release = K.release;
@@ -52,12 +43,12 @@ add_block K i o =
       splits = K.splits;
       wires = K.wires;
     })
-    (add.Added K.adds)))
+    (Ok K.adds)))
 
 -- 4: the block and each wire at it go
-unfoldable pub remove_block : Plan → ℕ → Sketched DoneAnswer
+unfoldable pub remove_block : Plan → ℕ → Sketched (Result (Unit {0}) Reason)
 remove_block K n =
-    cond (not (has_block K.blocks n)) (leaves K (done.Refused UnknownBlock))
+    cond (not (has_block K.blocks n)) (leaves K (Err UnknownBlock))
     (leaves
     (record {
       release = K.release;
@@ -66,18 +57,18 @@ remove_block K n =
       splits = filter (λ (s : Place). not (of_node n s)) K.splits;
       wires = without (of_node n) K.wires;
     })
-    done.Done)
+    (Ok tt))
 
 -- the counts of a block
 abbrev pub recount : ℕ → ℕ → ℕ → PlanBlock → PlanBlock
 recount n i o b = cond (eqb b.name n) (record { name = n; incoming = i; outgoing = o }) b
 
 -- 3, 4, 10: each wire at a dropped position goes
-unfoldable pub set_counts : Plan → ℕ → ℕ → ℕ → Sketched DoneAnswer
+unfoldable pub set_counts : Plan → ℕ → ℕ → ℕ → Sketched (Result (Unit {0}) Reason)
 set_counts K n i o =
-    cond (not (leb (i + o) node_ports)) (leaves K (done.Refused TooManyPorts))
-    (cond (not (has_block K.blocks n)) (leaves K (done.Refused UnknownBlock))
-    (cond (ltb port_slots (ports_in_all (map (recount n i o) K.blocks))) (leaves K (done.Refused NoRoom))
+    cond (not (leb (i + o) node_ports)) (leaves K (Err TooManyPorts))
+    (cond (not (has_block K.blocks n)) (leaves K (Err UnknownBlock))
+    (cond (ltb port_slots (ports_in_all (map (recount n i o) K.blocks))) (leaves K (Err NoRoom))
     (leaves
     (record {
       release = K.release;
@@ -86,7 +77,7 @@ set_counts K n i o =
       splits = filter (λ (s : Place). not (of_dropped n i o s)) K.splits;
       wires = without (of_dropped n i o) K.wires;
     })
-    done.Done)))
+    (Ok tt))))
 
 -- Links.
 
@@ -98,29 +89,29 @@ abbrev pub with_wire : Plan → SketchPort → ℕ → SketchPort → ℕ → Pl
 with_wire K x o y r = with_wires K (wire_of_sides x.side (place_named x o) (place_named y r) ∷ K.wires)
 
 -- both ports are made ready, and a wire between them
-abbrev pub both_linked : Plan → SketchPort → SketchPort → Sketched LinkAnswer
+abbrev pub both_linked : Plan → SketchPort → SketchPort → Sketched (Result (SketchEnd × SketchEnd) Reason)
 both_linked K x y =
     leaves (with_wire (ready (ready K x) y) x (offset_ready K x) y (offset_ready K y))
-    (link.Linked (end# x (offset_ready K x)) (end# y (offset_ready K y)))
+    (Ok (end# x (offset_ready K x), end# y (offset_ready K y)))
 
 -- 7, 18, 11, 12, 10; 11 keeps the first port ready, 12 both
-unfoldable pub link_ports : Plan → SketchPort → SketchPort → Sketched LinkAnswer
+unfoldable pub link_ports : Plan → SketchPort → SketchPort → Sketched (Result (SketchEnd × SketchEnd) Reason)
 link_ports K x y =
-    cond (not (is_there K x)) (leaves K (link.Refused UnknownPort))
-    (cond (input_taken K x y) (leaves K (link.Refused InputWired))
-    (cond (not (is_there K y)) (leaves (ready K x) (link.Refused UnknownSecondPort))
-    (cond (same_side x.side y.side) (leaves (ready (ready K x) y) (link.Refused SameSide))
-    (cond (is_full K) (leaves K (link.Refused NoRoom))
+    cond (not (is_there K x)) (leaves K (Err UnknownPort))
+    (cond (input_taken K x y) (leaves K (Err InputWired))
+    (cond (not (is_there K y)) (leaves (ready K x) (Err UnknownSecondPort))
+    (cond (same_side x.side y.side) (leaves (ready (ready K x) y) (Err SameSide))
+    (cond (is_full K) (leaves K (Err NoRoom))
     (both_linked K x y)))))
 
 -- 7, 18, 11, 12, 10; nothing is left
-unfoldable pub link_clean : Plan → SketchPort → SketchPort → Sketched LinkAnswer
+unfoldable pub link_clean : Plan → SketchPort → SketchPort → Sketched (Result (SketchEnd × SketchEnd) Reason)
 link_clean K x y =
-    cond (not (is_there K x)) (leaves K (link.Refused UnknownPort))
-    (cond (input_taken K x y) (leaves K (link.Refused InputWired))
-    (cond (not (is_there K y)) (leaves K (link.Refused UnknownSecondPort))
-    (cond (same_side x.side y.side) (leaves K (link.Refused SameSide))
-    (cond (is_full K) (leaves K (link.Refused NoRoom))
+    cond (not (is_there K x)) (leaves K (Err UnknownPort))
+    (cond (input_taken K x y) (leaves K (Err InputWired))
+    (cond (not (is_there K y)) (leaves K (Err UnknownSecondPort))
+    (cond (same_side x.side y.side) (leaves K (Err SameSide))
+    (cond (is_full K) (leaves K (Err NoRoom))
     (both_linked K x y)))))
 
 -- an end, as read, has a wire
@@ -132,51 +123,51 @@ abbrev pub bad_offset : ℕ → Bool
 bad_offset o = not (ltb o 65535)
 
 -- 2, 7, 9, 18, 11, 12, 13, 10
-unfoldable pub link_subports : Plan → SketchPort → ℕ → SketchPort → ℕ → Sketched LinkAnswer
+unfoldable pub link_subports : Plan → SketchPort → ℕ → SketchPort → ℕ → Sketched (Result (SketchEnd × SketchEnd) Reason)
 link_subports K x o y r =
-    cond (bad_offset o || bad_offset r) (leaves K (link.Refused BadOffset))
-    (cond (not (is_there K x)) (leaves K (link.Refused UnknownPort))
-    (cond (lacks_offset K x o || cond (is_there K y) (lacks_offset K y r) false) (leaves K (link.Refused UnknownOffset))
-    (cond (input_taken K x y) (leaves K (link.Refused InputWired))
-    (cond (not (is_there K y)) (leaves K (link.Refused UnknownSecondPort))
-    (cond (same_side x.side y.side) (leaves K (link.Refused SameSide))
-    (cond (is_wired K x o || is_wired K y r) (leaves K (link.Refused AlreadyLinked))
-    (cond (is_full K) (leaves K (link.Refused NoRoom))
+    cond (bad_offset o || bad_offset r) (leaves K (Err BadOffset))
+    (cond (not (is_there K x)) (leaves K (Err UnknownPort))
+    (cond (lacks_offset K x o || cond (is_there K y) (lacks_offset K y r) false) (leaves K (Err UnknownOffset))
+    (cond (input_taken K x y) (leaves K (Err InputWired))
+    (cond (not (is_there K y)) (leaves K (Err UnknownSecondPort))
+    (cond (same_side x.side y.side) (leaves K (Err SameSide))
+    (cond (is_wired K x o || is_wired K y r) (leaves K (Err AlreadyLinked))
+    (cond (is_full K) (leaves K (Err NoRoom))
     (leaves (with_wire K x (offset_read K x o) y (offset_read K y r))
-    (link.Linked (end# x (offset_read K x o)) (end# y (offset_read K y r)))))))))))
+    (Ok (end# x (offset_read K x o), end# y (offset_read K y r)))))))))))
 
 -- Cuts.
 
-abbrev pub port_found : Far → PortAnswer
-port_found nothing = port.Nothing
-port_found (far x) = port.Found (port_at x)
+abbrev pub port_found : Far → Result (Option SketchPort) Reason
+port_found nothing = Ok None
+port_found (far x) = Ok (Some (port_at x))
 
-abbrev pub end_found : Far → EndAnswer
-end_found nothing = end.Nothing
-end_found (far x) = end.Found (end_at_place x)
+abbrev pub end_found : Far → Result (Option SketchEnd) Reason
+end_found nothing = Ok None
+end_found (far x) = Ok (Some (end_at_place x))
 
 -- 7: each wire at the port goes; it is no longer split, and answers itself if it was
-unfoldable pub cut_port : Plan → SketchPort → Sketched PortAnswer
+unfoldable pub cut_port : Plan → SketchPort → Sketched (Result (Option SketchPort) Reason)
 cut_port K x =
-    cond (not (is_there K x)) (leaves K (port.Refused UnknownPort))
+    cond (not (is_there K x)) (leaves K (Err UnknownPort))
     (leaves (set_subports (with_wires K (without (at_spot (spot_named x)) K.wires)) x 0)
-    (cond (eqb (subports_of K x) 0) (port_found (far_from (at_spot (spot_named x)) K.wires)) (port.Found x)))
+    (cond (eqb (subports_of K x) 0) (port_found (far_from (at_spot (spot_named x)) K.wires)) (Ok (Some x))))
 
 -- 2, 7, 9: what an end is linked with
-unfoldable pub subport_link : Plan → SketchPort → ℕ → EndAnswer
+unfoldable pub subport_link : Plan → SketchPort → ℕ → Result (Option SketchEnd) Reason
 subport_link K x o =
-    cond (bad_offset o) (end.Refused BadOffset)
-    (cond (not (is_there K x)) (end.Refused UnknownPort)
-    (cond (lacks_offset K x o) (end.Refused UnknownOffset)
+    cond (bad_offset o) (Err BadOffset)
+    (cond (not (is_there K x)) (Err UnknownPort)
+    (cond (lacks_offset K x o) (Err UnknownOffset)
     (end_found (far_from (at_end (spot_named x) (offset_read K x o)) K.wires))))
 
-abbrev pub is_refused : EndAnswer → Bool
-is_refused (end.Found x) = false
-is_refused end.Nothing = false
-is_refused (end.Refused r) = true
+abbrev pub is_refused : Result (Option SketchEnd) Reason → Bool
+is_refused (Ok (Some x)) = false
+is_refused (Ok None) = false
+is_refused (Err r) = true
 
 -- and the wire there goes
-unfoldable pub cut_subport : Plan → SketchPort → ℕ → Sketched EndAnswer
+unfoldable pub cut_subport : Plan → SketchPort → ℕ → Sketched (Result (Option SketchEnd) Reason)
 cut_subport K x o =
     leaves (cond (is_refused (subport_link K x o)) K (with_wires K (without (at_end (spot_named x) (offset_read K x o)) K.wires))) (subport_link K x o)
 
@@ -187,10 +178,10 @@ abbrev pub tidied : ℕ → ℕ
 tidied above = cond (leb above 1) 0 above
 
 -- 7; an unsplit port is unchanged
-unfoldable pub tidy_port : Plan → SketchPort → Sketched DoneAnswer
+unfoldable pub tidy_port : Plan → SketchPort → Sketched (Result (Unit {0}) Reason)
 tidy_port K x =
-    cond (not (is_there K x)) (leaves K (done.Refused UnknownPort))
-    (leaves (cond (eqb (subports_of K x) 0) K (set_subports K x (tidied (above_wired (spot_named x) K.wires)))) done.Done)
+    cond (not (is_there K x)) (leaves K (Err UnknownPort))
+    (leaves (cond (eqb (subports_of K x) 0) K (set_subports K x (tidied (above_wired (spot_named x) K.wires)))) (Ok tt))
 
 -- Sheets: a list of entries, each two ports and space for the answer of their link.
 
@@ -210,5 +201,5 @@ sheet_answered K (e ∷ l) =
     record { from = e.from; to = e.to; answer = (link_ports K e.from e.to).answer } ∷ sheet_answered (link_ports K e.from e.to).plan l
 
 -- 14: nothing is then done
-unfoldable pub sheet : Plan → List SheetEntry → Sketched SheetAnswer
-sheet K l = cond (ltb sheet_entries (length l)) (leaves K sheets.TooManyEntries) (leaves (sheet_plan K l) sheets.Done)
+unfoldable pub sheet : Plan → List SheetEntry → Sketched (Result (Unit {0}) TooManyEntries)
+sheet K l = cond (ltb sheet_entries (length l)) (leaves K (Err (record {}))) (leaves (sheet_plan K l) (Ok tt))

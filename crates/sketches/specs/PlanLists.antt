@@ -1,5 +1,5 @@
 -- What each walk lists, the counts and the fan-outs. Wires are listed as wires; a program prints the end that a walk is about first.
-use Rattle.std.specs.Prelude.{Bool, false, cond, not, ℕ, zero, suc, eqb, length}
+use Rattle.std.specs.Prelude.{Bool, false, cond, not, ℕ, zero, suc, eqb, length, Result, Ok, Err}
 use mathlib.Core.List.{List, [], ◌∷◌, map, flat_map}
 use Rattle.port_tables.specs.Lists.{filter, range}
 use Rattle.port_tables.specs.Entries.{same_side}
@@ -10,8 +10,7 @@ use Rattle.sketches.specs.Plan.{Plan, has_block, ports_on_side, ports_in_all, sp
 use Rattle.sketches.specs.declared.sketch.SketchPort.{SketchPort}
 use Rattle.sketches.specs.declared.sketch.SketchEnd.{SketchEnd}
 use Rattle.sketches.specs.declared.sketch.Reason.TheVariants.{UnknownBlock, UnknownPort}
-use Rattle.sketches.specs.declared.sketch.CountAnswer.{CountAnswer}
-use Rattle.sketches.specs.declared.sketch.CountAnswer.TheVariants as count
+use Rattle.sketches.specs.declared.sketch.Reason.{Reason}
 
 -- Wires.
 
@@ -63,9 +62,9 @@ abbrev pub wire_count : Plan → ℕ
 wire_count K = length K.wires
 
 -- 7: the wires at a port
-unfoldable pub port_fan_out : Plan → SketchPort → CountAnswer
-port_fan_out K x = cond (is_there K x) (count.Count (length (links_of_port K x))) (count.Refused UnknownPort)
+unfoldable pub port_fan_out : Plan → SketchPort → Result ℕ Reason
+port_fan_out K x = cond (is_there K x) (Ok (length (links_of_port K x))) (Err UnknownPort)
 
 -- 4: the wires that leave a block
-unfoldable pub block_fan_out : Plan → ℕ → CountAnswer
-block_fan_out K n = cond (has_block K.blocks n) (count.Count (length (links_of_side K n Outgoing))) (count.Refused UnknownBlock)
+unfoldable pub block_fan_out : Plan → ℕ → Result ℕ Reason
+block_fan_out K n = cond (has_block K.blocks n) (Ok (length (links_of_side K n Outgoing))) (Err UnknownBlock)

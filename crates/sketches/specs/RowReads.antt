@@ -1,13 +1,13 @@
 -- What is found among the rows of a table is what the definitions read off the lists.
-use Rattle.std.specs.Prelude.{◌≡◌, refl, Bool, true, false, cond, not, List, [], ◌∷◌, map, ℕ, eqb}
-use Rattle.std.proofs.Common.{ap}
+use Rattle.std.specs.Prelude.{◌≡◌, refl, Bool, true, false, cond, not, List, [], ◌∷◌, map, ℕ, eqb, Some, None}
+use Rattle.std.proofs.Common.{ap, ◌∙◌, arith}
 use Rattle.port_tables.specs.Lists.{filter}
 use Rattle.port_tables.specs.Entries.{new_count}
 use Rattle.port_tables.specs.declared.direction.Direction.{Direction}
 use Rattle.port_tables.specs.declared.direction.Direction.TheVariants.{Incoming, Outgoing}
 use Rattle.port_tables.specs.Places.{at_spot, touches, any_touches, without}
 use Rattle.sketches.specs.Plan.{PlanBlock, has_block, ports_on_side, spot_named, subports_among}
-use Rattle.sketches.specs.Rows.{block_of, split_of, wire_of, end_hits, hits, missed, newest_of, is_there_any}
+use Rattle.sketches.specs.Rows.{block_of, split_of, wire_of, end_hits, hits, missed, no_row, first, newest_of, is_there_any}
 use Rattle.sketches.specs.declared.rows.Row.{Row}
 use Rattle.sketches.specs.declared.sketch.SketchPort.{SketchPort}
 use Rattle.sketches.specs.declared.tests.EndTest.{EndTest}
@@ -24,6 +24,18 @@ block_found_lem n (r ∷ l) = go (eqb r.0 n) (block_found_lem n l)
     go true e = refl
     go false e = e
 
+-- What is read of the first row, and where there is none.
+
+pub first_none : (l : List Row) → None ≡ first l → no_row ≡ newest_of l
+unfolding newest_of
+first_none [] e = refl
+first_none (r ∷ l) e = absurd (let z : ◌≡◌ {A = ℕ} 0 1 = cc in omega arith)
+
+pub first_some : (l : List Row) {r : Row} → Some r ≡ first l → r ≡ newest_of l
+unfolding newest_of
+first_some [] e = absurd (let z : ◌≡◌ {A = ℕ} 0 1 = cc in omega arith)
+first_some (x ∷ l) {r} e = let z : r ≡ x = cc in z
+
 abbrev count_on : Direction → Row → ℕ
 count_on d r = new_count r.1 r.2 d
 
@@ -37,6 +49,10 @@ ports_found n d (r ∷ l) = go (eqb r.0 n) (ports_found n d l)
         count_on d (newest_of (cond b (r ∷ filter (hits (test.Block n)) l) (filter (hits (test.Block n)) l))) ≡ cond b (count_on d r) (ports_on_side (map block_of l) n d)
     go true e = refl
     go false e = e
+
+pub no_ports : (n : ℕ) (d : Direction) (l : List Row) → None ≡ first (filter (hits (test.Block n)) l) → 0 ≡ ports_on_side (map block_of l) n d
+no_ports n Incoming l e = ap (λ (r : Row). r.1) (first_none (filter (hits (test.Block n)) l) e) ∙ ports_found n Incoming l
+no_ports n Outgoing l e = ap (λ (r : Row). r.2) (first_none (filter (hits (test.Block n)) l) e) ∙ ports_found n Outgoing l
 
 pub subports_found : (p : SketchPort) (l : List Row) → (newest_of (filter (hits (test.Split (ask.AtPort p))) l)).3 ≡ subports_among (map split_of l) (spot_named p)
 unfolding filter subports_among newest_of

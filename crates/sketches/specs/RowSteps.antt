@@ -1,13 +1,13 @@
 -- Turns of the loops over a table, and what a store of a row leaves.
-use Rattle.std.specs.Prelude.{◌≡◌, Bool, cond, not, eqb, set}
+use Rattle.std.specs.Prelude.{◌≡◌, Bool, cond, not, eqb, Option, Some, None, is_some}
 use Rattle.std.proofs.Math.Path.{refl, sym, ap, subst}
 use Rattle.std.proofs.Common.{◌∙◌, length-set, get_or-set_same, get_or-set_other}
 use Rattle.std.proofs.Math.Bool.{true, false}
 use mathlib.Core.List.{List, [], ◌∷◌, map}
-use Prim.Native.Nat.{ℕ, zero, suc, ◌+◌, ◌-◌, ◌*◌, ◌≤◌, ◌<◌}
+use Prim.Native.Nat.{ℕ, zero, suc, ◌+◌, ◌-◌, ◌≤◌, ◌<◌}
 use Rattle.std.proofs.Math.Numerals.{add-one}
 use native.Mathlib.Omega.{arith}
-use Rattle.std.proofs.Math.ListN.{length, get_or}
+use Rattle.std.proofs.Math.ListN.{length}
 use borrow.Author.Tests.{le-leb, lt-leb, eq-eqb, ne_eqb}
 use Rattle.port_tables.specs.Lists.{filter}
 use Rattle.port_tables.specs.declared.direction.Direction.{Direction}
@@ -15,20 +15,20 @@ use Rattle.port_tables.specs.declared.direction.Direction.TheVariants.{Incoming,
 use Rattle.port_tables.specs.Places.{end_on}
 use Rattle.sketches.specs.Plan.{PlanBlock, ports_in_all}
 use Rattle.sketches.specs.PlanCalls.{recount}
-use Rattle.sketches.specs.Rows.{row_at, put_row, rows_in, Table, newest_hit, oldest_hit, wire_of, block_of, hits, newest_of, is_there_any, no_row}
+use Rattle.sketches.specs.Rows.{row_at, put_row, rows_in, Table, newest_hit, oldest_hit, wire_of, block_of, hits, past, first, is_there_any, no_row}
 use Rattle.sketches.specs.declared.rows.Row.{Row}
 use Rattle.sketches.specs.declared.tests.Test.TheVariants as test
 
 -- The newest and the oldest row that is hit.
 
-module _ (f : Row → Bool) (t : List ℕ) (low : ℕ) where
-  pub newest_found : (i : ℕ) → low < i → f (row_at t (i - 1)) ≡ true → i ≡ newest_hit f t low i
+module _ (f : Row → Bool) (t : List Row) (low : ℕ) where
+  pub newest_found : (i : ℕ) → low < i → f (row_at t (i - 1)) ≡ true → suc (i - 1) ≡ newest_hit f t low i
   unfolding newest_hit
   newest_found zero h e = absurd (omega arith)
   newest_found (suc i) h e =
       let p : suc i - 1 ≡ i = omega arith in
       let q : f (row_at t i) ≡ true = subst (λ (n : ℕ). f (row_at t n) ≡ true) p e in
-      rw (le-leb low i (omega arith), q)
+      rw (p, le-leb low i (omega arith), q)
 
   pub newest_passed : (i : ℕ) → low < i → f (row_at t (i - 1)) ≡ false → newest_hit f t low (i - 1) ≡ newest_hit f t low i
   unfolding newest_hit
@@ -43,14 +43,14 @@ module _ (f : Row → Bool) (t : List ℕ) (low : ℕ) where
   none_newest zero h = refl
   none_newest (suc i) h = rw (lt-leb low i (omega arith))
 
-module _ (f : Row → Bool) (t : List ℕ) where
+module _ (f : Row → Bool) (t : List Row) where
   oldest_found_in : (i n : ℕ) → 0 < n → f (row_at t i) ≡ true → suc i ≡ oldest_hit f t i n
   unfolding oldest_hit
   oldest_found_in i zero h e = absurd (omega arith)
   oldest_found_in i (suc n) h e = rw e
 
-  pub oldest_found : (i high : ℕ) → i < high → f (row_at t i) ≡ true → i + 1 ≡ oldest_hit f t i (high - i)
-  oldest_found i high h e = add-one i ∙ oldest_found_in i (high - i) (omega arith) e
+  pub oldest_found : (i high : ℕ) → i < high → f (row_at t i) ≡ true → suc i ≡ oldest_hit f t i (high - i)
+  oldest_found i high h e = oldest_found_in i (high - i) (omega arith) e
 
   oldest_passed_in : (i n : ℕ) → 0 < n → f (row_at t i) ≡ false → oldest_hit f t (suc i) (n - 1) ≡ oldest_hit f t i n
   unfolding oldest_hit
@@ -68,7 +68,7 @@ module _ (f : Row → Bool) (t : List ℕ) where
 
 -- Rows that are counted.
 
-module _ (f : Row → Bool) (t : List ℕ) where
+module _ (f : Row → Bool) (t : List Row) where
   pub one_more_hit : (i n : ℕ) → f (row_at t i) ≡ true → n ≡ length (filter f (rows_in t i)) → n + 1 ≡ length (filter f (rows_in t (i + 1)))
   unfolding rows_in filter
   one_more_hit i n e h = rw (add-one i, add-one n, e) (ap suc h)
@@ -83,99 +83,42 @@ module _ (f : Row → Bool) (t : List ℕ) where
 
 -- A row is stored.
 
-pub length_put : (t : List ℕ) (k : ℕ) (r : Row) → length (put_row t k r) ≡ length t
-unfolding put_row
-length_put t k r = simp length-set
+pub length_put : (t : List Row) (k : ℕ) (r : Row) → length (put_row t k r) ≡ length t
+length_put t k r = length-set t k r
 
--- what stands beyond the row stays
-pub put_beyond : (t : List ℕ) (k : ℕ) (r : Row) (j : ℕ) → 6 * (k + 1) ≤ j → get_or (put_row t k r) j 0 ≡ get_or t j 0
-unfolding put_row
-put_beyond t k r j h =
-    rw (
-      get_or-set_other _ (6 * k + 5) j r.5 0 (λ e. omega arith),
-      get_or-set_other _ (6 * k + 4) j r.4 0 (λ e. omega arith),
-      get_or-set_other _ (6 * k + 3) j r.3 0 (λ e. omega arith),
-      get_or-set_other _ (6 * k + 2) j r.2 0 (λ e. omega arith),
-      get_or-set_other _ (6 * k + 1) j r.1 0 (λ e. omega arith),
-      get_or-set_other _ (6 * k) j r.0 0 (λ e. omega arith),
-    )
+-- what stands beyond the row, or before it, stays
+pub put_other : (t : List Row) (k : ℕ) (r : Row) (j : ℕ) → (k ≡ j → ⊥) → row_at (put_row t k r) j ≡ row_at t j
+put_other t k r j h = get_or-set_other t k j r no_row (λ e. omega (arith, h))
 
-pub row_put : (t : List ℕ) (k : ℕ) (r : Row) → 6 * k + 5 < length t → row_at (put_row t k r) k ≡ r
-unfolding row_at put_row
-row_put t k r h =
-    let a0 = get_or-set_other (set (set (set (set (set t (6 * k) r.0) (6 * k + 1) r.1) (6 * k + 2) r.2) (6 * k + 3) r.3) (6 * k + 4) r.4) (6 * k + 5) in
-    let a1 = get_or-set_other (set (set (set (set t (6 * k) r.0) (6 * k + 1) r.1) (6 * k + 2) r.2) (6 * k + 3) r.3) (6 * k + 4) in
-    let a2 = get_or-set_other (set (set (set t (6 * k) r.0) (6 * k + 1) r.1) (6 * k + 2) r.2) (6 * k + 3) in
-    let a3 = get_or-set_other (set (set t (6 * k) r.0) (6 * k + 1) r.1) (6 * k + 2) in
-    let a4 = get_or-set_other (set t (6 * k) r.0) (6 * k + 1) in
-    let l1 = length-set t (6 * k) r.0 in
-    let l2 = length-set (set t (6 * k) r.0) (6 * k + 1) r.1 in
-    let l3 = length-set (set (set t (6 * k) r.0) (6 * k + 1) r.1) (6 * k + 2) r.2 in
-    let l4 = length-set (set (set (set t (6 * k) r.0) (6 * k + 1) r.1) (6 * k + 2) r.2) (6 * k + 3) r.3 in
-    let l5 = length-set (set (set (set (set t (6 * k) r.0) (6 * k + 1) r.1) (6 * k + 2) r.2) (6 * k + 3) r.3) (6 * k + 4) r.4 in
-    let e0 = a0 (6 * k) r.5 0 (λ e. omega arith) ∙ a1 (6 * k) r.4 0 (λ e. omega arith) ∙ a2 (6 * k) r.3 0 (λ e. omega arith) ∙ a3 (6 * k) r.2 0 (λ e. omega arith) ∙ a4 (6 * k) r.1 0 (λ e. omega arith) ∙ get_or-set_same t (6 * k) r.0 0 (omega arith) in
-    let e1 = a0 (6 * k + 1) r.5 0 (λ e. omega arith) ∙ a1 (6 * k + 1) r.4 0 (λ e. omega arith) ∙ a2 (6 * k + 1) r.3 0 (λ e. omega arith) ∙ a3 (6 * k + 1) r.2 0 (λ e. omega arith) ∙ get_or-set_same (set t (6 * k) r.0) (6 * k + 1) r.1 0 (omega arith) in
-    let e2 = a0 (6 * k + 2) r.5 0 (λ e. omega arith) ∙ a1 (6 * k + 2) r.4 0 (λ e. omega arith) ∙ a2 (6 * k + 2) r.3 0 (λ e. omega arith) ∙ get_or-set_same (set (set t (6 * k) r.0) (6 * k + 1) r.1) (6 * k + 2) r.2 0 (omega arith) in
-    let e3 = a0 (6 * k + 3) r.5 0 (λ e. omega arith) ∙ a1 (6 * k + 3) r.4 0 (λ e. omega arith) ∙ get_or-set_same (set (set (set t (6 * k) r.0) (6 * k + 1) r.1) (6 * k + 2) r.2) (6 * k + 3) r.3 0 (omega arith) in
-    let e4 = a0 (6 * k + 4) r.5 0 (λ e. omega arith) ∙ get_or-set_same (set (set (set (set t (6 * k) r.0) (6 * k + 1) r.1) (6 * k + 2) r.2) (6 * k + 3) r.3) (6 * k + 4) r.4 0 (omega arith) in
-    let e5 = get_or-set_same (set (set (set (set (set t (6 * k) r.0) (6 * k + 1) r.1) (6 * k + 2) r.2) (6 * k + 3) r.3) (6 * k + 4) r.4) (6 * k + 5) r.5 0 (omega arith) in
-    λ i. record { 0 = e0 i; 1 = e1 i; 2 = e2 i; 3 = e3 i; 4 = e4 i; 5 = e5 i }
-
--- rows of tables that agree from a place on, or up to it
-pub same_row : (t u : List ℕ) (i : ℕ) → ((j : ℕ) → 6 * i ≤ j → j < 6 * (i + 1) → get_or t j 0 ≡ get_or u j 0) → row_at t i ≡ row_at u i
-unfolding row_at
-same_row t u i h =
-    λ k. record {
-      0 = h (6 * i) (omega arith) (omega arith) k;
-      1 = h (6 * i + 1) (omega arith) (omega arith) k;
-      2 = h (6 * i + 2) (omega arith) (omega arith) k;
-      3 = h (6 * i + 3) (omega arith) (omega arith) k;
-      4 = h (6 * i + 4) (omega arith) (omega arith) k;
-      5 = h (6 * i + 5) (omega arith) (omega arith) k;
-    }
-
--- what stands before the row stays
-put_before : (t : List ℕ) (k : ℕ) (r : Row) (j : ℕ) → j < 6 * k → get_or (put_row t k r) j 0 ≡ get_or t j 0
-unfolding put_row
-put_before t k r j h =
-    rw (
-      get_or-set_other _ (6 * k + 5) j r.5 0 (λ e. omega arith),
-      get_or-set_other _ (6 * k + 4) j r.4 0 (λ e. omega arith),
-      get_or-set_other _ (6 * k + 3) j r.3 0 (λ e. omega arith),
-      get_or-set_other _ (6 * k + 2) j r.2 0 (λ e. omega arith),
-      get_or-set_other _ (6 * k + 1) j r.1 0 (λ e. omega arith),
-      get_or-set_other _ (6 * k) j r.0 0 (λ e. omega arith),
-    )
-
-pub rows_before : (t : List ℕ) (k : ℕ) (r : Row) (n : ℕ) → n ≤ k → rows_in (put_row t k r) n ≡ rows_in t n
+pub rows_before : (t : List Row) (k : ℕ) (r : Row) (n : ℕ) → n ≤ k → rows_in (put_row t k r) n ≡ rows_in t n
 unfolding rows_in
 rows_before t k r zero h = refl
 rows_before t k r (suc n) h =
-    rw (same_row (put_row t k r) t n (λ j p q. put_before t k r j (omega arith)), rows_before t k r n (omega arith))
+    rw (put_other t k r n (λ e. omega arith), rows_before t k r n (omega arith))
 
 -- one more row
-pub row_added : (t : List ℕ) (k : ℕ) (r : Row) → Table t → k < 3072 → rows_in (put_row t k r) (k + 1) ≡ r ∷ rows_in t k
+pub row_added : (t : List Row) (k : ℕ) (r : Row) → Table t → k < 3072 → rows_in (put_row t k r) (k + 1) ≡ r ∷ rows_in t k
 unfolding rows_in
-row_added t k r h l = rw (add-one k, row_put t k r (omega arith), rows_before t k r k (omega arith))
+row_added t k r h l = rw (add-one k, get_or-set_same t k r no_row (omega arith), rows_before t k r k (omega arith))
 
 -- Dropping: the kept rows stand first, and from the place of the next one on the table is as it was.
 
-pub record Closing (f : Row → Bool) (t₀ : List ℕ) (count : ℕ) (t : List ℕ) (kept i : ℕ) : Type 0 where
+pub record Closing (f : Row → Bool) (t₀ : List Row) (count : ℕ) (t : List Row) (kept i : ℕ) : Type 0 where
   pub within : i ≤ count
   pub fewer : kept ≤ i
   pub table : Table t
-  pub rest : (j : ℕ) → 6 * kept ≤ j → get_or t j 0 ≡ get_or t₀ j 0
+  pub rest : (j : ℕ) → kept ≤ j → row_at t j ≡ row_at t₀ j
   pub rows : rows_in t kept ≡ filter f (rows_in t₀ i)
 
-module _ (f : Row → Bool) (t₀ : List ℕ) (count : ℕ) where
+module _ (f : Row → Bool) (t₀ : List Row) (count : ℕ) where
   pub closing_begins : Table t₀ → Closing f t₀ count t₀ 0 0
   unfolding rows_in filter
   closing_begins h = record { within = omega arith; fewer = omega arith; table = h; rest = λ j l. refl; rows = refl }
 
-  pub closing_row : (t : List ℕ) (kept i : ℕ) → Closing f t₀ count t kept i → row_at t i ≡ row_at t₀ i
-  closing_row t kept i c = let h = c.fewer in same_row t t₀ i (λ j p q. c.rest j (omega arith))
+  pub closing_row : (t : List Row) (kept i : ℕ) → Closing f t₀ count t kept i → row_at t i ≡ row_at t₀ i
+  closing_row t kept i c = c.rest i c.fewer
 
-  pub closing_keeps : (t u : List ℕ) (kept kept' i : ℕ) (r : Row) → count ≤ 3072 → i < count → Closing f t₀ count t kept i → r ≡ row_at t i → f r ≡ true →
+  pub closing_keeps : (t u : List Row) (kept kept' i : ℕ) (r : Row) → count ≤ 3072 → i < count → Closing f t₀ count t kept i → r ≡ row_at t i → f r ≡ true →
       u ≡ put_row t kept r → kept' ≡ kept + 1 → Closing f t₀ count u kept' (i + 1)
   closing_keeps t u kept kept' i r n l c e h p q =
       let a = c.fewer in
@@ -186,11 +129,11 @@ module _ (f : Row → Bool) (t₀ : List ℕ) (count : ℕ) where
         within = omega arith;
         fewer = omega arith;
         table = ap length p ∙ length_put t kept r ∙ w;
-        rest = λ j s. ap (λ (x : List ℕ). get_or x j 0) p ∙ put_beyond t kept r j (omega arith) ∙ c.rest j (omega arith);
-        rows = ap (rows_in u) q ∙ ap (λ (x : List ℕ). rows_in x (kept + 1)) p ∙ row_added t kept r w (omega arith) ∙ ap (λ (x : Row). x ∷ rows_in t kept) at ∙ ap (λ (x : List Row). row_at t₀ i ∷ x) c.rows ∙ sym (one_more_kept f t₀ i k);
+        rest = λ j s. ap (λ (x : List Row). row_at x j) p ∙ put_other t kept r j (λ e. omega arith) ∙ c.rest j (omega arith);
+        rows = ap (rows_in u) q ∙ ap (λ (x : List Row). rows_in x (kept + 1)) p ∙ row_added t kept r w (omega arith) ∙ ap (λ (x : Row). x ∷ rows_in t kept) at ∙ ap (λ (x : List Row). row_at t₀ i ∷ x) c.rows ∙ sym (one_more_kept f t₀ i k);
       }
 
-  pub closing_drops : (t u : List ℕ) (kept kept' i : ℕ) → i < count → Closing f t₀ count t kept i → f (row_at t i) ≡ false → u ≡ t → kept' ≡ kept → Closing f t₀ count u kept' (i + 1)
+  pub closing_drops : (t u : List Row) (kept kept' i : ℕ) → i < count → Closing f t₀ count t kept i → f (row_at t i) ≡ false → u ≡ t → kept' ≡ kept → Closing f t₀ count u kept' (i + 1)
   closing_drops t u kept kept' i l c h p q =
       let a = c.fewer in
       let k : f (row_at t₀ i) ≡ false = subst (λ (x : Row). f x ≡ false) (closing_row t kept i c) h in
@@ -198,43 +141,43 @@ module _ (f : Row → Bool) (t₀ : List ℕ) (count : ℕ) where
         within = omega arith;
         fewer = omega arith;
         table = ap length p ∙ c.table;
-        rest = λ j s. ap (λ (x : List ℕ). get_or x j 0) p ∙ c.rest j (omega arith);
-        rows = ap (rows_in u) q ∙ ap (λ (x : List ℕ). rows_in x kept) p ∙ c.rows ∙ sym (none_more_hit f t₀ i k);
+        rest = λ j s. ap (λ (x : List Row). row_at x j) p ∙ c.rest j (omega arith);
+        rows = ap (rows_in u) q ∙ ap (λ (x : List Row). rows_in x kept) p ∙ c.rows ∙ sym (none_more_hit f t₀ i k);
       }
 
-  pub closing_ends : (t : List ℕ) (kept i : ℕ) → count ≤ i → Closing f t₀ count t kept i → rows_in t kept ≡ filter f (rows_in t₀ count)
+  pub closing_ends : (t : List Row) (kept i : ℕ) → count ≤ i → Closing f t₀ count t kept i → rows_in t kept ≡ filter f (rows_in t₀ count)
   closing_ends t kept i h c = let l = c.within in let e : i ≡ count = omega arith in c.rows ∙ ap (λ (n : ℕ). filter f (rows_in t₀ n)) e
 
 -- Changing: the rows so far are changed, and what comes is as it was.
 
-pub record Changing (g : PlanBlock → PlanBlock) (t₀ : List ℕ) (count : ℕ) (t : List ℕ) (i : ℕ) : Type 0 where
+pub record Changing (g : PlanBlock → PlanBlock) (t₀ : List Row) (count : ℕ) (t : List Row) (i : ℕ) : Type 0 where
   pub within : i ≤ count
   pub table : Table t
-  pub rest : (j : ℕ) → 6 * i ≤ j → get_or t j 0 ≡ get_or t₀ j 0
+  pub rest : (j : ℕ) → i ≤ j → row_at t j ≡ row_at t₀ j
   pub rows : map block_of (rows_in t i) ≡ map g (map block_of (rows_in t₀ i))
 
-module _ (g : PlanBlock → PlanBlock) (t₀ : List ℕ) (count : ℕ) where
+module _ (g : PlanBlock → PlanBlock) (t₀ : List Row) (count : ℕ) where
   pub changing_begins : Table t₀ → Changing g t₀ count t₀ 0
   unfolding rows_in
   changing_begins h = record { within = omega arith; table = h; rest = λ j l. refl; rows = refl }
 
-  pub changing_turns : (t u : List ℕ) (i : ℕ) (r s : Row) → count ≤ 3072 → i < count → Changing g t₀ count t i → r ≡ row_at t i → block_of s ≡ g (block_of r) →
+  pub changing_turns : (t u : List Row) (i : ℕ) (r s : Row) → count ≤ 3072 → i < count → Changing g t₀ count t i → r ≡ row_at t i → block_of s ≡ g (block_of r) →
       u ≡ put_row t i s → Changing g t₀ count u (i + 1)
   unfolding rows_in
   changing_turns t u i r s n l c e h p =
       let w = c.table in
-      let at : row_at t i ≡ row_at t₀ i = same_row t t₀ i (λ j x y. c.rest j x) in
+      let at : row_at t i ≡ row_at t₀ i = c.rest i (omega arith) in
       record {
         within = omega arith;
         table = ap length p ∙ length_put t i s ∙ w;
-        rest = λ j x. ap (λ (y : List ℕ). get_or y j 0) p ∙ put_beyond t i s j x ∙ c.rest j (omega arith);
+        rest = λ j x. ap (λ (y : List Row). row_at y j) p ∙ put_other t i s j (λ e. omega arith) ∙ c.rest j (omega arith);
         rows =
-            ap (λ (x : List ℕ). map block_of (rows_in x (i + 1))) p ∙ ap (map block_of) (row_added t i s w (omega arith))
+            ap (λ (x : List Row). map block_of (rows_in x (i + 1))) p ∙ ap (map block_of) (row_added t i s w (omega arith))
             ∙ ap (λ (x : PlanBlock). x ∷ map block_of (rows_in t i)) (h ∙ ap (λ (x : Row). g (block_of x)) (e ∙ at))
             ∙ rw (add-one i) (ap (λ (x : List PlanBlock). g (block_of (row_at t₀ i)) ∷ x) c.rows);
       }
 
-  pub changing_ends : (t : List ℕ) (i : ℕ) → count ≤ i → Changing g t₀ count t i → map block_of (rows_in t count) ≡ map g (map block_of (rows_in t₀ count))
+  pub changing_ends : (t : List Row) (i : ℕ) → count ≤ i → Changing g t₀ count t i → map block_of (rows_in t count) ≡ map g (map block_of (rows_in t₀ count))
   changing_ends t i h c =
       let l = c.within in
       let e : i ≡ count = omega arith in
@@ -246,7 +189,7 @@ pub ports_more : (l : List PlanBlock) (b : PlanBlock) (p n : ℕ) → p ≡ port
 unfolding ports_in_all
 ports_more l b p n e h = omega arith
 
-pub rows_more : (t : List ℕ) (i : ℕ) → rows_in t (i + 1) ≡ row_at t i ∷ rows_in t i
+pub rows_more : (t : List Row) (i : ℕ) → rows_in t (i + 1) ≡ row_at t i ∷ rows_in t i
 unfolding rows_in
 rows_more t i = rw (add-one i)
 
@@ -279,7 +222,7 @@ neighbour_out n d flag r p h =
 
 -- The newest row that is hit is the first of those that are.
 
-pub newest_none : (f : Row → Bool) (t : List ℕ) (n : ℕ) → newest_hit f t 0 n ≡ 0 → filter f (rows_in t n) ≡ []
+pub newest_none : (f : Row → Bool) (t : List Row) (n : ℕ) → newest_hit f t 0 n ≡ 0 → filter f (rows_in t n) ≡ []
 unfolding newest_hit rows_in filter
 newest_none f t zero e = refl
 newest_none f t (suc n) e = go (f (row_at t n)) refl (rw (le-leb 0 n (omega arith)) at e) (newest_none f t n)
@@ -289,7 +232,7 @@ newest_none f t (suc n) e = go (f (row_at t n)) refl (rw (le-leb 0 n (omega arit
     go true p q rest = let s : suc n ≡ 0 = rw p at q in absurd (omega arith)
     go false p q rest = let s : newest_hit f t 0 n ≡ 0 = rw p at q in rw p (rest s)
 
-pub newest_some : (f : Row → Bool) (t : List ℕ) (n k : ℕ) → newest_hit f t 0 n ≡ suc k → (filter f (rows_in t n) ≡ row_at t k ∷ filter f (rows_in t k)) × (k < n)
+pub newest_some : (f : Row → Bool) (t : List Row) (n k : ℕ) → newest_hit f t 0 n ≡ suc k → (filter f (rows_in t n) ≡ row_at t k ∷ filter f (rows_in t k)) × (k < n)
 unfolding newest_hit rows_in filter
 newest_some f t zero k e = absurd (omega arith)
 newest_some f t (suc n) k e = go (f (row_at t n)) refl (rw (le-leb 0 n (omega arith)) at e) (newest_some f t n k)
@@ -307,25 +250,20 @@ newest_some f t (suc n) k e = go (f (row_at t n)) refl (rw (le-leb 0 n (omega ar
         let l = r.1 in
         (rw p r.0, omega arith)
 
-module _ (f : Row → Bool) (t : List ℕ) (n k : ℕ) (found : k ≡ newest_hit f t 0 n) where
-  pub any_found : not (eqb k 0) ≡ is_there_any (filter f (rows_in t n))
+module _ (f : Row → Bool) (t : List Row) (n : ℕ) (k : Option ℕ) (found : past k ≡ newest_hit f t 0 n) where
+  pub any_found : is_some k ≡ is_there_any (filter f (rows_in t n))
   any_found = go k found
     where
-      go : (m : ℕ) → m ≡ newest_hit f t 0 n → not (eqb m 0) ≡ is_there_any (filter f (rows_in t n))
-      go zero e = sym (ap is_there_any (newest_none f t n (sym e)))
-      go (suc m) e = rw (ne_eqb (suc m) 0 (λ p. omega arith)) (sym (ap is_there_any (newest_some f t n m (sym e)).0))
+      go : (m : Option ℕ) → past m ≡ newest_hit f t 0 n → is_some m ≡ is_there_any (filter f (rows_in t n))
+      go None e = sym (ap is_there_any (newest_none f t n (sym e)))
+      go (Some m) e = sym (ap is_there_any (newest_some f t n m (sym e)).0)
 
-  pub newest_is_none : k ≡ 0 → no_row ≡ newest_of (filter f (rows_in t n))
-  unfolding newest_of
-  newest_is_none z = sym (ap newest_of (newest_none f t n (sym found ∙ z)))
+  pub newest_is_none : k ≡ None → None ≡ first (filter f (rows_in t n))
+  newest_is_none z = sym (ap first (newest_none f t n (sym found ∙ ap past z)))
 
-  pub newest_within : (k ≡ 0 → ⊥) → k - 1 < n
-  newest_within z =
-      let e : newest_hit f t 0 n ≡ suc (k - 1) = sym found ∙ omega arith in
-      (newest_some f t n (k - 1) e).1
+  module _ {i : ℕ} (z : k ≡ Some i) where
+    pub newest_within : i < n
+    newest_within = (newest_some f t n i (sym found ∙ ap past z)).1
 
-  pub newest_is : (k ≡ 0 → ⊥) → row_at t (k - 1) ≡ newest_of (filter f (rows_in t n))
-  unfolding newest_of
-  newest_is z =
-      let e : newest_hit f t 0 n ≡ suc (k - 1) = sym found ∙ omega arith in
-      sym (ap newest_of (newest_some f t n (k - 1) e).0)
+    pub newest_is : Some (row_at t i) ≡ first (filter f (rows_in t n))
+    newest_is = sym (ap first (newest_some f t n i (sym found ∙ ap past z)).0)

@@ -1,5 +1,5 @@
 -- The tables of a sketch as lists: the rows of a table, newest first, and what a row stands for.
-use Rattle.std.specs.Prelude.{◌≡◌, Bool, true, false, cond, not, List, [], ◌∷◌, map, ℕ, zero, suc, ◌+◌, ◌*◌, eqb, leb, length, get_or, set}
+use Rattle.std.specs.Prelude.{◌≡◌, Bool, true, false, cond, not, List, [], ◌∷◌, map, ℕ, zero, suc, eqb, leb, length, get_or, set, Option, Some, None}
 use Rattle.port_tables.specs.declared.direction.Direction.{Direction}
 use Rattle.port_tables.specs.declared.direction.Direction.TheVariants.{Incoming, Outgoing}
 use Rattle.port_tables.specs.Places.{Place, Wire, at_spot, at_end, of_node, of_dropped, touches, end_on, far_from}
@@ -16,37 +16,32 @@ use Rattle.sketches.specs.declared.tests.Test.TheVariants as test
 abbrev pub row_slots : ℕ
 row_slots = 3072
 
-unfoldable pub row_at : List ℕ → ℕ → Row
-row_at t i =
-    record {
-      0 = get_or t (6 * i) 0;
-      1 = get_or t (6 * i + 1) 0;
-      2 = get_or t (6 * i + 2) 0;
-      3 = get_or t (6 * i + 3) 0;
-      4 = get_or t (6 * i + 4) 0;
-      5 = get_or t (6 * i + 5) 0;
-    }
+-- a row of zeros
+abbrev pub no_row : Row
+no_row = record { 0 = 0; 1 = 0; 2 = 0; 3 = 0; 4 = 0; 5 = 0 }
 
-unfoldable pub put_row : List ℕ → ℕ → Row → List ℕ
-put_row t i r =
-    set (set (set (set (set (set t (6 * i) r.0) (6 * i + 1) r.1) (6 * i + 2) r.2) (6 * i + 3) r.3) (6 * i + 4) r.4) (6 * i + 5) r.5
+abbrev pub row_at : List Row → ℕ → Row
+row_at t i = get_or t i no_row
+
+abbrev pub put_row : List Row → ℕ → Row → List Row
+put_row t i r = set t i r
 
 -- the first rows of a table, so many, the newest first
-unfoldable pub rows_in : List ℕ → ℕ → List Row
+unfoldable pub rows_in : List Row → ℕ → List Row
 rows_in t zero = []
 rows_in t (suc i) = row_at t i ∷ rows_in t i
 
 -- a table has room for its rows
-abbrev pub Table : List ℕ → Type 0
-Table t = length t ≡ 18432
+abbrev pub Table : List Row → Type 0
+Table t = length t ≡ 3072
 
 -- of the rows from low up to high, newest first, one past the first for which a test holds; 0 for none
-unfoldable pub newest_hit : (Row → Bool) → List ℕ → ℕ → ℕ → ℕ
+unfoldable pub newest_hit : (Row → Bool) → List Row → ℕ → ℕ → ℕ
 newest_hit f t low zero = 0
 newest_hit f t low (suc i) = cond (leb low i) (cond (f (row_at t i)) (suc i) (newest_hit f t low i)) 0
 
 -- of so many rows from a place on, oldest first
-unfoldable pub oldest_hit : (Row → Bool) → List ℕ → ℕ → ℕ → ℕ
+unfoldable pub oldest_hit : (Row → Bool) → List Row → ℕ → ℕ → ℕ
 oldest_hit f t i zero = 0
 oldest_hit f t i (suc n) = cond (f (row_at t i)) (suc i) (oldest_hit f t (suc i) n)
 
@@ -70,13 +65,13 @@ wire_of r =
     }
 
 -- what a table's first rows stand for
-abbrev pub blocks_in : List ℕ → ℕ → List PlanBlock
+abbrev pub blocks_in : List Row → ℕ → List PlanBlock
 blocks_in t n = map block_of (rows_in t n)
 
-abbrev pub splits_in : List ℕ → ℕ → List Place
+abbrev pub splits_in : List Row → ℕ → List Place
 splits_in t n = map split_of (rows_in t n)
 
-abbrev pub wires_in : List ℕ → ℕ → List Wire
+abbrev pub wires_in : List Row → ℕ → List Wire
 wires_in t n = map wire_of (rows_in t n)
 
 -- Tests.
@@ -99,10 +94,17 @@ hits (test.Side n d) r = eqb (end_on d (wire_of r)).node n
 hits (test.Between n k) r = cond (eqb (wire_of r).out.node n) (eqb (wire_of r).into.node k) false
 hits (test.Neighbour n d flag) r = cond (eqb (end_on d (wire_of r)).node n) (not (is_own_output n flag (far_from d (wire_of r)))) false
 
--- the first of some rows; one of zeros where there is none
-abbrev pub no_row : Row
-no_row = record { 0 = 0; 1 = 0; 2 = 0; 3 = 0; 4 = 0; 5 = 0 }
+-- one past the place of a row that is found; 0 for none
+abbrev pub past : Option ℕ → ℕ
+past None = 0
+past (Some i) = suc i
 
+-- the first of some rows
+abbrev pub first : List Row → Option Row
+first [] = None
+first (r ∷ l) = Some r
+
+-- one of zeros where there is none
 unfoldable pub newest_of : List Row → Row
 newest_of [] = no_row
 newest_of (r ∷ l) = r

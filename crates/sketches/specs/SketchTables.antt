@@ -7,6 +7,7 @@ use Rattle.sketches.specs.Plan.{Plan, empty_plan}
 use Rattle.sketches.specs.PlanCalls.{Sketched}
 use Rattle.sketches.specs.PlanWf.{PlanWf, empty_wf}
 use Rattle.sketches.specs.Rows.{Table, rows_in, blocks_in, splits_in, wires_in}
+use Rattle.sketches.specs.declared.rows.Row.{Row}
 use Rattle.sketches.specs.declared.totals.Totals.{Totals}
 
 abbrev pub new_held : Release → Totals
@@ -22,7 +23,7 @@ abbrev pub held_wires : Totals → ℕ → Totals
 held_wires h w = totals_counts h h.blocks h.splits w
 
 -- the plan of three tables
-abbrev pub plan_in : List ℕ → List ℕ → List ℕ → Totals → Plan
+abbrev pub plan_in : List Row → List Row → List Row → Totals → Plan
 plan_in b s w h =
     record {
       release = h.release;
@@ -32,22 +33,22 @@ plan_in b s w h =
       wires = wires_in w h.wires;
     }
 
-pub record SketchWf (b s w : List ℕ) (h : Totals) : Type 0 where
+pub record SketchWf (b s w : List Row) (h : Totals) : Type 0 where
   pub block_table : Table b
   pub split_table : Table s
   pub wire_table : Table w
   pub plan : PlanWf (plan_in b s w h)
 
 -- a new sketch is the empty plan, and nothing else is presumed of its tables than their lengths
-pub new_plan : (b s w : List ℕ) (r : Release) → plan_in b s w (new_held r) ≡ empty_plan r
+pub new_plan : (b s w : List Row) (r : Release) → plan_in b s w (new_held r) ≡ empty_plan r
 unfolding rows_in
 new_plan b s w r = refl
 
-pub new_wf : (b s w : List ℕ) (r : Release) → Table b → Table s → Table w → SketchWf b s w (new_held r)
+pub new_wf : (b s w : List Row) (r : Release) → Table b → Table s → Table w → SketchWf b s w (new_held r)
 new_wf b s w r x y z = record { block_table = x; split_table = y; wire_table = z; plan = subst PlanWf (sym (new_plan b s w r)) (empty_wf r) }
 
 -- what a call leaves: the tables, the numbers beside them and the answer
-pub record Leaves {A : Type 0} (numbers : A → List ℕ) (called : Sketched A) (b s w : List ℕ) (h : Totals) (answer : A) : Type 0 where
+pub record Leaves {A : Type 0} (numbers : A → List ℕ) (called : Sketched A) (b s w : List Row) (h : Totals) (answer : A) : Type 0 where
   pub plan : plan_in b s w h ≡ called.plan
   pub answered : answer ≡ called.answer
   pub numbered : numbers answer ≡ numbers called.answer

@@ -1,5 +1,5 @@
 -- What a step of each walk gives.
-use Rattle.std.specs.Prelude.{◌≡◌, refl, Bool, true, false, cond, List, ◌∷◌, eqb, leb, ltb}
+use Rattle.std.specs.Prelude.{◌≡◌, refl, Bool, true, false, cond, List, ◌∷◌, eqb, leb, ltb, Option, Some, None, Result, Ok, Err}
 use Rattle.std.proofs.Common.{sym, ◌∙◌, inl, inr}
 use Rattle.std.proofs.Math.Path.{ap}
 use Prim.Native.Nat.{ℕ, zero, suc, ◌+◌, ◌-◌, ◌≤◌, ◌<◌, min}
@@ -13,32 +13,33 @@ use Rattle.sketches.specs.Plan.{Plan, ports_on_side, subports_of, end#, end_at_p
 use Rattle.sketches.specs.PlanLists.{port_on}
 use Rattle.sketches.specs.PlanWf.{PlanWf, most_subports}
 use Rattle.sketches.specs.CallsWf.{subports_within}
-use Rattle.sketches.specs.Rows.{row_at, rows_in, wire_of, hits, newest_hit, oldest_hit}
+use Rattle.sketches.specs.Rows.{row_at, rows_in, wire_of, hits, past, newest_hit, oldest_hit}
 use Rattle.sketches.specs.SketchTables.{SketchWf}
 use Rattle.sketches.specs.declared.rows.Row.{Row}
 use Rattle.sketches.specs.declared.totals.Totals.{Totals}
 use Rattle.sketches.specs.declared.tests.Test.{Test}
 use Rattle.sketches.specs.declared.walks.Walk.{Walk}
 use Rattle.sketches.specs.declared.walks.SketchWire.{SketchWire}
-use Rattle.sketches.specs.declared.walks.WalkStart.{WalkStart}
-use Rattle.sketches.specs.declared.walks.WalkStart.TheVariants as start
-use Rattle.sketches.specs.declared.walks.WireStep.{WireStep}
-use Rattle.sketches.specs.declared.walks.WireStep.TheVariants as wire
-use Rattle.sketches.specs.declared.walks.BlockStep.{BlockStep}
-use Rattle.sketches.specs.declared.walks.BlockStep.TheVariants as block
 use Rattle.sketches.specs.declared.walks.SubportWalk.{SubportWalk}
-use Rattle.sketches.specs.declared.walks.SubportStep.{SubportStep}
-use Rattle.sketches.specs.declared.walks.SubportStep.TheVariants as subport
 use Rattle.sketches.specs.declared.sketch.SketchPort.{SketchPort}
 use Rattle.sketches.specs.declared.sketch.Reason.{Reason}
+use Rattle.sketches.specs.declared.sketch.SketchEnd.{SketchEnd}
+
+-- What a step gives: an item, and the walk that goes on.
+
+pub item_of : {A B : Type 0} {a x : A} {b y : B} → ◌≡◌ {A = Option (A × B)} (Some (a, b)) (Some (x, y)) → a ≡ x
+item_of {A} {B} {a} {x} {b} {y} e = let d : ◌≡◌ {A = A × B} (a, b) (x, y) = cc in ap (λ (p : A × B). p.0) d
+
+pub rest_of : {A B : Type 0} {a x : A} {b y : B} → ◌≡◌ {A = Option (A × B)} (Some (a, b)) (Some (x, y)) → b ≡ y
+rest_of {A} {B} {a} {x} {b} {y} e = let d : ◌≡◌ {A = A × B} (a, b) (x, y) = cc in ap (λ (p : A × B). p.1) d
 
 -- Starts.
 
 abbrev pub whole_walk : ℕ → Test → Walk
 whole_walk n x = record { low = 0; high = n; test = x }
 
-abbrev pub start_of : Bool → Reason → Walk → WalkStart
-start_of b r w = cond b (start.At w) (start.Refused r)
+abbrev pub start_of : Bool → Reason → Walk → Result Walk Reason
+start_of b r w = cond b (Ok w) (Err r)
 
 -- Wires.
 
@@ -47,28 +48,28 @@ abbrev pub wire_held : Wire → SketchWire
 wire_held w = record { out = end_at_place w.out; into = end_at_place w.into }
 
 -- the walk goes on below the row that was found
-abbrev pub wire_below : List ℕ → Walk → ℕ → WireStep
-wire_below t w zero = wire.End
-wire_below t w (suc k) = wire.Wire (wire_held (wire_of (row_at t k))) (record { low = w.low; high = k; test = w.test })
+abbrev pub wire_below : List Row → Walk → ℕ → Option (SketchWire × Walk)
+wire_below t w zero = None
+wire_below t w (suc k) = Some (wire_held (wire_of (row_at t k)), record { low = w.low; high = k; test = w.test })
 
 -- or above it
-abbrev pub wire_above : List ℕ → Walk → ℕ → WireStep
-wire_above t w zero = wire.End
-wire_above t w (suc k) = wire.Wire (wire_held (wire_of (row_at t k))) (record { low = suc k; high = w.high; test = w.test })
+abbrev pub wire_above : List Row → Walk → ℕ → Option (SketchWire × Walk)
+wire_above t w zero = None
+wire_above t w (suc k) = Some (wire_held (wire_of (row_at t k)), record { low = suc k; high = w.high; test = w.test })
 
-unfoldable pub next_wire : List ℕ → ℕ → Walk → WireStep
+unfoldable pub next_wire : List Row → ℕ → Walk → Option (SketchWire × Walk)
 next_wire t n w = wire_below t w (newest_hit (hits w.test) t w.low (min w.high n))
 
-unfoldable pub previous_wire : List ℕ → ℕ → Walk → WireStep
+unfoldable pub previous_wire : List Row → ℕ → Walk → Option (SketchWire × Walk)
 previous_wire t n w = wire_above t w (oldest_hit (hits w.test) t w.low (min w.high n - w.low))
 
 -- Blocks.
 
-abbrev pub block_below : List ℕ → Walk → ℕ → BlockStep
-block_below t w zero = block.End
-block_below t w (suc k) = block.Block (row_at t k).0 (record { low = w.low; high = k; test = w.test })
+abbrev pub block_below : List Row → Walk → ℕ → Option (ℕ × Walk)
+block_below t w zero = None
+block_below t w (suc k) = Some ((row_at t k).0, record { low = w.low; high = k; test = w.test })
 
-unfoldable pub next_block : List ℕ → ℕ → Walk → BlockStep
+unfoldable pub next_block : List Row → ℕ → Walk → Option (ℕ × Walk)
 next_block t n w = block_below t w (newest_hit (hits w.test) t w.low (min w.high (min n 3072)))
 
 -- Subports.
@@ -81,22 +82,22 @@ pub record Knows (K : Plan) (x : SketchPort) (n : ℕ) : Type 0 where
   pub count : n ≡ offset_count (subports_of K x)
   pub within : n ≤ most_subports
 
-unfoldable pub next_subport : Plan → SubportWalk → SubportStep
+unfoldable pub next_subport : Plan → SubportWalk → Option (SketchEnd × SubportWalk)
 next_subport K w =
-    cond (leb (ports_on_side K.blocks w.port.block w.port.side) w.port.position) subport.End
-    (cond (ltb w.offset (offset_count (subports_of K w.port))) (subport.Subport (end# w.port w.offset) (record { port = w.port; offset = suc w.offset }))
-    (cond (leb (ports_on_side K.blocks w.port.block w.port.side) (suc w.port.position)) subport.End
-    (subport.Subport (end# (port_on w.port.block w.port.side (suc w.port.position)) 0) (record { port = port_on w.port.block w.port.side (suc w.port.position); offset = 1 }))))
+    cond (leb (ports_on_side K.blocks w.port.block w.port.side) w.port.position) None
+    (cond (ltb w.offset (offset_count (subports_of K w.port))) (Some (end# w.port w.offset, record { port = w.port; offset = suc w.offset }))
+    (cond (leb (ports_on_side K.blocks w.port.block w.port.side) (suc w.port.position)) None
+    (Some (end# (port_on w.port.block w.port.side (suc w.port.position)) 0, record { port = port_on w.port.block w.port.side (suc w.port.position); offset = 1 }))))
 
 -- Each step over the tables.
 
-pub started : (b : Bool) (r : Reason) (w : Walk) → b ≡ true → start.At w ≡ start_of b r w
+pub started : (b : Bool) (r : Reason) (w : Walk) → b ≡ true → Ok w ≡ start_of b r w
 started b r w e = rw e
 
-pub not_started : (b : Bool) (r : Reason) (w : Walk) → b ≡ false → start.Refused r ≡ start_of b r w
+pub not_started : (b : Bool) (r : Reason) (w : Walk) → b ≡ false → Err r ≡ start_of b r w
 not_started b r w e = rw e
 
-pub newest_high : (f : Row → Bool) (t : List ℕ) (low n : ℕ) → newest_hit f t low n ≤ n
+pub newest_high : (f : Row → Bool) (t : List Row) (low n : ℕ) → newest_hit f t low n ≤ n
 unfolding newest_hit
 newest_high f t low zero = omega arith
 newest_high f t low (suc n) = go (leb low n) (f (row_at t n)) (newest_high f t low n)
@@ -106,7 +107,7 @@ newest_high f t low (suc n) = go (leb low n) (f (row_at t n)) (newest_high f t l
     go true false h = omega arith
     go false b h = omega arith
 
-pub oldest_high : (f : Row → Bool) (t : List ℕ) (i n : ℕ) → oldest_hit f t i n ≤ i + n
+pub oldest_high : (f : Row → Bool) (t : List Row) (i n : ℕ) → oldest_hit f t i n ≤ i + n
 unfolding oldest_hit
 oldest_high f t i zero = omega arith
 oldest_high f t i (suc n) = go (f (row_at t i)) (oldest_high f t (suc i) n)
@@ -115,11 +116,11 @@ oldest_high f t i (suc n) = go (f (row_at t i)) (oldest_high f t (suc i) n)
     go true h = omega arith
     go false h = omega arith
 
-no_rows : (f : Row → Bool) (t : List ℕ) (i n : ℕ) → n ≡ 0 → oldest_hit f t i n ≡ 0
+no_rows : (f : Row → Bool) (t : List Row) (i n : ℕ) → n ≡ 0 → oldest_hit f t i n ≡ 0
 unfolding oldest_hit
 no_rows f t i n c = rw c
 
-row_among : (t : List ℕ) (n i : ℕ) → i < n → Member (row_at t i) (rows_in t n)
+row_among : (t : List Row) (n i : ℕ) → i < n → Member (row_at t i) (rows_in t n)
 unfolding rows_in
 row_among t zero i h = absurd (omega arith)
 row_among t (suc n) i h = go (eqb i n) refl (row_among t n i)
@@ -128,68 +129,71 @@ row_among t (suc n) i h = go (eqb i n) refl (row_among t n i)
     go true e rest = inl (ap (row_at t) (eqb-true i n e))
     go false e rest = let d = eqb-false i n e in inr (rest (omega (arith, d)))
 
-pub row_offsets : {b s w : List ℕ} {h : Totals} (i : ℕ) → SketchWf b s w h → i < h.wires → ((wire_of (row_at w i)).out.offset < most_subports) × ((wire_of (row_at w i)).into.offset < most_subports)
+pub row_offsets : {b s w : List Row} {h : Totals} (i : ℕ) → SketchWf b s w h → i < h.wires → ((wire_of (row_at w i)).out.offset < most_subports) × ((wire_of (row_at w i)).into.offset < most_subports)
 row_offsets {b} {s} {w} {h} i wf l = wf.plan.offsets (wire_of (row_at w i)) (map_member wire_of (row_at w i) (rows_in w h.wires) (row_among w h.wires i l))
 
-module _ (t : List ℕ) (n : ℕ) (w : Walk) {m k : ℕ} (p : m ≡ min w.high n) where
-  module _ (e : k ≡ newest_hit (hits w.test) t w.low m) where
-    same : k ≡ newest_hit (hits w.test) t w.low (min w.high n)
+module _ (t : List Row) (n : ℕ) (w : Walk) {m : ℕ} (k : Option ℕ) (p : m ≡ min w.high n) where
+  module _ (e : past k ≡ newest_hit (hits w.test) t w.low m) where
+    same : past k ≡ newest_hit (hits w.test) t w.low (min w.high n)
     same = e ∙ ap (newest_hit (hits w.test) t w.low) p
 
-    pub next_ends : k ≡ 0 → wire.End ≡ next_wire t n w
+    pub next_ends : k ≡ None → None ≡ next_wire t n w
     unfolding next_wire
-    next_ends z = ap (wire_below t w) (sym z ∙ same)
+    next_ends z = ap (wire_below t w) (sym (ap past z) ∙ same)
 
-    pub next_within : (k ≡ 0 → ⊥) → k - 1 < n
-    next_within z = let h = newest_high (hits w.test) t w.low m in omega arith
+    module _ {i : ℕ} (z : k ≡ Some i) where
+      pub next_within : i < n
+      next_within = let s : suc i ≡ newest_hit (hits w.test) t w.low m = sym (ap past z) ∙ e in let h = newest_high (hits w.test) t w.low m in omega arith
 
-    pub next_gives : (k ≡ 0 → ⊥) → {x : SketchWire} → x ≡ wire_held (wire_of (row_at t (k - 1))) → wire.Wire x (record { low = w.low; high = k - 1; test = w.test }) ≡ next_wire t n w
-    unfolding next_wire
-    next_gives z {x} q =
-        let s : suc (k - 1) ≡ k = omega arith in
-        ap (λ (y : SketchWire). wire.Wire y (record { low = w.low; high = k - 1; test = w.test })) q ∙ ap (wire_below t w) (s ∙ same)
+      pub next_gives : {x : SketchWire} → x ≡ wire_held (wire_of (row_at t i)) → Some (x, record { low = w.low; high = i; test = w.test }) ≡ next_wire t n w
+      unfolding next_wire
+      next_gives {x} q =
+          ap (λ (y : SketchWire). Some (y, record { low = w.low; high = i; test = w.test })) q ∙ ap (wire_below t w) (sym (ap past z) ∙ same)
 
-  module _ (e : k ≡ oldest_hit (hits w.test) t w.low (m - w.low)) where
-    same_back : k ≡ oldest_hit (hits w.test) t w.low (min w.high n - w.low)
+  module _ (e : past k ≡ oldest_hit (hits w.test) t w.low (m - w.low)) where
+    same_back : past k ≡ oldest_hit (hits w.test) t w.low (min w.high n - w.low)
     same_back = e ∙ ap (λ (j : ℕ). oldest_hit (hits w.test) t w.low (j - w.low)) p
 
-    pub previous_ends : k ≡ 0 → wire.End ≡ previous_wire t n w
+    pub previous_ends : k ≡ None → None ≡ previous_wire t n w
     unfolding previous_wire
-    previous_ends z = ap (wire_above t w) (sym z ∙ same_back)
+    previous_ends z = ap (wire_above t w) (sym (ap past z) ∙ same_back)
 
-    pub previous_within : (k ≡ 0 → ⊥) → k - 1 < n
-    previous_within z = go (leb w.low m) refl
-      where
-        go : (b : Bool) → leb w.low m ≡ b → k - 1 < n
-        go true l = let a = leb-true w.low m l in let h = oldest_high (hits w.test) t w.low (m - w.low) in omega arith
-        go false l =
-            let a = leb-false w.low m l in
-            let c : m - w.low ≡ 0 = omega arith in
-            absurd (z (e ∙ no_rows (hits w.test) t w.low (m - w.low) c))
+    module _ {i : ℕ} (z : k ≡ Some i) where
+      found_back : suc i ≡ oldest_hit (hits w.test) t w.low (m - w.low)
+      found_back = sym (ap past z) ∙ e
 
-    pub previous_gives : (k ≡ 0 → ⊥) → {x : SketchWire} → x ≡ wire_held (wire_of (row_at t (k - 1))) → wire.Wire x (record { low = k; high = w.high; test = w.test }) ≡ previous_wire t n w
-    unfolding previous_wire
-    previous_gives z {x} q =
-        let s : suc (k - 1) ≡ k = omega arith in
-        ap (λ (y : SketchWire). wire.Wire y (record { low = k; high = w.high; test = w.test })) q
-        ∙ ap (λ (j : ℕ). wire.Wire (wire_held (wire_of (row_at t (k - 1)))) (record { low = j; high = w.high; test = w.test })) (sym s) ∙ ap (wire_above t w) (s ∙ same_back)
+      pub previous_within : i < n
+      previous_within = go (leb w.low m) refl
+        where
+          go : (b : Bool) → leb w.low m ≡ b → i < n
+          go true l = let a = leb-true w.low m l in let h = oldest_high (hits w.test) t w.low (m - w.low) in let f = found_back in omega arith
+          go false l =
+              let a = leb-false w.low m l in
+              let c : m - w.low ≡ 0 = omega arith in
+              let f : suc i ≡ 0 = found_back ∙ no_rows (hits w.test) t w.low (m - w.low) c in
+              absurd (omega arith)
 
-module _ (t : List ℕ) (n : ℕ) (w : Walk) {c m k : ℕ} (q : c ≡ min n 3072) (p : m ≡ min w.high c) (e : k ≡ newest_hit (hits w.test) t w.low m) where
-  same_block : k ≡ newest_hit (hits w.test) t w.low (min w.high (min n 3072))
+      pub previous_gives : {x : SketchWire} → x ≡ wire_held (wire_of (row_at t i)) → Some (x, record { low = i + 1; high = w.high; test = w.test }) ≡ previous_wire t n w
+      unfolding previous_wire
+      previous_gives {x} q =
+          ap (λ (y : SketchWire). Some (y, record { low = i + 1; high = w.high; test = w.test })) q
+          ∙ ap (λ (j : ℕ). Some (wire_held (wire_of (row_at t i)), record { low = j; high = w.high; test = w.test })) (add-one i) ∙ ap (wire_above t w) (sym (ap past z) ∙ same_back)
+
+module _ (t : List Row) (n : ℕ) (w : Walk) {c m : ℕ} (k : Option ℕ) (q : c ≡ min n 3072) (p : m ≡ min w.high c) (e : past k ≡ newest_hit (hits w.test) t w.low m) where
+  same_block : past k ≡ newest_hit (hits w.test) t w.low (min w.high (min n 3072))
   same_block = e ∙ ap (newest_hit (hits w.test) t w.low) (p ∙ ap (min w.high) q)
 
-  pub block_ends : k ≡ 0 → block.End ≡ next_block t n w
+  pub block_ends : k ≡ None → None ≡ next_block t n w
   unfolding next_block
-  block_ends z = ap (block_below t w) (sym z ∙ same_block)
+  block_ends z = ap (block_below t w) (sym (ap past z) ∙ same_block)
 
-  pub block_within : (k ≡ 0 → ⊥) → k - 1 < 3072
-  block_within z = let h = newest_high (hits w.test) t w.low m in omega arith
+  module _ {i : ℕ} (z : k ≡ Some i) where
+    pub block_within : i < 3072
+    block_within = let s : suc i ≡ newest_hit (hits w.test) t w.low m = sym (ap past z) ∙ e in let h = newest_high (hits w.test) t w.low m in omega arith
 
-  pub block_gives : (k ≡ 0 → ⊥) → {r : Row} → r ≡ row_at t (k - 1) → block.Block r.0 (record { low = w.low; high = k - 1; test = w.test }) ≡ next_block t n w
-  unfolding next_block
-  block_gives z {r} d =
-      let s : suc (k - 1) ≡ k = omega arith in
-      ap (λ (y : Row). block.Block y.0 (record { low = w.low; high = k - 1; test = w.test })) d ∙ ap (block_below t w) (s ∙ same_block)
+    pub block_gives : Some ((row_at t i).0, record { low = w.low; high = i; test = w.test }) ≡ next_block t n w
+    unfolding next_block
+    block_gives = ap (block_below t w) (sym (ap past z) ∙ same_block)
 
 -- Subports.
 
@@ -200,18 +204,18 @@ pub knows_more : (K : Plan) (x : SketchPort) {c : ℕ} → PlanWf K → c ≡ su
 knows_more K x wf e z = let l = subports_within K x wf in record { count = e ∙ rw (ne_eqb (subports_of K x) 0 (λ q. z (e ∙ q))); within = omega arith }
 
 module _ (K : Plan) (w : SubportWalk) {n : ℕ} (e : n ≡ ports_on_side K.blocks w.port.block w.port.side) where
-  pub subports_end : n ≤ w.port.position → subport.End ≡ next_subport K w
+  pub subports_end : n ≤ w.port.position → None ≡ next_subport K w
   unfolding next_subport
   subports_end l = rw (le-leb (ports_on_side K.blocks w.port.block w.port.side) w.port.position (omega arith))
 
   module _ (l : w.port.position < n) {c : ℕ} (k : Knows K w.port c) where
-    pub subports_here : w.offset < c → subport.Subport (end# w.port w.offset) (record { port = w.port; offset = w.offset + 1 }) ≡ next_subport K w
+    pub subports_here : w.offset < c → Some (end# w.port w.offset, record { port = w.port; offset = w.offset + 1 }) ≡ next_subport K w
     unfolding next_subport
     subports_here h =
         let a = k.count in
         rw (lt-leb (ports_on_side K.blocks w.port.block w.port.side) w.port.position (omega arith), lt-ltb w.offset (offset_count (subports_of K w.port)) (omega arith), add-one w.offset)
 
-    pub subports_last : c ≤ w.offset → n ≤ w.port.position + 1 → subport.End ≡ next_subport K w
+    pub subports_last : c ≤ w.offset → n ≤ w.port.position + 1 → None ≡ next_subport K w
     unfolding next_subport
     subports_last h q =
         let a = k.count in
@@ -222,7 +226,7 @@ module _ (K : Plan) (w : SubportWalk) {n : ℕ} (e : n ≡ ports_on_side K.block
         )
 
     pub subports_on : c ≤ w.offset → w.port.position + 1 < n →
-        subport.Subport (end# (port_on w.port.block w.port.side (w.port.position + 1)) 0) (record { port = port_on w.port.block w.port.side (w.port.position + 1); offset = 1 }) ≡ next_subport K w
+        (Some (end# (port_on w.port.block w.port.side (w.port.position + 1)) 0, record { port = port_on w.port.block w.port.side (w.port.position + 1); offset = 1 })) ≡ next_subport K w
     unfolding next_subport
     subports_on h q =
         let a = k.count in

@@ -17,6 +17,7 @@ use Rattle.sketches.specs.RowSteps.{row_added, length_put}
 use Rattle.sketches.specs.RowReads.{splits_left}
 use Rattle.sketches.specs.Offsets.{length_rows, length_wires}
 use Rattle.sketches.specs.BlockSteps.{tables_wf}
+use Rattle.sketches.specs.Held.{Held, plan_of}
 use Rattle.sketches.specs.SketchTables.{plan_in, held_splits, SketchWf}
 use Rattle.sketches.specs.declared.rows.Row.{Row}
 use Rattle.sketches.specs.declared.totals.Totals.{Totals}
@@ -24,7 +25,7 @@ use Rattle.sketches.specs.declared.sketch.SketchPort.{SketchPort}
 use Rattle.sketches.specs.declared.tests.EndTest.TheVariants as ask
 use Rattle.sketches.specs.declared.tests.Test.TheVariants as test
 
-pub length_splits : (t : List ℕ) (n : ℕ) → length (splits_in t n) ≡ n
+pub length_splits : (t : List Row) (n : ℕ) → length (splits_in t n) ≡ n
 length_splits t n = length_map split_of (rows_in t n) ∙ length_rows t n
 
 -- the split ports with another number of subports at one of them, where it is another
@@ -39,7 +40,7 @@ set_is_with K p c = go (eqb (subports_of K p) c)
     go false = refl
 
 -- there is room for the change
-pub record SplitsRoom (t : List ℕ) (n : ℕ) (p : SketchPort) (c : ℕ) : Type 0 where
+pub record SplitsRoom (t : List Row) (n : ℕ) (p : SketchPort) (c : ℕ) : Type 0 where
   pub table : Table t
   pub now : n ≤ row_slots
   pub then : length (splits_with (splits_in t n) p c) ≤ row_slots
@@ -54,11 +55,11 @@ split_row_is p c = ap (λ (d : Direction). record { node = p.block; side = d; po
     own Incoming = refl
     own Outgoing = refl
 
-module _ (t : List ℕ) (n : ℕ) (p : SketchPort) (c : ℕ) where
+module _ (t : List Row) (n : ℕ) (p : SketchPort) (c : ℕ) where
   pub subports_same : {k : ℕ} → k ≡ subports_among (splits_in t n) (spot_named p) → k ≡ c → splits_in t n ≡ splits_with (splits_in t n) p c
   subports_same e h = rw (eq-eqb (subports_among (splits_in t n) (spot_named p)) c (sym e ∙ h))
 
-  module _ {k : ℕ} (e : k ≡ subports_among (splits_in t n) (spot_named p)) (h : k ≡ c → ⊥) (t' : List ℕ) (kept : ℕ) (d : rows_in t' kept ≡ filter (missed (test.Split (ask.AtPort p))) (rows_in t n)) where
+  module _ {k : ℕ} (e : k ≡ subports_among (splits_in t n) (spot_named p)) (h : k ≡ c → ⊥) (t' : List Row) (kept : ℕ) (d : rows_in t' kept ≡ filter (missed (test.Split (ask.AtPort p))) (rows_in t n)) where
     others : splits_in t' kept ≡ filter (λ s. not (at_spot (spot_named p) s)) (splits_in t n)
     others = ap (map split_of) d ∙ splits_left (ask.AtPort p) (rows_in t n)
 
@@ -74,10 +75,10 @@ module _ (t : List ℕ) (n : ℕ) (p : SketchPort) (c : ℕ) where
     pub room_left : (c ≡ 0 → ⊥) → SplitsRoom t n p c → kept < row_slots
     room_left z r = let a = ap length (more z) in let b = length_splits t' kept in let l = r.then in omega arith
 
-    pub subports_some : (c ≡ 0 → ⊥) → SplitsRoom t n p c → Table t' → {t'' : List ℕ} {r : Row} → r ≡ split_row p c → t'' ≡ put_row t' kept r → (splits_in t'' (kept + 1) ≡ splits_with (splits_in t n) p c) × Table t''
+    pub subports_some : (c ≡ 0 → ⊥) → SplitsRoom t n p c → Table t' → {t'' : List Row} {r : Row} → r ≡ split_row p c → t'' ≡ put_row t' kept r → (splits_in t'' (kept + 1) ≡ splits_with (splits_in t n) p c) × Table t''
     subports_some z room w {t''} {r} s q =
         let l = room_left z room in (
-          ap (λ (u : List ℕ). splits_in u (kept + 1)) q ∙ ap (map split_of) (row_added t' kept r w l) ∙ ap (λ (y : Row). split_of y ∷ splits_in t' kept) s ∙ ap (λ (y : Place). y ∷ splits_in t' kept) (split_row_is p c) ∙ sym (more z),
+          ap (λ (u : List Row). splits_in u (kept + 1)) q ∙ ap (map split_of) (row_added t' kept r w l) ∙ ap (λ (y : Row). split_of y ∷ splits_in t' kept) s ∙ ap (λ (y : Place). y ∷ splits_in t' kept) (split_row_is p c) ∙ sym (more z),
           ap length q ∙ length_put t' kept r ∙ w,
         )
 
@@ -93,29 +94,36 @@ pub ready_more : (c o : ℕ) {n m : ℕ} → (c ≡ 0 → ⊥) → n ≡ c → m
 ready_more c o h e p = p ∙ rw (ne_eqb c 0 h, e, add-one o)
 
 -- a plan, in these tables
-pub record IsPlan (K : Plan) (b s w : List ℕ) (h : Totals) : Type 0 where
+pub record IsPlan (K : Plan) (b s w : List Row) (h : Totals) : Type 0 where
   pub plan : plan_in b s w h ≡ K
   pub wf : SketchWf b s w h
 
-pub splits_within : {b s w : List ℕ} {h : Totals} → SketchWf b s w h → h.splits ≤ row_slots
+-- a plan that is proved on the fields of a sketch, and in them
+pub plan_seen_as : (f : Plan → Plan) {i k : Held} {b s w : List Row} {h : Totals} → i ≡ k → IsPlan (f (plan_of i)) b s w h → IsPlan (f (plan_of k)) b s w h
+plan_seen_as f {i} {k} {b} {s} {w} {h} e p = subst (λ (x : Held). IsPlan (f (plan_of x)) b s w h) e p
+
+pub plan_back : {K : Plan} {i k : Held} → i ≡ k → IsPlan K k.blocks k.splits k.wires k.totals → IsPlan K i.blocks i.splits i.wires i.totals
+plan_back {K} e p = subst (λ (x : Held). IsPlan K x.blocks x.splits x.wires x.totals) (sym e) p
+
+pub splits_within : {b s w : List Row} {h : Totals} → SketchWf b s w h → h.splits ≤ row_slots
 splits_within {b} {s} {w} {h} wf = let e = length_splits s h.splits in let k = splits_fit (plan_in b s w h) wf.plan in omega arith
 
-pub wires_within : {b s w : List ℕ} {h : Totals} → SketchWf b s w h → h.wires ≤ most_wires
+pub wires_within : {b s w : List Row} {h : Totals} → SketchWf b s w h → h.wires ≤ most_wires
 wires_within {b} {s} {w} {h} wf = let e = length_wires w h.wires in let k = wf.plan.wires in omega arith
 
-module _ (b s w : List ℕ) (h : Totals) (wf : SketchWf b s w h) (p : SketchPort) (there : is_there (plan_in b s w h) p ≡ true) (c : ℕ) (within : c ≤ most_subports) where
+module _ (b s w : List Row) (h : Totals) (wf : SketchWf b s w h) (p : SketchPort) (there : is_there (plan_in b s w h) p ≡ true) (c : ℕ) (within : c ≤ most_subports) where
   pub room_for : SplitsRoom s h.splits p c
   room_for =
       let k : length (set_subports (plan_in b s w h) p c).splits ≤ row_slots = splits_fit (set_subports (plan_in b s w h) p c) (subports_wf (plan_in b s w h) p c wf.plan there within) in
       let e = ap (λ (K : Plan). length K.splits) (set_is_with (plan_in b s w h) p c) in
       record { table = wf.split_table; now = splits_within wf; then = omega arith }
 
-  pub subports_set : {s' : List ℕ} {n : ℕ} → (splits_in s' n ≡ splits_with (splits_in s h.splits) p c) × Table s' → IsPlan (set_subports (plan_in b s w h) p c) b s' w (held_splits h n)
+  pub subports_set : {s' : List Row} {n : ℕ} → (splits_in s' n ≡ splits_with (splits_in s h.splits) p c) × Table s' → IsPlan (set_subports (plan_in b s w h) p c) b s' w (held_splits h n)
   subports_set {s'} {n} x =
       let e : plan_in b s' w (held_splits h n) ≡ set_subports (plan_in b s w h) p c = ap (with_splits (plan_in b s w h)) x.0 ∙ sym (set_is_with (plan_in b s w h) p c) in
       record { plan = e; wf = tables_wf wf.block_table x.1 wf.wire_table e (subports_wf (plan_in b s w h) p c wf.plan there within) }
 
-module _ (b s w : List ℕ) (h : Totals) (wf : SketchWf b s w h) (p : SketchPort) where
+module _ (b s w : List Row) (h : Totals) (wf : SketchWf b s w h) (p : SketchPort) where
   pub ready_offset : {o : ℕ} → o ≡ offset_ready (plan_in b s w h) p → o ≤ most_wires
   ready_offset e = let k = offset_within (plan_in b s w h) p in let l = wf.plan.wires in omega arith
 
@@ -132,7 +140,7 @@ module _ (b s w : List ℕ) (h : Totals) (wf : SketchWf b s w h) (p : SketchPort
     pub ready_room : SplitsRoom s h.splits p n
     ready_room = room_for b s w h wf p there n number_within
 
-    pub port_ready : {s' : List ℕ} {m : ℕ} → (splits_in s' m ≡ splits_with (splits_in s h.splits) p n) × Table s' → {h' : Totals} → h' ≡ held_splits h m → IsPlan (ready (plan_in b s w h) p) b s' w h'
+    pub port_ready : {s' : List Row} {m : ℕ} → (splits_in s' m ≡ splits_with (splits_in s h.splits) p n) × Table s' → {h' : Totals} → h' ≡ held_splits h m → IsPlan (ready (plan_in b s w h) p) b s' w h'
     unfolding ready
     port_ready {s'} {m} x {h'} q =
         subst (IsPlan (set_subports (plan_in b s w h) p (subports_ready (subports_of (plan_in b s w h) p) (offset_ready (plan_in b s w h) p))) b s' w) (sym q)

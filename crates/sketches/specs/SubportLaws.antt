@@ -1,7 +1,7 @@
 -- What is left of a walk over the subports of a side: from its start the whole list, and each step takes the first of what is left.
 use Rattle.std.proofs.Math.Path.{◌≡◌, refl, ap}
 use Rattle.std.proofs.Common.{sym, ◌∙◌, arith}
-use Rattle.std.specs.Prelude.{Bool, cond, eqb}
+use Rattle.std.specs.Prelude.{Bool, cond, eqb, Option, Some, None}
 use Rattle.std.proofs.Math.Bool.{true, false}
 use mathlib.Core.List.{List, [], ◌∷◌, ◌++◌, map, flat_map}
 use Prim.Native.Nat.{ℕ, zero, suc, ◌-◌, ◌≤◌, ◌<◌}
@@ -11,10 +11,8 @@ use Rattle.port_tables.specs.Lists.{range}
 use Rattle.port_tables.specs.declared.direction.Direction.{Direction}
 use Rattle.sketches.specs.Plan.{Plan, ports_on_side, subports_of, end#}
 use Rattle.sketches.specs.PlanLists.{offsets_of, port_on, subports_of_side}
-use Rattle.sketches.specs.SketchWalks.{offset_count, next_subport}
+use Rattle.sketches.specs.SketchWalks.{item_of, rest_of, offset_count, next_subport}
 use Rattle.sketches.specs.declared.walks.SubportWalk.{SubportWalk}
-use Rattle.sketches.specs.declared.walks.SubportStep.{SubportStep}
-use Rattle.sketches.specs.declared.walks.SubportStep.TheVariants as subport
 use Rattle.sketches.specs.declared.sketch.SketchPort.{SketchPort}
 use Rattle.sketches.specs.declared.sketch.SketchEnd.{SketchEnd}
 
@@ -89,24 +87,24 @@ subports_whole K n d = go (leb (ports_on_side K.blocks n d) 0) refl
     go false p = let h = leb-false (ports_on_side K.blocks n d) 0 p in sym (beyond_first K n d 0 h) ∙ whole
 
 module _ (K : Plan) (w : SubportWalk) where
-  step : Bool → Bool → Bool → SubportStep
+  step : Bool → Bool → Bool → Option (SketchEnd × SubportWalk)
   step a b c =
-      cond a subport.End
-      (cond b (subport.Subport (end# w.port w.offset) (record { port = w.port; offset = suc w.offset }))
-      (cond c subport.End
-      (subport.Subport (end# (port_on w.port.block w.port.side (suc w.port.position)) 0) (record { port = port_on w.port.block w.port.side (suc w.port.position); offset = 1 }))))
+      cond a None
+      (cond b (Some (end# w.port w.offset, record { port = w.port; offset = suc w.offset }))
+      (cond c None
+      (Some (end# (port_on w.port.block w.port.side (suc w.port.position)) 0, record { port = port_on w.port.block w.port.side (suc w.port.position); offset = 1 }))))
 
-  pub subport_takes_first : (x : SketchEnd) (v : SubportWalk) → next_subport K w ≡ subport.Subport x v → subports_left K w ≡ x ∷ subports_left K v
+  pub subport_takes_first : (x : SketchEnd) (v : SubportWalk) → next_subport K w ≡ Some (x, v) → subports_left K w ≡ x ∷ subports_left K v
   unfolding next_subport step
   subport_takes_first x v e =
       go (leb (ports_of_walk K w) w.port.position) refl (ltb w.offset (offset_count (subports_of K w.port))) refl (leb (ports_of_walk K w) (suc w.port.position)) refl e
     where
       go : (a : Bool) → leb (ports_of_walk K w) w.port.position ≡ a → (b : Bool) → ltb w.offset (offset_count (subports_of K w.port)) ≡ b → (c : Bool) → leb (ports_of_walk K w) (suc w.port.position) ≡ c →
-          step a b c ≡ subport.Subport x v → subports_left K w ≡ x ∷ subports_left K v
+          step a b c ≡ Some (x, v) → subports_left K w ≡ x ∷ subports_left K v
       go true p b q c r e = absurd (let z : ◌≡◌ {A = ℕ} 0 1 = cc in omega arith)
       go false p true q c r e =
-          let i : end# w.port w.offset ≡ x = cc in
-          let j : record { port = w.port; offset = suc w.offset } ≡ v = cc in
+          let i : end# w.port w.offset ≡ x = item_of e in
+          let j : record { port = w.port; offset = suc w.offset } ≡ v = rest_of e in
           let h = ltb-true w.offset (offset_count (subports_of K w.port)) q in
           (rw p (ap (λ (l : List SketchEnd). l ++ ends_beyond K w.port.block w.port.side (suc w.port.position)) (ends_first K w.port w.offset h)))
           ∙ here w.port (suc w.offset) p
@@ -118,8 +116,8 @@ module _ (K : Plan) (w : SubportWalk) where
       go false p false q true r e = absurd (let z : ◌≡◌ {A = ℕ} 0 1 = cc in omega arith)
       go false p false q false r e =
           let y = port_on w.port.block w.port.side (suc w.port.position) in
-          let i : end# y 0 ≡ x = cc in
-          let j : record { port = y; offset = 1 } ≡ v = cc in
+          let i : end# y 0 ≡ x = item_of e in
+          let j : record { port = y; offset = 1 } ≡ v = rest_of e in
           let h = ltb-false w.offset (offset_count (subports_of K w.port)) q in
           let k = leb-false (ports_of_walk K w) (suc w.port.position) r in
           (rw (p, ends_none K w.port w.offset h) refl)
@@ -128,13 +126,13 @@ module _ (K : Plan) (w : SubportWalk) where
           ∙ (rw r refl)
           ∙ ap (λ (z : SketchEnd). z ∷ subports_left K (record { port = y; offset = 1 })) i ∙ ap (λ (u : SubportWalk). x ∷ subports_left K u) j
 
-  pub subport_ends_empty : next_subport K w ≡ subport.End → subports_left K w ≡ []
+  pub subport_ends_empty : next_subport K w ≡ None → subports_left K w ≡ []
   unfolding next_subport step
   subport_ends_empty e =
       go (leb (ports_of_walk K w) w.port.position) refl (ltb w.offset (offset_count (subports_of K w.port))) refl (leb (ports_of_walk K w) (suc w.port.position)) refl e
     where
       go : (a : Bool) → leb (ports_of_walk K w) w.port.position ≡ a → (b : Bool) → ltb w.offset (offset_count (subports_of K w.port)) ≡ b → (c : Bool) → leb (ports_of_walk K w) (suc w.port.position) ≡ c →
-          step a b c ≡ subport.End → subports_left K w ≡ []
+          step a b c ≡ None → subports_left K w ≡ []
       go true p b q c r e = rw p
       go false p true q c r e = absurd (let z : ◌≡◌ {A = ℕ} 0 1 = cc in omega arith)
       go false p false q true r e =

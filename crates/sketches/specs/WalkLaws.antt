@@ -2,7 +2,7 @@
 -- nothing is left. So a walk gives each item once, from either end, and ends.
 use Rattle.std.proofs.Math.Path.{◌≡◌, refl, ap}
 use Rattle.std.proofs.Common.{sym, ◌∙◌}
-use Rattle.std.specs.Prelude.{Bool, not, eqb}
+use Rattle.std.specs.Prelude.{Bool, not, eqb, Some, None}
 use Rattle.std.proofs.Math.Bool.{true, false, cond}
 use mathlib.Core.List.{List, [], ◌∷◌, ◌++◌, map, map-map, append-nil}
 use Prim.Native.Nat.{ℕ, zero, suc, ◌+◌, ◌-◌, ◌≤◌, ◌<◌, min}
@@ -18,7 +18,7 @@ use Rattle.sketches.specs.PlanLists.{links_of_port, links_of_side, is_own_output
 use Rattle.sketches.specs.Rows.{row_at, rows_in, block_of, wire_of, hits, newest_hit, oldest_hit}
 use Rattle.sketches.specs.RowReads.{filter_map}
 use Rattle.sketches.specs.SketchTables.{plan_in}
-use Rattle.sketches.specs.SketchWalks.{whole_walk, wire_held, wire_below, wire_above, block_below, next_wire, previous_wire, next_block, newest_high}
+use Rattle.sketches.specs.SketchWalks.{item_of, rest_of, whole_walk, wire_held, wire_below, wire_above, block_below, next_wire, previous_wire, next_block, newest_high}
 use Rattle.sketches.specs.declared.rows.Row.{Row}
 use Rattle.sketches.specs.declared.totals.Totals.{Totals}
 use Rattle.sketches.specs.declared.tests.EndTest.TheVariants as ask
@@ -26,31 +26,29 @@ use Rattle.sketches.specs.declared.tests.Test.{Test}
 use Rattle.sketches.specs.declared.tests.Test.TheVariants as test
 use Rattle.sketches.specs.declared.walks.Walk.{Walk}
 use Rattle.sketches.specs.declared.walks.SketchWire.{SketchWire}
-use Rattle.sketches.specs.declared.walks.WireStep.TheVariants as wire
-use Rattle.sketches.specs.declared.walks.BlockStep.TheVariants as block
 use Rattle.sketches.specs.declared.sketch.SketchPort.{SketchPort}
 
 -- the rows from low up to high, newest first
-unfoldable pub rows_between : List ℕ → ℕ → ℕ → List Row
+unfoldable pub rows_between : List Row → ℕ → ℕ → List Row
 rows_between t low zero = []
 rows_between t low (suc i) = cond (leb low i) (row_at t i ∷ rows_between t low i) []
 
 -- the rows that are left of a walk over the first n rows
-abbrev pub rows_left : List ℕ → ℕ → Walk → List Row
+abbrev pub rows_left : List Row → ℕ → Walk → List Row
 rows_left t n w = filter (hits w.test) (rows_between t w.low (min w.high n))
 
-pub all_rows : (t : List ℕ) (n : ℕ) → rows_between t 0 n ≡ rows_in t n
+pub all_rows : (t : List Row) (n : ℕ) → rows_between t 0 n ≡ rows_in t n
 unfolding rows_between rows_in
 all_rows t zero = refl
 all_rows t (suc n) = rw (le-leb 0 n (omega arith)) (ap (λ (l : List Row). row_at t n ∷ l) (all_rows t n))
 
 -- at the start, all that are hit
-pub whole_left : (t : List ℕ) (n : ℕ) (x : Test) → rows_left t n (whole_walk n x) ≡ filter (hits x) (rows_in t n)
+pub whole_left : (t : List Row) (n : ℕ) (x : Test) → rows_left t n (whole_walk n x) ≡ filter (hits x) (rows_in t n)
 whole_left t n x = let e : min n n ≡ n = omega arith in ap (filter (hits x)) (ap (rows_between t 0) e ∙ all_rows t n)
 
 -- From the front.
 
-module _ (f : Row → Bool) (t : List ℕ) (low : ℕ) where
+module _ (f : Row → Bool) (t : List Row) (low : ℕ) where
   newest_first_none : (n : ℕ) → newest_hit f t low n ≡ 0 → filter f (rows_between t low n) ≡ []
   unfolding newest_hit rows_between filter
   newest_first_none zero e = refl
@@ -75,12 +73,12 @@ module _ (f : Row → Bool) (t : List ℕ) (low : ℕ) where
 
 -- From the back.
 
-none_between : (t : List ℕ) (low high : ℕ) → high ≤ low → rows_between t low high ≡ []
+none_between : (t : List Row) (low high : ℕ) → high ≤ low → rows_between t low high ≡ []
 unfolding rows_between
 none_between t low zero h = refl
 none_between t low (suc n) h = rw (lt-leb low n (omega arith))
 
-oldest_last : (t : List ℕ) (low high : ℕ) → low < high → rows_between t low high ≡ rows_between t (suc low) high ++ (row_at t low ∷ [])
+oldest_last : (t : List Row) (low high : ℕ) → low < high → rows_between t low high ≡ rows_between t (suc low) high ++ (row_at t low ∷ [])
 unfolding rows_between
 oldest_last t low zero h = absurd (omega arith)
 oldest_last t low (suc n) h = go (eqb low n) refl (oldest_last t low n)
@@ -95,7 +93,7 @@ oldest_last t low (suc n) h = go (eqb low n) refl (oldest_last t low n)
         let h : low < n = omega (arith, d) in
         rw (le-leb low n (omega arith), le-leb (suc low) n (omega arith)) (ap (λ (l : List Row). row_at t n ∷ l) (rest h))
 
-module _ (f : Row → Bool) (t : List ℕ) (high : ℕ) where
+module _ (f : Row → Bool) (t : List Row) (high : ℕ) where
   one_back : (low : ℕ) → low < high → (b : Bool) → f (row_at t low) ≡ b → filter f (rows_between t low high) ≡ filter f (rows_between t (suc low) high) ++ cond b (row_at t low ∷ []) []
   unfolding filter
   one_back low h b e = ap (filter f) (oldest_last t low high h) ∙ filter_append f (rows_between t (suc low) high) (row_at t low ∷ []) ∙ ap (λ (l : List Row). filter f (rows_between t (suc low) high) ++ l) (rw e)
@@ -122,7 +120,7 @@ module _ (f : Row → Bool) (t : List ℕ) (high : ℕ) where
 
 -- The steps.
 
-none_there : (f : Row → Bool) (t : List ℕ) (i n k : ℕ) → n ≡ 0 → oldest_hit f t i n ≡ suc k → ⊥
+none_there : (f : Row → Bool) (t : List Row) (i n k : ℕ) → n ≡ 0 → oldest_hit f t i n ≡ suc k → ⊥
 unfolding oldest_hit
 none_there f t i zero k z e = omega arith
 none_there f t i (suc n) k z e = omega arith
@@ -132,20 +130,20 @@ map_append g [] b = refl
 map_append {A} {B} g (x ∷ a) b = ap (λ (l : List B). g x ∷ l) (map_append g a b)
 
 -- the wires that are left, as they are given
-abbrev pub wires_left : List ℕ → ℕ → Walk → List SketchWire
+abbrev pub wires_left : List Row → ℕ → Walk → List SketchWire
 wires_left t n w = map (λ r. wire_held (wire_of r)) (rows_left t n w)
 
-module _ (t : List ℕ) (n : ℕ) (w : Walk) where
+module _ (t : List Row) (n : ℕ) (w : Walk) where
   -- the next wire is the first of those that are left
-  pub next_takes_first : (x : SketchWire) (v : Walk) → next_wire t n w ≡ wire.Wire x v → wires_left t n w ≡ x ∷ wires_left t n v
+  pub next_takes_first : (x : SketchWire) (v : Walk) → next_wire t n w ≡ Some (x, v) → wires_left t n w ≡ x ∷ wires_left t n v
   unfolding next_wire
   next_takes_first x v e = go (newest_hit (hits w.test) t w.low (min w.high n)) refl e
     where
-      go : (k : ℕ) → newest_hit (hits w.test) t w.low (min w.high n) ≡ k → wire_below t w k ≡ wire.Wire x v → wires_left t n w ≡ x ∷ wires_left t n v
+      go : (k : ℕ) → newest_hit (hits w.test) t w.low (min w.high n) ≡ k → wire_below t w k ≡ Some (x, v) → wires_left t n w ≡ x ∷ wires_left t n v
       go zero p q = absurd (let z : ◌≡◌ {A = ℕ} 0 1 = cc in omega arith)
       go (suc k) p q =
-          let a : wire_held (wire_of (row_at t k)) ≡ x = cc in
-          let c : record { low = w.low; high = k; test = w.test } ≡ v = cc in
+          let a : wire_held (wire_of (row_at t k)) ≡ x = item_of q in
+          let c : record { low = w.low; high = k; test = w.test } ≡ v = rest_of q in
           let h = newest_high (hits w.test) t w.low (min w.high n) in
           let m : min k n ≡ k = omega arith in
           ap (map (λ r. wire_held (wire_of r))) (newest_first (hits w.test) t w.low (min w.high n) k p)
@@ -153,24 +151,24 @@ module _ (t : List ℕ) (n : ℕ) (w : Walk) where
           ∙ ap (λ (j : ℕ). x ∷ map (λ r. wire_held (wire_of r)) (filter (hits w.test) (rows_between t w.low j))) (sym m)
           ∙ ap (λ (u : Walk). x ∷ wires_left t n u) c
 
-  pub next_ends_empty : next_wire t n w ≡ wire.End → wires_left t n w ≡ []
+  pub next_ends_empty : next_wire t n w ≡ None → wires_left t n w ≡ []
   unfolding next_wire
   next_ends_empty e = go (newest_hit (hits w.test) t w.low (min w.high n)) refl e
     where
-      go : (k : ℕ) → newest_hit (hits w.test) t w.low (min w.high n) ≡ k → wire_below t w k ≡ wire.End → wires_left t n w ≡ []
+      go : (k : ℕ) → newest_hit (hits w.test) t w.low (min w.high n) ≡ k → wire_below t w k ≡ None → wires_left t n w ≡ []
       go zero p q = ap (map (λ r. wire_held (wire_of r))) (newest_first_none (hits w.test) t w.low (min w.high n) p)
       go (suc k) p q = absurd (let z : ◌≡◌ {A = ℕ} 0 1 = cc in omega arith)
 
   -- from the back, the last of them
-  pub previous_takes_last : (x : SketchWire) (v : Walk) → previous_wire t n w ≡ wire.Wire x v → wires_left t n w ≡ wires_left t n v ++ (x ∷ [])
+  pub previous_takes_last : (x : SketchWire) (v : Walk) → previous_wire t n w ≡ Some (x, v) → wires_left t n w ≡ wires_left t n v ++ (x ∷ [])
   unfolding previous_wire
   previous_takes_last x v e = go (oldest_hit (hits w.test) t w.low (min w.high n - w.low)) refl e (leb w.low (min w.high n)) refl
     where
-      go : (k : ℕ) → oldest_hit (hits w.test) t w.low (min w.high n - w.low) ≡ k → wire_above t w k ≡ wire.Wire x v → (b : Bool) → leb w.low (min w.high n) ≡ b → wires_left t n w ≡ wires_left t n v ++ (x ∷ [])
+      go : (k : ℕ) → oldest_hit (hits w.test) t w.low (min w.high n - w.low) ≡ k → wire_above t w k ≡ Some (x, v) → (b : Bool) → leb w.low (min w.high n) ≡ b → wires_left t n w ≡ wires_left t n v ++ (x ∷ [])
       go zero p q b l = absurd (let z : ◌≡◌ {A = ℕ} 0 1 = cc in omega arith)
       go (suc k) p q true l =
-          let a : wire_held (wire_of (row_at t k)) ≡ x = cc in
-          let c : record { low = suc k; high = w.high; test = w.test } ≡ v = cc in
+          let a : wire_held (wire_of (row_at t k)) ≡ x = item_of q in
+          let c : record { low = suc k; high = w.high; test = w.test } ≡ v = rest_of q in
           let h = leb-true w.low (min w.high n) l in
           ap (map (λ r. wire_held (wire_of r))) (oldest_last_some (hits w.test) t (min w.high n) w.low (min w.high n - w.low) k (omega arith) p)
           ∙ map_append (λ r. wire_held (wire_of r)) (filter (hits w.test) (rows_between t (suc k) (min w.high n))) (row_at t k ∷ [])
@@ -181,11 +179,11 @@ module _ (t : List ℕ) (n : ℕ) (w : Walk) where
           let z : min w.high n - w.low ≡ 0 = omega arith in
           absurd (none_there (hits w.test) t w.low (min w.high n - w.low) k z p)
 
-  pub previous_ends_empty : previous_wire t n w ≡ wire.End → wires_left t n w ≡ []
+  pub previous_ends_empty : previous_wire t n w ≡ None → wires_left t n w ≡ []
   unfolding previous_wire filter
   previous_ends_empty e = go (oldest_hit (hits w.test) t w.low (min w.high n - w.low)) refl e (leb w.low (min w.high n)) refl
     where
-      go : (k : ℕ) → oldest_hit (hits w.test) t w.low (min w.high n - w.low) ≡ k → wire_above t w k ≡ wire.End → (b : Bool) → leb w.low (min w.high n) ≡ b → wires_left t n w ≡ []
+      go : (k : ℕ) → oldest_hit (hits w.test) t w.low (min w.high n - w.low) ≡ k → wire_above t w k ≡ None → (b : Bool) → leb w.low (min w.high n) ≡ b → wires_left t n w ≡ []
       go zero p q true l =
           let h = leb-true w.low (min w.high n) l in
           ap (map (λ r. wire_held (wire_of r))) (oldest_last_none (hits w.test) t (min w.high n) w.low (min w.high n - w.low) (omega arith) p)
@@ -207,7 +205,7 @@ filter_twice {A} f g (x ∷ l) = go (f x) (g x) refl (filter_twice f g l)
     go true false p e = rw p e
     go false b p e = e
 
-module _ (b s w : List ℕ) (h : Totals) where
+module _ (b s w : List Row) (h : Totals) where
   listed : (g : Wire → Bool) (x : Test) → ((r : Row) → hits x r ≡ g (wire_of r)) → wires_left w h.wires (whole_walk h.wires x) ≡ map wire_held (filter g (plan_in b s w h).wires)
   listed g x e =
       ap (map (λ r. wire_held (wire_of r))) (whole_left w h.wires x ∙ filter_same (hits x) (λ r. g (wire_of r)) (rows_in w h.wires) (λ r i. e r))
@@ -240,19 +238,19 @@ module _ (b s w : List ℕ) (h : Totals) where
 
 -- Blocks.
 
-abbrev pub names_left : List ℕ → ℕ → Walk → List ℕ
+abbrev pub names_left : List Row → ℕ → Walk → List ℕ
 names_left t n w = map (λ r. r.0) (rows_left t (min n 3072) w)
 
-module _ (t : List ℕ) (n : ℕ) (w : Walk) where
-  pub block_takes_first : (x : ℕ) (v : Walk) → next_block t n w ≡ block.Block x v → names_left t n w ≡ x ∷ names_left t n v
+module _ (t : List Row) (n : ℕ) (w : Walk) where
+  pub block_takes_first : (x : ℕ) (v : Walk) → next_block t n w ≡ Some (x, v) → names_left t n w ≡ x ∷ names_left t n v
   unfolding next_block
   block_takes_first x v e = go (newest_hit (hits w.test) t w.low (min w.high (min n 3072))) refl e
     where
-      go : (k : ℕ) → newest_hit (hits w.test) t w.low (min w.high (min n 3072)) ≡ k → block_below t w k ≡ block.Block x v → names_left t n w ≡ x ∷ names_left t n v
+      go : (k : ℕ) → newest_hit (hits w.test) t w.low (min w.high (min n 3072)) ≡ k → block_below t w k ≡ Some (x, v) → names_left t n w ≡ x ∷ names_left t n v
       go zero p q = absurd (let z : ◌≡◌ {A = ℕ} 0 1 = cc in omega arith)
       go (suc k) p q =
-          let a : (row_at t k).0 ≡ x = cc in
-          let c : record { low = w.low; high = k; test = w.test } ≡ v = cc in
+          let a : (row_at t k).0 ≡ x = item_of q in
+          let c : record { low = w.low; high = k; test = w.test } ≡ v = rest_of q in
           let h = newest_high (hits w.test) t w.low (min w.high (min n 3072)) in
           let m : min k (min n 3072) ≡ k = omega arith in
           ap (map (λ r. r.0)) (newest_first (hits w.test) t w.low (min w.high (min n 3072)) k p)
@@ -260,16 +258,16 @@ module _ (t : List ℕ) (n : ℕ) (w : Walk) where
           ∙ ap (λ (j : ℕ). x ∷ map (λ r. r.0) (filter (hits w.test) (rows_between t w.low j))) (sym m)
           ∙ ap (λ (u : Walk). x ∷ names_left t n u) c
 
-  pub block_ends_empty : next_block t n w ≡ block.End → names_left t n w ≡ []
+  pub block_ends_empty : next_block t n w ≡ None → names_left t n w ≡ []
   unfolding next_block
   block_ends_empty e = go (newest_hit (hits w.test) t w.low (min w.high (min n 3072))) refl e
     where
-      go : (k : ℕ) → newest_hit (hits w.test) t w.low (min w.high (min n 3072)) ≡ k → block_below t w k ≡ block.End → names_left t n w ≡ []
+      go : (k : ℕ) → newest_hit (hits w.test) t w.low (min w.high (min n 3072)) ≡ k → block_below t w k ≡ None → names_left t n w ≡ []
       go zero p q = ap (map (λ r. r.0)) (newest_first_none (hits w.test) t w.low (min w.high (min n 3072)) p)
       go (suc k) p q = absurd (let z : ◌≡◌ {A = ℕ} 0 1 = cc in omega arith)
 
 -- the names of all blocks, where there are no more rows than a table has
-pub walk_of_blocks : (b s w : List ℕ) (h : Totals) → h.blocks ≤ 3072 → names_left b h.blocks (whole_walk h.blocks test.Every) ≡ block_names (plan_in b s w h)
+pub walk_of_blocks : (b s w : List Row) (h : Totals) → h.blocks ≤ 3072 → names_left b h.blocks (whole_walk h.blocks test.Every) ≡ block_names (plan_in b s w h)
 walk_of_blocks b s w h l =
     let e : min h.blocks (min h.blocks 3072) ≡ h.blocks = omega arith in
     ap (λ (k : List Row). map (λ r. r.0) (filter (hits test.Every) k)) (ap (rows_between b 0) e ∙ all_rows b h.blocks)

@@ -2,16 +2,14 @@
 ghost use Rattle.std.specs.Prelude.{◌≡◌};
 ghost use Rattle.sketches.specs.PlanLists.{port_fan_out, block_fan_out};
 ghost use Rattle.sketches.specs.PlanNumbers.{count_numbers};
-ghost use Rattle.sketches.specs.SketchTables.{plan_in, SketchWf};
+ghost use Rattle.sketches.specs.Held.{plan_of};
 ghost use Rattle.sketches.specs.CutSteps.{Answers};
 ghost use Rattle.sketches.specs.CountSteps.{counts_of};
 
-use crate::ports::{has_block, is_there};
-use crate::rows::WORDS;
-use crate::sketch::{CountAnswer, Reason, SketchPort};
+use crate::sketch::{Reason, SketchPort};
 use crate::tables::{count_rows, ports_in_all};
 use crate::tests::{EndTest, Test};
-use crate::totals::Totals;
+use crate::totals::Sketch;
 use port_tables::direction::Direction;
 
 #[derive(Clone, Copy)]
@@ -21,53 +19,37 @@ pub struct SketchCounts {
     pub wires: usize,
 }
 
-// The blocks, their ports and the wires.
-pub fn counts_lent<'a>(
-    blocks: &'a [u32; WORDS],
-    splits: &'a [u32; WORDS],
-    wires: &'a [u32; WORDS],
-    totals: Totals,
-) -> SketchCounts
-    requires { SketchWf blocks.now splits.now wires.now totals }
-    ensures { result ≡ counts_of (plan_in blocks.now splits.now wires.now totals) }
-{
-    SketchCounts {
-        blocks: totals.blocks,
-        ports: ports_in_all(blocks, totals.blocks),
-        wires: totals.wires,
+impl Sketch {
+    // The blocks, their ports and the wires.
+    pub fn counts(&self) -> SketchCounts
+        ensures { result ≡ counts_of (plan_of self.now) }
+    {
+        SketchCounts {
+            blocks: self.totals.blocks,
+            ports: ports_in_all(&self.blocks, self.totals.blocks),
+            wires: self.totals.wires,
+        }
     }
-}
 
-// The wires at a port.
-pub fn fan_out_lent<'a>(
-    blocks: &'a [u32; WORDS],
-    splits: &'a [u32; WORDS],
-    wires: &'a [u32; WORDS],
-    totals: Totals,
-    port: SketchPort,
-) -> CountAnswer
-    requires { SketchWf blocks.now splits.now wires.now totals }
-    ensures { Answers count_numbers (port_fan_out (plan_in blocks.now splits.now wires.now totals) port) result }
-{
-    if !is_there(blocks, totals.blocks, port) {
-        return CountAnswer::Refused(Reason::UnknownPort);
+    // The wires at a port.
+    pub fn fan_out(&self, port: SketchPort) -> Result<usize, Reason>
+        ensures { Answers count_numbers (port_fan_out (plan_of self.now) port) result }
+    {
+        if !self.is_there(port) {
+            return Err(Reason::UnknownPort);
+        }
+        let test = Test::Wire(EndTest::AtPort(port));
+        Ok(count_rows(&self.wires, self.totals.wires, test))
     }
-    CountAnswer::Count(count_rows(wires, totals.wires, Test::Wire(EndTest::AtPort(port))))
-}
 
-// The wires that leave a block.
-pub fn block_fan_out_lent<'a>(
-    blocks: &'a [u32; WORDS],
-    splits: &'a [u32; WORDS],
-    wires: &'a [u32; WORDS],
-    totals: Totals,
-    name: u32,
-) -> CountAnswer
-    requires { SketchWf blocks.now splits.now wires.now totals }
-    ensures { Answers count_numbers (block_fan_out (plan_in blocks.now splits.now wires.now totals) name) result }
-{
-    if !has_block(blocks, totals.blocks, name) {
-        return CountAnswer::Refused(Reason::UnknownBlock);
+    // The wires that leave a block.
+    pub fn block_fan_out(&self, name: u32) -> Result<usize, Reason>
+        ensures { Answers count_numbers (block_fan_out (plan_of self.now) name) result }
+    {
+        if !self.has_block(name) {
+            return Err(Reason::UnknownBlock);
+        }
+        let test = Test::Side(name, Direction::Outgoing);
+        Ok(count_rows(&self.wires, self.totals.wires, test))
     }
-    CountAnswer::Count(count_rows(wires, totals.wires, Test::Side(name, Direction::Outgoing)))
 }

@@ -4,44 +4,15 @@ ghost use Rattle.sketches.specs.Plan.{far_from};
 ghost use Rattle.sketches.specs.PlanCalls.{port_found, end_found, cut_port, subport_link, cut_subport, tidied, tidy_port};
 ghost use Rattle.sketches.specs.PlanNumbers.{done_numbers, cut_numbers, found_numbers};
 ghost use Rattle.sketches.specs.PlanWf.{most_subports};
-ghost use Rattle.sketches.specs.Rows.{row_slots, wires_in, end_hits};
-ghost use Rattle.sketches.specs.SketchTables.{plan_in, SketchWf, Leaves};
+ghost use Rattle.sketches.specs.Rows.{end_hits};
+ghost use Rattle.sketches.specs.Held.{plan_of, Left};
 ghost use Rattle.sketches.specs.CutSteps.{far_of, FarFits, Answers};
 
-use crate::offsets::above_wired;
-use crate::ports::{is_there, subports_of};
-use crate::rows::{WORDS, row_at};
-use crate::sketch::{DoneAnswer, EndAnswer, PortAnswer, Reason, SketchEnd, SketchPort};
-use crate::subport_links::{Judged, judge_end, offset_read};
+use crate::sketch::{Reason, SketchEnd, SketchPort};
 use crate::subports::set_subports;
-use crate::tables::{drop_rows, find_newest};
+use crate::tables::{drop_rows, newest_row};
 use crate::tests::{EndTest, RowEnd, Test, end_hits, in_end, out_end};
-use crate::totals::{
-    DoneLent, EndCutLent, PortCutLent, Totals, with_counts, with_splits, with_wires,
-};
-
-// The far end of a wire.
-#[derive(Clone, Copy)]
-pub(crate) enum FarEnd {
-    Nothing,
-    At(RowEnd),
-}
-
-// The far end of the newest wire that has such an end.
-fn far_from(wires: &[u32; WORDS], count: usize, test: EndTest) -> FarEnd
-    requires { count ≤ row_slots }
-    ensures { far_of result ≡ far_from (end_hits test) (wires_in wires.now count) }
-{
-    let past = find_newest(wires, 0, count, Test::Wire(test));
-    if past == 0 {
-        return FarEnd::Nothing;
-    }
-    let row = row_at(wires, past - 1);
-    if end_hits(test, out_end(row)) {
-        return FarEnd::At(in_end(row));
-    }
-    FarEnd::At(out_end(row))
-}
+use crate::totals::Sketch;
 
 fn port_of(end: RowEnd) -> SketchPort
     ensures { result ≡ record { block = end.block; side = end.side; position = end.position } }
@@ -49,122 +20,30 @@ fn port_of(end: RowEnd) -> SketchPort
     let side = end.side;
     SketchPort {
         block: end.block,
-        side: side,
+        side,
         position: end.position,
     }
 }
 
-fn port_found(far: FarEnd) -> PortAnswer
+fn port_found(far: Option<RowEnd>) -> Result<Option<SketchPort>, Reason>
     ensures { result ≡ port_found (far_of far) }
 {
     match far {
-        FarEnd::Nothing => PortAnswer::Nothing,
-        FarEnd::At(end) => PortAnswer::Found(port_of(end)),
+        None => Ok(None),
+        Some(end) => Ok(Some(port_of(end))),
     }
 }
 
-fn end_found(far: FarEnd) -> EndAnswer
+fn end_found(far: Option<RowEnd>) -> Result<Option<SketchEnd>, Reason>
     requires { FarFits far }
     ensures { result ≡ end_found (far_of far) }
 {
     match far {
-        FarEnd::Nothing => EndAnswer::Nothing,
-        FarEnd::At(end) => EndAnswer::Found(SketchEnd {
+        None => Ok(None),
+        Some(end) => Ok(Some(SketchEnd {
             port: port_of(end),
             offset: end.offset as u16,
-        }),
-    }
-}
-
-// Cuts each wire at a port, which is no longer split; it answers itself if it was, else the far port.
-pub fn cut_lent(
-    blocks: &mut [u32; WORDS],
-    splits: &mut [u32; WORDS],
-    wires: &mut [u32; WORDS],
-    totals: Totals,
-    port: SketchPort,
-) -> PortCutLent
-    requires { SketchWf blocks.old splits.old wires.old totals }
-    ensures { Leaves cut_numbers (cut_port (plan_in blocks.old splits.old wires.old totals) port) blocks.new splits.new wires.new result.totals result.answer }
-{
-    if !is_there(blocks, totals.blocks, port) {
-        return PortCutLent {
-            totals: totals,
-            answer: PortAnswer::Refused(Reason::UnknownPort),
-        };
-    }
-    let subports = subports_of(splits, totals.splits, port);
-    let far = far_from(wires, totals.wires, EndTest::AtPort(port));
-    let w = drop_rows(wires, totals.wires, Test::Wire(EndTest::AtPort(port)));
-    let s = set_subports(splits, totals.splits, port, 0);
-    let after = with_counts(totals, totals.blocks, s, w);
-    if subports == 0 {
-        return PortCutLent {
-            totals: after,
-            answer: port_found(far),
-        };
-    }
-    PortCutLent {
-        totals: after,
-        answer: PortAnswer::Found(port),
-    }
-}
-
-// What an end is linked with.
-pub fn subport_link_lent<'a>(
-    blocks: &'a [u32; WORDS],
-    splits: &'a [u32; WORDS],
-    wires: &'a [u32; WORDS],
-    totals: Totals,
-    port: SketchPort,
-    offset: u16,
-) -> EndAnswer
-    requires { SketchWf blocks.now splits.now wires.now totals }
-    ensures { Answers found_numbers (subport_link (plan_in blocks.now splits.now wires.now totals) port offset) result }
-{
-    match judge_end(blocks, splits, wires, totals, port, offset) {
-        Judged::Refused(reason) => EndAnswer::Refused(reason),
-        Judged::Fine => {
-            let read = offset_read(blocks, splits, wires, totals, port, offset);
-            end_found(far_from(wires, totals.wires, EndTest::AtEnd(port, read as u32)))
-        }
-    }
-}
-
-// Cuts the wire at an end, if there is one.
-pub fn cut_subport_lent(
-    blocks: &mut [u32; WORDS],
-    splits: &mut [u32; WORDS],
-    wires: &mut [u32; WORDS],
-    totals: Totals,
-    port: SketchPort,
-    offset: u16,
-) -> EndCutLent
-    requires { SketchWf blocks.old splits.old wires.old totals }
-    ensures { Leaves found_numbers (cut_subport (plan_in blocks.old splits.old wires.old totals) port offset) blocks.new splits.new wires.new result.totals result.answer }
-{
-    let answer = subport_link_lent(blocks, splits, wires, totals, port, offset);
-    match answer {
-        EndAnswer::Refused(_) => EndCutLent {
-            totals: totals,
-            answer: answer,
-        },
-        EndAnswer::Nothing => EndCutLent {
-            totals: totals,
-            answer: answer,
-        },
-        EndAnswer::Found(_) => {
-            let read = offset_read(blocks, splits, wires, totals, port, offset);
-            let w = drop_rows(
-                wires,
-                totals.wires,
-                Test::Wire(EndTest::AtEnd(port, read as u32)),
-            );
-            EndCutLent {
-                totals: with_wires(totals, w),
-                answer: answer,
-            }
-        }
+        })),
     }
 }
 
@@ -179,33 +58,73 @@ fn subports_left(above: usize) -> u32
     above as u32
 }
 
-// Drops the empty subports above the highest wired one; an unsplit port is unchanged.
-pub fn tidy_lent(
-    blocks: &mut [u32; WORDS],
-    splits: &mut [u32; WORDS],
-    wires: &mut [u32; WORDS],
-    totals: Totals,
-    port: SketchPort,
-) -> DoneLent
-    requires { SketchWf blocks.old splits.old wires.old totals }
-    ensures { Leaves done_numbers (tidy_port (plan_in blocks.old splits.old wires.old totals) port) blocks.new splits.new wires.new result.totals result.answer }
-{
-    if !is_there(blocks, totals.blocks, port) {
-        return DoneLent {
-            totals: totals,
-            answer: DoneAnswer::Refused(Reason::UnknownPort),
-        };
+impl Sketch {
+    // The far end of the newest wire that has such an end.
+    fn far_from(&self, test: EndTest) -> Option<RowEnd>
+        ensures { far_of result ≡ far_from (end_hits test) (plan_of self.now).wires }
+    {
+        let row = newest_row(&self.wires, self.totals.wires, Test::Wire(test))?;
+        if end_hits(test, out_end(row)) {
+            return Some(in_end(row));
+        }
+        Some(out_end(row))
     }
-    if subports_of(splits, totals.splits, port) == 0 {
-        return DoneLent {
-            totals: totals,
-            answer: DoneAnswer::Done,
-        };
+
+    // Cuts each wire at a port, which is no longer split; it answers itself if it was, else the far port.
+    pub fn cut(&mut self, port: SketchPort) -> Result<Option<SketchPort>, Reason>
+        ensures { Left cut_numbers (cut_port (plan_of self.old) port) self.new result }
+    {
+        if !self.is_there(port) {
+            return Err(Reason::UnknownPort);
+        }
+        let subports = self.subports_of(port);
+        let far = self.far_from(EndTest::AtPort(port));
+        let test = Test::Wire(EndTest::AtPort(port));
+        self.totals.wires = drop_rows(&mut self.wires, self.totals.wires, test);
+        self.totals.splits = set_subports(&mut self.splits, self.totals.splits, port, 0);
+        if subports == 0 {
+            return port_found(far);
+        }
+        Ok(Some(port))
     }
-    let left = subports_left(above_wired(wires, totals.wires, port));
-    let s = set_subports(splits, totals.splits, port, left);
-    DoneLent {
-        totals: with_splits(totals, s),
-        answer: DoneAnswer::Done,
+
+    // What an end is linked with.
+    pub fn subport_link(&self, port: SketchPort, offset: u16) -> Result<Option<SketchEnd>, Reason>
+        ensures { Answers found_numbers (subport_link (plan_of self.now) port offset) result }
+    {
+        self.judge_end(port, offset)?;
+        let read = self.offset_read(port, offset);
+        end_found(self.far_from(EndTest::AtEnd(port, read as u32)))
+    }
+
+    // Cuts the wire at an end, if there is one.
+    pub fn cut_subport(
+        &mut self,
+        port: SketchPort,
+        offset: u16,
+    ) -> Result<Option<SketchEnd>, Reason>
+        ensures { Left found_numbers (cut_subport (plan_of self.old) port offset) self.new result }
+    {
+        let count = self.totals.wires;
+        let far = self.subport_link(port, offset)?;
+        let read = self.offset_read(port, offset);
+        let test = Test::Wire(EndTest::AtEnd(port, read as u32));
+        self.totals.wires = drop_rows(&mut self.wires, count, test);
+        Ok(far)
+    }
+
+    // Drops the empty subports above the highest wired one; an unsplit port is unchanged.
+    pub fn tidy(&mut self, port: SketchPort) -> Result<(), Reason>
+        ensures { Left done_numbers (tidy_port (plan_of self.old) port) self.new result }
+    {
+        if !self.is_there(port) {
+            return Err(Reason::UnknownPort);
+        }
+        if self.subports_of(port) == 0 {
+            return Ok(());
+        }
+        let left = subports_left(self.above_wired(port));
+        self.totals.splits = set_subports(&mut self.splits, self.totals.splits, port, left);
+        Ok(())
     }
 }

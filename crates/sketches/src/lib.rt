@@ -16,7 +16,7 @@ pub mod tables;
 pub mod offsets;
 pub mod ports;
 
-// What a sketch has besides its tables.
+// A sketch: its tables, and the numbers beside them.
 pub mod totals;
 
 // The calls.

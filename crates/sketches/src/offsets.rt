@@ -1,14 +1,15 @@
 // The wired offsets of a port: the lowest one without a wire, and the highest with one.
 ghost use Rattle.std.specs.Prelude.{◌≡◌, ◌≤◌};
-ghost use Rattle.port_tables.specs.Places.{next_offset};
-ghost use Rattle.sketches.specs.Plan.{spot_named, above_end, above_wired};
+ghost use Rattle.sketches.specs.Plan.{spot_named, above_end, above_wired, offset_ready};
 ghost use Rattle.sketches.specs.Rows.{row_slots, place_in, wire_of, wires_in};
+ghost use Rattle.sketches.specs.Held.{plan_of};
 ghost use Rattle.sketches.specs.Offsets.{mark, marked, Marks, lowest_unmarked};
 
-use crate::rows::{ROWS, Row, WORDS, row_at};
+use crate::rows::{ROWS, Row};
 use crate::sketch::SketchPort;
 use crate::tests::{RowEnd, at_port, in_end, out_end};
-use port_tables::numbers::{larger, wide};
+use crate::totals::Sketch;
+use port_tables::numbers::wide;
 
 // Marks an offset; one beyond the table is left out.
 fn mark(marks: &mut [bool; ROWS], offset: u32)
@@ -29,17 +30,15 @@ fn mark_end(marks: &mut [bool; ROWS], port: SketchPort, end: RowEnd)
 }
 
 // Which offsets of a port are wired.
-fn marks_of(wires: &[u32; WORDS], count: usize, port: SketchPort) -> [bool; ROWS]
+fn marks_of(wires: &[Row; ROWS], count: usize, port: SketchPort) -> [bool; ROWS]
     requires { count ≤ row_slots }
     ensures { Marks (spot_named port) (wires_in wires.now count) result }
 {
     let mut marks = [false; ROWS];
-    let mut i: usize = 0;
-    while i < count {
-        let row = row_at(wires, i);
+    for i in 0..count {
+        let row = wires[i];
         mark_end(&mut marks, port, out_end(row));
         mark_end(&mut marks, port, in_end(row));
-        i += 1;
     }
     marks
 }
@@ -49,22 +48,12 @@ fn lowest_unmarked(marks: [bool; ROWS], count: usize) -> usize
     requires { count ≤ row_slots }
     ensures { result ≡ lowest_unmarked marks 0 count }
 {
-    let mut i: usize = 0;
-    while i < count {
+    for i in 0..count {
         if !marks[i] {
             return i;
         }
-        i += 1;
     }
-    i
-}
-
-// The lowest offset without a wire.
-pub(crate) fn offset_ready(wires: &[u32; WORDS], count: usize, port: SketchPort) -> usize
-    requires { count ≤ row_slots }
-    ensures { result ≡ next_offset (wires_in wires.now count) (spot_named port) }
-{
-    lowest_unmarked(marks_of(wires, count, port), count)
+    count
 }
 
 // One more than an offset, where that is higher and its end is at a port.
@@ -72,7 +61,7 @@ fn above_end(port: SketchPort, end: RowEnd, above: usize) -> usize
     ensures { result ≡ above_end (spot_named port) (place_in end) above }
 {
     if at_port(port, end) {
-        return larger(wide(end.offset) + 1, above);
+        return (wide(end.offset) + 1).max(above);
     }
     above
 }
@@ -83,16 +72,31 @@ fn above_row(port: SketchPort, row: Row, above: usize) -> usize
     above_end(port, out_end(row), above_end(port, in_end(row), above))
 }
 
-// One more than the highest wired offset; 0 where none is wired.
-pub(crate) fn above_wired(wires: &[u32; WORDS], count: usize, port: SketchPort) -> usize
+// One more than the highest offset that a table of wires has at a port; 0 where none is wired.
+fn above_wired(wires: &[Row; ROWS], count: usize, port: SketchPort) -> usize
     requires { count ≤ row_slots }
     ensures { result ≡ above_wired (spot_named port) (wires_in wires.now count) }
 {
     let mut above: usize = 0;
-    let mut i: usize = 0;
-    while i < count {
-        above = above_row(port, row_at(wires, i), above);
-        i += 1;
+    for i in 0..count {
+        above = above_row(port, wires[i], above);
     }
     above
+}
+
+impl Sketch {
+    // The lowest offset without a wire.
+    pub(crate) fn offset_ready(&self, port: SketchPort) -> usize
+        ensures { result ≡ offset_ready (plan_of self.now) port }
+    {
+        let count = self.totals.wires;
+        lowest_unmarked(marks_of(&self.wires, count, port), count)
+    }
+
+    // One more than the highest wired offset; 0 where none is wired.
+    pub(crate) fn above_wired(&self, port: SketchPort) -> usize
+        ensures { result ≡ above_wired (spot_named port) (plan_of self.now).wires }
+    {
+        above_wired(&self.wires, self.totals.wires, port)
+    }
 }

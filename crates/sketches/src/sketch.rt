@@ -1,4 +1,4 @@
-// What a sketch is asked and what it answers: ports and ends by place, refusals, and the answer of each call.
+// What a sketch is asked and what it answers: ports and ends by place, refusals, and the entries of a sheet.
 use port_tables::direction::Direction;
 
 // A port: the name of its block, its side and its position there.
@@ -40,61 +40,14 @@ pub enum Reason {
     InputWired,
 }
 
-// The name of the new block.
-#[derive(Clone, Copy)]
-pub enum AddAnswer {
-    Added(u32),
-    Refused(Reason),
-}
-
-// Of a removal, a resize and a tidying.
-#[derive(Clone, Copy)]
-pub enum DoneAnswer {
-    Done,
-    Refused(Reason),
-}
-
-// The two ends of the new wire, the first named first.
-#[derive(Clone, Copy)]
-pub enum LinkAnswer {
-    Linked(SketchEnd, SketchEnd),
-    Refused(Reason),
-}
-
-// Of cutting a port: the port itself where it was split, else the far port of its wire.
-#[derive(Clone, Copy)]
-pub enum PortAnswer {
-    Found(SketchPort),
-    Nothing,
-    Refused(Reason),
-}
-
-// Of cutting at an end, and of asking what it is linked with: the far end.
-#[derive(Clone, Copy)]
-pub enum EndAnswer {
-    Found(SketchEnd),
-    Nothing,
-    Refused(Reason),
-}
-
-#[derive(Clone, Copy)]
-pub enum CountAnswer {
-    Count(usize),
-    Refused(Reason),
-}
-
 // Two ports that are to be linked, and space for the answer.
 #[derive(Clone, Copy)]
 pub struct SheetEntry {
     pub from: SketchPort,
     pub to: SketchPort,
-    pub answer: LinkAnswer,
+    pub answer: Result<(SketchEnd, SketchEnd), Reason>,
 }
 
+// There are more entries than a sheet may have: none was done.
 #[derive(Clone, Copy)]
-pub enum SheetAnswer {
-    // Every entry was done and has its answer, a refused one too.
-    Done,
-    // There are more than 64 entries: none was done.
-    TooManyEntries,
-}
+pub struct TooManyEntries;

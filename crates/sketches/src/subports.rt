@@ -4,17 +4,16 @@ ghost use Rattle.std.specs.Prelude.{◌≡◌, true, ◌≤◌};
 ghost use Rattle.sketches.specs.Plan.{is_there, subports_ready, ready};
 ghost use Rattle.sketches.specs.PlanCalls.{most_wires};
 ghost use Rattle.sketches.specs.Rows.{Table, splits_in};
-ghost use Rattle.sketches.specs.SketchTables.{plan_in, SketchWf};
+ghost use Rattle.sketches.specs.Held.{plan_of};
 ghost use Rattle.sketches.specs.SplitSteps.{splits_with, SplitsRoom, split_row, IsPlan};
 
-use crate::offsets::offset_ready;
-use crate::ports::subports_of;
-use crate::rows::{Row, WORDS, put_row};
+use crate::ports::subports_among;
+use crate::rows::{ROWS, Row};
 use crate::sketch::SketchPort;
 use crate::tables::drop_rows;
 use crate::tests::{EndTest, Test};
-use crate::totals::{Totals, with_splits};
-use port_tables::numbers::{larger, wide};
+use crate::totals::Sketch;
+use port_tables::numbers::wide;
 
 // The row of a split port.
 fn split_row(port: SketchPort, subports: u32) -> Row
@@ -26,7 +25,7 @@ fn split_row(port: SketchPort, subports: u32) -> Row
 
 // Gives a port another number of subports; 0 is that of an unsplit port. The rows of the table afterwards.
 pub(crate) fn set_subports(
-    splits: &mut [u32; WORDS],
+    splits: &mut [Row; ROWS],
     count: usize,
     port: SketchPort,
     subports: u32,
@@ -34,14 +33,14 @@ pub(crate) fn set_subports(
     requires { SplitsRoom splits.old count port subports }
     ensures { (splits_in splits.new result ≡ splits_with (splits_in splits.old count) port subports) × Table splits.new }
 {
-    if subports_of(splits, count, port) == subports {
+    if subports_among(splits, count, port) == subports {
         return count;
     }
     let kept = drop_rows(splits, count, Test::Split(EndTest::AtPort(port)));
     if subports == 0 {
         return kept;
     }
-    put_row(splits, kept, split_row(port, subports));
+    splits[kept] = split_row(port, subports);
     kept + 1
 }
 
@@ -56,22 +55,17 @@ fn subports_ready(subports: u32, offset: usize) -> u32
         }
         return 2;
     }
-    larger(wide(subports), offset + 1) as u32
+    wide(subports).max(offset + 1) as u32
 }
 
-// Makes a port ready.
-pub(crate) fn ready_port(
-    blocks: &mut [u32; WORDS],
-    splits: &mut [u32; WORDS],
-    wires: &mut [u32; WORDS],
-    totals: Totals,
-    port: SketchPort,
-) -> Totals
-    requires { SketchWf blocks.old splits.old wires.old totals × (is_there (plan_in blocks.old splits.old wires.old totals) port ≡ true) }
-    ensures { IsPlan (ready (plan_in blocks.old splits.old wires.old totals) port) blocks.new splits.new wires.new result }
-{
-    let offset = offset_ready(wires, totals.wires, port);
-    let subports = subports_ready(subports_of(splits, totals.splits, port), offset);
-    let count = set_subports(splits, totals.splits, port, subports);
-    with_splits(totals, count)
+impl Sketch {
+    // Makes a port ready.
+    pub(crate) fn ready_port(&mut self, port: SketchPort)
+        requires { is_there (plan_of self.old) port ≡ true }
+        ensures { IsPlan (ready (plan_of self.old) port) self.new.blocks self.new.splits self.new.wires self.new.totals }
+    {
+        let offset = self.offset_ready(port);
+        let subports = subports_ready(self.subports_of(port), offset);
+        self.totals.splits = set_subports(&mut self.splits, self.totals.splits, port, subports);
+    }
 }

@@ -7,7 +7,6 @@ ghost use Rattle.sketches.specs.Rows.{side_of, place_in, wire_of, split_of, end_
 use crate::rows::Row;
 use crate::sketch::SketchPort;
 use port_tables::direction::Direction;
-use port_tables::numbers::same_side;
 
 // An end as a row has it.
 #[derive(Clone, Copy)]
@@ -46,6 +45,7 @@ pub enum Test {
     Neighbour(u32, Direction, bool),
 }
 
+// The side of a row, 0 incoming. Stays a function of any number: a TryFrom would have a refusal that no row comes to.
 fn side_of(number: u32) -> Direction
     ensures { result ≡ side_of number }
 {
@@ -67,7 +67,7 @@ fn split_end(row: Row) -> RowEnd
     }
 }
 
-// The ends of the wire of a row.
+// The ends of the wire of a row. Stay two: a row is a tuple, whose columns are named and not counted, and each end has its side.
 pub(crate) fn out_end(row: Row) -> RowEnd
     ensures { place_in result ≡ (wire_of row).out }
 {
@@ -98,7 +98,7 @@ pub(crate) fn at_port(port: SketchPort, end: RowEnd) -> bool
     }
     let a = end.side;
     let b = port.side;
-    if !same_side(a, b) {
+    if a != b {
         return false;
     }
     end.position == port.position
@@ -107,10 +107,7 @@ pub(crate) fn at_port(port: SketchPort, end: RowEnd) -> bool
 fn at_end(port: SketchPort, offset: u32, end: RowEnd) -> bool
     ensures { result ≡ at_end (spot_named port) offset (place_in end) }
 {
-    if !at_port(port, end) {
-        return false;
-    }
-    end.offset == offset
+    at_port(port, end) && end.offset == offset
 }
 
 fn of_dropped(block: u32, incoming: u32, outgoing: u32, end: RowEnd) -> bool
@@ -140,10 +137,7 @@ pub(crate) fn end_hits(test: EndTest, end: RowEnd) -> bool
 fn wire_hits(test: EndTest, row: Row) -> bool
     ensures { result ≡ hits (Test.Wire test) row }
 {
-    if end_hits(test, out_end(row)) {
-        return true;
-    }
-    end_hits(test, in_end(row))
+    end_hits(test, out_end(row)) || end_hits(test, in_end(row))
 }
 
 // The block at the wire's end on a side.
@@ -159,10 +153,7 @@ pub(crate) fn block_on(row: Row, side: Direction) -> u32
 fn between(from: u32, to: u32, row: Row) -> bool
     ensures { result ≡ hits (Test.Between from to) row }
 {
-    if row.0 != from {
-        return false;
-    }
-    row.3 == to
+    row.0 == from && row.3 == to
 }
 
 fn neighbour(block: u32, side: Direction, flag: bool, row: Row) -> bool

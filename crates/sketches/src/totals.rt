@@ -1,10 +1,13 @@
-// What a sketch has besides its three tables, and what a call leaves: these numbers and the answer.
+// A sketch: three tables of rows, and the numbers beside them.
 ghost use Rattle.std.specs.Prelude.{◌≡◌};
-ghost use Rattle.sketches.specs.SketchTables.{new_held, totals_counts, held_splits, held_wires};
+ghost use Rattle.sketches.specs.Plan.{empty_plan};
+ghost use Rattle.sketches.specs.Held.{plan_of};
 
-use crate::sketch::{AddAnswer, DoneAnswer, EndAnswer, LinkAnswer, PortAnswer};
+use crate::rows::{ROWS, Row};
 use port_tables::release::Release;
+use std::marker::Model;
 
+// What a sketch has besides its tables.
 #[derive(Clone, Copy)]
 pub struct Totals {
     pub release: Release,
@@ -16,70 +19,42 @@ pub struct Totals {
     pub wires: usize,
 }
 
-#[derive(Clone, Copy)]
-pub struct AddedLent {
-    pub totals: Totals,
-    pub answer: AddAnswer,
+#[derive(Drop)]
+pub struct Sketch {
+    pub(crate) blocks: [Row; ROWS],
+    pub(crate) splits: [Row; ROWS],
+    pub(crate) wires: [Row; ROWS],
+    pub(crate) totals: Totals,
 }
 
-#[derive(Clone, Copy)]
-pub struct DoneLent {
-    pub totals: Totals,
-    pub answer: DoneAnswer,
+impl Model for Sketch {
+    ghost use Rattle.sketches.specs.Held.{Held};
+    ghost use Rattle.sketches.specs.SketchTables.{SketchWf};
+
+    ghost Value = { Held };
+
+    ghost view = { λ s. record { blocks = s.blocks; splits = s.splits; wires = s.wires; totals = s.totals } };
+
+    ghost invariant = { λ s. SketchWf s.blocks s.splits s.wires s.totals };
 }
 
-#[derive(Clone, Copy)]
-pub struct LinkedLent {
-    pub totals: Totals,
-    pub answer: LinkAnswer,
-}
-
-#[derive(Clone, Copy)]
-pub struct PortCutLent {
-    pub totals: Totals,
-    pub answer: PortAnswer,
-}
-
-#[derive(Clone, Copy)]
-pub struct EndCutLent {
-    pub totals: Totals,
-    pub answer: EndAnswer,
-}
-
-// An empty sketch that is made for a release, whatever its tables hold.
-pub fn new_totals(release: Release) -> Totals
-    ensures { result ≡ new_held release }
-{
-    Totals {
-        release: release,
-        adds: 0,
-        blocks: 0,
-        splits: 0,
-        wires: 0,
+impl Sketch {
+    // An empty sketch that is made for a release.
+    pub fn new(release: Release) -> Sketch
+        ensures { plan_of result ≡ empty_plan release }
+    {
+        let rows = [Row(0, 0, 0, 0, 0, 0); ROWS];
+        Sketch {
+            blocks: rows,
+            splits: rows,
+            wires: rows,
+            totals: Totals {
+                release,
+                adds: 0,
+                blocks: 0,
+                splits: 0,
+                wires: 0,
+            },
+        }
     }
-}
-
-pub(crate) fn with_counts(totals: Totals, blocks: usize, splits: usize, wires: usize) -> Totals
-    ensures { result ≡ totals_counts totals blocks splits wires }
-{
-    let release = totals.release;
-    Totals {
-        release: release,
-        adds: totals.adds,
-        blocks: blocks,
-        splits: splits,
-        wires: wires,
-    }
-}
-
-pub(crate) fn with_splits(totals: Totals, splits: usize) -> Totals
-    ensures { result ≡ held_splits totals splits }
-{
-    with_counts(totals, totals.blocks, splits, totals.wires)
-}
-
-pub(crate) fn with_wires(totals: Totals, wires: usize) -> Totals
-    ensures { result ≡ held_wires totals wires }
-{
-    with_counts(totals, totals.blocks, totals.splits, wires)
 }

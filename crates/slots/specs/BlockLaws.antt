@@ -1,6 +1,6 @@
 -- The blocks read off the tables are those of the model that the tables stand for; so every slot of the used length lies in one of them,
 -- and the listing has them end to end.
-use Rattle.std.specs.Prelude.{◌≡◌, Bool, cond, ltb, length, get_or, replicate}
+use Rattle.std.specs.Prelude.{◌≡◌, Bool, cond, ltb, length, get_or, replicate, Option, Some, None}
 use Rattle.std.proofs.Math.Path.{refl, ap}
 use Rattle.std.proofs.Common.{sym, ◌∙◌, subst, inl, inr, arith}
 use Rattle.std.proofs.Math.Bool.{true, false}
@@ -19,8 +19,6 @@ use Rattle.portgraph.specs.GoodSlots.{same_held, held_not_idle, free_block_of_on
 use Rattle.portgraph.specs.TableLaws.{length_put, at_put_same, at_put_other, at_inside, at_outside}
 use Rattle.portgraph.specs.PlaceLaws.{meta_of_node, node_of_meta}
 use Rattle.port_tables.specs.declared.node_entry.NodeMeta.{NodeMeta}
-use Rattle.port_tables.specs.declared.node_entry.MaybeNodeMeta.{MaybeNodeMeta}
-use Rattle.port_tables.specs.declared.node_entry.MaybeNodeMeta.TheVariants as maybe_meta
 use Rattle.portgraph.specs.declared.portgraph.PortGraph.{PortGraph}
 use Rattle.port_tables.specs.Listing.{Apart, apart_below, member_left, member_right, member_append, member_flat_map, flat_map_member, member_map, map_member, range_member, range_rises, rising_append, rising_flat_map, rising_map}
 use Rattle.slots.specs.Blocks.{Holder, by_node, free, SlotBlock, slot_block, node_holds, held_blocks, chained, free_of, listed_free, free_blocks, blocks_of, holder_number, size_of, holder_of_block, laid, sizes_laid, holders_laid, slot_list}
@@ -138,9 +136,9 @@ module _ {g : PortGraph} {M : Model} (good : Good M) (holds : Holds g M) where
       (apart_below port_slots (M.free_blocks k) (once_apart (M.free_blocks k) (good.idle_once k))
       (λ b i. let e = good.idle_ends k b i in let p = e.0 in let q = e.2 in let f = good.ports_fit in omega arith))
 
-  of_meta : (n : ℕ) (v : MaybeNodeMeta) (b : SlotBlock) → meta_at g n ≡ v → Member b (node_holds n v) → Has M b.first b.size b.holder
-  of_meta n maybe_meta.None b e i = absurd i
-  of_meta n (maybe_meta.Some k) b e i = go (eqb k.capacity 0) refl i
+  of_meta : (n : ℕ) (v : Option NodeMeta) (b : SlotBlock) → meta_at g n ≡ v → Member b (node_holds n v) → Has M b.first b.size b.holder
+  of_meta n None b e i = absurd i
+  of_meta n (Some k) b e i = go (eqb k.capacity 0) refl i
     where
       go : (z : Bool) → eqb k.capacity 0 ≡ z → Member b (cond z [] (slot_block k.first_port.0 k.capacity (by_node n) ∷ [])) → Has M b.first b.size b.holder
       go true q i = absurd i
@@ -192,17 +190,17 @@ module _ {g : PortGraph} {M : Model} (good : Good M) (holds : Holds g M) where
       let w = ap (λ (z : SlotBlock). holder_number z.holder) e in
       omega arith)
     where
-      single : (n : ℕ) (v : MaybeNodeMeta) → Rising Apart (node_holds n v)
-      single n maybe_meta.None = tt
-      single n (maybe_meta.Some k) = go (eqb k.capacity 0)
+      single : (n : ℕ) (v : Option NodeMeta) → Rising Apart (node_holds n v)
+      single n None = tt
+      single n (Some k) = go (eqb k.capacity 0)
         where
           go : (z : Bool) → Rising Apart (cond z [] (slot_block k.first_port.0 k.capacity (by_node n) ∷ []))
           go true = tt
           go false = ((λ y i. absurd i), tt)
 
-      holder_of : (n : ℕ) (v : MaybeNodeMeta) (x : SlotBlock) → Member x (node_holds n v) → holder_number x.holder ≡ suc n
-      holder_of n maybe_meta.None x i = absurd i
-      holder_of n (maybe_meta.Some k) x i = go (eqb k.capacity 0) i
+      holder_of : (n : ℕ) (v : Option NodeMeta) (x : SlotBlock) → Member x (node_holds n v) → holder_number x.holder ≡ suc n
+      holder_of n None x i = absurd i
+      holder_of n (Some k) x i = go (eqb k.capacity 0) i
         where
           go : (z : Bool) → Member x (cond z [] (slot_block k.first_port.0 k.capacity (by_node n) ∷ [])) → holder_number x.holder ≡ suc n
           go true i = absurd i
@@ -221,9 +219,9 @@ module _ {g : PortGraph} {M : Model} (good : Good M) (holds : Holds g M) where
       let r = member_flat_map (λ n. node_holds n (meta_at g n)) b (range 0 node_slots) i in
       go r.0 (meta_at g r.0) r.2
     where
-      go : (n : ℕ) (v : MaybeNodeMeta) → Member b (node_holds n v) → ⊥
-      go n maybe_meta.None j = j
-      go n (maybe_meta.Some k) j = by_size (eqb k.capacity 0) j
+      go : (n : ℕ) (v : Option NodeMeta) → Member b (node_holds n v) → ⊥
+      go n None j = j
+      go n (Some k) j = by_size (eqb k.capacity 0) j
         where
           by_size : (q : Bool) → Member b (cond q [] (slot_block k.first_port.0 k.capacity (by_node n) ∷ [])) → ⊥
           by_size true j = j

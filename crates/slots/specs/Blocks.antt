@@ -1,14 +1,12 @@
 -- The blocks of the port table, read off a graph's tables: those that live nodes hold, hidden ones too, and those that the free lists
 -- list. Then the listing of all of them by first slot, as `slots` of the console gives it.
-use Rattle.std.specs.Prelude.{cond, ℕ, zero, suc, ◌+◌, ◌-◌, eqb, replicate}
+use Rattle.std.specs.Prelude.{cond, ℕ, zero, suc, ◌+◌, ◌-◌, eqb, replicate, Option, Some, None}
 use mathlib.Core.List.{List, [], ◌∷◌, ◌++◌, flat_map, map}
 use Rattle.port_tables.specs.Limits.{node_slots, port_slots, node_ports}
 use Rattle.port_tables.specs.Lists.{range}
 use Rattle.port_tables.specs.Tables.{at, put, head_at}
 use Rattle.portgraph.specs.Lookups.{meta_at}
 use Rattle.port_tables.specs.declared.node_entry.NodeMeta.{NodeMeta}
-use Rattle.port_tables.specs.declared.node_entry.MaybeNodeMeta.{MaybeNodeMeta}
-use Rattle.port_tables.specs.declared.node_entry.MaybeNodeMeta.TheVariants as maybe_meta
 use Rattle.portgraph.specs.declared.portgraph.PortGraph.{PortGraph}
 
 -- who has a block of slots: a live node, or nobody, and then a free list lists it
@@ -31,9 +29,9 @@ slot_block first size holder = record { first = first; size = size; holder = hol
 abbrev pub block_of_meta : ℕ → NodeMeta → List SlotBlock
 block_of_meta n k = cond (eqb k.capacity 0) [] (slot_block k.first_port.0 k.capacity (by_node n) ∷ [])
 
-abbrev pub node_holds : ℕ → MaybeNodeMeta → List SlotBlock
-node_holds n maybe_meta.None = []
-node_holds n (maybe_meta.Some k) = block_of_meta n k
+abbrev pub node_holds : ℕ → Option NodeMeta → List SlotBlock
+node_holds n None = []
+node_holds n (Some k) = block_of_meta n k
 
 -- the blocks that live nodes hold, by ascending node
 unfoldable pub held_blocks : PortGraph → List SlotBlock

@@ -1,6 +1,6 @@
 -- Every call of the multiport graph keeps the blocks: it is made of calls of the single-link graph, each of which does. A new call is its
 -- row in step_leads.
-use Rattle.std.specs.Prelude.{◌≡◌, Bool, true, false, cond, List, [], ◌∷◌, ℕ, zero, suc, ◌+◌, ltb}
+use Rattle.std.specs.Prelude.{◌≡◌, Bool, true, false, cond, List, [], ◌∷◌, ℕ, zero, suc, ◌+◌, ltb, Option, Some, None, Ok, Err, Result}
 use Rattle.std.proofs.Math.Path.{refl, transport}
 use Rattle.std.proofs.Common.{sym, ap, ◌∙◌, subst, ltb-true}
 use Rattle.port_tables.specs.Limits.{present}
@@ -10,15 +10,7 @@ use Rattle.portgraph.specs.Model.{Model, slot_of}
 use Rattle.portgraph.specs.Calls.{add_node, link_ports, unlink_port}
 use Rattle.portgraph.specs.Resize.{set_num_ports}
 use Rattle.port_tables.specs.declared.direction.Direction.{Direction}
-use Rattle.port_tables.specs.declared.node_entry.MaybeNodeMeta.{MaybeNodeMeta}
-use Rattle.port_tables.specs.declared.node_entry.MaybeNodeMeta.TheVariants as maybe_meta
 use Rattle.portgraph.specs.declared.portgraph.PortGraph.{PortGraph}
-use Rattle.portgraph.specs.declared.portgraph.LinkAnswer as lower_link_answer
-use Rattle.portgraph.specs.declared.portgraph.LinkAnswer.TheVariants as lower_link
-use Rattle.portgraph.specs.declared.alloc.AddAnswer as lower_add_answer
-use Rattle.portgraph.specs.declared.alloc.AddAnswer.TheVariants as lower_add
-use Rattle.portgraph.specs.declared.resize.SetAnswer as lower_set_answer
-use Rattle.portgraph.specs.declared.resize.SetAnswer.TheVariants as lower_set
 use Rattle.multiportgraph.specs.Reading.{is_split, has_link, seen, side_of, copy_node, subports, subport_at, port_of, far_port, as_read, standing, far_subport}
 use Rattle.multi_tables.specs.Forms.{Port, dead, hidden, visible, subport#}
 use Rattle.multiportgraph.specs.Graph.{with_graph}
@@ -34,11 +26,6 @@ use Rattle.multiportgraph.specs.Refusals.{Line, checked, add_refusals, remove_re
 use Rattle.multiportgraph.specs.Calls.{add_block_under, added_as, remove_block, drop_block, drop_meta, set_counts_under, resized_meta, set_as, link_pair_if, link_clean_if, both_linked, link_sub_if, joined, cut_port, cut_plain, cut_sub, tidy_port}
 use Rattle.multiportgraph.specs.declared.multiportgraph.MultiPortGraph.{MultiPortGraph}
 use Rattle.multi_tables.specs.declared.answers.SubportIndex.{SubportIndex}
-use Rattle.multiportgraph.specs.declared.multiportgraph.AddAnswer.TheVariants as add
-use Rattle.multiportgraph.specs.declared.multiportgraph.RemoveAnswer.TheVariants as remove
-use Rattle.multiportgraph.specs.declared.multiportgraph.SetAnswer.TheVariants as resize
-use Rattle.multiportgraph.specs.declared.multiportgraph.LinkAnswer.TheVariants as link
-use Rattle.multi_tables.specs.declared.answers.CutAnswer.TheVariants as cutting
 use Rattle.multiportgraph.specs.declared.multiportgraph.NodeAdded.{NodeAdded}
 use Rattle.multiportgraph.specs.declared.multiportgraph.NodeRemoved.{NodeRemoved}
 use Rattle.multiportgraph.specs.declared.multiportgraph.PortsSet.{PortsSet}
@@ -48,6 +35,15 @@ use Rattle.theorems.specs.Book as book
 use Rattle.theorems.specs.Book.{Call}
 use Rattle.theorems.specs.History.{step}
 use Rattle.slots.specs.KeptLaws.{LeadsOn, leads_same, leads_then, leads_add, leads_remove, leads_link, leads_unlink, leads_set}
+use Rattle.port_tables.specs.declared.node_entry.NodeMeta.{NodeMeta}
+use Rattle.portgraph.specs.declared.alloc.AddError.TheVariants as add_error
+use Rattle.portgraph.specs.declared.portgraph.LinkError.TheVariants as link_error
+use Rattle.portgraph.specs.declared.resize.SetError.TheVariants as set_error
+use Rattle.port_tables.specs.declared.index.NodeIndex.{NodeIndex}
+use Rattle.port_tables.specs.declared.index.PortIndex.{PortIndex}
+use Rattle.portgraph.specs.declared.alloc.AddError.{AddError}
+use Rattle.portgraph.specs.declared.portgraph.LinkError.{LinkError}
+use Rattle.portgraph.specs.declared.resize.SetError.{SetError}
 
 abbrev pub Leads : MultiPortGraph → MultiPortGraph → Type 0
 Leads m m' = LeadsOn m.graph m'.graph
@@ -93,10 +89,10 @@ split_leads : (m : MultiPortGraph) (p : ℕ) (d : Direction) → PreparedOn m (s
 unfolding split_under split_port split_graph
 split_leads m p d = go (add_node m.graph (copy_incoming d) (copy_outgoing d)).graph (add_node m.graph (copy_incoming d) (copy_outgoing d)).answer (leads_add m.graph (copy_incoming d) (copy_outgoing d))
   where
-    go : (g : PortGraph) (a : lower_add_answer.AddAnswer) → LeadsOn m.graph g → PreparedOn m (split_by m p d g a)
-    go g (lower_add.Added c first) h = leads_then h (leads_then (leads_unlink g p) (leads_then (leads_link _ p _) (leads_link _ _ _)))
-    go g lower_add.TooManyPorts h = tt
-    go g lower_add.NoRoom h = tt
+    go : (g : PortGraph) (a : Result (NodeIndex × PortIndex) AddError) → LeadsOn m.graph g → PreparedOn m (split_by m p d g a)
+    go g (Ok (c, first)) h = leads_then h (leads_then (leads_unlink g p) (leads_then (leads_link _ p _) (leads_link _ _ _)))
+    go g (Err add_error.TooManyPorts) h = tt
+    go g (Err add_error.NoRoom) h = tt
 
 grow_leads : (m : MultiPortGraph) (c : ℕ) (d : Direction) → PreparedOn m (grow_under present m c d)
 unfolding grow_under recounted
@@ -104,12 +100,12 @@ grow_leads m c d =
     go (set_num_ports m.graph c (more_incoming m.graph c d) (more_outgoing m.graph c d) enough).graph (set_num_ports m.graph c (more_incoming m.graph c d) (more_outgoing m.graph c d) enough).answer
     (leads_set m.graph c (more_incoming m.graph c d) (more_outgoing m.graph c d) enough)
   where
-    go : (g : PortGraph) (a : lower_set_answer.SetAnswer) → LeadsOn m.graph g → PreparedOn m (grown_by m c d g a)
-    go g (lower_set.Set e) h = h
-    go g lower_set.TooManyPorts h = tt
-    go g lower_set.UnknownNode h = tt
-    go g lower_set.MovesTooShort h = tt
-    go g lower_set.NoRoom h = tt
+    go : (g : PortGraph) (a : Result ℕ SetError) → LeadsOn m.graph g → PreparedOn m (grown_by m c d g a)
+    go g (Ok e) h = h
+    go g (Err set_error.TooManyPorts) h = tt
+    go g (Err set_error.UnknownNode) h = tt
+    go g (Err set_error.MovesTooShort) h = tt
+    go g (Err set_error.NoRoom) h = tt
 
 reuse_leads : (m : MultiPortGraph) (c : ℕ) (d : Direction) (o : ℕ) → PreparedOn m (reuse_under present m c d o)
 unfolding reuse_under
@@ -146,10 +142,10 @@ checked_leads P [] refused done each last = last
 checked_leads P (l ∷ lines) refused done each last = either P l.applies _ _ each.0 (checked_leads P lines refused done each.1 last)
 
 abbrev link_refused : Line → PortsLinked
-link_refused l = record { graph = l.leaves; answer = link.Refused l.refusal }
+link_refused l = record { graph = l.leaves; answer = Err l.refusal }
 
 abbrev cut_refused : Line → PortUnlinked
-cut_refused l = record { graph = l.leaves; answer = cutting.Refused l.refusal }
+cut_refused l = record { graph = l.leaves; answer = Err l.refusal }
 
 module _ (m : MultiPortGraph) where
   first_leads : (a : ℕ) → Leads m (prepared_graph m (first_end present m a))
@@ -168,22 +164,22 @@ module _ (m : MultiPortGraph) where
   both_lead : (a b : ℕ) → Leads m (both_linked present m a b).graph
   both_lead a b = leads_then (second_leads a b) (leads_link _ _ _)
 
-  drop_leads : (n : ℕ) (v : MaybeNodeMeta) → Leads m (drop_meta m n v)
+  drop_leads : (n : ℕ) (v : Option NodeMeta) → Leads m (drop_meta m n v)
   unfolding drop_block
-  drop_leads n maybe_meta.None = stays m
-  drop_leads n (maybe_meta.Some k) = leads_then (range_leads (k.incoming + k.outgoing) m k.first_port.0) (leads_remove _ n)
+  drop_leads n None = stays m
+  drop_leads n (Some k) = leads_then (range_leads (k.incoming + k.outgoing) m k.first_port.0) (leads_remove _ n)
 
-  resize_leads : (n i o : ℕ) (g : PortGraph) (v : MaybeNodeMeta) → LeadsOn m.graph g → Leads m (resized_meta m n i o g v)
+  resize_leads : (n i o : ℕ) (g : PortGraph) (v : Option NodeMeta) → LeadsOn m.graph g → Leads m (resized_meta m n i o g v)
   unfolding recounted
-  resize_leads n i o g maybe_meta.None h = stays m
-  resize_leads n i o g (maybe_meta.Some k) h = leads_then h (all_lead (copies_dropped m k i o) (recounted m n g))
+  resize_leads n i o g None h = stays m
+  resize_leads n i o g (Some k) h = leads_then h (all_lead (copies_dropped m k i o) (recounted m n g))
 
-  joined_leads : (s t : SubportIndex) (v : lower_link_answer.LinkAnswer) (g : PortGraph) → LeadsOn m.graph g → Leads m (joined m v g s t).graph
-  joined_leads s t (lower_link.Linked x y) g h = h
-  joined_leads s t (lower_link.UnknownPort x) g h = stays m
-  joined_leads s t (lower_link.UnknownSecondPort y) g h = stays m
-  joined_leads s t (lower_link.IncompatibleDirections x y d) g h = stays m
-  joined_leads s t (lower_link.AlreadyLinked x) g h = stays m
+  joined_leads : (s t : SubportIndex) (v : Result (PortIndex × PortIndex) LinkError) (g : PortGraph) → LeadsOn m.graph g → Leads m (joined m v g s t).graph
+  joined_leads s t (Ok (x, y)) g h = h
+  joined_leads s t (Err (link_error.UnknownPort x)) g h = stays m
+  joined_leads s t (Err (link_error.UnknownSecondPort y)) g h = stays m
+  joined_leads s t (Err (link_error.IncompatibleDirections x y d)) g h = stays m
+  joined_leads s t (Err (link_error.AlreadyLinked x)) g h = stays m
 
   pub direct_leads : (p : ℕ) (d : Direction) → Leads m (link_directly m p d)
   unfolding link_directly
@@ -223,15 +219,15 @@ module _ {m : MultiPortGraph} {M : Model} (f : Fine m M) where
   pub step_leads : (c : Call) → Leads m (step m c).graph
   unfolding add_block_under remove_block set_counts_under link_pair_if link_clean_if link_sub_if cut_port cut_sub
   step_leads (book.add_call i o) =
-      checked_leads (λ (v : NodeAdded). Leads m v.graph) (add_refusals present m i o) (λ l. record { graph = l.leaves; answer = add.Refused l.refusal })
+      checked_leads (λ (v : NodeAdded). Leads m v.graph) (add_refusals present m i o) (λ l. record { graph = l.leaves; answer = Err l.refusal })
       (record { graph = with_graph m (add_node m.graph i o).graph; answer = added_as (add_node m.graph i o).answer })
       (stays m, (stays m, tt)) (leads_add m.graph i o)
   step_leads (book.remove_call n) =
-      checked_leads (λ (v : NodeRemoved). Leads m v.graph) (remove_refusals m n) (λ l. record { graph = l.leaves; answer = remove.Refused l.refusal })
-      (record { graph = drop_meta m n (meta_at m.graph n); answer = remove.Removed })
+      checked_leads (λ (v : NodeRemoved). Leads m v.graph) (remove_refusals m n) (λ l. record { graph = l.leaves; answer = Err l.refusal })
+      (record { graph = drop_meta m n (meta_at m.graph n); answer = Ok tt })
       (stays m, (stays m, tt)) (drop_leads m n (meta_at m.graph n))
   step_leads (book.set_call n i o room) =
-      checked_leads (λ (v : PortsSet). Leads m v.graph) (set_refusals present m n i o room) (λ l. record { graph = l.leaves; answer = resize.Refused l.refusal })
+      checked_leads (λ (v : PortsSet). Leads m v.graph) (set_refusals present m n i o room) (λ l. record { graph = l.leaves; answer = Err l.refusal })
       (record {
         graph = resized_meta m n i o (set_num_ports m.graph n i o room).graph (meta_at m.graph n);
         answer = set_as (set_num_ports m.graph n i o room).answer;
@@ -250,10 +246,10 @@ module _ {m : MultiPortGraph} {M : Model} (f : Fine m M) where
       (joined_leads m (as_read m p o) (as_read m q r) (joining m p o q r) _ (leads_link m.graph (end_of m p o) (end_of m q r)))
   step_leads (book.cut_call p) =
       checked_leads (λ (v : PortUnlinked). Leads m v.graph) (cut_refusals m p) cut_refused
-      (cond (is_split m p) (record { graph = unsplit m p; answer = cutting.Found (subport# p 0) (standing m (subport# p 0)) })
+      (cond (is_split m p) (record { graph = unsplit m p; answer = Ok (Some (subport# p 0, standing m (subport# p 0))) })
       (record { graph = with_graph m (unlink_port m.graph p).graph; answer = cut_plain m (unlink_port m.graph p).answer }))
       (stays m, (stays m, tt))
-      (either (λ (v : PortUnlinked). Leads m v.graph) (is_split m p) (record { graph = unsplit m p; answer = cutting.Found (subport# p 0) (standing m (subport# p 0)) })
+      (either (λ (v : PortUnlinked). Leads m v.graph) (is_split m p) (record { graph = unsplit m p; answer = Ok (Some (subport# p 0, standing m (subport# p 0))) })
       (record { graph = with_graph m (unlink_port m.graph p).graph; answer = cut_plain m (unlink_port m.graph p).answer })
       (unsplit_leads m p) (leads_unlink m.graph p))
   step_leads (book.cut_sub_call p o) =

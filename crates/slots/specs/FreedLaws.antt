@@ -1,6 +1,6 @@
 -- A free block of the size asked for is found: the used length does not grow. And what the works of a history free and no later one takes
 -- is free at its end.
-use Rattle.std.specs.Prelude.{◌≡◌, refl, Bool, true, false, cond, ℕ, suc, ◌+◌, ◌≤◌, ◌<◌, eqb, leb, ltb, length, get_or}
+use Rattle.std.specs.Prelude.{◌≡◌, refl, Bool, true, false, cond, ℕ, suc, ◌+◌, ◌≤◌, ◌<◌, eqb, leb, ltb, length, get_or, Option, Some, None, Result, Ok, Err}
 use Rattle.std.proofs.Common.{sym, ◌∙◌, ap, subst, ⊎_elim, arith, eqb-true, ltb-true, le-ltb}
 use mathlib.Core.List.{List, [], ◌∷◌, ◌++◌, flat_map}
 use Rattle.std.proofs.lemmas.Bool.{eqb-false}
@@ -13,8 +13,6 @@ use Rattle.port_tables.specs.Entries.{same_side}
 use Rattle.portgraph.specs.GoodSlots.{zero_is_not_one}
 use Rattle.port_tables.specs.declared.direction.Direction.{Direction}
 use Rattle.port_tables.specs.declared.node_entry.NodeMeta.{NodeMeta}
-use Rattle.port_tables.specs.declared.node_entry.MaybeNodeMeta.{MaybeNodeMeta}
-use Rattle.port_tables.specs.declared.node_entry.MaybeNodeMeta.TheVariants as maybe_meta
 use Rattle.port_tables.specs.ResizeLinks.{same_counts, fits_inside}
 use Rattle.multiportgraph.specs.Reading.{is_hidden, is_split, has_link, copy_node, subports, seen}
 use Rattle.multi_tables.specs.Forms.{Port, dead, hidden, visible}
@@ -29,14 +27,6 @@ use Rattle.multiportgraph.specs.SpaceLaws.{nodes_short_at_end, ports_short_at_en
 use Rattle.multiportgraph.specs.declared.multiportgraph.MultiPortGraph.{MultiPortGraph}
 use Rattle.multi_tables.specs.declared.answers.Refusal.{Refusal}
 use Rattle.multi_tables.specs.declared.answers.Refusal.TheVariants.{BadOffset, TooManyPorts, UnknownNode, HiddenNode, MovesTooShort, UnknownPort, HiddenPort, UnknownOffset, NoRoom, UnknownSecondPort, IncompatibleDirections, AlreadyLinked, InputWired}
-use Rattle.multiportgraph.specs.declared.multiportgraph.AddAnswer.TheVariants as add
-use Rattle.multiportgraph.specs.declared.multiportgraph.RemoveAnswer.TheVariants as remove
-use Rattle.multiportgraph.specs.declared.multiportgraph.SetAnswer.TheVariants as resize
-use Rattle.multiportgraph.specs.declared.multiportgraph.LinkAnswer.{LinkAnswer}
-use Rattle.multiportgraph.specs.declared.multiportgraph.LinkAnswer.TheVariants as link
-use Rattle.multi_tables.specs.declared.answers.CutAnswer.{CutAnswer}
-use Rattle.multi_tables.specs.declared.answers.CutAnswer.TheVariants as cutting
-use Rattle.multiportgraph.specs.declared.multiportgraph.TidyAnswer.TheVariants as tidying
 use Rattle.theorems.specs.Book as book
 use Rattle.theorems.specs.Book.{Call, AnswerOf, Book}
 use Rattle.theorems.specs.History.{step, numbers_of, run_from, run_from_under, entered}
@@ -45,6 +35,8 @@ use Rattle.theorems.specs.Conditions.{RefusedBy}
 use Rattle.theorems.proofs.CallLaws.{call_law, call_space, call_room_after}
 use Rattle.slots.specs.SlotClaims.{blocks_asked, asks_node, AsksOnly, answers_ten, LacksNode, NeverForPorts, works_done, works_along, Untaken, FreedSince, freed_by, freed_later}
 use Rattle.slots.specs.KeptLaws.{given_stays, given_is, taken_or_left}
+use Rattle.multi_tables.specs.declared.answers.SubportIndex.{SubportIndex}
+use Rattle.multi_tables.specs.declared.answers.PortPlace.{PortPlace}
 
 -- The used length of the port table.
 
@@ -161,9 +153,9 @@ paired_if false a b p q = q
 paired_none : Paired []
 paired_none = omega arith
 
-paired_gone : (n : ℕ) (v : MaybeNodeMeta) → Paired (gone_works n v)
-paired_gone n maybe_meta.None = paired_none
-paired_gone n (maybe_meta.Some k) = omega arith
+paired_gone : (n : ℕ) (v : Option NodeMeta) → Paired (gone_works n v)
+paired_gone n None = paired_none
+paired_gone n (Some k) = omega arith
 
 paired_copies : (m : MultiPortGraph) (l : List ℕ) → Paired (copies_gone m l)
 unfolding flat_map
@@ -173,9 +165,9 @@ paired_copies m (c ∷ l) = paired_append (gone_works c (meta_at m.graph c)) (co
 paired_move : (k : NodeMeta) (total : ℕ) → Paired (move_works k total)
 paired_move k total = omega arith
 
-paired_grow : (v : MaybeNodeMeta) → Paired (grow_works v)
-paired_grow maybe_meta.None = paired_none
-paired_grow (maybe_meta.Some k) = paired_if (ltb (k.incoming + k.outgoing + 1) k.capacity) [] (move_works k (k.incoming + k.outgoing + 1)) paired_none (paired_move k (k.incoming + k.outgoing + 1))
+paired_grow : (v : Option NodeMeta) → Paired (grow_works v)
+paired_grow None = paired_none
+paired_grow (Some k) = paired_if (ltb (k.incoming + k.outgoing + 1) k.capacity) [] (move_works k (k.incoming + k.outgoing + 1)) paired_none (paired_move k (k.incoming + k.outgoing + 1))
 
 paired_prepare : (m : MultiPortGraph) (p : ℕ) (d : Direction) → Paired (prepare_works m p d)
 unfolding prepare_works reuse_works
@@ -201,23 +193,23 @@ paired_clean m a b (visible n d) hidden = paired_none
 paired_clean m a b (visible n d) dead = paired_none
 paired_clean m a b (visible n d) (visible k e) = paired_if (same_side d e) [] (link_seen_works m a b (seen m a) (seen m b)) paired_none (paired_seen m a b (seen m a) (seen m b))
 
-paired_set : (m : MultiPortGraph) (n i o room : ℕ) (v : MaybeNodeMeta) → Paired (told_works m n i o room v)
+paired_set : (m : MultiPortGraph) (n i o room : ℕ) (v : Option NodeMeta) → Paired (told_works m n i o room v)
 unfolding set_works recount_works
-paired_set m n i o room maybe_meta.None = paired_none
-paired_set m n i o room (maybe_meta.Some k) = paired_if (leb _ room) (set_works m n i o) [] (whole (meta_at m.graph n)) paired_none
+paired_set m n i o room None = paired_none
+paired_set m n i o room (Some k) = paired_if (leb _ room) (set_works m n i o) [] (whole (meta_at m.graph n)) paired_none
   where
-    whole : (v : MaybeNodeMeta) → Paired (set_meta_works m i o v)
-    whole maybe_meta.None = paired_none
-    whole (maybe_meta.Some k) =
+    whole : (v : Option NodeMeta) → Paired (set_meta_works m i o v)
+    whole None = paired_none
+    whole (Some k) =
         paired_append (recount_works k i o) (copies_gone m (copies_dropped m k i o))
         (paired_if (same_counts k i o) [] _ paired_none (paired_if (fits_inside k i o) [] (move_works k (i + o)) paired_none (paired_move k (i + o))))
         (paired_copies m (copies_dropped m k i o))
 
-paired_remove : (m : MultiPortGraph) (n : ℕ) (v : MaybeNodeMeta) → Paired (remove_meta_works m n v)
-paired_remove m n maybe_meta.None = paired_none
-paired_remove m n (maybe_meta.Some k) =
-    paired_append (copies_gone m (copies_in m k.first_port.0 (k.incoming + k.outgoing))) (gone_works n (maybe_meta.Some k))
-    (paired_copies m (copies_in m k.first_port.0 (k.incoming + k.outgoing))) (paired_gone n (maybe_meta.Some k))
+paired_remove : (m : MultiPortGraph) (n : ℕ) (v : Option NodeMeta) → Paired (remove_meta_works m n v)
+paired_remove m n None = paired_none
+paired_remove m n (Some k) =
+    paired_append (copies_gone m (copies_in m k.first_port.0 (k.incoming + k.outgoing))) (gone_works n (Some k))
+    (paired_copies m (copies_in m k.first_port.0 (k.incoming + k.outgoing))) (paired_gone n (Some k))
 
 paired_cut : (m : MultiPortGraph) (p : ℕ) (v : Port) → Paired (cut_seen_works m p v)
 unfolding cut_works
@@ -271,29 +263,29 @@ ten_is_no_room (IncompatibleDirections p q d) e = absurd (omega arith)
 ten_is_no_room (AlreadyLinked p) e = absurd (omega arith)
 ten_is_no_room InputWired e = absurd (omega arith)
 
-ten_cut : (v : CutAnswer) → get_or (cut_numbers v) 0 0 ≡ 10 → v ≡ cutting.Refused NoRoom
-ten_cut (cutting.Found s x) e = absurd (omega arith)
-ten_cut cutting.Nothing e = absurd (omega arith)
-ten_cut (cutting.Refused r) e = ap cutting.Refused (ten_is_no_room r e)
+ten_cut : (v : Result (Option (SubportIndex × PortPlace)) Refusal) → get_or (cut_numbers v) 0 0 ≡ 10 → v ≡ Err NoRoom
+ten_cut (Ok (Some (s, x))) e = absurd (omega arith)
+ten_cut (Ok None) e = absurd (omega arith)
+ten_cut (Err r) e = ap Err (ten_is_no_room r e)
 
-ten_link : (v : LinkAnswer) → get_or (link_numbers v) 0 0 ≡ 10 → v ≡ link.Refused NoRoom
-ten_link (link.Linked x y) e = absurd (omega arith)
-ten_link (link.Refused r) e = ap link.Refused (ten_is_no_room r e)
+ten_link : (v : Result (SubportIndex × SubportIndex) Refusal) → get_or (link_numbers v) 0 0 ≡ 10 → v ≡ Err NoRoom
+ten_link (Ok (x, y)) e = absurd (omega arith)
+ten_link (Err r) e = ap Err (ten_is_no_room r e)
 
 ten_refused : (c : Call) (v : AnswerOf c) → get_or (numbers_of c v) 0 0 ≡ 10 → RefusedBy c v NoRoom
-ten_refused (book.add_call i o) (add.Added n p) e = absurd (omega arith)
-ten_refused (book.add_call i o) (add.Refused r) e = ap add.Refused (ten_is_no_room r e)
-ten_refused (book.remove_call n) remove.Removed e = absurd (omega arith)
-ten_refused (book.remove_call n) (remove.Refused r) e = ap remove.Refused (ten_is_no_room r e)
-ten_refused (book.set_call n i o room) (resize.Set k) e = absurd (omega arith)
-ten_refused (book.set_call n i o room) (resize.Refused r) e = ap resize.Refused (ten_is_no_room r e)
+ten_refused (book.add_call i o) (Ok (n, p)) e = absurd (omega arith)
+ten_refused (book.add_call i o) (Err r) e = ap Err (ten_is_no_room r e)
+ten_refused (book.remove_call n) (Ok tt) e = absurd (omega arith)
+ten_refused (book.remove_call n) (Err r) e = ap Err (ten_is_no_room r e)
+ten_refused (book.set_call n i o room) (Ok k) e = absurd (omega arith)
+ten_refused (book.set_call n i o room) (Err r) e = ap Err (ten_is_no_room r e)
 ten_refused (book.link_call a b) v e = ten_link v e
 ten_refused (book.link_clean_call a b) v e = ten_link v e
 ten_refused (book.link_sub_call p o q r) v e = ten_link v e
 ten_refused (book.cut_call p) v e = ten_cut v e
 ten_refused (book.cut_sub_call p o) v e = ten_cut v e
-ten_refused (book.tidy_call p) tidying.Tidied e = absurd (omega arith)
-ten_refused (book.tidy_call p) (tidying.Refused r) e = ap tidying.Refused (ten_is_no_room r e)
+ten_refused (book.tidy_call p) (Ok tt) e = absurd (omega arith)
+ten_refused (book.tidy_call p) (Err r) e = ap Err (ten_is_no_room r e)
 
 refused_ten : (c : Call) (v : AnswerOf c) → RefusedBy c v NoRoom → get_or (numbers_of c v) 0 0 ≡ 10
 refused_ten (book.add_call i o) v e = ap (λ x. get_or (add_numbers x) 0 0) e

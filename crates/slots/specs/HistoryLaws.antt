@@ -1,5 +1,5 @@
 -- Proofs of the theorems about slots: of any graph of the calls, then of every history, which a graph in hand always is.
-use Rattle.std.specs.Prelude.{◌≡◌, refl, Bool, true, false, List, [], ◌∷◌, ◌++◌, ℕ, leb, length}
+use Rattle.std.specs.Prelude.{◌≡◌, refl, Bool, true, false, List, [], ◌∷◌, ◌++◌, ℕ, leb, length, Result, Ok, Err, Some}
 use Rattle.std.proofs.Common.{sym, ◌∙◌, ap, subst, leb-true, leb-false}
 use Rattle.port_tables.specs.Lists.{Member}
 use Rattle.portgraph.specs.Lookups.{port_link}
@@ -11,7 +11,6 @@ use Rattle.portgraph.specs.PlaceLaws.{port_link_to}
 use Rattle.port_tables.specs.declared.direction.Direction.{Direction}
 use Rattle.port_tables.specs.declared.index.PortIndex.{PortIndex}
 use Rattle.portgraph.specs.declared.portgraph.PortGraph.{PortGraph}
-use Rattle.portgraph.specs.declared.portgraph.PortLink.TheVariants.{Linked}
 use Rattle.multiportgraph.specs.Graph.{empty_graph}
 use Rattle.multiportgraph.specs.Reading.{is_hidden, is_split, copy_side, seen}
 use Rattle.multi_tables.specs.Forms.{visible}
@@ -33,8 +32,8 @@ use Rattle.sheets.specs.declared.sheet.SheetEntry.{SheetEntry}
 use Rattle.files.specs.Layout.{unbytes}
 use Rattle.files.specs.Loading.{build_of, load_answer, load_graph}
 use Rattle.files.specs.LoadTheorems.{load_is_history, refused_load_is_empty}
-use Rattle.files.specs.declared.load.LoadAnswer.{LoadAnswer}
-use Rattle.files.specs.declared.load.LoadAnswer.TheVariants.{Loaded, BadSums, BadLayout, Refused}
+use Rattle.files.specs.declared.load.LoadError.{LoadError}
+use Rattle.files.specs.declared.load.LoadError.TheVariants.{BadSums, BadLayout, Refused}
 use Rattle.slots.specs.Blocks.{Holder, by_node, free, slot_block, blocks_of, slot_list}
 use Rattle.slots.specs.SlotClaims.{Cut, cut_of, cuts_of, SlotsAccounted, SlotsListed, OneForOne, HangsOn, AsksOnly, NeverForPorts, FreedSince, empty_room, works_along}
 use Rattle.slots.specs.SlotHistory.{Item, one_call, whole_sheet, one_load, after_item, after_items, in_hand, after_calls}
@@ -62,7 +61,7 @@ module _ {m : MultiPortGraph} {M : Model} (f : Fine m M) where
 
   hangs_one : (c p q : ℕ) → HangsOn m c p → HangsOn m c q → p ≡ q
   hangs_one c p q a b =
-      let e : Linked (port# p) ≡ Linked (port# q) = sym a ∙ b in
+      let e : Ok (Some (port# p)) ≡ Ok (Some (port# q)) = sym a ∙ b in
       let i : port# p ≡ port# q = cc in
       ap (λ (v : PortIndex). v.0) i
 
@@ -167,14 +166,12 @@ comes_load : (release : Release) (bytes : List ℕ) → Comes (load_graph releas
 unfolding run_under run_from_under
 comes_load release bytes = go (load_answer release bytes) refl
   where
-    refused : (load_answer release bytes ≡ Loaded → ⊥) → Comes (load_graph release bytes)
+    refused : (load_answer release bytes ≡ Ok tt → ⊥) → Comes (load_graph release bytes)
     refused n = (release, [], refused_load_is_empty release bytes n)
 
-    go : (a : LoadAnswer) → load_answer release bytes ≡ a → Comes (load_graph release bytes)
-    go Loaded e = (release, build_of (unbytes bytes), (load_is_history release bytes e).0)
-    go BadSums e = refused (λ q. zero_is_not_one (cc))
-    go BadLayout e = refused (λ q. zero_is_not_one (cc))
-    go (Refused r) e = refused (λ q. zero_is_not_one (cc))
+    go : (a : Result (Unit {0}) LoadError) → load_answer release bytes ≡ a → Comes (load_graph release bytes)
+    go (Ok _) e = (release, build_of (unbytes bytes), (load_is_history release bytes e).0)
+    go (Err _) e = refused (λ q. zero_is_not_one (cc))
 
 comes_item : (m : MultiPortGraph) (i : Item) → Comes m → Comes (after_item m i)
 comes_item m (one_call c) k =

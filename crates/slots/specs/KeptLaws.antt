@@ -1,6 +1,6 @@
 -- No block is ever split or joined: a block of a graph is a block afterwards, whoever has it. First what each change of the single-link
 -- graph does to the blocks of its model; then every call of it; then every call of the multiport graph, which is made of these.
-use Rattle.std.specs.Prelude.{◌≡◌, refl, Bool, true, false, cond, List, [], ◌∷◌, ◌⊎◌, ℕ, ◌+◌, ◌*◌, ◌≤◌, ◌<◌, eqb, leb, ltb}
+use Rattle.std.specs.Prelude.{◌≡◌, refl, Bool, true, false, cond, List, [], ◌∷◌, ◌⊎◌, ℕ, ◌+◌, ◌*◌, ◌≤◌, ◌<◌, eqb, leb, ltb, Option, Some, None, Result, Ok, Err}
 use Rattle.std.proofs.Common.{sym, ◌∙◌, ap, subst, inl, inr, ⊎_elim, arith, eqb-true, ne_eqb, leb-true, ltb-true}
 use Rattle.std.proofs.lemmas.Bool.{eqb-false}
 use Rattle.port_tables.specs.Limits.{node_slots, port_slots, node_ports}
@@ -21,16 +21,16 @@ use Rattle.portgraph.specs.LinkHolds.{LinkSays, UnlinkSays, link_law, unlink_law
 use Rattle.portgraph.specs.SlotHolds.{slot_room, block_room, add_where, add_law, place_holds, remove_slots, remove_law, free_holds, wf_add, wf_remove}
 use Rattle.port_tables.specs.declared.node_entry.NodeMeta.{NodeMeta}
 use Rattle.portgraph.specs.declared.portgraph.PortGraph.{PortGraph}
-use Rattle.portgraph.specs.declared.portgraph.PortLink.{PortLink}
-use Rattle.portgraph.specs.declared.portgraph.PortLink.TheVariants as lower_cut
-use Rattle.portgraph.specs.declared.portgraph.LinkAnswer as lower_link_answer
-use Rattle.portgraph.specs.declared.portgraph.LinkAnswer.TheVariants as lower_link
 use Rattle.portgraph.specs.declared.alloc.NodeAdded.{NodeAdded}
 use Rattle.portgraph.specs.declared.alloc.NodeRemoved.{NodeRemoved}
 use Rattle.portgraph.specs.declared.resize.PortsSet.{PortsSet}
-use Rattle.portgraph.specs.declared.resize.SetAnswer.TheVariants as set_variants
 use Rattle.slots.specs.Blocks.{Holder, by_node, free, SlotBlock, slot_block, blocks_of}
 use Rattle.slots.specs.BlockLaws.{Has, has_some, in_blocks, blocks_lent}
+use Rattle.port_tables.specs.declared.index.PortIndex.{PortIndex}
+use Rattle.portgraph.specs.declared.portgraph.NoSuchPort.{NoSuchPort}
+use Rattle.portgraph.specs.declared.portgraph.LinkError.TheVariants as link_error
+use Rattle.portgraph.specs.declared.resize.SetError.TheVariants as set_error
+use Rattle.portgraph.specs.declared.portgraph.LinkError.{LinkError}
 
 -- The model.
 
@@ -202,28 +202,28 @@ leads_remove g n w =
 pub leads_link : (g : PortGraph) (a b : ℕ) → LeadsOn g (link_ports g a b).graph
 leads_link g a b w = (wf_link g a b w, go (link_ports g a b).graph (link_ports g a b).answer (link_law w.good w.holds a b))
   where
-    go : (g' : PortGraph) (t : lower_link_answer.LinkAnswer) → LinkSays g w.model a b g' t → KeepsBlocks g g'
-    go g' (lower_link.Linked p q) s = by_models w.good w.holds s.0.good s.0.holds (λ f k h x. (h, same f k h x))
+    go : (g' : PortGraph) (t : Result (PortIndex × PortIndex) LinkError) → LinkSays g w.model a b g' t → KeepsBlocks g g'
+    go g' (Ok (p, q)) s = by_models w.good w.holds s.0.good s.0.holds (λ f k h x. (h, same f k h x))
       where
         same : (f k : ℕ) (h : Holder) → Has w.model f k h → Has (link_model w.model s.0.ends.first s.0.ends.second) f k h
         same f k (by_node n) x = x
         same f k free x = x
-    go g' (lower_link.UnknownPort p) s = subst (KeepsBlocks g) (sym s.0) (same_keeps g)
-    go g' (lower_link.UnknownSecondPort q) s = subst (KeepsBlocks g) (sym s.0) (same_keeps g)
-    go g' (lower_link.IncompatibleDirections p q d) s = subst (KeepsBlocks g) (sym s.0) (same_keeps g)
-    go g' (lower_link.AlreadyLinked p) s = subst (KeepsBlocks g) (sym s.0) (same_keeps g)
+    go g' (Err (link_error.UnknownPort p)) s = subst (KeepsBlocks g) (sym s.0) (same_keeps g)
+    go g' (Err (link_error.UnknownSecondPort q)) s = subst (KeepsBlocks g) (sym s.0) (same_keeps g)
+    go g' (Err (link_error.IncompatibleDirections p q d)) s = subst (KeepsBlocks g) (sym s.0) (same_keeps g)
+    go g' (Err (link_error.AlreadyLinked p)) s = subst (KeepsBlocks g) (sym s.0) (same_keeps g)
 
 pub leads_unlink : (g : PortGraph) (p : ℕ) → LeadsOn g (unlink_port g p).graph
 leads_unlink g p w = (wf_unlink g p w, go (unlink_port g p).graph (unlink_port g p).answer (unlink_law w.good w.holds p))
   where
-    go : (g' : PortGraph) (t : PortLink) → UnlinkSays g w.model p g' t → KeepsBlocks g g'
-    go g' (lower_cut.Linked q) s = by_models w.good w.holds s.good s.holds (λ f k h x. (h, same f k h x))
+    go : (g' : PortGraph) (t : Result (Option PortIndex) NoSuchPort) → UnlinkSays g w.model p g' t → KeepsBlocks g g'
+    go g' (Ok (Some q)) s = by_models w.good w.holds s.good s.holds (λ f k h x. (h, same f k h x))
       where
         same : (f k : ℕ) (h : Holder) → Has w.model f k h → Has (unlink_model w.model s.near) f k h
         same f k (by_node n) x = x
         same f k free x = x
-    go g' lower_cut.Unlinked s = subst (KeepsBlocks g) (sym s.0) (same_keeps g)
-    go g' (lower_cut.UnknownPort q) s = subst (KeepsBlocks g) (sym s.0) (same_keeps g)
+    go g' (Ok None) s = subst (KeepsBlocks g) (sym s.0) (same_keeps g)
+    go g' (Err q) s = subst (KeepsBlocks g) (sym s.0) (same_keeps g)
 
 inside_fits : (m : NodeMeta) (i o : ℕ) → fits_inside m i o ≡ true → i + o ≤ m.capacity
 unfolding fits_inside
@@ -256,7 +256,7 @@ leads_set g n i o room w = (
         (anew_holds w.good w.holds n m e i o (round_up (i + o)) fit some small space) (keeps_move w.good n m e i o (round_up (i + o)) some)
     by_counts m e few false false false q r = same_keeps g
 
-    by_room : (m : NodeMeta) → w.model.node n ≡ live m → i + o ≤ node_ports → (b : Bool) → KeepsBlocks g (set_by g n i o (cond b (plan_live w.model i o m (same_counts m i o) (fits_inside m i o) (block_room w.model (round_up (i + o)))) (refuse set_variants.MovesTooShort))).graph
+    by_room : (m : NodeMeta) → w.model.node n ≡ live m → i + o ≤ node_ports → (b : Bool) → KeepsBlocks g (set_by g n i o (cond b (plan_live w.model i o m (same_counts m i o) (fits_inside m i o) (block_room w.model (round_up (i + o)))) (refuse (Err set_error.MovesTooShort)))).graph
     by_room m e few true = by_counts m e few (same_counts m i o) (fits_inside m i o) (block_room w.model (round_up (i + o))) refl refl
     by_room m e few false = same_keeps g
 

@@ -1,5 +1,5 @@
 -- Steps of the loops that lay blocks, and of the walk that lists them, over plain values.
-use Rattle.std.specs.Prelude.{◌≡◌, Bool, true, false, ltb, length, replicate, set}
+use Rattle.std.specs.Prelude.{◌≡◌, Bool, true, false, ltb, length, replicate, Option, Some, None}
 use Rattle.std.proofs.Math.Path.{refl, sym, ap}
 use Rattle.std.proofs.Common.{◌∙◌, eq-eqb, ne_eqb, ltb-true, ltb-false}
 use mathlib.Core.List.{List, [], ◌∷◌, ◌++◌, flat_map}
@@ -17,8 +17,6 @@ use Rattle.port_tables.specs.NodeWords.{slots_in, meta_in}
 use Rattle.portgraph.specs.LentSteps.{meta_read}
 use Rattle.port_tables.specs.declared.lent.Counts.{Counts}
 use Rattle.port_tables.specs.declared.node_entry.NodeMeta.{NodeMeta}
-use Rattle.port_tables.specs.declared.node_entry.MaybeNodeMeta.{MaybeNodeMeta}
-use Rattle.port_tables.specs.declared.node_entry.MaybeNodeMeta.TheVariants as maybe_meta
 use Rattle.multiportgraph.specs.WellFormed.{MultiWf}
 use Rattle.multiportgraph.specs.MultiLent.{multi_in}
 use Rattle.multiportgraph.specs.declared.lent.Totals.{Totals}
@@ -219,22 +217,15 @@ module _ (sizes holders : List ℕ) {whole : List SlotBlock} {l₀ l : List ℕ}
       let n : port_slots - count ≡ 0 = omega arith in
       ended count (walk_blocks sizes holders slot (port_slots - count)) (ap (walk_blocks sizes holders slot) n) x
 
--- three stores in a row
-pub stored_three : (l : List ℕ) (p a b c : ℕ) → set (set (set l p a) (p + 1) b) (p + 2) c ≡ sets l p (a ∷ b ∷ c ∷ [])
-stored_three l p a b c =
-    let e1 : p + 1 ≡ suc p = omega arith in
-    let e2 : p + 2 ≡ suc (suc p) = omega arith in
-    rw (e1, e2)
-
 -- The block of a node: none where it is not live or has no slot.
-module _ (nodes : List ℕ) (n : ℕ) (v : MaybeNodeMeta) (s h : List ℕ) where
-  pub node_gone : v ≡ meta_in nodes n → v ≡ maybe_meta.None → LaysBoth (node_holds n (meta_in nodes n)) s h s h
+module _ (nodes : List ℕ) (n : ℕ) (v : Option NodeMeta) (s h : List ℕ) where
+  pub node_gone : v ≡ meta_in nodes n → v ≡ None → LaysBoth (node_holds n (meta_in nodes n)) s h s h
   node_gone e z = rw (sym e ∙ z) (lays_none s h)
 
-  pub node_blockless : (k : NodeMeta) → v ≡ meta_in nodes n → v ≡ maybe_meta.Some k → k.capacity ≡ 0 → LaysBoth (node_holds n (meta_in nodes n)) s h s h
+  pub node_blockless : (k : NodeMeta) → v ≡ meta_in nodes n → v ≡ Some k → k.capacity ≡ 0 → LaysBoth (node_holds n (meta_in nodes n)) s h s h
   node_blockless k e f z = rw (sym e ∙ f, eq-eqb k.capacity 0 z) (lays_none s h)
 
-  pub node_block : (k : NodeMeta) {s' h' : List ℕ} → v ≡ meta_in nodes n → v ≡ maybe_meta.Some k → (k.capacity ≡ 0 → ⊥) →
+  pub node_block : (k : NodeMeta) {s' h' : List ℕ} → v ≡ meta_in nodes n → v ≡ Some k → (k.capacity ≡ 0 → ⊥) →
       LaysBoth (slot_block k.first_port.0 k.capacity (holder_of (n + 1)) ∷ []) s h s' h' → LaysBoth (node_holds n (meta_in nodes n)) s h s' h'
   node_block k {s'} {h'} e f some x =
       let q : n + 1 ≡ suc n = omega arith in

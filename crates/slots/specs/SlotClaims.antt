@@ -1,5 +1,5 @@
 -- The words of the theorems about slots.
-use Rattle.std.specs.Prelude.{◌≡◌, Bool, true, false, cond, List, [], ◌∷◌, ◌++◌, map, ℕ, ◌+◌, ◌<◌, ◌≤◌, eqb, get_or}
+use Rattle.std.specs.Prelude.{◌≡◌, Bool, true, false, cond, List, [], ◌∷◌, ◌++◌, map, ℕ, ◌+◌, ◌<◌, ◌≤◌, eqb, get_or, Some, Ok}
 use Rattle.port_tables.specs.Lists.{Member, Once, Rising}
 use Rattle.portgraph.specs.Model.{Model}
 use Rattle.port_tables.specs.Tables.{Within}
@@ -9,7 +9,6 @@ use Rattle.portgraph.specs.Meaning.{first_or}
 use Rattle.portgraph.specs.Lookups.{port_link}
 use Rattle.port_tables.specs.Entries.{port#}
 use Rattle.port_tables.specs.declared.direction.Direction.{Direction}
-use Rattle.portgraph.specs.declared.portgraph.PortLink.TheVariants.{Linked}
 use Rattle.multiportgraph.specs.Reading.{is_hidden, is_split, seen, port_of, copy_side}
 use Rattle.multi_tables.specs.Forms.{visible}
 use Rattle.multiportgraph.specs.WellFormed.{Fine}
@@ -138,7 +137,7 @@ pub data FreedSince (first size : ℕ) : Room → List Work → Type 0 where
 
 -- a hidden node hangs on a port: its copy port is linked with it
 abbrev pub HangsOn : MultiPortGraph → ℕ → ℕ → Type 0
-HangsOn m c p = port_link m.graph (port_of m.graph c (copy_side m c) 0) ≡ Linked (port# p)
+HangsOn m c p = port_link m.graph (port_of m.graph c (copy_side m c) 0) ≡ Ok (Some (port# p))
 
 -- a port of a block
 abbrev pub OfBlock : MultiPortGraph → ℕ → Type 0

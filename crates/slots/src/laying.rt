@@ -1,25 +1,14 @@
 // Each block of a graph lays its size, and who has it, at its first slot in two lent tables.
 ghost use Rattle.std.specs.Prelude.{◌≡◌, [], ◌∷◌, ◌<◌};
 ghost use Rattle.port_tables.specs.Limits.{node_slots, port_slots};
-ghost use Rattle.port_tables.specs.Tables.{put};
 ghost use Rattle.port_tables.specs.NodeWords.{meta_in};
 ghost use Rattle.slots.specs.Blocks.{slot_block, holder_of, node_holds};
 ghost use Rattle.slots.specs.Forms.{taken_in, list_from, free_in, LaysBoth};
 
 use port_tables::index::{FREE_LISTS, NODE_PORTS, NODE_SLOTS, PORT_SLOTS};
 use port_tables::lent::{NODE_WORDS, meta_in};
-use port_tables::node_entry::MaybeNodeMeta;
 use port_tables::numbers::wide;
-use port_tables::tables::{at, head_at};
-
-// Stores a number at a slot; outside nothing changes.
-fn put(table: &mut [u32; PORT_SLOTS], slot: usize, value: u32)
-    ensures { table.new ≡ put table.old slot value }
-{
-    if slot < PORT_SLOTS {
-        table[slot] = value;
-    }
-}
+use port_tables::tables::{at, head_at, put};
 
 // Lays one block; its holder is 0 for a free one, else one higher than the node.
 fn lay_block(
@@ -46,7 +35,7 @@ fn lay_node(
     requires { node < node_slots }
     ensures { LaysBoth (node_holds node (meta_in nodes.now node)) sizes.old holders.old sizes.new holders.new }
 {
-    let MaybeNodeMeta::Some(meta) = meta_in(nodes, node) else {
+    let Some(meta) = meta_in(nodes, node) else {
         return;
     };
     if meta.capacity == 0 {
@@ -69,10 +58,8 @@ pub(crate) fn lay_nodes(
 )
     ensures { LaysBoth (taken_in nodes.now) sizes.old holders.old sizes.new holders.new }
 {
-    let mut n: usize = 0;
-    while n < NODE_SLOTS {
+    for n in 0..NODE_SLOTS {
         lay_node(sizes, holders, nodes, n as u32);
-        n += 1;
     }
 }
 
@@ -87,15 +74,13 @@ fn lay_list(
     ensures { LaysBoth (list_from links.now head size port_slots) sizes.old holders.old sizes.new holders.new }
 {
     let mut next = head;
-    let mut count: usize = 0;
-    while count < PORT_SLOTS {
+    for _count in 0..PORT_SLOTS {
         if next == 0 {
             return;
         }
         let first = next - 1;
         lay_block(sizes, holders, first, size, 0);
         next = at(links, wide(first));
-        count += 1;
     }
 }
 
@@ -108,10 +93,8 @@ pub(crate) fn lay_lists<'a>(
 )
     ensures { LaysBoth (free_in links.now heads.now) sizes.old holders.old sizes.new holders.new }
 {
-    let mut size: usize = 1;
-    while size <= NODE_PORTS {
+    for size in 1..=NODE_PORTS {
         let head = head_at(heads, size);
         lay_list(sizes, holders, links, head, size as u32);
-        size += 1;
     }
 }

@@ -24,9 +24,7 @@ fn put_three(list: &mut [u32; LIST_NUMBERS], place: usize, a: u32, b: u32, c: u3
     requires { place + 3 ≤ list_numbers }
     ensures { list.new ≡ sets list.old place (a ∷ b ∷ c ∷ []) }
 {
-    list[place] = a;
-    list[place + 1] = b;
-    list[place + 2] = c;
+    list[place..place + 3].copy_from_slice(&[a, b, c]);
 }
 
 // Walks what is laid from slot 0 on, until no size is; answers how many blocks there are.
@@ -39,8 +37,7 @@ fn walk<'a>(
         × (list.new ≡ sets list.old 0 (flat_map block_numbers (walk_blocks sizes.now holders.now 0 port_slots))) }
 {
     let mut slot: usize = 0;
-    let mut count: usize = 0;
-    while count < PORT_SLOTS {
+    for count in 0..PORT_SLOTS {
         let size = at(sizes, slot);
         if size == 0 {
             return count;
@@ -48,9 +45,8 @@ fn walk<'a>(
         let holder = at(holders, slot);
         put_three(list, 3 * count, slot as u32, size, holder);
         slot += wide(size);
-        count += 1;
     }
-    count
+    PORT_SLOTS
 }
 
 // Lists the blocks of lent tables.

@@ -1,7 +1,7 @@
 -- What the calls on wires answer is what the book has: a link answers the ends of the wire that it enters, and a cut or a question
 -- answers the other end of the wire at the end named.
 -- Statements: link_answers_the_wire, answers_are_wires, linked_ends_are_found; their words stand first.
-use Rattle.std.specs.Prelude.{◌≡◌, Bool, true, false, cond, List, ◌∷◌, ℕ, ◌+◌, ◌<◌}
+use Rattle.std.specs.Prelude.{◌≡◌, Bool, true, false, cond, List, ◌∷◌, ℕ, ◌+◌, ◌<◌, Option, Some, None, Result, Ok, Err}
 use Rattle.std.proofs.Math.Path.{refl, sym, ap}
 use Rattle.std.proofs.Common.{◌∙◌, subst, inl, inr, arith, lt-ltb}
 use Rattle.port_tables.specs.Lists.{Member}
@@ -12,8 +12,6 @@ use Rattle.portgraph.specs.Model as model
 use Rattle.portgraph.specs.Model.{Model, Far, nowhere, to, Slots, slot_of, count_of, first_of, side_start}
 use Rattle.portgraph.specs.GoodSlots.{zero_is_not_one}
 use Rattle.portgraph.specs.PlaceLaws.{port_link_to, port_link_none}
-use Rattle.portgraph.specs.declared.portgraph.PortLink.{PortLink}
-use Rattle.portgraph.specs.declared.portgraph.PortLink.TheVariants as lower_cut
 use Rattle.port_tables.specs.declared.direction.Direction.{Direction}
 use Rattle.port_tables.specs.declared.direction.Direction.TheVariants.{Incoming, Outgoing}
 use Rattle.port_tables.specs.declared.release.Release.{Release}
@@ -33,10 +31,6 @@ use Rattle.multiportgraph.specs.LinkCutLaws.{LinkSubDone, LinkSubSays, link_sub_
 use Rattle.multiportgraph.specs.SplitLaws.{HasEnd, end_of_wire}
 use Rattle.multiportgraph.specs.declared.multiportgraph.MultiPortGraph.{MultiPortGraph}
 use Rattle.multi_tables.specs.declared.answers.SubportIndex.{SubportIndex}
-use Rattle.multiportgraph.specs.declared.multiportgraph.LinkAnswer.TheVariants as link
-use Rattle.multi_tables.specs.declared.answers.CutAnswer.TheVariants as cutting
-use Rattle.multi_tables.specs.declared.answers.EndAnswer.{EndAnswer}
-use Rattle.multi_tables.specs.declared.answers.EndAnswer.TheVariants as end
 use Rattle.multiportgraph.specs.declared.multiportgraph.PortsLinked.{PortsLinked}
 use Rattle.multiportgraph.specs.declared.multiportgraph.PortUnlinked.{PortUnlinked}
 use Rattle.multi_tables.specs.declared.answers.Refusal.TheVariants.{BadOffset}
@@ -49,6 +43,9 @@ use Rattle.theorems.proofs.WireRule.{Rel, OneMore, ports_link, subports_link, se
 use Rattle.theorems.proofs.CallLaws.{rel_step, rel_run}
 use Rattle.theorems.specs.ListedLinks.{end_named_lem}
 use Rattle.theorems.specs.AnswerClaims.{wire_between, AnswersItsWire, PortOfBlock, EndThere, SubportThere, asked, cut_answer, EndsFound, AsksTheBook, cut_far, CutsTheBook, AnswersAreWires}
+use Rattle.port_tables.specs.declared.index.PortIndex.{PortIndex}
+use Rattle.portgraph.specs.declared.portgraph.NoSuchPort.{NoSuchPort}
+use Rattle.multi_tables.specs.declared.answers.Refusal.{Refusal}
 
 -- Places after a link.
 
@@ -105,7 +102,7 @@ lowest {m} {M} {B} r x p o s at lower free =
 
 -- Links.
 
-link_sub_done : {m : MultiPortGraph} {M : Model} → Fine m M → (p o q t : ℕ) (x y : SubportIndex) → (link_sub m p o q t).answer ≡ link.Linked x y →
+link_sub_done : {m : MultiPortGraph} {M : Model} → Fine m M → (p o q t : ℕ) (x y : SubportIndex) → (link_sub m p o q t).answer ≡ Ok (x, y) →
     LinkSubDone m M (link_sub m p o q t).graph p o q t x y
 link_sub_done {m} {M} f p o q t x y h = subst (LinkSubSays m M p o q t (link_sub m p o q t).graph) h (link_sub_law f p o q t)
 
@@ -185,29 +182,29 @@ module _ {m : MultiPortGraph} {M : Model} (f : Fine m M) {p o : ℕ} (h : EndThe
       ∙ sym (subport_is f end_meant.end b.place (cond (is_split m (slot_of M.node b.place)) o 0) end_meant.is_end end_meant.is)
 
   -- what it is linked with
-  link_meant : (y : model.InnerPlace) → M.join end_meant.end ≡ to y → port_link m.graph h.in_port ≡ lower_cut.Linked (port# (slot_of M.node y))
+  link_meant : (y : model.InnerPlace) → M.join end_meant.end ≡ to y → port_link m.graph h.in_port ≡ Ok (Some (port# (slot_of M.node y)))
   link_meant y j = ap (port_link m.graph) (sym end_meant.slot) ∙ port_link_to f.good f.holds end_meant.end y end_meant.is_end.valid j
 
-  free_meant : M.join end_meant.end ≡ nowhere → port_link m.graph h.in_port ≡ lower_cut.Unlinked
+  free_meant : M.join end_meant.end ≡ nowhere → port_link m.graph h.in_port ≡ Ok None
   free_meant j = ap (port_link m.graph) (sym end_meant.slot) ∙ port_link_none f.good f.holds end_meant.end end_meant.is_end.valid j
 
-  asked_is : (v : PortLink) → port_link m.graph h.in_port ≡ v → subport_link m p o ≡ far_subport m v
+  asked_is : (v : Result (Option PortIndex) NoSuchPort) → port_link m.graph h.in_port ≡ v → subport_link m p o ≡ far_subport m v
   asked_is v k = subport_link_cases m p o ∙ rw (lt-ltb o 65535 (omega arith), h.shown, h.there) (ap (far_subport m) k)
 
-  pub asked_linked : (y : model.InnerPlace) → M.join end_meant.end ≡ to y → subport_link m p o ≡ cutting.Found (subport_of m (slot_of M.node y)) (standing_of m (slot_of M.node y))
+  pub asked_linked : (y : model.InnerPlace) → M.join end_meant.end ≡ to y → subport_link m p o ≡ Ok (Some (subport_of m (slot_of M.node y), standing_of m (slot_of M.node y)))
   asked_linked y j = asked_is _ (link_meant y j)
 
-  pub asked_far : (y : model.InnerPlace) → M.join end_meant.end ≡ to y → asked m p o ≡ end.Found (subport_of m (slot_of M.node y))
+  pub asked_far : (y : model.InnerPlace) → M.join end_meant.end ≡ to y → asked m p o ≡ Ok (Some (subport_of m (slot_of M.node y)))
   asked_far y j = ap unplaced (asked_linked y j)
 
-  asked_free : M.join end_meant.end ≡ nowhere → subport_link m p o ≡ cutting.Nothing
+  asked_free : M.join end_meant.end ≡ nowhere → subport_link m p o ≡ Ok None
   asked_free j = asked_is _ (free_meant j)
 
-  asked_none : M.join end_meant.end ≡ nowhere → asked m p o ≡ end.Nothing
+  asked_none : M.join end_meant.end ≡ nowhere → asked m p o ≡ Ok None
   asked_none j = ap unplaced (asked_free j)
 
   -- the link behind an answer
-  pub found_link : (t : SubportIndex) → asked m p o ≡ end.Found t →
+  pub found_link : (t : SubportIndex) → asked m p o ≡ Ok (Some t) →
       (y : model.InnerPlace) × (M.join end_meant.end ≡ to y) × (t ≡ subport_of m (slot_of M.node y))
   found_link t a = go (M.join end_meant.end) refl
     where
@@ -215,7 +212,7 @@ module _ {m : MultiPortGraph} {M : Model} (f : Fine m M) {p o : ℕ} (h : EndThe
       go nowhere j = let k = asked_none j in absurd (zero_is_not_one (cc))
       go (to y) j = let k = asked_far y j in (y, j, cc)
 
-  nothing_link : asked m p o ≡ end.Nothing → M.join end_meant.end ≡ nowhere
+  nothing_link : asked m p o ≡ Ok None → M.join end_meant.end ≡ nowhere
   nothing_link a = go (M.join end_meant.end) refl
     where
       go : (v : Far) → M.join end_meant.end ≡ v → M.join end_meant.end ≡ nowhere
@@ -307,21 +304,21 @@ module _ {m : MultiPortGraph} {M : Model} {B : Book} (r : Rel m M B) {p o : ℕ}
       let c : outer m M y ≡ place_of m t = sym (ap (place_of m) is ∙ subport_of_lem r.fine y (far_end r.fine h y j)) in
       λ i. wire_of_sides (a i) (b i) (c i)
 
-  pub found_booked : (t : SubportIndex) → asked m p o ≡ end.Found t → Member (wire_between m (as_read m p o) t) B.wires
+  pub found_booked : (t : SubportIndex) → asked m p o ≡ Ok (Some t) → Member (wire_between m (as_read m p o) t) B.wires
   found_booked t a =
       let k = found_link r.fine h t a in
       r.wires.walks (wire_between m (as_read m p o) t)
       (subst (WireIn m M) (wire_asked k.0 k.1 t k.2) (wire_of_link r.fine meant meant_is k.0 k.1))
 
-  found_there_lem : (t : SubportIndex) → asked m p o ≡ end.Found t → SubportThere m t
+  found_there_lem : (t : SubportIndex) → asked m p o ≡ Ok (Some t) → SubportThere m t
   found_there_lem t a =
       let k = found_link r.fine h t a in
       subst (SubportThere m) (sym k.2) (subport_there r.fine k.0 (far_end r.fine h k.0 k.1))
 
-  found_shown : (t : SubportIndex) → asked m p o ≡ end.Found t → PortOfBlock m t.port.0
+  found_shown : (t : SubportIndex) → asked m p o ≡ Ok (Some t) → PortOfBlock m t.port.0
   found_shown t a = let g = (found_there_lem t a).0 in (g.node, g.side, g.shown)
 
-  booked_found : (t : SubportIndex) → PortOfBlock m t.port.0 → Member (wire_between m (as_read m p o) t) B.wires → asked m p o ≡ end.Found t
+  booked_found : (t : SubportIndex) → PortOfBlock m t.port.0 → Member (wire_between m (as_read m p o) t) B.wires → asked m p o ≡ Ok (Some t)
   booked_found t b i =
       let x = block_seen r.fine t.port.0 b.0 b.1 b.2 in
       let d = (place_of m (as_read m p o)).side in
@@ -330,21 +327,20 @@ module _ {m : MultiPortGraph} {M : Model} {B : Book} (r : Rel m M B) {p o : ℕ}
       let k = link_of_wire r.fine meant meant_is d (place_of m t) w in
       let at = place_at r.fine x.place x.is_seen t.port.0 t.subport_offset x.slot in
       asked_far r.fine h k.0 k.1
-      ∙ ap end.Found
-      (subport_is r.fine k.0 x.place t.subport_offset (far_end r.fine h k.0 k.1) (sym k.2 ∙ at)
+      ∙ ap (λ (s : SubportIndex). Ok (Some s)) (subport_is r.fine k.0 x.place t.subport_offset (far_end r.fine h k.0 k.1) (sym k.2 ∙ at)
       ∙ ap (λ (c : ℕ). subport# c t.subport_offset) x.slot)
 
-  nothing_booked : asked m p o ≡ end.Nothing → (w : Wire) → Member w B.wires → HasEnd w (place_of m (as_read m p o)) → ⊥
+  nothing_booked : asked m p o ≡ Ok None → (w : Wire) → Member w B.wires → HasEnd w (place_of m (as_read m p o)) → ⊥
   nothing_booked a w i b =
       let j = nothing_link r.fine h a in
       let k = link_of_end_lem r.fine meant meant_is w (r.wires.booked w i) (subst (HasEnd w) (place_meant r.fine h) b) in
       let g = k.1 in
       zero_is_not_one (cc)
 
-  booked_nothing : ((w : Wire) → Member w B.wires → HasEnd w (place_of m (as_read m p o)) → ⊥) → asked m p o ≡ end.Nothing
+  booked_nothing : ((w : Wire) → Member w B.wires → HasEnd w (place_of m (as_read m p o)) → ⊥) → asked m p o ≡ Ok None
   booked_nothing none = go (M.join meant) refl
     where
-      go : (v : Far) → M.join meant ≡ v → asked m p o ≡ end.Nothing
+      go : (v : Far) → M.join meant ≡ v → asked m p o ≡ Ok None
       go nowhere j = asked_none r.fine h j
       go (to y) j =
           let w = wire_of_sides meant.side (outer m M meant) (outer m M y) in
@@ -352,13 +348,13 @@ module _ {m : MultiPortGraph} {M : Model} {B : Book} (r : Rel m M B) {p o : ℕ}
           (none w (r.wires.walks w (wire_of_link r.fine meant meant_is y j))
           (subst (HasEnd w) (sym (place_meant r.fine h)) (first_of_wire meant.side (outer m M meant) (outer m M y))))
 
-  found_back_lem : (t : SubportIndex) → asked m p o ≡ end.Found t → asked m t.port.0 t.subport_offset ≡ end.Found (as_read m p o)
+  found_back_lem : (t : SubportIndex) → asked m p o ≡ Ok (Some t) → asked m t.port.0 t.subport_offset ≡ Ok (Some (as_read m p o))
   found_back_lem t a =
       let k = found_link r.fine h t a in
       let g = found_there_lem t a in
       let z = there_meant r.fine k.0 (far_end r.fine h k.0 k.1) t k.2 g in
       asked_far r.fine g.0 meant (ap M.join z ∙ r.fine.good.join_back meant k.0 k.1)
-      ∙ ap end.Found (sym (read_meant r.fine h))
+      ∙ ap (λ (s : SubportIndex). Ok (Some s)) (sym (read_meant r.fine h))
 
 asks_the_book : (s : State) (M : Model) → Rel s.graph M s.book → (p o : ℕ) → EndThere s.graph p o → AsksTheBook s p o
 asks_the_book s M r p o h =
@@ -386,16 +382,16 @@ cut_sub_answers m p o =
     ports hidden = refl
     ports (visible n d) = ends (end_at m p d o)
 
-    offset : (b : Bool) → (cond b (cut_sub_seen m p o (seen m p)) (cut_refused m BadOffset)).answer ≡ cond b (link_of_seen m p o (seen m p)) (cutting.Refused BadOffset)
+    offset : (b : Bool) → (cond b (cut_sub_seen m p o (seen m p)) (cut_refused m BadOffset)).answer ≡ cond b (link_of_seen m p o (seen m p)) (Err BadOffset)
     offset true = ports (seen m p)
     offset false = refl
 
 -- a split port answers itself, an unsplit one its inner link
 module _ (m : MultiPortGraph) (p : ℕ) (b : PortOfBlock m p) where
-  pub cut_split : is_split m p ≡ true → (cut_port m p).answer ≡ cutting.Found (subport# p 0) (standing m (subport# p 0))
+  pub cut_split : is_split m p ≡ true → (cut_port m p).answer ≡ Ok (Some (subport# p 0, standing m (subport# p 0)))
   cut_split t = ap (λ (v : PortUnlinked). v.answer) (cut_cases m p) ∙ rw (b.2, t) refl
 
-  cut_plain_lem : is_split m p ≡ false → (v : PortLink) → port_link m.graph p ≡ v → (cut_port m p).answer ≡ cut_plain m v
+  cut_plain_lem : is_split m p ≡ false → (v : Result (Option PortIndex) NoSuchPort) → port_link m.graph p ≡ v → (cut_port m p).answer ≡ cut_plain m v
   unfolding unlink_port
   cut_plain_lem t v h = ap (λ (v : PortUnlinked). v.answer) (cut_cases m p) ∙ rw (b.2, t) (ap (cut_plain m) h)
 
@@ -420,16 +416,16 @@ module _ {m : MultiPortGraph} {M : Model} {B : Book} (r : Rel m M B) (p : ℕ) (
   read_plain = rw t refl
 
   pub cut_linked : (y : model.InnerPlace) → M.join itself ≡ to y →
-      (cut_port m p).answer ≡ cutting.Found (subport# (slot_of M.node y) 0) (standing_of m (slot_of M.node y))
+      (cut_port m p).answer ≡ Ok (Some (subport# (slot_of M.node y) 0, standing_of m (slot_of M.node y)))
   cut_linked y j = cut_plain_lem m p b t _ (link_meant r.fine here y j)
 
-  pub cut_free : M.join itself ≡ nowhere → (cut_port m p).answer ≡ cutting.Nothing
+  pub cut_free : M.join itself ≡ nowhere → (cut_port m p).answer ≡ Ok None
   cut_free j = cut_plain_lem m p b t _ (free_meant r.fine here j)
 
-  cut_far_lem : (y : model.InnerPlace) → M.join itself ≡ to y → cut_answer m p ≡ end.Found (subport# (slot_of M.node y) 0)
+  cut_far_lem : (y : model.InnerPlace) → M.join itself ≡ to y → cut_answer m p ≡ Ok (Some (subport# (slot_of M.node y) 0))
   cut_far_lem y j = ap unplaced (cut_linked y j)
 
-  cut_none : M.join itself ≡ nowhere → cut_answer m p ≡ end.Nothing
+  cut_none : M.join itself ≡ nowhere → cut_answer m p ≡ Ok None
   cut_none j = ap unplaced (cut_free j)
 
   plain_answer : cut_answer m p ≡ cut_far m (asked m p 0)
@@ -441,36 +437,36 @@ module _ {m : MultiPortGraph} {M : Model} {B : Book} (r : Rel m M B) (p : ℕ) (
           cut_far_lem y j
           ∙ sym
           (ap (cut_far m) (asked_far r.fine here y j)
-          ∙ ap (λ (q : ℕ). end.Found (subport# q 0)) (inner_of r.fine y (far_end r.fine here y j) _ refl))
+          ∙ ap (λ (q : ℕ). Ok (Some (subport# q 0))) (inner_of r.fine y (far_end r.fine here y j) _ refl))
 
-  plain_read_lem : (q : ℕ) → cut_answer m p ≡ end.Found (subport# q 0) → asked m p 0 ≡ end.Found (subport_of m q)
+  plain_read_lem : (q : ℕ) → cut_answer m p ≡ Ok (Some (subport# q 0)) → asked m p 0 ≡ Ok (Some (subport_of m q))
   plain_read_lem q h = go (M.join itself) refl
     where
-      go : (v : Far) → M.join itself ≡ v → asked m p 0 ≡ end.Found (subport_of m q)
+      go : (v : Far) → M.join itself ≡ v → asked m p 0 ≡ Ok (Some (subport_of m q))
       go nowhere j = let k = cut_none j in absurd (zero_is_not_one (cc))
       go (to y) j =
           let k = cut_far_lem y j in
           let a : subport# (slot_of M.node y) 0 ≡ subport# q 0 = cc in
-          asked_far r.fine here y j ∙ ap (λ (u : SubportIndex). end.Found (subport_of m u.port.0)) a
+          asked_far r.fine here y j ∙ ap (λ (u : SubportIndex). Ok (Some (subport_of m u.port.0))) a
 
-  plain_booked : (u : SubportIndex) → cut_answer m p ≡ end.Found u →
+  plain_booked : (u : SubportIndex) → cut_answer m p ≡ Ok (Some u) →
       (s : SubportIndex) × PortOfBlock m s.port.0 × Member (wire_between m (subport# p 0) s) B.wires
       × (u ≡ subport# (end_of m s.port.0 s.subport_offset) 0)
   plain_booked u h = go (asked m p 0) refl (sym plain_answer ∙ h)
     where
-      go : (v : EndAnswer) → asked m p 0 ≡ v → cut_far m v ≡ end.Found u →
+      go : (v : Result (Option SubportIndex) Refusal) → asked m p 0 ≡ v → cut_far m v ≡ Ok (Some u) →
           (s : SubportIndex) × PortOfBlock m s.port.0 × Member (wire_between m (subport# p 0) s) B.wires
           × (u ≡ subport# (end_of m s.port.0 s.subport_offset) 0)
-      go (end.Found s) k c =
+      go (Ok (Some s)) k c =
           (s, found_shown r here s k, subst (λ (a : SubportIndex). Member (wire_between m a s) B.wires) read_plain (found_booked r here s k), cc)
-      go end.Nothing k c = absurd (zero_is_not_one (cc))
-      go (end.Refused x) k c = absurd (zero_is_not_one (cc))
+      go (Ok None) k c = absurd (zero_is_not_one (cc))
+      go (Err x) k c = absurd (zero_is_not_one (cc))
 
   booked_plain : (u s : SubportIndex) → PortOfBlock m s.port.0 → Member (wire_between m (subport# p 0) s) B.wires →
-      u ≡ subport# (end_of m s.port.0 s.subport_offset) 0 → cut_answer m p ≡ end.Found u
+      u ≡ subport# (end_of m s.port.0 s.subport_offset) 0 → cut_answer m p ≡ Ok (Some u)
   booked_plain u s a i is =
       let k = booked_found r here s a (subst (λ (c : SubportIndex). Member (wire_between m c s) B.wires) (sym read_plain) i) in
-      plain_answer ∙ (ap (cut_far m) k ∙ ap end.Found (sym is))
+      plain_answer ∙ (ap (cut_far m) k ∙ ap (λ (s : SubportIndex). Ok (Some s)) (sym is))
 
   -- wires at an unsplit port have offset 0 there
   plain_offset : (w : Wire) → Member w B.wires → (o : ℕ) → HasEnd w (place_of m (subport# p o)) → 0 ≡ o
@@ -481,18 +477,18 @@ module _ {m : MultiPortGraph} {M : Model} {B : Book} (r : Rel m M B) (p : ℕ) (
       let c = (end_named_lem r.fine x.place k.near o k.end k.is).2 in
       ap (λ (v : Bool). cond v o 0) (sym (ap (is_split m) x.slot ∙ t)) ∙ c
 
-  plain_nothing_lem : cut_answer m p ≡ end.Nothing → (w : Wire) → Member w B.wires → (o : ℕ) → HasEnd w (place_of m (subport# p o)) → ⊥
+  plain_nothing_lem : cut_answer m p ≡ Ok None → (w : Wire) → Member w B.wires → (o : ℕ) → HasEnd w (place_of m (subport# p o)) → ⊥
   plain_nothing_lem h w i o a = go (asked m p 0) refl (sym plain_answer ∙ h)
     where
-      go : (v : EndAnswer) → asked m p 0 ≡ v → cut_far m v ≡ end.Nothing → ⊥
-      go (end.Found s) k c = zero_is_not_one (cc)
-      go end.Nothing k c =
+      go : (v : Result (Option SubportIndex) Refusal) → asked m p 0 ≡ v → cut_far m v ≡ Ok None → ⊥
+      go (Ok (Some s)) k c = zero_is_not_one (cc)
+      go (Ok None) k c =
           nothing_booked r here k w i
           (subst (λ (u : SubportIndex). HasEnd w (place_of m u)) (sym read_plain)
           (subst (λ (v : ℕ). HasEnd w (place_of m (subport# p v))) (sym (plain_offset w i o a)) a))
-      go (end.Refused x) k c = zero_is_not_one (cc)
+      go (Err x) k c = zero_is_not_one (cc)
 
-  nothing_plain : ((w : Wire) → Member w B.wires → (o : ℕ) → HasEnd w (place_of m (subport# p o)) → ⊥) → cut_answer m p ≡ end.Nothing
+  nothing_plain : ((w : Wire) → Member w B.wires → (o : ℕ) → HasEnd w (place_of m (subport# p o)) → ⊥) → cut_answer m p ≡ Ok None
   nothing_plain none =
       plain_answer
       ∙ ap (cut_far m) (booked_nothing r here (λ w i a. none w i 0 (subst (λ (u : SubportIndex). HasEnd w (place_of m u)) read_plain a)))
@@ -557,7 +553,7 @@ linked_found s M r l x y h =
       first_there = u.0;
       second_there = u.1;
       of_first = g;
-      of_second = found_back_lem k.1 u.0.0 y g ∙ ap end.Found u.0.1;
+      of_second = found_back_lem k.1 u.0.0 y g ∙ ap (λ (s : SubportIndex). Ok (Some s)) u.0.1;
     }
 
 -- After an accepted link both subports answered are there, and asking at either one finds the other.

@@ -1,5 +1,5 @@
 -- The bundles of all calls, collected; from them, what holds of every call and of every history.
-use Rattle.std.specs.Prelude.{◌≡◌, refl, false, List, [], ◌∷◌, ◌⊎◌}
+use Rattle.std.specs.Prelude.{◌≡◌, refl, false, List, [], ◌∷◌, ◌⊎◌, Option, Some, None, Result, Ok, Err}
 use Rattle.std.proofs.Common.{inl, inr, ⊎_elim}
 use Rattle.portgraph.specs.Model.{Model}
 use Rattle.portgraph.specs.GoodLaws.{empty_model}
@@ -10,13 +10,6 @@ use Rattle.multiportgraph.specs.WellFormed.{Fine, MultiWf}
 use Rattle.multiportgraph.specs.declared.multiportgraph.MultiPortGraph.{MultiPortGraph}
 use Rattle.multi_tables.specs.declared.answers.SubportIndex.{SubportIndex}
 use Rattle.multi_tables.specs.declared.answers.PortPlace.{PortPlace}
-use Rattle.multiportgraph.specs.declared.multiportgraph.AddAnswer.TheVariants as add
-use Rattle.multiportgraph.specs.declared.multiportgraph.RemoveAnswer.TheVariants as remove
-use Rattle.multiportgraph.specs.declared.multiportgraph.SetAnswer.TheVariants as resize
-use Rattle.multiportgraph.specs.declared.multiportgraph.LinkAnswer.TheVariants as link
-use Rattle.multi_tables.specs.declared.answers.CutAnswer.{CutAnswer}
-use Rattle.multi_tables.specs.declared.answers.CutAnswer.TheVariants as cutting
-use Rattle.multiportgraph.specs.declared.multiportgraph.TidyAnswer.TheVariants as tidying
 use Rattle.multi_tables.specs.declared.answers.Refusal.{Refusal}
 use Rattle.multi_tables.specs.declared.answers.Refusal.TheVariants.{NoRoom}
 use Rattle.multiportgraph.specs.Graph.{empty_graph}
@@ -39,28 +32,28 @@ use Rattle.theorems.proofs.LinkCleanCall.{link_clean_call}
 use Rattle.theorems.proofs.LinkSubCall.{link_sub_call}
 
 -- an answer is one or the other
-cut_or_refused : (v : CutAnswer) → (((s : SubportIndex) × (x : PortPlace) × (v ≡ cutting.Found s x)) ⊎ (v ≡ cutting.Nothing)) ⊎ ((r : Refusal) × (v ≡ cutting.Refused r))
-cut_or_refused (cutting.Found s x) = inl (inl (s, x, refl))
-cut_or_refused cutting.Nothing = inl (inr refl)
-cut_or_refused (cutting.Refused r) = inr (r, refl)
+cut_or_refused : (v : Result (Option (SubportIndex × PortPlace)) Refusal) → (((s : SubportIndex) × (x : PortPlace) × (v ≡ Ok (Some (s, x)))) ⊎ (v ≡ Ok None)) ⊎ ((r : Refusal) × (v ≡ Err r))
+cut_or_refused (Ok (Some (s, x))) = inl (inl (s, x, refl))
+cut_or_refused (Ok None) = inl (inr refl)
+cut_or_refused (Err r) = inr (r, refl)
 
 accepted_or_refused : (c : Call) (v : AnswerOf c) → Accepted c v ⊎ ((r : Refusal) × RefusedBy c v r)
-accepted_or_refused (book.add_call i o) (add.Added n p) = inl (n, p, refl)
-accepted_or_refused (book.add_call i o) (add.Refused r) = inr (r, refl)
-accepted_or_refused (book.remove_call n) remove.Removed = inl refl
-accepted_or_refused (book.remove_call n) (remove.Refused r) = inr (r, refl)
-accepted_or_refused (book.set_call n i o room) (resize.Set e) = inl (e, refl)
-accepted_or_refused (book.set_call n i o room) (resize.Refused r) = inr (r, refl)
-accepted_or_refused (book.link_call a b) (link.Linked s t) = inl (s, t, refl)
-accepted_or_refused (book.link_call a b) (link.Refused r) = inr (r, refl)
-accepted_or_refused (book.link_clean_call a b) (link.Linked s t) = inl (s, t, refl)
-accepted_or_refused (book.link_clean_call a b) (link.Refused r) = inr (r, refl)
-accepted_or_refused (book.link_sub_call p o q t) (link.Linked x y) = inl (x, y, refl)
-accepted_or_refused (book.link_sub_call p o q t) (link.Refused r) = inr (r, refl)
+accepted_or_refused (book.add_call i o) (Ok (n, p)) = inl (n, p, refl)
+accepted_or_refused (book.add_call i o) (Err r) = inr (r, refl)
+accepted_or_refused (book.remove_call n) (Ok tt) = inl refl
+accepted_or_refused (book.remove_call n) (Err r) = inr (r, refl)
+accepted_or_refused (book.set_call n i o room) (Ok e) = inl (e, refl)
+accepted_or_refused (book.set_call n i o room) (Err r) = inr (r, refl)
+accepted_or_refused (book.link_call a b) (Ok (s, t)) = inl (s, t, refl)
+accepted_or_refused (book.link_call a b) (Err r) = inr (r, refl)
+accepted_or_refused (book.link_clean_call a b) (Ok (s, t)) = inl (s, t, refl)
+accepted_or_refused (book.link_clean_call a b) (Err r) = inr (r, refl)
+accepted_or_refused (book.link_sub_call p o q t) (Ok (x, y)) = inl (x, y, refl)
+accepted_or_refused (book.link_sub_call p o q t) (Err r) = inr (r, refl)
 accepted_or_refused (book.cut_call p) v = cut_or_refused v
 accepted_or_refused (book.cut_sub_call p o) v = cut_or_refused v
-accepted_or_refused (book.tidy_call p) tidying.Tidied = inl refl
-accepted_or_refused (book.tidy_call p) (tidying.Refused r) = inr (r, refl)
+accepted_or_refused (book.tidy_call p) (Ok tt) = inl refl
+accepted_or_refused (book.tidy_call p) (Err r) = inr (r, refl)
 
 module _ {m : MultiPortGraph} {M : Model} (f : Fine m M) where
   pub call_law : (c : Call) → CallLaw m M c

@@ -1,11 +1,9 @@
 -- Cutting every wire at a port: its bundle.
-use Rattle.std.specs.Prelude.{◌≡◌, refl, Bool, true, false, ℕ}
+use Rattle.std.specs.Prelude.{◌≡◌, refl, Bool, true, false, ℕ, Option, Some, None, Result, Ok, Err}
 use Rattle.std.proofs.Common.{sym, ◌∙◌, ap, subst}
 use Rattle.portgraph.specs.Model.{Model}
 use Rattle.portgraph.specs.Calls.{unlink_port}
 use Rattle.port_tables.specs.declared.direction.Direction.{Direction}
-use Rattle.portgraph.specs.declared.portgraph.PortLink.{PortLink}
-use Rattle.portgraph.specs.declared.portgraph.PortLink.TheVariants as lower_cut
 use Rattle.multiportgraph.specs.Reading.{is_split, seen}
 use Rattle.multi_tables.specs.Forms.{Port, dead, hidden, visible}
 use Rattle.multiportgraph.specs.Calls.{cut_plain, cut_port}
@@ -13,7 +11,6 @@ use Rattle.theorems.specs.Book as book
 use Rattle.multiportgraph.specs.WellFormed.{Fine}
 use Rattle.multiportgraph.specs.declared.multiportgraph.MultiPortGraph.{MultiPortGraph}
 use Rattle.multi_tables.specs.declared.answers.Refusal.{Refusal}
-use Rattle.multi_tables.specs.declared.answers.CutAnswer.TheVariants as cutting
 use Rattle.multiportgraph.specs.declared.multiportgraph.PortUnlinked.{PortUnlinked}
 use Rattle.port_tables.specs.Places.{at_spot}
 use Rattle.multiportgraph.specs.Cases.{cut_refused, cut_seen}
@@ -24,6 +21,8 @@ use Rattle.theorems.specs.Works.{works_of}
 use Rattle.theorems.specs.Conditions.{CutRefused, CutSays, PortIs, block_port, cut_dead, cut_hidden, hidden_port, no_port}
 use Rattle.theorems.specs.PortCases.{port_is, seen_block_port, seen_hidden_port, seen_none}
 use Rattle.theorems.proofs.CallLaw.{CallLaw, whole}
+use Rattle.port_tables.specs.declared.index.PortIndex.{PortIndex}
+use Rattle.portgraph.specs.declared.portgraph.NoSuchPort.{NoSuchPort}
 
 -- Cutting a port.
 
@@ -38,10 +37,10 @@ module _ {m : MultiPortGraph} {M : Model} (f : Fine m M) (p : ℕ) where
   cut_says : CutSays (CutRefused m M p) (cut_port m p).answer
   cut_says = go (port_is f p)
     where
-      plain : (a : PortLink) → CutSays (CutRefused m M p) (cut_plain m a)
-      plain (lower_cut.Linked q) = tt
-      plain lower_cut.Unlinked = tt
-      plain (lower_cut.UnknownPort q) = tt
+      plain : (a : Result (Option PortIndex) NoSuchPort) → CutSays (CutRefused m M p) (cut_plain m a)
+      plain (Ok (Some q)) = tt
+      plain (Ok None) = tt
+      plain (Err q) = tt
 
       marked : (n : ℕ) (d : Direction) (b : Bool) → is_split m p ≡ b → CutSays (CutRefused m M p) (cut_seen m p (visible n d)).answer
       marked n d true e = rw e tt
@@ -54,7 +53,7 @@ module _ {m : MultiPortGraph} {M : Model} (f : Fine m M) (p : ℕ) where
           subst (λ (v : PortUnlinked). CutSays (CutRefused m M p) v.answer) (sym (cut_is (visible x.node x.side) (seen_block_port f p x b)))
           (marked x.node x.side (is_split m p) refl)
 
-  pub cut_refused_lem : (r : Refusal) → (cut_port m p).answer ≡ cutting.Refused r → CutRefused m M p r
+  pub cut_refused_lem : (r : Refusal) → (cut_port m p).answer ≡ Err r → CutRefused m M p r
   cut_refused_lem r e = subst (CutSays (CutRefused m M p)) e cut_says
 
 module _ {m : MultiPortGraph} {M : Model} (f : Fine m M) where

@@ -1,13 +1,11 @@
 -- Cutting a subport, and what a subport is linked with: the bundle of the one, the refusals of both.
-use Rattle.std.specs.Prelude.{◌≡◌, refl, Bool, true, false, ℕ, ◌≤◌, ◌<◌, ltb}
+use Rattle.std.specs.Prelude.{◌≡◌, refl, Bool, true, false, ℕ, ◌≤◌, ◌<◌, ltb, Option, Some, None, Result, Ok, Err}
 use Rattle.std.proofs.Common.{sym, ◌∙◌, subst, arith, ltb-true, ltb-false, lt-ltb, le-ltb}
 use Rattle.std.proofs.Math.Path.{ap}
 use Rattle.portgraph.specs.Lookups.{port_link}
 use Rattle.portgraph.specs.Model as model
 use Rattle.portgraph.specs.Model.{Model}
 use Rattle.portgraph.specs.Calls.{unlink_port}
-use Rattle.portgraph.specs.declared.portgraph.PortLink.{PortLink}
-use Rattle.portgraph.specs.declared.portgraph.PortLink.TheVariants as lower_cut
 use Rattle.multiportgraph.specs.Reading.{is_split, seen, end_at, far_subport, link_of_end}
 use Rattle.multi_tables.specs.Forms.{Port, dead, hidden, visible, End, inner, lacking}
 use Rattle.multiportgraph.specs.Calls.{cut_sub, subport_link}
@@ -16,7 +14,6 @@ use Rattle.theorems.specs.Book.{read_by}
 use Rattle.multiportgraph.specs.WellFormed.{Fine}
 use Rattle.multiportgraph.specs.declared.multiportgraph.MultiPortGraph.{MultiPortGraph}
 use Rattle.multi_tables.specs.declared.answers.Refusal.{Refusal}
-use Rattle.multi_tables.specs.declared.answers.CutAnswer.TheVariants as cutting
 use Rattle.multiportgraph.specs.declared.multiportgraph.PortUnlinked.{PortUnlinked}
 use Rattle.port_tables.specs.Places.{at_end}
 use Rattle.multiportgraph.specs.Cases.{cut_refused, cut_end, cut_sub_seen, link_of_seen}
@@ -28,6 +25,8 @@ use Rattle.theorems.specs.Works.{works_of}
 use Rattle.theorems.specs.Conditions.{CutSays, OfBlock, PortIs, SubRefused, block_port, hidden_port, no_port, sub_dead, sub_hidden, sub_lacks, sub_offset}
 use Rattle.theorems.specs.PortCases.{is_lacking, lacks_is, port_is, seen_block_port, seen_hidden_port, seen_none}
 use Rattle.theorems.proofs.CallLaw.{CallLaw, whole}
+use Rattle.port_tables.specs.declared.index.PortIndex.{PortIndex}
+use Rattle.portgraph.specs.declared.portgraph.NoSuchPort.{NoSuchPort}
 
 -- Cutting a subport, and what it is linked with.
 
@@ -45,17 +44,17 @@ module _ {m : MultiPortGraph} {M : Model} (f : Fine m M) (p o : ℕ) where
   cut_sub_refuses r (sub_hidden h k) = cut_sub_is h hidden (seen_hidden_port f p k)
   cut_sub_refuses r (sub_lacks h x b l) = cut_sub_is h (visible x.node x.side) (seen_block_port f p x b) ∙ ap (cut_end m p) (lacks_is f p x o b l)
 
-  pub subport_link_refuses : (r : Refusal) → SubRefused m M p o r → subport_link m p o ≡ cutting.Refused r
+  pub subport_link_refuses : (r : Refusal) → SubRefused m M p o r → subport_link m p o ≡ Err r
   unfolding subport_link
   subport_link_refuses r (sub_offset h) = rw (le-ltb o 65535 (omega arith))
   subport_link_refuses r (sub_dead h d) = link_of_is h dead (seen_none f p d)
   subport_link_refuses r (sub_hidden h k) = link_of_is h hidden (seen_hidden_port f p k)
   subport_link_refuses r (sub_lacks h x b l) = link_of_is h (visible x.node x.side) (seen_block_port f p x b) ∙ ap (link_of_end m p) (lacks_is f p x o b l)
 
-  far_says : (a : PortLink) → CutSays (SubRefused m M p o) (far_subport m a)
-  far_says (lower_cut.Linked q) = tt
-  far_says lower_cut.Unlinked = tt
-  far_says (lower_cut.UnknownPort q) = tt
+  far_says : (a : Result (Option PortIndex) NoSuchPort) → CutSays (SubRefused m M p o) (far_subport m a)
+  far_says (Ok (Some q)) = tt
+  far_says (Ok None) = tt
+  far_says (Err q) = tt
 
   -- the call refuses with its condition, or the end is there
   data SubCases : Type 0 where
@@ -75,7 +74,7 @@ module _ {m : MultiPortGraph} {M : Model} (f : Fine m M) (p o : ℕ) where
       go true (hidden_port k) e = let h : o < 65535 = ltb-true _ _ e in refused_so _ (sub_hidden (omega arith) k)
       go true (block_port x b) e = let h : o < 65535 = ltb-true _ _ e in ended x (omega arith) b (end_at m p x.side o) refl
 
-  pub cut_sub_refused : (r : Refusal) → (cut_sub m p o).answer ≡ cutting.Refused r → SubRefused m M p o r
+  pub cut_sub_refused : (r : Refusal) → (cut_sub m p o).answer ≡ Err r → SubRefused m M p o r
   cut_sub_refused r e = subst (CutSays (SubRefused m M p o)) e (go sub_cases)
     where
       go : SubCases → CutSays (SubRefused m M p o) (cut_sub m p o).answer
@@ -85,7 +84,7 @@ module _ {m : MultiPortGraph} {M : Model} (f : Fine m M) (p o : ℕ) where
           (sym (cut_sub_is h (visible x.node x.side) (seen_block_port f p x b) ∙ ap (cut_end m p) e))
           (far_says (unlink_port m.graph u).answer)
 
-  pub subport_link_refused : (r : Refusal) → subport_link m p o ≡ cutting.Refused r → SubRefused m M p o r
+  pub subport_link_refused : (r : Refusal) → subport_link m p o ≡ Err r → SubRefused m M p o r
   subport_link_refused r e = subst (CutSays (SubRefused m M p o)) e (go sub_cases)
     where
       go : SubCases → CutSays (SubRefused m M p o) (subport_link m p o)

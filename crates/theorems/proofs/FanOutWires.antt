@@ -1,5 +1,5 @@
 -- Fan-out against the book: how many of its wires end at a port, and how many leave a block.
-use Rattle.std.specs.Prelude.{◌≡◌, refl, Bool, true, List, [], ◌∷◌, map, ℕ, eqb, length}
+use Rattle.std.specs.Prelude.{◌≡◌, refl, Bool, true, List, [], ◌∷◌, map, ℕ, eqb, length, Ok}
 use Rattle.std.proofs.Common.{sym, ap, ◌∙◌, inl, inr, arith, eq-eqb, eqb-true}
 use Rattle.port_tables.specs.Lists.{Member, Once}
 use Rattle.port_tables.specs.declared.release.Release.{Release}
@@ -11,7 +11,6 @@ use Rattle.multiportgraph.specs.Lookups.{port_fan_out, node_fan_out}
 use Rattle.multiportgraph.specs.Wires.{side_links}
 use Rattle.multiportgraph.specs.Walks.{port_links}
 use Rattle.port_tables.specs.Listing.{length_map}
-use Rattle.multiportgraph.specs.declared.lookups.CountAnswer.TheVariants as count_of
 use Rattle.theorems.specs.Book.{Call, spot_of}
 use Rattle.theorems.specs.History.{run}
 use Rattle.theorems.specs.Claims.{count, FanOutIsWires}
@@ -36,17 +35,17 @@ exactly_as_many f booked l o e =
 
 -- the wires of a port
 port_fan_out_is_wires : (release : Release) (calls : List Call) (p n : ℕ) (d : Direction) (i : ℕ) → spot_of (run release calls).book.blocks p ≡ spot n d i →
-    port_fan_out (run release calls).graph p ≡ count_of.Count (count (touches (at_spot (spot n d i))) (run release calls).book.wires)
+    port_fan_out (run release calls).graph p ≡ Ok (count (touches (at_spot (spot n d i))) (run release calls).book.wires)
 port_fan_out_is_wires release calls p n d i e =
     let r = (rel_run release calls).1 in
     let s = spot_back r p n d i e in
     let x = exactly_as_many (touches (at_spot (spot n d i))) (run release calls).book.wires _ r.wires.once (listings_are_wires_of_port release calls p n d i e) in
     port_fan_out_found r.fine p (inner# n d i) s
-    ∙ ap count_of.Count (sym (length_map (wire_from (run release calls).graph d) (port_links (run release calls).graph p)) ∙ x)
+    ∙ ap Ok (sym (length_map (wire_from (run release calls).graph d) (port_links (run release calls).graph p)) ∙ x)
 
 -- the wires that leave a block
 node_fan_out_is_wires : (release : Release) (calls : List Call) (n : ℕ) → InBook (run release calls).book n →
-    node_fan_out (run release calls).graph n ≡ count_of.Count (count (λ w. eqb w.out.node n) (run release calls).book.wires)
+    node_fan_out (run release calls).graph n ≡ Ok (count (λ w. eqb w.out.node n) (run release calls).book.wires)
 node_fan_out_is_wires release calls n b =
     let r = (rel_run release calls).1 in
     let k = block_booked r n b in
@@ -58,7 +57,7 @@ node_fan_out_is_wires release calls n b =
       all = λ w i t. l.all w i (eqb-true w.out.node n t);
     }) in
     node_fan_out_found r.fine n k.0 k.1
-    ∙ ap count_of.Count (sym (length_map (wire_from (run release calls).graph Outgoing) (side_links (run release calls).graph Outgoing n)) ∙ x)
+    ∙ ap Ok (sym (length_map (wire_from (run release calls).graph Outgoing) (side_links (run release calls).graph Outgoing n)) ∙ x)
 
 pub fan_out_is_wires : (release : Release) (calls : List Call) → FanOutIsWires (run release calls)
 fan_out_is_wires release calls =

@@ -1,5 +1,5 @@
 -- A port that an accepted resize keeps is split afterwards exactly if it was, with as many subports.
-use Rattle.std.specs.Prelude.{◌≡◌, refl, Bool, true, false, cond, List, ℕ, ◌<◌}
+use Rattle.std.specs.Prelude.{◌≡◌, refl, Bool, true, false, cond, List, ℕ, ◌<◌, Ok}
 use Rattle.std.proofs.Common.{sym, ◌∙◌, ap, subst, ⊎_elim, arith}
 use Rattle.portgraph.specs.Lookups.{num_ports}
 use Rattle.port_tables.specs.Entries.{new_count, ports_on}
@@ -13,7 +13,6 @@ use Rattle.multiportgraph.specs.Ends.{port_of_lem, count_of_lem}
 use Rattle.multiportgraph.specs.RecountLaws.{count_new, number_cases}
 use Rattle.multiportgraph.specs.SetLaws.{SetDone, set_counts_law}
 use Rattle.multiportgraph.specs.declared.multiportgraph.MultiPortGraph.{MultiPortGraph}
-use Rattle.multiportgraph.specs.declared.multiportgraph.SetAnswer.TheVariants as resize
 use Rattle.theorems.specs.Book as book
 use Rattle.theorems.specs.Book.{Call}
 use Rattle.theorems.specs.History.{run, step}
@@ -51,7 +50,7 @@ module _ {m : MultiPortGraph} {M : Model} (f : Fine m M) {m' : MultiPortGraph} {
 
 -- After a history, a resize of block n to i incoming and o outgoing ports is accepted: every port of block n whose position lies below
 -- the old and the new count of its side, and every port of another block, is split afterwards exactly if it was, with as many subports.
-pub kept_ports_stay_split : (release : Release) (calls : List Call) (n i o room e : ℕ) → (step (run release calls).graph (book.set_call n i o room)).answer ≡ resize.Set e →
+pub kept_ports_stay_split : (release : Release) (calls : List Call) (n i o room e : ℕ) → (step (run release calls).graph (book.set_call n i o room)).answer ≡ Ok e →
     (k : ℕ) → InBook (run release calls).book k → (d : Direction) (j : ℕ) → j < num_ports (run release calls).graph.graph k d → (k ≡ n → j < new_count i o d) →
     SplitAsBefore (run release calls).graph (step (run release calls).graph (book.set_call n i o room)).graph k d j
 kept_ports_stay_split release calls n i o room e a k b d j l h =

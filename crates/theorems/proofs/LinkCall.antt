@@ -1,5 +1,5 @@
 -- Linking two ports: its bundle, and what 11 and 12 leave.
-use Rattle.std.specs.Prelude.{◌≡◌, refl, Bool, true, false, ℕ}
+use Rattle.std.specs.Prelude.{◌≡◌, refl, Bool, true, false, ℕ, Ok, Err}
 use Rattle.std.proofs.Common.{sym, ◌∙◌, subst}
 use Rattle.std.proofs.Math.Path.{ap}
 use Rattle.port_tables.specs.Limits.{present}
@@ -20,7 +20,6 @@ use Rattle.multiportgraph.specs.WellFormed.{Fine}
 use Rattle.multiportgraph.specs.declared.multiportgraph.MultiPortGraph.{MultiPortGraph}
 use Rattle.multi_tables.specs.declared.answers.Refusal.{Refusal}
 use Rattle.multi_tables.specs.declared.answers.Refusal.TheVariants.{NoRoom, UnknownSecondPort, IncompatibleDirections, InputWired}
-use Rattle.multiportgraph.specs.declared.multiportgraph.LinkAnswer.TheVariants as link
 use Rattle.multiportgraph.specs.declared.multiportgraph.PortsLinked.{PortsLinked}
 use Rattle.multiportgraph.specs.Graph.{with_graph}
 use Rattle.multiportgraph.specs.Refusals.{input_taken}
@@ -96,12 +95,12 @@ module _ {m : MultiPortGraph} {M : Model} (f : Fine m M) (a b : ℕ) where
   -- ports of blocks on opposite sides, no input that has a wire, with room for both: linked
   pub links_otherwise : (Taken m M a b → ⊥) → (x y : model.InnerPlace) (m₁ m₂ : MultiPortGraph) (u o v r : ℕ) → OfBlock m M a x → OfBlock m M b y →
       prepare m a x.side ≡ ready m₁ u o → prepare m₁ b y.side ≡ ready m₂ v r → (x.side ≡ y.side → ⊥) →
-      link_pair m a b ≡ record { graph = with_graph m₂ (link_ports m₂.graph u v).graph; answer = link.Linked (subport# a o) (subport# b r) }
+      link_pair m a b ≡ record { graph = with_graph m₂ (link_ports m₂.graph u v).graph; answer = Ok (subport# a o, subport# b r) }
   links_otherwise free x y m₁ m₂ u o v r s t e g n = link_both free x y m₁ m₂ u o v r s t e g ∙ go (same_side x.side y.side) refl
     where
       go : (c : Bool) → same_side x.side y.side ≡ c →
           link_prepared m₂ a x.side u o b y.side v r
-          ≡ record { graph = with_graph m₂ (link_ports m₂.graph u v).graph; answer = link.Linked (subport# a o) (subport# b r) }
+          ≡ record { graph = with_graph m₂ (link_ports m₂.graph u v).graph; answer = Ok (subport# a o, subport# b r) }
       go true c = absurd (n (same_side_is x.side y.side c))
       go false c = rw c
 
@@ -166,7 +165,7 @@ module _ {m : MultiPortGraph} {M : Model} (f : Fine m M) (a b : ℕ) where
       first (block_port x s) (block_port y t) =
           wired x s (block_not_hidden f b y t) (λ free. both free x y s t (prepare m a x.side) refl) (input_taken m a b) refl
 
-  pub link_refused_lem : (r : Refusal) → (link_pair m a b).answer ≡ link.Refused r → LinkRefused m M a b (link_pair m a b).graph r
+  pub link_refused_lem : (r : Refusal) → (link_pair m a b).answer ≡ Err r → LinkRefused m M a b (link_pair m a b).graph r
   link_refused_lem r e = subst (LinkSays (LinkRefused m M a b (link_pair m a b).graph)) e link_said
 
 module _ {m : MultiPortGraph} {M : Model} (f : Fine m M) where
@@ -182,7 +181,7 @@ module _ {m : MultiPortGraph} {M : Model} (f : Fine m M) where
   link_leaves a b h r (link_one_side x y m₁ m₂ u o v w s t free e g q) n = absurd (zero_is_not_one (cc))
 
   -- 11 of linking ports: the graph is what the preparation of the first end left
-  pub unknown_second_leaves : (a b : ℕ) (q : PortIndex) → (link_pair m a b).answer ≡ link.Refused (UnknownSecondPort q) →
+  pub unknown_second_leaves : (a b : ℕ) (q : PortIndex) → (link_pair m a b).answer ≡ Err (UnknownSecondPort q) →
       (x : model.InnerPlace) × (u : ℕ) × (o : ℕ) × OfBlock m M a x × (prepare m a x.side ≡ ready (link_pair m a b).graph u o)
   unknown_second_leaves a b q e = go (link_pair m a b).graph (UnknownSecondPort q) (link_refused_lem f a b (UnknownSecondPort q) e) refl
     where
@@ -198,7 +197,7 @@ module _ {m : MultiPortGraph} {M : Model} (f : Fine m M) where
       go h r (link_one_side x y m₁ m₂ u o v w s t free e g q) n = absurd (zero_is_not_one (cc))
 
   -- 12 of linking ports: the graph is what the preparations of both ends left, and their inner ports are carried
-  pub one_side_leaves : (a b : ℕ) (i j : PortIndex) (d : Direction) → (link_pair m a b).answer ≡ link.Refused (IncompatibleDirections i j d) →
+  pub one_side_leaves : (a b : ℕ) (i j : PortIndex) (d : Direction) → (link_pair m a b).answer ≡ Err (IncompatibleDirections i j d) →
       (x : model.InnerPlace) × (y : model.InnerPlace) × (m₁ : MultiPortGraph) × (o : ℕ) × (r : ℕ) × OfBlock m M a x × OfBlock m M b y × (x.side ≡ d) × (y.side ≡ d)
       × (prepare m a d ≡ ready m₁ i.0 o) × (prepare m₁ b d ≡ ready (link_pair m a b).graph j.0 r)
   one_side_leaves a b i j d e = go (link_pair m a b).graph (IncompatibleDirections i j d) (link_refused_lem f a b (IncompatibleDirections i j d) e) refl

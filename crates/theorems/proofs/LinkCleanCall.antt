@@ -1,5 +1,5 @@
 -- Linking two ports and leaving no stub: its bundle; and where either link of ports is accepted, both are one.
-use Rattle.std.specs.Prelude.{◌≡◌, refl, Bool, true, false, ◌↔◌, ℕ}
+use Rattle.std.specs.Prelude.{◌≡◌, refl, Bool, true, false, ◌↔◌, ℕ, Result, Ok, Err}
 use Rattle.std.proofs.Common.{sym, ◌∙◌, ap, subst}
 use Rattle.port_tables.specs.Limits.{present}
 use Rattle.port_tables.specs.Entries.{port#, same_side}
@@ -23,10 +23,7 @@ use Rattle.multiportgraph.specs.declared.multiportgraph.MultiPortGraph.{MultiPor
 use Rattle.multi_tables.specs.declared.answers.SubportIndex.{SubportIndex}
 use Rattle.multi_tables.specs.declared.answers.Refusal.{Refusal}
 use Rattle.multi_tables.specs.declared.answers.Refusal.TheVariants.{NoRoom, IncompatibleDirections}
-use Rattle.multiportgraph.specs.declared.multiportgraph.LinkAnswer.TheVariants as link
 use Rattle.multiportgraph.specs.declared.multiportgraph.PortsLinked.{PortsLinked}
-use Rattle.multi_tables.specs.declared.named.NamedPair.{NamedPair}
-use Rattle.multi_tables.specs.declared.named.NamedPair.TheVariants as pair
 use Rattle.theorems.specs.Book as book
 use Rattle.theorems.specs.Book.{book_link}
 use Rattle.theorems.specs.History.{State, next}
@@ -44,14 +41,14 @@ use Rattle.theorems.proofs.LinkCall.{block_not_hidden, dead_not_hidden, link_ref
 -- On any graph: a link of ports that is accepted is the link that leaves no stub, and the other way round.
 module _ (m : MultiPortGraph) (a b : ℕ) (x y : SubportIndex) where
   abbrev Linked : PortsLinked → Type 0
-  Linked v = v.answer ≡ link.Linked x y
+  Linked v = v.answer ≡ Ok (x, y)
 
   pub clean_is_link : Linked (link_clean m a b) → link_clean m a b ≡ link_pair m a b
   clean_is_link = by (input_taken m a b)
     where
-      go : (v : NamedPair) → Linked (link_clean_by present m a b v) → link_clean_by present m a b v ≡ link_pair_if false present m a b
-      go (pair.Refused r) e = absurd (zero_is_not_one (cc))
-      go pair.Opposite e = refl
+      go : (v : Result (Unit {0}) Refusal) → Linked (link_clean_by present m a b v) → link_clean_by present m a b v ≡ link_pair_if false present m a b
+      go (Err r) e = absurd (zero_is_not_one (cc))
+      go (Ok tt) e = refl
 
       -- 18 refuses both
       by : (taken : Bool) → Linked (link_clean_if taken present m a b) → link_clean_if taken present m a b ≡ link_pair_if taken present m a b
@@ -71,7 +68,7 @@ module _ (m : MultiPortGraph) (a b : ℕ) (x y : SubportIndex) where
       go full k = zero_is_not_one (cc)
       go (ready m₂ v r) k =
           let z : link_prepared m₂ a d u o b s v r ≡ link_refused m₂ (IncompatibleDirections (port# u) (port# v) d) = rw j in
-          let n : link.Refused (IncompatibleDirections (port# u) (port# v) d) ≡ link.Linked x y = ap (λ (w : PortsLinked). w.answer) (sym z) ∙ k in
+          let n : Err (IncompatibleDirections (port# u) (port# v) d) ≡ Ok (x, y) = ap (λ (w : PortsLinked). w.answer) (sym z) ∙ k in
           zero_is_not_one (cc)
 
   pub link_is_clean : Linked (link_pair m a b) → link_clean m a b ≡ link_pair m a b
@@ -118,19 +115,19 @@ module _ {m : MultiPortGraph} {M : Model} (f : Fine m M) (a b : ℕ) where
       Says : PortsLinked → Type 0
       Says v = law.LinkSays m M a b v.graph v.answer
 
-      go : (v : NamedPair) → Says (link_clean_by present m a b v)
-      go (pair.Refused r) = nothing_left f
-      go pair.Opposite = link_says_if f false a b
+      go : (v : Result (Unit {0}) Refusal) → Says (link_clean_by present m a b v)
+      go (Err r) = nothing_left f
+      go (Ok tt) = link_says_if f false a b
 
       by : (taken : Bool) → Says (link_clean_if taken present m a b)
       by true = subst Says (sym (link_clean_taken present m a b)) (nothing_left f)
       by false = subst Says (sym (link_clean_cases present m a b)) (go (pair_seen a b (seen m a) (seen m b)))
 
-  pub clean_done_law : (s t : SubportIndex) → (link_clean m a b).answer ≡ link.Linked s t → law.LinkDone m M (link_clean m a b).graph a b s t
+  pub clean_done_law : (s t : SubportIndex) → (link_clean m a b).answer ≡ Ok (s, t) → law.LinkDone m M (link_clean m a b).graph a b s t
   clean_done_law s t e = subst (law.LinkSays m M a b (link_clean m a b).graph) e clean_says
 
   -- 7 and 8 come before 18
-  clean_before : (u v : Port) → seen m a ≡ u → seen m b ≡ v → (r : Refusal) → taken_seen a b u v ≡ r → pair_seen a b u v ≡ pair.Refused r → link_clean m a b ≡ link_refused m r
+  clean_before : (u v : Port) → seen m a ≡ u → seen m b ≡ v → (r : Refusal) → taken_seen a b u v ≡ r → pair_seen a b u v ≡ Err r → link_clean m a b ≡ link_refused m r
   clean_before u v e g r t s = go (input_taken m a b)
     where
       go : (taken : Bool) → link_clean_if taken present m a b ≡ link_refused m r
@@ -216,7 +213,7 @@ module _ {m : MultiPortGraph} {M : Model} (f : Fine m M) (a b : ℕ) where
       first (block_port x s) (block_port y t) =
           wired x s (block_not_hidden f b y t) (λ free. sides free x y s t (same_side x.side y.side) refl) (input_taken m a b) refl
 
-  pub clean_refused : (r : Refusal) → (link_clean m a b).answer ≡ link.Refused r → CleanRefused m M a b r
+  pub clean_refused : (r : Refusal) → (link_clean m a b).answer ≡ Err r → CleanRefused m M a b r
   clean_refused r e = subst (LinkSays (CleanRefused m M a b)) e clean_said
 
   pub link_clean_call : CallLaw m M (book.link_clean_call a b)
@@ -230,6 +227,6 @@ module _ {m : MultiPortGraph} {M : Model} (f : Fine m M) (a b : ℕ) where
       }
 
 -- refused, it leaves graph and book
-pub clean_refused_leaves : (s : State) {M : Model} → Fine s.graph M → (a b : ℕ) (r : Refusal) → (link_clean s.graph a b).answer ≡ link.Refused r →
+pub clean_refused_leaves : (s : State) {M : Model} → Fine s.graph M → (a b : ℕ) (r : Refusal) → (link_clean s.graph a b).answer ≡ Err r →
     next s (book.link_clean_call a b) ≡ s
 clean_refused_leaves s f a b r e = ap (after s a b) (clean_refuses f a b r (clean_refused f a b r e))

@@ -1,5 +1,5 @@
 -- Linking two subports: its bundle.
-use Rattle.std.specs.Prelude.{◌≡◌, refl, Bool, true, false, cond, ℕ, ◌≤◌, ◌<◌, ltb}
+use Rattle.std.specs.Prelude.{◌≡◌, refl, Bool, true, false, cond, ℕ, ◌≤◌, ◌<◌, ltb, Ok, Err, Result}
 use Rattle.std.proofs.Common.{sym, ◌∙◌, ap, subst, arith, ltb-true, ltb-false, lt-ltb}
 use Rattle.port_tables.specs.Entries.{port#, same_side}
 use Rattle.portgraph.specs.Model as model
@@ -10,8 +10,6 @@ use Rattle.portgraph.specs.GoodSlots.{slots_apart, zero_is_not_one}
 use Rattle.portgraph.specs.GoodLaws.{same_side_is}
 use Rattle.portgraph.specs.LinkHolds as lower_laws
 use Rattle.portgraph.specs.LinkHolds.{Dead}
-use Rattle.portgraph.specs.declared.portgraph.LinkAnswer as lower_link_answer
-use Rattle.portgraph.specs.declared.portgraph.LinkAnswer.TheVariants as lower_link
 use Rattle.portgraph.specs.declared.portgraph.PortsLinked as lower_ports_linked
 use Rattle.multiportgraph.specs.Reading.{seen, end_at, as_read}
 use Rattle.multi_tables.specs.Forms.{Port, dead, hidden, visible, End, inner, lacking}
@@ -23,7 +21,6 @@ use Rattle.multiportgraph.specs.Ends.{EndOf}
 use Rattle.multiportgraph.specs.declared.multiportgraph.MultiPortGraph.{MultiPortGraph}
 use Rattle.multi_tables.specs.declared.answers.Refusal.{Refusal}
 use Rattle.multi_tables.specs.declared.answers.Refusal.TheVariants.{BadOffset, UnknownOffset, InputWired}
-use Rattle.multiportgraph.specs.declared.multiportgraph.LinkAnswer.TheVariants as link
 use Rattle.multiportgraph.specs.declared.multiportgraph.PortsLinked.{PortsLinked}
 use Rattle.multiportgraph.specs.Graph.{with_graph}
 use Rattle.multiportgraph.specs.Cases.{link_refused, link_inner, link_second_end, link_first_end, link_sub_seen, taken_sub_seen}
@@ -38,6 +35,9 @@ use Rattle.theorems.specs.PortCases.{end_is_lem, is_end, is_lacking, lacks_is, n
 use Rattle.theorems.specs.TakenLaws.{free_so, so_free, so_taken, taken_so}
 use Rattle.theorems.proofs.CallLaw.{CallLaw, whole}
 use Rattle.theorems.proofs.LinkCall.{block_not_hidden, dead_not_hidden, sides_differ}
+use Rattle.portgraph.specs.declared.portgraph.LinkError.TheVariants as link_error
+use Rattle.port_tables.specs.declared.index.PortIndex.{PortIndex}
+use Rattle.portgraph.specs.declared.portgraph.LinkError.{LinkError}
 
 -- Linking subports.
 
@@ -86,7 +86,7 @@ module _ {m : MultiPortGraph} {M : Model} (f : Fine m M) (p o q r : ℕ) where
         ∙ (ap (link_second_end m p o q r u) (is_end f q y r v t g)
         ∙ ap (λ (w : lower_ports_linked.PortsLinked). link_inner m (as_read m p o) (as_read m q r) w.answer w.graph) k))
 
-    one_side : x.side ≡ y.side → link_ports m.graph u v ≡ lower.link_refused m.graph (lower_link.IncompatibleDirections (port# u) (port# v) x.side)
+    one_side : x.side ≡ y.side → link_ports m.graph u v ≡ lower.link_refused m.graph (Err (link_error.IncompatibleDirections (port# u) (port# v) x.side))
     one_side k =
         rw (← e.slot, ← g.slot, ← e.side)
         (lower_laws.link_same_side f.good f.holds e.end g.end e.is_end.valid g.is_end.valid (e.side ∙ (k ∙ sym g.side)))
@@ -95,26 +95,26 @@ module _ {m : MultiPortGraph} {M : Model} (f : Fine m M) (p o q r : ℕ) where
       opposite : e.end.side ≡ g.end.side → ⊥
       opposite k = n (sym e.side ∙ (k ∙ g.side))
 
-      first_linked : (M.join e.end ≡ nowhere → ⊥) → link_ports m.graph u v ≡ lower.link_refused m.graph (lower_link.AlreadyLinked (port# u))
+      first_linked : (M.join e.end ≡ nowhere → ⊥) → link_ports m.graph u v ≡ lower.link_refused m.graph (Err (link_error.AlreadyLinked (port# u)))
       first_linked k =
           rw (← e.slot, ← g.slot) (lower_laws.link_first_taken f.good f.holds e.end g.end e.is_end.valid g.is_end.valid opposite k)
 
       second_linked : M.join e.end ≡ nowhere → (M.join g.end ≡ nowhere → ⊥) →
-          link_ports m.graph u v ≡ lower.link_refused m.graph (lower_link.AlreadyLinked (port# v))
+          link_ports m.graph u v ≡ lower.link_refused m.graph (Err (link_error.AlreadyLinked (port# v)))
       second_linked j k =
           rw (← e.slot, ← g.slot) (lower_laws.link_second_taken f.good f.holds e.end g.end e.is_end.valid g.is_end.valid opposite j k)
 
-      both_free : M.join e.end ≡ nowhere → M.join g.end ≡ nowhere → (link_ports m.graph u v).answer ≡ lower_link.Linked (port# u) (port# v)
+      both_free : M.join e.end ≡ nowhere → M.join g.end ≡ nowhere → (link_ports m.graph u v).answer ≡ Ok (port# u, port# v)
       both_free j k =
           rw (← e.slot, ← g.slot)
           (ap (λ (w : lower_ports_linked.PortsLinked). w.answer) (lower_laws.link_done f.good f.holds e.end g.end e.is_end.valid g.is_end.valid opposite j k))
 
       -- two unlinked ends of opposite sides, neither an input that has a wire: linked, and both ends are answered as read
       pub links_sub_otherwise : M.join e.end ≡ nowhere → M.join g.end ≡ nowhere →
-          link_sub m p o q r ≡ record { graph = with_graph m (link_ports m.graph u v).graph; answer = link.Linked (as_read m p o) (as_read m q r) }
+          link_sub m p o q r ≡ record { graph = with_graph m (link_ports m.graph u v).graph; answer = Ok (as_read m p o, as_read m q r) }
       links_sub_otherwise j k =
           sub_ends (link_ports m.graph u v) refl
-          ∙ ap (λ (a : lower_link_answer.LinkAnswer). link_inner m (as_read m p o) (as_read m q r) a (link_ports m.graph u v).graph) (both_free j k)
+          ∙ ap (λ (a : Result (PortIndex × PortIndex) LinkError). link_inner m (as_read m p o) (as_read m q r) a (link_ports m.graph u v).graph) (both_free j k)
 
   pub link_sub_refuses : (z : Refusal) → LinkSubRefused m M p o q r z → link_sub m p o q r ≡ link_refused m z
   link_sub_refuses z (sub_offsets n) = by (input_taken m p q)
@@ -230,7 +230,7 @@ module _ {m : MultiPortGraph} {M : Model} (f : Fine m M) (p o q r : ℕ) where
           let l : r < 65535 = ltb-true _ _ d in
           first (omega arith, omega arith) (port_is f p) (port_is f q)
 
-  pub link_sub_refused : (z : Refusal) → (link_sub m p o q r).answer ≡ link.Refused z → LinkSubRefused m M p o q r z
+  pub link_sub_refused : (z : Refusal) → (link_sub m p o q r).answer ≡ Err z → LinkSubRefused m M p o q r z
   link_sub_refused z e = subst (LinkSays (LinkSubRefused m M p o q r)) e link_sub_says
 
 module _ {m : MultiPortGraph} {M : Model} (f : Fine m M) where

@@ -3,7 +3,7 @@
 -- A place of the block is a side and a position on it. Dropped places are told first, then places that stay, each with its old and its
 -- new number. `told_events` says it, over the graph before and the graph after the call; `moves_are_places` says that the move list
 -- holds exactly this, before what it held already.
-use Rattle.std.specs.Prelude.{◌≡◌, Bool, ltb, length, drop}
+use Rattle.std.specs.Prelude.{◌≡◌, Bool, ltb, length, drop, Option, Some, Ok, Err, Result}
 use Rattle.std.proofs.Math.Path.{refl, sym, ap, subst}
 use Rattle.std.proofs.Common.{◌∙◌, inl, inr, length-append, get_or-set_same}
 use Rattle.std.proofs.Math.Bool.{true, false, cond}
@@ -34,11 +34,7 @@ use Rattle.port_tables.specs.declared.direction.Direction.TheVariants.{Incoming,
 use Rattle.port_tables.specs.declared.index.PortOffset.{PortOffset}
 use Rattle.port_tables.specs.declared.node_entry.NodeSlot.{NodeSlot}
 use Rattle.port_tables.specs.declared.node_entry.NodeMeta.{NodeMeta}
-use Rattle.port_tables.specs.declared.node_entry.MaybeNodeMeta.{MaybeNodeMeta}
-use Rattle.port_tables.specs.declared.node_entry.MaybeNodeMeta.TheVariants as maybe_meta
 use Rattle.portgraph.specs.declared.portgraph.PortGraph.{PortGraph}
-use Rattle.portgraph.specs.declared.resize.SetAnswer as lower_set_answer
-use Rattle.portgraph.specs.declared.resize.SetAnswer.TheVariants as lower_set
 use Rattle.portgraph.specs.declared.resize.PortsSet as lower_ports_set
 use Rattle.port_tables.specs.declared.release.Release.{Release}
 use Rattle.multiportgraph.specs.Reading.{port_of, has_link, far_port, is_hidden, is_split, copy_node}
@@ -58,8 +54,9 @@ use Rattle.theorems.specs.History.{run}
 use Rattle.theorems.proofs.CallLaws.{run_kept}
 use Rattle.multiportgraph.specs.declared.multiportgraph.MultiPortGraph.{MultiPortGraph}
 use Rattle.multi_tables.specs.declared.answers.Refusal.TheVariants.{NoRoom}
-use Rattle.multiportgraph.specs.declared.multiportgraph.SetAnswer.TheVariants as resize
 use Rattle.multiportgraph.specs.declared.multiportgraph.PortsSet.{PortsSet}
+use Rattle.portgraph.specs.declared.resize.SetError.TheVariants as set_error
+use Rattle.portgraph.specs.declared.resize.SetError.{SetError}
 
 -- Lists.
 
@@ -271,7 +268,7 @@ record After (m' : MultiPortGraph) (n : ℕ) (b : NodeMeta) : Type 0 where
 
 module _ {m : MultiPortGraph} {M : Model} (f : Fine m M) (n : ℕ) (k : NodeMeta) (shown : is_hidden m n ≡ false) (here : M.node n ≡ live k) (i o : ℕ) where
   -- hidden nodes that go leave the block where it is
-  after : (g' : PortGraph) → SomeRecount g' M n i o → (b : NodeMeta) → meta_at g' n ≡ maybe_meta.Some b → After (graph_after m n k i o g') n b
+  after : (g' : PortGraph) → SomeRecount g' M n i o → (b : NodeMeta) → meta_at g' n ≡ Some b → After (graph_after m n k i o g') n b
   after g' s b e = go s.old s.is.here s.is
     where
       go : (a : NodeMeta) → M.node n ≡ live a → Recount g' M s.model' n a s.new i o → After (graph_after m n k i o g') n b
@@ -289,11 +286,11 @@ module _ {m : MultiPortGraph} {M : Model} (f : Fine m M) (n : ℕ) (k : NodeMeta
       let s = f.holds.nodes_long in
       omega arith
 
-  meta_inside : meta_at (resize_inside m.graph n k i o) n ≡ maybe_meta.Some (meta_of (first_slot k) i o k.capacity)
+  meta_inside : meta_at (resize_inside m.graph n k i o) n ≡ Some (meta_of (first_slot k) i o k.capacity)
   unfolding resize_inside
   meta_inside = ap (λ (s : NodeSlot). meta_of_entry s.entry) (get_or-set_same m.graph.node_meta n (node_slot_of (meta_of (first_slot k) i o k.capacity)) fresh_slot in_table)
 
-  meta_anew : (first size : ℕ) → meta_at (resize_anew m.graph n k i o first size) n ≡ maybe_meta.Some (meta_of first i o size)
+  meta_anew : (first size : ℕ) → meta_at (resize_anew m.graph n k i o first size) n ≡ Some (meta_of first i o size)
   unfolding resize_anew
   meta_anew first size = ap (λ (s : NodeSlot). meta_of_entry s.entry) (get_or-set_same m.graph.node_meta n (node_slot_of (meta_of first i o size)) fresh_slot in_table)
 
@@ -361,7 +358,7 @@ module _ {m : MultiPortGraph} {M : Model} (f : Fine m M) (n : ℕ) (k : NodeMeta
 
 -- The call.
 
-module _ {m : MultiPortGraph} {M : Model} (f : Fine m M) (n i o room e : ℕ) (ok : (set_counts m n i o room).answer ≡ resize.Set e) where
+module _ {m : MultiPortGraph} {M : Model} (f : Fine m M) (n i o room e : ℕ) (ok : (set_counts m n i o room).answer ≡ Ok e) where
   abbrev lower : lower_ports_set.PortsSet
   lower = set_num_ports m.graph n i o room
 
@@ -386,19 +383,19 @@ module _ {m : MultiPortGraph} {M : Model} (f : Fine m M) (n i o room e : ℕ) (o
   whole : set_counts m n i o room ≡ record { graph = resized m n old i o lower.graph lower.answer; answer = set_as lower.answer }
   whole =
       let a : set_counts m n i o room ≡ set_meta m n i o room (meta_at m.graph n) = set_cases present m n i o room ∙ rw (le-leb (i + o) node_ports few) in
-      let b : set_meta m n i o room (meta_at m.graph n) ≡ set_meta m n i o room (maybe_meta.Some old) = ap (set_meta m n i o room) (meta_of_node f.good f.holds n old here) in
-      let c : set_meta m n i o room (maybe_meta.Some old) ≡ record { graph = resized m n old i o lower.graph lower.answer; answer = set_as lower.answer } = rw shown in
+      let b : set_meta m n i o room (meta_at m.graph n) ≡ set_meta m n i o room (Some old) = ap (set_meta m n i o room) (meta_of_node f.good f.holds n old here) in
+      let c : set_meta m n i o room (Some old) ≡ record { graph = resized m n old i o lower.graph lower.answer; answer = set_as lower.answer } = rw shown in
       a ∙ (b ∙ c)
 
-  lower_answer : lower.answer ≡ lower_set.Set e
+  lower_answer : lower.answer ≡ Ok e
   lower_answer = go lower.answer (sym (ap (λ (v : PortsSet). v.answer) whole) ∙ ok)
     where
-      go : (v : lower_set_answer.SetAnswer) → set_as v ≡ resize.Set e → v ≡ lower_set.Set e
-      go (lower_set.Set c) q = let r : c ≡ e = cc in ap lower_set.Set r
-      go lower_set.TooManyPorts q = absurd (zero_is_not_one (cc))
-      go lower_set.UnknownNode q = absurd (zero_is_not_one (cc))
-      go lower_set.MovesTooShort q = absurd (zero_is_not_one (cc))
-      go lower_set.NoRoom q = absurd (zero_is_not_one (cc))
+      go : (v : Result ℕ SetError) → set_as v ≡ Ok e → v ≡ Ok e
+      go (Ok c) q = let r : c ≡ e = cc in ap Ok r
+      go (Err set_error.TooManyPorts) q = absurd (zero_is_not_one (cc))
+      go (Err set_error.UnknownNode) q = absurd (zero_is_not_one (cc))
+      go (Err set_error.MovesTooShort) q = absurd (zero_is_not_one (cc))
+      go (Err set_error.NoRoom) q = absurd (zero_is_not_one (cc))
 
   graph_is : (set_counts m n i o room).graph ≡ graph_after m n old i o lower.graph
   graph_is = ap (λ (v : PortsSet). v.graph) whole ∙ ap (resized m n old i o lower.graph) lower_answer
@@ -410,7 +407,7 @@ module _ {m : MultiPortGraph} {M : Model} (f : Fine m M) (n i o room e : ℕ) (o
   unfolding set_num_ports_under
   recount = set_recounts f.good f.holds n i o room e lower_answer
 
-  answer_is : (set_by m.graph n i o plan).answer ≡ lower_set.Set e
+  answer_is : (set_by m.graph n i o plan).answer ≡ Ok e
   unfolding set_num_ports_under
   answer_is = lower_answer
 
@@ -418,13 +415,13 @@ module _ {m : MultiPortGraph} {M : Model} (f : Fine m M) (n i o room e : ℕ) (o
   Tells p = told_by m.graph i o p ≡ events_at m.graph (graph_after m n old i o (set_by m.graph n i o p).graph).graph n old.incoming old.outgoing old.capacity i o
 
   plan_is : (r a b c : Bool) → leb (3 * (old.incoming + old.outgoing)) room ≡ r → same_counts old i o ≡ a → fits_inside old i o ≡ b → block_room M (round_up (i + o)) ≡ c →
-      plan ≡ cond r (plan_live M i o old a b c) (refuse lower_set.MovesTooShort)
+      plan ≡ cond r (plan_live M i o old a b c) (refuse (Err set_error.MovesTooShort))
   plan_is r a b c p q s t = plan_law f.good f.holds n i o room ∙ rw (le-leb (i + o) node_ports few, here, p, q, s, t)
 
-  by_plan : (p : Plan) → plan ≡ p → (SomeRecount (set_by m.graph n i o p).graph M n i o → (set_by m.graph n i o p).answer ≡ lower_set.Set e → Tells p) → Tells plan
+  by_plan : (p : Plan) → plan ≡ p → (SomeRecount (set_by m.graph n i o p).graph M n i o → (set_by m.graph n i o p).answer ≡ Ok e → Tells p) → Tells plan
   by_plan p q h =
       subst Tells (sym q)
-      (h (subst (λ (v : Plan). SomeRecount (set_by m.graph n i o v).graph M n i o) q recount) (subst (λ (v : Plan). (set_by m.graph n i o v).answer ≡ lower_set.Set e) q answer_is))
+      (h (subst (λ (v : Plan). SomeRecount (set_by m.graph n i o v).graph M n i o) q recount) (subst (λ (v : Plan). (set_by m.graph n i o v).answer ≡ Ok e) q answer_is))
 
   tells : Tells plan
   unfolding same_counts fits_inside equal_counts within_block
@@ -432,16 +429,16 @@ module _ {m : MultiPortGraph} {M : Model} (f : Fine m M) (n i o room e : ℕ) (o
       go (leb (3 * (old.incoming + old.outgoing)) room) (same_counts old i o) (fits_inside old i o) (block_room M (round_up (i + o))) refl refl refl refl
     where
       go : (r a b c : Bool) → leb (3 * (old.incoming + old.outgoing)) room ≡ r → same_counts old i o ≡ a → fits_inside old i o ≡ b → block_room M (round_up (i + o)) ≡ c → Tells plan
-      go false a b c p q s t = by_plan (refuse lower_set.MovesTooShort) (plan_is false a b c p q s t) (λ x y. absurd (zero_is_not_one (cc)))
+      go false a b c p q s t = by_plan (refuse (Err set_error.MovesTooShort)) (plan_is false a b c p q s t) (λ x y. absurd (zero_is_not_one (cc)))
       go true true b c p q s t = by_plan same (plan_is true true b c p q s t) (λ x y. same_told f n old shown here i o q _)
       go true false true c p q s t = by_plan (inside old) (plan_is true false true c p q s t) (λ x y. inside_told_lem f n old shown here i o x q s)
       go true false false true p q s t = by_plan (anew old (next_block M (round_up (i + o)))) (plan_is true false false true p q s t) (λ x y. anew_told_lem f n old shown here i o (next_block M (round_up (i + o))) (round_up (i + o)) x q s)
-      go true false false false p q s t = by_plan (refuse lower_set.NoRoom) (plan_is true false false false p q s t) (λ x y. absurd (zero_is_not_one (cc)))
+      go true false false false p q s t = by_plan (refuse (Err set_error.NoRoom)) (plan_is true false false false p q s t) (λ x y. absurd (zero_is_not_one (cc)))
 
   by_lookups : (h : PortGraph) → events_at m.graph h n old.incoming old.outgoing old.capacity i o ≡ told_events m.graph h n i o
   unfolding told_events
   by_lookups h =
-      let meta : meta_at m.graph n ≡ maybe_meta.Some old = meta_of_node f.good f.holds n old here in
+      let meta : meta_at m.graph n ≡ Some old = meta_of_node f.good f.holds n old here in
       λ q. events_at m.graph h n (count_in (sym meta q) Incoming) (count_in (sym meta q) Outgoing) (capacity_in (sym meta q)) i o
 
   told_is : told_by m.graph i o plan ≡ told_events m.graph (set_counts m n i o room).graph.graph n i o
@@ -451,13 +448,13 @@ module _ {m : MultiPortGraph} {M : Model} (f : Fine m M) (n i o room e : ℕ) (o
       ∙ ap (λ (v : MultiPortGraph). told_events m.graph v.graph n i o) (sym graph_is))
 
   told_long : length (told_by m.graph i o plan) ≡ 3 * e
-  told_long = told_length m.graph n i o room ∙ ap (λ (v : lower_set_answer.SetAnswer). 3 * events_of v) lower_answer
+  told_long = told_length m.graph n i o room ∙ ap (λ (v : Result ℕ SetError). 3 * events_of v) lower_answer
 
   told_fits : 3 * e ≤ room
-  told_fits = subst (λ (v : lower_set_answer.SetAnswer). 3 * events_of v ≤ room) lower_answer (events_fit m.graph n i o room)
+  told_fits = subst (λ (v : Result ℕ SetError). 3 * events_of v ≤ room) lower_answer (events_fit m.graph n i o room)
 
 -- The move list after an accepted resize: the events, by places, then what it held there before.
-pub moves_by_places : {m : MultiPortGraph} {M : Model} → Fine m M → (n i o : ℕ) (moves : List ℕ) (e : ℕ) → (set_counts m n i o (length moves)).answer ≡ resize.Set e →
+pub moves_by_places : {m : MultiPortGraph} {M : Model} → Fine m M → (n i o : ℕ) (moves : List ℕ) (e : ℕ) → (set_counts m n i o (length moves)).answer ≡ Ok e →
     moves_told m n i o moves ≡ told_events m.graph (set_counts m n i o (length moves)).graph.graph n i o ++ drop (3 * e) moves
 unfolding moves_told_under moves_after_under
 moves_by_places {m} f n i o moves e ok =
@@ -469,7 +466,7 @@ moves_by_places {m} f n i o moves e ok =
     ∙ (λ q. told_is f n i o (length moves) e ok q ++ drop (long q) moves))
 
 -- every history
-pub moves_are_places : (release : Release) (calls : List Call) (n i o : ℕ) (moves : List ℕ) (e : ℕ) → (set_counts (run release calls).graph n i o (length moves)).answer ≡ resize.Set e →
+pub moves_are_places : (release : Release) (calls : List Call) (n i o : ℕ) (moves : List ℕ) (e : ℕ) → (set_counts (run release calls).graph n i o (length moves)).answer ≡ Ok e →
     moves_told (run release calls).graph n i o moves
     ≡ told_events (run release calls).graph.graph (set_counts (run release calls).graph n i o (length moves)).graph.graph n i o ++ drop (3 * e) moves
 moves_are_places release calls = moves_by_places (run_kept release calls).fine
@@ -502,7 +499,7 @@ length_told g h n i o =
     let s = length-append d k in
     omega arith
 
-pub events_answered : (release : Release) (calls : List Call) (n i o room e : ℕ) → (set_counts (run release calls).graph n i o room).answer ≡ resize.Set e → e ≡ length (told_places (run release calls).graph.graph n i o)
+pub events_answered : (release : Release) (calls : List Call) (n i o room e : ℕ) → (set_counts (run release calls).graph n i o room).answer ≡ Ok e → e ≡ length (told_places (run release calls).graph.graph n i o)
 events_answered release calls n i o room e ok =
     let f = (run_kept release calls).fine in
     let a = told_long f n i o room e ok in
@@ -527,7 +524,7 @@ unfolding copies_dropped hidden_told
 copies_told {m} f n k here i o =
     let a : List ℕ = range (first_slot k + kept_incoming k i) (k.incoming - kept_incoming k i) in
     let b : List ℕ = range (first_slot k + k.incoming + kept_outgoing k o) (k.outgoing - kept_outgoing k o) in
-    let meta : meta_at m.graph n ≡ maybe_meta.Some k = meta_of_node f.good f.holds n k here in
+    let meta : meta_at m.graph n ≡ Some k = meta_of_node f.good f.holds n k here in
     let ports : copies_dropped m k i o ≡ map (copy_node m) (filter (is_split m) a) ++ map (copy_node m) (filter (is_split m) b) =
     λ q. copies_are (k.incoming - kept_incoming k i) m (first_slot k + kept_incoming k i) q ++ copies_are (k.outgoing - kept_outgoing k o) m (first_slot k + k.incoming + kept_outgoing k o) q in
     ports
@@ -549,17 +546,17 @@ recount_frees_none k i o r = go (same_counts k i o) (fits_inside k i o)
     go false true = refl
     go false false = taken (eqb (round_up (i + o)) 0)
 
-copies_free : (m : MultiPortGraph) (cs : List ℕ) (r : Room) → ((c : ℕ) → Member c cs → (k : NodeMeta) × (meta_at m.graph c ≡ maybe_meta.Some k)) → (after_works r (copies_gone m cs)).free_nodes ≡ given_back cs r.free_nodes
+copies_free : (m : MultiPortGraph) (cs : List ℕ) (r : Room) → ((c : ℕ) → Member c cs → (k : NodeMeta) × (meta_at m.graph c ≡ Some k)) → (after_works r (copies_gone m cs)).free_nodes ≡ given_back cs r.free_nodes
 unfolding after_works after_work flat_map
 copies_free m [] r h = refl
 copies_free m (c ∷ cs) r h =
     let k = h c (inl refl) in
     let gone_so : after_works r (copies_gone m (c ∷ cs)) ≡ after_works (after_works r (gone_works c (meta_at m.graph c))) (copies_gone m cs) = after_append (gone_works c (meta_at m.graph c)) (copies_gone m cs) r in
-    let one : after_works r (gone_works c (meta_at m.graph c)) ≡ after_works r (gone_works c (maybe_meta.Some k.0)) = ap (λ (v : MaybeNodeMeta). after_works r (gone_works c v)) k.1 in
+    let one : after_works r (gone_works c (meta_at m.graph c)) ≡ after_works r (gone_works c (Some k.0)) = ap (λ (v : Option NodeMeta). after_works r (gone_works c v)) k.1 in
     ap (λ (v : Room). v.free_nodes) (gone_so ∙ ap (λ (v : Room). after_works v (copies_gone m cs)) one)
-    ∙ copies_free m cs (after_works r (gone_works c (maybe_meta.Some k.0))) (λ d i. h d (inr i))
+    ∙ copies_free m cs (after_works r (gone_works c (Some k.0))) (λ d i. h d (inr i))
 
-module _ {m : MultiPortGraph} {M : Model} (f : Fine m M) (n i o room e : ℕ) (ok : (set_counts m n i o room).answer ≡ resize.Set e) where
+module _ {m : MultiPortGraph} {M : Model} (f : Fine m M) (n i o room e : ℕ) (ok : (set_counts m n i o room).answer ≡ Ok e) where
   list_long : 3 * ((old f n i o room e ok).incoming + (old f n i o room e ok).outgoing) ≤ room
   list_long = go (leb (3 * ((old f n i o room e ok).incoming + (old f n i o room e ok).outgoing)) room) refl
     where
@@ -567,17 +564,17 @@ module _ {m : MultiPortGraph} {M : Model} (f : Fine m M) (n i o room e : ℕ) (o
       go true p = leb-true _ _ p
       go false p =
           let q = plan_is f n i o room e ok false _ _ _ p refl refl refl in
-          let a : (set_by m.graph n i o (refuse lower_set.MovesTooShort)).answer ≡ lower_set.Set e = subst (λ (v : Plan). (set_by m.graph n i o v).answer ≡ lower_set.Set e) q (answer_is f n i o room e ok) in
+          let a : (set_by m.graph n i o (refuse (Err set_error.MovesTooShort))).answer ≡ Ok e = subst (λ (v : Plan). (set_by m.graph n i o v).answer ≡ Ok e) q (answer_is f n i o room e ok) in
           absurd (zero_is_not_one (cc))
 
-  copies_are_nodes : (c : ℕ) → Member c (copies_dropped m (old f n i o room e ok) i o) → (k : NodeMeta) × (meta_at m.graph c ≡ maybe_meta.Some k)
+  copies_are_nodes : (c : ℕ) → Member c (copies_dropped m (old f n i o room e ok) i o) → (k : NodeMeta) × (meta_at m.graph c ≡ Some k)
   unfolding recounted is_hidden
   copies_are_nodes c h = go s.old s.is.here s.is
     where
       s : SomeRecount (set_by m.graph n i o (plan f n i o room e ok)).graph M n i o
       s = recount f n i o room e ok
 
-      go : (a : NodeMeta) → M.node n ≡ live a → Recount (set_by m.graph n i o (plan f n i o room e ok)).graph M s.model' n a s.new i o → (k : NodeMeta) × (meta_at m.graph c ≡ maybe_meta.Some k)
+      go : (a : NodeMeta) → M.node n ≡ live a → Recount (set_by m.graph n i o (plan f n i o room e ok)).graph M s.model' n a s.new i o → (k : NodeMeta) × (meta_at m.graph c ≡ Some k)
       go a there r =
           let is = here f n i o room e ok in
           let same_block : a ≡ old f n i o room e ok = cc in
@@ -591,22 +588,22 @@ module _ {m : MultiPortGraph} {M : Model} (f : Fine m M) (n i o room e : ℕ) (o
   hidden_go N g =
       let k : NodeMeta = old f n i o room e ok in
       let is : M.node n ≡ live k = here f n i o room e ok in
-      let meta : meta_at m.graph n ≡ maybe_meta.Some k = meta_of_node f.good f.holds n k is in
+      let meta : meta_at m.graph n ≡ Some k = meta_of_node f.good f.holds n k is in
       let s = set_counts_space f n k (shown f n i o room e ok, is) i o room (few f n i o room e ok) list_long in
       let r : room_of N ≡ after_works (room_of M) (set_works m n i o) = room_is (s.room_after (fits (overflows (room_of M) (set_works m n i o)) refl s.no_room_iff.1)) g.holds in
       let w : after_works (room_of M) (set_works m n i o) ≡ after_works (after_works (room_of M) (recount_works k i o)) (copies_gone m (copies_dropped m k i o)) =
-      ap (λ (v : MaybeNodeMeta). after_works (room_of M) (set_meta_works m i o v)) meta ∙ after_append (recount_works k i o) (copies_gone m (copies_dropped m k i o)) (room_of M) in
+      ap (λ (v : Option NodeMeta). after_works (room_of M) (set_meta_works m i o v)) meta ∙ after_append (recount_works k i o) (copies_gone m (copies_dropped m k i o)) (room_of M) in
       ap (λ (v : Room). v.free_nodes) (r ∙ w)
       ∙ (copies_free m (copies_dropped m k i o) (after_works (room_of M) (recount_works k i o)) copies_are_nodes
       ∙ (λ q. given_back (copies_told f n k is i o q) (recount_frees_none k i o (room_of M) q)))
     where
-      fits : (b : Bool) → overflows (room_of M) (set_works m n i o) ≡ b → (overflows (room_of M) (set_works m n i o) ≡ true → (set_counts m n i o room).answer ≡ resize.Refused NoRoom) → overflows (room_of M) (set_works m n i o) ≡ false
+      fits : (b : Bool) → overflows (room_of M) (set_works m n i o) ≡ b → (overflows (room_of M) (set_works m n i o) ≡ true → (set_counts m n i o room).answer ≡ Err NoRoom) → overflows (room_of M) (set_works m n i o) ≡ false
       fits true p h = let x = h p in absurd (zero_is_not_one (cc))
       fits false p h = p
 
 -- The hidden nodes of dropped ports go after the resize, in the order in which these ports are told: of the free node slots, those of
 -- the last one told is the next to be taken, then the one before, and so on, and below them are those that were free before.
-pub hidden_go_in_order : (release : Release) (calls : List Call) (n i o room e : ℕ) → (set_counts (run release calls).graph n i o room).answer ≡ resize.Set e →
+pub hidden_go_in_order : (release : Release) (calls : List Call) (n i o room e : ℕ) → (set_counts (run release calls).graph n i o room).answer ≡ Ok e →
     (M N : Model) → Fine (run release calls).graph M → Fine (set_counts (run release calls).graph n i o room).graph N →
     N.free_nodes ≡ given_back (hidden_told (run release calls).graph n i o) M.free_nodes
 hidden_go_in_order release calls n i o room e ok M N f g = hidden_go f n i o room e ok N g

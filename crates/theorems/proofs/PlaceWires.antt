@@ -1,5 +1,6 @@
 -- Where an end that is answered, or given by a walk, stands: at the far end of the book's wire.
-use Rattle.std.specs.Prelude.{◌≡◌, Bool, true, false, cond, List, [], ◌∷◌, ℕ, zero, suc}
+use Rattle.theorems.specs.Pairs.{some_pair}
+use Rattle.std.specs.Prelude.{◌≡◌, Bool, true, false, cond, List, [], ◌∷◌, ℕ, zero, suc, Option, Some, None, Result, Ok, Err}
 use Rattle.std.proofs.Math.Path.{refl}
 use Rattle.std.proofs.Common.{sym, ◌∙◌, ap, subst, inl, arith, ltb-true, eq-eqb}
 use Rattle.port_tables.specs.Limits.{node_slots}
@@ -30,14 +31,9 @@ use Rattle.multi_tables.specs.declared.answers.SubportLink.{SubportLink}
 use Rattle.multi_tables.specs.declared.answers.PortPlace.{PortPlace}
 use Rattle.multiportgraph.specs.declared.multiportgraph.PortUnlinked.{PortUnlinked}
 use Rattle.multi_tables.specs.declared.answers.Refusal.TheVariants.{BadOffset}
-use Rattle.multi_tables.specs.declared.answers.CutAnswer.{CutAnswer}
-use Rattle.multi_tables.specs.declared.answers.CutAnswer.TheVariants as cutting
 use Rattle.multiportgraph.specs.declared.iter.NodeLinks.{NodeLinks}
-use Rattle.multiportgraph.specs.declared.iter.NodeLinksStep.TheVariants as links_step
 use Rattle.multiportgraph.specs.declared.iter.NodeConnections.{NodeConnections}
-use Rattle.multiportgraph.specs.declared.iter.NodeConnectionsStep.TheVariants as connections_step
 use Rattle.multiportgraph.specs.declared.iter.Wires.{Wires}
-use Rattle.multiportgraph.specs.declared.iter.WiresStep.TheVariants as wires_step
 use Rattle.theorems.specs.Book.{Call, spot_of}
 use Rattle.theorems.specs.History.{State, run}
 use Rattle.theorems.proofs.WireRule.{Rel, spot_of_lem}
@@ -50,6 +46,7 @@ use Rattle.theorems.specs.BlockWalkLaws.{by_sides_member}
 use Rattle.theorems.specs.WalkHeldLaws.{port_links_give, port_links_give_back, links_give, links_end, connections_give, connections_end}
 use Rattle.theorems.proofs.WiresHeld.{wires_give}
 use Rattle.theorems.specs.PlaceClaims.{FarStands, OwnPlace, PlacesAreWires}
+use Rattle.multi_tables.specs.declared.answers.Refusal.{Refusal}
 
 -- a wire of the book between two subports, and where the second one stands
 far_stands : (s : State) (near far : SubportIndex) (x : PortPlace) → Member (wire_between s.graph near far) s.book.wires → x ≡ standing s.graph far → FarStands s near far x
@@ -64,59 +61,59 @@ far_stands s near far x i e =
 -- Answers.
 
 -- where something is found, the end named is there
-end_there : (m : MultiPortGraph) (p o : ℕ) (t : SubportIndex) (x : PortPlace) → subport_link m p o ≡ cutting.Found t x → EndThere m p o
+end_there : (m : MultiPortGraph) (p o : ℕ) (t : SubportIndex) (x : PortPlace) → subport_link m p o ≡ Ok (Some (t, x)) → EndThere m p o
 end_there m p o t x a = good (good_offset o) refl (sym (subport_link_cases m p o) ∙ a)
   where
-    ends : (n : ℕ) (d : Direction) → good_offset o ≡ true → seen m p ≡ visible n d → (e : End) → end_at m p d o ≡ e → link_of_end m p e ≡ cutting.Found t x → EndThere m p o
+    ends : (n : ℕ) (d : Direction) → good_offset o ≡ true → seen m p ≡ visible n d → (e : End) → end_at m p d o ≡ e → link_of_end m p e ≡ Ok (Some (t, x)) → EndThere m p o
     ends n d g s lacking e h = absurd (zero_is_not_one (cc))
     ends n d g s (inner q) e h = record { node = n; side = d; in_port = q; shown = s; small = let l = ltb-true o 65535 g in omega arith; there = e }
 
-    ports : good_offset o ≡ true → (v : Port) → seen m p ≡ v → link_of_seen m p o v ≡ cutting.Found t x → EndThere m p o
+    ports : good_offset o ≡ true → (v : Port) → seen m p ≡ v → link_of_seen m p o v ≡ Ok (Some (t, x)) → EndThere m p o
     ports g dead s h = absurd (zero_is_not_one (cc))
     ports g hidden s h = absurd (zero_is_not_one (cc))
     ports g (visible n d) s h = ends n d g s (end_at m p d o) refl h
 
-    good : (b : Bool) → good_offset o ≡ b → cond b (link_of_seen m p o (seen m p)) (cutting.Refused BadOffset) ≡ cutting.Found t x → EndThere m p o
+    good : (b : Bool) → good_offset o ≡ b → cond b (link_of_seen m p o (seen m p)) (Err BadOffset) ≡ Ok (Some (t, x)) → EndThere m p o
     good true g h = ports g (seen m p) refl h
     good false g h = absurd (zero_is_not_one (cc))
 
 -- a port that is cut and found something is a block's
-port_there : (m : MultiPortGraph) (p : ℕ) (u : SubportIndex) (x : PortPlace) → (cut_port m p).answer ≡ cutting.Found u x → PortOfBlock m p
+port_there : (m : MultiPortGraph) (p : ℕ) (u : SubportIndex) (x : PortPlace) → (cut_port m p).answer ≡ Ok (Some (u, x)) → PortOfBlock m p
 port_there m p u x a = go (seen m p) refl (sym (ap (λ (v : PortUnlinked). v.answer) (cut_cases m p)) ∙ a)
   where
-    go : (v : Port) → seen m p ≡ v → (cut_seen m p v).answer ≡ cutting.Found u x → PortOfBlock m p
+    go : (v : Port) → seen m p ≡ v → (cut_seen m p v).answer ≡ Ok (Some (u, x)) → PortOfBlock m p
     go dead s h = absurd (zero_is_not_one (cc))
     go hidden s h = absurd (zero_is_not_one (cc))
     go (visible n d) s h = (n, d, s)
 
-found_place : {t u : SubportIndex} {x y : PortPlace} → cutting.Found t x ≡ cutting.Found u y → x ≡ y
+found_place : {t u : SubportIndex} {x y : PortPlace} → ◌≡◌ {A = Result (Option (SubportIndex × PortPlace)) Refusal} (Ok (Some (t, x))) (Ok (Some (u, y))) → x ≡ y
 found_place {t} {u} {x} {y} e = ap place_in e
   where
-    place_in : CutAnswer → PortPlace
-    place_in (cutting.Found s z) = z
-    place_in cutting.Nothing = x
-    place_in (cutting.Refused r) = x
+    place_in : Result (Option (SubportIndex × PortPlace)) Refusal → PortPlace
+    place_in (Ok (Some (s, z))) = z
+    place_in (Ok None) = x
+    place_in (Err r) = x
 
-found_end : {t u : SubportIndex} {x y : PortPlace} → cutting.Found t x ≡ cutting.Found u y → t ≡ u
+found_end : {t u : SubportIndex} {x y : PortPlace} → ◌≡◌ {A = Result (Option (SubportIndex × PortPlace)) Refusal} (Ok (Some (t, x))) (Ok (Some (u, y))) → t ≡ u
 found_end {t} {u} {x} {y} e = ap end_in e
   where
-    end_in : CutAnswer → SubportIndex
-    end_in (cutting.Found s z) = s
-    end_in cutting.Nothing = t
-    end_in (cutting.Refused r) = t
+    end_in : Result (Option (SubportIndex × PortPlace)) Refusal → SubportIndex
+    end_in (Ok (Some (s, z))) = s
+    end_in (Ok None) = t
+    end_in (Err r) = t
 
 module _ (s : State) {M : Model} (r : Rel s.graph M s.book) where
   abbrev m : MultiPortGraph
   m = s.graph
 
-  asked_stands : (p o : ℕ) (t : SubportIndex) (x : PortPlace) → subport_link m p o ≡ cutting.Found t x → FarStands s (as_read m p o) t x
+  asked_stands : (p o : ℕ) (t : SubportIndex) (x : PortPlace) → subport_link m p o ≡ Ok (Some (t, x)) → FarStands s (as_read m p o) t x
   asked_stands p o t x a =
       let h = end_there m p o t x a in
       let k = found_link r.fine h t (ap unplaced a) in
       far_stands s (as_read m p o) t x (found_booked r h t (ap unplaced a))
       (found_place (sym a ∙ asked_linked r.fine h k.0 k.1) ∙ sym (ap (standing m) k.2))
 
-  plain_stands : (p : ℕ) (u : SubportIndex) (x : PortPlace) → is_split m p ≡ false → (cut_port m p).answer ≡ cutting.Found u x → FarStands s (subport# p 0) (subport_of m u.port.0) x
+  plain_stands : (p : ℕ) (u : SubportIndex) (x : PortPlace) → is_split m p ≡ false → (cut_port m p).answer ≡ Ok (Some (u, x)) → FarStands s (subport# p 0) (subport_of m u.port.0) x
   plain_stands p u x t a = go (M.join (itself r p b t)) refl
     where
       b : PortOfBlock m p
@@ -133,7 +130,7 @@ module _ (s : State) {M : Model} (r : Rel s.graph M s.book) where
           (found_booked r (here r p b t) (subport_of m (slot_of M.node y)) (asked_far r.fine (here r p b t) y j)))
           (found_place k))
 
-  split_stands : (p : ℕ) (u : SubportIndex) (x : PortPlace) → is_split m p ≡ true → (cut_port m p).answer ≡ cutting.Found u x → OwnPlace s p x
+  split_stands : (p : ℕ) (u : SubportIndex) (x : PortPlace) → is_split m p ≡ true → (cut_port m p).answer ≡ Ok (Some (u, x)) → OwnPlace s p x
   split_stands p u x t a =
       let b = port_there m p u x a in
       let c = block_seen r.fine p b.0 b.1 b.2 in
@@ -166,28 +163,28 @@ module _ (s : State) {M : Model} (r : Rel s.graph M s.book) where
           link_stands c.place w (port_link_lem r.fine c.place c.is_seen w (subst (λ (q : ℕ). Member w (port_links m q)) (sym c.slot) i))
 
   -- a walk of a block that gives something is one of a block
-  links_block : (c d : NodeLinks) (w : SubportLink) → step_links m c ≡ links_step.Item w d → is_block m c.node.0 ≡ true
+  links_block : (c d : NodeLinks) (w : SubportLink) → step_links m c ≡ Some (w, d) → is_block m c.node.0 ≡ true
   links_block c d w e = go (is_block m c.node.0) refl
     where
       go : (b : Bool) → is_block m c.node.0 ≡ b → b ≡ true
       go true h = refl
       go false h = let k = links_end m c h in absurd (zero_is_not_one (cc))
 
-  connections_block : (c d : NodeConnections) (w : SubportLink) → step_connections m c ≡ connections_step.Item w d → is_block m c.node.0 ≡ true
+  connections_block : (c d : NodeConnections) (w : SubportLink) → step_connections m c ≡ Some (w, d) → is_block m c.node.0 ≡ true
   connections_block c d w e = go (is_block m c.node.0) refl
     where
       go : (b : Bool) → is_block m c.node.0 ≡ b → b ≡ true
       go true h = refl
       go false h = let k = connections_end m c h in absurd (zero_is_not_one (cc))
 
-  links_stand : (c d : NodeLinks) (w : SubportLink) → step_links m c ≡ links_step.Item w d → FarStands s w.from w.to w.place
+  links_stand : (c d : NodeLinks) (w : SubportLink) → step_links m c ≡ Some (w, d) → FarStands s w.from w.to w.place
   unfolding node_links
   links_stand c d w e =
       let i = (member_filter (not_skipped c.skip_from c.skip_to) w _ (links_give m c d w e).0).0 in
       let g = by_sides_member (λ a. side_links m a c.node.0) c.sides w i in
       side_stands c.node.0 (links_block c d w e) g.0 w g.1
 
-  connections_stand : (c d : NodeConnections) (w : SubportLink) → step_connections m c ≡ connections_step.Item w d → FarStands s w.from w.to w.place
+  connections_stand : (c d : NodeConnections) (w : SubportLink) → step_connections m c ≡ Some (w, d) → FarStands s w.from w.to w.place
   unfolding connections
   connections_stand c d w e =
       side_stands c.node.0 (connections_block c d w e) Outgoing w (member_filter _ w (side_links m Outgoing c.node.0) (connections_give m c d w e).0).0
@@ -199,15 +196,15 @@ module _ (s : State) {M : Model} (r : Rel s.graph M s.book) where
       side_stands g.0 (member_filter (is_block m) g.0 (range 0 node_slots) g.1).1 Outgoing w g.2
 
 -- what a step over all wires gives is listed
-first_listed : (l : List SubportLink) (w : SubportLink) (d : Wires) → first_item l ≡ wires_step.Item w d → Member w l
-first_listed (v ∷ l) w d e = inl (let k : v ≡ w = cc in sym k)
+first_listed : (l : List SubportLink) (w : SubportLink) (d : Wires) → first_item l ≡ Some (w, d) → Member w l
+first_listed (v ∷ l) w d e = inl (sym (some_pair e).0)
 first_listed [] w d e = absurd (zero_is_not_one (cc))
 
 from_start : (m : MultiPortGraph) (c : Wires) → c.held ≡ 0 → step_wires m c ≡ first_item (all_wires m)
 unfolding step_wires
 from_start m c z = rw (eq-eqb c.held 0 z)
 
-wire_listed : (release : Release) (calls : List Call) (c d : Wires) (w : SubportLink) (h : ℕ) → c.held ≡ h → step_wires (run release calls).graph c ≡ wires_step.Item w d → Member w (all_wires (run release calls).graph)
+wire_listed : (release : Release) (calls : List Call) (c d : Wires) (w : SubportLink) (h : ℕ) → c.held ≡ h → step_wires (run release calls).graph c ≡ Some (w, d) → Member w (all_wires (run release calls).graph)
 wire_listed release calls c d w zero z e = first_listed (all_wires (run release calls).graph) w d (sym (from_start (run release calls).graph c z) ∙ e)
 wire_listed release calls c d w (suc p) z e =
     let g = (wires_give release calls c d p w z e).3 in

@@ -1,5 +1,5 @@
 -- Histories under the two releases: 18 or the step without that check, and what follows for lists of calls.
-use Rattle.std.specs.Prelude.{◌≡◌, refl, Bool, true, false, cond, List, [], ◌∷◌, ◌⊎◌, ℕ, ◌+◌, eqb, leb}
+use Rattle.std.specs.Prelude.{◌≡◌, refl, Bool, true, false, cond, List, [], ◌∷◌, ◌⊎◌, ℕ, ◌+◌, eqb, leb, Option, Some, None, Result, Ok, Err}
 use Rattle.std.proofs.Common.{sym, ◌∙◌, ap, subst, inl, inr, ⊎_elim, eq-eqb}
 use Rattle.std.proofs.lemmas.Bool.{eqb-false}
 use Rattle.port_tables.specs.Limits.{present, node_ports}
@@ -10,17 +10,7 @@ use Rattle.portgraph.specs.Calls.{add_node, link_ports, unlink_port}
 use Rattle.portgraph.specs.Resize.{set_num_ports}
 use Rattle.port_tables.specs.declared.direction.Direction.{Direction}
 use Rattle.port_tables.specs.declared.node_entry.NodeMeta.{NodeMeta}
-use Rattle.port_tables.specs.declared.node_entry.MaybeNodeMeta.{MaybeNodeMeta}
-use Rattle.port_tables.specs.declared.node_entry.MaybeNodeMeta.TheVariants as maybe_meta
 use Rattle.portgraph.specs.declared.portgraph.PortGraph.{PortGraph}
-use Rattle.portgraph.specs.declared.portgraph.PortLink.{PortLink}
-use Rattle.portgraph.specs.declared.portgraph.PortLink.TheVariants as lower_cut
-use Rattle.portgraph.specs.declared.portgraph.LinkAnswer as lower_link_answer
-use Rattle.portgraph.specs.declared.portgraph.LinkAnswer.TheVariants as lower_link
-use Rattle.portgraph.specs.declared.alloc.AddAnswer as lower_add_answer
-use Rattle.portgraph.specs.declared.alloc.AddAnswer.TheVariants as lower_add
-use Rattle.portgraph.specs.declared.resize.SetAnswer as lower_set_answer
-use Rattle.portgraph.specs.declared.resize.SetAnswer.TheVariants as lower_set
 use Rattle.multiportgraph.specs.Reading.{is_hidden, is_split, seen, end_at, as_read, far_subport, subports, copy_node}
 use Rattle.multi_tables.specs.Forms.{Port, dead, hidden, visible, End, inner, lacking, good_offset, taken_under}
 use Rattle.multiportgraph.specs.Graph.{empty_graph}
@@ -49,6 +39,15 @@ use Rattle.theorems.specs.Book.{Call, Book, book_answer}
 use Rattle.theorems.specs.History.{Stepped, State, step, next, entered, marks_named, ports_shown, run, run_from, run_from_under, run_under}
 use Rattle.theorems.specs.ReleaseClaims.{for_release, step_unchecked, stepped_for, first_of, number_of, Answered, start, answers_from, answers, without18, calls_of, calls_passed}
 use Rattle.theorems.specs.ReleaseLaws.{add_for, remove_for, set_for_lem, link_for, clean_for, sub_for, cut_for_lem, cut_sub_for, tidy_for}
+use Rattle.port_tables.specs.declared.index.PortIndex.{PortIndex}
+use Rattle.portgraph.specs.declared.portgraph.NoSuchPort.{NoSuchPort}
+use Rattle.portgraph.specs.declared.alloc.AddError.TheVariants as add_error
+use Rattle.portgraph.specs.declared.portgraph.LinkError.TheVariants as link_error
+use Rattle.portgraph.specs.declared.resize.SetError.TheVariants as set_error
+use Rattle.port_tables.specs.declared.index.NodeIndex.{NodeIndex}
+use Rattle.portgraph.specs.declared.alloc.AddError.{AddError}
+use Rattle.portgraph.specs.declared.portgraph.LinkError.{LinkError}
+use Rattle.portgraph.specs.declared.resize.SetError.{SetError}
 
 -- Without the check the release plays no part.
 
@@ -194,49 +193,49 @@ module _ (m : MultiPortGraph) where
   abbrev Other : List ℕ → Type 0
   Other l = eqb (first_of l) 18 ≡ false
 
-  inner_other : (a : lower_link_answer.LinkAnswer) (g : PortGraph) (s t : SubportIndex) → Other (link_numbers (link_inner m s t a g).answer)
-  inner_other (lower_link.Linked x y) g s t = refl
-  inner_other (lower_link.UnknownPort x) g s t = refl
-  inner_other (lower_link.UnknownSecondPort y) g s t = refl
-  inner_other (lower_link.IncompatibleDirections x y d) g s t = refl
-  inner_other (lower_link.AlreadyLinked x) g s t = refl
+  inner_other : (a : Result (PortIndex × PortIndex) LinkError) (g : PortGraph) (s t : SubportIndex) → Other (link_numbers (link_inner m s t a g).answer)
+  inner_other (Ok (x, y)) g s t = refl
+  inner_other (Err (link_error.UnknownPort x)) g s t = refl
+  inner_other (Err (link_error.UnknownSecondPort y)) g s t = refl
+  inner_other (Err (link_error.IncompatibleDirections x y d)) g s t = refl
+  inner_other (Err (link_error.AlreadyLinked x)) g s t = refl
 
   add_other : (i o : ℕ) → Other (add_numbers (add_block m i o).answer)
   add_other i o = subst (λ (v : NodeAdded). Other (add_numbers v.answer)) (sym (add_cases present m i o)) (go (add_node m.graph i o).answer)
     where
-      go : (a : lower_add_answer.AddAnswer) → Other (add_numbers (added_as a))
-      go (lower_add.Added n p) = refl
-      go lower_add.TooManyPorts = refl
-      go lower_add.NoRoom = refl
+      go : (a : Result (NodeIndex × PortIndex) AddError) → Other (add_numbers (added_as a))
+      go (Ok (n, p)) = refl
+      go (Err add_error.TooManyPorts) = refl
+      go (Err add_error.NoRoom) = refl
 
   remove_other : (n : ℕ) → Other (remove_numbers (remove_block m n).answer)
   remove_other n = subst (λ (v : NodeRemoved). Other (remove_numbers v.answer)) (sym (remove_cases m n)) (go (meta_at m.graph n))
     where
-      shown : (k : NodeMeta) (b : Bool) → is_hidden m n ≡ b → Other (remove_numbers (remove_meta m n (maybe_meta.Some k)).answer)
+      shown : (k : NodeMeta) (b : Bool) → is_hidden m n ≡ b → Other (remove_numbers (remove_meta m n (Some k)).answer)
       shown k true e = rw e refl
       shown k false e = rw e refl
 
-      go : (v : MaybeNodeMeta) → Other (remove_numbers (remove_meta m n v).answer)
-      go maybe_meta.None = refl
-      go (maybe_meta.Some k) = shown k (is_hidden m n) refl
+      go : (v : Option NodeMeta) → Other (remove_numbers (remove_meta m n v).answer)
+      go None = refl
+      go (Some k) = shown k (is_hidden m n) refl
 
   set_other : (n i o room : ℕ) → Other (set_numbers (set_counts m n i o room).answer)
   set_other n i o room = subst (λ (v : PortsSet). Other (set_numbers v.answer)) (sym (set_cases present m n i o room)) (few (leb (i + o) node_ports))
     where
-      lower : (a : lower_set_answer.SetAnswer) → Other (set_numbers (set_as a))
-      lower (lower_set.Set e) = refl
-      lower lower_set.TooManyPorts = refl
-      lower lower_set.UnknownNode = refl
-      lower lower_set.MovesTooShort = refl
-      lower lower_set.NoRoom = refl
+      lower : (a : Result ℕ SetError) → Other (set_numbers (set_as a))
+      lower (Ok e) = refl
+      lower (Err set_error.TooManyPorts) = refl
+      lower (Err set_error.UnknownNode) = refl
+      lower (Err set_error.MovesTooShort) = refl
+      lower (Err set_error.NoRoom) = refl
 
-      shown : (k : NodeMeta) (b : Bool) → is_hidden m n ≡ b → Other (set_numbers (set_meta m n i o room (maybe_meta.Some k)).answer)
+      shown : (k : NodeMeta) (b : Bool) → is_hidden m n ≡ b → Other (set_numbers (set_meta m n i o room (Some k)).answer)
       shown k true e = rw e refl
       shown k false e = rw e (lower (set_num_ports m.graph n i o room).answer)
 
-      node : (v : MaybeNodeMeta) → Other (set_numbers (set_meta m n i o room v).answer)
-      node maybe_meta.None = refl
-      node (maybe_meta.Some k) = shown k (is_hidden m n) refl
+      node : (v : Option NodeMeta) → Other (set_numbers (set_meta m n i o room v).answer)
+      node None = refl
+      node (Some k) = shown k (is_hidden m n) refl
 
       few : (b : Bool) → Other (set_numbers (cond b (set_meta m n i o room (meta_at m.graph n)) (set_refused m TooManyPorts)).answer)
       few true = node (meta_at m.graph n)
@@ -311,10 +310,10 @@ module _ (m : MultiPortGraph) where
   cut_other : (p : ℕ) → Other (cut_numbers (cut_port m p).answer)
   cut_other p = subst (λ (v : PortUnlinked). Other (cut_numbers v.answer)) (sym (cut_cases m p)) (go (seen m p))
     where
-      plain : (v : PortLink) → Other (cut_numbers (cut_plain m v))
-      plain (lower_cut.Linked q) = refl
-      plain lower_cut.Unlinked = refl
-      plain (lower_cut.UnknownPort q) = refl
+      plain : (v : Result (Option PortIndex) NoSuchPort) → Other (cut_numbers (cut_plain m v))
+      plain (Ok (Some q)) = refl
+      plain (Ok None) = refl
+      plain (Err q) = refl
 
       here : (n : ℕ) (d : Direction) (b : Bool) → is_split m p ≡ b → Other (cut_numbers (cut_seen m p (visible n d)).answer)
       here n d true e = rw e refl
@@ -328,10 +327,10 @@ module _ (m : MultiPortGraph) where
   cut_sub_other : (p o : ℕ) → Other (cut_numbers (cut_sub m p o).answer)
   cut_sub_other p o = subst (λ (v : PortUnlinked). Other (cut_numbers v.answer)) (sym (cut_sub_cases m p o)) (good (good_offset o))
     where
-      far : (v : PortLink) → Other (cut_numbers (far_subport m v))
-      far (lower_cut.Linked q) = refl
-      far lower_cut.Unlinked = refl
-      far (lower_cut.UnknownPort q) = refl
+      far : (v : Result (Option PortIndex) NoSuchPort) → Other (cut_numbers (far_subport m v))
+      far (Ok (Some q)) = refl
+      far (Ok None) = refl
+      far (Err q) = refl
 
       at : (v : End) → Other (cut_numbers (cut_end m p v).answer)
       at lacking = refl

@@ -1,12 +1,10 @@
 -- Removing a block: its bundle.
-use Rattle.std.specs.Prelude.{◌≡◌, refl, Bool, true, false, cond, ℕ}
+use Rattle.std.specs.Prelude.{◌≡◌, refl, Bool, true, false, cond, ℕ, Option, Some, None, Result, Ok, Err}
 use Rattle.std.proofs.Common.{sym, ◌∙◌, ap, subst}
 use Rattle.portgraph.specs.Lookups.{meta_at}
 use Rattle.portgraph.specs.Model.{Model, Slots, gone, live}
 use Rattle.portgraph.specs.PlaceLaws.{meta_of_node, gone_has_no_meta}
 use Rattle.port_tables.specs.declared.node_entry.NodeMeta.{NodeMeta}
-use Rattle.port_tables.specs.declared.node_entry.MaybeNodeMeta.{MaybeNodeMeta}
-use Rattle.port_tables.specs.declared.node_entry.MaybeNodeMeta.TheVariants as maybe_meta
 use Rattle.multiportgraph.specs.Reading.{is_hidden}
 use Rattle.multiportgraph.specs.Calls.{drop_block, remove_block}
 use Rattle.theorems.specs.Book as book
@@ -14,8 +12,6 @@ use Rattle.multiportgraph.specs.WellFormed.{Fine}
 use Rattle.multiportgraph.specs.declared.multiportgraph.MultiPortGraph.{MultiPortGraph}
 use Rattle.multi_tables.specs.declared.answers.Refusal.{Refusal}
 use Rattle.multi_tables.specs.declared.answers.Refusal.TheVariants.{UnknownNode, HiddenNode}
-use Rattle.multiportgraph.specs.declared.multiportgraph.RemoveAnswer.{RemoveAnswer}
-use Rattle.multiportgraph.specs.declared.multiportgraph.RemoveAnswer.TheVariants as remove
 use Rattle.multiportgraph.specs.declared.multiportgraph.NodeRemoved.{NodeRemoved}
 use Rattle.multiportgraph.specs.Cases.{remove_refused, remove_meta}
 use Rattle.multiportgraph.specs.CaseLaws.{remove_cases}
@@ -29,20 +25,20 @@ use Rattle.theorems.proofs.CallLaw.{CallLaw, whole}
 -- Removing a block.
 
 module _ {m : MultiPortGraph} {M : Model} (f : Fine m M) (n : ℕ) where
-  remove_is : (v : MaybeNodeMeta) → meta_at m.graph n ≡ v → remove_block m n ≡ remove_meta m n v
+  remove_is : (v : Option NodeMeta) → meta_at m.graph n ≡ v → remove_block m n ≡ remove_meta m n v
   remove_is v e = remove_cases m n ∙ ap (remove_meta m n) e
 
   remove_live : (k : NodeMeta) (b : Bool) → is_hidden m n ≡ b → M.node n ≡ live k →
-      remove_block m n ≡ cond b (remove_refused m HiddenNode) (record { graph = drop_block m n k; answer = remove.Removed })
-  remove_live k b h e = remove_is (maybe_meta.Some k) (meta_of_node f.good f.holds n k e) ∙ rw h
+      remove_block m n ≡ cond b (remove_refused m HiddenNode) (record { graph = drop_block m n k; answer = Ok tt })
+  remove_live k b h e = remove_is (Some k) (meta_of_node f.good f.holds n k e) ∙ rw h
 
   pub remove_refuses : (r : Refusal) → RemoveRefused m M n r → remove_block m n ≡ remove_refused m r
-  remove_refuses r (remove_unknown e) = remove_is maybe_meta.None (gone_has_no_meta f.good f.holds n e)
+  remove_refuses r (remove_unknown e) = remove_is None (gone_has_no_meta f.good f.holds n e)
   remove_refuses r (remove_hidden h) = let k = f.copy n h in remove_live k.meta true h k.here
 
-  abbrev RemoveSays : RemoveAnswer → Type 0
-  RemoveSays remove.Removed = Unit {0}
-  RemoveSays (remove.Refused r) = RemoveRefused m M n r
+  abbrev RemoveSays : Result (Unit {0}) Refusal → Type 0
+  RemoveSays (Ok tt) = Unit {0}
+  RemoveSays (Err r) = RemoveRefused m M n r
 
   remove_says : RemoveSays (remove_block m n).answer
   remove_says = go (M.node n) refl
@@ -55,7 +51,7 @@ module _ {m : MultiPortGraph} {M : Model} (f : Fine m M) (n : ℕ) where
       go gone e = subst (λ (v : NodeRemoved). RemoveSays v.answer) (sym (remove_refuses UnknownNode (remove_unknown e))) (remove_unknown e)
       go (live k) e = flagged k (is_hidden m n) refl e
 
-  pub remove_refused_lem : (r : Refusal) → (remove_block m n).answer ≡ remove.Refused r → RemoveRefused m M n r
+  pub remove_refused_lem : (r : Refusal) → (remove_block m n).answer ≡ Err r → RemoveRefused m M n r
   remove_refused_lem r e = subst RemoveSays e remove_says
 
 module _ {m : MultiPortGraph} {M : Model} (f : Fine m M) where

@@ -1,5 +1,5 @@
 -- Changing a block's counts: its bundle, and that a refused one tells nothing.
-use Rattle.std.specs.Prelude.{◌≡◌, Bool, true, false, List, ℕ, ◌+◌, ◌*◌, ◌≤◌, ◌<◌, eqb, leb, ltb, length}
+use Rattle.std.specs.Prelude.{◌≡◌, Bool, true, false, List, ℕ, ◌+◌, ◌*◌, ◌≤◌, ◌<◌, eqb, leb, ltb, length, Option, Some, None, Result, Ok, Err}
 use Rattle.std.proofs.Math.Path.{refl}
 use Rattle.std.proofs.Common.{sym, ◌∙◌, ap, subst, arith, ltb-true, ltb-false, leb-true, leb-false, eqb-true, le-leb}
 use Rattle.std.proofs.Math.Seq.{ext_get_or}
@@ -15,8 +15,6 @@ use Rattle.portgraph.specs.SlotHolds.{block_room}
 use Rattle.portgraph.specs.ResizeLaws as resize_laws
 use Rattle.portgraph.specs.ResizeLaws.{events_of}
 use Rattle.port_tables.specs.declared.node_entry.NodeMeta.{NodeMeta}
-use Rattle.port_tables.specs.declared.node_entry.MaybeNodeMeta.{MaybeNodeMeta}
-use Rattle.port_tables.specs.declared.node_entry.MaybeNodeMeta.TheVariants as maybe_meta
 use Rattle.portgraph.specs.declared.resize.PortsSet as lower_ports_set
 use Rattle.multiportgraph.specs.Reading.{is_hidden}
 use Rattle.multiportgraph.specs.Calls.{set_as, set_counts, told_meta, moves_told, moves_told_under, set_counts_under}
@@ -25,8 +23,6 @@ use Rattle.multiportgraph.specs.WellFormed.{Fine, BlockIs}
 use Rattle.multiportgraph.specs.declared.multiportgraph.MultiPortGraph.{MultiPortGraph}
 use Rattle.multi_tables.specs.declared.answers.Refusal.{Refusal}
 use Rattle.multi_tables.specs.declared.answers.Refusal.TheVariants.{TooManyPorts, UnknownNode, HiddenNode, MovesTooShort, NoRoom}
-use Rattle.multiportgraph.specs.declared.multiportgraph.SetAnswer.{SetAnswer}
-use Rattle.multiportgraph.specs.declared.multiportgraph.SetAnswer.TheVariants as resize
 use Rattle.multiportgraph.specs.declared.multiportgraph.PortsSet.{PortsSet}
 use Rattle.multiportgraph.specs.Cases.{set_refused, resized, set_meta}
 use Rattle.multiportgraph.specs.CaseLaws.{set_cases}
@@ -40,26 +36,26 @@ use Rattle.theorems.proofs.CallLaw.{CallLaw, whole}
 -- Changing a block's counts.
 
 module _ {m : MultiPortGraph} {M : Model} (f : Fine m M) (n incoming outgoing room : ℕ) where
-  set_is : incoming + outgoing ≤ node_ports → (v : MaybeNodeMeta) → meta_at m.graph n ≡ v → set_counts m n incoming outgoing room ≡ set_meta m n incoming outgoing room v
+  set_is : incoming + outgoing ≤ node_ports → (v : Option NodeMeta) → meta_at m.graph n ≡ v → set_counts m n incoming outgoing room ≡ set_meta m n incoming outgoing room v
   set_is h v e = set_cases present m n incoming outgoing room ∙ rw (le-leb (incoming + outgoing) node_ports h) (ap (set_meta m n incoming outgoing room) e)
 
   set_block : incoming + outgoing ≤ node_ports → (k : NodeMeta) → BlockIs m M n k → (v : lower_ports_set.PortsSet) → set_num_ports m.graph n incoming outgoing room ≡ v →
       set_counts m n incoming outgoing room ≡ record { graph = resized m n k incoming outgoing v.graph v.answer; answer = set_as v.answer }
   set_block h k b v e =
-      set_is h (maybe_meta.Some k) (meta_of_node f.good f.holds n k b.1)
+      set_is h (Some k) (meta_of_node f.good f.holds n k b.1)
       ∙ rw b.0 (ap (λ (v : lower_ports_set.PortsSet). record { graph = resized m n k incoming outgoing v.graph v.answer; answer = set_as v.answer }) e)
 
   pub set_refuses : (r : Refusal) → SetRefused m M n incoming outgoing room r → set_counts m n incoming outgoing room ≡ set_refused m r
   unfolding set_counts_under
   set_refuses r (set_many h) = rw (lt-leb (incoming + outgoing) node_ports h)
-  set_refuses r (set_gone h e) = set_is h maybe_meta.None (gone_has_no_meta f.good f.holds n e)
-  set_refuses r (set_hidden h t) = let k = f.copy n t in set_is h (maybe_meta.Some k.meta) (meta_of_node f.good f.holds n k.meta k.here) ∙ rw t
+  set_refuses r (set_gone h e) = set_is h None (gone_has_no_meta f.good f.holds n e)
+  set_refuses r (set_hidden h t) = let k = f.copy n t in set_is h (Some k.meta) (meta_of_node f.good f.holds n k.meta k.here) ∙ rw t
   set_refuses r (set_short h k b l) = set_block h k b _ (resize_laws.set_moves_too_short f.good f.holds n incoming outgoing room h k b.1 l)
   set_refuses r (set_full h k b l x) = set_block h k b _ (resize_laws.set_no_room f.good f.holds n incoming outgoing room h k b.1 l x.other x.away x.full)
 
-  abbrev SetSays : SetAnswer → Type 0
-  SetSays (resize.Set e) = Unit {0}
-  SetSays (resize.Refused r) = SetRefused m M n incoming outgoing room r
+  abbrev SetSays : Result ℕ Refusal → Type 0
+  SetSays (Ok e) = Unit {0}
+  SetSays (Err r) = SetRefused m M n incoming outgoing room r
 
   so_refused : (r : Refusal) → SetRefused m M n incoming outgoing room r → SetSays (set_counts m n incoming outgoing room).answer
   so_refused r c = subst (λ (v : PortsSet). SetSays v.answer) (sym (set_refuses r c)) c
@@ -100,12 +96,12 @@ module _ {m : MultiPortGraph} {M : Model} (f : Fine m M) (n incoming outgoing ro
       go true (live k) true p e q = so_refused HiddenNode (set_hidden (leb-true _ _ p) q)
       go true (live k) false p e q = block_says (leb-true _ _ p) k (q, e) (leb (3 * (k.incoming + k.outgoing)) room) refl
 
-  pub set_refused_lem : (r : Refusal) → (set_counts m n incoming outgoing room).answer ≡ resize.Refused r → SetRefused m M n incoming outgoing room r
+  pub set_refused_lem : (r : Refusal) → (set_counts m n incoming outgoing room).answer ≡ Err r → SetRefused m M n incoming outgoing room r
   set_refused_lem r e = subst SetSays e set_says
 
 module _ {m : MultiPortGraph} {M : Model} (f : Fine m M) where
   -- a refused resize leaves the move list as it was
-  pub refused_tells_nothing : (n i o : ℕ) (moves : List ℕ) (r : Refusal) → (set_counts m n i o (length moves)).answer ≡ resize.Refused r → moves_told m n i o moves ≡ moves
+  pub refused_tells_nothing : (n i o : ℕ) (moves : List ℕ) (r : Refusal) → (set_counts m n i o (length moves)).answer ≡ Err r → moves_told m n i o moves ≡ moves
   unfolding moves_told_under
   refused_tells_nothing n i o moves r e = go r (is_hidden m n) refl (set_refused_lem f n i o (length moves) r e)
     where

@@ -1,7 +1,7 @@
 -- When the start of a walk, a lookup or a fan-out is refused: 4 exactly if the node is not live, 5 exactly if it is hidden, 7
 -- exactly if the port is not live, 8 exactly if it belongs to a hidden node, and nothing else. Else the walk starts, or the
 -- lookup answers what the graph has; fan-out is the number of links listed.
-use Rattle.std.specs.Prelude.{◌≡◌, Bool, ◌⊎◌, ◌↔◌, ℕ, ◌≤◌}
+use Rattle.std.specs.Prelude.{◌≡◌, Bool, ◌⊎◌, ◌↔◌, ℕ, ◌≤◌, Option, Some, None, Ok, Err}
 use Rattle.std.proofs.Math.Path.{refl, sym, ap}
 use Rattle.std.proofs.Common.{◌∙◌, subst, inl, inr, arith, length-append}
 use Rattle.std.proofs.Math.Bool.{true, false, cond}
@@ -23,11 +23,8 @@ use Rattle.port_tables.specs.declared.direction.Direction.TheVariants.{Outgoing}
 use Rattle.port_tables.specs.declared.index.NodeIndex.{NodeIndex}
 use Rattle.port_tables.specs.declared.index.PortIndex.{PortIndex}
 use Rattle.port_tables.specs.declared.index.PortOffset.{PortOffset}
-use Rattle.port_tables.specs.declared.index.MaybePortIndex.{MaybePortIndex}
-use Rattle.port_tables.specs.declared.index.MaybePortIndex.TheVariants as maybe_port
 use Rattle.port_tables.specs.declared.sides.Sides.{Sides}
 use Rattle.port_tables.specs.declared.node_entry.NodeMeta.{NodeMeta}
-use Rattle.port_tables.specs.declared.node_entry.MaybeNodeMeta.{MaybeNodeMeta}
 use Rattle.multiportgraph.specs.Reading.{is_hidden, position_of, seen}
 use Rattle.multi_tables.specs.Forms.{Port, dead, hidden, visible, sum_of}
 use Rattle.multiportgraph.specs.Calls.{visible_nodes}
@@ -44,17 +41,6 @@ use Rattle.theorems.proofs.WireRule.{seen_live}
 use Rattle.multiportgraph.specs.declared.multiportgraph.MultiPortGraph.{MultiPortGraph}
 use Rattle.multi_tables.specs.declared.answers.Refusal.{Refusal}
 use Rattle.multi_tables.specs.declared.answers.Refusal.TheVariants.{UnknownNode, HiddenNode, UnknownPort, HiddenPort}
-use Rattle.multiportgraph.specs.declared.iter.NodePortsStart.TheVariants as node_ports_start
-use Rattle.multiportgraph.specs.declared.iter.NodeSubportsStart.TheVariants as subports_start
-use Rattle.multiportgraph.specs.declared.iter.PortLinksStart.TheVariants as port_start
-use Rattle.multiportgraph.specs.declared.iter.NodeLinksStart.TheVariants as links_start
-use Rattle.multiportgraph.specs.declared.iter.NeighboursStart.TheVariants as neighbours_start
-use Rattle.multiportgraph.specs.declared.iter.NodeConnectionsStart.TheVariants as connections_start
-use Rattle.multiportgraph.specs.declared.lookups.DirectionAnswer.TheVariants as direction_of_lem
-use Rattle.multiportgraph.specs.declared.lookups.NodeAnswer.TheVariants as node_of_lem
-use Rattle.multiportgraph.specs.declared.lookups.OffsetAnswer.TheVariants as offset_of_lem
-use Rattle.multiportgraph.specs.declared.lookups.PortAnswer.TheVariants as port_of_lem
-use Rattle.multiportgraph.specs.declared.lookups.CountAnswer.TheVariants as count_of
 use Rattle.theorems.specs.Conditions.{OfBlock, PortIs, no_port, hidden_port, block_port, RemoveRefused, remove_unknown, remove_hidden, CutRefused, cut_dead, cut_hidden}
 use Rattle.theorems.specs.PortCases.{port_is}
 
@@ -240,61 +226,61 @@ module _ {m : MultiPortGraph} {M : Model} (f : Fine m M) where
 
   -- The walks.
 
-  pub node_ports_refused : (n : NodeIndex) (sides : Sides) (r : Refusal) → (start_node_ports m n sides ≡ node_ports_start.Refused r) ↔ NodeRefused m M n.0 r
+  pub node_ports_refused : (n : NodeIndex) (sides : Sides) (r : Refusal) → (start_node_ports m n sides ≡ Err r) ↔ NodeRefused m M n.0 r
   node_ports_refused n sides r =
-      by_start node_ports_start.Refused (λ r s e. cc) (node_ports_from n sides) (λ r. refl) (λ r e. zero_is_not_one (cc)) (start_at_node m n.0) r _ (start_at_node_refused n.0 r)
+      by_start Err (λ r s e. cc) (node_ports_from n sides) (λ r. refl) (λ r e. zero_is_not_one (cc)) (start_at_node m n.0) r _ (start_at_node_refused n.0 r)
 
-  pub subports_refused : (n : NodeIndex) (sides : Sides) (r : Refusal) → (start_subports m n sides ≡ subports_start.Refused r) ↔ NodeRefused m M n.0 r
+  pub subports_refused : (n : NodeIndex) (sides : Sides) (r : Refusal) → (start_subports m n sides ≡ Err r) ↔ NodeRefused m M n.0 r
   subports_refused n sides r =
-      by_start subports_start.Refused (λ r s e. cc) (subports_from n sides) (λ r. refl) (λ r e. zero_is_not_one (cc)) (start_at_node m n.0) r _ (start_at_node_refused n.0 r)
+      by_start Err (λ r s e. cc) (subports_from n sides) (λ r. refl) (λ r e. zero_is_not_one (cc)) (start_at_node m n.0) r _ (start_at_node_refused n.0 r)
 
-  pub port_links_refused : (p : PortIndex) (r : Refusal) → (start_port_links m p ≡ port_start.Refused r) ↔ PortRefused m M p.0 r
+  pub port_links_refused : (p : PortIndex) (r : Refusal) → (start_port_links m p ≡ Err r) ↔ PortRefused m M p.0 r
   port_links_refused p r =
-      by_start port_start.Refused (λ r s e. cc) (port_links_from p) (λ r. refl) (λ r e. zero_is_not_one (cc)) (start_at_port m p.0) r _ (start_at_port_refused p.0 r)
+      by_start Err (λ r s e. cc) (port_links_from p) (λ r. refl) (λ r e. zero_is_not_one (cc)) (start_at_port m p.0) r _ (start_at_port_refused p.0 r)
 
-  pub node_links_refused : (n : NodeIndex) (sides : Sides) (lo hi : ℕ) (r : Refusal) → (start_links m n sides lo hi ≡ links_start.Refused r) ↔ NodeRefused m M n.0 r
+  pub node_links_refused : (n : NodeIndex) (sides : Sides) (lo hi : ℕ) (r : Refusal) → (start_links m n sides lo hi ≡ Err r) ↔ NodeRefused m M n.0 r
   node_links_refused n sides lo hi r =
-      by_start links_start.Refused (λ r s e. cc) (links_from n sides lo hi) (λ r. refl) (λ r e. zero_is_not_one (cc)) (start_at_node m n.0) r _ (start_at_node_refused n.0 r)
+      by_start Err (λ r s e. cc) (links_from n sides lo hi) (λ r. refl) (λ r e. zero_is_not_one (cc)) (start_at_node m n.0) r _ (start_at_node_refused n.0 r)
 
-  pub neighbours_refused : (n : NodeIndex) (sides : Sides) (flag : Bool) (r : Refusal) → (start_neighbours m n sides flag ≡ neighbours_start.Refused r) ↔ NodeRefused m M n.0 r
+  pub neighbours_refused : (n : NodeIndex) (sides : Sides) (flag : Bool) (r : Refusal) → (start_neighbours m n sides flag ≡ Err r) ↔ NodeRefused m M n.0 r
   neighbours_refused n sides flag r =
-      by_start neighbours_start.Refused (λ r s e. cc) (neighbours_from n sides flag) (λ r. refl) (λ r e. zero_is_not_one (cc)) (start_at_node m n.0) r _ (start_at_node_refused n.0 r)
+      by_start Err (λ r s e. cc) (neighbours_from n sides flag) (λ r. refl) (λ r e. zero_is_not_one (cc)) (start_at_node m n.0) r _ (start_at_node_refused n.0 r)
 
-  pub connections_refused : (n k : NodeIndex) (r : Refusal) → (start_connections m n k ≡ connections_start.Refused r) ↔ BetweenRefused m M n.0 k.0 r
+  pub connections_refused : (n k : NodeIndex) (r : Refusal) → (start_connections m n k ≡ Err r) ↔ BetweenRefused m M n.0 k.0 r
   connections_refused n k r =
-      by_start connections_start.Refused (λ r s e. cc) (connections_from n k) (λ r. refl) (λ r e. zero_is_not_one (cc)) (start_between m n.0 k.0) r _ (start_between_refused n.0 k.0 r)
+      by_start Err (λ r s e. cc) (connections_from n k) (λ r. refl) (λ r e. zero_is_not_one (cc)) (start_between m n.0 k.0) r _ (start_between_refused n.0 k.0 r)
 
   -- Lookups at a port.
 
-  pub direction_refused : (p : ℕ) (r : Refusal) → (direction_of m p ≡ direction_of_lem.Refused r) ↔ PortRefused m M p r
+  pub direction_refused : (p : ℕ) (r : Refusal) → (direction_of m p ≡ Err r) ↔ PortRefused m M p r
   unfolding direction_of
-  direction_refused p r = by_port direction_of_lem.Refused (λ r s e. cc) p (direction_seen p) refl refl (λ n d r e. zero_is_not_one (cc)) r
+  direction_refused p r = by_port Err (λ r s e. cc) p (direction_seen p) refl refl (λ n d r e. zero_is_not_one (cc)) r
 
-  pub direction_found : (p : ℕ) (x : model.InnerPlace) → OfBlock m M p x → direction_of m p ≡ direction_of_lem.Found x.side
+  pub direction_found : (p : ℕ) (x : model.InnerPlace) → OfBlock m M p x → direction_of m p ≡ Ok x.side
   unfolding direction_of
   direction_found p x b = ap (direction_seen p) (block_port_seen p x b)
 
-  pub node_refused : (p : ℕ) (r : Refusal) → (node_of m p ≡ node_of_lem.Refused r) ↔ PortRefused m M p r
+  pub node_refused : (p : ℕ) (r : Refusal) → (node_of m p ≡ Err r) ↔ PortRefused m M p r
   unfolding node_of
-  node_refused p r = by_port node_of_lem.Refused (λ r s e. cc) p (node_seen p) refl refl (λ n d r e. zero_is_not_one (cc)) r
+  node_refused p r = by_port Err (λ r s e. cc) p (node_seen p) refl refl (λ n d r e. zero_is_not_one (cc)) r
 
-  pub node_found : (p : ℕ) (x : model.InnerPlace) → OfBlock m M p x → node_of m p ≡ node_of_lem.Found (node# x.node)
+  pub node_found : (p : ℕ) (x : model.InnerPlace) → OfBlock m M p x → node_of m p ≡ Ok (node# x.node)
   unfolding node_of
   node_found p x b = ap (node_seen p) (block_port_seen p x b)
 
-  pub offset_refused : (p : ℕ) (r : Refusal) → (offset_of m p ≡ offset_of_lem.Refused r) ↔ PortRefused m M p r
+  pub offset_refused : (p : ℕ) (r : Refusal) → (offset_of m p ≡ Err r) ↔ PortRefused m M p r
   unfolding offset_of
-  offset_refused p r = by_port offset_of_lem.Refused (λ r s e. cc) p (offset_seen m p) refl refl (λ n d r e. zero_is_not_one (cc)) r
+  offset_refused p r = by_port Err (λ r s e. cc) p (offset_seen m p) refl refl (λ n d r e. zero_is_not_one (cc)) r
 
-  pub offset_found : (p : ℕ) (x : model.InnerPlace) → OfBlock m M p x → offset_of m p ≡ offset_of_lem.Found (offset_of_place x)
+  pub offset_found : (p : ℕ) (x : model.InnerPlace) → OfBlock m M p x → offset_of m p ≡ Ok (offset_of_place x)
   unfolding offset_of
   offset_found p x b =
       ap (offset_seen m p) (block_port_seen p x b)
-      ∙ ap (λ (i : ℕ). offset_of_lem.Found (record { direction = x.side; index = i })) (ap (position_of m.graph) (sym b.1) ∙ ends.position_of_lem f x b.0.0)
+      ∙ ap (λ (i : ℕ). Ok (record { direction = x.side; index = i })) (ap (position_of m.graph) (sym b.1) ∙ ends.position_of_lem f x b.0.0)
 
-  pub port_fan_out_refused : (p : ℕ) (r : Refusal) → (port_fan_out m p ≡ count_of.Refused r) ↔ PortRefused m M p r
+  pub port_fan_out_refused : (p : ℕ) (r : Refusal) → (port_fan_out m p ≡ Err r) ↔ PortRefused m M p r
   unfolding port_fan_out
-  port_fan_out_refused p r = by_port count_of.Refused (λ r s e. cc) p (fan_out_seen m p) refl refl (λ n d r e. zero_is_not_one (cc)) r
+  port_fan_out_refused p r = by_port Err (λ r s e. cc) p (fan_out_seen m p) refl refl (λ n d r e. zero_is_not_one (cc)) r
 
   pub contains_port_is : (p : ℕ) → (contains_port_of m p ≡ true) ↔ ((x : model.InnerPlace) × OfBlock m M p x)
   unfolding contains_port_of
@@ -307,57 +293,57 @@ module _ {m : MultiPortGraph} {M : Model} (f : Fine m M) where
 
   -- Lookups at a node.
 
-  count_refused : (n k : ℕ) (r : Refusal) → (counted (start_at_node m n) k ≡ count_of.Refused r) ↔ NodeRefused m M n r
+  count_refused : (n k : ℕ) (r : Refusal) → (counted (start_at_node m n) k ≡ Err r) ↔ NodeRefused m M n r
   count_refused n k r =
-      by_start count_of.Refused (λ r s e. cc) (λ v. counted v k) (λ r. refl) (λ r e. zero_is_not_one (cc)) (start_at_node m n) r _ (start_at_node_refused n r)
+      by_start Err (λ r s e. cc) (λ v. counted v k) (λ r. refl) (λ r e. zero_is_not_one (cc)) (start_at_node m n) r _ (start_at_node_refused n r)
 
-  count_found : (n c : ℕ) (k : NodeMeta) → BlockIs m M n k → counted (start_at_node m n) c ≡ count_of.Count c
+  count_found : (n c : ℕ) (k : NodeMeta) → BlockIs m M n k → counted (start_at_node m n) c ≡ Ok c
   count_found n c k b = ap (λ (v : Start). counted v c) (start_block n k b)
 
-  pub num_ports_refused : (n : ℕ) (d : Direction) (r : Refusal) → (num_ports_of m n d ≡ count_of.Refused r) ↔ NodeRefused m M n r
+  pub num_ports_refused : (n : ℕ) (d : Direction) (r : Refusal) → (num_ports_of m n d ≡ Err r) ↔ NodeRefused m M n r
   unfolding num_ports_of
   num_ports_refused n d r = count_refused n (num_ports m.graph n d) r
 
-  pub num_ports_found : (n : ℕ) (d : Direction) (k : NodeMeta) → BlockIs m M n k → num_ports_of m n d ≡ count_of.Count (ports_on k d)
+  pub num_ports_found : (n : ℕ) (d : Direction) (k : NodeMeta) → BlockIs m M n k → num_ports_of m n d ≡ Ok (ports_on k d)
   unfolding num_ports_of
   num_ports_found n d k b =
-      count_found n (num_ports m.graph n d) k b ∙ ap (λ (v : MaybeNodeMeta). count_of.Count (count_in v d)) (meta_of_node f.good f.holds n k b.1)
+      count_found n (num_ports m.graph n d) k b ∙ ap (λ (v : Option NodeMeta). Ok (count_in v d)) (meta_of_node f.good f.holds n k b.1)
 
-  pub capacity_refused : (n : ℕ) (r : Refusal) → (capacity_of m n ≡ count_of.Refused r) ↔ NodeRefused m M n r
+  pub capacity_refused : (n : ℕ) (r : Refusal) → (capacity_of m n ≡ Err r) ↔ NodeRefused m M n r
   unfolding capacity_of
   capacity_refused n r = count_refused n (node_port_capacity m.graph n) r
 
-  pub capacity_found : (n : ℕ) (k : NodeMeta) → BlockIs m M n k → capacity_of m n ≡ count_of.Count k.capacity
+  pub capacity_found : (n : ℕ) (k : NodeMeta) → BlockIs m M n k → capacity_of m n ≡ Ok k.capacity
   unfolding capacity_of
   capacity_found n k b =
-      count_found n (node_port_capacity m.graph n) k b ∙ ap (λ (v : MaybeNodeMeta). count_of.Count (capacity_in v)) (meta_of_node f.good f.holds n k b.1)
+      count_found n (node_port_capacity m.graph n) k b ∙ ap (λ (v : Option NodeMeta). Ok (capacity_in v)) (meta_of_node f.good f.holds n k b.1)
 
-  pub node_fan_out_refused : (n : ℕ) (r : Refusal) → (node_fan_out m n ≡ count_of.Refused r) ↔ NodeRefused m M n r
+  pub node_fan_out_refused : (n : ℕ) (r : Refusal) → (node_fan_out m n ≡ Err r) ↔ NodeRefused m M n r
   unfolding node_fan_out
   node_fan_out_refused n r = count_refused n (block_fan_out m n) r
 
-  pub port_index_refused : (n : ℕ) (o : PortOffset) (r : Refusal) → (port_index_of m n o ≡ port_of_lem.Refused r) ↔ NodeRefused m M n r
+  pub port_index_refused : (n : ℕ) (o : PortOffset) (r : Refusal) → (port_index_of m n o ≡ Err r) ↔ NodeRefused m M n r
   unfolding port_index_of
   port_index_refused n o r =
-      by_start port_of_lem.Refused (λ r s e. cc) (λ v. port_found v (port_index m.graph n o)) (λ r. refl) (never (port_index m.graph n o)) (start_at_node m n) r _ (start_at_node_refused n r)
+      by_start Err (λ r s e. cc) (λ v. port_found v (port_index m.graph n o)) (λ r. refl) (never (port_index m.graph n o)) (start_at_node m n) r _ (start_at_node_refused n r)
     where
-      never : (v : MaybePortIndex) (r : Refusal) → port_found started v ≡ port_of_lem.Refused r → ⊥
-      never (maybe_port.Some p) r e = zero_is_not_one (cc)
-      never maybe_port.None r e = zero_is_not_one (cc)
+      never : (v : Option PortIndex) (r : Refusal) → port_found started v ≡ Err r → ⊥
+      never (Some p) r e = zero_is_not_one (cc)
+      never None r e = zero_is_not_one (cc)
 
   -- the port at a place; nothing where the block's side has no such position
-  pub port_index_found : (x : model.InnerPlace) → Seen m M x → port_index_of m x.node (offset_of_place x) ≡ port_of_lem.Found (port# (slot_of M.node x))
+  pub port_index_found : (x : model.InnerPlace) → Seen m M x → port_index_of m x.node (offset_of_place x) ≡ Ok (Some (port# (slot_of M.node x)))
   unfolding port_index_of
   port_index_found x s =
       let b = seen_live f x s in
       ap (λ (v : Start). port_found v (port_index m.graph x.node (offset_of_place x))) (start_block x.node b.0 b.1)
       ∙ ap (port_found started) (port_index_is f.good f.holds x s.0)
 
-  pub port_index_nothing : (n : ℕ) (o : PortOffset) (k : NodeMeta) → BlockIs m M n k → ports_on k o.direction ≤ o.index → port_index_of m n o ≡ port_of_lem.Nothing
+  pub port_index_nothing : (n : ℕ) (o : PortOffset) (k : NodeMeta) → BlockIs m M n k → ports_on k o.direction ≤ o.index → port_index_of m n o ≡ Ok None
   unfolding port_index_of
   port_index_nothing n o k b l =
-      let e : port_index m.graph n o ≡ maybe_port.None =
-      ap (λ (v : MaybeNodeMeta). port_in v o) (meta_of_node f.good f.holds n k b.1) ∙ rw (le-ltb o.index (ports_on k o.direction) l) in
+      let e : port_index m.graph n o ≡ None =
+      ap (λ (v : Option NodeMeta). port_in v o) (meta_of_node f.good f.holds n k b.1) ∙ rw (le-ltb o.index (ports_on k o.direction) l) in
       ap (λ (v : Start). port_found v (port_index m.graph n o)) (start_block n k b) ∙ ap (port_found started) e
 
 -- Fan-out: as many as the links listed.
@@ -381,13 +367,13 @@ module _ {m : MultiPortGraph} {M : Model} (f : Fine m M) where
       (ap (flat_map (port_links m)) (side_in_row m n k e Outgoing) ∙ sym (side_links_in_row (record { model = M; fine = f }) n k b.0 e Outgoing))
 
   -- the calls answer so
-  pub port_fan_out_found : (p : ℕ) (x : model.InnerPlace) → OfBlock m M p x → port_fan_out m p ≡ count_of.Count (length (port_links m p))
+  pub port_fan_out_found : (p : ℕ) (x : model.InnerPlace) → OfBlock m M p x → port_fan_out m p ≡ Ok (length (port_links m p))
   unfolding port_fan_out fan_out
   port_fan_out_found p x b = ap (fan_out_seen m p) (block_port_seen f p x b)
 
-  pub node_fan_out_found : (n : ℕ) (k : NodeMeta) → BlockIs m M n k → node_fan_out m n ≡ count_of.Count (length (side_links m Outgoing n))
+  pub node_fan_out_found : (n : ℕ) (k : NodeMeta) → BlockIs m M n k → node_fan_out m n ≡ Ok (length (side_links m Outgoing n))
   unfolding node_fan_out
-  node_fan_out_found n k b = count_found f n (block_fan_out m n) k b ∙ ap count_of.Count (block_fan_out_listed n k b)
+  node_fan_out_found n k b = count_found f n (block_fan_out m n) k b ∙ ap Ok (block_fan_out_listed n k b)
 
 -- Empty: no blocks.
 

@@ -1,5 +1,6 @@
 -- Proofs of the wire rule, of cuts that restore and of links in either order.
-use Rattle.std.specs.Prelude.{◌≡◌, cond, List, [], ◌∷◌, ℕ, ◌+◌, ◌<◌}
+use Rattle.theorems.specs.Pairs.{ok_pair}
+use Rattle.std.specs.Prelude.{◌≡◌, cond, List, [], ◌∷◌, ℕ, ◌+◌, ◌<◌, Option, Some, None, Result, Ok, Err}
 use Rattle.std.proofs.Math.Path.{refl}
 use Rattle.std.proofs.Common.{sym, ap, ◌∙◌, subst, inl, inr, ⊎_elim, lt-ltb}
 use native.Mathlib.Omega.{arith}
@@ -8,8 +9,6 @@ use Rattle.portgraph.specs.Model.{Model, Slots, slot_of, first_of, side_start, c
 use Rattle.portgraph.specs.GoodSlots.{slots_apart, zero_is_not_one}
 use Rattle.port_tables.specs.declared.direction.Direction.{Direction}
 use Rattle.port_tables.specs.declared.direction.Direction.TheVariants.{Incoming, Outgoing}
-use Rattle.portgraph.specs.declared.portgraph.PortLink.{PortLink}
-use Rattle.portgraph.specs.declared.portgraph.PortLink.TheVariants as lower_cut
 use Rattle.portgraph.specs.Calls.{unlink_port}
 use Rattle.port_tables.specs.declared.release.Release.{Release}
 use Rattle.multiportgraph.specs.Reading.{is_split, end_at, far_subport}
@@ -32,13 +31,12 @@ use Rattle.theorems.proofs.CallLaws.{rel_step, rel_run}
 use Rattle.multiportgraph.specs.declared.multiportgraph.MultiPortGraph.{MultiPortGraph}
 use Rattle.multi_tables.specs.declared.answers.SubportIndex.{SubportIndex}
 use Rattle.multi_tables.specs.declared.answers.Refusal.{Refusal}
-use Rattle.multiportgraph.specs.declared.multiportgraph.LinkAnswer.{LinkAnswer}
-use Rattle.multiportgraph.specs.declared.multiportgraph.LinkAnswer.TheVariants as link
-use Rattle.multi_tables.specs.declared.answers.CutAnswer.{CutAnswer}
-use Rattle.multi_tables.specs.declared.answers.CutAnswer.TheVariants as cutting
 use Rattle.port_tables.specs.Places.{Wire, Spot, nowhere, spot, at_spot, touches, wire_of_sides}
 use Rattle.theorems.specs.Claims.{Link, by_ports, by_ports_clean, by_subports, linking, LinkedBy, accepted_link, joins, between, Restored, WireRule}
 use Rattle.theorems.specs.ListedLinks.{end_named_lem}
+use Rattle.port_tables.specs.declared.index.PortIndex.{PortIndex}
+use Rattle.portgraph.specs.declared.portgraph.NoSuchPort.{NoSuchPort}
+use Rattle.multi_tables.specs.declared.answers.PortPlace.{PortPlace}
 
 -- Graph and book that go together obey the wire rule.
 rule_of : (s : State) (M : Model) → Rel s.graph M s.book → WireRule s
@@ -98,10 +96,10 @@ module _ (s t : Spot) where
 
 -- Cutting an end.
 
-never_refused : (m : MultiPortGraph) (v : PortLink) (e : Refusal) → far_subport m v ≡ cutting.Refused e → ⊥
-never_refused m (lower_cut.Linked q) e h = zero_is_not_one (cc)
-never_refused m lower_cut.Unlinked e h = zero_is_not_one (cc)
-never_refused m (lower_cut.UnknownPort p) e h = zero_is_not_one (cc)
+never_refused : (m : MultiPortGraph) (v : Result (Option PortIndex) NoSuchPort) (e : Refusal) → far_subport m v ≡ Err e → ⊥
+never_refused m (Ok (Some q)) e h = zero_is_not_one (cc)
+never_refused m (Ok None) e h = zero_is_not_one (cc)
+never_refused m (Err p) e h = zero_is_not_one (cc)
 
 -- an end that is there is cut
 cut_happens : {m : MultiPortGraph} {M : Model} → Fine m M → (x : model.InnerPlace) → Seen m M x → (o q : ℕ) → o < 65535 → end_at m (slot_of M.node x) x.side o ≡ inner q →
@@ -112,12 +110,12 @@ cut_happens {m} {M} f x s o q small there = go (cut_sub m (slot_of M.node x) o).
     answered : (cut_sub m (slot_of M.node x) o).answer ≡ far_subport m (unlink_port m.graph q).answer
     answered = rw (lt-ltb o 65535 small, seen_block f x s, there) refl
 
-    go : (a : CutAnswer) → (cut_sub m (slot_of M.node x) o).answer ≡ a →
+    go : (a : Result (Option (SubportIndex × PortPlace)) Refusal) → (cut_sub m (slot_of M.node x) o).answer ≡ a →
         CutSays m M (slot_of M.node x) (end_named (cond (is_split m (slot_of M.node x)) o 0)) (cut_sub m (slot_of M.node x) o).graph a →
         CutDone m M (cut_sub m (slot_of M.node x) o).graph (slot_of M.node x) (end_named (cond (is_split m (slot_of M.node x)) o 0))
-    go (cutting.Found t x) e d = d
-    go cutting.Nothing e d = d
-    go (cutting.Refused r) e d = absurd (never_refused m (unlink_port m.graph q).answer r (sym answered ∙ e))
+    go (Ok (Some (t, x))) e d = d
+    go (Ok None) e d = d
+    go (Err r) e d = absurd (never_refused m (unlink_port m.graph q).answer r (sym answered ∙ e))
 
 -- one wire came at an end that had none: cutting that end brings back the earlier list
 module _ {m : MultiPortGraph} {M : Model} {m' : MultiPortGraph} {M' : Model} {w : Wire} (f : Fine m M) (f' : Fine m' M') (same : SameBlocks m M m' M')
@@ -193,23 +191,25 @@ ends_restore {m} {M} {m'} {a} {o} {b} {r} f l = (
 pub wire_rule : (release : Release) (calls : List Call) → WireRule (run release calls)
 wire_rule release calls = let r = rel_run release calls in rule_of (run release calls) r.0 r.1
 
-link_restores : {m : MultiPortGraph} {M : Model} → Fine m M → (a b : ℕ) (m' : MultiPortGraph) (v : LinkAnswer) (x y : SubportIndex) → LinkSays m M a b m' v →
-    v ≡ link.Linked x y → Restored m m' x × Restored m m' y
-link_restores {m} f a b m' (link.Linked s t) x y d e =
-    let p : s ≡ x = cc in
-    let q : t ≡ y = cc in
+link_restores : {m : MultiPortGraph} {M : Model} → Fine m M → (a b : ℕ) (m' : MultiPortGraph) (v : Result (SubportIndex × SubportIndex) Refusal) (x y : SubportIndex) → LinkSays m M a b m' v →
+    v ≡ Ok (x, y) → Restored m m' x × Restored m m' y
+link_restores {m} f a b m' (Ok (s, t)) x y d e =
+    let both = ok_pair e in
+    let p : s ≡ x = both.0 in
+    let q : t ≡ y = both.1 in
     let r = ends_restore f (ports_link d) in
     (subst (Restored m m') p r.0, subst (Restored m m') q r.1)
-link_restores f a b m' (link.Refused r) x y d e = absurd (zero_is_not_one (cc))
+link_restores f a b m' (Err r) x y d e = absurd (zero_is_not_one (cc))
 
-link_sub_restores : {m : MultiPortGraph} {M : Model} → Fine m M → (p o q r : ℕ) (m' : MultiPortGraph) (v : LinkAnswer) (x y : SubportIndex) → LinkSubSays m M p o q r m' v →
-    v ≡ link.Linked x y → Restored m m' x × Restored m m' y
-link_sub_restores {m} f p o q r m' (link.Linked s t) x y d e =
-    let a : s ≡ x = cc in
-    let b : t ≡ y = cc in
+link_sub_restores : {m : MultiPortGraph} {M : Model} → Fine m M → (p o q r : ℕ) (m' : MultiPortGraph) (v : Result (SubportIndex × SubportIndex) Refusal) (x y : SubportIndex) → LinkSubSays m M p o q r m' v →
+    v ≡ Ok (x, y) → Restored m m' x × Restored m m' y
+link_sub_restores {m} f p o q r m' (Ok (s, t)) x y d e =
+    let both = ok_pair e in
+    let a : s ≡ x = both.0 in
+    let b : t ≡ y = both.1 in
     let l = ends_restore f (subports_link d) in
     (subst (Restored m m') a l.0, subst (Restored m m') b l.1)
-link_sub_restores f p o q r m' (link.Refused z) x y d e = absurd (zero_is_not_one (cc))
+link_sub_restores f p o q r m' (Err z) x y d e = absurd (zero_is_not_one (cc))
 
 restores : {m : MultiPortGraph} {M : Model} → Fine m M → (B : Book) (c : Link) (x y : SubportIndex) → LinkedBy (record { graph = m; book = B }) c x y →
     Restored m (step m (linking c)).graph x × Restored m (step m (linking c)).graph y

@@ -2,7 +2,7 @@
 -- stand in Claims, Conditions and Works, over Book and History.
 --
 -- A history is any list of calls from the empty graph of a release, refused ones included. What stands here holds under both releases.
-use Rattle.std.specs.Prelude.{◌≡◌, Bool, true, false, List, [], ◌∷◌, ◌++◌, map, ◌↔◌, ◌⊎◌, ℕ, suc, ◌<◌, ◌*◌, length, drop}
+use Rattle.std.specs.Prelude.{◌≡◌, Bool, true, false, List, [], ◌∷◌, ◌++◌, map, ◌↔◌, ◌⊎◌, ℕ, suc, ◌<◌, ◌*◌, length, drop, Some, None, Ok}
 use Rattle.port_tables.specs.Lists.{filter, Member}
 use Rattle.portgraph.specs.Lookups.{num_ports, meta_at}
 use Rattle.port_tables.specs.Entries.{new_count}
@@ -10,7 +10,6 @@ use Rattle.portgraph.specs.Model.{Model}
 use Rattle.port_tables.specs.declared.direction.Direction.{Direction}
 use Rattle.port_tables.specs.declared.direction.Direction.TheVariants.{Outgoing}
 use Rattle.port_tables.specs.declared.node_entry.NodeMeta.{NodeMeta}
-use Rattle.port_tables.specs.declared.node_entry.MaybeNodeMeta.TheVariants as maybe_meta
 use Rattle.port_tables.specs.declared.sides.Sides.{Sides}
 use Rattle.port_tables.specs.declared.release.Release.{Release}
 use Rattle.multiportgraph.specs.Calls.{set_counts, moves_told, visible_nodes, visible_ports, visible_links}
@@ -55,8 +54,6 @@ use Rattle.theorems.proofs.FanOutWires as fans
 use Rattle.multi_tables.specs.declared.answers.SubportIndex.{SubportIndex}
 use Rattle.multi_tables.specs.declared.answers.SubportLink.{SubportLink}
 use Rattle.multiportgraph.specs.declared.iter.Wires.{Wires}
-use Rattle.multiportgraph.specs.declared.iter.WiresStep.TheVariants.{Item, End}
-use Rattle.multiportgraph.specs.declared.multiportgraph.SetAnswer.TheVariants as resize
 use Rattle.multi_tables.specs.declared.answers.Refusal.{Refusal}
 use Rattle.multi_tables.specs.declared.answers.Refusal.TheVariants.{NoRoom}
 
@@ -126,7 +123,7 @@ tidy_drops_within_the_block = tidy.tidy_drops_within_the_block
 -- A port that was split and is not any more: the slot and the block of its hidden node are the last that were freed, and are found again by
 -- adds and links of that size.
 pub tidied_slots_are_found : (release : Release) (calls : List Call) (p : ℕ) (k : NodeMeta) → is_split (run release calls).graph p ≡ true → is_split (next (run release calls) (tidy_call p)).graph p ≡ false →
-    meta_at (run release calls).graph.graph (copy_node (run release calls).graph p) ≡ maybe_meta.Some k →
+    meta_at (run release calls).graph.graph (copy_node (run release calls).graph p) ≡ Some k →
     FoundAgain (run release calls).graph (next (run release calls) (tidy_call p)).graph (copy_node (run release calls).graph p) k
 tidied_slots_are_found = tidy.tidied_slots_are_found
 
@@ -187,7 +184,7 @@ pub fan_out_is_wires : (release : Release) (calls : List Call) → FanOutIsWires
 fan_out_is_wires = fans.fan_out_is_wires
 
 -- A port that an accepted resize keeps is split afterwards exactly if it was, with as many subports; so are the ports of other blocks.
-pub kept_ports_stay_split : (release : Release) (calls : List Call) (n i o room e : ℕ) → (step (run release calls).graph (set_call n i o room)).answer ≡ resize.Set e →
+pub kept_ports_stay_split : (release : Release) (calls : List Call) (n i o room e : ℕ) → (step (run release calls).graph (set_call n i o room)).answer ≡ Ok e →
     (k : ℕ) → InBook (run release calls).book k → (d : Direction) (j : ℕ) → j < num_ports (run release calls).graph.graph k d → (k ≡ n → j < new_count i o d) →
     SplitAsBefore (run release calls).graph (step (run release calls).graph (set_call n i o room)).graph k d j
 kept_ports_stay_split = kept.kept_ports_stay_split
@@ -195,18 +192,18 @@ kept_ports_stay_split = kept.kept_ports_stay_split
 -- The move list of an accepted resize: the ports that went, incoming before outgoing, each with the inner port that it was linked with (none
 -- where it had no link, or where that port was told before it); then the ports that stayed, as far as they are told, each with the old and
 -- the new number of one place; behind them what the list held.
-pub moves_are_places : (release : Release) (calls : List Call) (n i o : ℕ) (moves : List ℕ) (e : ℕ) → (set_counts (run release calls).graph n i o (length moves)).answer ≡ resize.Set e →
+pub moves_are_places : (release : Release) (calls : List Call) (n i o : ℕ) (moves : List ℕ) (e : ℕ) → (set_counts (run release calls).graph n i o (length moves)).answer ≡ Ok e →
     moves_told (run release calls).graph n i o moves
     ≡ told_events (run release calls).graph.graph (set_counts (run release calls).graph n i o (length moves)).graph.graph n i o ++ drop (3 * e) moves
 moves_are_places = moved.moves_are_places
 
 -- The number that it answers is that of the ports told.
-pub events_answered : (release : Release) (calls : List Call) (n i o room e : ℕ) → (set_counts (run release calls).graph n i o room).answer ≡ resize.Set e →
+pub events_answered : (release : Release) (calls : List Call) (n i o room e : ℕ) → (set_counts (run release calls).graph n i o room).answer ≡ Ok e →
     e ≡ length (told_places (run release calls).graph.graph n i o)
 events_answered = moved.events_answered
 
 -- The hidden nodes of the split ports that went are given back in the order told, so that the last one's slot is taken next.
-pub hidden_go_in_order : (release : Release) (calls : List Call) (n i o room e : ℕ) → (set_counts (run release calls).graph n i o room).answer ≡ resize.Set e →
+pub hidden_go_in_order : (release : Release) (calls : List Call) (n i o room e : ℕ) → (set_counts (run release calls).graph n i o room).answer ≡ Ok e →
     (M N : Model) → Fine (run release calls).graph M → Fine (set_counts (run release calls).graph n i o room).graph N →
     N.free_nodes ≡ given_back (hidden_told (run release calls).graph n i o) M.free_nodes
 hidden_go_in_order = moved.hidden_go_in_order
@@ -215,12 +212,12 @@ hidden_go_in_order = moved.hidden_go_in_order
 
 -- A step that gives an item: the port held is one of a block, the item is the first of the present listing beyond it and the offset, and
 -- the cursor comes back holding it.
-pub wires_give : (release : Release) (calls : List Call) (c d : Wires) (p : ℕ) (w : SubportLink) → c.held ≡ suc p → step_wires (run release calls).graph c ≡ Item w d →
+pub wires_give : (release : Release) (calls : List Call) (c d : Wires) (p : ℕ) (w : SubportLink) → c.held ≡ suc p → step_wires (run release calls).graph c ≡ Some (w, d) →
     (n : ℕ) × (s : Direction) × (seen (run release calls).graph p ≡ visible n s) × FirstOf (Beyond (run release calls).graph n p c.offset) (all_wires (run release calls).graph) w × (d ≡ holding w)
 wires_give = cursor.wires_give
 
 -- A step that ends the walk: the port held is gone or hidden, or no item of the present listing lies beyond it and the offset.
-pub wires_end : (release : Release) (calls : List Call) (c : Wires) (p : ℕ) → c.held ≡ suc p → step_wires (run release calls).graph c ≡ End →
+pub wires_end : (release : Release) (calls : List Call) (c : Wires) (p : ℕ) → c.held ≡ suc p → step_wires (run release calls).graph c ≡ None →
     (is_seen (seen (run release calls).graph p) ≡ false)
     ⊎ ((n : ℕ) × (s : Direction) × (seen (run release calls).graph p ≡ visible n s) × ((w : SubportLink) → Member w (all_wires (run release calls).graph) → Beyond (run release calls).graph n p c.offset w → ⊥))
 wires_end = cursor.wires_end

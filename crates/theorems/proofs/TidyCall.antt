@@ -1,5 +1,5 @@
 -- Tidying a port: its bundle.
-use Rattle.std.specs.Prelude.{◌≡◌, ℕ}
+use Rattle.std.specs.Prelude.{◌≡◌, ℕ, Err}
 use Rattle.std.proofs.Common.{sym, ◌∙◌, ap, subst}
 use Rattle.portgraph.specs.Model.{Model}
 use Rattle.multiportgraph.specs.Reading.{seen}
@@ -9,7 +9,6 @@ use Rattle.theorems.specs.Book as book
 use Rattle.multiportgraph.specs.WellFormed.{Fine}
 use Rattle.multiportgraph.specs.declared.multiportgraph.MultiPortGraph.{MultiPortGraph}
 use Rattle.multi_tables.specs.declared.answers.Refusal.{Refusal}
-use Rattle.multiportgraph.specs.declared.multiportgraph.TidyAnswer.TheVariants as tidying
 use Rattle.multiportgraph.specs.declared.multiportgraph.PortTidied.{PortTidied}
 use Rattle.multiportgraph.specs.Cases.{tidy_refused, tidy_seen}
 use Rattle.multiportgraph.specs.CaseLaws.{tidy_cases}
@@ -40,7 +39,7 @@ module _ {m : MultiPortGraph} {M : Model} (f : Fine m M) (p : ℕ) where
       go (hidden_port h) = subst Said (sym (tidy_refuses _ (cut_hidden h))) (cut_hidden h)
       go (block_port x b) = subst Said (sym (tidy_is (visible x.node x.side) (seen_block_port f p x b))) tt
 
-  pub tidy_refused_lem : (r : Refusal) → (tidy_port m p).answer ≡ tidying.Refused r → CutRefused m M p r
+  pub tidy_refused_lem : (r : Refusal) → (tidy_port m p).answer ≡ Err r → CutRefused m M p r
   tidy_refused_lem r e = subst (TidySays (CutRefused m M p)) e tidy_says
 
   pub tidy_call : CallLaw m M (book.tidy_call p)

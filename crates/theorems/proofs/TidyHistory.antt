@@ -1,5 +1,5 @@
 -- Proofs about tidies in histories.
-use Rattle.std.specs.Prelude.{◌≡◌, Bool, true, false, cond, ◌⊎◌, leb}
+use Rattle.std.specs.Prelude.{◌≡◌, Bool, true, false, cond, ◌⊎◌, leb, Some, Result, Ok, Err}
 use Rattle.std.proofs.Math.Path.{refl, transport}
 use Rattle.std.proofs.Common.{sym, ◌∙◌, ap, subst, inl, inr, ⊎_elim, arith}
 use mathlib.Core.List.{List, [], ◌∷◌}
@@ -18,9 +18,7 @@ use Rattle.portgraph.specs.PlaceLaws.{node_of_meta}
 use Rattle.port_tables.specs.declared.direction.Direction.{Direction}
 use Rattle.port_tables.specs.declared.direction.Direction.TheVariants.{Incoming, Outgoing}
 use Rattle.port_tables.specs.declared.node_entry.NodeMeta.{NodeMeta}
-use Rattle.port_tables.specs.declared.node_entry.MaybeNodeMeta.TheVariants as maybe_meta
 use Rattle.portgraph.specs.declared.alloc.NodeAdded as lower_added
-use Rattle.portgraph.specs.declared.alloc.AddAnswer.TheVariants as lower_add
 use Rattle.multiportgraph.specs.Reading.{is_hidden, is_split, subports, copy_side, copy_node, seen}
 use Rattle.multi_tables.specs.Forms.{Port, dead, hidden, visible}
 use Rattle.multiportgraph.specs.Calls.{tidy_port, add_block, added_as}
@@ -40,11 +38,8 @@ use Rattle.multiportgraph.specs.declared.multiportgraph.MultiPortGraph.{MultiPor
 use Rattle.port_tables.specs.declared.release.Release.{Release}
 use Rattle.multi_tables.specs.declared.answers.Refusal.{Refusal}
 use Rattle.multi_tables.specs.declared.answers.Refusal.TheVariants.{NoRoom}
-use Rattle.multiportgraph.specs.declared.multiportgraph.TidyAnswer.{TidyAnswer}
-use Rattle.multiportgraph.specs.declared.multiportgraph.TidyAnswer.TheVariants as tidying
 use Rattle.multiportgraph.specs.declared.multiportgraph.PortTidied.{PortTidied}
 use Rattle.multiportgraph.specs.declared.multiportgraph.NodeAdded.{NodeAdded}
-use Rattle.multiportgraph.specs.declared.multiportgraph.AddAnswer.TheVariants as add
 use Rattle.port_tables.specs.Places.{Place, Wire, spot, at_end, touches}
 use Rattle.theorems.specs.Book.{Call, tidy_call, spot_of}
 use Rattle.theorems.specs.History.{State, Stepped, step, next, run}
@@ -62,15 +57,15 @@ use Rattle.theorems.proofs.TidyWalks.{walks_kept}
 tidy_keeps : (s : State) (M : Model) → Rel s.graph M s.book → (p : ℕ) → PlacesKept s (next s (tidy_call p))
 tidy_keeps s M r p = go (tidy_port s.graph p).answer (tidy_port_law r.fine p)
   where
-    go : (a : TidyAnswer) → TidySays s.graph M (tidy_port s.graph p).graph a → PlacesKept s (next s (tidy_call p))
-    go (tidying.Refused e) same =
+    go : (a : Result (Unit {0}) Refusal) → TidySays s.graph M (tidy_port s.graph p).graph a → PlacesKept s (next s (tidy_call p))
+    go (Err e) same =
         record {
           book = refl;
           wires = ap wires_walked same;
           ports = λ n b. ap (λ (m : MultiPortGraph). ports_walked m n) same;
           counts = λ n b d. ap (λ (m : MultiPortGraph). num_ports m.graph n d) same;
         }
-    go tidying.Tidied d =
+    go (Ok tt) d =
         record {
           book = refl;
           wires = sym (same_wires_same_list r.fine d.fine (λ w i. d.wires.kept w i refl) (λ w i. ⊎_elim (λ a. a.0) absurd (d.wires.only w i)));
@@ -87,10 +82,10 @@ tidy_keeps_places release calls p = let r = rel_run release calls in tidy_keeps 
 walks_go_on : {m : MultiPortGraph} {M : Model} → Fine m M → (p : ℕ) → WalksKept m (tidy_port m p).graph
 walks_go_on {m} {M} f p = go (tidy_port m p).answer (tidy_port_law f p)
   where
-    go : (a : TidyAnswer) → TidySays m M (tidy_port m p).graph a → WalksKept m (tidy_port m p).graph
-    go (tidying.Refused e) same = walks_kept f (subst (λ (u : MultiPortGraph). Fine u M) (sym same) f) (subst (λ (u : MultiPortGraph). SameBlocks m M u M) (sym same) ((λ n k b. b), λ n k b. b))
+    go : (a : Result (Unit {0}) Refusal) → TidySays m M (tidy_port m p).graph a → WalksKept m (tidy_port m p).graph
+    go (Err e) same = walks_kept f (subst (λ (u : MultiPortGraph). Fine u M) (sym same) f) (subst (λ (u : MultiPortGraph). SameBlocks m M u M) (sym same) ((λ n k b. b), λ n k b. b))
         (λ w i. subst (λ (u : MultiPortGraph). WireIn u M w) (sym same) i) (λ w i. subst (λ (u : MultiPortGraph). WireIn u M w) same i)
-    go tidying.Tidied d = walks_kept f d.fine d.blocks (λ w i. d.wires.kept w i refl) (λ w i. ⊎_elim (λ a. a.0) absurd (d.wires.only w i))
+    go (Ok tt) d = walks_kept f d.fine d.blocks (λ w i. d.wires.kept w i refl) (λ w i. ⊎_elim (λ a. a.0) absurd (d.wires.only w i))
 
 pub tidy_keeps_walks : (release : Release) (calls : List Call) (p : ℕ) → WalksKept (run release calls).graph (next (run release calls) (tidy_call p)).graph
 tidy_keeps_walks release calls p = walks_go_on (rel_run release calls).1.fine p
@@ -250,7 +245,7 @@ stays_in_block {m} {M} f p n d e was stays = go (goes_or_stays f p n d (block_se
 -- A hidden node that goes.
 
 module _ {m : MultiPortGraph} {M : Model} (f : Fine m M) (p : ℕ) (k : NodeMeta) (was : is_split m p ≡ true) (goes : is_split (tidy_port m p).graph p ≡ false)
-    (meta : meta_at m.graph (copy_node m p) ≡ maybe_meta.Some k) where
+    (meta : meta_at m.graph (copy_node m p) ≡ Some k) where
   abbrev m₁ : MultiPortGraph
   m₁ = (tidy_port m p).graph
 
@@ -321,7 +316,7 @@ module _ {m : MultiPortGraph} {M : Model} (f : Fine m M) (p : ℕ) (k : NodeMeta
     room_again : (N : Model) → Fine (step m₁ call).graph N → room_of N ≡ after_works (after_works (room_of M) gives) l
     room_again N g = call_room_after after.fine call g fits_again ∙ after_call
 
-  add_again : (i o : ℕ) → i + o ≡ k.capacity → (add_block m₁ i o).answer ≡ add.Added (node# (copy_node m p)) k.first_port
+  add_again : (i o : ℕ) → i + o ≡ k.capacity → (add_block m₁ i o).answer ≡ Ok (node# (copy_node m p), k.first_port)
   add_again i o e =
       let N = after.model in
       let g = after.fine in
@@ -333,7 +328,7 @@ module _ {m : MultiPortGraph} {M : Model} (f : Fine m M) (p : ℕ) (k : NodeMeta
       let n = g.good.nodes_fit in
       let q = g.good.ports_fit in
       let h = has_block_lem in
-      let w : (add_where m₁.graph N i o (leb (i + o) node_ports) (slot_room N) (block_room N (i + o))).answer ≡ lower_add.Added (node# (copy_node m p)) k.first_port =
+      let w : (add_where m₁.graph N i o (leb (i + o) node_ports) (slot_room N) (block_room N (i + o))).answer ≡ Ok (node# (copy_node m p), k.first_port) =
       rw
       (le-leb (i + o) node_ports (omega arith), a, b, le-leb (N.node_len + 0) node_slots (omega arith), le-leb (N.port_len + 0) port_slots (omega arith), ne_eqb (i + o) 0 (λ z. omega arith))
       refl in
@@ -362,7 +357,7 @@ module _ {m : MultiPortGraph} {M : Model} (f : Fine m M) (p : ℕ) (k : NodeMeta
       }
 
 pub tidied_slots_are_found : (release : Release) (calls : List Call) (p : ℕ) (k : NodeMeta) → is_split (run release calls).graph p ≡ true → is_split (next (run release calls) (tidy_call p)).graph p ≡ false →
-    meta_at (run release calls).graph.graph (copy_node (run release calls).graph p) ≡ maybe_meta.Some k →
+    meta_at (run release calls).graph.graph (copy_node (run release calls).graph p) ≡ Some k →
     FoundAgain (run release calls).graph (next (run release calls) (tidy_call p)).graph (copy_node (run release calls).graph p) k
 tidied_slots_are_found release calls p k was goes meta = found_again (rel_run release calls).1.fine p k was goes meta
 

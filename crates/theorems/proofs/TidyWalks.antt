@@ -1,5 +1,5 @@
 -- Cursors that are held across a tidy: where blocks and wires are the same, every walk that gives wires goes on as if nothing had happened.
-use Rattle.std.specs.Prelude.{◌≡◌, Bool, true, ℕ, ◌-◌, ◌<◌, ltb}
+use Rattle.std.specs.Prelude.{◌≡◌, Bool, true, ℕ, ◌-◌, ◌<◌, ltb, None}
 use Rattle.std.proofs.Math.Path.{refl, sym, ap}
 use Rattle.std.proofs.Common.{◌∙◌, subst, arith, eq-eqb}
 use Rattle.std.proofs.Math.Bool.{false, cond}
@@ -30,9 +30,6 @@ use Rattle.multiportgraph.specs.ScanLaws.{links_from_to, ports_across, links_in_
 use Rattle.multiportgraph.specs.declared.multiportgraph.MultiPortGraph.{MultiPortGraph}
 use Rattle.multi_tables.specs.declared.answers.SubportLink.{SubportLink}
 use Rattle.multi_tables.specs.declared.answers.SubportIndex.{SubportIndex}
-use Rattle.multiportgraph.specs.declared.iter.WiresStep.TheVariants as wires_step
-use Rattle.multiportgraph.specs.declared.iter.NodeLinksStep.TheVariants as links_step
-use Rattle.multiportgraph.specs.declared.iter.NodeConnectionsStep.TheVariants as connections_step
 use Rattle.multiportgraph.specs.declared.iter.Wires.{Wires}
 use Rattle.multiportgraph.specs.declared.iter.PortLinks.{PortLinks}
 use Rattle.multiportgraph.specs.declared.iter.NodeLinks.{NodeLinks}
@@ -235,13 +232,13 @@ module _ {m m' : MultiPortGraph} {M M' : Model} (f : Fine m M) (f' : Fine m' M')
           ap (wires_seen m' (c.held - 1) c.offset) a ∙ (λ i. first_item (filter (is_beyond (c.held - 1) c.offset) (side_same n t Outgoing i) ++ later i))
       go dead v e a = none v a
         where
-          none : (v : Port) → is_seen v ≡ false → wires_seen m' (c.held - 1) c.offset v ≡ wires_step.End
+          none : (v : Port) → is_seen v ≡ false → wires_seen m' (c.held - 1) c.offset v ≡ None
           none dead e = refl
           none hidden e = refl
           none (visible n d) e = absurd (true_not_false refl e)
       go hidden v e a = none v a
         where
-          none : (v : Port) → is_seen v ≡ false → wires_seen m' (c.held - 1) c.offset v ≡ wires_step.End
+          none : (v : Port) → is_seen v ≡ false → wires_seen m' (c.held - 1) c.offset v ≡ None
           none dead e = refl
           none hidden e = refl
           none (visible n d) e = absurd (true_not_false refl e)
@@ -273,7 +270,7 @@ module _ {m m' : MultiPortGraph} {M M' : Model} (f : Fine m M) (f' : Fine m' M')
   unfolding step_links node_links
   links_same c =
       at_block c.node.0 c.held _ _ _
-      (λ b. ap (λ (l : List SubportLink). on_first links_step.End (links_item c) (filter (link_beyond c.held c.offset) (filter (not_skipped c.skip_from c.skip_to) l))) (sides_same c.node.0 b c.sides))
+      (λ b. ap (λ (l : List SubportLink). on_first None (links_item c) (filter (link_beyond c.held c.offset) (filter (not_skipped c.skip_from c.skip_to) l))) (sides_same c.node.0 b c.sides))
 
   -- the block at the far end of a link
   owner_same : (n : ℕ) → is_block m n ≡ true → (d : Direction) (w : SubportLink) → Member w (side_links m d n) → owner_of m'.graph w.to.port.0 ≡ owner_of m.graph w.to.port.0
@@ -288,12 +285,12 @@ module _ {m m' : MultiPortGraph} {M M' : Model} (f : Fine m M) (f' : Fine m' M')
   unfolding step_connections connections
   connections_same c =
       λ i. cond (block_same c.target.0 i)
-      (at_block c.node.0 c.held connections_step.End _ _
-      (λ b. ap (λ (l : List SubportLink). on_first connections_step.End (connections_item c) (filter (link_beyond c.held c.offset) l))
+      (at_block c.node.0 c.held None _ _
+      (λ b. ap (λ (l : List SubportLink). on_first None (connections_item c) (filter (link_beyond c.held c.offset) l))
       (ap (filter (λ (w : SubportLink). eqb (owner_of m'.graph w.to.port.0) c.target.0)) (side_same c.node.0 b Outgoing)
       ∙ filter_same (λ (w : SubportLink). eqb (owner_of m'.graph w.to.port.0) c.target.0) (λ (w : SubportLink). eqb (owner_of m.graph w.to.port.0) c.target.0)
       (side_links m Outgoing c.node.0) (λ w j. ap (λ (k : ℕ). eqb k c.target.0) (owner_same c.node.0 b Outgoing w j)))) i)
-      connections_step.End
+      None
 
   pub walks_kept : WalksKept m m'
   walks_kept = record { wires = wires_step_same; front = front_same; back = back_same; links = links_same; connections = connections_same }

@@ -1,6 +1,6 @@
 -- Graph and book go together (`Rel`): the book's blocks are the blocks of the graph, with their slots, and its wires are the
 -- wires of the graph, all of them once. Every call keeps this.
-use Rattle.std.specs.Prelude.{◌≡◌, Bool, true, false, not, ◌⊎◌, ℕ, ◌+◌, ◌<◌, eqb, take, drop}
+use Rattle.std.specs.Prelude.{◌≡◌, Bool, true, false, not, ◌⊎◌, ℕ, ◌+◌, ◌<◌, eqb, take, drop, Option, Some, None, Result, Ok, Err}
 use Rattle.std.proofs.Math.Path.{refl, ap}
 use Rattle.std.proofs.Common.{sym, ◌∙◌, subst, inl, inr, ⊎_elim, arith, take_at, drop_at, eqb-true, ne_eqb}
 use mathlib.Core.List.{List, [], ◌∷◌, ◌++◌}
@@ -31,22 +31,13 @@ use Rattle.multiportgraph.specs.SetLaws.{SetDone}
 use Rattle.multiportgraph.specs.declared.multiportgraph.MultiPortGraph.{MultiPortGraph}
 use Rattle.multi_tables.specs.declared.answers.SubportIndex.{SubportIndex}
 use Rattle.multi_tables.specs.declared.answers.Refusal.{Refusal}
-use Rattle.multiportgraph.specs.declared.multiportgraph.AddAnswer.{AddAnswer}
-use Rattle.multiportgraph.specs.declared.multiportgraph.AddAnswer.TheVariants as add
-use Rattle.multiportgraph.specs.declared.multiportgraph.RemoveAnswer.{RemoveAnswer}
-use Rattle.multiportgraph.specs.declared.multiportgraph.RemoveAnswer.TheVariants as remove
-use Rattle.multiportgraph.specs.declared.multiportgraph.SetAnswer.{SetAnswer}
-use Rattle.multiportgraph.specs.declared.multiportgraph.SetAnswer.TheVariants as resize
-use Rattle.multiportgraph.specs.declared.multiportgraph.LinkAnswer.{LinkAnswer}
-use Rattle.multiportgraph.specs.declared.multiportgraph.LinkAnswer.TheVariants as link
-use Rattle.multi_tables.specs.declared.answers.CutAnswer.{CutAnswer}
-use Rattle.multi_tables.specs.declared.answers.CutAnswer.TheVariants as cutting
-use Rattle.multiportgraph.specs.declared.multiportgraph.TidyAnswer.{TidyAnswer}
-use Rattle.multiportgraph.specs.declared.multiportgraph.TidyAnswer.TheVariants as tidying
 use Rattle.multiportgraph.specs.TidyLaws.{TidySays}
 use Rattle.multiportgraph.specs.Wires.{ports_walked}
 use Rattle.port_tables.specs.declared.release.Release.{Release}
 use Rattle.multiportgraph.specs.Graph.{empty_graph}
+use Rattle.port_tables.specs.declared.index.NodeIndex.{NodeIndex}
+use Rattle.port_tables.specs.declared.index.PortIndex.{PortIndex}
+use Rattle.multi_tables.specs.declared.answers.PortPlace.{PortPlace}
 
 -- The relation.
 
@@ -353,8 +344,8 @@ module _ {m : MultiPortGraph} {M : Model} {m' : MultiPortGraph} {s t : SubportIn
 -- From what each call says to the next graph and book.
 
 module _ {m : MultiPortGraph} {M : Model} (f : Fine m M) (m' : MultiPortGraph) where
-  pub after_add : (i o : ℕ) (a : AddAnswer) → AddSays m M i o m' a → Leads m M m' (λ B. book_add B i o a)
-  after_add i o (add.Added n p) d =
+  pub after_add : (i o : ℕ) (a : Result (NodeIndex × PortIndex) Refusal) → AddSays m M i o m' a → Leads m M m' (λ B. book_add B i o a)
+  after_add i o (Ok (n, p)) d =
       record {
         model = d.model;
         fine = d.fine;
@@ -365,10 +356,10 @@ module _ {m : MultiPortGraph} {M : Model} (f : Fine m M) (m' : MultiPortGraph) w
               wires = wires_same r.wires d.wires;
             };
       }
-  after_add i o (add.Refused e) d = stays f m' d
+  after_add i o (Err e) d = stays f m' d
 
-  pub after_remove : (n : ℕ) (a : RemoveAnswer) → RemoveSays m M n m' a → Leads m M m' (λ B. book_remove B n a)
-  after_remove n remove.Removed d =
+  pub after_remove : (n : ℕ) (a : Result (Unit {0}) Refusal) → RemoveSays m M n m' a → Leads m M m' (λ B. book_remove B n a)
+  after_remove n (Ok tt) d =
       record {
         model = d.model;
         fine = d.fine;
@@ -379,11 +370,11 @@ module _ {m : MultiPortGraph} {M : Model} (f : Fine m M) (m' : MultiPortGraph) w
               wires = wires_dropped r.wires d.wires;
             };
       }
-  after_remove n (remove.Refused e) d = stays f m' d
+  after_remove n (Err e) d = stays f m' d
 
-  pub after_set : (n i o : ℕ) (a : SetAnswer) → ((e : ℕ) → a ≡ resize.Set e → SetDone m M m' n i o) → ((x : Refusal) → a ≡ resize.Refused x → m' ≡ m) →
+  pub after_set : (n i o : ℕ) (a : Result ℕ Refusal) → ((e : ℕ) → a ≡ Ok e → SetDone m M m' n i o) → ((x : Refusal) → a ≡ Err x → m' ≡ m) →
       Leads m M m' (λ B. book_set B n i o a (ports_walked m' n))
-  after_set n i o (resize.Set e) done same =
+  after_set n i o (Ok e) done same =
       let d = done e refl in
       record {
         model = d.model';
@@ -397,7 +388,7 @@ module _ {m : MultiPortGraph} {M : Model} (f : Fine m M) (m' : MultiPortGraph) w
               wires = wires_dropped r.wires d.wires;
             };
       }
-  after_set n i o (resize.Refused e) done same = stays f m' (same e refl)
+  after_set n i o (Err e) done same = stays f m' (same e refl)
 
   -- the wire that came was not there
   was_free : {a o b e : ℕ} {s t : SubportIndex} → (l : OneMore m M m' a o b e s t) → WireIn m M (wire_of_sides l.x.side (lift l.x o) (lift l.y e)) → ⊥
@@ -407,9 +398,9 @@ module _ {m : MultiPortGraph} {M : Model} (f : Fine m M) (m' : MultiPortGraph) w
       go Incoming k = l.first_free _ k (inr refl)
       go Outgoing k = l.first_free _ k (inl refl)
 
-  pub after_link : (a b : ℕ) (x : LinkAnswer) → LinkSays m M a b m' x → Leads m M m' (λ B. book_link B a b x)
+  pub after_link : (a b : ℕ) (x : Result (SubportIndex × SubportIndex) Refusal) → LinkSays m M a b m' x → Leads m M m' (λ B. book_link B a b x)
   unfolding ports_link
-  after_link a b (link.Linked s t) d =
+  after_link a b (Ok (s, t)) d =
       let l = ports_link d in
       record {
         model = l.model;
@@ -421,10 +412,10 @@ module _ {m : MultiPortGraph} {M : Model} (f : Fine m M) (m' : MultiPortGraph) w
             (ap (next_offset B.wires) u ∙ offset_of_lem r l.x d.o d.first_lower l.first_free)
             (ap (next_offset B.wires) v ∙ offset_of_lem r l.y d.r d.second_lower l.second_free) l.wires (was_free l);
       }
-  after_link a b (link.Refused e) d = record { model = d.model; fine = d.fine; booked = λ B r. rel_same r d.fine d.blocks d.wires }
+  after_link a b (Err e) d = record { model = d.model; fine = d.fine; booked = λ B r. rel_same r d.fine d.blocks d.wires }
 
-  pub after_link_sub : (p o q t : ℕ) (x : LinkAnswer) → LinkSubSays m M p o q t m' x → Leads m M m' (λ B. book_link_sub B p o q t x (is_split m p ∷ is_split m q ∷ []))
-  after_link_sub p o q t (link.Linked s u) d =
+  pub after_link_sub : (p o q t : ℕ) (x : Result (SubportIndex × SubportIndex) Refusal) → LinkSubSays m M p o q t m' x → Leads m M m' (λ B. book_link_sub B p o q t x (is_split m p ∷ is_split m q ∷ []))
+  after_link_sub p o q t (Ok (s, u)) d =
       let l = subports_link d in
       record {
         model = l.model;
@@ -432,11 +423,11 @@ module _ {m : MultiPortGraph} {M : Model} (f : Fine m M) (m' : MultiPortGraph) w
         booked = λ B r.
             rel_linked r l.fine l.blocks l.x l.y l.first_seen l.second_seen p q l.first_at l.second_at _ _ _ _ refl refl l.wires (was_free l);
       }
-  after_link_sub p o q t (link.Refused e) d = stays f m' d
+  after_link_sub p o q t (Err e) d = stays f m' d
 
   -- the ends dropped are told by where the port stands
   pub after_cut : (p : ℕ) (dropped : model.InnerPlace → Place → Bool) (test : Spot → Place → Bool) → ((x : model.InnerPlace) → test (spot x.node x.side x.pos) ≡ dropped x) →
-      (a : CutAnswer) → CutSays m M p dropped m' a → Leads m M m' (λ B. book_cut B (test (spot_of B.blocks p)) a)
+      (a : Result (Option (SubportIndex × PortPlace)) Refusal) → CutSays m M p dropped m' a → Leads m M m' (λ B. book_cut B (test (spot_of B.blocks p)) a)
   after_cut p dropped test same a d = go a d
     where
       done : CutDone m M m' p dropped → Leads m M m' (λ B. with_wires B (without (test (spot_of B.blocks p)) B.wires))
@@ -447,15 +438,15 @@ module _ {m : MultiPortGraph} {M : Model} (f : Fine m M) (m' : MultiPortGraph) w
             booked = λ B r. rel_cut r k.fine k.blocks _ _ (sym (same k.x) ∙ ap test (sym (rw (← k.at) (spot_of_lem r k.x k.is_seen)))) k.wires;
           }
 
-      go : (a : CutAnswer) → CutSays m M p dropped m' a → Leads m M m' (λ B. book_cut B (test (spot_of B.blocks p)) a)
-      go (cutting.Found s x) k = done k
-      go cutting.Nothing k = done k
-      go (cutting.Refused e) k = stays f m' k
+      go : (a : Result (Option (SubportIndex × PortPlace)) Refusal) → CutSays m M p dropped m' a → Leads m M m' (λ B. book_cut B (test (spot_of B.blocks p)) a)
+      go (Ok (Some (s, x))) k = done k
+      go (Ok None) k = done k
+      go (Err e) k = stays f m' k
 
   -- every block and every wire is where it was
-  pub after_tidy : (a : TidyAnswer) → TidySays m M m' a → Leads m M m' (λ B. B)
-  after_tidy tidying.Tidied d = record { model = d.model; fine = d.fine; booked = λ B r. rel_same r d.fine d.blocks d.wires }
-  after_tidy (tidying.Refused e) d = stays f m' d
+  pub after_tidy : (a : Result (Unit {0}) Refusal) → TidySays m M m' a → Leads m M m' (λ B. B)
+  after_tidy (Ok tt) d = record { model = d.model; fine = d.fine; booked = λ B r. rel_same r d.fine d.blocks d.wires }
+  after_tidy (Err e) d = stays f m' d
 
 -- Every history.
 

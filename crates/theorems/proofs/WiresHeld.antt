@@ -1,7 +1,8 @@
 -- The cursor over all wires that holds a port and offset, on whatever the graph is by then: a step gives the first item of the present
 -- listing beyond them, counted from that port's present block. Either the item lies in that block, at a later port or at a later offset of
 -- that port, or in a later block; where there is none the step ends the walk. Also where the port held is an incoming one.
-use Rattle.std.specs.Prelude.{◌≡◌, Bool, ◌⊎◌, ◌↔◌, ltb, length}
+use Rattle.theorems.specs.Pairs.{some_pair}
+use Rattle.std.specs.Prelude.{◌≡◌, Bool, ◌⊎◌, ◌↔◌, ltb, length, Option, Some, None, Result, Ok, Err}
 use Rattle.std.proofs.Math.Path.{refl, sym, ap}
 use Rattle.std.proofs.Common.{◌∙◌, subst, arith}
 use Rattle.std.proofs.Math.Bool.{true, false, cond}
@@ -36,10 +37,9 @@ use Rattle.theorems.specs.CursorClaims.{block_of_item, Beyond, later_offset, lat
 use Rattle.multiportgraph.specs.declared.multiportgraph.MultiPortGraph.{MultiPortGraph}
 use Rattle.multi_tables.specs.declared.answers.SubportIndex.{SubportIndex}
 use Rattle.multi_tables.specs.declared.answers.SubportLink.{SubportLink}
-use Rattle.multi_tables.specs.declared.answers.CutAnswer.{CutAnswer}
-use Rattle.multi_tables.specs.declared.answers.CutAnswer.TheVariants as cutting
 use Rattle.multiportgraph.specs.declared.iter.Wires.{Wires}
-use Rattle.multiportgraph.specs.declared.iter.WiresStep.TheVariants.{Item, End}
+use Rattle.multi_tables.specs.declared.answers.Refusal.{Refusal}
+use Rattle.multi_tables.specs.declared.answers.PortPlace.{PortPlace}
 
 module _ (m : MultiPortGraph) (n p o : ℕ) (w : SubportLink) where
   lies_so : lies_beyond m n p o w ≡ true → Beyond m n p o w
@@ -60,11 +60,11 @@ module _ (m : MultiPortGraph) (n p o : ℕ) (w : SubportLink) where
 
 -- Items of the listing start at ports of their block.
 
-from_here : (s : SubportIndex) (v : CutAnswer) (w : SubportLink) → Member w (wire_to s v) → w.from ≡ s
-from_here s (cutting.Found t x) w (inl e) = ap (λ (v : SubportLink). v.from) e
-from_here s (cutting.Found t x) w (inr i) = absurd i
-from_here s cutting.Nothing w i = absurd i
-from_here s (cutting.Refused r) w i = absurd i
+from_here : (s : SubportIndex) (v : Result (Option (SubportIndex × PortPlace)) Refusal) (w : SubportLink) → Member w (wire_to s v) → w.from ≡ s
+from_here s (Ok (Some (t, x))) w (inl e) = ap (λ (v : SubportLink). v.from) e
+from_here s (Ok (Some (t, x))) w (inr i) = absurd i
+from_here s (Ok None) w i = absurd i
+from_here s (Err r) w i = absurd i
 
 port_of_subport : (m : MultiPortGraph) (d : Direction) (p : ℕ) (s : SubportIndex) → Member s (subports_of_port m d p) → s.port.0 ≡ p
 unfolding subports_of_port
@@ -132,26 +132,27 @@ module _ {m : MultiPortGraph} {M : Model} (f : Fine m M) where
 abbrev Passed : (SubportLink → Bool) → List SubportLink → SubportLink → Wires → Type 0
 Passed t l w c = (before : List SubportLink) × (after : List SubportLink) × (l ≡ before ++ (w ∷ after)) × (t w ≡ true) × ((v : SubportLink) → Member v before → t v ≡ false) × (c ≡ holding w)
 
-first_passed : (t : SubportLink → Bool) (l : List SubportLink) (w : SubportLink) (c : Wires) → first_item (filter t l) ≡ Item w c → Passed t l w c
+first_passed : (t : SubportLink → Bool) (l : List SubportLink) (w : SubportLink) (c : Wires) → first_item (filter t l) ≡ Some (w, c) → Passed t l w c
 unfolding filter
 first_passed t [] w c e = absurd (zero_is_not_one (cc))
 first_passed t (x ∷ l) w c e = go (t x) refl (first_passed t l w c) e
   where
-    go : (b : Bool) → t x ≡ b → (first_item (filter t l) ≡ Item w c → Passed t l w c) → first_item (cond b (x ∷ filter t l) (filter t l)) ≡ Item w c → Passed t (x ∷ l) w c
+    go : (b : Bool) → t x ≡ b → (first_item (filter t l) ≡ Some (w, c) → Passed t l w c) → first_item (cond b (x ∷ filter t l) (filter t l)) ≡ Some (w, c) → Passed t (x ∷ l) w c
     go true q r k =
-        let s : x ≡ w = cc in
-        let d : holding x ≡ c = cc in
+        let p = some_pair k in
+        let s : x ≡ w = p.0 in
+        let d : holding x ≡ c = p.1 in
         ([], l, ap (λ (y : SubportLink). y ∷ l) s, sym (ap t s) ∙ q, (λ v i. absurd i), sym d ∙ ap holding s)
     go false q r k =
         let s = r k in
         (x ∷ s.0, s.1, ap (λ (y : List SubportLink). x ∷ y) s.2, s.3, (λ v i. ⊎_elim (λ z. ap t z ∙ q) (s.4 v) i), s.5)
 
-none_passed : (t : SubportLink → Bool) (l : List SubportLink) → first_item (filter t l) ≡ End → (v : SubportLink) → Member v l → t v ≡ false
+none_passed : (t : SubportLink → Bool) (l : List SubportLink) → first_item (filter t l) ≡ None → (v : SubportLink) → Member v l → t v ≡ false
 unfolding filter
 none_passed t [] e v i = absurd i
 none_passed t (x ∷ l) e v i = go (t x) refl (none_passed t l) e i
   where
-    go : (b : Bool) → t x ≡ b → (first_item (filter t l) ≡ End → (v : SubportLink) → Member v l → t v ≡ false) → first_item (cond b (x ∷ filter t l) (filter t l)) ≡ End → Member v (x ∷ l) → t v ≡ false
+    go : (b : Bool) → t x ≡ b → (first_item (filter t l) ≡ None → (v : SubportLink) → Member v l → t v ≡ false) → first_item (cond b (x ∷ filter t l) (filter t l)) ≡ None → Member v (x ∷ l) → t v ≡ false
     go true q r k j = absurd (zero_is_not_one (cc))
     go false q r k (inl z) = ap t z ∙ q
     go false q r k (inr j) = r k v j
@@ -159,7 +160,7 @@ none_passed t (x ∷ l) e v i = go (t x) refl (none_passed t l) e i
 -- What a step gives.
 
 module _ {m : MultiPortGraph} {M : Model} (f : Fine m M) (c : Wires) (p : ℕ) (held : c.held ≡ suc p) where
-  gives : (n : ℕ) (s : Direction) → seen m p ≡ visible n s → (w : SubportLink) (d : Wires) → step_wires m c ≡ Item w d → FirstOf (Beyond m n p c.offset) (all_wires m) w × (d ≡ holding w)
+  gives : (n : ℕ) (s : Direction) → seen m p ≡ visible n s → (w : SubportLink) (d : Wires) → step_wires m c ≡ Some (w, d) → FirstOf (Beyond m n p c.offset) (all_wires m) w × (d ≡ holding w)
   gives n s e w d g =
       let r = first_passed (lies_beyond m n p c.offset) (all_wires m) w d (sym (step_held f c p n s held e) ∙ g) in (
         record {
@@ -173,17 +174,17 @@ module _ {m : MultiPortGraph} {M : Model} (f : Fine m M) (c : Wires) (p : ℕ) (
       )
 
   -- the port held is a block's
-  item_seen : (v : Port) → seen m p ≡ v → (w : SubportLink) (d : Wires) → step_wires m c ≡ Item w d → (n : ℕ) × (s : Direction) × (seen m p ≡ visible n s)
+  item_seen : (v : Port) → seen m p ≡ v → (w : SubportLink) (d : Wires) → step_wires m c ≡ Some (w, d) → (n : ℕ) × (s : Direction) × (seen m p ≡ visible n s)
   unfolding step_wires
   item_seen (visible n s) e w d g = (n, s, e)
   item_seen dead e w d g =
-      let z : step_wires m c ≡ End = ap (λ (k : ℕ). cond (eqb k 0) (first_item (all_wires m)) (wires_seen m (k - 1) c.offset (seen m (k - 1)))) held ∙ rw (ne_eqb (suc p) 0 (λ z. omega arith), less p) (ap (wires_seen m p c.offset) e) in
+      let z : step_wires m c ≡ None = ap (λ (k : ℕ). cond (eqb k 0) (first_item (all_wires m)) (wires_seen m (k - 1) c.offset (seen m (k - 1)))) held ∙ rw (ne_eqb (suc p) 0 (λ z. omega arith), less p) (ap (wires_seen m p c.offset) e) in
       absurd (zero_is_not_one (cc))
   item_seen hidden e w d g =
-      let z : step_wires m c ≡ End = ap (λ (k : ℕ). cond (eqb k 0) (first_item (all_wires m)) (wires_seen m (k - 1) c.offset (seen m (k - 1)))) held ∙ rw (ne_eqb (suc p) 0 (λ z. omega arith), less p) (ap (wires_seen m p c.offset) e) in
+      let z : step_wires m c ≡ None = ap (λ (k : ℕ). cond (eqb k 0) (first_item (all_wires m)) (wires_seen m (k - 1) c.offset (seen m (k - 1)))) held ∙ rw (ne_eqb (suc p) 0 (λ z. omega arith), less p) (ap (wires_seen m p c.offset) e) in
       absurd (zero_is_not_one (cc))
 
-  ends : (v : Port) → seen m p ≡ v → step_wires m c ≡ End → (is_seen (seen m p) ≡ false) ⊎ ((n : ℕ) × (s : Direction) × (seen m p ≡ visible n s) × ((w : SubportLink) → Member w (all_wires m) → Beyond m n p c.offset w → ⊥))
+  ends : (v : Port) → seen m p ≡ v → step_wires m c ≡ None → (is_seen (seen m p) ≡ false) ⊎ ((n : ℕ) × (s : Direction) × (seen m p ≡ visible n s) × ((w : SubportLink) → Member w (all_wires m) → Beyond m n p c.offset w → ⊥))
   ends dead e g = inl (ap is_seen e)
   ends hidden e g = inl (ap is_seen e)
   ends (visible n s) e g =
@@ -199,7 +200,7 @@ module _ {m : MultiPortGraph} {M : Model} (f : Fine m M) (c : Wires) (p : ℕ) (
 
 -- A step that gives an item: the port held is one of a block, the item is the first of the present listing beyond it and the offset,
 -- and the cursor comes back holding it.
-pub wires_give : (release : Release) (calls : List Call) (c d : Wires) (p : ℕ) (w : SubportLink) → c.held ≡ suc p → step_wires (run release calls).graph c ≡ Item w d →
+pub wires_give : (release : Release) (calls : List Call) (c d : Wires) (p : ℕ) (w : SubportLink) → c.held ≡ suc p → step_wires (run release calls).graph c ≡ Some (w, d) →
     (n : ℕ) × (s : Direction) × (seen (run release calls).graph p ≡ visible n s) × FirstOf (Beyond (run release calls).graph n p c.offset) (all_wires (run release calls).graph) w × (d ≡ holding w)
 wires_give release calls c d p w h g =
     let f = (run_kept release calls).fine in
@@ -208,7 +209,7 @@ wires_give release calls c d p w h g =
     (s.0, s.1, s.2, r.0, r.1)
 
 -- A step that ends the walk: the port held is gone or hidden, or no item of the present listing lies beyond it and the offset.
-pub wires_end : (release : Release) (calls : List Call) (c : Wires) (p : ℕ) → c.held ≡ suc p → step_wires (run release calls).graph c ≡ End →
+pub wires_end : (release : Release) (calls : List Call) (c : Wires) (p : ℕ) → c.held ≡ suc p → step_wires (run release calls).graph c ≡ None →
     (is_seen (seen (run release calls).graph p) ≡ false)
     ⊎ ((n : ℕ) × (s : Direction) × (seen (run release calls).graph p ≡ visible n s) × ((w : SubportLink) → Member w (all_wires (run release calls).graph) → Beyond (run release calls).graph n p c.offset w → ⊥))
 wires_end release calls c p h g = ends (run_kept release calls).fine c p h (seen (run release calls).graph p) refl g
@@ -313,10 +314,10 @@ module _ {m : MultiPortGraph} {M : Model} (f : Fine m M) where
       let b = port_of_subport m d q t k in
       inl (omega arith))
 
-  one_rises : (s : SubportIndex) (v : CutAnswer) → Rising (Ahead m) (wire_to s v)
-  one_rises s (cutting.Found t x) = ((λ y i. absurd i), tt)
-  one_rises s cutting.Nothing = tt
-  one_rises s (cutting.Refused r) = tt
+  one_rises : (s : SubportIndex) (v : Result (Option (SubportIndex × PortPlace)) Refusal) → Rising (Ahead m) (wire_to s v)
+  one_rises s (Ok (Some (t, x))) = ((λ y i. absurd i), tt)
+  one_rises s (Ok None) = tt
+  one_rises s (Err r) = tt
 
   side_rises : (n : ℕ) → Rising (Ahead m) (side_links m Outgoing n)
   unfolding side_links wire_of

@@ -1,5 +1,5 @@
 -- 01's bench wiring, cases A to K, as one table with one claim; and smallest inputs of resizes, of fan-out, of wires into an input and of tidies.
-use Rattle.std.specs.Prelude.{◌≡◌, refl, ℕ, suc, length, replicate, cond}
+use Rattle.std.specs.Prelude.{◌≡◌, refl, ℕ, suc, length, replicate, cond, Option, Some, None}
 use mathlib.Core.List.{List, [], ◌∷◌, ◌++◌, flat_map}
 use Rattle.port_tables.specs.Limits.{no_port}
 use Rattle.port_tables.specs.Entries.{node#}
@@ -16,12 +16,11 @@ use Rattle.multiportgraph.specs.declared.multiportgraph.MultiPortGraph.{MultiPor
 use Rattle.port_tables.specs.declared.release.Release.{Release}
 use Rattle.port_tables.specs.declared.release.Release.TheVariants.{One, Two}
 use Rattle.multi_tables.specs.declared.answers.SubportIndex.{SubportIndex}
-use Rattle.multiportgraph.specs.declared.iter.WiresStep.{WiresStep}
-use Rattle.multiportgraph.specs.declared.iter.WiresStep.TheVariants as wires_step
-use Rattle.multiportgraph.specs.declared.iter.NodeSubportsStep.{NodeSubportsStep}
-use Rattle.multiportgraph.specs.declared.iter.NodeSubportsStep.TheVariants as subports_step
 use Rattle.multiportgraph.specs.Graph.{empty_graph}
 use Rattle.multiportgraph.specs.Answers.{cut_numbers}
+use Rattle.multi_tables.specs.declared.answers.SubportLink.{SubportLink}
+use Rattle.multiportgraph.specs.declared.iter.NodeSubports.{NodeSubports}
+use Rattle.multiportgraph.specs.declared.iter.Wires.{Wires}
 
 -- What a line asks: a call, or a look at the graph.
 pub data Ask : Type 0 where
@@ -49,13 +48,13 @@ abbrev subport_numbers : SubportIndex → List ℕ
 subport_numbers s = s.port.0 ∷ s.subport_offset ∷ []
 
 -- an item that a step gives, or nothing at the end
-abbrev wire_numbers : WiresStep → List ℕ
-wire_numbers (wires_step.Item w c) = subport_numbers w.from ++ subport_numbers w.to
-wire_numbers wires_step.End = []
+abbrev wire_numbers : Option (SubportLink × Wires) → List ℕ
+wire_numbers (Some (w, c)) = subport_numbers w.from ++ subport_numbers w.to
+wire_numbers None = []
 
-abbrev step_numbers : NodeSubportsStep → List ℕ
-step_numbers (subports_step.Item s c) = subport_numbers s
-step_numbers subports_step.End = []
+abbrev step_numbers : Option (SubportIndex × NodeSubports) → List ℕ
+step_numbers (Some (s, c)) = subport_numbers s
+step_numbers None = []
 
 abbrev looked : MultiPortGraph → Ask → List ℕ
 looked m (call c) = numbers_of c (step m c).answer

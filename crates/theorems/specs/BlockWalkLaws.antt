@@ -1,6 +1,6 @@
 -- The walks of a block, over its ports, subports, links, neighbours and connections: on a graph of the calls each gives its listing
 -- whole, in order, and then the end; from any cursor it gives what the cursor leaves of the listing.
-use Rattle.std.specs.Prelude.{◌≡◌, Bool, ◌⊎◌, leb, ltb}
+use Rattle.std.specs.Prelude.{◌≡◌, Bool, ◌⊎◌, leb, ltb, Option, Some, None, Ok}
 use Rattle.std.proofs.Math.Path.{refl, sym, ap}
 use Rattle.std.proofs.Common.{◌∙◌, subst, inr, ⊎_elim, arith}
 use Rattle.std.proofs.Math.Bool.{true, false, cond}
@@ -32,49 +32,35 @@ use Rattle.multiportgraph.specs.declared.multiportgraph.MultiPortGraph.{MultiPor
 use Rattle.multi_tables.specs.declared.answers.SubportIndex.{SubportIndex}
 use Rattle.multi_tables.specs.declared.answers.SubportLink.{SubportLink}
 use Rattle.multiportgraph.specs.declared.iter.NodePorts.{NodePorts}
-use Rattle.multiportgraph.specs.declared.iter.NodePortsStep.{NodePortsStep}
-use Rattle.multiportgraph.specs.declared.iter.NodePortsStep.TheVariants as node_ports_step
-use Rattle.multiportgraph.specs.declared.iter.NodePortsStart.TheVariants as node_ports_start
 use Rattle.multiportgraph.specs.declared.iter.NodeSubports.{NodeSubports}
-use Rattle.multiportgraph.specs.declared.iter.NodeSubportsStep.{NodeSubportsStep}
-use Rattle.multiportgraph.specs.declared.iter.NodeSubportsStep.TheVariants as subports_step
-use Rattle.multiportgraph.specs.declared.iter.NodeSubportsStart.TheVariants as subports_start
 use Rattle.multiportgraph.specs.declared.iter.NodeLinks.{NodeLinks}
-use Rattle.multiportgraph.specs.declared.iter.NodeLinksStep.{NodeLinksStep}
-use Rattle.multiportgraph.specs.declared.iter.NodeLinksStep.TheVariants as links_step
-use Rattle.multiportgraph.specs.declared.iter.NodeLinksStart.TheVariants as links_start
 use Rattle.multiportgraph.specs.declared.iter.Neighbours.{Neighbours}
-use Rattle.multiportgraph.specs.declared.iter.NeighboursStep.{NeighboursStep}
-use Rattle.multiportgraph.specs.declared.iter.NeighboursStep.TheVariants as neighbours_step
-use Rattle.multiportgraph.specs.declared.iter.NeighboursStart.TheVariants as neighbours_start
 use Rattle.multiportgraph.specs.declared.iter.NodeConnections.{NodeConnections}
-use Rattle.multiportgraph.specs.declared.iter.NodeConnectionsStep.{NodeConnectionsStep}
-use Rattle.multiportgraph.specs.declared.iter.NodeConnectionsStep.TheVariants as connections_step
-use Rattle.multiportgraph.specs.declared.iter.NodeConnectionsStart.TheVariants as connections_start
 use Rattle.multi_tables.specs.declared.answers.Refusal.TheVariants.{UnknownNode, HiddenNode}
 use Rattle.theorems.specs.WalkStepLaws.{seen_stays, subport_offset, link_offset, subports_of_port_rise, port_links_rise}
+use Rattle.port_tables.specs.declared.index.PortIndex.{PortIndex}
 
 -- The steps, in one form.
 
-abbrev node_ports_given : NodePortsStep → Stepped ℕ NodePorts
-node_ports_given (node_ports_step.Item p c) = item p.0 c
-node_ports_given node_ports_step.End = end
+abbrev node_ports_given : Option (PortIndex × NodePorts) → Stepped ℕ NodePorts
+node_ports_given (Some (p, c)) = item p.0 c
+node_ports_given None = end
 
-abbrev subports_given : NodeSubportsStep → Stepped SubportIndex NodeSubports
-subports_given (subports_step.Item s c) = item s c
-subports_given subports_step.End = end
+abbrev subports_given : Option (SubportIndex × NodeSubports) → Stepped SubportIndex NodeSubports
+subports_given (Some (s, c)) = item s c
+subports_given None = end
 
-abbrev links_given : NodeLinksStep → Stepped SubportLink NodeLinks
-links_given (links_step.Item w c) = item w c
-links_given links_step.End = end
+abbrev links_given : Option (SubportLink × NodeLinks) → Stepped SubportLink NodeLinks
+links_given (Some (w, c)) = item w c
+links_given None = end
 
-abbrev neighbours_given : NeighboursStep → Stepped ℕ Neighbours
-neighbours_given (neighbours_step.Item n c) = item n.0 c
-neighbours_given neighbours_step.End = end
+abbrev neighbours_given : Option (NodeIndex × Neighbours) → Stepped ℕ Neighbours
+neighbours_given (Some (n, c)) = item n.0 c
+neighbours_given None = end
 
-abbrev connections_given : NodeConnectionsStep → Stepped SubportLink NodeConnections
-connections_given (connections_step.Item w c) = item w c
-connections_given connections_step.End = end
+abbrev connections_given : Option (SubportLink × NodeConnections) → Stepped SubportLink NodeConnections
+connections_given (Some (w, c)) = item w c
+connections_given None = end
 
 abbrev pub by_node_ports : MultiPortGraph → NodePorts → Stepped ℕ NodePorts
 by_node_ports m c = node_ports_given (step_node_ports m c)
@@ -398,15 +384,15 @@ ends_stay m n k h p e s = go (is_block m k) e
     go true e = both_stays m n h p e s
     go false e = absurd (zero_is_not_one (cc))
 
-connections_step_is : (m : MultiPortGraph) (n k h : ℕ) (f : SubportLink → NodeConnectionsStep) (l : List SubportLink) →
-    connections_given (cond (is_block m k) (cond (both_seen m n h) (on_first connections_step.End f l) connections_step.End) connections_step.End)
+connections_step_is : (m : MultiPortGraph) (n k h : ℕ) (f : SubportLink → Option (SubportLink × NodeConnections)) (l : List SubportLink) →
+    connections_given (cond (is_block m k) (cond (both_seen m n h) (on_first None f l) None) None)
     ≡ on_first end (λ v. connections_given (f v)) (cond (both_ends m n k h) l [])
 unfolding on_first
 connections_step_is m n k h f l = go (is_block m k)
   where
-    go : (b : Bool) → connections_given (cond b (cond (both_seen m n h) (on_first connections_step.End f l) connections_step.End) connections_step.End)
+    go : (b : Bool) → connections_given (cond b (cond (both_seen m n h) (on_first None f l) None) None)
         ≡ on_first end (λ v. connections_given (f v)) (cond (cond b (both_seen m n h) false) l [])
-    go true = first_if connections_given (both_seen m n h) connections_step.End f l
+    go true = first_if connections_given (both_seen m n h) None f l
     go false = refl
 
 -- The walks of a graph of the calls: from any cursor, what it leaves, in order, and then the end.
@@ -419,7 +405,7 @@ module _ {m : MultiPortGraph} (w : MultiWf m) where
         rises = λ h t. rising_as ◌<◌ (Ahead (λ p. p) (λ p. 0)) (ports_of_node m n.0 sides) (λ x y i j l. inl l) (block_ports_rise w n.0 (both_block m n.0 h t) sides);
         stays = λ h t p i. both_stays m n.0 h p t (block_ports_seen w n.0 (both_block m n.0 h t) sides p i);
         is = λ h o.
-            first_if node_ports_given (both_seen m n.0 h) node_ports_step.End (λ p. node_ports_step.Item (port# p) (node_ports_at n sides (suc p) 0)) (filter (leb h) (ports_of_node m n.0 sides))
+            first_if node_ports_given (both_seen m n.0 h) None (λ p. Some (port# p, node_ports_at n sides (suc p) 0)) (filter (leb h) (ports_of_node m n.0 sides))
             ∙ ap (λ (v : List ℕ). on_first end (λ p. item p (node_ports_at n sides (suc p) 0)) (cond (both_seen m n.0 h) v []))
             (filter_same (leb h) (is_past (λ q. q) (λ q. 0) h o) (ports_of_node m n.0 sides) (λ p i. sym (past_is_leb h o p)));
       }
@@ -440,7 +426,7 @@ module _ {m : MultiPortGraph} (w : MultiWf m) where
         rises = λ h t. block_subports_rise w n.0 (both_block m n.0 h t) sides;
         stays = λ h t s i. both_stays m n.0 h (subport_port s) t (block_subports_seen w n.0 (both_block m n.0 h t) sides s i);
         is = λ h o.
-            first_if subports_given (both_seen m n.0 h) subports_step.End (λ s. subports_step.Item s (subports_cursor n sides (suc (subport_port s)) (subport_offset s)))
+            first_if subports_given (both_seen m n.0 h) None (λ s. Some (s, subports_cursor n sides (suc (subport_port s)) (subport_offset s)))
             (filter (subport_beyond h o) (subports_of m n.0 sides));
       }
 
@@ -465,7 +451,7 @@ module _ {m : MultiPortGraph} (w : MultiWf m) where
   unfolding step_links node_links
   node_links_walk n sides lo hi =
       link_walk n.0 sides (not_skipped lo hi) (both_seen m n.0) (λ v. v) (links_cursor n sides lo hi) (by_links m) (both_block m n.0) (both_stays m n.0)
-      (λ h o. first_if links_given (both_seen m n.0 h) links_step.End (links_item (links_cursor n sides lo hi h o)) (filter (link_beyond h o) (node_links m n.0 sides lo hi)))
+      (λ h o. first_if links_given (both_seen m n.0 h) None (links_item (links_cursor n sides lo hi h o)) (filter (link_beyond h o) (node_links m n.0 sides lo hi)))
 
   pub node_links_forward : (c : NodeLinks) (fuel : ℕ) → length (node_links_left m c) < fuel → walk (by_links m) fuel c ≡ whole (node_links_left m c)
   unfolding node_links_left is_beyond
@@ -476,7 +462,7 @@ module _ {m : MultiPortGraph} (w : MultiWf m) where
   unfolding step_neighbours neighbour_links
   neighbours_walk n sides flag =
       link_walk n.0 sides (not_ignored m n.0 flag) (both_seen m n.0) (neighbour_of m) (neighbours_cursor n sides flag) (by_neighbours m) (both_block m n.0) (both_stays m n.0)
-      (λ h o. first_if neighbours_given (both_seen m n.0 h) neighbours_step.End (neighbours_item m (neighbours_cursor n sides flag h o)) (filter (link_beyond h o) (neighbour_links m n.0 sides flag)))
+      (λ h o. first_if neighbours_given (both_seen m n.0 h) None (neighbours_item m (neighbours_cursor n sides flag h o)) (filter (link_beyond h o) (neighbour_links m n.0 sides flag)))
 
   pub neighbours_forward : (c : Neighbours) (fuel : ℕ) → length (neighbours_left m c) < fuel → walk (by_neighbours m) fuel c ≡ whole (map (neighbour_of m) (neighbours_left m c))
   unfolding neighbours_left is_beyond
@@ -496,52 +482,52 @@ module _ {m : MultiPortGraph} (w : MultiWf m) where
 -- A start that is not refused leaves the whole listing.
 
 module _ (m : MultiPortGraph) (n : NodeIndex) (sides : Sides) where
-  pub node_ports_at_start : (c : NodePorts) → start_node_ports m n sides ≡ node_ports_start.Started c → node_ports_left m c ≡ ports_of_node m n.0 sides
+  pub node_ports_at_start : (c : NodePorts) → start_node_ports m n sides ≡ Ok c → node_ports_left m c ≡ ports_of_node m n.0 sides
   unfolding node_ports_left
   node_ports_at_start c e = go (start_at_node m n.0) refl e
     where
-      go : (s : Start) → start_at_node m n.0 ≡ s → node_ports_from n sides s ≡ node_ports_start.Started c → node_ports_left m c ≡ ports_of_node m n.0 sides
+      go : (s : Start) → start_at_node m n.0 ≡ s → node_ports_from n sides s ≡ Ok c → node_ports_left m c ≡ ports_of_node m n.0 sides
       go started d e =
           let q : node_ports_at n sides 0 0 ≡ c = cc in
           ap (node_ports_left m) (sym q) ∙ rw (started_block m n.0 d) (filter_all (leb 0) (ports_of_node m n.0 sides) (λ p i. le-leb 0 p (omega arith)))
       go (refused r) d e = absurd (zero_is_not_one (cc))
 
-  pub subports_at_start : (c : NodeSubports) → start_subports m n sides ≡ subports_start.Started c → subports_left m c ≡ subports_of m n.0 sides
+  pub subports_at_start : (c : NodeSubports) → start_subports m n sides ≡ Ok c → subports_left m c ≡ subports_of m n.0 sides
   unfolding subports_left subport_beyond
   subports_at_start c e = go (start_at_node m n.0) refl e
     where
-      go : (s : Start) → start_at_node m n.0 ≡ s → subports_from n sides s ≡ subports_start.Started c → subports_left m c ≡ subports_of m n.0 sides
+      go : (s : Start) → start_at_node m n.0 ≡ s → subports_from n sides s ≡ Ok c → subports_left m c ≡ subports_of m n.0 sides
       go started d e =
           let q : subports_cursor n sides 0 0 ≡ c = cc in
           ap (subports_left m) (sym q) ∙ rw (started_block m n.0 d) (filter_all (subport_beyond 0 0) (subports_of m n.0 sides) (λ s i. refl))
       go (refused r) d e = absurd (zero_is_not_one (cc))
 
-  pub node_links_at_start : (lo hi : ℕ) (c : NodeLinks) → start_links m n sides lo hi ≡ links_start.Started c → node_links_left m c ≡ node_links m n.0 sides lo hi
+  pub node_links_at_start : (lo hi : ℕ) (c : NodeLinks) → start_links m n sides lo hi ≡ Ok c → node_links_left m c ≡ node_links m n.0 sides lo hi
   unfolding node_links_left
   node_links_at_start lo hi c e = go (start_at_node m n.0) refl e
     where
-      go : (s : Start) → start_at_node m n.0 ≡ s → links_from n sides lo hi s ≡ links_start.Started c → node_links_left m c ≡ node_links m n.0 sides lo hi
+      go : (s : Start) → start_at_node m n.0 ≡ s → links_from n sides lo hi s ≡ Ok c → node_links_left m c ≡ node_links m n.0 sides lo hi
       go started d e =
           let q : links_cursor n sides lo hi 0 0 ≡ c = cc in
           ap (node_links_left m) (sym q) ∙ rw (started_block m n.0 d) (filter_all (link_beyond 0 0) (node_links m n.0 sides lo hi) (λ v i. refl))
       go (refused r) d e = absurd (zero_is_not_one (cc))
 
-  pub neighbours_at_start : (flag : Bool) (c : Neighbours) → start_neighbours m n sides flag ≡ neighbours_start.Started c → neighbours_left m c ≡ neighbour_links m n.0 sides flag
+  pub neighbours_at_start : (flag : Bool) (c : Neighbours) → start_neighbours m n sides flag ≡ Ok c → neighbours_left m c ≡ neighbour_links m n.0 sides flag
   unfolding neighbours_left
   neighbours_at_start flag c e = go (start_at_node m n.0) refl e
     where
-      go : (s : Start) → start_at_node m n.0 ≡ s → neighbours_from n sides flag s ≡ neighbours_start.Started c → neighbours_left m c ≡ neighbour_links m n.0 sides flag
+      go : (s : Start) → start_at_node m n.0 ≡ s → neighbours_from n sides flag s ≡ Ok c → neighbours_left m c ≡ neighbour_links m n.0 sides flag
       go started d e =
           let q : neighbours_cursor n sides flag 0 0 ≡ c = cc in
           ap (neighbours_left m) (sym q) ∙ rw (started_block m n.0 d) (filter_all (link_beyond 0 0) (neighbour_links m n.0 sides flag) (λ v i. refl))
       go (refused r) d e = absurd (zero_is_not_one (cc))
 
-pub connections_at_start : (m : MultiPortGraph) (n k : NodeIndex) (c : NodeConnections) → start_connections m n k ≡ connections_start.Started c →
+pub connections_at_start : (m : MultiPortGraph) (n k : NodeIndex) (c : NodeConnections) → start_connections m n k ≡ Ok c →
     connections_left m c ≡ connections m n.0 k.0
 unfolding connections_left
 connections_at_start m n k c e = go (start_between m n.0 k.0) refl e
   where
-    go : (s : Start) → start_between m n.0 k.0 ≡ s → connections_from n k s ≡ connections_start.Started c → connections_left m c ≡ connections m n.0 k.0
+    go : (s : Start) → start_between m n.0 k.0 ≡ s → connections_from n k s ≡ Ok c → connections_left m c ≡ connections m n.0 k.0
     go started d e =
         let q : connections_cursor n k 0 0 ≡ c = cc in
         let b = started_blocks m n.0 k.0 d in
@@ -551,19 +537,19 @@ connections_at_start m n k c e = go (start_between m n.0 k.0) refl e
 -- So from its start each walk gives its listing, whole and in order, and then the end.
 
 module _ {m : MultiPortGraph} (w : MultiWf m) (n : NodeIndex) (sides : Sides) (fuel : ℕ) where
-  pub node_ports_whole : (c : NodePorts) → start_node_ports m n sides ≡ node_ports_start.Started c → length (ports_of_node m n.0 sides) < fuel →
+  pub node_ports_whole : (c : NodePorts) → start_node_ports m n sides ≡ Ok c → length (ports_of_node m n.0 sides) < fuel →
       walk (by_node_ports m) fuel c ≡ whole (ports_of_node m n.0 sides)
   node_ports_whole c e h = let q = node_ports_at_start m n sides c e in rw q at (node_ports_forward w c fuel (rw q h))
 
-  pub subports_whole : (c : NodeSubports) → start_subports m n sides ≡ subports_start.Started c → length (subports_of m n.0 sides) < fuel →
+  pub subports_whole : (c : NodeSubports) → start_subports m n sides ≡ Ok c → length (subports_of m n.0 sides) < fuel →
       walk (by_subports m) fuel c ≡ whole (subports_of m n.0 sides)
   subports_whole c e h = let q = subports_at_start m n sides c e in rw q at (subports_forward w c fuel (rw q h))
 
-  pub node_links_whole : (lo hi : ℕ) (c : NodeLinks) → start_links m n sides lo hi ≡ links_start.Started c → length (node_links m n.0 sides lo hi) < fuel →
+  pub node_links_whole : (lo hi : ℕ) (c : NodeLinks) → start_links m n sides lo hi ≡ Ok c → length (node_links m n.0 sides lo hi) < fuel →
       walk (by_links m) fuel c ≡ whole (node_links m n.0 sides lo hi)
   node_links_whole lo hi c e h = let q = node_links_at_start m n sides lo hi c e in rw q at (node_links_forward w c fuel (rw q h))
 
-  pub neighbours_whole : (flag : Bool) (c : Neighbours) → start_neighbours m n sides flag ≡ neighbours_start.Started c → length (neighbours m n.0 sides flag) < fuel →
+  pub neighbours_whole : (flag : Bool) (c : Neighbours) → start_neighbours m n sides flag ≡ Ok c → length (neighbours m n.0 sides flag) < fuel →
       walk (by_neighbours m) fuel c ≡ whole (neighbours m n.0 sides flag)
   unfolding neighbours
   neighbours_whole flag c e h =
@@ -571,6 +557,6 @@ module _ {m : MultiPortGraph} (w : MultiWf m) (n : NodeIndex) (sides : Sides) (f
       let s = length_map (neighbour_of m) (neighbour_links m n.0 sides flag) in
       rw q at (neighbours_forward w c fuel (rw q (omega arith)))
 
-pub connections_whole : {m : MultiPortGraph} → MultiWf m → (n k : NodeIndex) (fuel : ℕ) (c : NodeConnections) → start_connections m n k ≡ connections_start.Started c →
+pub connections_whole : {m : MultiPortGraph} → MultiWf m → (n k : NodeIndex) (fuel : ℕ) (c : NodeConnections) → start_connections m n k ≡ Ok c →
     length (connections m n.0 k.0) < fuel → walk (by_connections m) fuel c ≡ whole (connections m n.0 k.0)
 connections_whole {m} w n k fuel c e h = let q = connections_at_start m n k c e in rw q at (connections_forward w c fuel (rw q h))

@@ -1,21 +1,15 @@
 -- The wire book of 01: fed each call with its answer, the marks before it of the ports that it names and, after an accepted
 -- resize, the node's ports as walked. No graph stands in its types.
-use Rattle.std.specs.Prelude.{Bool, false, not, cond, List, [], ◌∷◌, ℕ, suc, ◌+◌, eqb, take, drop}
+use Rattle.std.specs.Prelude.{Bool, false, not, cond, List, [], ◌∷◌, ℕ, suc, ◌+◌, eqb, take, drop, Option, Some, None, Result, Ok, Err}
 use Rattle.port_tables.specs.Lists.{range, filter}
 use Rattle.port_tables.specs.declared.direction.Direction.{Direction}
 use Rattle.port_tables.specs.declared.direction.Direction.TheVariants.{Incoming, Outgoing}
-use Rattle.multiportgraph.specs.declared.multiportgraph.AddAnswer.{AddAnswer}
-use Rattle.multiportgraph.specs.declared.multiportgraph.AddAnswer.TheVariants as add
-use Rattle.multiportgraph.specs.declared.multiportgraph.RemoveAnswer.{RemoveAnswer}
-use Rattle.multiportgraph.specs.declared.multiportgraph.RemoveAnswer.TheVariants as remove
-use Rattle.multiportgraph.specs.declared.multiportgraph.SetAnswer.{SetAnswer}
-use Rattle.multiportgraph.specs.declared.multiportgraph.SetAnswer.TheVariants as resize
-use Rattle.multiportgraph.specs.declared.multiportgraph.LinkAnswer.{LinkAnswer}
-use Rattle.multiportgraph.specs.declared.multiportgraph.LinkAnswer.TheVariants as link
-use Rattle.multi_tables.specs.declared.answers.CutAnswer.{CutAnswer}
-use Rattle.multi_tables.specs.declared.answers.CutAnswer.TheVariants as cutting
-use Rattle.multiportgraph.specs.declared.multiportgraph.TidyAnswer.{TidyAnswer}
 use Rattle.port_tables.specs.Places.{Spot, nowhere, spot, at_spot, at_end, wire_of_sides, of_node, of_dropped, Place, Wire, without, next_offset}
+use Rattle.port_tables.specs.declared.index.NodeIndex.{NodeIndex}
+use Rattle.port_tables.specs.declared.index.PortIndex.{PortIndex}
+use Rattle.multi_tables.specs.declared.answers.Refusal.{Refusal}
+use Rattle.multi_tables.specs.declared.answers.SubportIndex.{SubportIndex}
+use Rattle.multi_tables.specs.declared.answers.PortPlace.{PortPlace}
 
 -- The calls that give back a graph.
 pub data Call : Type 0 where
@@ -32,15 +26,15 @@ pub data Call : Type 0 where
 
 -- what a call answers follows from the call
 abbrev pub AnswerOf : Call → Type 0
-AnswerOf (add_call i o) = AddAnswer
-AnswerOf (remove_call n) = RemoveAnswer
-AnswerOf (set_call n i o room) = SetAnswer
-AnswerOf (link_call a b) = LinkAnswer
-AnswerOf (link_clean_call a b) = LinkAnswer
-AnswerOf (link_sub_call p o q r) = LinkAnswer
-AnswerOf (cut_call p) = CutAnswer
-AnswerOf (cut_sub_call p o) = CutAnswer
-AnswerOf (tidy_call p) = TidyAnswer
+AnswerOf (add_call i o) = Result (NodeIndex × PortIndex) Refusal
+AnswerOf (remove_call n) = Result (Unit {0}) Refusal
+AnswerOf (set_call n i o room) = Result ℕ Refusal
+AnswerOf (link_call a b) = Result (SubportIndex × SubportIndex) Refusal
+AnswerOf (link_clean_call a b) = Result (SubportIndex × SubportIndex) Refusal
+AnswerOf (link_sub_call p o q r) = Result (SubportIndex × SubportIndex) Refusal
+AnswerOf (cut_call p) = Result (Option (SubportIndex × PortPlace)) Refusal
+AnswerOf (cut_sub_call p o) = Result (Option (SubportIndex × PortPlace)) Refusal
+AnswerOf (tidy_call p) = Result (Unit {0}) Refusal
 
 -- a block with its ports by side and position
 pub record Block : Type 0 where
@@ -88,49 +82,49 @@ second_mark (b ∷ l) = first_mark l
 
 -- What each accepted call does to the book. Refused calls change nothing.
 
-abbrev pub book_add : Book → ℕ → ℕ → AddAnswer → Book
-book_add B incoming outgoing (add.Added n p) =
+abbrev pub book_add : Book → ℕ → ℕ → Result (NodeIndex × PortIndex) Refusal → Book
+book_add B incoming outgoing (Ok (n, p)) =
     record {
       blocks = record { node = n.0; ins = range p.0 incoming; outs = range (p.0 + incoming) outgoing } ∷ B.blocks;
       wires = B.wires;
     }
-book_add B incoming outgoing (add.Refused r) = B
+book_add B incoming outgoing (Err r) = B
 
-abbrev pub book_remove : Book → ℕ → RemoveAnswer → Book
-book_remove B n remove.Removed = record { blocks = filter (not_block n) B.blocks; wires = without (of_node n) B.wires }
-book_remove B n (remove.Refused r) = B
+abbrev pub book_remove : Book → ℕ → Result (Unit {0}) Refusal → Book
+book_remove B n (Ok tt) = record { blocks = filter (not_block n) B.blocks; wires = without (of_node n) B.wires }
+book_remove B n (Err r) = B
 
-abbrev pub book_set : Book → ℕ → ℕ → ℕ → SetAnswer → List ℕ → Book
-book_set B n incoming outgoing (resize.Set e) ports =
+abbrev pub book_set : Book → ℕ → ℕ → ℕ → Result ℕ Refusal → List ℕ → Book
+book_set B n incoming outgoing (Ok e) ports =
     record {
       blocks = record { node = n; ins = take incoming ports; outs = drop incoming ports } ∷ filter (not_block n) B.blocks;
       wires = without (of_dropped n incoming outgoing) B.wires;
     }
-book_set B n incoming outgoing (resize.Refused r) ports = B
+book_set B n incoming outgoing (Err r) ports = B
 
 abbrev pub with_wires : Book → List Wire → Book
 with_wires B wires = record { blocks = B.blocks; wires = wires }
 
 -- one more wire, each named port at its lowest unwired offset
-abbrev pub book_link : Book → ℕ → ℕ → LinkAnswer → Book
-book_link B a b (link.Linked s t) =
+abbrev pub book_link : Book → ℕ → ℕ → Result (SubportIndex × SubportIndex) Refusal → Book
+book_link B a b (Ok (s, t)) =
     with_wires B
     (add_wire B.wires
     (spot_of B.blocks a) (next_offset B.wires (spot_of B.blocks a))
     (spot_of B.blocks b) (next_offset B.wires (spot_of B.blocks b)))
-book_link B a b (link.Refused r) = B
+book_link B a b (Err r) = B
 
 -- one more, between the ends named
-abbrev pub book_link_sub : Book → ℕ → ℕ → ℕ → ℕ → LinkAnswer → List Bool → Book
-book_link_sub B p o q r (link.Linked s t) marks =
+abbrev pub book_link_sub : Book → ℕ → ℕ → ℕ → ℕ → Result (SubportIndex × SubportIndex) Refusal → List Bool → Book
+book_link_sub B p o q r (Ok (s, t)) marks =
     with_wires B
     (add_wire B.wires (spot_of B.blocks p) (read_by (first_mark marks) o) (spot_of B.blocks q) (read_by (second_mark marks) r))
-book_link_sub B p o q r (link.Refused x) marks = B
+book_link_sub B p o q r (Err x) marks = B
 
-abbrev pub book_cut : Book → (Place → Bool) → CutAnswer → Book
-book_cut B f (cutting.Found s x) = with_wires B (without f B.wires)
-book_cut B f cutting.Nothing = with_wires B (without f B.wires)
-book_cut B f (cutting.Refused r) = B
+abbrev pub book_cut : Book → (Place → Bool) → Result (Option (SubportIndex × PortPlace)) Refusal → Book
+book_cut B f (Ok (Some (s, x))) = with_wires B (without f B.wires)
+book_cut B f (Ok None) = with_wires B (without f B.wires)
+book_cut B f (Err r) = B
 
 abbrev pub book_answer : Book → (c : Call) → AnswerOf c → List Bool → List ℕ → Book
 book_answer B (add_call i o) a marks ports = book_add B i o a

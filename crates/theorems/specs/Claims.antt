@@ -1,5 +1,5 @@
 -- The words of the theorems: what is said of a history, of a link that follows it, and of the wires between two ports.
-use Rattle.std.specs.Prelude.{◌≡◌, Bool, true, false, cond, ◌||◌, ℕ, ◌+◌, eqb}
+use Rattle.std.specs.Prelude.{◌≡◌, Bool, true, false, cond, ◌||◌, ℕ, ◌+◌, eqb, Ok}
 use mathlib.Core.List.{List, [], ◌∷◌, ◌++◌, flat_map}
 use Rattle.port_tables.specs.Lists.{Member, Once}
 use Rattle.port_tables.specs.declared.direction.Direction.{Direction}
@@ -12,8 +12,6 @@ use Rattle.theorems.specs.Book.{Call, Block, Book, spot_of}
 use Rattle.theorems.specs.History.{State}
 use Rattle.multiportgraph.specs.declared.multiportgraph.MultiPortGraph.{MultiPortGraph}
 use Rattle.multi_tables.specs.declared.answers.SubportIndex.{SubportIndex}
-use Rattle.multiportgraph.specs.declared.multiportgraph.LinkAnswer.TheVariants as link
-use Rattle.multiportgraph.specs.declared.lookups.CountAnswer.TheVariants as count_of
 
 -- the walk from the start ends, and gives exactly once each wire of the book, and nothing else
 pub record WireRule (s : State) : Type 0 where
@@ -38,9 +36,9 @@ linking (by_subports p o q r) = book.link_sub_call p o q r
 
 -- it is accepted, with these two ends answered
 abbrev pub LinkedBy : State → Link → SubportIndex → SubportIndex → Type 0
-LinkedBy s (by_ports a b) x y = (link_pair s.graph a b).answer ≡ link.Linked x y
-LinkedBy s (by_ports_clean a b) x y = (link_clean s.graph a b).answer ≡ link.Linked x y
-LinkedBy s (by_subports p o q r) x y = (link_sub s.graph p o q r).answer ≡ link.Linked x y
+LinkedBy s (by_ports a b) x y = (link_pair s.graph a b).answer ≡ Ok (x, y)
+LinkedBy s (by_ports_clean a b) x y = (link_clean s.graph a b).answer ≡ Ok (x, y)
+LinkedBy s (by_subports p o q r) x y = (link_sub s.graph p o q r).answer ≡ Ok (x, y)
 
 -- it is accepted
 abbrev pub accepted_link : State → Link → Type 0
@@ -70,9 +68,9 @@ between s t l = count (joins s t) l
 -- a live port's is how many of the book's wires end there; a block's, how many leave it
 pub record FanOutIsWires (s : State) : Type 0 where
   pub of_port : (p n : ℕ) (d : Direction) (i : ℕ) → spot_of s.book.blocks p ≡ spot n d i →
-      port_fan_out s.graph p ≡ count_of.Count (count (touches (at_spot (spot n d i))) s.book.wires)
+      port_fan_out s.graph p ≡ Ok (count (touches (at_spot (spot n d i))) s.book.wires)
   pub of_block : (n : ℕ) (b : Block) → Member b s.book.blocks → b.node ≡ n →
-      node_fan_out s.graph n ≡ count_of.Count (count (λ w. eqb w.out.node n) s.book.wires)
+      node_fan_out s.graph n ≡ Ok (count (λ w. eqb w.out.node n) s.book.wires)
 
 -- Counts.
 

@@ -1,6 +1,6 @@
 -- When each refusal is given, in words about the model that the tables stand for; what stands in the table of refusals as a test
 -- stands here as a fact. RefusedBy, Condition and leaves_prepared say it of every call.
-use Rattle.std.specs.Prelude.{◌≡◌, Bool, true, false, ◌⊎◌, ℕ, ◌+◌, ◌*◌, ◌≤◌, ◌<◌}
+use Rattle.std.specs.Prelude.{◌≡◌, Bool, true, false, ◌⊎◌, ℕ, ◌+◌, ◌*◌, ◌≤◌, ◌<◌, Option, Some, None, Result, Ok, Err}
 use Rattle.port_tables.specs.Limits.{node_slots, port_slots, node_ports}
 use Rattle.port_tables.specs.Entries.{port#}
 use Rattle.portgraph.specs.Model as model
@@ -24,15 +24,6 @@ use Rattle.multi_tables.specs.declared.answers.PortPlace.{PortPlace}
 use Rattle.port_tables.specs.declared.release.Release.TheVariants.{Two}
 use Rattle.multi_tables.specs.declared.answers.Refusal.{Refusal}
 use Rattle.multi_tables.specs.declared.answers.Refusal.TheVariants.{BadOffset, TooManyPorts, UnknownNode, HiddenNode, MovesTooShort, UnknownPort, HiddenPort, UnknownOffset, NoRoom, UnknownSecondPort, IncompatibleDirections, AlreadyLinked, InputWired}
-use Rattle.multiportgraph.specs.declared.multiportgraph.AddAnswer.TheVariants as add
-use Rattle.multiportgraph.specs.declared.multiportgraph.RemoveAnswer.TheVariants as remove
-use Rattle.multiportgraph.specs.declared.multiportgraph.SetAnswer.TheVariants as resize
-use Rattle.multiportgraph.specs.declared.multiportgraph.LinkAnswer.{LinkAnswer}
-use Rattle.multiportgraph.specs.declared.multiportgraph.LinkAnswer.TheVariants as link
-use Rattle.multi_tables.specs.declared.answers.CutAnswer.{CutAnswer}
-use Rattle.multi_tables.specs.declared.answers.CutAnswer.TheVariants as cutting
-use Rattle.multiportgraph.specs.declared.multiportgraph.TidyAnswer.{TidyAnswer}
-use Rattle.multiportgraph.specs.declared.multiportgraph.TidyAnswer.TheVariants as tidying
 use Rattle.multiportgraph.specs.HiddenNodes.{ready, full, prepare}
 
 -- Words.
@@ -158,46 +149,46 @@ pub data LinkSubRefused (m : MultiPortGraph) (M : Model) (p o q r : ℕ) : Refus
       (Taken m M p q → ⊥) → (x.side ≡ y.side → ⊥) → M.join e.end ≡ nowhere → (M.join g.end ≡ nowhere → ⊥) → LinkSubRefused m M p o q r (AlreadyLinked (port# v))
 
 -- an answer of a link that refuses has the condition listed
-abbrev pub LinkSays : (Refusal → Type 0) → LinkAnswer → Type 0
-LinkSays T (link.Linked s t) = Unit {0}
-LinkSays T (link.Refused r) = T r
+abbrev pub LinkSays : (Refusal → Type 0) → Result (SubportIndex × SubportIndex) Refusal → Type 0
+LinkSays T (Ok (s, t)) = Unit {0}
+LinkSays T (Err r) = T r
 
 -- an answer of a cut or of a lookup that refuses has the condition listed
-abbrev pub CutSays : (Refusal → Type 0) → CutAnswer → Type 0
-CutSays T (cutting.Found s x) = Unit {0}
-CutSays T cutting.Nothing = Unit {0}
-CutSays T (cutting.Refused r) = T r
+abbrev pub CutSays : (Refusal → Type 0) → Result (Option (SubportIndex × PortPlace)) Refusal → Type 0
+CutSays T (Ok (Some (s, x))) = Unit {0}
+CutSays T (Ok None) = Unit {0}
+CutSays T (Err r) = T r
 
 -- an answer of a tidy that refuses has the condition listed
-abbrev pub TidySays : (Refusal → Type 0) → TidyAnswer → Type 0
-TidySays T tidying.Tidied = Unit {0}
-TidySays T (tidying.Refused r) = T r
+abbrev pub TidySays : (Refusal → Type 0) → Result (Unit {0}) Refusal → Type 0
+TidySays T (Ok tt) = Unit {0}
+TidySays T (Err r) = T r
 
 -- Every call.
 
 -- an answer is this refusal
 abbrev pub RefusedBy : (c : Call) → AnswerOf c → Refusal → Type 0
-RefusedBy (book.add_call i o) v r = v ≡ add.Refused r
-RefusedBy (book.remove_call n) v r = v ≡ remove.Refused r
-RefusedBy (book.set_call n i o room) v r = v ≡ resize.Refused r
-RefusedBy (book.link_call a b) v r = v ≡ link.Refused r
-RefusedBy (book.link_clean_call a b) v r = v ≡ link.Refused r
-RefusedBy (book.link_sub_call p o q s) v r = v ≡ link.Refused r
-RefusedBy (book.cut_call p) v r = v ≡ cutting.Refused r
-RefusedBy (book.cut_sub_call p o) v r = v ≡ cutting.Refused r
-RefusedBy (book.tidy_call p) v r = v ≡ tidying.Refused r
+RefusedBy (book.add_call i o) v r = v ≡ Err r
+RefusedBy (book.remove_call n) v r = v ≡ Err r
+RefusedBy (book.set_call n i o room) v r = v ≡ Err r
+RefusedBy (book.link_call a b) v r = v ≡ Err r
+RefusedBy (book.link_clean_call a b) v r = v ≡ Err r
+RefusedBy (book.link_sub_call p o q s) v r = v ≡ Err r
+RefusedBy (book.cut_call p) v r = v ≡ Err r
+RefusedBy (book.cut_sub_call p o) v r = v ≡ Err r
+RefusedBy (book.tidy_call p) v r = v ≡ Err r
 
 -- an answer says that the call is done
 abbrev pub Accepted : (c : Call) → AnswerOf c → Type 0
-Accepted (book.add_call i o) v = (n : NodeIndex) × (p : PortIndex) × (v ≡ add.Added n p)
-Accepted (book.remove_call n) v = v ≡ remove.Removed
-Accepted (book.set_call n i o room) v = (e : ℕ) × (v ≡ resize.Set e)
-Accepted (book.link_call a b) v = (s : SubportIndex) × (t : SubportIndex) × (v ≡ link.Linked s t)
-Accepted (book.link_clean_call a b) v = (s : SubportIndex) × (t : SubportIndex) × (v ≡ link.Linked s t)
-Accepted (book.link_sub_call p o q r) v = (s : SubportIndex) × (t : SubportIndex) × (v ≡ link.Linked s t)
-Accepted (book.cut_call p) v = ((s : SubportIndex) × (x : PortPlace) × (v ≡ cutting.Found s x)) ⊎ (v ≡ cutting.Nothing)
-Accepted (book.cut_sub_call p o) v = ((s : SubportIndex) × (x : PortPlace) × (v ≡ cutting.Found s x)) ⊎ (v ≡ cutting.Nothing)
-Accepted (book.tidy_call p) v = v ≡ tidying.Tidied
+Accepted (book.add_call i o) v = (n : NodeIndex) × (p : PortIndex) × (v ≡ Ok (n, p))
+Accepted (book.remove_call n) v = v ≡ Ok tt
+Accepted (book.set_call n i o room) v = (e : ℕ) × (v ≡ Ok e)
+Accepted (book.link_call a b) v = (s : SubportIndex) × (t : SubportIndex) × (v ≡ Ok (s, t))
+Accepted (book.link_clean_call a b) v = (s : SubportIndex) × (t : SubportIndex) × (v ≡ Ok (s, t))
+Accepted (book.link_sub_call p o q r) v = (s : SubportIndex) × (t : SubportIndex) × (v ≡ Ok (s, t))
+Accepted (book.cut_call p) v = ((s : SubportIndex) × (x : PortPlace) × (v ≡ Ok (Some (s, x)))) ⊎ (v ≡ Ok None)
+Accepted (book.cut_sub_call p o) v = ((s : SubportIndex) × (x : PortPlace) × (v ≡ Ok (Some (s, x)))) ⊎ (v ≡ Ok None)
+Accepted (book.tidy_call p) v = v ≡ Ok tt
 
 -- the condition of a refusal of a call
 abbrev pub Condition : MultiPortGraph → Model → Call → Refusal → Type 0

@@ -19,6 +19,7 @@
 -- Walks: each gives its listing whole, in order, and then the end (WalkStepLaws, BlockWalkLaws: the laws named -whole); by turns from
 -- both ends no item comes twice (nodes_turns, ports_turns, port_links_turns); a cursor whose node or port is gone or hidden ends, and a
 -- step gives only what is listed beyond what its cursor holds (WalkHeldLaws).
+pub mod Pairs
 pub mod Book
 pub mod History
 pub mod Claims

@@ -1,6 +1,6 @@
 -- Linking two ports: each end is prepared at its lowest unwired offset, then one wire comes between them. A refused call leaves
 -- blocks and wires as they were.
-use Rattle.std.specs.Prelude.{◌≡◌, Bool, List, [], ◌∷◌, ℕ, ◌+◌, ◌<◌}
+use Rattle.std.specs.Prelude.{◌≡◌, Bool, List, [], ◌∷◌, ℕ, ◌+◌, ◌<◌, Result, Ok, Err}
 use Rattle.std.proofs.Math.Path.{refl, subst}
 use Rattle.std.proofs.Common.{sym, ◌∙◌, ap, inl, inr, ⊎_elim}
 use Rattle.std.proofs.Math.Bool.{true, false}
@@ -24,8 +24,6 @@ use Rattle.multiportgraph.specs.PrepareLaws.{prepare_says}
 use Rattle.multiportgraph.specs.declared.multiportgraph.MultiPortGraph.{MultiPortGraph}
 use Rattle.multi_tables.specs.declared.answers.SubportIndex.{SubportIndex}
 use Rattle.multi_tables.specs.declared.answers.Refusal.{Refusal}
-use Rattle.multiportgraph.specs.declared.multiportgraph.LinkAnswer.{LinkAnswer}
-use Rattle.multiportgraph.specs.declared.multiportgraph.LinkAnswer.TheVariants as link
 use Rattle.multiportgraph.specs.declared.multiportgraph.PortsLinked.{PortsLinked}
 use Rattle.port_tables.specs.Places.{Place, Wire, wire_of_sides}
 use Rattle.multiportgraph.specs.Graph.{with_graph}
@@ -65,9 +63,9 @@ pub record LinkRefused (m : MultiPortGraph) (M : Model) (m' : MultiPortGraph) : 
   pub blocks : SameBlocks m M m' model
   pub wires : SameWires m M m' model
 
-abbrev pub LinkSays : MultiPortGraph → Model → ℕ → ℕ → MultiPortGraph → LinkAnswer → Type 0
-LinkSays m M a b m' (link.Linked s t) = LinkDone m M m' a b s t
-LinkSays m M a b m' (link.Refused e) = LinkRefused m M m'
+abbrev pub LinkSays : MultiPortGraph → Model → ℕ → ℕ → MultiPortGraph → Result (SubportIndex × SubportIndex) Refusal → Type 0
+LinkSays m M a b m' (Ok (s, t)) = LinkDone m M m' a b s t
+LinkSays m M a b m' (Err e) = LinkRefused m M m'
 
 abbrev LinkSaid : MultiPortGraph → Model → ℕ → ℕ → PortsLinked → Type 0
 LinkSaid m M a b u = LinkSays m M a b u.graph u.answer
@@ -228,8 +226,8 @@ module _ {m : MultiPortGraph} {M : Model} (f : Fine m M) where
   pub link_says : (a b : ℕ) → LinkSays m M a b (link_pair m a b).graph (link_pair m a b).answer
   link_says a b = link_says_if (input_taken m a b) a b
 
-  pub link_done_law : (a b : ℕ) (s t : SubportIndex) → (link_pair m a b).answer ≡ link.Linked s t → LinkDone m M (link_pair m a b).graph a b s t
+  pub link_done_law : (a b : ℕ) (s t : SubportIndex) → (link_pair m a b).answer ≡ Ok (s, t) → LinkDone m M (link_pair m a b).graph a b s t
   link_done_law a b s t e = subst (LinkSays m M a b (link_pair m a b).graph) e (link_says a b)
 
-  pub link_refused_law : (a b : ℕ) (r : Refusal) → (link_pair m a b).answer ≡ link.Refused r → LinkRefused m M (link_pair m a b).graph
+  pub link_refused_law : (a b : ℕ) (r : Refusal) → (link_pair m a b).answer ≡ Err r → LinkRefused m M (link_pair m a b).graph
   link_refused_law a b r e = subst (LinkSays m M a b (link_pair m a b).graph) e (link_says a b)

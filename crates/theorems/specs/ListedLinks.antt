@@ -1,6 +1,6 @@
 -- Links as they are listed at a port, as links between ends: each listed link is a wire, and every wire is listed at the port of its end on
 -- either side.
-use Rattle.std.specs.Prelude.{◌≡◌, Bool, ℕ, ◌<◌, ◌≤◌}
+use Rattle.std.specs.Prelude.{◌≡◌, Bool, ℕ, ◌<◌, ◌≤◌, Option, Result}
 use Rattle.std.proofs.Math.Path.{refl, sym, ap, subst}
 use Rattle.std.proofs.Common.{◌∙◌, inr, arith}
 use Rattle.std.proofs.Math.Bool.{true, false, cond}
@@ -13,7 +13,6 @@ use Rattle.port_tables.specs.Lists.{range, Member}
 use Rattle.portgraph.specs.Model as model
 use Rattle.portgraph.specs.Model.{Model, Far, nowhere, to, slot_of, count_of}
 use Rattle.portgraph.specs.Lookups.{port_link}
-use Rattle.portgraph.specs.declared.portgraph.PortLink.{PortLink}
 use Rattle.portgraph.specs.GoodSlots.{zero_is_not_one, same_place_lem, slot_in_range}
 use Rattle.portgraph.specs.PlaceLaws.{port_link_to, port_link_none}
 use Rattle.port_tables.specs.declared.direction.Direction.{Direction}
@@ -33,6 +32,8 @@ use Rattle.multi_tables.specs.declared.answers.SubportLink.{SubportLink}
 use Rattle.theorems.specs.BookLaws.{or_true, or_right}
 use Rattle.theorems.specs.ListingClaims.{wire_from}
 use Rattle.port_tables.specs.Entries.{reversed}
+use Rattle.port_tables.specs.declared.index.PortIndex.{PortIndex}
+use Rattle.portgraph.specs.declared.portgraph.NoSuchPort.{NoSuchPort}
 
 -- the end of a port at which a wire ends is read as named
 module _ {m : MultiPortGraph} {M : Model} (f : Fine m M) (x z : model.InnerPlace) (o : ℕ) (e : IsEnd m M z) (is : outer m M z ≡ lift x o) where
@@ -136,9 +137,9 @@ module _ {m : MultiPortGraph} {M : Model} (f : Fine m M) where
     where
       by_join : (q : ℕ) (r : EndOf m M x o q) (y : Far) → M.join r.end ≡ y → Member w (wire_to (subport# (slot_of M.node x) o) (link_of_end m (slot_of M.node x) (inner q))) → LinkIs m M x w
       by_join q r nowhere j i =
-          absurd (subst (λ (v : PortLink). Member w (wire_to (subport# (slot_of M.node x) o) (far_subport m v))) (ap (port_link m.graph) (sym r.slot) ∙ port_link_none f.good f.holds r.end r.is_end.valid j) i)
+          absurd (subst (λ (v : Result (Option PortIndex) NoSuchPort). Member w (wire_to (subport# (slot_of M.node x) o) (far_subport m v))) (ap (port_link m.graph) (sym r.slot) ∙ port_link_none f.good f.holds r.end r.is_end.valid j) i)
       by_join q r (to y) j i =
-          let h = subst (λ (v : PortLink). Member w (wire_to (subport# (slot_of M.node x) o) (far_subport m v))) (ap (port_link m.graph) (sym r.slot) ∙ port_link_to f.good f.holds r.end y r.is_end.valid j) i in
+          let h = subst (λ (v : Result (Option PortIndex) NoSuchPort). Member w (wire_to (subport# (slot_of M.node x) o) (far_subport m v))) (ap (port_link m.graph) (sym r.slot) ∙ port_link_to f.good f.holds r.end y r.is_end.valid j) i in
           let e : w ≡ placed_link m (subport# (slot_of M.node x) o) (subport_of m (slot_of M.node y)) = ⊎_elim (λ a. a) (λ a. absurd a) h in
           record {
             z = r.end;

@@ -1,5 +1,5 @@
 -- 01's numbers of every refusal with what it carries, and of every kind of answer, as one table with one claim.
-use Rattle.std.specs.Prelude.{◌≡◌, refl, List, [], ◌∷◌, map, ℕ}
+use Rattle.std.specs.Prelude.{◌≡◌, refl, List, [], ◌∷◌, map, ℕ, Some, None, Ok, Err}
 use Rattle.port_tables.specs.Entries.{node#, port#}
 use Rattle.port_tables.specs.declared.direction.Direction.TheVariants.{Incoming, Outgoing}
 use Rattle.multi_tables.specs.Forms.{subport#}
@@ -9,43 +9,16 @@ use Rattle.multiportgraph.specs.Lookups.{direction_numbers, node_numbers, offset
 use Rattle.multiportgraph.specs.WalkNumbers.{link_values, nodes_values, ports_values, node_ports_values, node_subports_values, port_links_values, node_links_values, neighbours_values, node_connections_values, wires_values, node_ports_start_numbers, node_subports_start_numbers, port_links_start_numbers, node_links_start_numbers, neighbours_start_numbers, node_connections_start_numbers}
 use Rattle.multi_tables.specs.declared.answers.SubportLink.{SubportLink}
 use Rattle.multiportgraph.specs.declared.iter.Nodes.{Nodes}
-use Rattle.multiportgraph.specs.declared.iter.NodesStep.TheVariants as nodes_step
 use Rattle.multiportgraph.specs.declared.iter.Ports.{Ports}
-use Rattle.multiportgraph.specs.declared.iter.PortsStep.TheVariants as ports_step
 use Rattle.multiportgraph.specs.declared.iter.NodePorts.{NodePorts}
-use Rattle.multiportgraph.specs.declared.iter.NodePortsStep.TheVariants as node_ports_step
-use Rattle.multiportgraph.specs.declared.iter.NodePortsStart.TheVariants as node_ports_start
 use Rattle.multiportgraph.specs.declared.iter.NodeSubports.{NodeSubports}
-use Rattle.multiportgraph.specs.declared.iter.NodeSubportsStep.TheVariants as subports_step
-use Rattle.multiportgraph.specs.declared.iter.NodeSubportsStart.TheVariants as subports_start
 use Rattle.multiportgraph.specs.declared.iter.PortLinks.{PortLinks}
-use Rattle.multiportgraph.specs.declared.iter.PortLinksStep.TheVariants as port_step
-use Rattle.multiportgraph.specs.declared.iter.PortLinksStart.TheVariants as port_start
 use Rattle.multiportgraph.specs.declared.iter.NodeLinks.{NodeLinks}
-use Rattle.multiportgraph.specs.declared.iter.NodeLinksStep.TheVariants as links_step
-use Rattle.multiportgraph.specs.declared.iter.NodeLinksStart.TheVariants as links_start
 use Rattle.multiportgraph.specs.declared.iter.Neighbours.{Neighbours}
-use Rattle.multiportgraph.specs.declared.iter.NeighboursStep.TheVariants as neighbours_step
-use Rattle.multiportgraph.specs.declared.iter.NeighboursStart.TheVariants as neighbours_start
 use Rattle.multiportgraph.specs.declared.iter.NodeConnections.{NodeConnections}
-use Rattle.multiportgraph.specs.declared.iter.NodeConnectionsStep.TheVariants as connections_step
-use Rattle.multiportgraph.specs.declared.iter.NodeConnectionsStart.TheVariants as connections_start
 use Rattle.multiportgraph.specs.declared.iter.Wires.{Wires}
-use Rattle.multiportgraph.specs.declared.iter.WiresStep.TheVariants as wires_step
 use Rattle.multi_tables.specs.declared.answers.Refusal.{Refusal}
 use Rattle.multi_tables.specs.declared.answers.Refusal.TheVariants.{BadOffset, TooManyPorts, UnknownNode, HiddenNode, MovesTooShort, UnknownPort, HiddenPort, UnknownOffset, NoRoom, UnknownSecondPort, IncompatibleDirections, AlreadyLinked, InputWired}
-use Rattle.multiportgraph.specs.declared.multiportgraph.AddAnswer.TheVariants as add
-use Rattle.multiportgraph.specs.declared.multiportgraph.RemoveAnswer.TheVariants as remove
-use Rattle.multiportgraph.specs.declared.multiportgraph.SetAnswer.TheVariants as resize
-use Rattle.multiportgraph.specs.declared.multiportgraph.LinkAnswer.TheVariants as link
-use Rattle.multi_tables.specs.declared.answers.CutAnswer.TheVariants as cutting
-use Rattle.multiportgraph.specs.declared.multiportgraph.TidyAnswer.TheVariants as tidying
-use Rattle.multi_tables.specs.declared.answers.EndAnswer.TheVariants as end
-use Rattle.multiportgraph.specs.declared.lookups.DirectionAnswer.TheVariants as direction_of_lem
-use Rattle.multiportgraph.specs.declared.lookups.NodeAnswer.TheVariants as node_of_lem
-use Rattle.multiportgraph.specs.declared.lookups.OffsetAnswer.TheVariants as offset_of_lem
-use Rattle.multiportgraph.specs.declared.lookups.PortAnswer.TheVariants as port_of_lem
-use Rattle.multiportgraph.specs.declared.lookups.CountAnswer.TheVariants as count_of
 
 -- every refusal, of ports p and q
 abbrev pub refusals : ℕ → ℕ → List Refusal
@@ -64,15 +37,15 @@ refusal_table p q =
 -- every kind of answer that is no refusal, with a node n, ports p and q, offsets o and r, and a count or position k
 abbrev pub answers : ℕ → ℕ → ℕ → ℕ → ℕ → ℕ → List (List ℕ)
 answers n p o q r k =
-    add_numbers (add.Added (node# n) (port# p)) ∷ remove_numbers remove.Removed ∷ set_numbers (resize.Set k)
-    ∷ link_numbers (link.Linked (subport# p o) (subport# q r))
-    ∷ cut_numbers (cutting.Found (subport# p o) (record { node = node# n; side = Incoming; position = k }))
-    ∷ cut_numbers (cutting.Found (subport# p o) (record { node = node# n; side = Outgoing; position = k })) ∷ cut_numbers cutting.Nothing ∷ tidy_numbers tidying.Tidied
-    ∷ unplaced_numbers (end.Found (subport# p o)) ∷ unplaced_numbers end.Nothing
+    add_numbers (Ok (node# n, port# p)) ∷ remove_numbers (Ok tt) ∷ set_numbers (Ok k)
+    ∷ link_numbers (Ok (subport# p o, subport# q r))
+    ∷ cut_numbers (Ok (Some (subport# p o, record { node = node# n; side = Incoming; position = k })))
+    ∷ cut_numbers (Ok (Some (subport# p o, record { node = node# n; side = Outgoing; position = k }))) ∷ cut_numbers (Ok None) ∷ tidy_numbers (Ok tt)
+    ∷ unplaced_numbers (Ok (Some (subport# p o))) ∷ unplaced_numbers (Ok None)
     ∷ link_values (record { from = subport# p o; to = subport# q r; place = record { node = node# n; side = Outgoing; position = k } })
-    ∷ direction_numbers (direction_of_lem.Found Incoming) ∷ direction_numbers (direction_of_lem.Found Outgoing) ∷ node_numbers (node_of_lem.Found (node# n))
-    ∷ offset_numbers (offset_of_lem.Found (record { direction = Incoming; index = k })) ∷ offset_numbers (offset_of_lem.Found (record { direction = Outgoing; index = k }))
-    ∷ port_numbers (port_of_lem.Found (port# p)) ∷ port_numbers port_of_lem.Nothing ∷ count_numbers (count_of.Count k) ∷ []
+    ∷ direction_numbers (Ok Incoming) ∷ direction_numbers (Ok Outgoing) ∷ node_numbers (Ok (node# n))
+    ∷ offset_numbers (Ok (record { direction = Incoming; index = k })) ∷ offset_numbers (Ok (record { direction = Outgoing; index = k }))
+    ∷ port_numbers (Ok (Some (port# p))) ∷ port_numbers (Ok None) ∷ count_numbers (Ok k) ∷ []
 
 abbrev pub answer_table : ℕ → ℕ → ℕ → ℕ → ℕ → ℕ → List (List ℕ)
 answer_table n p o q r k =
@@ -100,15 +73,15 @@ pub record Cursors : Type 0 where
 
 abbrev pub walk_answers : ℕ → ℕ → ℕ → SubportLink → Cursors → List (List ℕ)
 walk_answers n p o w c =
-    nodes_values (nodes_step.Item (node# n) c.nodes) ∷ ports_values (ports_step.Item (port# p) c.ports) ∷ node_ports_values (node_ports_step.Item (port# p) c.node_ports)
-    ∷ node_subports_values (subports_step.Item (subport# p o) c.subports) ∷ neighbours_values (neighbours_step.Item (node# n) c.neighbours)
-    ∷ port_links_values (port_step.Item w c.port_links) ∷ node_links_values (links_step.Item w c.node_links) ∷ node_connections_values (connections_step.Item w c.connections)
-    ∷ wires_values (wires_step.Item w c.wires)
-    ∷ nodes_values nodes_step.End ∷ ports_values ports_step.End ∷ node_ports_values node_ports_step.End ∷ node_subports_values subports_step.End ∷ neighbours_values neighbours_step.End
-    ∷ port_links_values port_step.End ∷ node_links_values links_step.End ∷ node_connections_values connections_step.End ∷ wires_values wires_step.End
-    ∷ node_ports_start_numbers (node_ports_start.Started c.node_ports) ∷ node_subports_start_numbers (subports_start.Started c.subports) ∷ port_links_start_numbers (port_start.Started c.port_links)
-    ∷ node_links_start_numbers (links_start.Started c.node_links) ∷ neighbours_start_numbers (neighbours_start.Started c.neighbours)
-    ∷ node_connections_start_numbers (connections_start.Started c.connections) ∷ []
+    nodes_values (Some (node# n, c.nodes)) ∷ ports_values (Some (port# p, c.ports)) ∷ node_ports_values (Some (port# p, c.node_ports))
+    ∷ node_subports_values (Some (subport# p o, c.subports)) ∷ neighbours_values (Some (node# n, c.neighbours))
+    ∷ port_links_values (Some (w, c.port_links)) ∷ node_links_values (Some (w, c.node_links)) ∷ node_connections_values (Some (w, c.connections))
+    ∷ wires_values (Some (w, c.wires))
+    ∷ nodes_values None ∷ ports_values None ∷ node_ports_values None ∷ node_subports_values None ∷ neighbours_values None
+    ∷ port_links_values None ∷ node_links_values None ∷ node_connections_values None ∷ wires_values None
+    ∷ node_ports_start_numbers (Ok c.node_ports) ∷ node_subports_start_numbers (Ok c.subports) ∷ port_links_start_numbers (Ok c.port_links)
+    ∷ node_links_start_numbers (Ok c.node_links) ∷ neighbours_start_numbers (Ok c.neighbours)
+    ∷ node_connections_start_numbers (Ok c.connections) ∷ []
 
 abbrev pub walk_table : ℕ → ℕ → ℕ → SubportLink → List (List ℕ)
 walk_table n p o w =
@@ -125,11 +98,11 @@ walk_table n p o w =
 -- each answer that can be a refusal gives the refusal's numbers
 abbrev pub refused_answers : Refusal → List (List ℕ)
 refused_answers r =
-    add_numbers (add.Refused r) ∷ remove_numbers (remove.Refused r) ∷ set_numbers (resize.Refused r) ∷ link_numbers (link.Refused r) ∷ cut_numbers (cutting.Refused r) ∷ tidy_numbers (tidying.Refused r) ∷ unplaced_numbers (end.Refused r)
-    ∷ direction_numbers (direction_of_lem.Refused r) ∷ node_numbers (node_of_lem.Refused r) ∷ offset_numbers (offset_of_lem.Refused r) ∷ port_numbers (port_of_lem.Refused r)
-    ∷ count_numbers (count_of.Refused r)
-    ∷ node_ports_start_numbers (node_ports_start.Refused r) ∷ node_subports_start_numbers (subports_start.Refused r) ∷ port_links_start_numbers (port_start.Refused r)
-    ∷ node_links_start_numbers (links_start.Refused r) ∷ neighbours_start_numbers (neighbours_start.Refused r) ∷ node_connections_start_numbers (connections_start.Refused r) ∷ []
+    add_numbers (Err r) ∷ remove_numbers (Err r) ∷ set_numbers (Err r) ∷ link_numbers (Err r) ∷ cut_numbers (Err r) ∷ tidy_numbers (Err r) ∷ unplaced_numbers (Err r)
+    ∷ direction_numbers (Err r) ∷ node_numbers (Err r) ∷ offset_numbers (Err r) ∷ port_numbers (Err r)
+    ∷ count_numbers (Err r)
+    ∷ node_ports_start_numbers (Err r) ∷ node_subports_start_numbers (Err r) ∷ port_links_start_numbers (Err r)
+    ∷ node_links_start_numbers (Err r) ∷ neighbours_start_numbers (Err r) ∷ node_connections_start_numbers (Err r) ∷ []
 
 pub refusal_numbers_lem : (p q : ℕ) → map refusal_numbers (refusals p q) ≡ refusal_table p q
 refusal_numbers_lem p q = refl

@@ -1,5 +1,5 @@
 -- The words of `places_are_wires`: where an end that is answered, or given by a walk, stands, against the book.
-use Rattle.std.specs.Prelude.{◌≡◌, true, false, ℕ}
+use Rattle.std.specs.Prelude.{◌≡◌, true, false, ℕ, Some, Ok}
 use Rattle.port_tables.specs.Lists.{Member}
 use Rattle.multiportgraph.specs.Reading.{is_split, as_read, subport_of, port_place}
 use Rattle.multi_tables.specs.Forms.{subport#}
@@ -10,15 +10,10 @@ use Rattle.multiportgraph.specs.Walks.{step_front, step_back, step_links, step_c
 use Rattle.multi_tables.specs.declared.answers.SubportIndex.{SubportIndex}
 use Rattle.multi_tables.specs.declared.answers.SubportLink.{SubportLink}
 use Rattle.multi_tables.specs.declared.answers.PortPlace.{PortPlace}
-use Rattle.multi_tables.specs.declared.answers.CutAnswer.TheVariants as cutting
 use Rattle.multiportgraph.specs.declared.iter.PortLinks.{PortLinks}
-use Rattle.multiportgraph.specs.declared.iter.PortLinksStep.TheVariants as port_step
 use Rattle.multiportgraph.specs.declared.iter.NodeLinks.{NodeLinks}
-use Rattle.multiportgraph.specs.declared.iter.NodeLinksStep.TheVariants as links_step
 use Rattle.multiportgraph.specs.declared.iter.NodeConnections.{NodeConnections}
-use Rattle.multiportgraph.specs.declared.iter.NodeConnectionsStep.TheVariants as connections_step
 use Rattle.multiportgraph.specs.declared.iter.Wires.{Wires}
-use Rattle.multiportgraph.specs.declared.iter.WiresStep.TheVariants as wires_step
 use Rattle.theorems.specs.Book.{spot_of}
 use Rattle.theorems.specs.History.{State}
 use Rattle.theorems.specs.AnswerClaims.{wire_between}
@@ -37,15 +32,15 @@ OwnPlace s p x = spot_of s.book.blocks p ≡ spot x.node.0 x.side x.position
 -- Whatever is asked, cut or walked, with whatever numbers and cursor. The graph and the book are those before the call, so that the place
 -- a cut answers is that of the wire that goes.
 pub record PlacesAreWires (s : State) : Type 0 where
-  pub asks : (p o : ℕ) (t : SubportIndex) (x : PortPlace) → subport_link s.graph p o ≡ cutting.Found t x → FarStands s (as_read s.graph p o) t x
-  pub cuts_sub : (p o : ℕ) (t : SubportIndex) (x : PortPlace) → (cut_sub s.graph p o).answer ≡ cutting.Found t x → FarStands s (as_read s.graph p o) t x
+  pub asks : (p o : ℕ) (t : SubportIndex) (x : PortPlace) → subport_link s.graph p o ≡ Ok (Some (t, x)) → FarStands s (as_read s.graph p o) t x
+  pub cuts_sub : (p o : ℕ) (t : SubportIndex) (x : PortPlace) → (cut_sub s.graph p o).answer ≡ Ok (Some (t, x)) → FarStands s (as_read s.graph p o) t x
   -- an unsplit port answers an inner port, with the place of its visible end
-  pub cuts_plain : (p : ℕ) (u : SubportIndex) (x : PortPlace) → is_split s.graph p ≡ false → (cut_port s.graph p).answer ≡ cutting.Found u x →
+  pub cuts_plain : (p : ℕ) (u : SubportIndex) (x : PortPlace) → is_split s.graph p ≡ false → (cut_port s.graph p).answer ≡ Ok (Some (u, x)) →
       FarStands s (subport# p 0) (subport_of s.graph u.port.0) x
   -- a split port answers itself, with its own place
-  pub cuts_split : (p : ℕ) (u : SubportIndex) (x : PortPlace) → is_split s.graph p ≡ true → (cut_port s.graph p).answer ≡ cutting.Found u x → OwnPlace s p x
-  pub links : (c d : PortLinks) (w : SubportLink) → step_front s.graph c ≡ port_step.Item w d → FarStands s w.from w.to w.place
-  pub links_back : (c d : PortLinks) (w : SubportLink) → step_back s.graph c ≡ port_step.Item w d → FarStands s w.from w.to w.place
-  pub node_links : (c d : NodeLinks) (w : SubportLink) → step_links s.graph c ≡ links_step.Item w d → FarStands s w.from w.to w.place
-  pub connections : (c d : NodeConnections) (w : SubportLink) → step_connections s.graph c ≡ connections_step.Item w d → FarStands s w.from w.to w.place
-  pub wires : (c d : Wires) (w : SubportLink) → step_wires s.graph c ≡ wires_step.Item w d → FarStands s w.from w.to w.place
+  pub cuts_split : (p : ℕ) (u : SubportIndex) (x : PortPlace) → is_split s.graph p ≡ true → (cut_port s.graph p).answer ≡ Ok (Some (u, x)) → OwnPlace s p x
+  pub links : (c d : PortLinks) (w : SubportLink) → step_front s.graph c ≡ Some (w, d) → FarStands s w.from w.to w.place
+  pub links_back : (c d : PortLinks) (w : SubportLink) → step_back s.graph c ≡ Some (w, d) → FarStands s w.from w.to w.place
+  pub node_links : (c d : NodeLinks) (w : SubportLink) → step_links s.graph c ≡ Some (w, d) → FarStands s w.from w.to w.place
+  pub connections : (c d : NodeConnections) (w : SubportLink) → step_connections s.graph c ≡ Some (w, d) → FarStands s w.from w.to w.place
+  pub wires : (c d : Wires) (w : SubportLink) → step_wires s.graph c ≡ Some (w, d) → FarStands s w.from w.to w.place

@@ -1,6 +1,7 @@
 -- Hidden nodes that hang on outputs. Every call but a link leaves the hidden nodes as they are, or fewer of them, and none has other
 -- counts than before.
-use Rattle.std.specs.Prelude.{◌≡◌, refl, Bool, true, cond, List, [], ◌∷◌, eqb, leb, set}
+use Rattle.theorems.specs.Pairs.{ok_pair}
+use Rattle.std.specs.Prelude.{◌≡◌, refl, Bool, true, cond, List, [], ◌∷◌, eqb, leb, set, Option, Some, None, Ok, Err, Result}
 use Rattle.std.proofs.Math.Path.{sym, subst}
 use Rattle.std.proofs.Common.{◌∙◌, ap, get_or-set_other, leb-true}
 use Rattle.std.proofs.Math.Bool.{false}
@@ -24,18 +25,11 @@ use Rattle.port_tables.specs.declared.index.NodeIndex.{NodeIndex}
 use Rattle.port_tables.specs.declared.index.PortIndex.{PortIndex}
 use Rattle.port_tables.specs.declared.node_entry.NodeMeta.{NodeMeta}
 use Rattle.port_tables.specs.declared.node_entry.NodeSlot.{NodeSlot}
-use Rattle.port_tables.specs.declared.node_entry.MaybeNodeMeta.{MaybeNodeMeta}
-use Rattle.port_tables.specs.declared.node_entry.MaybeNodeMeta.TheVariants as maybe_meta
 use Rattle.port_tables.specs.declared.port_entry.PortEntry.{PortEntry}
 use Rattle.port_tables.specs.declared.port_entry.PortEntry.TheVariants as port_variants
 use Rattle.portgraph.specs.declared.portgraph.PortGraph.{PortGraph}
-use Rattle.portgraph.specs.declared.portgraph.LinkAnswer as lower_link_answer
-use Rattle.portgraph.specs.declared.portgraph.LinkAnswer.TheVariants as lower_link
 use Rattle.portgraph.specs.declared.alloc.NodeAdded as lower_added
 use Rattle.portgraph.specs.declared.alloc.NodeRemoved as lower_removed
-use Rattle.portgraph.specs.declared.alloc.AddAnswer.TheVariants as lower_add
-use Rattle.portgraph.specs.declared.resize.SetAnswer as lower_set_answer
-use Rattle.portgraph.specs.declared.resize.SetAnswer.TheVariants as lower_set
 use Rattle.multiportgraph.specs.Reading.{is_hidden, is_split, has_link, far_port, port_of, copy_node, copy_side, subport_at, seen, end_at, as_read}
 use Rattle.multi_tables.specs.Forms.{Port, dead, hidden, visible, End, inner, lacking, good_offset}
 use Rattle.multiportgraph.specs.Graph.{with_graph}
@@ -55,6 +49,10 @@ use Rattle.multiportgraph.specs.declared.multiportgraph.PortsSet.{PortsSet}
 use Rattle.multiportgraph.specs.declared.multiportgraph.PortsLinked.{PortsLinked}
 use Rattle.multiportgraph.specs.declared.multiportgraph.PortUnlinked.{PortUnlinked}
 use Rattle.multi_tables.specs.declared.answers.Refusal.TheVariants.{BadOffset, TooManyPorts}
+use Rattle.portgraph.specs.declared.portgraph.LinkError.TheVariants as link_error
+use Rattle.portgraph.specs.declared.resize.SetError.TheVariants as set_error
+use Rattle.portgraph.specs.declared.portgraph.LinkError.{LinkError}
+use Rattle.portgraph.specs.declared.resize.SetError.{SetError}
 
 -- every hidden node hangs on an output: its one incoming port is its copy port
 abbrev pub OnOutputs : MultiPortGraph → Type 0
@@ -66,8 +64,8 @@ pub count_in_lem : {g : PortGraph} {M : Model} → Good M → Holds g M → (n :
 count_in_lem {g} {M} good holds n d = go (M.node n) refl
   where
     go : (v : Slots) → M.node n ≡ v → num_ports g n d ≡ count_of v d
-    go gone e = ap (λ (k : MaybeNodeMeta). count_in k d) (gone_has_no_meta good holds n e)
-    go (live k) e = ap (λ (k : MaybeNodeMeta). count_in k d) (meta_of_node good holds n k e)
+    go gone e = ap (λ (k : Option NodeMeta). count_in k d) (gone_has_no_meta good holds n e)
+    go (live k) e = ap (λ (k : Option NodeMeta). count_in k d) (meta_of_node good holds n k e)
 
 -- two graphs whose models have the same at a node
 pub counts_same : {g g' : PortGraph} {M M' : Model} → Good M → Holds g M → Good M' → Holds g' M' → (n : ℕ) (d : Direction) → M'.node n ≡ M.node n → num_ports g' n d ≡ num_ports g n d
@@ -86,7 +84,7 @@ module _ {g : PortGraph} {M : Model} (good : Good M) (holds : Holds g M) where
   abbrev Added : ℕ → ℕ → lower_added.NodeAdded → Type 0
   Added i o v =
       ((n : ℕ) (a : NodeMeta) (d : Direction) → M.node n ≡ live a → num_ports v.graph n d ≡ num_ports g n d)
-      × ((c : NodeIndex) (p : PortIndex) → v.answer ≡ lower_add.Added c p → num_ports v.graph c.0 Incoming ≡ i)
+      × ((c : NodeIndex) (p : PortIndex) → v.answer ≡ Ok (c, p) → num_ports v.graph c.0 Incoming ≡ i)
 
   pub add_counts : (i o : ℕ) → Added i o (add_node g i o)
   add_counts i o =
@@ -102,7 +100,7 @@ module _ {g : PortGraph} {M : Model} (good : Good M) (holds : Holds g M) where
           let new : NodeMeta = meta_of (next_block M (i + o)) i o (i + o) in (
             (λ n a d e. counts_same good holds good' holds' n d (upd_other M.node (next_slot M) (live new) n (λ s. gone_not_live (ap M.node s ∙ next_slot_gone good) e))),
             (λ c s e.
-                let same : node# (next_slot M) ≡ c = cc in
+                let same : node# (next_slot M) ≡ c = (ok_pair e).0 in
                 let is : next_slot M ≡ c.0 = ap (λ (k : NodeIndex). k.0) same in
                 ap (λ (k : ℕ). num_ports (place_node g (next_slot M) (next_block M (i + o)) i o) k Incoming) (sym is)
                 ∙ (count_in_lem good' holds' (next_slot M) Incoming ∙ ap (λ (v : Slots). count_of v Incoming) (upd_same M.node (next_slot M) (live new)))),
@@ -231,13 +229,13 @@ module _ {m : MultiPortGraph} {M : Model} (f : Fine m M) (on : OnOutputs m) wher
           let other : (c ≡ n → ⊥) = λ e. true_not_false (range_fewer m first (k.incoming + k.outgoing) c h) (ap (is_hidden m) e ∙ shown) in
           remove_count r.wf.good r.wf.holds n c Incoming other ∙ r.on c h
 
-      block : (k : NodeMeta) (b : Bool) → is_hidden m n ≡ b → OnOutputs (remove_meta m n (maybe_meta.Some k)).graph
+      block : (k : NodeMeta) (b : Bool) → is_hidden m n ≡ b → OnOutputs (remove_meta m n (Some k)).graph
       block k true e = rw e on
       block k false e = rw e (dropped k e)
 
-      go : (v : MaybeNodeMeta) → OnOutputs (remove_meta m n v).graph
-      go maybe_meta.None = on
-      go (maybe_meta.Some k) = block k (is_hidden m n) refl
+      go : (v : Option NodeMeta) → OnOutputs (remove_meta m n v).graph
+      go None = on
+      go (Some k) = block k (is_hidden m n) refl
 
   -- a node that is not hidden, with other counts
   recount_hung : (n i o : ℕ) (g : PortGraph) → is_hidden m n ≡ false → SomeRecount g M n i o → Hung (recounted m n g)
@@ -255,21 +253,21 @@ module _ {m : MultiPortGraph} {M : Model} (f : Fine m M) (on : OnOutputs m) wher
       g' : PortGraph
       g' = (set_num_ports m.graph n i o room).graph
 
-      lower : (k : NodeMeta) → is_hidden m n ≡ false → (a : lower_set_answer.SetAnswer) → (set_num_ports m.graph n i o room).answer ≡ a → OnOutputs (resized m n k i o g' a)
-      lower k shown (lower_set.Set e) q =
+      lower : (k : NodeMeta) → is_hidden m n ≡ false → (a : Result ℕ SetError) → (set_num_ports m.graph n i o room).answer ≡ a → OnOutputs (resized m n k i o g' a)
+      lower k shown (Ok e) q =
           (all_hung (recounted m n g') (copies_dropped m k i o) (recount_hung n i o g' shown (set_recounts f.good f.holds n i o room e q))).on
-      lower k shown lower_set.TooManyPorts q = on
-      lower k shown lower_set.UnknownNode q = on
-      lower k shown lower_set.MovesTooShort q = on
-      lower k shown lower_set.NoRoom q = on
+      lower k shown (Err set_error.TooManyPorts) q = on
+      lower k shown (Err set_error.UnknownNode) q = on
+      lower k shown (Err set_error.MovesTooShort) q = on
+      lower k shown (Err set_error.NoRoom) q = on
 
-      block : (k : NodeMeta) (b : Bool) → is_hidden m n ≡ b → OnOutputs (set_meta m n i o room (maybe_meta.Some k)).graph
+      block : (k : NodeMeta) (b : Bool) → is_hidden m n ≡ b → OnOutputs (set_meta m n i o room (Some k)).graph
       block k true e = rw e on
       block k false e = rw e (lower k e (set_num_ports m.graph n i o room).answer refl)
 
-      node : (v : MaybeNodeMeta) → OnOutputs (set_meta m n i o room v).graph
-      node maybe_meta.None = on
-      node (maybe_meta.Some k) = block k (is_hidden m n) refl
+      node : (v : Option NodeMeta) → OnOutputs (set_meta m n i o room v).graph
+      node None = on
+      node (Some k) = block k (is_hidden m n) refl
 
       few : (b : Bool) → OnOutputs (cond b (set_meta m n i o room (meta_at m.graph n)) (set_refused m TooManyPorts)).graph
       few true = node (meta_at m.graph n)
@@ -322,12 +320,12 @@ module _ {m : MultiPortGraph} {M : Model} (f : Fine m M) (on : OnOutputs m) wher
   pub sub_on : (p o q r : ℕ) → OnOutputs (link_sub_if false m p o q r).graph
   sub_on p o q r = subst (λ (v : PortsLinked). OnOutputs v.graph) (sym (link_sub_cases m p o q r)) (offsets (good_offset o) (good_offset r))
     where
-      joins : (x y : ℕ) (a : lower_link_answer.LinkAnswer) → OnOutputs (link_inner m (as_read m p o) (as_read m q r) a (link_ports m.graph x y).graph).graph
-      joins x y (lower_link.Linked s t) = links_on m (link_ports m.graph x y).graph (link_nodes m.graph x y) on
-      joins x y (lower_link.UnknownPort s) = on
-      joins x y (lower_link.UnknownSecondPort s) = on
-      joins x y (lower_link.IncompatibleDirections s t d) = on
-      joins x y (lower_link.AlreadyLinked s) = on
+      joins : (x y : ℕ) (a : Result (PortIndex × PortIndex) LinkError) → OnOutputs (link_inner m (as_read m p o) (as_read m q r) a (link_ports m.graph x y).graph).graph
+      joins x y (Ok (s, t)) = links_on m (link_ports m.graph x y).graph (link_nodes m.graph x y) on
+      joins x y (Err (link_error.UnknownPort s)) = on
+      joins x y (Err (link_error.UnknownSecondPort s)) = on
+      joins x y (Err (link_error.IncompatibleDirections s t d)) = on
+      joins x y (Err (link_error.AlreadyLinked s)) = on
 
       second : (x : ℕ) (v : End) → OnOutputs (link_second_end m p o q r x v).graph
       second x lacking = on

@@ -1,6 +1,6 @@
 -- Under release 2 no input is split: every hidden node hangs on an output. A hidden node comes where a linked port is prepared, and a
 -- link that names a linked input is refused before.
-use Rattle.std.specs.Prelude.{◌≡◌, Bool, eqb, ltb, length}
+use Rattle.std.specs.Prelude.{◌≡◌, Bool, eqb, ltb, length, Option, Some, None, Result, Ok, Err}
 use Rattle.std.proofs.Math.Path.{refl, ap}
 use Rattle.std.proofs.Common.{sym, ◌∙◌, subst, arith, get_or-set_other, ltb-true}
 use Rattle.std.proofs.Math.Bool.{true, false, cond, not}
@@ -20,12 +20,6 @@ use Rattle.port_tables.specs.declared.index.NodeIndex.{NodeIndex}
 use Rattle.port_tables.specs.declared.index.PortIndex.{PortIndex}
 use Rattle.port_tables.specs.declared.node_entry.NodeMeta.{NodeMeta}
 use Rattle.portgraph.specs.declared.portgraph.PortGraph.{PortGraph}
-use Rattle.portgraph.specs.declared.portgraph.PortLink.{PortLink}
-use Rattle.portgraph.specs.declared.portgraph.PortLink.TheVariants as lower_cut
-use Rattle.portgraph.specs.declared.alloc.AddAnswer as lower_add_answer
-use Rattle.portgraph.specs.declared.alloc.AddAnswer.TheVariants as lower_add
-use Rattle.portgraph.specs.declared.resize.SetAnswer as lower_set_answer
-use Rattle.portgraph.specs.declared.resize.SetAnswer.TheVariants as lower_set
 use Rattle.multiportgraph.specs.Reading.{is_hidden, is_split, has_link, is_linked, port_of, copy_node, copy_side, subports, seen, end_at, far_subport}
 use Rattle.multi_tables.specs.Forms.{Port, dead, hidden, visible, subport#, wire_to, taken_under}
 use Rattle.multiportgraph.specs.Graph.{with_subports}
@@ -51,22 +45,26 @@ use Rattle.port_tables.specs.declared.release.Release.{Release}
 use Rattle.port_tables.specs.declared.release.Release.TheVariants.{Two}
 use Rattle.multiportgraph.specs.declared.multiportgraph.PortsLinked.{PortsLinked}
 use Rattle.multiportgraph.specs.declared.multiportgraph.PortTidied.{PortTidied}
-use Rattle.multi_tables.specs.declared.named.NamedPair.{NamedPair}
-use Rattle.multi_tables.specs.declared.named.NamedPair.TheVariants as pair
 use Rattle.theorems.specs.Book as book
 use Rattle.theorems.specs.Book.{Call}
 use Rattle.theorems.specs.History.{step}
 use Rattle.theorems.specs.ReleaseHidden.{OnOutputs, add_counts, add_on, count_in_lem, counts_same, cut_on, cut_sub_on, direct_on, link_nodes, links_on, remove_on, set_on, sub_on, table_count, unlink_nodes}
+use Rattle.portgraph.specs.declared.portgraph.NoSuchPort.{NoSuchPort}
+use Rattle.multi_tables.specs.declared.answers.Refusal.{Refusal}
+use Rattle.portgraph.specs.declared.alloc.AddError.TheVariants as add_error
+use Rattle.portgraph.specs.declared.resize.SetError.TheVariants as set_error
+use Rattle.portgraph.specs.declared.alloc.AddError.{AddError}
+use Rattle.portgraph.specs.declared.resize.SetError.{SetError}
 
 -- a port that is not split has a wire exactly if it is linked
 fan_of_unsplit : (m : MultiPortGraph) (p n : ℕ) (d : Direction) → seen m p ≡ visible n d → is_split m p ≡ false → fan_out m p ≡ flag (has_link m.graph p)
 unfolding fan_out port_links subports_of_port wire_of end_at has_link flat_map
 fan_of_unsplit m p n d e t = rw (e, t, t) (go (port_link m.graph p))
   where
-    go : (v : PortLink) → length (wire_to (subport# p 0) (far_subport m v) ++ []) ≡ flag (is_linked v)
-    go (lower_cut.Linked q) = refl
-    go lower_cut.Unlinked = refl
-    go (lower_cut.UnknownPort q) = refl
+    go : (v : Result (Option PortIndex) NoSuchPort) → length (wire_to (subport# p 0) (far_subport m v) ++ []) ≡ flag (is_linked v)
+    go (Ok (Some q)) = refl
+    go (Ok None) = refl
+    go (Err q) = refl
 
 module _ {m : MultiPortGraph} {M : Model} (f : Fine m M) (on : OnOutputs m) where
   -- an input of a block is not split
@@ -116,14 +114,14 @@ module _ {m : MultiPortGraph} {M : Model} (f : Fine m M) (on : OnOutputs m) wher
           (λ e. counts_same f.good f.holds r.good r.holds k Incoming (r.others k e) ∙ on k h)
           (number_cases k c)
 
-      go : (t : lower_set_answer.SetAnswer) → (growth# m c Outgoing).answer ≡ t → grown_by m c Outgoing g' t ≡ ready m' x o → OnOutputs m'
-      go (lower_set.Set e) q w =
+      go : (t : Result ℕ SetError) → (growth# m c Outgoing).answer ≡ t → grown_by m c Outgoing g' t ≡ ready m' x o → OnOutputs m'
+      go (Ok e) q w =
           let is : more (recounted m c g') ≡ m' = cc in
           subst OnOutputs is (grown (set_recounts f.good f.holds c _ _ enough e q))
-      go lower_set.TooManyPorts q w = absurd (zero_is_not_one (cc))
-      go lower_set.UnknownNode q w = absurd (zero_is_not_one (cc))
-      go lower_set.MovesTooShort q w = absurd (zero_is_not_one (cc))
-      go lower_set.NoRoom q w = absurd (zero_is_not_one (cc))
+      go (Err set_error.TooManyPorts) q w = absurd (zero_is_not_one (cc))
+      go (Err set_error.UnknownNode) q w = absurd (zero_is_not_one (cc))
+      go (Err set_error.MovesTooShort) q w = absurd (zero_is_not_one (cc))
+      go (Err set_error.NoRoom) q w = absurd (zero_is_not_one (cc))
 
   -- a hidden node comes, with one incoming port
   split_on : (p : ℕ) (m' : MultiPortGraph) (x o : ℕ) → split m p Outgoing ≡ ready m' x o → OnOutputs m'
@@ -136,7 +134,7 @@ module _ {m : MultiPortGraph} {M : Model} (f : Fine m M) (on : OnOutputs m) wher
       nodes : (c : ℕ) → (split_graph g' p Outgoing c).node_meta ≡ g'.node_meta
       nodes c = link_nodes _ _ _ ∙ (link_nodes _ _ _ ∙ unlink_nodes g' p)
 
-      divided : (c : NodeIndex) (first : PortIndex) → (add_node m.graph 1 2).answer ≡ lower_add.Added c first → OnOutputs (split_port m p Outgoing g' c.0)
+      divided : (c : NodeIndex) (first : PortIndex) → (add_node m.graph 1 2).answer ≡ Ok (c, first) → OnOutputs (split_port m p Outgoing g' c.0)
       divided c first q k h =
           let a = add_counts f.good f.holds 1 2 in
           table_count g' (split_graph g' p Outgoing c.0) (nodes c.0) k Incoming
@@ -147,12 +145,12 @@ module _ {m : MultiPortGraph} {M : Model} (f : Fine m M) (on : OnOutputs m) wher
           a.0 k r.meta Incoming r.here ∙ on k was)
           (number_cases k c.0)
 
-      go : (t : lower_add_answer.AddAnswer) → (add_node m.graph 1 2).answer ≡ t → split_by m p Outgoing g' t ≡ ready m' x o → OnOutputs m'
-      go (lower_add.Added c first) q w =
+      go : (t : Result (NodeIndex × PortIndex) AddError) → (add_node m.graph 1 2).answer ≡ t → split_by m p Outgoing g' t ≡ ready m' x o → OnOutputs m'
+      go (Ok (c, first)) q w =
           let is : split_port m p Outgoing g' c.0 ≡ m' = cc in
           subst OnOutputs is (divided c first q)
-      go lower_add.TooManyPorts q w = absurd (zero_is_not_one (cc))
-      go lower_add.NoRoom q w = absurd (zero_is_not_one (cc))
+      go (Err add_error.TooManyPorts) q w = absurd (zero_is_not_one (cc))
+      go (Err add_error.NoRoom) q w = absurd (zero_is_not_one (cc))
 
   output_on : (p : ℕ) (m' : MultiPortGraph) (x o : ℕ) → prepare m p Outgoing ≡ ready m' x o → OnOutputs m'
   unfolding prepare_under reuse_under
@@ -263,9 +261,9 @@ module _ {m : MultiPortGraph} {M : Model} (f : Fine m M) (on : OnOutputs m) wher
   clean_on : (a b : ℕ) → wired_input m a ≡ false → wired_input m b ≡ false → OnOutputs (link_clean_if false present m a b).graph
   clean_on a b wa wb = subst (λ (v : PortsLinked). OnOutputs v.graph) (sym (link_clean_cases present m a b)) (go (pair_seen a b (seen m a) (seen m b)))
     where
-      go : (v : NamedPair) → OnOutputs (link_clean_by present m a b v).graph
-      go (pair.Refused r) = on
-      go pair.Opposite = link_on a b wa wb
+      go : (v : Result (Unit {0}) Refusal) → OnOutputs (link_clean_by present m a b v).graph
+      go (Err r) = on
+      go (Ok tt) = link_on a b wa wb
 
   -- Tidying a port.
 

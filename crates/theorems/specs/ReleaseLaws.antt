@@ -1,5 +1,5 @@
 -- No call looks at the release but for the check of 18: on a graph made for another release each does the same.
-use Rattle.std.specs.Prelude.{◌≡◌, leb, ltb}
+use Rattle.std.specs.Prelude.{◌≡◌, leb, ltb, Option, Some, None, Result, Ok, Err}
 use Rattle.std.proofs.Math.Path.{refl, ap}
 use Rattle.std.proofs.Common.{sym, ◌∙◌}
 use Rattle.std.proofs.Math.Bool.{Bool, true, false, cond}
@@ -12,24 +12,13 @@ use Rattle.portgraph.specs.Calls.{add_node_under, link_ports, remove_node, unlin
 use Rattle.portgraph.specs.Resize.{set_num_ports_under}
 use Rattle.port_tables.specs.declared.direction.Direction.{Direction}
 use Rattle.port_tables.specs.declared.node_entry.NodeMeta.{NodeMeta}
-use Rattle.port_tables.specs.declared.node_entry.MaybeNodeMeta.{MaybeNodeMeta}
-use Rattle.port_tables.specs.declared.node_entry.MaybeNodeMeta.TheVariants as maybe_meta
 use Rattle.port_tables.specs.declared.port_entry.PortEntry.{PortEntry}
 use Rattle.port_tables.specs.declared.port_entry.PortEntry.TheVariants as port_variants
 use Rattle.portgraph.specs.declared.portgraph.PortGraph.{PortGraph}
-use Rattle.portgraph.specs.declared.portgraph.PortLink.{PortLink}
-use Rattle.portgraph.specs.declared.portgraph.PortLink.TheVariants as lower_cut
-use Rattle.portgraph.specs.declared.portgraph.LinkAnswer as lower_link_answer
-use Rattle.portgraph.specs.declared.portgraph.LinkAnswer.TheVariants as lower_link
-use Rattle.portgraph.specs.declared.alloc.AddAnswer as lower_add_answer
-use Rattle.portgraph.specs.declared.alloc.AddAnswer.TheVariants as lower_add
-use Rattle.portgraph.specs.declared.resize.SetAnswer as lower_set_answer
-use Rattle.portgraph.specs.declared.resize.SetAnswer.TheVariants as lower_set
 use Rattle.multiportgraph.specs.Reading.{is_hidden, is_split, has_link, port_of, seen, seen_entry, side_of, end_at, subports, subport_at, copy_node, copy_side, main_port, as_read, subport_of, far_port, place_of, standing, standing_of, far_subport, owner_of, position_of, port_place}
 use Rattle.multi_tables.specs.Forms.{Port, dead, hidden, visible, End, inner, lacking, subport#, good_offset}
 use Rattle.multiportgraph.specs.HiddenNodes.{copies_dropped, copies_in, full, grown_by, grow_under, lowest_free, Prepared, prepare_under, ready, recounted, remove_all, remove_copy, remove_lone, reuse_under, split_by, split_port, split_under, unsplit, unsplit_range}
 use Rattle.multiportgraph.specs.Graph.{with_graph}
-use Rattle.multiportgraph.specs.declared.multiportgraph.RemoveAnswer.TheVariants as remove
 use Rattle.multiportgraph.specs.Calls.{add_block_under, remove_block, set_as, set_counts_under, cut_port, cut_sub, cut_plain, drop_block, link_pair_if, link_clean_if, link_sub_if, tidy_port}
 use Rattle.multiportgraph.specs.Cases.{cut_end, cut_refused, cut_seen, remove_refused, cut_sub_seen, link_clean_by, link_first, link_first_end, link_inner, link_live_under, link_prepared, link_refused, link_second, link_second_end, link_seen_under, link_sub_seen, remove_meta, resized, set_meta_under, set_refused, tidy_seen}
 use Rattle.multi_tables.specs.NamedEnds.{pair_seen}
@@ -44,14 +33,20 @@ use Rattle.multiportgraph.specs.declared.multiportgraph.NodeRemoved.{NodeRemoved
 use Rattle.multiportgraph.specs.declared.multiportgraph.PortsSet.{PortsSet}
 use Rattle.multiportgraph.specs.declared.multiportgraph.PortsLinked.{PortsLinked}
 use Rattle.multiportgraph.specs.declared.multiportgraph.PortUnlinked.{PortUnlinked}
-use Rattle.multi_tables.specs.declared.answers.CutAnswer.{CutAnswer}
-use Rattle.multi_tables.specs.declared.answers.CutAnswer.TheVariants as cutting
 use Rattle.multiportgraph.specs.declared.multiportgraph.PortTidied.{PortTidied}
-use Rattle.multiportgraph.specs.declared.multiportgraph.TidyAnswer.TheVariants as tidying
 use Rattle.multi_tables.specs.declared.answers.Refusal.TheVariants.{BadOffset, TooManyPorts, HiddenNode}
-use Rattle.multi_tables.specs.declared.named.NamedPair.{NamedPair}
-use Rattle.multi_tables.specs.declared.named.NamedPair.TheVariants as pair
 use Rattle.theorems.specs.ReleaseClaims.{for_release}
+use Rattle.port_tables.specs.declared.index.PortIndex.{PortIndex}
+use Rattle.portgraph.specs.declared.portgraph.NoSuchPort.{NoSuchPort}
+use Rattle.multi_tables.specs.declared.answers.Refusal.{Refusal}
+use Rattle.multi_tables.specs.declared.answers.PortPlace.{PortPlace}
+use Rattle.portgraph.specs.declared.alloc.AddError.TheVariants as add_error
+use Rattle.portgraph.specs.declared.portgraph.LinkError.TheVariants as link_error
+use Rattle.portgraph.specs.declared.resize.SetError.TheVariants as set_error
+use Rattle.port_tables.specs.declared.index.NodeIndex.{NodeIndex}
+use Rattle.portgraph.specs.declared.alloc.AddError.{AddError}
+use Rattle.portgraph.specs.declared.portgraph.LinkError.{LinkError}
+use Rattle.portgraph.specs.declared.resize.SetError.{SetError}
 
 module _ (r : Release) where
   -- What is read.
@@ -145,21 +140,21 @@ module _ (r : Release) where
   unfolding split_under split_port
   split_for L m p d = go _ (add_node_under L m.graph _ _).answer
     where
-      go : (g : PortGraph) (a : lower_add_answer.AddAnswer) → split_by (for_release r m) p d g a ≡ prepared_for (split_by m p d g a)
-      go g (lower_add.Added c first) = refl
-      go g lower_add.TooManyPorts = refl
-      go g lower_add.NoRoom = refl
+      go : (g : PortGraph) (a : Result (NodeIndex × PortIndex) AddError) → split_by (for_release r m) p d g a ≡ prepared_for (split_by m p d g a)
+      go g (Ok (c, first)) = refl
+      go g (Err add_error.TooManyPorts) = refl
+      go g (Err add_error.NoRoom) = refl
 
   grow_for : (L : Limits) (m : MultiPortGraph) (c : ℕ) (d : Direction) → grow_under L (for_release r m) c d ≡ prepared_for (grow_under L m c d)
   unfolding grow_under recounted
   grow_for L m c d = go _ (set_num_ports_under L m.graph c _ _ _).answer
     where
-      go : (g : PortGraph) (a : lower_set_answer.SetAnswer) → grown_by (for_release r m) c d g a ≡ prepared_for (grown_by m c d g a)
-      go g (lower_set.Set e) = refl
-      go g lower_set.TooManyPorts = refl
-      go g lower_set.UnknownNode = refl
-      go g lower_set.MovesTooShort = refl
-      go g lower_set.NoRoom = refl
+      go : (g : PortGraph) (a : Result ℕ SetError) → grown_by (for_release r m) c d g a ≡ prepared_for (grown_by m c d g a)
+      go g (Ok e) = refl
+      go g (Err set_error.TooManyPorts) = refl
+      go g (Err set_error.UnknownNode) = refl
+      go g (Err set_error.MovesTooShort) = refl
+      go g (Err set_error.NoRoom) = refl
 
   either_for : (b : Bool) (x y : Prepared) {x' y' : Prepared} → x' ≡ prepared_for x → y' ≡ prepared_for y → cond b x' y' ≡ prepared_for (cond b x y)
   either_for true x y p q = p
@@ -207,14 +202,14 @@ module _ (r : Release) where
       dropped : (k : NodeMeta) → drop_block (for_release r m) n k ≡ for_release r (drop_block m n k)
       dropped k = ap (λ (u : MultiPortGraph). with_graph u (remove_node u.graph n).graph) (range_for m _ _)
 
-      go : (v : MaybeNodeMeta) → remove_meta (for_release r m) n v ≡ removed_for (remove_meta m n v)
-      go maybe_meta.None = refl
-      go (maybe_meta.Some k) = shown (is_hidden m n)
+      go : (v : Option NodeMeta) → remove_meta (for_release r m) n v ≡ removed_for (remove_meta m n v)
+      go None = refl
+      go (Some k) = shown (is_hidden m n)
         where
-          shown : (b : Bool) → cond b (remove_refused (for_release r m) HiddenNode) (record { graph = drop_block (for_release r m) n k; answer = remove.Removed })
-              ≡ removed_for (cond b (remove_refused m HiddenNode) (record { graph = drop_block m n k; answer = remove.Removed }))
+          shown : (b : Bool) → cond b (remove_refused (for_release r m) HiddenNode) (record { graph = drop_block (for_release r m) n k; answer = Ok tt })
+              ≡ removed_for (cond b (remove_refused m HiddenNode) (record { graph = drop_block m n k; answer = Ok tt }))
           shown true = refl
-          shown false = ap (λ (u : MultiPortGraph). record { graph = u; answer = remove.Removed }) (dropped k)
+          shown false = ap (λ (u : MultiPortGraph). record { graph = u; answer = Ok tt }) (dropped k)
 
   pub set_for_lem : (L : Limits) (m : MultiPortGraph) (n i o room : ℕ) → set_counts_under L (for_release r m) n i o room ≡ set_for (set_counts_under L m n i o room)
   unfolding is_hidden
@@ -224,18 +219,18 @@ module _ (r : Release) where
       g' : PortGraph
       g' = (set_num_ports_under L m.graph n i o room).graph
 
-      done : (k : NodeMeta) (a : lower_set_answer.SetAnswer) → resized (for_release r m) n k i o g' a ≡ for_release r (resized m n k i o g' a)
-      done k (lower_set.Set e) = (λ z. remove_all (recounted_for m n g' z) (dropped_for m k i o z)) ∙ all_for (recounted m n g') (copies_dropped m k i o)
-      done k lower_set.TooManyPorts = refl
-      done k lower_set.UnknownNode = refl
-      done k lower_set.MovesTooShort = refl
-      done k lower_set.NoRoom = refl
+      done : (k : NodeMeta) (a : Result ℕ SetError) → resized (for_release r m) n k i o g' a ≡ for_release r (resized m n k i o g' a)
+      done k (Ok e) = (λ z. remove_all (recounted_for m n g' z) (dropped_for m k i o z)) ∙ all_for (recounted m n g') (copies_dropped m k i o)
+      done k (Err set_error.TooManyPorts) = refl
+      done k (Err set_error.UnknownNode) = refl
+      done k (Err set_error.MovesTooShort) = refl
+      done k (Err set_error.NoRoom) = refl
 
-      node : (v : MaybeNodeMeta) → set_meta_under L (for_release r m) n i o room v ≡ set_for (set_meta_under L m n i o room v)
-      node maybe_meta.None = refl
-      node (maybe_meta.Some k) = shown (is_hidden m n)
+      node : (v : Option NodeMeta) → set_meta_under L (for_release r m) n i o room v ≡ set_for (set_meta_under L m n i o room v)
+      node None = refl
+      node (Some k) = shown (is_hidden m n)
         where
-          a' : lower_set_answer.SetAnswer
+          a' : Result ℕ SetError
           a' = (set_num_ports_under L m.graph n i o room).answer
 
           shown : (b : Bool) → cond b (set_refused (for_release r m) HiddenNode) (record { graph = resized (for_release r m) n k i o g' a'; answer = set_as a' })
@@ -282,9 +277,9 @@ module _ (r : Release) where
       ∙ ((λ z. link_clean_by L (for_release r m) a b (pair_seen a b (seen_for m a z) (seen_for m b z)))
       ∙ (go (pair_seen a b (seen m a) (seen m b)) ∙ ap linked_for (sym (link_clean_cases L m a b))))
     where
-      go : (v : NamedPair) → link_clean_by L (for_release r m) a b v ≡ linked_for (link_clean_by L m a b v)
-      go (pair.Refused x) = refl
-      go pair.Opposite = link_for L m a b
+      go : (v : Result (Unit {0}) Refusal) → link_clean_by L (for_release r m) a b v ≡ linked_for (link_clean_by L m a b v)
+      go (Err x) = refl
+      go (Ok tt) = link_for L m a b
 
   pub sub_for : (m : MultiPortGraph) (p o q s : ℕ) → link_sub_if false (for_release r m) p o q s ≡ linked_for (link_sub_if false m p o q s)
   unfolding as_read is_split end_at subports subport_at copy_node
@@ -296,12 +291,12 @@ module _ (r : Release) where
       good : Bool → Bool → PortsLinked → MultiPortGraph → PortsLinked
       good x y v k = cond x (cond y v (link_refused k BadOffset)) (link_refused k BadOffset)
 
-      inside : (a : lower_link_answer.LinkAnswer) (g : PortGraph) (x y : SubportIndex) → link_inner (for_release r m) x y a g ≡ linked_for (link_inner m x y a g)
-      inside (lower_link.Linked x y) g t u = refl
-      inside (lower_link.UnknownPort x) g t u = refl
-      inside (lower_link.UnknownSecondPort y) g t u = refl
-      inside (lower_link.IncompatibleDirections x y d) g t u = refl
-      inside (lower_link.AlreadyLinked x) g t u = refl
+      inside : (a : Result (PortIndex × PortIndex) LinkError) (g : PortGraph) (x y : SubportIndex) → link_inner (for_release r m) x y a g ≡ linked_for (link_inner m x y a g)
+      inside (Ok (x, y)) g t u = refl
+      inside (Err (link_error.UnknownPort x)) g t u = refl
+      inside (Err (link_error.UnknownSecondPort y)) g t u = refl
+      inside (Err (link_error.IncompatibleDirections x y d)) g t u = refl
+      inside (Err (link_error.AlreadyLinked x)) g t u = refl
 
       second : (x : ℕ) (v : End) → link_second_end (for_release r m) p o q s x v ≡ linked_for (link_second_end m p o q s x v)
       second x lacking = refl
@@ -326,15 +321,15 @@ module _ (r : Release) where
       offsets true false = refl
       offsets false y = refl
 
-  cut_answer_for : (m : MultiPortGraph) (v : PortLink) → cut_plain (for_release r m) v ≡ cut_plain m v
-  cut_answer_for m (lower_cut.Linked q) = ap (cutting.Found (subport# q.0 0)) (standing_for m q.0)
-  cut_answer_for m lower_cut.Unlinked = refl
-  cut_answer_for m (lower_cut.UnknownPort p) = refl
+  cut_answer_for : (m : MultiPortGraph) (v : Result (Option PortIndex) NoSuchPort) → cut_plain (for_release r m) v ≡ cut_plain m v
+  cut_answer_for m (Ok (Some q)) = ap (λ (x : PortPlace). Ok (Some (subport# q.0 0, x))) (standing_for m q.0)
+  cut_answer_for m (Ok None) = refl
+  cut_answer_for m (Err p) = refl
 
-  far_for : (m : MultiPortGraph) (v : PortLink) → far_subport (for_release r m) v ≡ far_subport m v
-  far_for m (lower_cut.Linked q) = λ z. cutting.Found (subport_for m q.0 z) (standing_for m q.0 z)
-  far_for m lower_cut.Unlinked = refl
-  far_for m (lower_cut.UnknownPort p) = refl
+  far_for : (m : MultiPortGraph) (v : Result (Option PortIndex) NoSuchPort) → far_subport (for_release r m) v ≡ far_subport m v
+  far_for m (Ok (Some q)) = λ z. Ok (Some (subport_for m q.0 z, standing_for m q.0 z))
+  far_for m (Ok None) = refl
+  far_for m (Err p) = refl
 
   pub cut_for_lem : (m : MultiPortGraph) (p : ℕ) → cut_port (for_release r m) p ≡ cut_for (cut_port m p)
   unfolding is_split
@@ -342,8 +337,8 @@ module _ (r : Release) where
       cut_cases (for_release r m) p ∙ (ap (cut_seen (for_release r m) p) (seen_for m p) ∙ (go (seen m p) ∙ ap cut_for (sym (cut_cases m p))))
     where
       here : (b : Bool) → is_split m p ≡ b → (n : ℕ) (d : Direction) → cut_seen (for_release r m) p (visible n d) ≡ cut_for (cut_seen m p (visible n d))
-      here true e n d = rw e (λ z. record { graph = unsplit_for m p z; answer = cutting.Found (subport# p 0) (port_place (place_for m (subport# p 0) z)) })
-      here false e n d = rw e (ap (λ (v : CutAnswer). record { graph = for_release r (with_graph m (unlink_port m.graph p).graph); answer = v }) (cut_answer_for m (unlink_port m.graph p).answer))
+      here true e n d = rw e (λ z. record { graph = unsplit_for m p z; answer = Ok (Some (subport# p 0, port_place (place_for m (subport# p 0) z))) })
+      here false e n d = rw e (ap (λ (v : Result (Option (SubportIndex × PortPlace)) Refusal). record { graph = for_release r (with_graph m (unlink_port m.graph p).graph); answer = v }) (cut_answer_for m (unlink_port m.graph p).answer))
 
       go : (u : Port) → cut_seen (for_release r m) p u ≡ cut_for (cut_seen m p u)
       go dead = refl
@@ -358,7 +353,7 @@ module _ (r : Release) where
     where
       at : (v : End) → cut_end (for_release r m) p v ≡ cut_for (cut_end m p v)
       at lacking = refl
-      at (inner x) = ap (λ (v : CutAnswer). record { graph = for_release r (with_graph m (unlink_port m.graph x).graph); answer = v }) (far_for m (unlink_port m.graph x).answer)
+      at (inner x) = ap (λ (v : Result (Option (SubportIndex × PortPlace)) Refusal). record { graph = for_release r (with_graph m (unlink_port m.graph x).graph); answer = v }) (far_for m (unlink_port m.graph x).answer)
 
       go : (u : Port) → cut_sub_seen (for_release r m) p o u ≡ cut_for (cut_sub_seen m p o u)
       go dead = refl
@@ -409,4 +404,4 @@ module _ (r : Release) where
       go : (u : Port) → tidy_seen (for_release r m) p u ≡ tidied_for (tidy_seen m p u)
       go dead = refl
       go hidden = refl
-      go (visible n d) = ap (λ (u : MultiPortGraph). record { graph = u; answer = tidying.Tidied }) (here d (is_split m p))
+      go (visible n d) = ap (λ (u : MultiPortGraph). record { graph = u; answer = Ok tt }) (here d (is_split m p))

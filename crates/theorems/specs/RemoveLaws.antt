@@ -1,6 +1,6 @@
 -- Removing a block: its ports lose their hidden nodes one by one, then the node itself goes.
 -- Every wire at the block goes, and nothing else changes.
-use Rattle.std.specs.Prelude.{◌≡◌, refl, Bool, true, false, cond, [], ℕ, zero, suc, ◌+◌, ◌-◌, ◌≤◌, ◌<◌, eqb, ltb}
+use Rattle.std.specs.Prelude.{◌≡◌, refl, Bool, true, false, cond, [], ℕ, zero, suc, ◌+◌, ◌-◌, ◌≤◌, ◌<◌, eqb, ltb, Option, Some, None, Result, Ok, Err}
 use Rattle.std.proofs.Common.{sym, ◌∙◌, ap, subst, inl, ⊎_elim, arith, eq-eqb, ne_eqb, eqb-true}
 use Rattle.std.proofs.lemmas.Bool.{eqb-false}
 use Rattle.port_tables.specs.Entries.{ports_on}
@@ -17,8 +17,6 @@ use Rattle.portgraph.specs.PlaceLaws.{node_of_meta}
 use Rattle.port_tables.specs.declared.direction.Direction.{Direction}
 use Rattle.port_tables.specs.declared.direction.Direction.TheVariants.{Incoming, Outgoing}
 use Rattle.port_tables.specs.declared.node_entry.NodeMeta.{NodeMeta}
-use Rattle.port_tables.specs.declared.node_entry.MaybeNodeMeta.{MaybeNodeMeta}
-use Rattle.port_tables.specs.declared.node_entry.MaybeNodeMeta.TheVariants as maybe_meta
 use Rattle.multiportgraph.specs.Reading.{is_hidden, is_split}
 use Rattle.multiportgraph.specs.Calls.{drop_block, remove_block}
 use Rattle.multiportgraph.specs.WellFormed.{copy_place, Fine, BlockIs, Seen, outer, WireIn, SameBlocks, Wiring}
@@ -28,14 +26,13 @@ use Rattle.multiportgraph.specs.LinkCutLaws.{touches_neither, touched_not_out, t
 use Rattle.multiportgraph.specs.CopyLaws.{port_at, removed_holds, CopyGone, unsplit_gone, unsplit_whole}
 use Rattle.multiportgraph.specs.declared.multiportgraph.MultiPortGraph.{MultiPortGraph}
 use Rattle.multi_tables.specs.declared.answers.Refusal.TheVariants.{HiddenNode}
-use Rattle.multiportgraph.specs.declared.multiportgraph.RemoveAnswer.{RemoveAnswer}
-use Rattle.multiportgraph.specs.declared.multiportgraph.RemoveAnswer.TheVariants as remove
 use Rattle.multiportgraph.specs.declared.multiportgraph.NodeRemoved.{NodeRemoved}
 use Rattle.port_tables.specs.Places.{Place, Wire, touches, of_node}
 use Rattle.multiportgraph.specs.Graph.{with_graph}
 use Rattle.multiportgraph.specs.HiddenNodes.{unsplit, unsplit_range}
 use Rattle.multiportgraph.specs.Cases.{remove_meta, remove_refused}
 use Rattle.multiportgraph.specs.CaseLaws.{remove_cases}
+use Rattle.multi_tables.specs.declared.answers.Refusal.{Refusal}
 
 -- Ports lose their hidden nodes.
 
@@ -247,9 +244,9 @@ drop_block_done {m} {M} f n k b =
         within Incoming l = omega arith
         within Outgoing l = omega arith
 
-abbrev pub RemoveSays : MultiPortGraph → Model → ℕ → MultiPortGraph → RemoveAnswer → Type 0
-RemoveSays m M n m' remove.Removed = RemoveDone m M m' n
-RemoveSays m M n m' (remove.Refused r) = m' ≡ m
+abbrev pub RemoveSays : MultiPortGraph → Model → ℕ → MultiPortGraph → Result (Unit {0}) Refusal → Type 0
+RemoveSays m M n m' (Ok tt) = RemoveDone m M m' n
+RemoveSays m M n m' (Err r) = m' ≡ m
 
 abbrev RemoveSaid : MultiPortGraph → Model → ℕ → NodeRemoved → Type 0
 RemoveSaid m M n u = RemoveSays m M n u.graph u.answer
@@ -259,10 +256,10 @@ pub remove_block_law : {m : MultiPortGraph} {M : Model} → Fine m M → (n : �
 remove_block_law {m} {M} f n = subst (RemoveSaid m M n) (sym (remove_cases m n)) (node (meta_at m.graph n) refl)
   where
     flags : (k : NodeMeta) → M.node n ≡ live k → (b : Bool) → is_hidden m n ≡ b
-        → RemoveSaid m M n (cond b (remove_refused m HiddenNode) (record { graph = drop_block m n k; answer = remove.Removed }))
+        → RemoveSaid m M n (cond b (remove_refused m HiddenNode) (record { graph = drop_block m n k; answer = Ok tt }))
     flags k e true h = refl
     flags k e false h = drop_block_done f n k (h, e)
 
-    node : (v : MaybeNodeMeta) → meta_at m.graph n ≡ v → RemoveSaid m M n (remove_meta m n v)
-    node maybe_meta.None e = refl
-    node (maybe_meta.Some k) e = flags k (node_of_meta f.good f.holds n k e) (is_hidden m n) refl
+    node : (v : Option NodeMeta) → meta_at m.graph n ≡ v → RemoveSaid m M n (remove_meta m n v)
+    node None e = refl
+    node (Some k) e = flags k (node_of_meta f.good f.holds n k e) (is_hidden m n) refl

@@ -1,5 +1,5 @@
 -- What is said of a tidy: what stays, and that what it gives back is found again.
-use Rattle.std.specs.Prelude.{◌≡◌, true, false, [], ◌∷◌, ℕ, ◌+◌, ◌-◌, ◌≤◌, ◌<◌}
+use Rattle.std.specs.Prelude.{◌≡◌, true, false, [], ◌∷◌, ℕ, ◌+◌, ◌-◌, ◌≤◌, ◌<◌, Ok}
 use Rattle.port_tables.specs.Lists.{Member}
 use Rattle.portgraph.specs.Lookups.{num_ports}
 use Rattle.port_tables.specs.Entries.{node#}
@@ -19,7 +19,6 @@ use Rattle.multiportgraph.specs.declared.iter.Wires.{Wires}
 use Rattle.multiportgraph.specs.declared.iter.PortLinks.{PortLinks}
 use Rattle.multiportgraph.specs.declared.iter.NodeLinks.{NodeLinks}
 use Rattle.multiportgraph.specs.declared.iter.NodeConnections.{NodeConnections}
-use Rattle.multiportgraph.specs.declared.multiportgraph.AddAnswer.TheVariants as add
 use Rattle.theorems.specs.Book.{Call}
 use Rattle.theorems.specs.History.{State, step}
 use Rattle.theorems.specs.ListingClaims.{InBook}
@@ -55,7 +54,7 @@ pub record FoundAgain (m m' : MultiPortGraph) (c : ℕ) (k : NodeMeta) : Type 0 
   -- its slot and its block are the last that were freed, and no table has become longer
   pub given : (M N : Model) → Fine m M → Fine m' N → room_of N ≡ after_works (room_of M) (give_node c ∷ give_block k.first_port.0 k.capacity ∷ [])
   -- an add of as many ports as the block has slots takes both
-  pub added : (i o : ℕ) → i + o ≡ k.capacity → (add_block m' i o).answer ≡ add.Added (node# c) k.first_port
+  pub added : (i o : ℕ) → i + o ≡ k.capacity → (add_block m' i o).answer ≡ Ok (node# c, k.first_port)
   -- an add or a link that takes a node slot and a block of that size is not refused for room, and leaves free what was free before
   pub both : (call : Call) → works_of m' call ≡ take_node ∷ take_block k.capacity ∷ [] →
       (RefusedBy call (step m' call).answer NoRoom → ⊥) × ((M N : Model) → Fine m M → Fine (step m' call).graph N → room_of N ≡ room_of M)

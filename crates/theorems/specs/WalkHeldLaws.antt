@@ -1,6 +1,7 @@
 -- A cursor whose node or port is gone or hidden ends its walk, and a step never gives an item that is not listed or does not lie
 -- beyond what its cursor holds. Each holds of any graph and any cursor.
-use Rattle.std.specs.Prelude.{◌≡◌, Bool, ◌⊎◌, ℕ, suc, ◌-◌, ◌≤◌, eqb, leb}
+use Rattle.theorems.specs.Pairs.{some_pair}
+use Rattle.std.specs.Prelude.{◌≡◌, Bool, ◌⊎◌, ℕ, suc, ◌-◌, ◌≤◌, eqb, leb, Some, None, Option}
 use Rattle.std.proofs.Math.Path.{refl, sym, ap}
 use Rattle.std.proofs.Common.{◌∙◌, subst}
 use Rattle.std.proofs.Math.Bool.{true, false, cond}
@@ -22,23 +23,14 @@ use Rattle.multiportgraph.specs.declared.multiportgraph.MultiPortGraph.{MultiPor
 use Rattle.multi_tables.specs.declared.answers.SubportIndex.{SubportIndex}
 use Rattle.multi_tables.specs.declared.answers.SubportLink.{SubportLink}
 use Rattle.multiportgraph.specs.declared.iter.Nodes.{Nodes}
-use Rattle.multiportgraph.specs.declared.iter.NodesStep.TheVariants as nodes_step
 use Rattle.multiportgraph.specs.declared.iter.Ports.{Ports}
-use Rattle.multiportgraph.specs.declared.iter.PortsStep.TheVariants as ports_step
 use Rattle.multiportgraph.specs.declared.iter.NodePorts.{NodePorts}
-use Rattle.multiportgraph.specs.declared.iter.NodePortsStep.TheVariants as node_ports_step
 use Rattle.multiportgraph.specs.declared.iter.NodeSubports.{NodeSubports}
-use Rattle.multiportgraph.specs.declared.iter.NodeSubportsStep.TheVariants as subports_step
 use Rattle.multiportgraph.specs.declared.iter.PortLinks.{PortLinks}
-use Rattle.multiportgraph.specs.declared.iter.PortLinksStep.TheVariants as port_step
 use Rattle.multiportgraph.specs.declared.iter.NodeLinks.{NodeLinks}
-use Rattle.multiportgraph.specs.declared.iter.NodeLinksStep.TheVariants as links_step
 use Rattle.multiportgraph.specs.declared.iter.Neighbours.{Neighbours}
-use Rattle.multiportgraph.specs.declared.iter.NeighboursStep.TheVariants as neighbours_step
 use Rattle.multiportgraph.specs.declared.iter.NodeConnections.{NodeConnections}
-use Rattle.multiportgraph.specs.declared.iter.NodeConnectionsStep.TheVariants as connections_step
 use Rattle.multiportgraph.specs.declared.iter.Wires.{Wires}
-use Rattle.multiportgraph.specs.declared.iter.WiresStep.TheVariants as wires_step
 use Rattle.theorems.specs.WalkStepLaws.{less, nodes_at, ports_at, link_offset, port_links_at}
 
 -- Gone or hidden: what is held, one higher than its number.
@@ -69,7 +61,7 @@ module _ (m : MultiPortGraph) where
   no_blocks_left c n (inl e) g = rw (node_gone m c.front n e g)
   no_blocks_left c n (inr e) g = rw (node_gone m c.back n e g) (either_none (node_held m c.front))
 
-  pub nodes_end : (c : Nodes) (n : ℕ) → (c.front ≡ suc n) ⊎ (c.back ≡ suc n) → is_block m n ≡ false → (step_nodes m c ≡ nodes_step.End) × (step_nodes_back m c ≡ nodes_step.End)
+  pub nodes_end : (c : Nodes) (n : ℕ) → (c.front ≡ suc n) ⊎ (c.back ≡ suc n) → is_block m n ≡ false → (step_nodes m c ≡ None) × (step_nodes_back m c ≡ None)
   unfolding step_nodes step_nodes_back on_first on_last
   nodes_end c n e g = (rw (no_blocks_left c n e g), rw (no_blocks_left c n e g))
 
@@ -80,7 +72,7 @@ module _ (m : MultiPortGraph) where
   no_ports_left c p (inl e) g = rw (held_gone m c.front p e g)
   no_ports_left c p (inr e) g = rw (held_gone m c.back p e g) (either_none (held_seen m c.front))
 
-  pub ports_end : (c : Ports) (p : ℕ) → (c.front ≡ suc p) ⊎ (c.back ≡ suc p) → is_seen (seen m p) ≡ false → (step_all_ports m c ≡ ports_step.End) × (step_all_ports_back m c ≡ ports_step.End)
+  pub ports_end : (c : Ports) (p : ℕ) → (c.front ≡ suc p) ⊎ (c.back ≡ suc p) → is_seen (seen m p) ≡ false → (step_all_ports m c ≡ None) × (step_all_ports_back m c ≡ None)
   unfolding step_all_ports step_all_ports_back on_first on_last
   ports_end c p e g = (rw (no_ports_left c p e g), rw (no_ports_left c p e g))
 
@@ -95,71 +87,71 @@ module _ (m : MultiPortGraph) where
       go hidden e = refl
       go (visible n d) e = absurd (zero_is_not_one (cc))
 
-  pub port_links_end : (c : PortLinks) → is_seen (seen m c.port.0) ≡ false → (step_front m c ≡ port_step.End) × (step_back m c ≡ port_step.End)
+  pub port_links_end : (c : PortLinks) → is_seen (seen m c.port.0) ≡ false → (step_front m c ≡ None) × (step_back m c ≡ None)
   unfolding step_front step_back on_first on_last
   port_links_end c g = (rw (no_links_left c g), rw (no_links_left c g))
 
   -- The walks of a block: the block is not one any more, or the port held is not a block's.
 
-  pub node_ports_end : (c : NodePorts) → is_block m c.node.0 ≡ false → step_node_ports m c ≡ node_ports_step.End
+  pub node_ports_end : (c : NodePorts) → is_block m c.node.0 ≡ false → step_node_ports m c ≡ None
   unfolding step_node_ports
   node_ports_end c g = rw g
 
-  pub node_ports_port_end : (c : NodePorts) (p : ℕ) → c.held ≡ suc p → is_seen (seen m p) ≡ false → step_node_ports m c ≡ node_ports_step.End
+  pub node_ports_port_end : (c : NodePorts) (p : ℕ) → c.held ≡ suc p → is_seen (seen m p) ≡ false → step_node_ports m c ≡ None
   unfolding step_node_ports
   node_ports_port_end c p e g = rw (both_gone m c.node.0 c.held p e g)
 
-  pub subports_end : (c : NodeSubports) → is_block m c.node.0 ≡ false → step_subports m c ≡ subports_step.End
+  pub subports_end : (c : NodeSubports) → is_block m c.node.0 ≡ false → step_subports m c ≡ None
   unfolding step_subports
   subports_end c g = rw g
 
-  pub subports_port_end : (c : NodeSubports) (p : ℕ) → c.held ≡ suc p → is_seen (seen m p) ≡ false → step_subports m c ≡ subports_step.End
+  pub subports_port_end : (c : NodeSubports) (p : ℕ) → c.held ≡ suc p → is_seen (seen m p) ≡ false → step_subports m c ≡ None
   unfolding step_subports
   subports_port_end c p e g = rw (both_gone m c.node.0 c.held p e g)
 
-  pub links_end : (c : NodeLinks) → is_block m c.node.0 ≡ false → step_links m c ≡ links_step.End
+  pub links_end : (c : NodeLinks) → is_block m c.node.0 ≡ false → step_links m c ≡ None
   unfolding step_links
   links_end c g = rw g
 
-  pub links_port_end : (c : NodeLinks) (p : ℕ) → c.held ≡ suc p → is_seen (seen m p) ≡ false → step_links m c ≡ links_step.End
+  pub links_port_end : (c : NodeLinks) (p : ℕ) → c.held ≡ suc p → is_seen (seen m p) ≡ false → step_links m c ≡ None
   unfolding step_links
   links_port_end c p e g = rw (both_gone m c.node.0 c.held p e g)
 
-  pub neighbours_end : (c : Neighbours) → is_block m c.node.0 ≡ false → step_neighbours m c ≡ neighbours_step.End
+  pub neighbours_end : (c : Neighbours) → is_block m c.node.0 ≡ false → step_neighbours m c ≡ None
   unfolding step_neighbours
   neighbours_end c g = rw g
 
-  pub neighbours_port_end : (c : Neighbours) (p : ℕ) → c.held ≡ suc p → is_seen (seen m p) ≡ false → step_neighbours m c ≡ neighbours_step.End
+  pub neighbours_port_end : (c : Neighbours) (p : ℕ) → c.held ≡ suc p → is_seen (seen m p) ≡ false → step_neighbours m c ≡ None
   unfolding step_neighbours
   neighbours_port_end c p e g = rw (both_gone m c.node.0 c.held p e g)
 
-  connections_none : (c : NodeConnections) → both_seen m c.node.0 c.held ≡ false → step_connections m c ≡ connections_step.End
+  connections_none : (c : NodeConnections) → both_seen m c.node.0 c.held ≡ false → step_connections m c ≡ None
   unfolding step_connections
   connections_none c g = rw g (go (is_block m c.target.0))
     where
-      go : (b : Bool) → cond b connections_step.End connections_step.End ≡ connections_step.End
+      go : (b : Bool) → ◌≡◌ {A = Option (SubportLink × NodeConnections)} (cond b None None) None
       go true = refl
       go false = refl
 
-  pub connections_end : (c : NodeConnections) → is_block m c.node.0 ≡ false → step_connections m c ≡ connections_step.End
+  pub connections_end : (c : NodeConnections) → is_block m c.node.0 ≡ false → step_connections m c ≡ None
   connections_end c g = connections_none c (rw g)
 
-  pub connections_target_end : (c : NodeConnections) → is_block m c.target.0 ≡ false → step_connections m c ≡ connections_step.End
+  pub connections_target_end : (c : NodeConnections) → is_block m c.target.0 ≡ false → step_connections m c ≡ None
   unfolding step_connections
   connections_target_end c g = rw g
 
-  pub connections_port_end : (c : NodeConnections) (p : ℕ) → c.held ≡ suc p → is_seen (seen m p) ≡ false → step_connections m c ≡ connections_step.End
+  pub connections_port_end : (c : NodeConnections) (p : ℕ) → c.held ≡ suc p → is_seen (seen m p) ≡ false → step_connections m c ≡ None
   connections_port_end c p e g = connections_none c (both_gone m c.node.0 c.held p e g)
 
   -- The list of all wires: the port held is not a block's any more.
 
-  pub wires_end : (c : Wires) (p : ℕ) → c.held ≡ suc p → is_seen (seen m p) ≡ false → step_wires m c ≡ wires_step.End
+  pub wires_end : (c : Wires) (p : ℕ) → c.held ≡ suc p → is_seen (seen m p) ≡ false → step_wires m c ≡ None
   unfolding step_wires
   wires_end c p e g =
       ap (λ (h : ℕ). cond (eqb h 0) (first_item (all_wires m)) (wires_seen m (h - 1) c.offset (seen m (h - 1)))) e
       ∙ rw (ne_eqb (suc p) 0 (λ z. omega arith), less p) (go (seen m p) g)
     where
-      go : (v : Port) → is_seen v ≡ false → wires_seen m p c.offset v ≡ wires_step.End
+      go : (v : Port) → is_seen v ≡ false → wires_seen m p c.offset v ≡ None
       go dead q = refl
       go hidden q = refl
       go (visible n d) q = absurd (zero_is_not_one (cc))
@@ -201,26 +193,26 @@ module _ (m : MultiPortGraph) where
       (member_if (node_held m c.back) n (filter (between c.front c.back) (blocks m))
       (member_if (node_held m c.front) n (cond (node_held m c.back) (filter (between c.front c.back) (blocks m)) []) i))
 
-  pub nodes_give : (c d : Nodes) (n : NodeIndex) → step_nodes m c ≡ nodes_step.Item n d →
+  pub nodes_give : (c d : Nodes) (n : NodeIndex) → step_nodes m c ≡ Some (n, d) →
       Member n.0 (blocks m) × (between c.front c.back n.0 ≡ true) × (d ≡ nodes_at (suc n.0) c.back)
   unfolding step_nodes
   nodes_give c d n e =
-      let r = first_found true nodes_step.End (λ k. nodes_step.Item (node# k) (nodes_at (suc k) c.back)) (blocks_left m c) (nodes_step.Item n d) e (λ z. zero_is_not_one (cc)) in
-      let p = r.2 in
-      let q : node# r.0 ≡ n = cc in
-      let s : nodes_at (suc r.0) c.back ≡ d = cc in
+      let r = first_found true None (λ k. Some (node# k, nodes_at (suc k) c.back)) (blocks_left m c) (Some (n, d)) e (λ z. zero_is_not_one (cc)) in
+      let p = some_pair r.2 in
+      let q : node# r.0 ≡ n = p.0 in
+      let s : nodes_at (suc r.0) c.back ≡ d = p.1 in
       let v : r.0 ≡ n.0 = ap (λ (k : NodeIndex). k.0) q in
       let b = block_left c n.0 (subst (λ (k : ℕ). Member k (blocks_left m c)) v r.1) in
       (b.0, b.1, sym s ∙ ap (λ (k : ℕ). nodes_at (suc k) c.back) v)
 
-  pub nodes_give_back : (c d : Nodes) (n : NodeIndex) → step_nodes_back m c ≡ nodes_step.Item n d →
+  pub nodes_give_back : (c d : Nodes) (n : NodeIndex) → step_nodes_back m c ≡ Some (n, d) →
       Member n.0 (blocks m) × (between c.front c.back n.0 ≡ true) × (d ≡ nodes_at c.front (suc n.0))
   unfolding step_nodes_back
   nodes_give_back c d n e =
-      let r = last_found nodes_step.End (λ k. nodes_step.Item (node# k) (nodes_at c.front (suc k))) (blocks_left m c) (nodes_step.Item n d) e (λ z. zero_is_not_one (cc)) in
-      let p = r.2 in
-      let q : node# r.0 ≡ n = cc in
-      let s : nodes_at c.front (suc r.0) ≡ d = cc in
+      let r = last_found None (λ k. Some (node# k, nodes_at c.front (suc k))) (blocks_left m c) (Some (n, d)) e (λ z. zero_is_not_one (cc)) in
+      let p = some_pair r.2 in
+      let q : node# r.0 ≡ n = p.0 in
+      let s : nodes_at c.front (suc r.0) ≡ d = p.1 in
       let v : r.0 ≡ n.0 = ap (λ (k : NodeIndex). k.0) q in
       let b = block_left c n.0 (subst (λ (k : ℕ). Member k (blocks_left m c)) v r.1) in
       (b.0, b.1, sym s ∙ ap (λ (k : ℕ). nodes_at c.front (suc k)) v)
@@ -232,26 +224,26 @@ module _ (m : MultiPortGraph) where
       (member_if (held_seen m c.back) p (filter (between c.front c.back) (all_ports m))
       (member_if (held_seen m c.front) p (cond (held_seen m c.back) (filter (between c.front c.back) (all_ports m)) []) i))
 
-  pub ports_give : (c d : Ports) (p : PortIndex) → step_all_ports m c ≡ ports_step.Item p d →
+  pub ports_give : (c d : Ports) (p : PortIndex) → step_all_ports m c ≡ Some (p, d) →
       Member p.0 (all_ports m) × (between c.front c.back p.0 ≡ true) × (d ≡ ports_at (suc p.0) c.back)
   unfolding step_all_ports
   ports_give c d p e =
-      let r = first_found true ports_step.End (λ k. ports_step.Item (port# k) (ports_at (suc k) c.back)) (ports_left m c) (ports_step.Item p d) e (λ z. zero_is_not_one (cc)) in
-      let o = r.2 in
-      let q : port# r.0 ≡ p = cc in
-      let s : ports_at (suc r.0) c.back ≡ d = cc in
+      let r = first_found true None (λ k. Some (port# k, ports_at (suc k) c.back)) (ports_left m c) (Some (p, d)) e (λ z. zero_is_not_one (cc)) in
+      let o = some_pair r.2 in
+      let q : port# r.0 ≡ p = o.0 in
+      let s : ports_at (suc r.0) c.back ≡ d = o.1 in
       let v : r.0 ≡ p.0 = ap (λ (k : PortIndex). k.0) q in
       let b = port_left c p.0 (subst (λ (k : ℕ). Member k (ports_left m c)) v r.1) in
       (b.0, b.1, sym s ∙ ap (λ (k : ℕ). ports_at (suc k) c.back) v)
 
-  pub ports_give_back : (c d : Ports) (p : PortIndex) → step_all_ports_back m c ≡ ports_step.Item p d →
+  pub ports_give_back : (c d : Ports) (p : PortIndex) → step_all_ports_back m c ≡ Some (p, d) →
       Member p.0 (all_ports m) × (between c.front c.back p.0 ≡ true) × (d ≡ ports_at c.front (suc p.0))
   unfolding step_all_ports_back
   ports_give_back c d p e =
-      let r = last_found ports_step.End (λ k. ports_step.Item (port# k) (ports_at c.front (suc k))) (ports_left m c) (ports_step.Item p d) e (λ z. zero_is_not_one (cc)) in
-      let o = r.2 in
-      let q : port# r.0 ≡ p = cc in
-      let s : ports_at c.front (suc r.0) ≡ d = cc in
+      let r = last_found None (λ k. Some (port# k, ports_at c.front (suc k))) (ports_left m c) (Some (p, d)) e (λ z. zero_is_not_one (cc)) in
+      let o = some_pair r.2 in
+      let q : port# r.0 ≡ p = o.0 in
+      let s : ports_at c.front (suc r.0) ≡ d = o.1 in
       let v : r.0 ≡ p.0 = ap (λ (k : PortIndex). k.0) q in
       let b = port_left c p.0 (subst (λ (k : ℕ). Member k (ports_left m c)) v r.1) in
       (b.0, b.1, sym s ∙ ap (λ (k : ℕ). ports_at c.front (suc k)) v)
@@ -260,95 +252,95 @@ module _ (m : MultiPortGraph) where
   unfolding links_left
   link_left c w i = member_filter (λ v. between c.front c.back (link_offset v)) w (port_links m c.port.0) i
 
-  pub port_links_give : (c d : PortLinks) (w : SubportLink) → step_front m c ≡ port_step.Item w d →
+  pub port_links_give : (c d : PortLinks) (w : SubportLink) → step_front m c ≡ Some (w, d) →
       Member w (port_links m c.port.0) × (between c.front c.back (link_offset w) ≡ true) × (d ≡ port_links_at c.port (suc (link_offset w)) c.back)
   unfolding step_front
   port_links_give c d w e =
-      let r = first_found true port_step.End (λ v. port_step.Item v (port_links_at c.port (suc (link_offset v)) c.back)) (links_left m c) (port_step.Item w d) e (λ z. zero_is_not_one (cc)) in
-      let p = r.2 in
-      let v : r.0 ≡ w = cc in
-      let s : port_links_at c.port (suc (link_offset r.0)) c.back ≡ d = cc in
+      let r = first_found true None (λ v. Some (v, port_links_at c.port (suc (link_offset v)) c.back)) (links_left m c) (Some (w, d)) e (λ z. zero_is_not_one (cc)) in
+      let p = some_pair r.2 in
+      let v : r.0 ≡ w = p.0 in
+      let s : port_links_at c.port (suc (link_offset r.0)) c.back ≡ d = p.1 in
       let b = link_left c w (subst (λ (x : SubportLink). Member x (links_left m c)) v r.1) in
       (b.0, b.1, sym s ∙ ap (λ (x : SubportLink). port_links_at c.port (suc (link_offset x)) c.back) v)
 
-  pub port_links_give_back : (c d : PortLinks) (w : SubportLink) → step_back m c ≡ port_step.Item w d →
+  pub port_links_give_back : (c d : PortLinks) (w : SubportLink) → step_back m c ≡ Some (w, d) →
       Member w (port_links m c.port.0) × (between c.front c.back (link_offset w) ≡ true) × (d ≡ port_links_at c.port c.front (suc (link_offset w)))
   unfolding step_back
   port_links_give_back c d w e =
-      let r = last_found port_step.End (λ v. port_step.Item v (port_links_at c.port c.front (suc (link_offset v)))) (links_left m c) (port_step.Item w d) e (λ z. zero_is_not_one (cc)) in
-      let p = r.2 in
-      let v : r.0 ≡ w = cc in
-      let s : port_links_at c.port c.front (suc (link_offset r.0)) ≡ d = cc in
+      let r = last_found None (λ v. Some (v, port_links_at c.port c.front (suc (link_offset v)))) (links_left m c) (Some (w, d)) e (λ z. zero_is_not_one (cc)) in
+      let p = some_pair r.2 in
+      let v : r.0 ≡ w = p.0 in
+      let s : port_links_at c.port c.front (suc (link_offset r.0)) ≡ d = p.1 in
       let b = link_left c w (subst (λ (x : SubportLink). Member x (links_left m c)) v r.1) in
       (b.0, b.1, sym s ∙ ap (λ (x : SubportLink). port_links_at c.port c.front (suc (link_offset x))) v)
 
-  pub node_ports_give : (c d : NodePorts) (p : PortIndex) → step_node_ports m c ≡ node_ports_step.Item p d →
+  pub node_ports_give : (c d : NodePorts) (p : PortIndex) → step_node_ports m c ≡ Some (p, d) →
       Member p.0 (ports_of_node m c.node.0 c.sides) × (c.held ≤ p.0) × (d ≡ ports_held c p.0)
   unfolding step_node_ports
   node_ports_give c d p e =
       let r =
-      first_found (both_seen m c.node.0 c.held) node_ports_step.End (λ k. node_ports_step.Item (port# k) (ports_held c k))
-      (filter (leb c.held) (ports_of_node m c.node.0 c.sides)) (node_ports_step.Item p d) e (λ z. zero_is_not_one (cc)) in
-      let o = r.2 in
-      let q : port# r.0 ≡ p = cc in
+      first_found (both_seen m c.node.0 c.held) None (λ k. Some (port# k, ports_held c k))
+      (filter (leb c.held) (ports_of_node m c.node.0 c.sides)) (Some (p, d)) e (λ z. zero_is_not_one (cc)) in
+      let o = some_pair r.2 in
+      let q : port# r.0 ≡ p = o.0 in
       let v : r.0 ≡ p.0 = ap (λ (k : PortIndex). k.0) q in
-      let s : ports_held c r.0 ≡ d = cc in
+      let s : ports_held c r.0 ≡ d = o.1 in
       let b = member_filter (leb c.held) r.0 (ports_of_node m c.node.0 c.sides) r.1 in
       let l = leb-true c.held r.0 b.1 in
       (subst (λ (k : ℕ). Member k (ports_of_node m c.node.0 c.sides)) v b.0, omega arith, sym s ∙ ap (ports_held c) v)
 
-  pub subports_give : (c d : NodeSubports) (s : SubportIndex) → step_subports m c ≡ subports_step.Item s d →
+  pub subports_give : (c d : NodeSubports) (s : SubportIndex) → step_subports m c ≡ Some (s, d) →
       Member s (subports_of m c.node.0 c.sides) × (subport_beyond c.held c.offset s ≡ true) × (d ≡ subport_held c s)
   unfolding step_subports
   subports_give c d s e =
       let r =
-      first_found (both_seen m c.node.0 c.held) subports_step.End (λ t. subports_step.Item t (subport_held c t))
-      (filter (subport_beyond c.held c.offset) (subports_of m c.node.0 c.sides)) (subports_step.Item s d) e (λ z. zero_is_not_one (cc)) in
-      let o = r.2 in
-      let v : r.0 ≡ s = cc in
-      let h : subport_held c r.0 ≡ d = cc in
+      first_found (both_seen m c.node.0 c.held) None (λ t. Some (t, subport_held c t))
+      (filter (subport_beyond c.held c.offset) (subports_of m c.node.0 c.sides)) (Some (s, d)) e (λ z. zero_is_not_one (cc)) in
+      let o = some_pair r.2 in
+      let v : r.0 ≡ s = o.0 in
+      let h : subport_held c r.0 ≡ d = o.1 in
       let b = member_filter (subport_beyond c.held c.offset) s (subports_of m c.node.0 c.sides) (subst (λ (t : SubportIndex). Member t (filter (subport_beyond c.held c.offset) (subports_of m c.node.0 c.sides))) v r.1) in
       (b.0, b.1, sym h ∙ ap (subport_held c) v)
 
-  pub links_give : (c d : NodeLinks) (w : SubportLink) → step_links m c ≡ links_step.Item w d →
-      Member w (node_links m c.node.0 c.sides c.skip_from c.skip_to) × (link_beyond c.held c.offset w ≡ true) × (links_step.Item w d ≡ links_item c w)
+  pub links_give : (c d : NodeLinks) (w : SubportLink) → step_links m c ≡ Some (w, d) →
+      Member w (node_links m c.node.0 c.sides c.skip_from c.skip_to) × (link_beyond c.held c.offset w ≡ true) × (Some (w, d) ≡ links_item c w)
   unfolding step_links
   links_give c d w e =
       let r =
-      first_found (both_seen m c.node.0 c.held) links_step.End (links_item c)
-      (filter (link_beyond c.held c.offset) (node_links m c.node.0 c.sides c.skip_from c.skip_to)) (links_step.Item w d) e (λ z. zero_is_not_one (cc)) in
+      first_found (both_seen m c.node.0 c.held) None (links_item c)
+      (filter (link_beyond c.held c.offset) (node_links m c.node.0 c.sides c.skip_from c.skip_to)) (Some (w, d)) e (λ z. zero_is_not_one (cc)) in
       let o = r.2 in
-      let v : r.0 ≡ w = cc in
+      let v : r.0 ≡ w = (some_pair r.2).0 in
       let b = member_filter (link_beyond c.held c.offset) w (node_links m c.node.0 c.sides c.skip_from c.skip_to)
       (subst (λ (x : SubportLink). Member x (filter (link_beyond c.held c.offset) (node_links m c.node.0 c.sides c.skip_from c.skip_to))) v r.1) in
       (b.0, b.1, sym o ∙ ap (links_item c) v)
 
   -- the link that leads to the neighbour given
-  pub neighbours_give : (c d : Neighbours) (n : NodeIndex) → step_neighbours m c ≡ neighbours_step.Item n d →
-      (w : SubportLink) × Member w (neighbour_links m c.node.0 c.sides c.ignore_self) × (link_beyond c.held c.offset w ≡ true) × (neighbours_step.Item n d ≡ neighbours_item m c w)
+  pub neighbours_give : (c d : Neighbours) (n : NodeIndex) → step_neighbours m c ≡ Some (n, d) →
+      (w : SubportLink) × Member w (neighbour_links m c.node.0 c.sides c.ignore_self) × (link_beyond c.held c.offset w ≡ true) × (Some (n, d) ≡ neighbours_item m c w)
   unfolding step_neighbours
   neighbours_give c d n e =
       let r =
-      first_found (both_seen m c.node.0 c.held) neighbours_step.End (neighbours_item m c)
-      (filter (link_beyond c.held c.offset) (neighbour_links m c.node.0 c.sides c.ignore_self)) (neighbours_step.Item n d) e (λ z. zero_is_not_one (cc)) in
+      first_found (both_seen m c.node.0 c.held) None (neighbours_item m c)
+      (filter (link_beyond c.held c.offset) (neighbour_links m c.node.0 c.sides c.ignore_self)) (Some (n, d)) e (λ z. zero_is_not_one (cc)) in
       let b = member_filter (link_beyond c.held c.offset) r.0 (neighbour_links m c.node.0 c.sides c.ignore_self) r.1 in
       (r.0, b.0, b.1, sym r.2)
 
-  pub connections_give : (c d : NodeConnections) (w : SubportLink) → step_connections m c ≡ connections_step.Item w d →
-      Member w (connections m c.node.0 c.target.0) × (link_beyond c.held c.offset w ≡ true) × (connections_step.Item w d ≡ connections_item c w)
+  pub connections_give : (c d : NodeConnections) (w : SubportLink) → step_connections m c ≡ Some (w, d) →
+      Member w (connections m c.node.0 c.target.0) × (link_beyond c.held c.offset w ≡ true) × (Some (w, d) ≡ connections_item c w)
   unfolding step_connections
   connections_give c d w e = go (is_block m c.target.0) e
     where
       go : (t : Bool) →
-          cond t (cond (both_seen m c.node.0 c.held) (on_first connections_step.End (connections_item c) (filter (link_beyond c.held c.offset) (connections m c.node.0 c.target.0))) connections_step.End) connections_step.End
-          ≡ connections_step.Item w d →
-          Member w (connections m c.node.0 c.target.0) × (link_beyond c.held c.offset w ≡ true) × (connections_step.Item w d ≡ connections_item c w)
+          cond t (cond (both_seen m c.node.0 c.held) (on_first None (connections_item c) (filter (link_beyond c.held c.offset) (connections m c.node.0 c.target.0))) None) None
+          ≡ Some (w, d) →
+          Member w (connections m c.node.0 c.target.0) × (link_beyond c.held c.offset w ≡ true) × (Some (w, d) ≡ connections_item c w)
       go true e =
           let r =
-          first_found (both_seen m c.node.0 c.held) connections_step.End (connections_item c)
-          (filter (link_beyond c.held c.offset) (connections m c.node.0 c.target.0)) (connections_step.Item w d) e (λ z. zero_is_not_one (cc)) in
+          first_found (both_seen m c.node.0 c.held) None (connections_item c)
+          (filter (link_beyond c.held c.offset) (connections m c.node.0 c.target.0)) (Some (w, d)) e (λ z. zero_is_not_one (cc)) in
           let o = r.2 in
-          let v : r.0 ≡ w = cc in
+          let v : r.0 ≡ w = (some_pair r.2).0 in
           let b = member_filter (link_beyond c.held c.offset) w (connections m c.node.0 c.target.0)
           (subst (λ (x : SubportLink). Member x (filter (link_beyond c.held c.offset) (connections m c.node.0 c.target.0))) v r.1) in
           (b.0, b.1, sym o ∙ ap (connections_item c) v)

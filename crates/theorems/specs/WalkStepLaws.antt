@@ -1,6 +1,6 @@
 -- Every walk of 01 gives its listing whole, in order, and then the end; from any cursor it gives what the cursor leaves of the
 -- listing. Walks with two ends do so from the back too, and by turns in any order no item comes twice.
-use Rattle.std.specs.Prelude.{◌≡◌, refl, Bool, true, false, cond, eqb, leb, ltb}
+use Rattle.std.specs.Prelude.{◌≡◌, refl, Bool, true, false, cond, eqb, leb, ltb, Option, Some, None, Result, Ok, Err}
 use Rattle.std.proofs.Common.{sym, ◌∙◌, arith, lt-ltb, le-ltb, le-leb, ne_eqb, ltb-true, leb-true, eqb-true}
 use Rattle.std.proofs.Math.Path.{ap}
 use mathlib.Core.List.{List, [], ◌∷◌, map}
@@ -24,32 +24,26 @@ use Rattle.theorems.specs.Cursors.{Turns, turns, rising_apart, Stepped, item, en
 use Rattle.multiportgraph.specs.declared.multiportgraph.MultiPortGraph.{MultiPortGraph}
 use Rattle.multi_tables.specs.declared.answers.SubportIndex.{SubportIndex}
 use Rattle.multi_tables.specs.declared.answers.SubportLink.{SubportLink}
-use Rattle.multi_tables.specs.declared.answers.CutAnswer.{CutAnswer}
-use Rattle.multi_tables.specs.declared.answers.CutAnswer.TheVariants as cutting
 use Rattle.multiportgraph.specs.declared.iter.Nodes.{Nodes}
-use Rattle.multiportgraph.specs.declared.iter.NodesStep.{NodesStep}
-use Rattle.multiportgraph.specs.declared.iter.NodesStep.TheVariants as nodes_step
 use Rattle.multiportgraph.specs.declared.iter.Ports.{Ports}
-use Rattle.multiportgraph.specs.declared.iter.PortsStep.{PortsStep}
-use Rattle.multiportgraph.specs.declared.iter.PortsStep.TheVariants as ports_step
 use Rattle.multiportgraph.specs.declared.iter.PortLinks.{PortLinks}
-use Rattle.multiportgraph.specs.declared.iter.PortLinksStep.{PortLinksStep}
-use Rattle.multiportgraph.specs.declared.iter.PortLinksStep.TheVariants as port_step
-use Rattle.multiportgraph.specs.declared.iter.PortLinksStart.TheVariants as port_start
+use Rattle.port_tables.specs.declared.index.NodeIndex.{NodeIndex}
+use Rattle.multi_tables.specs.declared.answers.Refusal.{Refusal}
+use Rattle.multi_tables.specs.declared.answers.PortPlace.{PortPlace}
 
 -- The steps, in one form.
 
-abbrev nodes_given : NodesStep → Stepped ℕ Nodes
-nodes_given (nodes_step.Item n c) = item n.0 c
-nodes_given nodes_step.End = end
+abbrev nodes_given : Option (NodeIndex × Nodes) → Stepped ℕ Nodes
+nodes_given (Some (n, c)) = item n.0 c
+nodes_given None = end
 
-abbrev ports_given : PortsStep → Stepped ℕ Ports
-ports_given (ports_step.Item p c) = item p.0 c
-ports_given ports_step.End = end
+abbrev ports_given : Option (PortIndex × Ports) → Stepped ℕ Ports
+ports_given (Some (p, c)) = item p.0 c
+ports_given None = end
 
-abbrev port_links_given : PortLinksStep → Stepped SubportLink PortLinks
-port_links_given (port_step.Item w c) = item w c
-port_links_given port_step.End = end
+abbrev port_links_given : Option (SubportLink × PortLinks) → Stepped SubportLink PortLinks
+port_links_given (Some (w, c)) = item w c
+port_links_given None = end
 
 abbrev pub by_nodes : MultiPortGraph → Nodes → Stepped ℕ Nodes
 by_nodes m c = nodes_given (step_nodes m c)
@@ -222,8 +216,8 @@ module _ (m : MultiPortGraph) where
       record {
         rises = nodes_rise;
         stays = node_stays;
-        is = λ f b. first_map nodes_given nodes_step.End (λ n. nodes_step.Item (node# n) (nodes_at (suc n) b)) (blocks_left m (nodes_at f b));
-        is_back = λ f b. last_map nodes_given nodes_step.End (λ n. nodes_step.Item (node# n) (nodes_at f (suc n))) (blocks_left m (nodes_at f b));
+        is = λ f b. first_map nodes_given None (λ n. Some (node# n, nodes_at (suc n) b)) (blocks_left m (nodes_at f b));
+        is_back = λ f b. last_map nodes_given None (λ n. Some (node# n, nodes_at f (suc n))) (blocks_left m (nodes_at f b));
       }
 
   -- from any cursor: what it leaves, in order, and then the end
@@ -271,8 +265,8 @@ module _ (m : MultiPortGraph) where
       record {
         rises = ports_rise;
         stays = port_stays;
-        is = λ f b. first_map ports_given ports_step.End (λ p. ports_step.Item (port# p) (ports_at (suc p) b)) (ports_left m (ports_at f b));
-        is_back = λ f b. last_map ports_given ports_step.End (λ p. ports_step.Item (port# p) (ports_at f (suc p))) (ports_left m (ports_at f b));
+        is = λ f b. first_map ports_given None (λ p. Some (port# p, ports_at (suc p) b)) (ports_left m (ports_at f b));
+        is_back = λ f b. last_map ports_given None (λ p. Some (port# p, ports_at f (suc p))) (ports_left m (ports_at f b));
       }
 
   pub ports_forward : (c : Ports) (fuel : ℕ) → length (ports_left m c) < fuel → walk (by_all_ports m) fuel c ≡ whole (ports_left m c)
@@ -298,10 +292,10 @@ wire_rises : (R : SubportLink → SubportLink → Type 0) (m : MultiPortGraph) (
 unfolding wire_of
 wire_rises R m d s = go (link_of_end m s.port.0 (end_at m s.port.0 d s.subport_offset))
   where
-    go : (a : CutAnswer) → Rising R (wire_to s a)
-    go (cutting.Found t x) = ((λ y i. absurd i), tt)
-    go cutting.Nothing = tt
-    go (cutting.Refused r) = tt
+    go : (a : Result (Option (SubportIndex × PortPlace)) Refusal) → Rising R (wire_to s a)
+    go (Ok (Some (t, x))) = ((λ y i. absurd i), tt)
+    go (Ok None) = tt
+    go (Err r) = tt
 
 abbrev pub subport_offset : SubportIndex → ℕ
 subport_offset s = s.subport_offset
@@ -340,8 +334,8 @@ module _ (m : MultiPortGraph) where
       record {
         rises = port_links_rise m p.0;
         stays = λ w i. refl;
-        is = λ f b. first_map port_links_given port_step.End (λ w. port_step.Item w (port_links_at p (suc (link_offset w)) b)) (links_left m (port_links_at p f b));
-        is_back = λ f b. last_map port_links_given port_step.End (λ w. port_step.Item w (port_links_at p f (suc (link_offset w)))) (links_left m (port_links_at p f b));
+        is = λ f b. first_map port_links_given None (λ w. Some (w, port_links_at p (suc (link_offset w)) b)) (links_left m (port_links_at p f b));
+        is_back = λ f b. last_map port_links_given None (λ w. Some (w, port_links_at p f (suc (link_offset w)))) (links_left m (port_links_at p f b));
       }
 
   pub port_links_forward : (c : PortLinks) (fuel : ℕ) → length (links_left m c) < fuel → walk (by_front m) fuel c ≡ whole (links_left m c)
@@ -356,11 +350,11 @@ module _ (m : MultiPortGraph) where
   unfolding links_left
   port_links_by_turns choices c = two_ends (port_links_walk c.port) choices c.front c.back
 
-  pub port_links_at_start : (p : PortIndex) (c : PortLinks) → start_port_links m p ≡ port_start.Started c → links_left m c ≡ port_links m p.0
+  pub port_links_at_start : (p : PortIndex) (c : PortLinks) → start_port_links m p ≡ Ok c → links_left m c ≡ port_links m p.0
   unfolding links_left start_at_port
   port_links_at_start p c e = go (start_at_port m p.0) e
     where
-      go : (s : Start) → port_links_from p s ≡ port_start.Started c → links_left m c ≡ port_links m p.0
+      go : (s : Start) → port_links_from p s ≡ Ok c → links_left m c ≡ port_links m p.0
       go started e =
           let q : port_links_at p 0 0 ≡ c = cc in
           ap (links_left m) (sym q) ∙ between_all link_offset (port_links m p.0)
@@ -391,7 +385,7 @@ module _ (m : MultiPortGraph) where
   pub ports_turns : Turns (all_ports m) (λ choices. walk_ends (by_all_ports m) (by_all_ports_back m) choices start_ports)
   ports_turns = turns (rises_apart (λ p. p) (all_ports m) (ports_rise m)) (λ choices. ports_by_turns m choices start_ports ∙ ap (take_ends choices) (ports_at_start m))
 
-  module _ (p : PortIndex) (c : PortLinks) (e : start_port_links m p ≡ port_start.Started c) where
+  module _ (p : PortIndex) (c : PortLinks) (e : start_port_links m p ≡ Ok c) where
     pub port_links_whole : (fuel : ℕ) → length (port_links m p.0) < fuel → walk (by_front m) fuel c ≡ whole (port_links m p.0)
     port_links_whole fuel h = let q = port_links_at_start m p c e in rw q at (port_links_forward m c fuel (rw q h))
 

@@ -1,12 +1,12 @@
 -- What the functions that answer of a graph cite: the listing of its wires, the answer off the settled tables, a path, and orders.
 use Rattle.std.proofs.Math.Path.{◌≡◌, refl, sym, ap}
 use Rattle.std.proofs.Common.{◌∙◌, length-set, length-drop, drop_of_length-le, drop-cons, drop-set-lt, get_or-set_same, take_all, eq-eqb, ne_eqb, le-leb, lt-ltb, le-ltb}
-use Rattle.std.specs.Prelude.{Bool, true, false, ltb, length, take, drop}
+use Rattle.std.specs.Prelude.{Bool, true, false, ltb, length, take, drop, Result, Ok, Err}
+use Rattle.std.specs.Result.{IsErrAnd}
 use mathlib.Core.List.{List, [], ◌∷◌, ◌++◌, map}
 use Prim.Native.Nat.{ℕ, zero, suc, ◌+◌, ◌-◌, ◌*◌, ◌/◌, ◌≤◌, ◌<◌}
 use native.Mathlib.Omega.{arith}
 use Rattle.std.proofs.Math.ListN.{get_or, set}
-use Rattle.std.proofs.Math.Seq.{take-length, paste, paste-suc}
 use Rattle.std.proofs.lemmas.Bool.{lt-leb}
 use Rattle.port_tables.specs.Limits.{node_slots, port_slots}
 use Rattle.port_tables.specs.Lists.{Member, Rising, range}
@@ -20,7 +20,6 @@ use Rattle.multiportgraph.specs.Listed.{wires_listed, blocks_listed, list_after}
 use Rattle.multiportgraph.specs.Lookups.{counted, capacity_of}
 use Rattle.multiportgraph.specs.Walks.{Start, started, refused, start_at_node}
 use Rattle.multiportgraph.specs.Wires.{blocks}
-use Rattle.multiportgraph.specs.declared.lookups.CountAnswer.TheVariants as count_of
 use Rattle.multiportgraph.specs.declared.multiportgraph.MultiPortGraph.{MultiPortGraph}
 use Rattle.multi_tables.specs.declared.answers.Refusal.{Refusal}
 use Rattle.theorems.proofs.PortListing.{blocks_list, rising_apart}
@@ -34,13 +33,18 @@ use Rattle.timing.specs.RunOrder.{run_order}
 use Rattle.timing.specs.RunOrderLaws.{right_length, right_named, right_forward, found_right, run_order_right, right_run_order}
 use Rattle.timing.specs.TimingClaims.{RightOrder}
 use Rattle.timing.specs.Naming.{marked, named, all_forward}
-use Rattle.timing.specs.Path.{if_longest, listed_by, path_of, path_listed, path_after}
+use Rattle.timing.specs.Path.{if_longest, listed_by, sum_of, path_of, path_listed, path_after}
 use Rattle.timing.specs.SettleSteps.{listed_next, listed_end, feeds_next, feeds_end, feed_one_more}
 use Rattle.timing.specs.StartLaws.{FeedsFit, zeros_long, zeros_read, answer_settled}
 use Rattle.timing.specs.FeedLaws.{feeds_listed_lem, feeders_between, block_below}
-use Rattle.timing.specs.declared.answers.LongestAnswer.{LongestAnswer}
-use Rattle.timing.specs.declared.answers.LongestAnswer.TheVariants.{Longest, Refused, BadTimes, Cycle}
+use Rattle.timing.specs.declared.answers.LongestError.{LongestError}
+use Rattle.timing.specs.declared.answers.LongestError.TheVariants.{Refused, BadTimes, Cycle}
 use Rattle.timing.specs.declared.answers.PathListed.{PathListed}
+
+-- a refusal that comes through a `?`
+pub refused_told : {T : Type 0} {r : Refusal} (a : Result T LongestError) → IsErrAnd a (λ told. told ≡ Refused r) → a ≡ Err (Refused r)
+refused_told (Ok x) h = absurd h
+refused_told (Err x) h = ap Err h
 
 -- Off the settled tables.
 
@@ -49,20 +53,20 @@ module _ (feeds : List Feed) (times : List ℕ) (n : ℕ) (fit : FeedsFit feeds)
   wait_is : get_or (settled feeds times).waits n 0 ≡ w
   wait_is = sym (isWait ∙ (λ j. get_or (areWaits j) (is_block j) 0))
 
-  pub cycle_answer : (w ≡ 0 → ⊥) → Cycle ≡ longest_among feeds times n
+  pub cycle_answer : (w ≡ 0 → ⊥) → Err Cycle ≡ longest_among feeds times n
   cycle_answer h =
       sym (rw (ne_eqb (get_or (settled feeds times).waits n 0) 0 (λ e. h (sym wait_is ∙ e))) refl)
       ∙ answer_settled feeds fit.below fit.rises times n below
 
-  pub sum_answer : {x y : ℕ} → w ≡ 0 → x ≡ get_or best b 0 → y ≡ get_or times b 0 → Longest (x + y) ≡ longest_among feeds times n
+  pub sum_answer : {x y : ℕ} → w ≡ 0 → x ≡ get_or best b 0 → y ≡ get_or times b 0 → Ok (x + y) ≡ longest_among feeds times n
   sum_answer {x} {y} h p q =
-      (λ j. Longest ((p ∙ (λ k. get_or (areBest k) (is_block k) 0)) j + (q ∙ ap (time_in times) is_block) j))
+      (λ j. Ok ((p ∙ (λ k. get_or (areBest k) (is_block k) 0)) j + (q ∙ ap (time_in times) is_block) j))
       ∙ (sym (rw (eq-eqb (get_or (settled feeds times).waits n 0) 0 (wait_is ∙ h)) refl) ∙ answer_settled feeds fit.below fit.rises times n below)
 
 -- 19.
 
 module _ (feeds : List Feed) (times : List ℕ) (n : ℕ) where
-  pub times_wrong : (length times ≡ node_slots → ⊥) → BadTimes ≡ longest_timed feeds times n
+  pub times_wrong : (length times ≡ node_slots → ⊥) → Err BadTimes ≡ longest_timed feeds times n
   unfolding longest_timed
   times_wrong h = rw (ne_eqb (length times) node_slots h)
 
@@ -104,42 +108,43 @@ module _ {m : MultiPortGraph} {M : Model} (f : Fine m M) where
   started_below n e = let b = (start_at_node_starts f n).0 e in block_below f n ((blocks_list f).all n b.0 b.1)
 
   module _ (n : ℕ) (times : List ℕ) where
-    pub found_below : (k : ℕ) → count_of.Count k ≡ capacity_of m n → n < node_slots
+    pub found_below : (k : ℕ) → Ok k ≡ capacity_of m n → n < node_slots
     unfolding capacity_of
     found_below k e = started_below n (go _ (start_at_node m n) e)
       where
-        go : (x : ℕ) (s : Start) → count_of.Count k ≡ counted s x → s ≡ started
+        go : (x : ℕ) (s : Start) → Ok k ≡ counted s x → s ≡ started
         go x started e = refl
         go x (refused r) e = let z : ◌≡◌ {A = ℕ} 0 1 = cc in absurd (omega arith)
 
-    pub found_answer : (k : ℕ) → count_of.Count k ≡ capacity_of m n → longest_timed (feeds_in m) times n ≡ longest_of m n times
+    pub found_answer : (k : ℕ) → Ok k ≡ capacity_of m n → longest_timed (feeds_in m) times n ≡ longest_of m n times
     unfolding capacity_of longest_of
     found_answer k e = go _ (start_at_node m n) e
       where
-        go : (x : ℕ) (s : Start) → count_of.Count k ≡ counted s x → longest_timed (feeds_in m) times n ≡ longest_from s (longest_timed (feeds_in m) times n)
+        go : (x : ℕ) (s : Start) → Ok k ≡ counted s x → longest_timed (feeds_in m) times n ≡ longest_from s (longest_timed (feeds_in m) times n)
         go x started e = refl
         go x (refused r) e = let z : ◌≡◌ {A = ℕ} 0 1 = cc in absurd (omega arith)
 
-    pub refused_answer : (r : Refusal) → count_of.Refused r ≡ capacity_of m n → Refused r ≡ longest_of m n times
+    pub refused_answer : (r : Refusal) → Err r ≡ capacity_of m n → Err (Refused r) ≡ longest_of m n times
     unfolding capacity_of longest_of
     refused_answer r e = go _ (start_at_node m n) e
       where
-        go : (x : ℕ) (s : Start) → count_of.Refused r ≡ counted s x → Refused r ≡ longest_from s (longest_timed (feeds_in m) times n)
+        go : (x : ℕ) (s : Start) → Err r ≡ counted s x → Err (Refused r) ≡ longest_from s (longest_timed (feeds_in m) times n)
         go x started e = let z : ◌≡◌ {A = ℕ} 0 1 = cc in absurd (omega arith)
-        go x (refused q) e = let z : r ≡ q = cc in ap Refused z
+        go x (refused q) e = let z : r ≡ q = cc in ap (λ (x : Refusal). Err (Refused x)) z
 
 -- A path.
 
-pub cycle_listed : {a : LongestAnswer} (path list : List ℕ) → Cycle ≡ a → (record { answer = Cycle; blocks = 0 } ≡ listed_by a path) × (list ≡ if_longest a (list_after path list) list)
-cycle_listed path list e = (ap (λ (x : LongestAnswer). listed_by x path) e, ap (λ (x : LongestAnswer). if_longest x (list_after path list) list) e)
+sum_listed_by : (a : Result ℕ LongestError) (path : List ℕ) → sum_of (listed_by a path) ≡ a
+sum_listed_by (Ok s) path = refl
+sum_listed_by (Err x) path = refl
 
-pub bad_times_listed : {a : LongestAnswer} (path list : List ℕ) → BadTimes ≡ a → (record { answer = BadTimes; blocks = 0 } ≡ listed_by a path) × (list ≡ if_longest a (list_after path list) list)
-bad_times_listed path list e = (ap (λ (x : LongestAnswer). listed_by x path) e, ap (λ (x : LongestAnswer). if_longest x (list_after path list) list) e)
+pub error_listed : {a : Result ℕ LongestError} {x : LongestError} (path list : List ℕ) → Err x ≡ a → (Err x ≡ listed_by a path) × (list ≡ if_longest a (list_after path list) list)
+error_listed path list e = (ap (λ (x : Result ℕ LongestError). listed_by x path) e, ap (λ (x : Result ℕ LongestError). if_longest x (list_after path list) list) e)
 
-pub sum_listed : {a : LongestAnswer} {s blocks : ℕ} {list' : List ℕ} (path list : List ℕ) → Longest s ≡ a → blocks ≡ length path → list' ≡ list_after path list →
-    (record { answer = Longest s; blocks = blocks } ≡ listed_by a path) × (list' ≡ if_longest a (list_after path list) list)
+pub sum_listed : {a : Result ℕ LongestError} {s blocks : ℕ} {list' : List ℕ} (path list : List ℕ) → Ok s ≡ a → blocks ≡ length path → list' ≡ list_after path list →
+    (Ok (record { sum = s; blocks = blocks }) ≡ listed_by a path) × (list' ≡ if_longest a (list_after path list) list)
 sum_listed {s = s} path list e b q =
-    ((λ j. record { answer = Longest s; blocks = b j }) ∙ ap (λ (x : LongestAnswer). listed_by x path) e, q ∙ ap (λ (x : LongestAnswer). if_longest x (list_after path list) list) e)
+    ((λ j. Ok (record { sum = s; blocks = b j })) ∙ ap (λ (x : Result ℕ LongestError). listed_by x path) e, q ∙ ap (λ (x : Result ℕ LongestError). if_longest x (list_after path list) list) e)
 
 -- the path of the settled tables
 pub path_of_tables : (feeds : List Feed) (times : List ℕ) (n : ℕ) {origin : List ℕ} → origin ≡ (settled feeds times).origin → path_back origin (node_slots - 1) n [] ≡ path_among feeds times n
@@ -147,7 +152,7 @@ unfolding path_among
 path_of_tables feeds times n e = ap (λ (l : List ℕ). path_back l (node_slots - 1) n []) e
 
 -- from the listing to the graph
-pub listed_to_graph : {m : MultiPortGraph} {M : Model} → Fine m M → (times : List ℕ) (n : ℕ) (list : List ℕ) {ends list' : List ℕ} {r : PathListed} → length times ≡ node_slots → ends ≡ wires_listed m →
+pub listed_to_graph : {m : MultiPortGraph} {M : Model} → Fine m M → (times : List ℕ) (n : ℕ) (list : List ℕ) {ends list' : List ℕ} {r : Result PathListed LongestError} → length times ≡ node_slots → ends ≡ wires_listed m →
     r ≡ listed_by (longest_among (feeds_listed ends) times n) (path_among (feeds_listed ends) times n) →
     list' ≡ if_longest (longest_among (feeds_listed ends) times n) (list_after (path_among (feeds_listed ends) times n) list) list →
     (r ≡ listed_by (longest_timed (feeds_in m) times n) (path_among (feeds_in m) times n)) × (list' ≡ if_longest (longest_timed (feeds_in m) times n) (list_after (path_among (feeds_in m) times n) list) list)
@@ -156,27 +161,27 @@ listed_to_graph {m} f times n list h e p q =
     let b = path_listed_is f times n e in
     (p ∙ (λ j. listed_by (a j) (b j)), q ∙ (λ j. if_longest (a j) (list_after (b j) list) list))
 
-pub path_answer : (m : MultiPortGraph) (n : ℕ) (times list : List ℕ) (a : LongestAnswer) → a ≡ longest_of m n times →
+pub path_answer : (m : MultiPortGraph) (n : ℕ) (times list : List ℕ) (a : Result ℕ LongestError) → a ≡ longest_of m n times →
     (listed_by a (path_among (feeds_in m) times n) ≡ path_listed m n times) × (if_longest a (list_after (path_among (feeds_in m) times n) list) list ≡ path_after m n times list)
 unfolding path_listed path_after path_of
 path_answer m n times list a e =
-    (ap (λ (x : LongestAnswer). listed_by x (path_among (feeds_in m) times n)) e, ap (λ (x : LongestAnswer). if_longest x (list_after (path_among (feeds_in m) times n) list) list) e)
+    (ap (λ (x : Result ℕ LongestError). listed_by x (path_among (feeds_in m) times n)) e, ap (λ (x : Result ℕ LongestError). if_longest x (list_after (path_among (feeds_in m) times n) list) list) e)
 
 module _ {m : MultiPortGraph} {M : Model} (f : Fine m M) (n : ℕ) (times list : List ℕ) where
-  pub refused_listed : (r : Refusal) → count_of.Refused r ≡ capacity_of m n →
-      (record { answer = Refused r; blocks = 0 } ≡ path_listed m n times) × (list ≡ path_after m n times list) × (longest_numbers (Refused r) ≡ longest_numbers (longest_of m n times))
-  refused_listed r e =
+  pub refused_listed : (r : Refusal) → Err r ≡ capacity_of m n → {told : Result PathListed LongestError} → told ≡ Err (Refused r) →
+      (told ≡ path_listed m n times) × (list ≡ path_after m n times list) × (longest_numbers (sum_of told) ≡ longest_numbers (longest_of m n times))
+  refused_listed r e q =
       let a = refused_answer f n times r e in
-      let p = path_answer m n times list (Refused r) a in
-      (p.0, p.1, ap longest_numbers a)
+      let p = path_answer m n times list (Err (Refused r)) a in
+      (q ∙ p.0, p.1, ap (λ (x : Result PathListed LongestError). longest_numbers (sum_of x)) q ∙ ap longest_numbers a)
 
-  pub found_listed : (k : ℕ) → count_of.Count k ≡ capacity_of m n → {r : PathListed} {list' : List ℕ} → r ≡ listed_by (longest_timed (feeds_in m) times n) (path_among (feeds_in m) times n) →
+  pub found_listed : (k : ℕ) → Ok k ≡ capacity_of m n → {r : Result PathListed LongestError} {list' : List ℕ} → r ≡ listed_by (longest_timed (feeds_in m) times n) (path_among (feeds_in m) times n) →
       list' ≡ if_longest (longest_timed (feeds_in m) times n) (list_after (path_among (feeds_in m) times n) list) list →
-      (r ≡ path_listed m n times) × (list' ≡ path_after m n times list) × (longest_numbers r.answer ≡ longest_numbers (longest_of m n times))
+      (r ≡ path_listed m n times) × (list' ≡ path_after m n times list) × (longest_numbers (sum_of r) ≡ longest_numbers (longest_of m n times))
   found_listed k e p q =
       let a = found_answer f n times k e in
       let b = path_answer m n times list (longest_timed (feeds_in m) times n) a in
-      (p ∙ b.0, q ∙ b.1, ap (λ (x : PathListed). longest_numbers x.answer) p ∙ ap longest_numbers a)
+      (p ∙ b.0, q ∙ b.1, ap (λ (x : Result PathListed LongestError). longest_numbers (sum_of x)) p ∙ ap longest_numbers (sum_listed_by (longest_timed (feeds_in m) times n) (path_among (feeds_in m) times n) ∙ a))
 
 module _ (origin back : List ℕ) (k n : ℕ) (long : k < length back) where
   -- a block is laid before the path
@@ -216,21 +221,13 @@ laid_back back from list l h e q =
     (omega arith, q ∙ ap (λ (x : List ℕ). list_after x list) (take_all (node_slots - from) (drop from back) (omega arith) ∙ e))
 
 -- a copy
-pub copied : (numbers list : List ℕ) (i : ℕ) {list' : List ℕ} → length numbers ≤ length list → i ≡ length numbers → list' ≡ paste list 0 numbers i → list' ≡ list_after numbers list
+pub copied : (numbers list : List ℕ) {list' : List ℕ} → length numbers ≤ length list → list' ≡ numbers ++ drop (length numbers) list → list' ≡ list_after numbers list
 unfolding list_after
-copied numbers list i h e q =
-    let z : 0 + i ≡ length numbers = omega arith in
-    rw (le-leb (length numbers) (length list) h) (q ∙ (λ j. (ap (λ (k : ℕ). take k numbers) e ∙ take-length numbers) j ++ drop (z j) list))
+copied numbers list h q = rw (le-leb (length numbers) (length list) h) q
 
 pub not_copied : (numbers list : List ℕ) → length list < length numbers → list ≡ list_after numbers list
 unfolding list_after
 not_copied numbers list h = rw (lt-leb (length numbers) (length list) h)
-
-pub copy_turn : (numbers list : List ℕ) (i : ℕ) {list₁ list₂ : List ℕ} → i < length numbers → length numbers ≤ length list → list₁ ≡ paste list 0 numbers i → list₂ ≡ set list₁ i (get_or numbers i 0) → list₂ ≡ paste list 0 numbers (i + 1)
-copy_turn numbers list i h k e q =
-    let z : i ≡ 0 + i = omega arith in
-    let s : suc i ≡ i + 1 = omega arith in
-    q ∙ ((λ j. set (e j) (z j) (get_or numbers i 0)) ∙ (paste-suc list 0 numbers i 0 (omega arith) h ∙ ap (paste list 0 numbers) s))
 
 -- Orders.
 

@@ -1,14 +1,14 @@
 -- The time from receiver to valve: which block feeds which, the largest sum of times along wires that end at a block, and refusals 4, 5,
 -- 19 and 20. A cycle is found by its long walks: along as many wires as there are node slots, a walk passes some block twice.
-use Rattle.std.specs.Prelude.{Bool, true, false, cond, ◌||◌, List, [], ◌∷◌, map, ℕ, zero, suc, ◌+◌, max, eqb, length, get_or}
+use Rattle.std.specs.Prelude.{Bool, true, false, cond, ◌||◌, List, [], ◌∷◌, map, ℕ, zero, suc, ◌+◌, max, eqb, length, get_or, Result, Ok, Err}
 use Rattle.port_tables.specs.Limits.{node_slots}
 use Rattle.port_tables.specs.Places.{Wire}
 use Rattle.multi_tables.specs.EndAnswers.{refusal_numbers}
 use Rattle.multiportgraph.specs.Wires.{wires_walked}
 use Rattle.multiportgraph.specs.Walks.{Start, started, refused, start_at_node}
 use Rattle.multiportgraph.specs.declared.multiportgraph.MultiPortGraph.{MultiPortGraph}
-use Rattle.timing.specs.declared.answers.LongestAnswer.{LongestAnswer}
-use Rattle.timing.specs.declared.answers.LongestAnswer.TheVariants.{Longest, Refused, BadTimes, Cycle}
+use Rattle.timing.specs.declared.answers.LongestError.{LongestError}
+use Rattle.timing.specs.declared.answers.LongestError.TheVariants.{Refused, BadTimes, Cycle}
 
 -- Which block feeds which.
 
@@ -55,24 +55,24 @@ abbrev pub time_in : List ℕ → ℕ → ℕ
 time_in times n = get_or times n 0
 
 -- 20
-unfoldable pub longest_among : List Feed → List ℕ → ℕ → LongestAnswer
-longest_among feeds times n = cond (comes feeds node_slots n) Cycle (Longest (largest_sum feeds (time_in times) node_slots n))
+unfoldable pub longest_among : List Feed → List ℕ → ℕ → Result ℕ LongestError
+longest_among feeds times n = cond (comes feeds node_slots n) (Err Cycle) (Ok (largest_sum feeds (time_in times) node_slots n))
 
 -- 19
-unfoldable pub longest_timed : List Feed → List ℕ → ℕ → LongestAnswer
-longest_timed feeds times n = cond (eqb (length times) node_slots) (longest_among feeds times n) BadTimes
+unfoldable pub longest_timed : List Feed → List ℕ → ℕ → Result ℕ LongestError
+longest_timed feeds times n = cond (eqb (length times) node_slots) (longest_among feeds times n) (Err BadTimes)
 
 -- 4 and 5
-abbrev pub longest_from : Start → LongestAnswer → LongestAnswer
+abbrev pub longest_from : Start → Result ℕ LongestError → Result ℕ LongestError
 longest_from started answer = answer
-longest_from (refused r) answer = Refused r
+longest_from (refused r) answer = Err (Refused r)
 
-unfoldable pub longest_of : MultiPortGraph → ℕ → List ℕ → LongestAnswer
+unfoldable pub longest_of : MultiPortGraph → ℕ → List ℕ → Result ℕ LongestError
 longest_of m n times = longest_from (start_at_node m n) (longest_timed (feeds_in m) times n)
 
 -- The numbers of an answer; 19 and 20 carry nothing.
-abbrev pub longest_numbers : LongestAnswer → List ℕ
-longest_numbers (Longest s) = 0 ∷ s ∷ []
-longest_numbers (Refused r) = refusal_numbers r
-longest_numbers BadTimes = 19 ∷ []
-longest_numbers Cycle = 20 ∷ []
+abbrev pub longest_numbers : Result ℕ LongestError → List ℕ
+longest_numbers (Ok s) = 0 ∷ s ∷ []
+longest_numbers (Err (Refused r)) = refusal_numbers r
+longest_numbers (Err BadTimes) = 19 ∷ []
+longest_numbers (Err Cycle) = 20 ∷ []

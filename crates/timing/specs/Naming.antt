@@ -1,7 +1,7 @@
 -- How the code holds a proposed order against the blocks and wires: a table has 1 for a block that is not named yet, and a named one's place
 -- in the order, two higher.
+use Rattle.std.specs.List.{list_all}
 use Rattle.std.specs.Prelude.{Bool, true, false, cond, List, [], ◌∷◌, ℕ, suc, ◌+◌, eqb, ltb, get_or, set}
-use Rattle.files.specs.Loading.{every}
 use Rattle.timing.specs.Longest.{Feed}
 
 -- each block is entered
@@ -20,4 +20,4 @@ named places i (n ∷ l) = cond (eqb (get_or places n 0) 1) (named (set places n
 
 -- every wire goes from an earlier to a later place
 unfoldable pub all_forward : List ℕ → List Feed → Bool
-all_forward places feeds = every (λ (f : Feed). ltb (get_or places f.source 0) (get_or places f.target 0)) feeds
+all_forward places feeds = list_all (λ (f : Feed). ltb (get_or places f.source 0) (get_or places f.target 0)) feeds

@@ -1,5 +1,6 @@
 -- Laws of run orders: the tests say what they are named for; what the table of places says; and some order is right exactly if no cycle
 -- reaches a block.
+use Rattle.std.specs.List.{list_all}
 use Rattle.std.specs.Prelude.{◌≡◌, refl, Bool, true, false, cond, not, ◌&&◌, ◌||◌, List, [], ◌∷◌, ◌⊎◌, ℕ, suc, ◌+◌, ◌≤◌, ◌<◌, eqb, length, get_or, set}
 use Rattle.std.proofs.Common.{sym, ap, ◌∙◌, subst, inl, inr, ⊎_elim, arith, length-set, get_or-set_same, get_or-set_other}
 use Rattle.std.proofs.Math.Dec.{ltb}
@@ -8,7 +9,6 @@ use borrow.Author.Tests.{eqb-true, eq-eqb, ltb-true, ltb-false, lt-ltb, not-true
 use Rattle.port_tables.specs.Lists.{Member, Rising, Once, filter}
 use Rattle.multiportgraph.specs.HiddenStays.{true_not_false}
 use Rattle.port_tables.specs.Listing.{Apart, filter_member, partners}
-use Rattle.files.specs.Loading.{every}
 use Rattle.files.specs.LaidLaws.{both_true}
 use Rattle.files.specs.SoundLaws.{every_item, item_every}
 use Rattle.theorems.proofs.PortListing.{same_length}
@@ -304,9 +304,9 @@ module _ (m : MultiPortGraph) where
   pub run_order_right : (order : List ℕ) → run_order m order ≡ true → RightOrder (λ n. Member n (blocks m)) (λ a b. Member a (feeders (feeds_in m) b)) order
   unfolding run_order
   run_order_right order e =
-      let p = both_true (every (λ n. is_in n (blocks m)) order) _ e in
+      let p = both_true (list_all (λ n. is_in n (blocks m)) order) _ e in
       let q = both_true (is_distinct order) _ p.1 in
-      let r = both_true (every (λ n. is_in n order) (blocks m)) _ q.1 in
+      let r = both_true (list_all (λ n. is_in n order) (blocks m)) _ q.1 in
       record {
         only = λ n i. in_member n (blocks m) (every_item (λ k. is_in k (blocks m)) order p.0 n i);
         all = λ n i. in_member n order (every_item (λ k. is_in k order) (blocks m) r.0 n i);

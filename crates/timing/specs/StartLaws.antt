@@ -1,6 +1,6 @@
 -- Laws of the tables that settling begins with: the wires into each block are counted, the first wire out of each is found, and what holds
 -- of settling holds at the start.
-use Rattle.std.specs.Prelude.{◌≡◌, Bool, true, false, ◌&&◌, ◌⊎◌, eqb, ltb, length, set, drop, replicate}
+use Rattle.std.specs.Prelude.{◌≡◌, Bool, true, false, ◌&&◌, ◌⊎◌, eqb, ltb, length, set, drop, replicate, Ok, Err}
 use Rattle.std.proofs.Math.Path.{refl, subst}
 use Rattle.std.proofs.Common.{sym, ap, ◌∙◌, inl, inr, ⊎_elim, length-append, length-set, get_or-set_same, get_or-set_other}
 use Rattle.std.proofs.Math.Bool.{cond}
@@ -20,7 +20,7 @@ use Rattle.timing.specs.Longest.{Feed, feeders, comes, largest_sum, longest_amon
 use Rattle.timing.specs.RunOrder.{is_in}
 use Rattle.timing.specs.Settling.{Tables, zeros, waits_of, firsts_of, pushed, push_ready, start_tables, wire_done, run_done, settled}
 use Rattle.timing.specs.SettleLaws.{into, waiting, group, InOrder, Settling, Settled, waiting_none, member_feeders, same_or_not, settle_ends, settled_comes, unsettled_comes, settled_sum}
-use Rattle.timing.specs.declared.answers.LongestAnswer.TheVariants.{Longest, Cycle}
+use Rattle.timing.specs.declared.answers.LongestError.TheVariants.{Cycle}
 
 pub zeros_long : length zeros ≡ node_slots
 unfolding zeros
@@ -217,19 +217,19 @@ module _ (feeds : List Feed) (below : (p n : ℕ) → Member p (feeders feeds n)
 
     -- what the tables say of a block is the answer
     pub answer_settled : (n : ℕ) → n < node_slots →
-        cond (eqb (get_or (settled feeds times).waits n 0) 0) (Longest (get_or (settled feeds times).best n 0 + time_in times n)) Cycle ≡ longest_among feeds times n
+        cond (eqb (get_or (settled feeds times).waits n 0) 0) (Ok (get_or (settled feeds times).best n 0 + time_in times n)) (Err Cycle) ≡ longest_among feeds times n
     unfolding longest_among
     answer_settled n h = go (same_or_not (get_or (settled feeds times).waits n 0) 0)
       where
         go : (get_or (settled feeds times).waits n 0 ≡ 0) ⊎ (get_or (settled feeds times).waits n 0 ≡ 0 → ⊥) →
-            cond (eqb (get_or (settled feeds times).waits n 0) 0) (Longest (get_or (settled feeds times).best n 0 + time_in times n)) Cycle ≡ cond (comes feeds node_slots n) Cycle (Longest (largest_sum feeds (time_in times) node_slots n))
+            cond (eqb (get_or (settled feeds times).waits n 0) 0) (Ok (get_or (settled feeds times).best n 0 + time_in times n)) (Err Cycle) ≡ cond (comes feeds node_slots n) (Err Cycle) (Ok (largest_sum feeds (time_in times) node_slots n))
         go (inl e) =
             let s = all_settled in
             let i = s.ready n h e in
             let c = settled_comes feeds (time_in times) below (settled feeds times) s n i in
             let q : get_or (settled feeds times).best n 0 + time_in times n ≡ largest_sum feeds (time_in times) node_slots n =
             let z = settled_sum feeds (time_in times) below (settled feeds times) s node_slots n i c in omega arith in
-            rw (eq-eqb (get_or (settled feeds times).waits n 0) 0 e, c) (ap Longest q)
+            rw (eq-eqb (get_or (settled feeds times).waits n 0) 0 e, c) (ap Ok q)
         go (inr k) =
             let s = all_settled in
             let c = unsettled_comes feeds (time_in times) below (settled feeds times) s node_slots n h (λ i. k (s.only n i).1) in

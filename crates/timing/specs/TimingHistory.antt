@@ -1,6 +1,6 @@
 -- Proofs of the theorems about times over every list of calls: walks along the book's wires are walks along the graph's, and its blocks are the
 -- graph's. The statements stand in TimingTheorems.
-use Rattle.std.specs.Prelude.{◌≡◌, refl, Bool, true, false, ◌↔◌, ℕ, ◌+◌, ◌-◌, ◌≤◌, length, set}
+use Rattle.std.specs.Prelude.{◌≡◌, refl, Bool, true, false, ◌↔◌, ℕ, ◌+◌, ◌-◌, ◌≤◌, length, set, Ok, Err}
 use Rattle.std.proofs.Common.{sym, ap, ◌∙◌, subst, arith}
 use mathlib.Core.List.{List, [], ◌∷◌}
 use Rattle.port_tables.specs.Limits.{node_slots}
@@ -27,7 +27,7 @@ use Rattle.timing.specs.WalkLaws as walks
 use Rattle.timing.specs.FeedLaws as graphs
 use Rattle.timing.specs.RunOrderLaws as orders
 use Rattle.timing.specs.TimingLaws as laws
-use Rattle.timing.specs.declared.answers.LongestAnswer.TheVariants.{Longest, Refused, BadTimes, Cycle}
+use Rattle.timing.specs.declared.answers.LongestError.TheVariants.{Refused, BadTimes, Cycle}
 
 -- Walks along the book's wires are walks along the graph's.
 module _ (release : Release) (calls : List Call) where
@@ -77,7 +77,7 @@ module _ (release : Release) (calls : List Call) where
 -- The largest sum.
 
 -- It is the sum of some walk along the book's wires that ends at the block, and no such walk has a larger one.
-pub longest_is_largest : (release : Release) (calls : List Call) (n : ℕ) (times : List ℕ) (s : ℕ) → longest_of (run release calls).graph n times ≡ Longest s →
+pub longest_is_largest : (release : Release) (calls : List Call) (n : ℕ) (times : List ℕ) (s : ℕ) → longest_of (run release calls).graph n times ≡ Ok s →
     ((l : List ℕ) × WalkTo (run release calls).book.wires n l × (sum_along (time_in times) l ≡ s))
     × ((l : List ℕ) → WalkTo (run release calls).book.wires n l → sum_along (time_in times) l ≤ s)
 longest_is_largest release calls n times s e =
@@ -97,11 +97,11 @@ longest_is_largest release calls n times s e =
 
 -- One block's time raised or lowered by some amount: there is still a sum, and it has moved by no more than that amount.
 pub longest_moves_by_at_most : (release : Release) (calls : List Call) (n : ℕ) (times : List ℕ) (b time by s : ℕ) → time ≤ time_in times b + by → time_in times b ≤ time + by →
-    longest_of (run release calls).graph n times ≡ Longest s → (r : ℕ) × (longest_of (run release calls).graph n (set times b time) ≡ Longest r) × (r ≤ s + by) × (s ≤ r + by)
+    longest_of (run release calls).graph n times ≡ Ok s → (r : ℕ) × (longest_of (run release calls).graph n (set times b time) ≡ Ok r) × (r ≤ s + by) × (s ≤ r + by)
 longest_moves_by_at_most release calls n times b time by s h k e = laws.moved (rel_run release calls).1.fine n times b time by s h k e
 
 -- A path that has it: a walk along the book's wires that ends at the block, with this sum, of at most as many blocks as there are slots.
-pub path_is_longest : (release : Release) (calls : List Call) (n : ℕ) (times : List ℕ) (s : ℕ) → longest_of (run release calls).graph n times ≡ Longest s →
+pub path_is_longest : (release : Release) (calls : List Call) (n : ℕ) (times : List ℕ) (s : ℕ) → longest_of (run release calls).graph n times ≡ Ok s →
     WalkTo (run release calls).book.wires n (path_of (run release calls).graph n times) × (sum_along (time_in times) (path_of (run release calls).graph n times) ≡ s)
     × (length (path_of (run release calls).graph n times) ≤ node_slots)
 path_is_longest release calls n times s e =
@@ -116,7 +116,7 @@ path_is_longest release calls n times s e =
 
 -- 4 and 5 as for a removal: not live, hidden; they come first.
 pub longest_refused_exactly : (release : Release) (calls : List Call) (n : ℕ) (times : List ℕ) (r : Refusal) (M : Model) → Fine (run release calls).graph M →
-    (longest_of (run release calls).graph n times ≡ Refused r) ↔ NodeRefused (run release calls).graph M n r
+    (longest_of (run release calls).graph n times ≡ Err (Refused r)) ↔ NodeRefused (run release calls).graph M n r
 longest_refused_exactly release calls n times r M f =
     let a = laws.refuses (run release calls).graph n times r in
     let b = start_at_node_refused f n r in
@@ -124,13 +124,13 @@ longest_refused_exactly release calls n times r M f =
 
 -- 19, of a block: exactly if the list does not have one time for each slot, whatever cycles there are.
 pub bad_times_exactly : (release : Release) (calls : List Call) (n : ℕ) (times : List ℕ) → InBook (run release calls).book n →
-    (longest_of (run release calls).graph n times ≡ BadTimes) ↔ (length times ≡ node_slots → ⊥)
+    (longest_of (run release calls).graph n times ≡ Err BadTimes) ↔ (length times ≡ node_slots → ⊥)
 bad_times_exactly release calls n times b =
     laws.bad_times (run release calls).graph n times (laws.started_block (rel_run release calls).1.fine n (booked_block release calls n b))
 
 -- 20, of a block and such a list: exactly if a walk of at least one wire from some block to itself can be continued to the block named.
 pub cycle_exactly : (release : Release) (calls : List Call) (n : ℕ) (times : List ℕ) → InBook (run release calls).book n → length times ≡ node_slots →
-    (longest_of (run release calls).graph n times ≡ Cycle) ↔ CycleReaches (Feeds (run release calls).book.wires) n
+    (longest_of (run release calls).graph n times ≡ Err Cycle) ↔ CycleReaches (Feeds (run release calls).book.wires) n
 cycle_exactly release calls n times b l =
     let m = (run release calls).graph in
     let f = (rel_run release calls).1.fine in
@@ -153,7 +153,7 @@ run_order_exactly release calls order =
 
 -- Some order gets yes exactly if no block gives 20, with any list of times that has one for each slot.
 pub some_order_exactly : (release : Release) (calls : List Call) (times : List ℕ) → length times ≡ node_slots →
-    ((order : List ℕ) × (run_order (run release calls).graph order ≡ true)) ↔ ((n : ℕ) → InBook (run release calls).book n → longest_of (run release calls).graph n times ≡ Cycle → ⊥)
+    ((order : List ℕ) × (run_order (run release calls).graph order ≡ true)) ↔ ((n : ℕ) → InBook (run release calls).book n → longest_of (run release calls).graph n times ≡ Err Cycle → ⊥)
 some_order_exactly release calls times l =
     let m = (run release calls).graph in
     let f = (rel_run release calls).1.fine in (

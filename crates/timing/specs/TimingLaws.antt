@@ -1,7 +1,7 @@
 -- Proofs of the theorems about times, of any graph whose wires are given: the answer by cases, and walks along wires.
 use Rattle.std.proofs.Math.Path.{◌≡◌, refl, sym, ap, subst}
 use Rattle.std.proofs.Common.{◌∙◌, inl, inr, ⊎_elim, length-set, get_or-set_same, get_or-set_other}
-use Rattle.std.specs.Prelude.{Bool, cond, List, [], ◌∷◌, map, ◌⊎◌, ◌↔◌, ℕ, zero, suc, ◌+◌, ◌-◌, ◌≤◌, ◌<◌, ltb, get_or, set}
+use Rattle.std.specs.Prelude.{Bool, cond, List, [], ◌∷◌, map, ◌⊎◌, ◌↔◌, ℕ, zero, suc, ◌+◌, ◌-◌, ◌≤◌, ◌<◌, ltb, get_or, set, Ok, Err}
 use Rattle.std.proofs.Math.Bool.{true, false}
 use native.Mathlib.Omega.{arith}
 use Rattle.std.proofs.Math.Dec.{eqb}
@@ -32,7 +32,7 @@ use Rattle.timing.specs.StartLaws.{all_settled}
 use Rattle.timing.specs.FeedLaws.{feeds_rise, feeders_below, feeders_between, block_below}
 use Rattle.timing.specs.RunOrderLaws.{apart_once, ordered_before, before_filter, right_run_order}
 use Rattle.timing.specs.AnswerSteps.{started_below}
-use Rattle.timing.specs.declared.answers.LongestAnswer.TheVariants.{Longest, Refused, BadTimes, Cycle}
+use Rattle.timing.specs.declared.answers.LongestError.TheVariants.{Refused, BadTimes, Cycle}
 
 -- The answer by cases.
 
@@ -44,56 +44,56 @@ module _ (m : MultiPortGraph) (n : ℕ) (times : List ℕ) where
     pub short : comes (feeds_in m) node_slots n ≡ false
     pub sum : s ≡ largest_sum (feeds_in m) (time_in times) node_slots n
 
-  pub summed : (s : ℕ) → longest_of m n times ≡ Longest s → Summed s
+  pub summed : (s : ℕ) → longest_of m n times ≡ Ok s → Summed s
   unfolding longest_of longest_timed longest_among
   summed s = go (start_at_node m n) (eqb (length times) node_slots) (comes (feeds_in m) node_slots n) refl refl refl
     where
       go : (v : Start) (b c : Bool) → start_at_node m n ≡ v → eqb (length times) node_slots ≡ b → comes (feeds_in m) node_slots n ≡ c →
-          longest_from v (cond b (cond c Cycle (Longest (largest_sum (feeds_in m) (time_in times) node_slots n))) BadTimes) ≡ Longest s → Summed s
+          longest_from v (cond b (cond c (Err Cycle) (Ok (largest_sum (feeds_in m) (time_in times) node_slots n))) (Err BadTimes)) ≡ Ok s → Summed s
       go started true true p q r e = let z : ◌≡◌ {A = ℕ} 0 1 = cc in absurd (omega arith)
       go started true false p q r e = record { block = p; long = eqb-true (length times) node_slots q; short = r; sum = cc }
       go started false c p q r e = let z : ◌≡◌ {A = ℕ} 0 1 = cc in absurd (omega arith)
       go (refused x) b c p q r e = let z : ◌≡◌ {A = ℕ} 0 1 = cc in absurd (omega arith)
 
-  pub sums : (s : ℕ) → Summed s → longest_of m n times ≡ Longest s
+  pub sums : (s : ℕ) → Summed s → longest_of m n times ≡ Ok s
   unfolding longest_of longest_timed longest_among
-  sums s h = rw (h.block, eq-eqb (length times) node_slots h.long, h.short) (ap Longest (sym h.sum))
+  sums s h = rw (h.block, eq-eqb (length times) node_slots h.long, h.short) (ap Ok (sym h.sum))
 
   -- what 20 says
-  pub cycles : start_at_node m n ≡ started → length times ≡ node_slots → (longest_of m n times ≡ Cycle) ↔ (comes (feeds_in m) node_slots n ≡ true)
+  pub cycles : start_at_node m n ≡ started → length times ≡ node_slots → (longest_of m n times ≡ Err Cycle) ↔ (comes (feeds_in m) node_slots n ≡ true)
   unfolding longest_of longest_timed longest_among
   cycles p q = (go (comes (feeds_in m) node_slots n), back)
     where
-      go : (c : Bool) → longest_from (start_at_node m n) (cond (eqb (length times) node_slots) (cond c Cycle (Longest (largest_sum (feeds_in m) (time_in times) node_slots n))) BadTimes) ≡ Cycle → c ≡ true
+      go : (c : Bool) → longest_from (start_at_node m n) (cond (eqb (length times) node_slots) (cond c (Err Cycle) (Ok (largest_sum (feeds_in m) (time_in times) node_slots n))) (Err BadTimes)) ≡ Err Cycle → c ≡ true
       go true e = refl
       go false e =
-          let a : longest_from (start_at_node m n) (cond (eqb (length times) node_slots) (Longest (largest_sum (feeds_in m) (time_in times) node_slots n)) BadTimes) ≡ Longest (largest_sum (feeds_in m) (time_in times) node_slots n) =
+          let a : longest_from (start_at_node m n) (cond (eqb (length times) node_slots) (Ok (largest_sum (feeds_in m) (time_in times) node_slots n)) (Err BadTimes)) ≡ Ok (largest_sum (feeds_in m) (time_in times) node_slots n) =
           rw (p, eq-eqb (length times) node_slots q) refl in
           let z : ◌≡◌ {A = ℕ} 0 1 = cc in absurd (omega arith)
 
-      back : comes (feeds_in m) node_slots n ≡ true → longest_from (start_at_node m n) (cond (eqb (length times) node_slots) (cond (comes (feeds_in m) node_slots n) Cycle (Longest (largest_sum (feeds_in m) (time_in times) node_slots n))) BadTimes) ≡ Cycle
+      back : comes (feeds_in m) node_slots n ≡ true → longest_from (start_at_node m n) (cond (eqb (length times) node_slots) (cond (comes (feeds_in m) node_slots n) (Err Cycle) (Ok (largest_sum (feeds_in m) (time_in times) node_slots n))) (Err BadTimes)) ≡ Err Cycle
       back c = rw (p, eq-eqb (length times) node_slots q, c) refl
 
   -- what 19 says
-  pub bad_times : start_at_node m n ≡ started → (longest_of m n times ≡ BadTimes) ↔ (length times ≡ node_slots → ⊥)
+  pub bad_times : start_at_node m n ≡ started → (longest_of m n times ≡ Err BadTimes) ↔ (length times ≡ node_slots → ⊥)
   unfolding longest_of longest_timed longest_among
   bad_times p = ((λ e q. go (comes (feeds_in m) node_slots n) q e), (λ h. rw (p, ne_eqb (length times) node_slots h) refl))
     where
-      go : (c : Bool) → length times ≡ node_slots → longest_from (start_at_node m n) (cond (eqb (length times) node_slots) (cond c Cycle (Longest (largest_sum (feeds_in m) (time_in times) node_slots n))) BadTimes) ≡ BadTimes → ⊥
+      go : (c : Bool) → length times ≡ node_slots → longest_from (start_at_node m n) (cond (eqb (length times) node_slots) (cond c (Err Cycle) (Ok (largest_sum (feeds_in m) (time_in times) node_slots n))) (Err BadTimes)) ≡ Err BadTimes → ⊥
       go true q e =
-          let a : longest_from (start_at_node m n) (cond (eqb (length times) node_slots) Cycle BadTimes) ≡ Cycle = rw (p, eq-eqb (length times) node_slots q) refl in
+          let a : longest_from (start_at_node m n) (cond (eqb (length times) node_slots) (Err Cycle) (Err BadTimes)) ≡ Err Cycle = rw (p, eq-eqb (length times) node_slots q) refl in
           let z : ◌≡◌ {A = ℕ} 0 1 = cc in omega arith
       go false q e =
-          let a : longest_from (start_at_node m n) (cond (eqb (length times) node_slots) (Longest (largest_sum (feeds_in m) (time_in times) node_slots n)) BadTimes) ≡ Longest (largest_sum (feeds_in m) (time_in times) node_slots n) =
+          let a : longest_from (start_at_node m n) (cond (eqb (length times) node_slots) (Ok (largest_sum (feeds_in m) (time_in times) node_slots n)) (Err BadTimes)) ≡ Ok (largest_sum (feeds_in m) (time_in times) node_slots n) =
           rw (p, eq-eqb (length times) node_slots q) refl in
           let z : ◌≡◌ {A = ℕ} 0 1 = cc in omega arith
 
   -- what 4 and 5 say
-  pub refuses : (r : Refusal) → (longest_of m n times ≡ Refused r) ↔ (start_at_node m n ≡ refused r)
+  pub refuses : (r : Refusal) → (longest_of m n times ≡ Err (Refused r)) ↔ (start_at_node m n ≡ refused r)
   unfolding longest_of longest_timed longest_among
   refuses r = (go (start_at_node m n) (eqb (length times) node_slots) (comes (feeds_in m) node_slots n), (λ e. rw e refl))
     where
-      go : (v : Start) (b c : Bool) → longest_from v (cond b (cond c Cycle (Longest (largest_sum (feeds_in m) (time_in times) node_slots n))) BadTimes) ≡ Refused r → v ≡ refused r
+      go : (v : Start) (b c : Bool) → longest_from v (cond b (cond c (Err Cycle) (Ok (largest_sum (feeds_in m) (time_in times) node_slots n))) (Err BadTimes)) ≡ Err (Refused r) → v ≡ refused r
       go started true true e = let z : ◌≡◌ {A = ℕ} 0 1 = cc in absurd (omega arith)
       go started true false e = let z : ◌≡◌ {A = ℕ} 0 1 = cc in absurd (omega arith)
       go started false c e = let z : ◌≡◌ {A = ℕ} 0 1 = cc in absurd (omega arith)
@@ -142,8 +142,8 @@ module _ {m : MultiPortGraph} {M : Model} (f : Fine m M) where
   pub largest : (n : ℕ) (times : List ℕ) → comes (feeds_in m) node_slots n ≡ false → (a : ℕ) (l : List ℕ) → Leads F a n l → sum_along (time_in times) (a ∷ l) ≤ largest_sum (feeds_in m) (time_in times) node_slots n
   largest n times e a l w = sum_above (feeds_in m) (time_in times) node_slots a n l w (walk_short (feeds_in m) node_slots a n l e w)
 
-  pub moved : (n : ℕ) (times : List ℕ) (b y by s : ℕ) → y ≤ time_in times b + by → time_in times b ≤ y + by → longest_of m n times ≡ Longest s →
-      (r : ℕ) × (longest_of m n (set times b y) ≡ Longest r) × (r ≤ s + by) × (s ≤ r + by)
+  pub moved : (n : ℕ) (times : List ℕ) (b y by s : ℕ) → y ≤ time_in times b + by → time_in times b ≤ y + by → longest_of m n times ≡ Ok s →
+      (r : ℕ) × (longest_of m n (set times b y) ≡ Ok r) × (r ≤ s + by) × (s ≤ r + by)
   moved n times b y by s h k e =
       let a = summed m n times s e in
       let t = time_in times in
@@ -172,7 +172,7 @@ module _ {m : MultiPortGraph} {M : Model} (f : Fine m M) where
       (member_or_not n (settled (feeds_in m) times).order)
 
   -- a path that has the sum
-  pub path_has : (n : ℕ) (times : List ℕ) (s : ℕ) → longest_of m n times ≡ Longest s → (a : ℕ) × (l : List ℕ) × (path_of m n times ≡ a ∷ l) × Leads F a n l × (sum_along (time_in times) (a ∷ l) ≡ s)
+  pub path_has : (n : ℕ) (times : List ℕ) (s : ℕ) → longest_of m n times ≡ Ok s → (a : ℕ) × (l : List ℕ) × (path_of m n times ≡ a ∷ l) × Leads F a n l × (sum_along (time_in times) (a ∷ l) ≡ s)
   unfolding path_of path_among
   path_has n times s e =
       let c = summed m n times s e in

@@ -1,11 +1,12 @@
 // What is answered of times along wires.
+ghost use Rattle.std.specs.Prelude.{◌≡◌};
+ghost use Rattle.timing.specs.declared.answers.LongestError.TheVariants.{Refused};
+
 use multi_tables::answers::Refusal;
 
-// What a question for the largest sum comes to.
+// Why there is no largest sum.
 #[derive(Clone, Copy)]
-pub enum LongestAnswer {
-    // The largest sum, in microseconds.
-    Longest(u32),
+pub enum LongestError {
     // The number names no block: refusal 4 or 5.
     Refused(Refusal),
     // Refusal 19: the list of times does not have one entry for each node slot.
@@ -14,9 +15,17 @@ pub enum LongestAnswer {
     Cycle,
 }
 
-// The answer, and how many blocks a path that has the sum was listed with; none where there is no sum.
+impl From<Refusal> for LongestError {
+    ghost from_gives = { λ refusal told. told ≡ Refused refusal };
+
+    fn from(refusal: Refusal) -> LongestError {
+        LongestError::Refused(refusal)
+    }
+}
+
+// The largest sum, in microseconds, and how many blocks a path that has it was listed with.
 #[derive(Clone, Copy)]
 pub struct PathListed {
-    pub answer: LongestAnswer,
+    pub sum: u32,
     pub blocks: usize,
 }

@@ -6,13 +6,12 @@ ghost use Rattle.multiportgraph.specs.Listed.{list_after};
 ghost use Rattle.timing.specs.Longest.{feeds_in, longest_among, longest_timed, longest_of, longest_numbers};
 ghost use Rattle.timing.specs.Settling.{feeds_listed, path_among};
 ghost use Rattle.timing.specs.StartLaws.{FeedsFit};
-ghost use Rattle.timing.specs.Path.{if_longest, listed_by, path_listed, path_after};
+ghost use Rattle.timing.specs.Path.{if_longest, listed_by, path_listed, path_after, sum_of};
 
-use crate::answers::{LongestAnswer, PathListed};
+use crate::answers::{LongestError, PathListed};
 use crate::path::put_path;
 use crate::settle::settle;
 use crate::tables::{at, time_at};
-use multiportgraph::lookups::CountAnswer;
 use multiportgraph::multiportgraph::MultiPortGraph;
 use port_tables::index::{NODE_SLOTS, NodeIndex, PORT_SLOTS};
 use port_tables::numbers::wide;
@@ -21,7 +20,7 @@ use port_tables::numbers::wide;
 pub const MOST_WIRES: usize = PORT_SLOTS / 2;
 
 // The answer over a listing of wires.
-fn longest_among<'a>(ends: &'a [u32], times: &'a [u16], block: usize) -> LongestAnswer
+fn longest_among<'a>(ends: &'a [u32], times: &'a [u16], block: usize) -> Result<u32, LongestError>
     requires { (length ends.now ≤ 8 * port_slots) × FeedsFit (feeds_listed ends.now) × (block < node_slots) }
     ensures { result ≡ longest_among (feeds_listed ends.now) times.now block }
 {
@@ -30,22 +29,23 @@ fn longest_among<'a>(ends: &'a [u32], times: &'a [u16], block: usize) -> Longest
     let mut origin = [0u32; NODE_SLOTS];
     settle(ends, times, &mut waits, &mut best, &mut origin);
     if at(&waits, block) != 0 {
-        return LongestAnswer::Cycle;
+        return Err(LongestError::Cycle);
     }
-    LongestAnswer::Longest(at(&best, block) + time_at(times, block))
+    Ok(at(&best, block) + time_at(times, block))
 }
 
 // The answer of a block, once its number is known to be one.
-fn longest_timed(graph: MultiPortGraph, times: &[u16], block: usize) -> LongestAnswer
+fn longest_timed(graph: MultiPortGraph, times: &[u16], block: usize) -> Result<u32, LongestError>
     requires { MultiWf graph × (block < node_slots) }
     ensures { result ≡ longest_timed (feeds_in graph) times.now block }
 {
     if times.len() != NODE_SLOTS {
-        return LongestAnswer::BadTimes;
+        return Err(LongestError::BadTimes);
     }
     let mut ends = [0u32; 8 * MOST_WIRES];
     let wires = graph.link_count();
-    graph.list_wires(&mut ends);
+    // The list is long enough, so every wire is written.
+    let _ = graph.list_wires(&mut ends);
     let end = 8 * wires;
     longest_among(&ends[..end], times, block)
 }
@@ -53,19 +53,21 @@ fn longest_timed(graph: MultiPortGraph, times: &[u16], block: usize) -> LongestA
 // The largest sum of times along wires ending at the block, its own time included. The list has a time in microseconds for each node slot. Not inlined: the copies of the graph here then do
 // not lie on the stack while a caller makes the graph.
 #[inline(never)]
-pub fn longest(graph: MultiPortGraph, block: NodeIndex, times: &[u16]) -> LongestAnswer
+pub fn longest(graph: MultiPortGraph, block: NodeIndex, times: &[u16]) -> Result<u32, LongestError>
     requires { MultiWf graph }
     ensures { (result ≡ longest_of graph block.0 times.now) × (longest_numbers result ≡ longest_numbers (longest_of graph block.0 times.now)) }
 {
-    let found = graph.node_port_capacity(block);
-    match found {
-        CountAnswer::Refused(refusal) => LongestAnswer::Refused(refusal),
-        CountAnswer::Count(_) => longest_timed(graph, times, wide(block.0)),
-    }
+    graph.node_port_capacity(block)?;
+    longest_timed(graph, times, wide(block.0))
 }
 
 // The answer over a listing of wires, and a path.
-fn path_among<'a>(ends: &'a [u32], times: &'a [u16], block: u32, list: &mut [u32]) -> PathListed
+fn path_among<'a>(
+    ends: &'a [u32],
+    times: &'a [u16],
+    block: u32,
+    list: &mut [u32],
+) -> Result<PathListed, LongestError>
     requires { (length ends.now ≤ 8 * port_slots) × FeedsFit (feeds_listed ends.now) × (block < node_slots) }
     ensures { (result ≡ listed_by (longest_among (feeds_listed ends.now) times.now block) (path_among (feeds_listed ends.now) times.now block))
         × (list.new ≡ if_longest (longest_among (feeds_listed ends.now) times.now block) (list_after (path_among (feeds_listed ends.now) times.now block) list.old) list.old) }
@@ -76,34 +78,34 @@ fn path_among<'a>(ends: &'a [u32], times: &'a [u16], block: u32, list: &mut [u32
     settle(ends, times, &mut waits, &mut best, &mut origin);
     let b = wide(block);
     if at(&waits, b) != 0 {
-        return PathListed {
-            answer: LongestAnswer::Cycle,
-            blocks: 0,
-        };
+        return Err(LongestError::Cycle);
     }
     let sum = at(&best, b) + time_at(times, b);
     let blocks = put_path(&origin, block, list);
-    PathListed {
-        answer: LongestAnswer::Longest(sum),
+    Ok(PathListed {
+        sum: sum,
         blocks: blocks,
-    }
+    })
 }
 
 // The same of a block, once its number is known to be one.
-fn path_timed(graph: MultiPortGraph, times: &[u16], block: u32, list: &mut [u32]) -> PathListed
+fn path_timed(
+    graph: MultiPortGraph,
+    times: &[u16],
+    block: u32,
+    list: &mut [u32],
+) -> Result<PathListed, LongestError>
     requires { MultiWf graph × (block < node_slots) }
     ensures { (result ≡ listed_by (longest_timed (feeds_in graph) times.now block) (path_among (feeds_in graph) times.now block))
         × (list.new ≡ if_longest (longest_timed (feeds_in graph) times.now block) (list_after (path_among (feeds_in graph) times.now block) list.old) list.old) }
 {
     if times.len() != NODE_SLOTS {
-        return PathListed {
-            answer: LongestAnswer::BadTimes,
-            blocks: 0,
-        };
+        return Err(LongestError::BadTimes);
     }
     let mut ends = [0u32; 8 * MOST_WIRES];
     let wires = graph.link_count();
-    graph.list_wires(&mut ends);
+    // The list is long enough, so every wire is written.
+    let _ = graph.list_wires(&mut ends);
     let end = 8 * wires;
     path_among(&ends[..end], times, block, list)
 }
@@ -111,17 +113,16 @@ fn path_timed(graph: MultiPortGraph, times: &[u16], block: u32, list: &mut [u32]
 // Lists a path that has the largest sum, from its first block to the one named, at the start of a list that the caller lends: 1,024 numbers
 // are enough. A list that is too short for the path stays as it is. Not inlined, as above.
 #[inline(never)]
-pub fn path(graph: MultiPortGraph, block: NodeIndex, times: &[u16], list: &mut [u32]) -> PathListed
+pub fn path(
+    graph: MultiPortGraph,
+    block: NodeIndex,
+    times: &[u16],
+    list: &mut [u32],
+) -> Result<PathListed, LongestError>
     requires { MultiWf graph }
     ensures { (result ≡ path_listed graph block.0 times.now) × (list.new ≡ path_after graph block.0 times.now list.old)
-        × (longest_numbers result.answer ≡ longest_numbers (longest_of graph block.0 times.now)) }
+        × (longest_numbers (sum_of result) ≡ longest_numbers (longest_of graph block.0 times.now)) }
 {
-    let found = graph.node_port_capacity(block);
-    match found {
-        CountAnswer::Refused(refusal) => PathListed {
-            answer: LongestAnswer::Refused(refusal),
-            blocks: 0,
-        },
-        CountAnswer::Count(_) => path_timed(graph, times, block.0, list),
-    }
+    graph.node_port_capacity(block)?;
+    path_timed(graph, times, block.0, list)
 }

@@ -18,12 +18,9 @@ use port_tables::tables::store;
 fn mark_blocks(listed: &[u32], places: &mut [u32])
     ensures { places.new ≡ marked (nodes_of listed.now) places.old }
 {
-    let count = listed.len() / 4;
-    let mut i: usize = 0;
-    while i < count {
+    for i in 0..listed.len() / 4 {
         let node = wide(listed[4 * i]);
         store(places, node, 1);
-        i += 1;
     }
 }
 
@@ -32,14 +29,12 @@ fn name_all(order: &[u32], places: &mut [u32]) -> bool
     requires { length order.now ≤ node_slots }
     ensures { (result ≡ (named places.old 0 order.now).right) × (places.new ≡ (named places.old 0 order.now).places) }
 {
-    let mut i: usize = 0;
-    while i < order.len() {
-        let node = wide(order[i]);
+    for (i, number) in order.iter().enumerate() {
+        let node = wide(*number);
         if at(places, node) != 1 {
             return false;
         }
         store(places, node, i as u32 + 2);
-        i += 1;
     }
     true
 }
@@ -48,15 +43,12 @@ fn name_all(order: &[u32], places: &mut [u32]) -> bool
 fn all_forward<'a>(ends: &'a [u32], places: &'a [u32]) -> bool
     ensures { result ≡ all_forward places.now (feeds_listed ends.now) }
 {
-    let count = ends.len() / 8;
-    let mut i: usize = 0;
-    while i < count {
+    for i in 0..ends.len() / 8 {
         let source = at(places, wide(source_at(ends, i)));
         let target = at(places, wide(target_at(ends, i)));
         if target <= source {
             return false;
         }
-        i += 1;
     }
     true
 }
@@ -74,8 +66,9 @@ pub fn run_order(graph: MultiPortGraph, order: &[u32]) -> bool
     let mut ends = [0u32; 8 * MOST_WIRES];
     let mut places = [0u32; NODE_SLOTS];
     let wires = graph.link_count();
-    graph.list_blocks(&mut listed);
-    graph.list_wires(&mut ends);
+    // Both lists are long enough.
+    let _ = graph.list_blocks(&mut listed);
+    let _ = graph.list_wires(&mut ends);
     let block_end = 4 * blocks;
     let wire_end = 8 * wires;
     mark_blocks(&listed[..block_end], &mut places);

@@ -14,16 +14,14 @@ fn path_back<'a>(origin: &'a [u32], block: u32, back: &mut [u32]) -> usize
     requires { length back.old ≡ node_slots }
     ensures { (result < node_slots) × (drop result back.new ≡ path_back origin.now (node_slots - 1) block []) }
 {
-    let mut k: usize = NODE_SLOTS - 1;
     let mut n = block;
-    while 0 < k {
+    for k in (1..NODE_SLOTS).rev() {
         store(back, k, n);
         let from = at(origin, wide(n));
         if from == 0 {
             return k;
         }
         n = from - 1;
-        k -= 1;
     }
     store(back, 0, n);
     0
@@ -34,11 +32,7 @@ fn copy_in<'a>(numbers: &'a [u32], list: &mut [u32])
     ensures { list.new ≡ list_after numbers.now list.old }
 {
     if numbers.len() <= list.len() {
-        let mut i: usize = 0;
-        while i < numbers.len() {
-            list[i] = numbers[i];
-            i += 1;
-        }
+        list[..numbers.len()].copy_from_slice(numbers);
     }
 }
 

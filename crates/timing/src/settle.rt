@@ -5,7 +5,7 @@ ghost use Rattle.port_tables.specs.Limits.{node_slots, port_slots};
 ghost use Rattle.port_tables.specs.Lists.{range};
 ghost use Rattle.timing.specs.Settling.{feeds_listed, tables_of, zeros, waits_of, firsts_of, pushed, push_ready, wire_done, run_done, block_done, Bounded, settle, settled};
 
-use crate::tables::{at, one_less, source_at, target_at, time_at};
+use crate::tables::{at, source_at, target_at, time_at};
 use port_tables::index::NODE_SLOTS;
 use port_tables::numbers::wide;
 use port_tables::tables::store;
@@ -15,13 +15,10 @@ fn count_wires(ends: &[u32], waits: &mut [u32])
     requires { (length ends.now ≤ 8 * port_slots) × (waits.old ≡ zeros) }
     ensures { waits.new ≡ waits_of (feeds_listed ends.now) zeros }
 {
-    let count = ends.len() / 8;
-    let mut i: usize = 0;
-    while i < count {
+    for i in 0..ends.len() / 8 {
         let target = wide(target_at(ends, i));
         let before = at(waits, target);
         store(waits, target, before + 1);
-        i += 1;
     }
 }
 
@@ -30,9 +27,7 @@ fn find_firsts(ends: &[u32], firsts: &mut [u32])
     requires { length ends.now ≤ 8 * port_slots }
     ensures { firsts.new ≡ firsts_of (feeds_listed ends.now) 0 firsts.old }
 {
-    let mut i: usize = ends.len() / 8;
-    while 0 < i {
-        i -= 1;
+    for i in (0..ends.len() / 8).rev() {
         let source = wide(source_at(ends, i));
         store(firsts, source, i as u32);
     }
@@ -67,10 +62,8 @@ fn push_ready(waits: &[u32], queue: &mut [u32]) -> usize
     ensures { (result ≤ node_slots) × (take result queue.new ≡ push_ready waits.now (range 0 node_slots) []) }
 {
     let mut tail: usize = 0;
-    let mut n: usize = 0;
-    while n < NODE_SLOTS {
+    for n in 0..NODE_SLOTS {
         tail = push_if_ready(waits, queue, tail, n);
-        n += 1;
     }
     tail
 }
@@ -104,7 +97,7 @@ fn wire_done(
 {
     let c = wide(target);
     raise(best, origin, c, block, sum);
-    let left = one_less(at(waits, c));
+    let left = at(waits, c).saturating_sub(1);
     store(waits, c, left);
     if left == 0 {
         return push(queue, tail, target);
@@ -128,10 +121,8 @@ fn run_done<'a>(
     ensures { (result ≤ node_slots) × (tables_of waits.new best.new origin.new queue.new result
         ≡ run_done block sum (drop from (feeds_listed ends.now)) (tables_of waits.old best.old origin.old queue.old tail)) }
 {
-    let count = ends.len() / 8;
     let mut next = tail;
-    let mut i = from;
-    while i < count {
+    for i in from..ends.len() / 8 {
         if source_at(ends, i) != block {
             return next;
         }
@@ -145,7 +136,6 @@ fn run_done<'a>(
             sum,
             target_at(ends, i),
         );
-        i += 1;
     }
     next
 }
@@ -194,6 +184,7 @@ fn settle_all<'a>(
 {
     let mut tail = start;
     let mut head: usize = 0;
+    // Stays a while: the blocks that are settled grow in number while they are done.
     while head < tail {
         let block = at(queue, head);
         tail = block_done(

@@ -1,18 +1,11 @@
 // Leaves on lent tables, and on listings of wires with eight numbers each.
-ghost use Rattle.std.specs.Prelude.{◌≡◌, ◌+◌, ◌*◌, ◌/◌, ◌-◌, ◌<◌, length, get_or};
+ghost use Rattle.std.specs.Prelude.{◌≡◌, ◌+◌, ◌*◌, ◌/◌, ◌<◌, length, get_or};
 
 // A table's entry; 0 outside.
 pub(crate) fn at(table: &[u32], i: usize) -> u32
     ensures { result ≡ get_or table.now i 0 }
 {
-    if i < table.len() { table[i] } else { 0 }
-}
-
-// One less, 0 at the least.
-pub(crate) fn one_less(x: u32) -> u32
-    ensures { result ≡ x - 1 }
-{
-    if x == 0 { 0 } else { x - 1 }
+    table.get(i).copied().unwrap_or(0)
 }
 
 // The block that a wire comes from.
@@ -35,5 +28,5 @@ pub(crate) fn target_at(ends: &[u32], i: usize) -> u32
 pub(crate) fn time_at(times: &[u16], i: usize) -> u32
     ensures { (result ≡ get_or times.now i 0) × (result < 65536) }
 {
-    if i < times.len() { times[i] as u32 } else { 0 }
+    times.get(i).copied().map_or(0, u32::from)
 }

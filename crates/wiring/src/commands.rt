@@ -8,16 +8,12 @@ use console_parts::cuts::{cut, show_link};
 use console_parts::fetch::load_from;
 use console_parts::listing::list;
 use console_parts::merging::merge_as;
-use console_parts::orders::{
-    ADD, BLOCKFANOUT, BLOCKS, COUNTS, FANOUT, HELP, LINK, LINKCLEAN, LINKSUB, LOAD, MERGE, NEW,
-    PLACES, QUIT, REMOVE, RESIZE, SAVE, SHEET, SLOTS, SUBLINK, TIDY, UNLINK, UNLINKSUB, WIRES,
-};
+use console_parts::orders::{Command, Order};
 use console_parts::replies::{show_answer, show_count};
 use console_parts::resize::resize_block;
 use console_parts::store::save_as;
 use console_parts::tidy::tidy;
 use console_parts::whole::list_whole;
-use lines::orders::{NOTHING, Order};
 use lines::show::write_bytes;
 use multiportgraph::multiportgraph::MultiPortGraph;
 use port_tables::index::{NodeIndex, PortIndex};
@@ -26,13 +22,13 @@ use records::ask::{ask, empty, link_clean};
 use std::fs::Files;
 
 // A request, and so many values of its answer.
-fn request(rt: &impl Print, graph: MultiPortGraph, order: Order, values: u32) -> MultiPortGraph
+fn request(rt: &impl Print, graph: MultiPortGraph, order: Order, values: usize) -> MultiPortGraph
     requires { MultiWf graph }
     ensures { MultiWf result }
 {
     let told = ask(
         graph,
-        order.command,
+        order.command as u32,
         order.number(0),
         order.number(1),
         order.number(2),
@@ -74,20 +70,19 @@ pub(crate) fn run(
     requires { MultiWf graph }
     ensures { MultiWf result }
 {
-    let command = order.command;
-    match command {
-        NOTHING | QUIT => graph,
-        RESIZE => resize_block(rt, graph, order),
-        SHEET => link_pairs(rt, graph, order, text),
-        LOAD => load_from(rt, graph, order, text),
-        NEW => begin(rt, order),
-        REMOVE => request(rt, graph, order, 0),
-        ADD => request(rt, graph, order, 2),
-        UNLINK | UNLINKSUB => cut(rt, graph, order),
-        COUNTS => request(rt, graph, order, 3),
-        LINK | LINKSUB => request(rt, graph, order, 4),
-        LINKCLEAN => link_cleanly(rt, graph, order),
-        TIDY => tidy(rt, graph, order),
+    match order.command {
+        Command::Quit => graph,
+        Command::Resize => resize_block(rt, graph, order),
+        Command::Sheet => link_pairs(rt, graph, order, text),
+        Command::Load => load_from(rt, graph, order, text),
+        Command::New => begin(rt, order),
+        Command::Remove => request(rt, graph, order, 0),
+        Command::Add => request(rt, graph, order, 2),
+        Command::Unlink | Command::UnlinkSub => cut(rt, graph, order),
+        Command::Counts => request(rt, graph, order, 3),
+        Command::Link | Command::LinkSub => request(rt, graph, order, 4),
+        Command::LinkClean => link_cleanly(rt, graph, order),
+        Command::Tidy => tidy(rt, graph, order),
         _ => {
             look(rt, graph, order, text);
             graph
@@ -99,16 +94,17 @@ pub(crate) fn run(
 fn look(rt: &(impl Files + Print), graph: MultiPortGraph, order: Order, text: &[u8])
     requires { MultiWf graph }
 {
-    let command = order.command;
-    match command {
-        SUBLINK => show_link(rt, graph, order),
-        FANOUT => show_count(rt, graph.port_fan_out(PortIndex(order.number(0)))),
-        BLOCKFANOUT => show_count(rt, graph.node_fan_out(NodeIndex(order.number(0)))),
-        SAVE => save_as(rt, graph, order, text),
-        MERGE => merge_as(rt, order, text),
-        HELP => show_help(rt),
-        SLOTS => show_slots(rt, graph),
-        BLOCKS | WIRES | PLACES => list_whole(rt, graph, command),
+    match order.command {
+        Command::SubLink => show_link(rt, graph, order),
+        Command::FanOut => show_count(rt, graph.port_fan_out(PortIndex(order.number(0)))),
+        Command::BlockFanOut => show_count(rt, graph.node_fan_out(NodeIndex(order.number(0)))),
+        Command::Save => save_as(rt, graph, order, text),
+        Command::Merge => merge_as(rt, order, text),
+        Command::Help => show_help(rt),
+        Command::Slots => show_slots(rt, graph),
+        Command::Blocks | Command::Wires | Command::Places => {
+            list_whole(rt, graph, order.command);
+        }
         _ => list(rt, graph, order),
     }
 }

@@ -13,6 +13,7 @@ use crate::console::read_and_run;
 use crate::help::show_usage;
 use lines::arguments::{Asked, read_arguments};
 
+// Stays in both consoles: what is run is each one's own.
 fn main(rt: HostRuntime) {
     match read_arguments(&rt) {
         Asked::Run => read_and_run(&rt, false),

@@ -2,72 +2,46 @@
 ghost use Rattle.multiportgraph.specs.WellFormed.{MultiWf};
 
 use crate::commands::run;
-use console_parts::orders::{LONGEST, PATH, RUNORDER, TIME};
-use console_parts::replies::{show_number, show_refusal, show_refusal_number};
-use lines::orders::Order;
+use console_parts::orders::{Command, Order};
+use console_parts::replies::{Reason, show_number, show_refusal, show_refusal_number};
 use lines::show::{Line, write_bytes};
 use lines::text::{next_word, number_or_zero};
 use multiportgraph::multiportgraph::MultiPortGraph;
 use port_tables::index::{NODE_SLOTS, NodeIndex};
 use port_tables::numbers::wide;
 use std::fs::Files;
-use timing::answers::LongestAnswer;
+use timing::answers::LongestError;
 use timing::longest::{longest, path};
 use timing::order::run_order;
 
 // One number more than there are blocks, so that an order that is too long can be lent.
 const NAMED: usize = NODE_SLOTS + 1;
 
-fn time_at(times: &[u16; NODE_SLOTS], slot: usize) -> u16 {
-    if slot < NODE_SLOTS { times[slot] } else { 0 }
-}
-
 // The time of a slot, both as the order says.
 fn set_time(rt: &impl Print, times: &mut [u16; NODE_SLOTS], order: Order) {
     let slot = wide(order.number(0));
     if slot < NODE_SLOTS {
-        let time = order.number(1);
-        if time <= 65535 {
-            times[slot] = time as u16;
+        if let Ok(time) = u16::try_from(order.number(1)) {
+            times[slot] = time;
         }
     }
     write_bytes(rt, b"ok\n");
 }
 
-fn show_sum(rt: &impl Print, answer: LongestAnswer) {
+fn show_sum(rt: &impl Print, answer: Result<u32, LongestError>) {
     match answer {
-        LongestAnswer::Longest(sum) => show_number(rt, sum as u64),
-        LongestAnswer::Refused(refusal) => show_refusal(rt, refusal),
-        LongestAnswer::BadTimes => show_refusal_number(rt, 19),
-        LongestAnswer::Cycle => show_refusal_number(rt, 20),
-    }
-}
-
-// A block of a list, with its time.
-fn show_block<'a>(
-    rt: &impl Print,
-    blocks: &'a [u32; NODE_SLOTS],
-    times: &'a [u16; NODE_SLOTS],
-    i: usize,
-) {
-    if i < NODE_SLOTS {
-        let block = blocks[i];
-        let time = time_at(times, wide(block));
-        Line::of(b" ").number(block).number(time as u32).write(rt);
+        Ok(sum) => show_number(rt, sum as u64),
+        Err(LongestError::Refused(refusal)) => show_refusal(rt, refusal),
+        Err(LongestError::BadTimes) => show_refusal_number(rt, Reason::BadTimes),
+        Err(LongestError::Cycle) => show_refusal_number(rt, Reason::Cycle),
     }
 }
 
 // The first blocks of a list, each with its time.
-fn show_blocks<'a>(
-    rt: &impl Print,
-    blocks: &'a [u32; NODE_SLOTS],
-    times: &'a [u16; NODE_SLOTS],
-    count: usize,
-) {
-    let mut k: usize = 0;
-    while k < count {
-        show_block(rt, blocks, times, k);
-        k += 1;
+fn show_blocks(rt: &impl Print, blocks: &[u32], times: &[u16], count: usize) {
+    for block in blocks.iter().take(count) {
+        let time = times.get(wide(*block)).copied().unwrap_or(0);
+        Line::of(b" ").number(*block).number(time).write(rt);
     }
 }
 
@@ -75,34 +49,21 @@ fn show_path(rt: &impl Print, graph: MultiPortGraph, order: Order, times: &[u16;
     requires { MultiWf graph }
 {
     let mut blocks = [0u32; NODE_SLOTS];
-    let found = path(graph, NodeIndex(order.number(0)), times, &mut blocks);
-    show_blocks(rt, &blocks, times, found.blocks);
-    let answer = found.answer;
-    show_sum(rt, answer);
-}
-
-fn put_number(numbers: &mut [u32; NAMED], i: usize, value: u32) {
-    if i < NAMED {
-        numbers[i] = value;
+    match path(graph, NodeIndex(order.number(0)), times, &mut blocks) {
+        Ok(found) => {
+            show_blocks(rt, &blocks, times, found.blocks);
+            show_sum(rt, Ok(found.sum));
+        }
+        Err(error) => show_sum(rt, Err(error)),
     }
 }
 
 // The numbers of a line from a place on, as many as fit.
 fn put_numbers(numbers: &mut [u32; NAMED], text: &[u8], from: usize) {
     let mut word = next_word(text, from);
-    let mut k: usize = 0;
-    while k < NAMED {
-        put_number(numbers, k, number_or_zero(text, word));
+    for number in numbers {
+        *number = number_or_zero(text, word);
         word = next_word(text, word.to);
-        k += 1;
-    }
-}
-
-fn show_yes(rt: &impl Print, yes: bool) {
-    if yes {
-        show_number(rt, 1);
-    } else {
-        show_number(rt, 0);
     }
 }
 
@@ -110,16 +71,7 @@ fn show_yes(rt: &impl Print, yes: bool) {
 fn is_run_order(graph: MultiPortGraph, numbers: &[u32], count: usize) -> bool
     requires { MultiWf graph }
 {
-    if count < numbers.len() {
-        return run_order(graph, &numbers[..count]);
-    }
-    run_order(graph, numbers)
-}
-
-fn are_run_order(graph: MultiPortGraph, numbers: &[u32; NAMED], count: usize) -> bool
-    requires { MultiWf graph }
-{
-    is_run_order(graph, numbers, count)
+    run_order(graph, &numbers[..count.min(numbers.len())])
 }
 
 fn show_run_order(rt: &impl Print, graph: MultiPortGraph, order: Order, text: &[u8])
@@ -127,7 +79,8 @@ fn show_run_order(rt: &impl Print, graph: MultiPortGraph, order: Order, text: &[
 {
     let mut numbers = [0u32; NAMED];
     put_numbers(&mut numbers, text, order.from);
-    show_yes(rt, are_run_order(graph, &numbers, order.entries));
+    let yes = is_run_order(graph, &numbers, order.entries);
+    show_number(rt, yes as u64);
 }
 
 // One command: on times, or on the graph.
@@ -141,21 +94,20 @@ pub(crate) fn run_timed(
     requires { MultiWf graph }
     ensures { MultiWf result }
 {
-    let command = order.command;
-    match command {
-        TIME => {
+    match order.command {
+        Command::Time => {
             set_time(rt, times, order);
             graph
         }
-        LONGEST => {
+        Command::Longest => {
             show_sum(rt, longest(graph, NodeIndex(order.number(0)), times));
             graph
         }
-        PATH => {
+        Command::Path => {
             show_path(rt, graph, order, times);
             graph
         }
-        RUNORDER => {
+        Command::RunOrder => {
             show_run_order(rt, graph, order, text);
             graph
         }

@@ -3,7 +3,7 @@ use Rattle.exports.specs.TimedSteps.{path_short, path_fits}
 use Rattle.exports.proofs.timed.path_told.Goals as goal
 
 pub returns-then-room-blocks : goal.returns-then-room-blocks
-returns-then-room-blocks c = path_short c.args.listed c.args.room _ c.in-Longest.is c.if-room-blocks.true
+returns-then-room-blocks c = path_short c.in-Ok.path c.args.room c.in-Ok.is c.if-room-blocks.true
 
 pub returns-else-room-blocks : goal.returns-else-room-blocks
-returns-else-room-blocks c = path_fits c.args.listed c.args.room _ c.in-Longest.is c.if-room-blocks.false
+returns-else-room-blocks c = path_fits c.in-Ok.path c.args.room c.in-Ok.is c.if-room-blocks.false

@@ -8,16 +8,11 @@ use lib.Seq.{sets}
 use Rattle.port_tables.specs.Limits.{node_slots}
 use Rattle.multiportgraph.specs.Calls.{visible_nodes}
 use Rattle.multiportgraph.specs.Listed.{blocks_listed}
-use Rattle.multiportgraph.specs.MultiLent.{multi_in}
-use Rattle.multiportgraph.specs.declared.multiportgraph.MultiPortGraph.{MultiPortGraph}
 use Rattle.records.specs.Words.{bytes_of}
+use Rattle.exports.specs.Left.{graph_in}
 use Rattle.exports.specs.ViewedSteps.{blocks_taken, blocks_long, blocks_fit}
 use Rattle.exports.proofs.viewed.put_blocks.Goals as goal
-use Rattle.exports.proofs.viewed.put_blocks.Goals.{After-list-2-1, Start}
-
--- the graph that the tables are
-abbrev graph : (c : Start) → MultiPortGraph
-graph c = multi_in c.args.nodes.now c.args.links.now c.args.owners.now c.args.heads.now c.args.marks.now c.args.flags.now c.args.totals
+use Rattle.exports.proofs.viewed.put_blocks.Goals.{After-list-2-1}
 
 -- the listing as written, and how many numbers of it are lent
 abbrev list : (c : After-list-2-1) → List ℕ
@@ -34,7 +29,7 @@ lent-long : (c : After-list-2-1) → length (take (4 * count c) (list c)) ≡ 4 
 unfolding visible_nodes
 lent-long c = blocks_long c.requires.0.fine _ c.node_count_lent-count.ensures c.blocks_lent.ensures.1
 
-is-blocks : (c : After-list-2-1) → take (4 * count c) (list c) ≡ blocks_listed (graph c.before.before.before.before.before.before)
+is-blocks : (c : After-list-2-1) → take (4 * count c) (list c) ≡ blocks_listed (graph_in c.args.left.now)
 unfolding visible_nodes
 is-blocks c = blocks_taken c.requires.0.fine _ c.node_count_lent-count.ensures c.blocks_lent.ensures.1
 

@@ -8,16 +8,11 @@ use lib.Seq.{sets}
 use Rattle.port_tables.specs.Limits.{port_slots}
 use Rattle.multiportgraph.specs.Calls.{visible_links}
 use Rattle.multiportgraph.specs.Listed.{wires_listed}
-use Rattle.multiportgraph.specs.MultiLent.{multi_in}
-use Rattle.multiportgraph.specs.declared.multiportgraph.MultiPortGraph.{MultiPortGraph}
 use Rattle.records.specs.Words.{bytes_of}
+use Rattle.exports.specs.Left.{graph_in}
 use Rattle.exports.specs.ViewedSteps.{wires_taken, wires_long, wires_fit}
 use Rattle.exports.proofs.viewed.put_wires.Goals as goal
-use Rattle.exports.proofs.viewed.put_wires.Goals.{After-list-2-1, Start}
-
--- the graph that the tables are
-abbrev graph : (c : Start) → MultiPortGraph
-graph c = multi_in c.args.nodes.now c.args.links.now c.args.owners.now c.args.heads.now c.args.marks.now c.args.flags.now c.args.totals
+use Rattle.exports.proofs.viewed.put_wires.Goals.{After-list-2-1}
 
 -- the listing as written, and how many numbers of it are lent
 abbrev list : (c : After-list-2-1) → List ℕ
@@ -34,7 +29,7 @@ lent-long : (c : After-list-2-1) → length (take (8 * count c) (list c)) ≡ 8 
 unfolding visible_links
 lent-long c = wires_long c.requires.0.fine _ c.link_count_lent-count.ensures c.wires_lent.ensures.1
 
-is-wires : (c : After-list-2-1) → take (8 * count c) (list c) ≡ wires_listed (graph c.before.before.before.before.before.before)
+is-wires : (c : After-list-2-1) → take (8 * count c) (list c) ≡ wires_listed (graph_in c.args.left.now)
 unfolding visible_links
 is-wires c = wires_taken c.requires.0.fine _ c.link_count_lent-count.ensures c.wires_lent.ensures.1
 

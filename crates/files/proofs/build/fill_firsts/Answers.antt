@@ -1,4 +1,4 @@
--- `files::build::fill_firsts` meets its contract. Invariant: the first ports of the blocks so far. Measure: the blocks that are left.
+-- `files::build::fill_firsts` meets its contract. Invariant: the first ports of the blocks so far.
 use native.Mathlib.Omega.{arith}
 use Prim.Native.Nat.{ℕ}
 use lib.ListN.{replicate, length-replicate}

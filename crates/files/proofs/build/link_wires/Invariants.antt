@@ -1,6 +1,5 @@
--- `files::build::link_wires` meets its contract. Invariant: the links that are left amount to all. Measure: the wires that are left.
+-- `files::build::link_wires` meets its contract. Invariant: the links that are left amount to all.
 use mathlib.Core.List.{map}
-use Prim.Native.Nat.{◌≤◌, ◌-◌}
 use lib.ListN.{drop}
 use Rattle.multiportgraph.specs.MultiLent.{multi_in}
 use Rattle.files.specs.Layout.{unbytes}
@@ -9,7 +8,4 @@ use Rattle.files.specs.BuildSteps.{Building}
 use Rattle.files.proofs.build.link_wires.Given as goal
 
 abbrev pub invariant-loop-i : goal.invariant-loop-i
-invariant-loop-i l = (l.i ≤ l.wires) × Building (multi_in l.initial.nodes l.initial.links l.initial.owners l.initial.heads l.initial.marks l.initial.flags l.initial.after) (map (link_of (unbytes l.file).blocks) (unbytes l.file).wires) (multi_in l.nodes l.links l.owners l.heads l.marks l.flags l.after) (map (link_of (unbytes l.file).blocks) (drop l.i (unbytes l.file).wires))
-
-abbrev pub decreases-loop-i : goal.decreases-loop-i
-decreases-loop-i l = l.wires - l.i
+invariant-loop-i l = Building (multi_in l.initial.nodes l.initial.links l.initial.owners l.initial.heads l.initial.marks l.initial.flags l.initial.after) (map (link_of (unbytes l.file).blocks) (unbytes l.file).wires) (multi_in l.nodes l.links l.owners l.heads l.marks l.flags l.after) (map (link_of (unbytes l.file).blocks) (drop l.i (unbytes l.file).wires))

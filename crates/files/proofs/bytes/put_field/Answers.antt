@@ -1,11 +1,13 @@
--- `files::bytes::put_field` meets its contract: two stores lay a field.
+-- `files::bytes::put_field` meets its contract: the two bytes of a field take the place of two.
+use Prim.Native.Nat.{◌+◌, ◌-◌}
+use mathlib.Core.Path.{◌∙◌}
 use native.Mathlib.Omega.{arith}
-use lib.ListN.{length-set}
-use Rattle.files.specs.ByteSteps.{two_bytes}
+use Rattle.files.specs.ByteSteps.{two_bytes, laid}
+use Rattle.files.specs.Layout.{field_bytes}
 use Rattle.files.proofs.bytes.put_field.Goals as goal
 
-pub bounds-bytes-i-2 : goal.bounds-bytes-i-2
-bounds-bytes-i-2 c = simp length-set (omega arith)
-
 pub returns : goal.returns
-returns c = two_bytes c.args.bytes.now c.args.i c.args.field
+unfolding field_bytes
+returns c =
+    laid c.args.bytes.now c.copy_from_slice.new.self (field_bytes c.args.field) c.args.i (c.args.i + 2 - c.args.i) (omega arith)
+    (c.copy_from_slice.ensures.after ∙ (c.to_le_bytes.ensures ∙ two_bytes c.args.field)) (omega arith)

@@ -1,6 +1,13 @@
--- `files::bytes::put_word` meets its contract: two fields, one after the other.
-use Rattle.files.specs.ByteSteps.{word_laid}
+-- `files::bytes::put_word` meets its contract: the four bytes of a word take the place of four.
+use Prim.Native.Nat.{◌+◌, ◌-◌}
+use mathlib.Core.Path.{◌∙◌}
+use native.Mathlib.Omega.{arith}
+use Rattle.files.specs.ByteSteps.{four_bytes, laid}
+use Rattle.files.specs.Layout.{word_bytes, field_bytes}
 use Rattle.files.proofs.bytes.put_word.Goals as goal
 
 pub returns : goal.returns
-returns c = word_laid _ _ _ _ _ c.put_field.ensures c.put_field-2.ensures
+unfolding word_bytes field_bytes
+returns c =
+    laid c.args.bytes.now c.copy_from_slice.new.self (word_bytes c.args.word) c.args.i (c.args.i + 4 - c.args.i) (omega arith)
+    (c.copy_from_slice.ensures.after ∙ (c.to_le_bytes.ensures ∙ four_bytes c.args.word)) (omega arith)

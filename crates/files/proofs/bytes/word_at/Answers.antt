@@ -1,10 +1,15 @@
--- `files::bytes::word_at` meets its contract: two fields make a word.
+-- `files::bytes::word_at` meets its contract: four bytes make a word.
 use native.Mathlib.Omega.{arith}
-use Rattle.files.specs.ByteSteps.{word_read}
+use Prim.Native.Nat.{◌+◌}
+use mathlib.Core.Path.{◌≡◌}
+use Rattle.files.specs.Layout.{field_at, word_at}
 use Rattle.files.proofs.bytes.word_at.Goals as goal
 
 pub returns : goal.returns
-returns c = record {
-  value = word_read _ _ _ _ c.field_at.ensures.value c.field_at-2.ensures.value;
-  upper_bound = omega (arith, c.field_at.ensures.upper_bound, c.field_at-2.ensures.upper_bound);
-}
+unfolding field_at word_at
+returns c =
+    let e : c.args.i + 2 + 1 ≡ c.args.i + 3 = omega arith in
+    record {
+      value = rw e (omega (arith, c.from_le_bytes.ensures));
+      upper_bound = c.from_le_bytes.type_inv;
+    }

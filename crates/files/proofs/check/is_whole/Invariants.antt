@@ -1,10 +1,8 @@
--- `files::check::is_whole` meets its contract. Invariant: the sums of the units that are left amount to all. Measure: the bytes that are left.
-use lib.ListN.{length}
+-- `files::check::is_whole` meets its contract. Invariant: the sums of the units that are left amount to all.
+use mathlib.Core.Path.{◌≡◌}
+use Rattle.std.specs.Slice.Iter.{chunks_exact_rest, chunks_exact_size}
 use Rattle.files.specs.CheckSteps.{Summing}
 use Rattle.files.proofs.check.is_whole.Given as goal
 
-abbrev pub invariant-loop-rest : goal.invariant-loop-rest
-invariant-loop-rest l = Summing l.file l.rest
-
-abbrev pub decreases-loop-rest : goal.decreases-loop-rest
-decreases-loop-rest l = length l.rest
+abbrev pub invariant-loop-unit : goal.invariant-loop-unit
+invariant-loop-unit l = (chunks_exact_size l.unit-iterator ≡ 512) × Summing l.file (chunks_exact_rest l.unit-iterator)

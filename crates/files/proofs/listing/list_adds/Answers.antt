@@ -1,4 +1,4 @@
--- `files::listing::list_adds` meets its contract. Invariant: the pairs that are left amount to all. Measure: the blocks that are left.
+-- `files::listing::list_adds` meets its contract. Invariant: the pairs that are left amount to all.
 use native.Mathlib.Omega.{arith}
 use mathlib.Core.Path.{refl}
 use Prim.Native.Nat.{◌<◌}
@@ -13,7 +13,7 @@ long : (c : After-shared_slice_known-1) → length c.args.file.now < 18446744073
 long c = omega arith
 
 pub loop-i-init : goal.loop-i-init
-loop-i-init c = (omega arith, pairs_begin c.args.numbers.now 0)
+loop-i-init c = pairs_begin c.args.numbers.now 0
 
 pub place-at-requires : goal.place-at-requires
 place-at-requires c = let h = c.requires.0.there c.loop-i.i c.loop-i-test.true in let l = long (goal.at.place-at-requires c).After-shared_slice_known-1 in omega arith
@@ -36,14 +36,11 @@ overflow_cast-outgoing c = omega (arith, c.field_at-outgoing.ensures.upper_bound
 pub overflow_mul-i : goal.overflow_mul-i
 overflow_mul-i c = let h = blocks_short _ c.requires.0 in let l = long (goal.at.overflow_mul-i c).After-shared_slice_known-1 in omega arith
 
-pub overflow_add-i : goal.overflow_add-i
-overflow_add-i c = let h = blocks_short _ c.requires.0 in let l = long (goal.at.overflow_add-i c).After-shared_slice_known-1 in omega arith
-
 pub loop-i-preserved : goal.loop-i-preserved
-loop-i-preserved c = (omega arith, add_turn c.requires.0 c.loop-i.invariant.1 c.loop-i-test.true c.place-at.ensures c.field_at-incoming.ensures.value c.field_at-outgoing.ensures.value refl c.put_pair.ensures)
+loop-i-preserved c = add_turn c.requires.0 c.loop-i.invariant c.loop-i-test.true c.place-at.ensures c.field_at-incoming.ensures.value c.field_at-outgoing.ensures.value refl c.put_pair.ensures
 
 pub shape_of-numbers : goal.shape_of-numbers
-shape_of-numbers c = c.loop-i.invariant.1.long
+shape_of-numbers c = c.loop-i.invariant.long
 
 pub returns : goal.returns
-returns c = pairs_end c.loop-i.invariant.1 (omega arith)
+returns c = pairs_end c.loop-i.invariant (omega arith)

@@ -23,10 +23,10 @@ pub returns-then-numbers-blocks : goal.returns-then-numbers-blocks
 returns-then-numbers-blocks c = listed_short c.requires.0 c.if-numbers-blocks.true
 
 pub fill_firsts-requires : goal.fill_firsts-requires
-fill_firsts-requires c = (c.requires.0.blocks_are refl, c.requires.1)
+fill_firsts-requires c = (c.requires.0.blocks_are, c.requires.1)
 
 pub list_adds-requires : goal.list_adds-requires
-list_adds-requires c = (c.requires.0.blocks_are refl, (omega arith))
+list_adds-requires c = (c.requires.0.blocks_are, (omega arith))
 
 pub list_links-requires : goal.list_links-requires
 unfolding units_for

@@ -1,4 +1,4 @@
--- `files::listing::list_links` meets its contract. Invariant: the pairs that are left amount to all. Measure: the wires that are left.
+-- `files::listing::list_links` meets its contract. Invariant: the pairs that are left amount to all.
 use native.Mathlib.Omega.{arith}
 use mathlib.Core.Path.{refl}
 use Prim.Native.Nat.{◌<◌}
@@ -17,7 +17,7 @@ long : (c : After-shared_slice_known-1) → length c.args.file.now < 18446744073
 long c = omega arith
 
 pub loop-i-init : goal.loop-i-init
-loop-i-init c = (omega arith, pairs_begin c.args.numbers.now c.args.from)
+loop-i-init c = pairs_begin c.args.numbers.now c.args.from
 
 pub place-at-requires : goal.place-at-requires
 place-at-requires c = let h = c.requires.0.wires_are.there c.loop-i.i c.loop-i-test.true in let l = long (goal.at.place-at-requires c).After-shared_slice_known-1 in omega arith
@@ -34,14 +34,11 @@ overflow_mul-i c = let n = count (goal.at.overflow_mul-i c).After-slice_known-1 
 pub overflow_add-from : goal.overflow_add-from
 overflow_add-from c = let n = count (goal.at.overflow_add-from c).After-slice_known-1 in omega arith
 
-pub overflow_add-i : goal.overflow_add-i
-overflow_add-i c = let n = count (goal.at.overflow_add-i c).After-slice_known-1 in omega arith
-
 pub loop-i-preserved : goal.loop-i-preserved
-loop-i-preserved c = (omega arith, link_turn c.requires.0.wires_are c.loop-i.invariant.1 c.loop-i-test.true c.place-at.ensures c.out_port-a.ensures c.in_port-b.ensures refl c.put_pair.ensures)
+loop-i-preserved c = link_turn c.requires.0.wires_are c.loop-i.invariant c.loop-i-test.true c.place-at.ensures c.out_port-a.ensures c.in_port-b.ensures refl c.put_pair.ensures
 
 pub shape_of-numbers : goal.shape_of-numbers
-shape_of-numbers c = c.loop-i.invariant.1.long
+shape_of-numbers c = c.loop-i.invariant.long
 
 pub returns : goal.returns
-returns c = pairs_end c.loop-i.invariant.1 (omega arith)
+returns c = pairs_end c.loop-i.invariant (omega arith)

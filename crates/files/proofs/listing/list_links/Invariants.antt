@@ -1,12 +1,8 @@
--- `files::listing::list_links` meets its contract. Invariant: the pairs that are left amount to all. Measure: the wires that are left.
-use Prim.Native.Nat.{◌≤◌, ◌-◌}
+-- `files::listing::list_links` meets its contract. Invariant: the pairs that are left amount to all.
 use Rattle.files.specs.Layout.{unbytes}
 use Rattle.files.specs.BuildList.{link_pair}
 use Rattle.files.specs.ListingSteps.{Pairs}
 use Rattle.files.proofs.listing.list_links.Given as goal
 
 abbrev pub invariant-loop-i : goal.invariant-loop-i
-invariant-loop-i l = (l.i ≤ l.wires) × Pairs (link_pair (unbytes l.file).blocks) (unbytes l.file).wires l.initial.numbers l.from l.numbers l.i
-
-abbrev pub decreases-loop-i : goal.decreases-loop-i
-decreases-loop-i l = l.wires - l.i
+invariant-loop-i l = Pairs (link_pair (unbytes l.file).blocks) (unbytes l.file).wires l.initial.numbers l.from l.numbers l.i

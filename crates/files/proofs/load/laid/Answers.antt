@@ -1,34 +1,44 @@
--- `files::load::laid` meets its contract: the units by themselves, then the wires.
+-- `files::load::laid` meets its contract: the sums, the units by themselves, then the wires.
 use native.Mathlib.Omega.{arith}
 use mathlib.Core.Path.{◌≡◌, sym, ap, ◌∙◌}
 use mathlib.Core.Bool.{true}
-use borrow.Author.Tests.{not-true, not-false}
 use Rattle.files.specs.Layout.{units_for}
-use Rattle.files.specs.Loading.{unit_list, units_right}
+use Rattle.files.specs.Loading.{is_whole}
 use Rattle.files.specs.LoadForms.{BlocksRead, WiresRead}
 use Rattle.files.specs.WireSteps.{blocks_read, wires_read}
-use Rattle.files.specs.BuildSteps.{not_laid, laid_is, blocks_short}
+use Rattle.files.specs.BuildSteps.{sums_wrong, units_wrong, view_wrong, laid_is, blocks_short, whole_length}
 use Rattle.files.proofs.load.laid.Goals as goal
-use Rattle.files.proofs.load.laid.Goals.{Else-not-shape}
+use Rattle.files.proofs.load.laid.Goals.{In-Some}
 
-right : (c : Else-not-shape) → units_right (unit_list c.args.file.now) ≡ true
-right c = sym c.shape_of-shape.ensures.units ∙ not-false _ c.if-not-shape.false
+whole : (c : In-Some) → is_whole c.args.file.now ≡ true
+whole c = sym c.is_whole.ensures ∙ c.if-not-is_whole.false
 
-blocks : (c : Else-not-shape) → BlocksRead c.args.file.now c.shape_of-shape.result.blocks
-blocks c = blocks_read c.args.file.now (right c) _ (c.shape_of-shape.ensures.blocks_many (not-false _ c.if-not-shape.false))
+blocks : (c : In-Some) → BlocksRead c.args.file.now c.in-Some.shape.blocks
+blocks c = blocks_read c.args.file.now c.in-Some.ensures.units _ c.in-Some.ensures.blocks_many
 
-wires : (c : Else-not-shape) → WiresRead c.args.file.now (units_for c.shape_of-shape.result.blocks) c.shape_of-shape.result.wires
-wires c = wires_read c.args.file.now (right c) _ _ (ap units_for (sym (blocks c).many)) (c.shape_of-shape.ensures.wires_many (not-false _ c.if-not-shape.false))
+wires : (c : In-Some) → WiresRead c.args.file.now (units_for c.in-Some.shape.blocks) c.in-Some.shape.wires
+wires c = wires_read c.args.file.now c.in-Some.ensures.units _ _ (ap units_for (sym (blocks c).many)) c.in-Some.ensures.wires_many
 
-pub returns-then-not-shape : goal.returns-then-not-shape
-returns-then-not-shape c = not_laid c.shape_of-shape.ensures (not-true _ c.if-not-shape.true)
+pub returns-then-not-is_whole : goal.returns-then-not-is_whole
+returns-then-not-is_whole c = sums_wrong c.args.file.now (sym c.if-not-is_whole.true ∙ c.is_whole.ensures)
 
-pub overflow_add-blocks : goal.overflow_add-blocks
-overflow_add-blocks c = let h = blocks_short _ (blocks (goal.at.overflow_add-blocks c).Else-not-shape) in omega arith
+pub shape_of-requires : goal.shape_of-requires
+shape_of-requires c = whole_length c.args.file.now (sym c.if-not-is_whole.false ∙ c.is_whole.ensures)
+
+pub returns-in_default : goal.returns-in_default
+returns-in_default c = units_wrong c.args.file.now (sym c.is_whole.ensures ∙ c.if-not-is_whole.false) c.in_default.ensures
+
+pub overflow_add-shape : goal.overflow_add-shape
+overflow_add-shape c = let h = blocks_short _ (blocks (goal.at.overflow_add-shape c).In-Some) in omega arith
 
 pub wires_right-requires : goal.wires_right-requires
 unfolding units_for
-wires_right-requires c = (blocks (goal.at.wires_right-requires c).Else-not-shape, wires (goal.at.wires_right-requires c).Else-not-shape)
+wires_right-requires c = (blocks (goal.at.wires_right-requires c).In-Some, wires (goal.at.wires_right-requires c).In-Some)
+
+pub returns-then-not-wires_right : goal.returns-then-not-wires_right
+returns-then-not-wires_right c = view_wrong c.args.file.now (whole (goal.at.returns-then-not-wires_right c).In-Some) c.in-Some.ensures (sym c.if-not-wires_right.true ∙ c.wires_right.ensures)
 
 pub returns : goal.returns
-returns c = laid_is c.shape_of-shape.ensures (not-false _ c.if-not-shape.false) (blocks (goal.at.returns c).Else-not-shape) (wires (goal.at.returns c).Else-not-shape) c.wires_right.ensures
+returns c =
+    laid_is c.args.file.now (whole (goal.at.returns c).In-Some) c.in-Some.ensures (blocks (goal.at.returns c).In-Some) (wires (goal.at.returns c).In-Some)
+    (sym c.if-not-wires_right.false ∙ c.wires_right.ensures)

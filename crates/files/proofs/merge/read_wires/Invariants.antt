@@ -1,13 +1,9 @@
--- `files::merge::read_wires` meets its contract. Invariant: the turns that are left amount to all. Measure: the wires that are left.
+-- `files::merge::read_wires` meets its contract. Invariant: the turns that are left amount to all.
 use mathlib.Core.Path.{◌≡◌}
-use Prim.Native.Nat.{◌-◌, ◌≤◌}
-use lib.ListN.{length}
+use Prim.Native.Nat.{◌-◌}
 use Rattle.files.specs.Forms.{turns}
 use Rattle.files.specs.MergeForms.{wire_read_turn}
 use Rattle.files.proofs.merge.read_wires.Given as goal
 
 abbrev pub invariant-loop-i : goal.invariant-loop-i
-invariant-loop-i l = (l.i ≤ l.count) × (length l.numbers ≡ length l.initial.numbers) × (turns (wire_read_turn l.file l.unit l.raise l.from) l.i (l.count - l.i) l.numbers ≡ turns (wire_read_turn l.file l.unit l.raise l.from) 0 l.count l.initial.numbers)
-
-abbrev pub decreases-loop-i : goal.decreases-loop-i
-decreases-loop-i l = l.count - l.i
+invariant-loop-i l = (turns (wire_read_turn l.file l.unit l.raise l.from) l.i (l.count - l.i) l.numbers ≡ turns (wire_read_turn l.file l.unit l.raise l.from) 0 l.count l.initial.numbers)

@@ -1,14 +1,13 @@
--- `files::ranks::fill_ranks` meets its contract. Invariant: the turns that are left amount to all. Measure: the blocks that are left.
+-- `files::ranks::fill_ranks` meets its contract. Invariant: the turns that are left amount to all.
 use native.Mathlib.Omega.{arith}
-use mathlib.Core.Path.{refl, ◌∙◌, ap}
+use mathlib.Core.Path.{◌∙◌, ap}
 use Prim.Native.Nat.{◌+◌, ◌*◌}
-use lib.ListN.{length, length-set}
 use Rattle.files.specs.Forms.{turns, rank_turn}
 use Rattle.files.specs.TurnSteps.{turns_begin, turn_made, turns_end}
 use Rattle.files.proofs.ranks.fill_ranks.Goals as goal
 
 pub loop-i-init : goal.loop-i-init
-loop-i-init c = (omega arith, refl, turns_begin (rank_turn c.args.listed.now) _ _)
+loop-i-init c = turns_begin (rank_turn c.args.listed.now) _ _
 
 pub bounds-listed-i : goal.bounds-listed-i
 bounds-listed-i c = omega (arith, c.loop-i-test.true)
@@ -22,10 +21,7 @@ overflow_cast-i c = omega (arith, c.requires, c.loop-i-test.true)
 pub loop-i-preserved : goal.loop-i-preserved
 loop-i-preserved c =
     let s = rank_turn c.args.listed.now in
-    (omega arith, ap length c.put.ensures ∙ (simp length-set c.loop-i.invariant.1), ap (turns s (c.loop-i.i + 1) _) c.put.ensures ∙ (turn_made s c.loop-i.i _ c.loop-i.ranks c.loop-i-test.true ∙ c.loop-i.invariant.2))
-
-pub shape_of-ranks : goal.shape_of-ranks
-shape_of-ranks c = c.loop-i.invariant.1
+    ap (turns s (c.loop-i.i + 1) _) c.put.ensures ∙ (turn_made s c.loop-i.i _ c.loop-i.ranks c.loop-i-test.true ∙ c.loop-i.invariant)
 
 pub returns : goal.returns
-returns c = turns_end (rank_turn c.args.listed.now) c.loop-i.i _ c.loop-i.ranks c.loop-i-test.false ∙ c.loop-i.invariant.2
+returns c = turns_end (rank_turn c.args.listed.now) c.loop-i.i _ c.loop-i.ranks c.loop-i-test.false ∙ c.loop-i.invariant

@@ -1,12 +1,8 @@
--- `files::ranks::fill_ranks` meets its contract. Invariant: the turns that are left amount to all. Measure: the blocks that are left.
+-- `files::ranks::fill_ranks` meets its contract. Invariant: the turns that are left amount to all.
 use mathlib.Core.Path.{◌≡◌}
-use Prim.Native.Nat.{◌≤◌, ◌-◌}
-use lib.ListN.{length}
+use Prim.Native.Nat.{◌-◌}
 use Rattle.files.specs.Forms.{turns, rank_turn}
 use Rattle.files.proofs.ranks.fill_ranks.Given as goal
 
 abbrev pub invariant-loop-i : goal.invariant-loop-i
-invariant-loop-i l = (l.i ≤ l.count) × (length l.ranks ≡ length l.initial.ranks) × (turns (rank_turn l.listed) l.i (l.count - l.i) l.ranks ≡ turns (rank_turn l.listed) 0 l.count l.initial.ranks)
-
-abbrev pub decreases-loop-i : goal.decreases-loop-i
-decreases-loop-i l = l.count - l.i
+invariant-loop-i l = (turns (rank_turn l.listed) l.i (l.count - l.i) l.ranks ≡ turns (rank_turn l.listed) 0 l.count l.initial.ranks)

@@ -22,8 +22,8 @@ overflow_cast-ends c = omega (arith, c.shared_slice_known-3-1.given (8 * c.args.
 pub overflow_cast-ends-2 : goal.overflow_cast-ends-2
 overflow_cast-ends-2 c = omega (arith, c.shared_slice_known-4-1.given (8 * c.args.i + 6))
 
-pub record_number-requires : goal.record_number-requires
-record_number-requires c = subst FieldsFit (sym (same (goal.at.record_number-requires c).After-shared_slice_known-6-1)) (c.requires.1 c.args.i c.requires.0)
+pub number_of-requires : goal.number_of-requires
+number_of-requires c = subst FieldsFit (sym (same (goal.at.number_of-requires c).After-shared_slice_known-6-1)) (c.requires.1 c.args.i c.requires.0)
 
 pub returns : goal.returns
-returns c = c.record_number.ensures ∙ ap number_of (same (goal.at.returns c).After-shared_slice_known-6-1)
+returns c = c.number_of.ensures ∙ ap number_of (same (goal.at.returns c).After-shared_slice_known-6-1)

@@ -1,28 +1,25 @@
--- `files::ranks::wire_numbers` meets its contract. Invariant: the turns that are left amount to all. Measure: the wires that are left.
+-- `files::ranks::wire_numbers` meets its contract. Invariant: the turns that are left amount to all.
 use native.Mathlib.Omega.{arith}
-use mathlib.Core.Path.{refl, ◌∙◌, ap}
+use mathlib.Core.Path.{◌∙◌, ap}
 use Prim.Native.Nat.{◌+◌}
-use lib.ListN.{set, length-set}
+use lib.ListN.{set}
 use Rattle.files.specs.Forms.{turns, wire_turn}
 use Rattle.files.specs.TurnSteps.{turns_begin, turn_made, turns_end}
 use Rattle.files.proofs.ranks.wire_numbers.Goals as goal
 
 pub loop-i-init : goal.loop-i-init
-loop-i-init c = (omega arith, refl, turns_begin (wire_turn c.args.ends.now c.args.ranks.now) _ _)
+loop-i-init c = turns_begin (wire_turn c.args.ends.now c.args.ranks.now) _ _
 
 pub wire_number-requires : goal.wire_number-requires
 wire_number-requires c = (c.loop-i-test.true, c.requires.1)
 
 pub bounds-numbers-i : goal.bounds-numbers-i
-bounds-numbers-i c = omega (arith, c.requires.0, c.loop-i.invariant.1, c.loop-i-test.true)
+bounds-numbers-i c = omega (arith, c.requires.0, c.loop-i.auto.numbers, c.loop-i-test.true)
 
 pub loop-i-preserved : goal.loop-i-preserved
 loop-i-preserved c =
     let s = wire_turn c.args.ends.now c.args.ranks.now in
-    (omega arith, simp length-set c.loop-i.invariant.1, ap (turns s (c.loop-i.i + 1) _) (ap (set c.loop-i.numbers c.loop-i.i) c.wire_number.ensures) ∙ (turn_made s c.loop-i.i _ c.loop-i.numbers c.loop-i-test.true ∙ c.loop-i.invariant.2))
-
-pub shape_of-numbers : goal.shape_of-numbers
-shape_of-numbers c = c.loop-i.invariant.1
+    ap (turns s (c.loop-i.i + 1) _) (ap (set c.loop-i.numbers c.loop-i.i) c.wire_number.ensures) ∙ (turn_made s c.loop-i.i _ c.loop-i.numbers c.loop-i-test.true ∙ c.loop-i.invariant)
 
 pub returns : goal.returns
-returns c = turns_end (wire_turn c.args.ends.now c.args.ranks.now) c.loop-i.i _ c.loop-i.numbers c.loop-i-test.false ∙ c.loop-i.invariant.2
+returns c = turns_end (wire_turn c.args.ends.now c.args.ranks.now) c.loop-i.i _ c.loop-i.numbers c.loop-i-test.false ∙ c.loop-i.invariant

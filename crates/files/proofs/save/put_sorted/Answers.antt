@@ -6,11 +6,12 @@ use Prim.Native.Nat.{ℕ}
 use lib.Seq.{sets}
 use Rattle.files.specs.Layout.{units_for, units_of}
 use Rattle.files.specs.Forms.{record_of}
+use Rattle.files.specs.SortSteps.{sorted_is}
 use Rattle.files.proofs.save.put_sorted.Goals as goal
 
 pub put_units-requires : goal.put_units-requires
-put_units-requires c = let e = ap units_for c.numbers-1.given in omega (arith, e, c.requires)
+put_units-requires c = let e = ap units_for c.sort_unstable.ensures.len in omega (arith, e, c.requires)
 
 pub returns : goal.returns
 returns c =
-    c.put_units.ensures.1 ∙ ap (λ (l : List ℕ). sets c.args.buffer.now c.args.at (units_of 2 (map record_of l))) c.sort_numbers.ensures
+    c.put_units.ensures.1 ∙ ap (λ (l : List ℕ). sets c.args.buffer.now c.args.at (units_of 2 (map record_of l))) (sorted_is _ _ c.sort_unstable.ensures.permutation c.sort_unstable.ensures.sorted)

@@ -1,6 +1,6 @@
 -- `files::save::save_lent` meets its contract: a buffer that is too short, and one that the file is laid in, by lists that are long enough.
 use native.Mathlib.Omega.{arith}
-use mathlib.Core.Path.{◌≡◌, ◌∙◌}
+use mathlib.Core.Path.{◌≡◌, refl, ◌∙◌}
 use Prim.Native.Nat.{◌≤◌}
 use lib.ListN.{length}
 use Rattle.multiportgraph.specs.Calls.{visible_nodes, visible_links}
@@ -61,26 +61,46 @@ file_length-size-requires c = let n = counts_few c.requires.fine (blocks_are (go
 pub returns-then-buffer-size : goal.returns-then-buffer-size
 returns-then-buffer-size c = save_short c.requires.fine c.args.buffer.now _ (size_is (goal.at.returns-then-buffer-size c).After-file_length-size) c.if-buffer-size.true
 
-pub write_few-requires : goal.write_few-requires
-write_few-requires c =
-    let a = blocks_are (goal.at.write_few-requires c).After-link_count_lent-wires in
-    let b = wires_are (goal.at.write_few-requires c).After-link_count_lent-wires in
-    (c.requires, omega (arith, a, c.larger-most.ensures, c.if-most-le-FEW.true), omega (arith, b, c.larger-most.ensures, c.if-most-le-FEW.true), enough (goal.at.write_few-requires c).Else-buffer-size)
+pub write_by-requires : goal.write_by-requires
+write_by-requires c =
+    let a = blocks_are (goal.at.write_by-requires c).After-link_count_lent-wires in
+    let b = wires_are (goal.at.write_by-requires c).After-link_count_lent-wires in (
+      c.requires,
+      omega (arith, a, c.max-most.ensures, c.if-most-le-FEW.true),
+      omega (arith, b, c.max-most.ensures, c.if-most-le-FEW.true),
+      omega (arith, a, c.max-most.ensures, c.if-most-le-FEW.true),
+      omega (arith, b, c.max-most.ensures, c.if-most-le-FEW.true),
+      enough (goal.at.write_by-requires c).Else-buffer-size,
+      omega arith,
+      omega arith,
+      omega arith,
+    )
+
+pub write_by-requires-then-most-le-SOME : goal.write_by-requires-then-most-le-SOME
+write_by-requires-then-most-le-SOME c =
+    let a = blocks_are (goal.at.write_by-requires-then-most-le-SOME c).After-link_count_lent-wires in
+    let b = wires_are (goal.at.write_by-requires-then-most-le-SOME c).After-link_count_lent-wires in (
+      c.requires,
+      omega (arith, a, c.max-most.ensures, c.if-most-le-SOME.true),
+      omega (arith, b, c.max-most.ensures, c.if-most-le-SOME.true),
+      omega (arith, a, c.max-most.ensures, c.if-most-le-SOME.true),
+      omega (arith, b, c.max-most.ensures, c.if-most-le-SOME.true),
+      enough (goal.at.write_by-requires-then-most-le-SOME c).Else-buffer-size,
+      omega arith,
+      omega arith,
+      omega arith,
+    )
+
+pub write_by-requires-2 : goal.write_by-requires-2
+write_by-requires-2 c =
+    let n = counts_few c.requires.fine refl refl in
+    (c.requires, omega (arith, n.0), omega (arith, n.1), omega (arith, n.0), omega (arith, n.1), enough (goal.at.write_by-requires-2 c).Else-buffer-size, omega arith, omega arith, omega arith)
 
 pub returns-then-most-le-FEW : goal.returns-then-most-le-FEW
-returns-then-most-le-FEW c = (save_answered c.requires.fine c.args.buffer.now _ (size_is (goal.at.returns-then-most-le-FEW c).After-file_length-size) c.if-buffer-size.false, c.write_few.ensures)
-
-pub write_some-requires : goal.write_some-requires
-write_some-requires c =
-    let a = blocks_are (goal.at.write_some-requires c).After-link_count_lent-wires in
-    let b = wires_are (goal.at.write_some-requires c).After-link_count_lent-wires in
-    (c.requires, omega (arith, a, c.larger-most.ensures, c.if-most-le-SOME.true), omega (arith, b, c.larger-most.ensures, c.if-most-le-SOME.true), enough (goal.at.write_some-requires c).Else-buffer-size)
+returns-then-most-le-FEW c = (save_answered c.requires.fine c.args.buffer.now _ (size_is (goal.at.returns-then-most-le-FEW c).After-file_length-size) c.if-buffer-size.false, c.write_by.ensures)
 
 pub returns-then-most-le-SOME : goal.returns-then-most-le-SOME
-returns-then-most-le-SOME c = (save_answered c.requires.fine c.args.buffer.now _ (size_is (goal.at.returns-then-most-le-SOME c).After-file_length-size) c.if-buffer-size.false, c.write_some.ensures)
-
-pub write_all-requires : goal.write_all-requires
-write_all-requires c = (c.requires, enough (goal.at.write_all-requires c).Else-buffer-size)
+returns-then-most-le-SOME c = (save_answered c.requires.fine c.args.buffer.now _ (size_is (goal.at.returns-then-most-le-SOME c).After-file_length-size) c.if-buffer-size.false, c.write_by-then-most-le-SOME.ensures)
 
 pub returns : goal.returns
-returns c = (save_answered c.requires.fine c.args.buffer.now _ (size_is (goal.at.returns c).After-file_length-size) c.if-buffer-size.false, c.write_all.ensures)
+returns c = (save_answered c.requires.fine c.args.buffer.now _ (size_is (goal.at.returns c).After-file_length-size) c.if-buffer-size.false, c.write_by-2.ensures)

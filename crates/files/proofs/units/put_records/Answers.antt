@@ -1,4 +1,4 @@
--- `files::units::put_records` meets its contract. Invariant: laying the slots that are left amounts to laying all. Measure: the slots that are left.
+-- `files::units::put_records` meets its contract. Invariant: laying the slots that are left amounts to laying all.
 use native.Mathlib.Omega.{arith}
 use mathlib.Core.Path.{sym, ◌∙◌, ap}
 use Prim.Native.Nat.{ℕ, ◌+◌}
@@ -10,26 +10,26 @@ use Rattle.files.specs.UnitSteps.{slot_length, slots_length}
 use Rattle.files.proofs.units.put_records.Goals as goal
 
 pub loop-i-init : goal.loop-i-init
-loop-i-init c = (omega arith, items_begun (slot_bytes c.args.records.now c.args.from) _ _ _)
+loop-i-init c = items_begun (slot_bytes c.args.records.now c.args.from) _ _ _
 
 pub put_record-requires : goal.put_record-requires
 put_record-requires c =
-    let h = item_fits (slot_bytes c.args.records.now c.args.from) c.loop-i.invariant.1 c.loop-i-test.true (let e = slots_length c.args.records.now c.args.from in omega (arith, c.requires.0)) in
+    let h = item_fits (slot_bytes c.args.records.now c.args.from) c.loop-i.invariant c.loop-i-test.true (let e = slots_length c.args.records.now c.args.from in omega (arith, c.requires.0)) in
     omega (arith, slot_length c.args.records.now c.args.from c.loop-i.i)
 
 pub overflow_add-next : goal.overflow_add-next
 overflow_add-next c =
-    let h = item_fits (slot_bytes c.args.records.now c.args.from) c.loop-i.invariant.1 c.loop-i-test.true (let e = slots_length c.args.records.now c.args.from in omega (arith, c.requires.0)) in
+    let h = item_fits (slot_bytes c.args.records.now c.args.from) c.loop-i.invariant c.loop-i-test.true (let e = slots_length c.args.records.now c.args.from in omega (arith, c.requires.0)) in
     omega (arith, slot_length c.args.records.now c.args.from c.loop-i.i)
 
 pub loop-i-preserved : goal.loop-i-preserved
 unfolding slot_bytes
 loop-i-preserved c =
     let e = c.put_record.ensures ∙ ap (λ (x : ℕ). sets c.loop-i.bytes c.loop-i.next (record_bytes (record_of x))) c.record_at.ensures in
-    (omega arith, item_written (slot_bytes c.args.records.now c.args.from) c.loop-i.invariant.1 c.loop-i-test.true (ap (λ (n : ℕ). c.loop-i.next + n) (sym (slot_length c.args.records.now c.args.from c.loop-i.i))) e)
+    item_written (slot_bytes c.args.records.now c.args.from) c.loop-i.invariant c.loop-i-test.true (ap (λ (n : ℕ). c.loop-i.next + n) (sym (slot_length c.args.records.now c.args.from c.loop-i.i))) e
 
 pub shape_of-bytes : goal.shape_of-bytes
-shape_of-bytes c = c.loop-i.invariant.1.long
+shape_of-bytes c = c.loop-i.invariant.long
 
 pub returns : goal.returns
-returns c = (items_written (slot_bytes c.args.records.now c.args.from) c.loop-i.invariant.1 c.loop-i-test.false).1
+returns c = (items_written (slot_bytes c.args.records.now c.args.from) c.loop-i.invariant c.loop-i-test.false).1

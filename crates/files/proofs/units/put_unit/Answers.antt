@@ -4,4 +4,4 @@ use Rattle.files.proofs.units.put_unit.Goals as goal
 
 pub returns : goal.returns
 returns c =
-    unit_laid c.args.records.now c.args.from c.requires.1 _ _ _ _ _ _ _ _ _ c.requires.0 c.smaller.ensures c.put_field.ensures c.put_field-2.ensures c.put_records.ensures c.sum_words-sum.ensures c.put_word.ensures
+    unit_laid c.args.records.now c.args.from c.requires.1 _ _ _ _ _ _ _ _ _ c.requires.0 c.min.ensures c.put_field.ensures c.put_field-2.ensures c.put_records.ensures c.sum_words-sum.ensures c.put_word.ensures

@@ -1,4 +1,4 @@
--- `files::units::sum_words` meets its contract. Invariant: the sum of the words so far, and how large it may be. Measure: the words that are left.
+-- `files::units::sum_words` meets its contract. Invariant: the sum of the words so far, and how large it may be.
 use native.Mathlib.Omega.{arith}
 use mathlib.Core.Path.{refl, ap}
 use Prim.Native.Nat.{ℕ, ◌+◌, ◌*◌, ◌%◌}
@@ -9,12 +9,12 @@ use Rattle.files.proofs.units.sum_words.Goals as goal
 
 pub loop-i-init : goal.loop-i-init
 unfolding total
-loop-i-init c = (omega arith, refl, omega arith)
+loop-i-init c = (refl, omega arith)
 
 pub loop-i-preserved : goal.loop-i-preserved
 loop-i-preserved c =
     let e = total_next c.loop-i.i (λ k. word_at c.args.bytes.now (c.args.at + 4 * k)) in
-    (omega arith, omega (arith, c.loop-i.invariant.1, c.word_at-sum.ensures.value), omega (arith, c.loop-i.invariant.2, c.word_at-sum.ensures.upper_bound))
+    (omega (arith, c.loop-i.invariant.0, c.word_at-sum.ensures.value), omega (arith, c.loop-i.invariant.1, c.word_at-sum.ensures.upper_bound))
 
 pub returns : goal.returns
-returns c = ap (λ (s : ℕ). s % 4294967296) (total_all _ _ _ c.loop-i.invariant.0 c.loop-i-test.false c.loop-i.invariant.1)
+returns c = ap (λ (s : ℕ). s % 4294967296) (total_all _ _ _ c.loop-i.auto.i-end c.loop-i-test.false c.loop-i.invariant.0)

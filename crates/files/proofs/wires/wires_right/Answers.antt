@@ -1,4 +1,4 @@
--- `files::wires::wires_right` meets its contract. Invariant: the wires from one on amount to all. Measure: the wires that are left.
+-- `files::wires::wires_right` meets its contract. Invariant: the wires from one on amount to all.
 use native.Mathlib.Omega.{arith}
 use Prim.Native.Nat.{◌<◌}
 use lib.ListN.{length}

@@ -1,10 +1,6 @@
--- `files::wires::wires_right` meets its contract. Invariant: the wires from one on amount to all. Measure: the wires that are left.
-use Prim.Native.Nat.{◌-◌}
+-- `files::wires::wires_right` meets its contract. Invariant: the wires from one on amount to all.
 use Rattle.files.specs.WireSteps.{Wiring}
 use Rattle.files.proofs.wires.wires_right.Given as goal
 
 abbrev pub invariant-loop-i : goal.invariant-loop-i
 invariant-loop-i l = Wiring l.file l.unit l.wires l.before l.i
-
-abbrev pub decreases-loop-i : goal.decreases-loop-i
-decreases-loop-i l = l.wires - l.i

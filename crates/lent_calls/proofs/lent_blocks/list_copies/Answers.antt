@@ -1,7 +1,6 @@
--- `lent_calls::lent_blocks::list_copies` meets its contract. Invariant: listing what is left amounts to listing all from the start. Measure: the ports that are left.
+-- `lent_calls::lent_blocks::list_copies` meets its contract. Invariant: listing what is left amounts to listing all from the start.
 use mathlib.Core.Path.{refl, ap, ◌∙◌}
-use Prim.Native.Nat.{◌+◌, ◌-◌}
-use native.Mathlib.Omega.{arith}
+use Prim.Native.Nat.{◌+◌}
 use lib.ListN.{length}
 use lib.Seq.{sets}
 use Rattle.multiportgraph.specs.LentSteps.{copies_held}
@@ -9,30 +8,22 @@ use Rattle.multiportgraph.specs.MultiLent.{multi_in, no_totals}
 use Rattle.port_tables.specs.declared.release.Release.TheVariants.{One}
 use Rattle.multiportgraph.specs.LentLaws.{copy_node_read}
 use Rattle.multiportgraph.specs.CodeFormSteps.{split_told}
-use Rattle.multiportgraph.specs.BlockSteps.{copies_begun, copies_turn_split, copies_turn_plain, copies_counted, copies_listed, sets_alike}
-use Rattle.multiportgraph.specs.HiddenNodes.{copies_in}
+use Rattle.multiportgraph.specs.BlockSteps.{copies_turn_split, copies_turn_plain, copies_counted, copies_listed}
 use Rattle.lent_calls.proofs.lent_blocks.list_copies.Goals as goal
 use Rattle.lent_calls.proofs.lent_blocks.list_copies.Goals.{else-marked, then-marked}
-
-pub loop-k-init : goal.loop-k-init
-loop-k-init c = (omega arith, omega arith, (copies_begun _ _ _ _ c.args.list.now).0, (copies_begun _ _ _ _ _).1)
 
 pub loop-k-preserved : goal.loop-k-preserved
 loop-k-preserved c =
     elim c.if-marked.branch [
       | then-marked w ↦
-          let x = copies_turn_split (multi_in c.args.nodes.now c.args.links.now c.args.owners.now c.args.heads.now c.args.marks.now c.args.flags.now (no_totals One)) c.args.first c.loop-k.k c.args.count c.loop-k-test.true c.loop-k.list _ c.loop-k.place _ _ c.args.at (split_told (multi_in c.args.nodes.now c.args.links.now c.args.owners.now c.args.heads.now c.args.marks.now c.args.flags.now (no_totals One)) _ _ _ _ c.requires.0.marks_long refl c.marked.ensures w.if-marked.true) (w.copy_node_in.ensures ∙ copy_node_read c.args.nodes.now c.args.links.now c.args.owners.now c.args.heads.now c.args.marks.now c.args.flags.now (no_totals One) _) (w.list-is ∙ w.store.ensures) w.place-is c.loop-k.invariant.1 in
-          (omega arith, x.0, x.1 ∙ c.loop-k.invariant.2, x.2 ∙ c.loop-k.invariant.3)
+          let x = copies_turn_split (multi_in c.args.nodes.now c.args.links.now c.args.owners.now c.args.heads.now c.args.marks.now c.args.flags.now (no_totals One)) c.args.first c.loop-k.k c.args.count c.loop-k-test.true c.loop-k.list _ c.loop-k.place _ _ c.args.at (split_told (multi_in c.args.nodes.now c.args.links.now c.args.owners.now c.args.heads.now c.args.marks.now c.args.flags.now (no_totals One)) _ _ _ _ c.requires.0.marks_long refl c.marked.ensures w.if-marked.true) (w.copy_node_in.ensures ∙ copy_node_read c.args.nodes.now c.args.links.now c.args.owners.now c.args.heads.now c.args.marks.now c.args.flags.now (no_totals One) _) (w.list-is ∙ w.store.ensures) w.place-is c.loop-k.invariant.0 in
+          (x.0, x.1 ∙ c.loop-k.invariant.1, x.2 ∙ c.loop-k.invariant.2)
       | else-marked w ↦
-          let x = copies_turn_plain (multi_in c.args.nodes.now c.args.links.now c.args.owners.now c.args.heads.now c.args.marks.now c.args.flags.now (no_totals One)) c.args.first c.loop-k.k c.args.count c.loop-k-test.true c.loop-k.list _ c.loop-k.place _ c.args.at (split_told (multi_in c.args.nodes.now c.args.links.now c.args.owners.now c.args.heads.now c.args.marks.now c.args.flags.now (no_totals One)) _ _ _ _ c.requires.0.marks_long refl c.marked.ensures w.if-marked.false) w.list-is w.place-is c.loop-k.invariant.1 in
-          (omega arith, x.0, x.1 ∙ c.loop-k.invariant.2, x.2 ∙ c.loop-k.invariant.3)
+          let x = copies_turn_plain (multi_in c.args.nodes.now c.args.links.now c.args.owners.now c.args.heads.now c.args.marks.now c.args.flags.now (no_totals One)) c.args.first c.loop-k.k c.args.count c.loop-k-test.true c.loop-k.list _ c.loop-k.place _ c.args.at (split_told (multi_in c.args.nodes.now c.args.links.now c.args.owners.now c.args.heads.now c.args.marks.now c.args.flags.now (no_totals One)) _ _ _ _ c.requires.0.marks_long refl c.marked.ensures w.if-marked.false) w.list-is w.place-is c.loop-k.invariant.0 in
+          (x.0, x.1 ∙ c.loop-k.invariant.1, x.2 ∙ c.loop-k.invariant.2)
     ]
-
-pub shape_of-list : goal.shape_of-list
-shape_of-list c =
-    sets_alike c.loop-k.list c.args.list.now c.loop-k.place c.args.at (copies_in (multi_in c.args.nodes.now c.args.links.now c.args.owners.now c.args.heads.now c.args.marks.now c.args.flags.now (no_totals One)) (c.args.first + c.loop-k.k) (c.args.count - c.loop-k.k)) (copies_in (multi_in c.args.nodes.now c.args.links.now c.args.owners.now c.args.heads.now c.args.marks.now c.args.flags.now (no_totals One)) c.args.first c.args.count) c.loop-k.invariant.3
 
 pub returns : goal.returns
 returns c =
     let same = copies_held c.args.nodes.now c.args.links.now c.args.owners.now c.args.heads.now c.args.marks.now c.args.flags.now (no_totals One) c.args.totals c.args.first c.args.count in
-    (copies_counted (multi_in c.args.nodes.now c.args.links.now c.args.owners.now c.args.heads.now c.args.marks.now c.args.flags.now (no_totals One)) _ _ _ c.loop-k-test.false _ ∙ (c.loop-k.invariant.2 ∙ ap (λ v. c.args.at + length v) same), copies_listed (multi_in c.args.nodes.now c.args.links.now c.args.owners.now c.args.heads.now c.args.marks.now c.args.flags.now (no_totals One)) _ _ _ c.loop-k-test.false _ _ ∙ (c.loop-k.invariant.3 ∙ ap (sets c.args.list.now c.args.at) same))
+    (copies_counted (multi_in c.args.nodes.now c.args.links.now c.args.owners.now c.args.heads.now c.args.marks.now c.args.flags.now (no_totals One)) _ _ _ c.loop-k-test.false _ ∙ (c.loop-k.invariant.1 ∙ ap (λ v. c.args.at + length v) same), copies_listed (multi_in c.args.nodes.now c.args.links.now c.args.owners.now c.args.heads.now c.args.marks.now c.args.flags.now (no_totals One)) _ _ _ c.loop-k-test.false _ _ ∙ (c.loop-k.invariant.2 ∙ ap (sets c.args.list.now c.args.at) same))

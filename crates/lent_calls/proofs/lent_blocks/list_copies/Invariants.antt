@@ -1,4 +1,4 @@
--- `lent_calls::lent_blocks::list_copies` meets its contract. Invariant: listing what is left amounts to listing all from the start. Measure: the ports that are left.
+-- `lent_calls::lent_blocks::list_copies` meets its contract. Invariant: listing what is left amounts to listing all from the start.
 use mathlib.Core.Path.{◌≡◌}
 use Prim.Native.Nat.{◌+◌, ◌-◌, ◌≤◌}
 use lib.ListN.{length}
@@ -9,9 +9,6 @@ use Rattle.multiportgraph.specs.HiddenNodes.{copies_in}
 use Rattle.lent_calls.proofs.lent_blocks.list_copies.Given as goal
 
 abbrev pub invariant-loop-k : goal.invariant-loop-k
-invariant-loop-k l = (l.k ≤ l.count) × (l.place ≤ l.at + l.k)
+invariant-loop-k l = (l.place ≤ l.at + l.k)
     × (l.place + length (copies_in (multi_in l.nodes l.links l.owners l.heads l.marks l.flags (no_totals One)) (l.first + l.k) (l.count - l.k)) ≡ l.at + length (copies_in (multi_in l.nodes l.links l.owners l.heads l.marks l.flags (no_totals One)) l.first l.count))
     × (sets l.list l.place (copies_in (multi_in l.nodes l.links l.owners l.heads l.marks l.flags (no_totals One)) (l.first + l.k) (l.count - l.k)) ≡ sets l.initial.list l.at (copies_in (multi_in l.nodes l.links l.owners l.heads l.marks l.flags (no_totals One)) l.first l.count))
-
-abbrev pub decreases-loop-k : goal.decreases-loop-k
-decreases-loop-k l = l.count - l.k

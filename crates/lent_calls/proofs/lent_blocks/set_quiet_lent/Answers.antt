@@ -1,7 +1,7 @@
 -- `lent_calls::lent_blocks::set_quiet_lent` meets its contract: each refusal, and the resize.
+use Rattle.std.specs.Prelude.{Some, None}
 use mathlib.Core.Bool.{true, false}
 use native.Mathlib.Omega.{arith}
-use Rattle.port_tables.specs.declared.node_entry.MaybeNodeMeta.TheVariants as maybe_meta
 use Rattle.multiportgraph.specs.BlockSteps.{set_many, set_gone, set_copy}
 use Rattle.multiportgraph.specs.MultiLent.{multi_in}
 use Rattle.multiportgraph.specs.LentSteps.{whole_parts, meta_told, flag_told_in}
@@ -20,15 +20,15 @@ returns-then-incoming-outgoing c =
 
 pub returns-in_default : goal.returns-in_default
 returns-in_default c =
-    and_numbers set_numbers (with_words (whole_parts (set_gone (multi_in c.args.nodes.now c.args.links.now c.args.owners.now c.args.heads.now c.args.marks.now c.args.flags.now c.args.totals) c.args.node.0 c.args.incoming c.args.outgoing enough (omega (arith, c.if-incoming-gt-NODE_PORTS.false, c.if-incoming-outgoing.false)) (meta_told c.args.nodes.now c.args.links.now c.args.owners.now c.args.heads.now c.args.marks.now c.args.flags.now c.args.totals c.requires c.args.node.0 _ maybe_meta.None c.meta_in.ensures c.in_default.is))) (λ h. h))
+    and_numbers set_numbers (with_words (whole_parts (set_gone (multi_in c.args.nodes.now c.args.links.now c.args.owners.now c.args.heads.now c.args.marks.now c.args.flags.now c.args.totals) c.args.node.0 c.args.incoming c.args.outgoing enough (omega (arith, c.if-incoming-gt-NODE_PORTS.false, c.if-incoming-outgoing.false)) (meta_told c.args.nodes.now c.args.links.now c.args.owners.now c.args.heads.now c.args.marks.now c.args.flags.now c.args.totals c.requires c.args.node.0 _ None c.meta_in.ensures c.in_default.is))) (λ h. h))
 
 pub returns-then-flagged : goal.returns-then-flagged
 returns-then-flagged c =
-    and_numbers set_numbers (with_words (whole_parts (set_copy (multi_in c.args.nodes.now c.args.links.now c.args.owners.now c.args.heads.now c.args.marks.now c.args.flags.now c.args.totals) c.args.node.0 c.args.incoming c.args.outgoing enough (omega (arith, c.if-incoming-gt-NODE_PORTS.false, c.if-incoming-outgoing.false)) _ (meta_told c.args.nodes.now c.args.links.now c.args.owners.now c.args.heads.now c.args.marks.now c.args.flags.now c.args.totals c.requires c.args.node.0 _ (maybe_meta.Some c.in-Some.meta) c.meta_in.ensures c.in-Some.is) (flag_told_in c.args.nodes.now c.args.links.now c.args.owners.now c.args.heads.now c.args.marks.now c.args.flags.now c.args.totals c.requires c.args.node.0 _ c.wide.ensures c.flagged.ensures true c.if-flagged.true))) (λ h. h))
+    and_numbers set_numbers (with_words (whole_parts (set_copy (multi_in c.args.nodes.now c.args.links.now c.args.owners.now c.args.heads.now c.args.marks.now c.args.flags.now c.args.totals) c.args.node.0 c.args.incoming c.args.outgoing enough (omega (arith, c.if-incoming-gt-NODE_PORTS.false, c.if-incoming-outgoing.false)) _ (meta_told c.args.nodes.now c.args.links.now c.args.owners.now c.args.heads.now c.args.marks.now c.args.flags.now c.args.totals c.requires c.args.node.0 _ (Some c.in-Some.meta) c.meta_in.ensures c.in-Some.is) (flag_told_in c.args.nodes.now c.args.links.now c.args.owners.now c.args.heads.now c.args.marks.now c.args.flags.now c.args.totals c.requires c.args.node.0 _ c.wide.ensures c.flagged.ensures true c.if-flagged.true))) (λ h. h))
 
 pub resize_untold_listing_lent-requires : goal.resize_untold_listing_lent-requires
 resize_untold_listing_lent-requires c =
-    record { wf = c.requires; few = omega (arith, c.if-incoming-gt-NODE_PORTS.false, c.if-incoming-outgoing.false); meta = (meta_told c.args.nodes.now c.args.links.now c.args.owners.now c.args.heads.now c.args.marks.now c.args.flags.now c.args.totals c.requires c.args.node.0 _ (maybe_meta.Some c.in-Some.meta) c.meta_in.ensures c.in-Some.is); seen = (flag_told_in c.args.nodes.now c.args.links.now c.args.owners.now c.args.heads.now c.args.marks.now c.args.flags.now c.args.totals c.requires c.args.node.0 _ c.wide.ensures c.flagged.ensures false c.if-flagged.false) }
+    record { wf = c.requires; few = omega (arith, c.if-incoming-gt-NODE_PORTS.false, c.if-incoming-outgoing.false); meta = (meta_told c.args.nodes.now c.args.links.now c.args.owners.now c.args.heads.now c.args.marks.now c.args.flags.now c.args.totals c.requires c.args.node.0 _ (Some c.in-Some.meta) c.meta_in.ensures c.in-Some.is); seen = (flag_told_in c.args.nodes.now c.args.links.now c.args.owners.now c.args.heads.now c.args.marks.now c.args.flags.now c.args.totals c.requires c.args.node.0 _ c.wide.ensures c.flagged.ensures false c.if-flagged.false) }
 
 pub returns : goal.returns
 returns c = and_numbers set_numbers c.resize_untold_listing_lent.ensures

@@ -7,4 +7,4 @@ remove_node_lent-removed-requires c = c.requires.wf
 
 pub returns : goal.returns
 returns c =
-    (copy_removed_in c.args.nodes.now c.args.links.now c.args.owners.now c.args.heads.now c.args.marks.now c.args.flags.now c.args.totals c.requires _ _ _ c.copy_side_in-side.ensures c.port_of_in-copy.ensures c.reverse.ensures.0 c.num_ports_in-count.ensures c.remove_node_lent-removed.ensures.0 c.remove_node_lent-removed.ensures.1 c.wide.ensures c.put_mark.ensures c.wide-2.ensures c.put_mark-2.ensures c.wide-3.ensures c.put_flag.ensures c.less.ensures c.less-2.ensures, c.remove_node_lent-removed.ensures.2)
+    (copy_removed_in c.args.nodes.now c.args.links.now c.args.owners.now c.args.heads.now c.args.marks.now c.args.flags.now c.args.totals c.requires _ _ _ c.copy_side_in-side.ensures c.port_of_in-copy.ensures c.reverse.ensures.0 c.num_ports_in-count.ensures c.remove_node_lent-removed.ensures.0 c.remove_node_lent-removed.ensures.1 c.wide.ensures c.put_mark.ensures c.wide-2.ensures c.put_mark-2.ensures c.wide-3.ensures c.put_flag.ensures c.saturating_sub.ensures c.saturating_sub-2.ensures, c.remove_node_lent-removed.ensures.2)

@@ -1,19 +1,11 @@
--- `lent_calls::lent_copies::unsplit_range_lent` meets its contract. Invariant: what is left to do amounts to all that was to do. Measure: the ports that are left.
+-- `lent_calls::lent_copies::unsplit_range_lent` meets its contract. Invariant: what is left to do amounts to all that was to do.
 use mathlib.Core.Path.{◌∙◌}
-use native.Mathlib.Nat.{add-zero, sub-zero}
-use native.Mathlib.Omega.{arith}
 use Rattle.multiportgraph.specs.BlockSteps.{unsplit_turn, unsplit_done}
 use Rattle.multiportgraph.specs.LentLaws.{sound_unsplit, sound_is}
 use Rattle.lent_calls.proofs.lent_copies.unsplit_range_lent.Goals as goal
 
-pub loop-k-init : goal.loop-k-init
-loop-k-init c = (omega arith, c.requires.0, simp (add-zero, sub-zero), λ h. h)
-
-pub unsplit_lent-left-requires : goal.unsplit_lent-left-requires
-unsplit_lent-left-requires c = c.loop-k.invariant.1
-
 pub loop-k-preserved : goal.loop-k-preserved
-loop-k-preserved c = (omega arith, sound_is _ _ c.unsplit_lent-left.ensures.0 (sound_unsplit _ _ c.loop-k.invariant.1), unsplit_turn _ _ _ _ _ _ c.loop-k-test.true c.wide.ensures c.unsplit_lent-left.ensures.0 ∙ c.loop-k.invariant.2, λ h. c.unsplit_lent-left.ensures.1 (c.loop-k.invariant.3 h))
+loop-k-preserved c = (sound_is _ _ c.unsplit_lent-left.ensures.0 (sound_unsplit _ _ c.loop-k.invariant.0), unsplit_turn _ _ _ _ _ _ c.loop-k-test.true c.wide.ensures c.unsplit_lent-left.ensures.0 ∙ c.loop-k.invariant.1, λ h. c.unsplit_lent-left.ensures.1 (c.loop-k.invariant.2 h))
 
 pub returns : goal.returns
-returns c = (unsplit_done _ _ _ _ c.loop-k-test.false ∙ c.loop-k.invariant.2, c.loop-k.invariant.3)
+returns c = (unsplit_done _ _ _ _ c.loop-k-test.false ∙ c.loop-k.invariant.1, c.loop-k.invariant.2)

@@ -16,10 +16,10 @@ returns-then-input_taken c =
 pub overflow_add-totals : goal.overflow_add-totals
 overflow_add-totals c = omega (arith, link_count_fits _ (lower_wf _ c.requires))
 
-pub returns-in-Ends : goal.returns-in-Ends
-returns-in-Ends c =
-    and_numbers link_numbers (with_words (parts_untaken (sub_untaken c.requires _ _ c.input_taken.ensures c.if-input_taken.false _ _ refl) (link_made_in c.args.nodes.now c.args.links.now c.args.owners.now c.args.heads.now c.args.marks.now c.args.flags.now c.args.totals c.requires _ _ _ _ c.link_named.ensures c.in-Ends.is c.read_in-first.ensures c.read_in-second.ensures c.link_both.ensures refl c.with_links.ensures)) refl)
+pub returns-in-Ok : goal.returns-in-Ok
+returns-in-Ok c =
+    and_numbers link_numbers (with_words (parts_untaken (sub_untaken c.requires _ _ c.input_taken.ensures c.if-input_taken.false _ _ refl) (link_made_in c.args.nodes.now c.args.links.now c.args.owners.now c.args.heads.now c.args.marks.now c.args.flags.now c.args.totals c.requires _ _ _ _ c.link_named.ensures c.in-Ok.is c.read_in-first.ensures c.read_in-second.ensures c.link_both.ensures refl c.with_links.ensures)) refl)
 
-pub returns-in-Refused : goal.returns-in-Refused
-returns-in-Refused c =
-    and_numbers link_numbers (with_words (parts_untaken (sub_untaken c.requires _ _ c.input_taken.ensures c.if-input_taken.false _ _ refl) (link_refused_in c.args.nodes.now c.args.links.now c.args.owners.now c.args.heads.now c.args.marks.now c.args.flags.now c.args.totals c.requires _ _ _ _ c.link_named.ensures c.in-Refused.is)) refl)
+pub returns-in-Err : goal.returns-in-Err
+returns-in-Err c =
+    and_numbers link_numbers (with_words (parts_untaken (sub_untaken c.requires _ _ c.input_taken.ensures c.if-input_taken.false _ _ refl) (link_refused_in c.args.nodes.now c.args.links.now c.args.owners.now c.args.heads.now c.args.marks.now c.args.flags.now c.args.totals c.requires _ _ _ _ c.link_named.ensures c.in-Err.is)) refl)

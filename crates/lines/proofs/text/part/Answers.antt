@@ -1,10 +1,10 @@
 -- `lines::text::part` meets its contract. Assumes nothing.
-use Rattle.lines.specs.TextSteps.{part_within, part_beyond, part_backward}
+use Rattle.lines.specs.TextSteps.{part_within, part_missing}
+use Rattle.std.proofs.Common.{◌∙◌}
 use Rattle.lines.proofs.text.part.Goals as goal
-use Rattle.lines.proofs.text.part.Goals.{then-from-to+else-to-text, else-from-to}
 
-pub returns-then-to-text : goal.returns-then-to-text
-returns-then-to-text c = part_within _ _ c.if-from-to.true c.if-to-text.true
+pub returns-in-Some : goal.returns-in-Some
+returns-in-Some c = let h = c.in-Some.ensures.lookup.0 in h.2 ∙ part_within _ _ h.0 h.1
 
-pub returns : goal.returns
-returns c = elim c.if-from-to.branch [ then-from-to+else-to-text w ↦ part_beyond _ _ w.if-from-to.true w.if-to-text.false | else-from-to w ↦ part_backward _ _ w.if-from-to.false ]
+pub returns-in-None : goal.returns-in-None
+returns-in-None c = part_missing _ _ c.in-None.ensures.lookup.0

@@ -1,11 +1,8 @@
--- `lines::text::same_word` meets its contract. Invariant: comparing what is left amounts to comparing all. The measure is what is left of the word. Assumes nothing.
+-- `lines::text::same_word` meets its contract. Invariant: comparing what is left amounts to comparing all. Assumes nothing.
 use mathlib.Core.Path.{◌≡◌}
-use Prim.Native.Nat.{◌-◌}
+use Prim.Native.Nat.{◌+◌}
 use Rattle.lines.specs.TextSteps.{left}
 use Rattle.lines.proofs.text.same_word.Given as goal
 
-abbrev pub invariant-loop-at : goal.invariant-loop-at
-invariant-loop-at l = left l.text l.other l.at l.to l.place l.end ≡ left l.text l.other l.initial.at l.to l.initial.place l.end
-
-abbrev pub decreases-loop-at : goal.decreases-loop-at
-decreases-loop-at l = l.to - l.at
+abbrev pub invariant-loop-k : goal.invariant-loop-k
+invariant-loop-k l = left l.text l.other (l.fn.word.from + l.k) l.fn.word.to (l.fn.name.from + l.k) l.fn.name.to ≡ left l.text l.other l.fn.word.from l.fn.word.to l.fn.name.from l.fn.name.to

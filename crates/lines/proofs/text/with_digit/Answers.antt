@@ -1,18 +1,17 @@
 -- `lines::text::with_digit` meets its contract. Assumes nothing.
-use Rattle.lines.specs.TextSteps.{digit_none, digit_low, digit_high, digit_more, digit_too_many}
+use Rattle.std.proofs.Common.{arith, ap, ◌∙◌}
+use Rattle.std.proofs.Math.Logic.{⊎_elim}
+use Rattle.lines.specs.Text.{value_or_none}
+use Rattle.lines.specs.TextSteps.{digit_low, digit_high, digit_too_many, digit_added}
 use Rattle.lines.proofs.text.with_digit.Goals as goal
 
-pub returns-then-value-ge-NO_VALUE : goal.returns-then-value-ge-NO_VALUE
-returns-then-value-ge-NO_VALUE c = digit_none _ _ c.if-value-ge-NO_VALUE.true
+pub returns-then-not-is_ascii_digit : goal.returns-then-not-is_ascii_digit
+returns-then-not-is_ascii_digit c = ⊎_elim (λ h. digit_low _ _ h) (λ h. digit_high _ _ h) c.if-not-is_ascii_digit.ensures.cases
 
-pub returns-then-byte-lt48 : goal.returns-then-byte-lt48
-returns-then-byte-lt48 c = digit_low _ _ c.if-byte-lt48.true
-
-pub returns-then-byte-gt57 : goal.returns-then-byte-gt57
-returns-then-byte-gt57 c = digit_high _ _ c.if-byte-gt57.true
-
-pub returns-then-next-lt-NO_VALUE : goal.returns-then-next-lt-NO_VALUE
-returns-then-next-lt-NO_VALUE c = digit_more _ _ c.if-value-ge-NO_VALUE.false c.if-byte-lt48.false c.if-byte-gt57.false c.if-next-lt-NO_VALUE.true
+pub returns-in_err-checked_mul : goal.returns-in_err-checked_mul
+returns-in_err-checked_mul c = let d = c.if-not-is_ascii_digit.ensures.cases in let m = c.in_err-checked_mul.ensures in
+    ap value_or_none c.from_residual.ensures ∙ digit_too_many _ _ (omega arith) (omega arith) (omega arith) (omega arith)
 
 pub returns : goal.returns
-returns c = digit_too_many _ _ c.if-value-ge-NO_VALUE.false c.if-byte-lt48.false c.if-byte-gt57.false c.if-next-lt-NO_VALUE.false
+returns c = let d = c.if-not-is_ascii_digit.ensures.cases in let m = c.in_ok-checked_mul.ensures.1 in
+    digit_added c.args.value c.args.byte c.checked_add.result (omega arith) (omega arith) (omega arith) (rw (← m) c.checked_add.ensures)

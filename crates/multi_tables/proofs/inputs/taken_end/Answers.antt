@@ -9,4 +9,4 @@ pub returns-in_default : goal.returns-in_default
 returns-in_default c = ap (taken_second c.args.subport.port.0) (sym (was_lacking (end_in c.args.marks.now c.args.links.now c.args.owners.now c.args.subport.port.0 c.args.direction c.args.subport.subport_offset) (sym c.end_in.ensures ∙ c.in_default.is)))
 
 pub returns : goal.returns
-returns c = ap (taken_second c.args.subport.port.0) (sym (was_at (end_in c.args.marks.now c.args.links.now c.args.owners.now c.args.subport.port.0 c.args.direction c.args.subport.subport_offset) _ (sym c.end_in.ensures ∙ c.in-At.is)))
+returns c = ap (taken_second c.args.subport.port.0) (sym (was_at (end_in c.args.marks.now c.args.links.now c.args.owners.now c.args.subport.port.0 c.args.direction c.args.subport.subport_offset) _ (sym c.end_in.ensures ∙ c.in-Some.is)))

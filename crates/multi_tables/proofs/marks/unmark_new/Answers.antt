@@ -5,5 +5,5 @@ use Rattle.multi_tables.proofs.marks.unmark_new.Goals as goal
 pub returns : goal.returns
 returns c =
     new_unmarked c.args.marks.now c.args.a c.args.b
-    c.wide-first.ensures c.wide16-new_in.ensures c.wide16-new_out.ensures c.wide16.ensures c.smaller-kept_in.ensures c.wide16-2.ensures c.smaller-kept_out.ensures
+    c.wide-first.ensures c.from-new_in.ensures c.from-new_out.ensures c.from.ensures c.min-kept_in.ensures c.from-2.ensures c.min-kept_out.ensures
     c.unmark.ensures c.unmark-2.ensures

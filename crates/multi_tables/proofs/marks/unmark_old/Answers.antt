@@ -5,5 +5,5 @@ use Rattle.multi_tables.proofs.marks.unmark_old.Goals as goal
 pub returns : goal.returns
 returns c =
     old_unmarked c.args.marks.now c.args.a c.args.b
-    c.wide-old.ensures c.wide-new.ensures c.wide16.ensures c.wide16-2.ensures c.wide16-3.ensures c.wide16-4.ensures
-    c.less-within.ensures c.less.ensures c.smaller.ensures c.less-2.ensures c.unmark.ensures c.unmark-2.ensures
+    c.wide-old.ensures c.wide-new.ensures c.from.ensures c.from-2.ensures c.from-3.ensures c.from-4.ensures
+    c.saturating_sub-within.ensures c.saturating_sub.ensures c.min.ensures c.saturating_sub-2.ensures c.unmark.ensures c.unmark-2.ensures

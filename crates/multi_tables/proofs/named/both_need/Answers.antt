@@ -1,6 +1,7 @@
 -- `multi_tables::named::both_need` meets its contract: either end not ready, the same side, and both ends.
 use mathlib.Core.Path.{refl}
 use denote.Enum.Declared
+use Rattle.port_tables.specs.SameSides.{sides_compared}
 use Rattle.multi_tables.specs.contracts.named.EndNeed as needed
 use Rattle.multi_tables.specs.NamedEndSteps.{first_unready, second_unready, one_side, both_ready_lem}
 use Rattle.std.proofs.Common.{◌≡◌, ℕ, ◌⊎◌, inl, inr}
@@ -20,8 +21,8 @@ returns-in_default c = first_unready _ _ _ _ _ c.args.b _ c.need_in.ensures (Dec
 pub returns-in_default-need_in : goal.returns-in_default-need_in
 returns-in_default-need_in c = second_unready _ _ _ _ _ _ _ c.need_in.ensures _ _ c.in-Ready.is c.need_in-2.ensures (Declared.tag_of needed.the_type) (λ x o. refl) (unready-tag _ c.in_default-need_in.not-Ready)
 
-pub returns-then-same_side : goal.returns-then-same_side
-returns-then-same_side c = one_side _ _ _ _ _ _ _ c.need_in.ensures _ _ c.in-Ready.is c.need_in-2.ensures _ _ c.in-Ready-need_in.is c.same_side.ensures c.if-same_side.true
+pub returns-then-eq : goal.returns-then-eq
+returns-then-eq c = one_side _ _ _ _ _ _ _ c.need_in.ensures _ _ c.in-Ready.is c.need_in-2.ensures _ _ c.in-Ready-need_in.is (sides_compared _ _ c.eq.ensures) c.if-eq.true
 
 pub returns : goal.returns
-returns c = both_ready_lem _ _ _ _ _ _ _ c.need_in.ensures _ _ c.in-Ready.is c.need_in-2.ensures _ _ c.in-Ready-need_in.is c.same_side.ensures c.if-same_side.false
+returns c = both_ready_lem _ _ _ _ _ _ _ c.need_in.ensures _ _ c.in-Ready.is c.need_in-2.ensures _ _ c.in-Ready-need_in.is (sides_compared _ _ c.eq.ensures) c.if-eq.false

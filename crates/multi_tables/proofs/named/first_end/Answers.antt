@@ -9,4 +9,4 @@ pub returns-in_default : goal.returns-in_default
 returns-in_default c = first_lacking c.args.marks.now c.args.links.now c.args.owners.now c.args.flags.now _ _ c.args.to.port.0 c.args.to.subport_offset _ lacking (was_lacking _ (sym c.end_in.ensures ∙ c.in_default.is))
 
 pub returns : goal.returns
-returns c = first_found c.args.marks.now c.args.links.now c.args.owners.now c.args.flags.now _ _ _ _ _ _ _ (was_at _ _ (sym c.end_in.ensures ∙ c.in-At.is)) c.second_end.ensures
+returns c = first_found c.args.marks.now c.args.links.now c.args.owners.now c.args.flags.now _ _ _ _ _ _ _ (was_at _ _ (sym c.end_in.ensures ∙ c.in-Some.is)) c.second_end.ensures

@@ -14,5 +14,5 @@ returns-in-Dead c = second_seen_lem c.args.marks.now c.args.links.now c.args.own
 pub returns-in-Hidden : goal.returns-in-Hidden
 returns-in-Hidden c = second_seen_lem c.args.marks.now c.args.links.now c.args.owners.now c.args.flags.now _ _ c.args.x c.args.d hidden (was_hidden _ (sym c.seen_in.ensures ∙ c.in-Hidden.is))
 
-pub returns-in-At : goal.returns-in-At
-returns-in-At c = second_free c.args.marks.now c.args.links.now c.args.owners.now c.args.flags.now _ _ _ _ _ _ _ _ (was_visible _ _ _ (sym c.seen_in.ensures ∙ c.in-Visible.is)) (was_at _ _ (sym c.end_in.ensures ∙ c.in-At.is)) c.free_ends.ensures
+pub returns-in-Some : goal.returns-in-Some
+returns-in-Some c = second_free c.args.marks.now c.args.links.now c.args.owners.now c.args.flags.now _ _ _ _ _ _ _ _ (was_visible _ _ _ (sym c.seen_in.ensures ∙ c.in-Visible.is)) (was_at _ _ (sym c.end_in.ensures ∙ c.in-Some.is)) c.free_ends.ensures

@@ -1,21 +1,24 @@
--- `multi_tables::named::seen_pair` meets its contract: each port as it is seen.
+-- `multi_tables::named::seen_pair` meets its contract: a first port that is refused, and the second as it is seen.
+use Rattle.std.proofs.lemmas.Result.{err_from_is_err_and}
 use mathlib.Core.Path.{refl, sym, ◌∙◌}
 use Rattle.multi_tables.specs.Forms.{dead, hidden, visible}
-use Rattle.multi_tables.specs.NamedEndSteps.{both_seen_lem}
 use Rattle.multi_tables.specs.FormSteps.{was_dead, was_hidden, was_visible}
+use Rattle.multi_tables.specs.NamedEnds.{pair_of}
+use Rattle.multi_tables.specs.NamedEndSteps.{block_found, block_refused, both_seen_lem}
+use Rattle.multi_tables.specs.TableReads.{seen_in}
 use Rattle.multi_tables.proofs.named.seen_pair.Goals as goal
 
-pub returns-in-Dead : goal.returns-in-Dead
-returns-in-Dead c = both_seen_lem c.args.owners.now c.args.flags.now _ c.args.b.0 dead _ (was_dead _ (sym c.seen_in.ensures ∙ c.in-Dead.is)) refl
+pub returns-in_err-d : goal.returns-in_err-d
+returns-in_err-d c =
+    let p = err_from_is_err_and c.from_residual.result c.from_residual.ensures.1 in
+    rw (p.1, p.2) (block_refused c.args.owners.now c.args.flags.now c.args.a.0 (λ s. pair_of c.args.a.0 c.args.b.0 s (seen_in c.args.owners.now c.args.flags.now c.args.b.0)) _ refl refl (sym c.block_port.ensures ∙ c.in_err-d.was)
+    ∙ both_seen_lem c.args.owners.now c.args.flags.now c.args.a.0 c.args.b.0 _ _ refl refl)
 
 pub returns-in-Hidden : goal.returns-in-Hidden
-returns-in-Hidden c = both_seen_lem c.args.owners.now c.args.flags.now _ c.args.b.0 hidden _ (was_hidden _ (sym c.seen_in.ensures ∙ c.in-Hidden.is)) refl
+returns-in-Hidden c = both_seen_lem c.args.owners.now c.args.flags.now _ _ (visible _ _) hidden (block_found _ _ _ _ _ (sym c.block_port.ensures ∙ c.in_ok-d.was)) (was_hidden _ (sym c.seen_in.ensures ∙ c.in-Hidden.is))
 
-pub returns-in-Hidden-seen_in : goal.returns-in-Hidden-seen_in
-returns-in-Hidden-seen_in c = both_seen_lem c.args.owners.now c.args.flags.now _ _ (visible _ _) hidden (was_visible _ _ _ (sym c.seen_in.ensures ∙ c.in-Visible.is)) (was_hidden _ (sym c.seen_in-in-Visible.ensures ∙ c.in-Hidden-seen_in.is))
+pub returns-in-Dead : goal.returns-in-Dead
+returns-in-Dead c = both_seen_lem c.args.owners.now c.args.flags.now _ _ (visible _ _) dead (block_found _ _ _ _ _ (sym c.block_port.ensures ∙ c.in_ok-d.was)) (was_dead _ (sym c.seen_in.ensures ∙ c.in-Dead.is))
 
-pub returns-in-Dead-seen_in : goal.returns-in-Dead-seen_in
-returns-in-Dead-seen_in c = both_seen_lem c.args.owners.now c.args.flags.now _ _ (visible _ _) dead (was_visible _ _ _ (sym c.seen_in.ensures ∙ c.in-Visible.is)) (was_dead _ (sym c.seen_in-in-Visible.ensures ∙ c.in-Dead-seen_in.is))
-
-pub returns-in-Visible-seen_in : goal.returns-in-Visible-seen_in
-returns-in-Visible-seen_in c = both_seen_lem c.args.owners.now c.args.flags.now _ _ (visible _ _) (visible _ _) (was_visible _ _ _ (sym c.seen_in.ensures ∙ c.in-Visible.is)) (was_visible _ _ _ (sym c.seen_in-in-Visible.ensures ∙ c.in-Visible-seen_in.is))
+pub returns-in-Visible : goal.returns-in-Visible
+returns-in-Visible c = both_seen_lem c.args.owners.now c.args.flags.now _ _ (visible _ _) (visible _ _) (block_found _ _ _ _ _ (sym c.block_port.ensures ∙ c.in_ok-d.was)) (was_visible _ _ _ (sym c.seen_in.ensures ∙ c.in-Visible.is))

@@ -10,4 +10,4 @@ pub returns-in-Incoming : goal.returns-in-Incoming
 returns-in-Incoming c = copy_incoming _ _ _ c.wide-place.ensures _ c.at-owner.ensures _ _ c.in-Incoming.is c.run_up.ensures
 
 pub returns-in-Outgoing : goal.returns-in-Outgoing
-returns-in-Outgoing c = copy_outgoing_lem _ _ _ c.wide-place.ensures _ c.at-owner.ensures _ _ _ _ c.in-Outgoing.is c.run_down.ensures c.less.ensures c.less-in-Outgoing.ensures
+returns-in-Outgoing c = copy_outgoing_lem _ _ _ c.wide-place.ensures _ c.at-owner.ensures _ _ _ _ c.in-Outgoing.is c.run_down.ensures c.saturating_sub.ensures c.saturating_sub-in-Outgoing.ensures

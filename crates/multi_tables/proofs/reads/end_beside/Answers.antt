@@ -9,17 +9,17 @@ overflow_add-result c = let b = count_below _ _ _ c.wide-place.ensures _ _ c.in-
 pub overflow_cast-result : goal.overflow_cast-result
 overflow_cast-result c = let b = count_below _ _ _ c.wide-place.ensures _ _ c.in-Incoming.is c.count_beside-count.ensures in omega arith
 
-pub returns-then-wide16-count : goal.returns-then-wide16-count
-returns-then-wide16-count c = end_in_lem _ _ _ c.wide-place.ensures _ _ _ c.wide16-then-wide16-count.ensures _ _ c.in-Incoming.is c.count_beside-count.ensures (omega arith) c.less.ensures
+pub returns-then-from-count : goal.returns-then-from-count
+returns-then-from-count c = end_in_lem _ _ _ c.wide-place.ensures _ _ _ c.from-then-from-count.ensures _ _ c.in-Incoming.is c.count_beside-count.ensures (omega arith) c.saturating_sub.ensures
 
 pub returns-then-at : goal.returns-then-at
-returns-then-at c = end_out _ _ _ c.wide-place.ensures _ _ _ c.wide16-in-Outgoing.ensures _ _ c.in-Outgoing.is c.if-slot-lt-PORT_SLOTS.true c.at.ensures c.at-then-slot-lt-PORT_SLOTS.ensures c.if-at.true
+returns-then-at c = end_out _ _ _ c.wide-place.ensures _ _ _ c.from-in-Outgoing.ensures _ _ c.in-Outgoing.is c.if-slot-lt-PORT_SLOTS.true c.at.ensures c.at-then-slot-lt-PORT_SLOTS.ensures c.if-at.true
 
-pub returns-else-wide16-count : goal.returns-else-wide16-count
-returns-else-wide16-count c = end_in_lacking _ _ _ c.wide-place.ensures _ _ _ c.wide16.ensures _ c.in-Incoming.is c.count_beside-count.ensures c.if-wide16-count.false
+pub returns-else-from-count : goal.returns-else-from-count
+returns-else-from-count c = end_in_lacking _ _ _ c.wide-place.ensures _ _ _ c.from.ensures _ c.in-Incoming.is c.count_beside-count.ensures c.if-from-count.false
 
 pub returns-else-at : goal.returns-else-at
-returns-else-at c = end_out_lacking _ _ _ c.wide-place.ensures _ _ _ c.wide16-in-Outgoing.ensures _ _ c.in-Outgoing.is c.if-slot-lt-PORT_SLOTS.true c.at.ensures c.at-then-slot-lt-PORT_SLOTS.ensures c.if-at.false
+returns-else-at c = end_out_lacking _ _ _ c.wide-place.ensures _ _ _ c.from-in-Outgoing.ensures _ _ c.in-Outgoing.is c.if-slot-lt-PORT_SLOTS.true c.at.ensures c.at-then-slot-lt-PORT_SLOTS.ensures c.if-at.false
 
 pub returns-else-slot-lt-PORT_SLOTS : goal.returns-else-slot-lt-PORT_SLOTS
-returns-else-slot-lt-PORT_SLOTS c = end_out_past _ _ _ c.wide-place.ensures _ _ _ c.wide16-in-Outgoing.ensures c.in-Outgoing.is c.if-slot-lt-PORT_SLOTS.false
+returns-else-slot-lt-PORT_SLOTS c = end_out_past _ _ _ c.wide-place.ensures _ _ _ c.from-in-Outgoing.ensures c.in-Outgoing.is c.if-slot-lt-PORT_SLOTS.false

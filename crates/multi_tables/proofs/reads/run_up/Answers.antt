@@ -1,17 +1,17 @@
--- `multi_tables::reads::run_up` meets its contract. Invariant: every slot passed has the owner, and the rest is left to run. Measure: the slots that are left.
+-- `multi_tables::reads::run_up` meets its contract. Invariant: every slot passed has the owner, and the rest is left to run.
 use mathlib.Core.Path.{sym, ◌∙◌}
 use native.Mathlib.Omega.{arith}
-use Rattle.multi_tables.specs.TableReadSteps.{run_turn, run_stop, run_end, up_start, up_yes, up_no}
+use Rattle.multi_tables.specs.TableReadSteps.{run_turn, run_stop, run_all, up_start, up_yes, up_no}
 use Rattle.multi_tables.proofs.reads.run_up.Goals as goal
 
 pub loop-k-init : goal.loop-k-init
-loop-k-init c = (omega arith, up_start _ _ _)
+loop-k-init c = up_start _ _ _
 
 pub returns-then-at-owner : goal.returns-then-at-owner
-returns-then-at-owner c = sym (c.loop-k.invariant.1 ∙ run_stop _ _ _ c.loop-k-test.true (up_no _ _ _ _ _ c.at.ensures c.if-at-owner.true))
+returns-then-at-owner c = sym (c.loop-k.invariant ∙ run_stop _ _ _ c.loop-k-test.true (up_no _ _ _ _ _ c.at.ensures c.if-at-owner.true))
 
 pub loop-k-preserved : goal.loop-k-preserved
-loop-k-preserved c = (omega arith, c.loop-k.invariant.1 ∙ run_turn _ _ _ c.loop-k-test.true (up_yes _ _ _ _ _ c.at.ensures c.if-at-owner.false))
+loop-k-preserved c = c.loop-k.invariant ∙ run_turn _ _ _ c.loop-k-test.true (up_yes _ _ _ _ _ c.at.ensures c.if-at-owner.false)
 
 pub returns : goal.returns
-returns c = sym (c.loop-k.invariant.1 ∙ run_end _ _ _ c.loop-k-test.false)
+returns c = run_all _ _ _ (omega arith) ∙ sym c.loop-k.invariant

@@ -1,5 +1,4 @@
 -- `multi_tables::scans::next_link` meets its contract. Invariant: what is found from `port` and `first` on is what is found from the start on.
--- Measure: the ports that are left.
 use mathlib.Core.Path.{◌≡◌}
 use Prim.Native.Nat.{◌-◌, min}
 use Rattle.port_tables.specs.Limits.{port_slots}
@@ -9,6 +8,3 @@ use Rattle.multi_tables.proofs.scans.next_link.Given as goal
 
 abbrev pub invariant-loop-port : goal.invariant-loop-port
 invariant-loop-port l = first_found (filter (λ w. passes_in l.owners l.flags l.only w.to.port.0) (links_rest l.marks l.links l.owners l.flags l.port l.first (l.stop - l.port))) ≡ first_found (filter (λ w. passes_in l.owners l.flags l.only w.to.port.0) (links_rest l.marks l.links l.owners l.flags l.from l.offset (min l.end port_slots - l.from)))
-
-abbrev pub decreases-loop-port : goal.decreases-loop-port
-decreases-loop-port l = l.stop - l.port

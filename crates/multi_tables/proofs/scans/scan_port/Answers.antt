@@ -1,15 +1,14 @@
 -- `multi_tables::scans::scan_port` meets its contract. Invariant: what is found from `offset` on is what is found from `from` on.
--- Measure: the offsets that are left.
 use mathlib.Core.Path.{refl, ◌∙◌}
 use Rattle.multi_tables.specs.Scans.{passes_in}
 use Rattle.multi_tables.specs.ScanSteps.{scan_turn, scan_found, scan_done}
 use Rattle.multi_tables.proofs.scans.scan_port.Goals as goal
 
-pub returns-in-Link : goal.returns-in-Link
-returns-in-Link c = (scan_found c.args.links.now c.args.owners.now c.args.flags.now (λ w. passes_in c.args.owners.now c.args.flags.now c.args.only w.to.port.0) c.args.port c.args.first c.loop-offset.offset c.args.end _ _ c.loop-offset-test.true c.link_at-found.ensures.0 c.in-Link.is ∙ c.loop-offset.invariant, c.link_at-found.ensures.1)
+pub returns-in-Some : goal.returns-in-Some
+returns-in-Some c = (scan_found c.args.links.now c.args.owners.now c.args.flags.now (λ w. passes_in c.args.owners.now c.args.flags.now c.args.only w.to.port.0) c.args.port c.args.first c.loop-offset.offset c.args.end _ _ c.loop-offset-test.true c.link_at-found.ensures.0 c.in-Some.is ∙ c.loop-offset.invariant, c.link_at-found.ensures.1)
 
 pub loop-offset-preserved : goal.loop-offset-preserved
-loop-offset-preserved c = scan_turn c.args.links.now c.args.owners.now c.args.flags.now (λ w. passes_in c.args.owners.now c.args.flags.now c.args.only w.to.port.0) c.args.port c.args.first c.loop-offset.offset c.args.end _ c.loop-offset-test.true c.link_at-found.ensures.0 c.in-None.is ∙ c.loop-offset.invariant
+loop-offset-preserved c = scan_turn c.args.links.now c.args.owners.now c.args.flags.now (λ w. passes_in c.args.owners.now c.args.flags.now c.args.only w.to.port.0) c.args.port c.args.first c.loop-offset.offset c.args.end _ c.loop-offset-test.true c.link_at-found.ensures.0 c.in_default.is ∙ c.loop-offset.invariant
 
 pub returns : goal.returns
 returns c = (scan_done c.args.links.now c.args.owners.now c.args.flags.now (λ w. passes_in c.args.owners.now c.args.flags.now c.args.only w.to.port.0) c.args.port c.args.first c.loop-offset.offset c.args.end c.loop-offset-test.false ∙ c.loop-offset.invariant, refl)

@@ -1,5 +1,4 @@
 -- `multi_tables::scans::scan_port` meets its contract. Invariant: what is found from `offset` on is what is found from `from` on.
--- Measure: the offsets that are left.
 use mathlib.Core.Path.{◌≡◌}
 use Prim.Native.Nat.{◌-◌}
 use Rattle.multi_tables.specs.Scans.{first_found, passes_in, links_in}
@@ -8,6 +7,3 @@ use Rattle.multi_tables.proofs.scans.scan_port.Given as goal
 
 abbrev pub invariant-loop-offset : goal.invariant-loop-offset
 invariant-loop-offset l = first_found (filter (λ w. passes_in l.owners l.flags l.only w.to.port.0) (links_in l.links l.owners l.flags l.port l.first l.offset (l.end - l.offset))) ≡ first_found (filter (λ w. passes_in l.owners l.flags l.only w.to.port.0) (links_in l.links l.owners l.flags l.port l.first l.from (l.end - l.from)))
-
-abbrev pub decreases-loop-offset : goal.decreases-loop-offset
-decreases-loop-offset l = l.end - l.offset

@@ -1,15 +1,11 @@
 -- `multi_tables::wire_counts::linked_down` meets its contract. Invariant: every slot passed has the owner, the linked ones among them are counted,
--- and the rest is left to run. Measure: the slots that are left.
+-- and the rest is left to run.
 use mathlib.Core.Path.{◌≡◌}
-use Prim.Native.Nat.{◌+◌, ◌-◌, ◌≤◌, min}
-use Rattle.port_tables.specs.Limits.{port_slots}
+use Prim.Native.Nat.{◌+◌, ◌-◌, ◌≤◌}
 use Rattle.multi_tables.specs.TableReads.{in_row, owns_down, run_down}
 use Rattle.multi_tables.specs.FanOutScans.{linked_down}
 use Rattle.multi_tables.proofs.wire_counts.linked_down.Given as goal
 
 abbrev pub invariant-loop-k : goal.invariant-loop-k
-invariant-loop-k l = (l.k ≤ l.most) × (l.linked ≤ l.k) × (l.most ≡ min l.from port_slots) × (l.linked ≡ linked_down l.links l.from l.k)
+invariant-loop-k l = (l.linked ≤ l.k) × (l.linked ≡ linked_down l.links l.from l.k)
     × (run_down l.owners l.owner l.from ≡ l.k + in_row (owns_down l.owners l.owner l.from) l.k (l.most - l.k))
-
-abbrev pub decreases-loop-k : goal.decreases-loop-k
-decreases-loop-k l = l.most - l.k

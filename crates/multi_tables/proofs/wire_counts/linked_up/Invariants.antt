@@ -1,5 +1,5 @@
 -- `multi_tables::wire_counts::linked_up` meets its contract. Invariant: every slot passed has the owner, the linked ones among them are counted,
--- and the rest is left to run. Measure: the slots that are left.
+-- and the rest is left to run.
 use mathlib.Core.Path.{◌≡◌}
 use Prim.Native.Nat.{◌+◌, ◌-◌, ◌≤◌}
 use Rattle.port_tables.specs.Limits.{port_slots}
@@ -8,7 +8,4 @@ use Rattle.multi_tables.specs.FanOutScans.{linked_up}
 use Rattle.multi_tables.proofs.wire_counts.linked_up.Given as goal
 
 abbrev pub invariant-loop-k : goal.invariant-loop-k
-invariant-loop-k l = (l.k ≤ port_slots) × (l.linked ≤ l.k) × (l.linked ≡ linked_up l.links l.from l.k) × (run_up l.owners l.owner l.from ≡ l.k + in_row (owns_up l.owners l.owner l.from) l.k (port_slots - l.k))
-
-abbrev pub decreases-loop-k : goal.decreases-loop-k
-decreases-loop-k l = port_slots - l.k
+invariant-loop-k l = (l.linked ≤ l.k) × (l.linked ≡ linked_up l.links l.from l.k) × (run_up l.owners l.owner l.from ≡ l.k + in_row (owns_up l.owners l.owner l.from) l.k (port_slots - l.k))

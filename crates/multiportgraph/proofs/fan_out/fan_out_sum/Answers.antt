@@ -1,14 +1,8 @@
 -- `multiportgraph::fan_out::fan_out_sum` meets its contract. Invariant: the sum so far and the fan-out of the ports left make the whole.
--- Measure: the ports that are left.
-use mathlib.Core.Path.{ap, ◌∙◌}
-use Prim.Native.Nat.{◌-◌}
+use mathlib.Core.Path.{◌∙◌}
 use native.Mathlib.Omega.{arith}
-use Rattle.multi_tables.specs.FanOutScans.{fan_out_in}
 use Rattle.multi_tables.specs.FanOutScanSteps.{fan_out_turn, fan_out_done}
 use Rattle.multiportgraph.proofs.fan_out.fan_out_sum.Goals as goal
-
-pub loop-port-init : goal.loop-port-init
-loop-port-init c = let e = ap (λ x. fan_out_in c.args.marks.now c.args.links.now c.args.owners.now c.args.from (x - c.args.from)) c.capped-stop.ensures in (omega arith, omega arith)
 
 pub loop-port-preserved : goal.loop-port-preserved
 loop-port-preserved c = (omega arith, fan_out_turn c.args.marks.now c.args.links.now c.args.owners.now c.loop-port.port c.capped-stop.result c.loop-port.sum _ c.loop-port-test.true c.wires_at-sum.ensures.0 ∙ c.loop-port.invariant.1)

@@ -1,5 +1,4 @@
 -- `multiportgraph::fan_out::fan_out_sum` meets its contract. Invariant: the sum so far and the fan-out of the ports left make the whole.
--- Measure: the ports that are left.
 use mathlib.Core.Path.{◌≡◌}
 use Prim.Native.Nat.{◌+◌, ◌-◌, ◌*◌, ◌≤◌, min}
 use Rattle.port_tables.specs.Limits.{port_slots}
@@ -8,6 +7,3 @@ use Rattle.multiportgraph.proofs.fan_out.fan_out_sum.Given as goal
 
 abbrev pub invariant-loop-port : goal.invariant-loop-port
 invariant-loop-port l = (l.sum ≤ port_slots * l.port) × (l.sum + fan_out_in l.marks l.links l.owners l.port (l.stop - l.port) ≡ fan_out_in l.marks l.links l.owners l.from (min l.end port_slots - l.from))
-
-abbrev pub decreases-loop-port : goal.decreases-loop-port
-decreases-loop-port l = l.stop - l.port

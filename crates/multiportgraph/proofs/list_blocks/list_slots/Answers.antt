@@ -1,26 +1,17 @@
--- `multiportgraph::list_blocks::list_slots` meets its contract. Invariant: writing the blocks of the node slots that are left amounts to writing all. Measure: the node slots that are left.
+-- `multiportgraph::list_blocks::list_slots` meets its contract. Invariant: writing the blocks of the node slots that are left amounts to writing all.
 use native.Mathlib.Omega.{arith}
 use Rattle.multiportgraph.specs.ListScans.{node_block, table_blocks}
-use Rattle.multiportgraph.specs.ListSteps.{items_begun, item_fits, item_written, items_written}
+use Rattle.multiportgraph.specs.ListSteps.{item_fits, item_written, items_written}
 use Rattle.multiportgraph.proofs.list_blocks.list_slots.Goals as goal
-
-pub loop-node-init : goal.loop-node-init
-loop-node-init c = (omega arith, items_begun (node_block c.args.nodes.now c.args.flags.now) _ _ _)
-
-pub overflow_cast-node : goal.overflow_cast-node
-overflow_cast-node c = omega (arith, c.requires.0, c.loop-node-test.true)
 
 pub list_block-next-requires : goal.list_block-next-requires
 unfolding table_blocks
-list_block-next-requires c = item_fits (node_block c.args.nodes.now c.args.flags.now) c.loop-node.invariant.1 c.loop-node-test.true (omega (arith, c.requires.1))
+list_block-next-requires c = item_fits (node_block c.args.nodes.now c.args.flags.now) c.loop-node.invariant c.loop-node-test.true (omega (arith, c.requires.1))
 
 pub loop-node-preserved : goal.loop-node-preserved
 loop-node-preserved c =
-    (omega arith, item_written (node_block c.args.nodes.now c.args.flags.now) c.loop-node.invariant.1 c.loop-node-test.true c.list_block-next.ensures.0 c.list_block-next.ensures.1)
-
-pub shape_of-list : goal.shape_of-list
-shape_of-list c = c.loop-node.invariant.1.long
+    item_written (node_block c.args.nodes.now c.args.flags.now) c.loop-node.invariant c.loop-node-test.true c.list_block-next.ensures.0 c.list_block-next.ensures.1
 
 pub returns : goal.returns
 unfolding table_blocks
-returns c = (items_written (node_block c.args.nodes.now c.args.flags.now) c.loop-node.invariant.1 c.loop-node-test.false).1
+returns c = (items_written (node_block c.args.nodes.now c.args.flags.now) c.loop-node.invariant c.loop-node-test.false).1

@@ -1,13 +1,10 @@
--- `multiportgraph::list_blocks::list_slots` meets its contract. Invariant: writing the blocks of the node slots that are left amounts to writing all. Measure: the node slots that are left.
-use Prim.Native.Nat.{◌-◌, ◌≤◌}
+-- `multiportgraph::list_blocks::list_slots` meets its contract. Invariant: writing the blocks of the node slots that are left amounts to writing all.
+use Prim.Native.Nat.{◌-◌}
 use Rattle.multiportgraph.specs.ListScans.{node_block, Writing}
 use mathlib.Core.List.{flat_map}
 use Rattle.port_tables.specs.Lists.{range}
 use Rattle.multiportgraph.proofs.list_blocks.list_slots.Given as goal
 
 abbrev pub invariant-loop-node : goal.invariant-loop-node
-invariant-loop-node l = (l.node ≤ l.len)
-    × Writing l.initial.list 0 (flat_map (node_block l.nodes l.flags) (range 0 l.len)) l.list l.next (flat_map (node_block l.nodes l.flags) (range l.node (l.len - l.node)))
-
-abbrev pub decreases-loop-node : goal.decreases-loop-node
-decreases-loop-node l = l.len - l.node
+invariant-loop-node l =
+    Writing l.initial.list 0 (flat_map (node_block l.nodes l.flags) (range 0 l.len)) l.list l.next (flat_map (node_block l.nodes l.flags) (range l.node (l.len - l.node)))

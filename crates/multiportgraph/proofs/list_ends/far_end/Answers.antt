@@ -6,7 +6,7 @@ pub returns-in_default : goal.returns-in_default
 returns-in_default c = far_gone _ _ _ _ _ _ c.owner_in-node.ensures _ _ c.wide.ensures c.flagged.ensures c.if-flagged.true _ c.meta_in.ensures c.in_default.is _ c.in_end.ensures
 
 pub returns-then-flagged : goal.returns-then-flagged
-returns-then-flagged c = far_hidden _ _ _ _ _ _ c.owner_in-node.ensures _ _ c.wide.ensures c.flagged.ensures c.if-flagged.true _ c.meta_in.ensures _ c.in-Some.is _ _ _ _ c.wide-then-flagged.ensures c.wide16.ensures c.far_in-main.ensures c.beyond.ensures _ c.in_end-then-flagged.ensures
+returns-then-flagged c = far_hidden _ _ _ _ _ _ c.owner_in-node.ensures _ _ c.wide.ensures c.flagged.ensures c.if-flagged.true _ c.meta_in.ensures _ c.in-Some.is _ _ _ _ c.wide-then-flagged.ensures c.from.ensures c.far_in-main.ensures c.saturating_sub.ensures _ c.in_end-then-flagged.ensures
 
 pub returns : goal.returns
 returns c = far_plain _ _ _ _ _ _ c.owner_in-node.ensures _ _ c.wide.ensures c.flagged.ensures c.if-flagged.false _ c.in_end-2.ensures

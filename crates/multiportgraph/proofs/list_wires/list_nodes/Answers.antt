@@ -1,27 +1,18 @@
--- `multiportgraph::list_wires::list_nodes` meets its contract. Invariant: writing the wires of the node slots that are left amounts to writing all. Measure: the node slots that are left.
+-- `multiportgraph::list_wires::list_nodes` meets its contract. Invariant: writing the wires of the node slots that are left amounts to writing all.
 use native.Mathlib.Omega.{arith}
 use Rattle.multiportgraph.specs.ListScans.{node_wires, table_wires}
-use Rattle.multiportgraph.specs.ListSteps.{items_begun, item_fits, item_written, items_written}
+use Rattle.multiportgraph.specs.ListSteps.{item_fits, item_written, items_written}
 use Rattle.multiportgraph.proofs.list_wires.list_nodes.Goals as goal
-
-pub loop-node-init : goal.loop-node-init
-loop-node-init c = (omega arith, items_begun (node_wires c.args.nodes.now c.args.links.now c.args.owners.now c.args.marks.now c.args.flags.now) _ _ _)
-
-pub overflow_cast-node : goal.overflow_cast-node
-overflow_cast-node c = omega (arith, c.requires.1, c.loop-node-test.true)
 
 pub list_node-next-requires : goal.list_node-next-requires
 unfolding table_wires
 list_node-next-requires c =
-    (c.requires.0, item_fits (node_wires c.args.nodes.now c.args.links.now c.args.owners.now c.args.marks.now c.args.flags.now) c.loop-node.invariant.1 c.loop-node-test.true (omega (arith, c.requires.2)))
+    (c.requires.0, item_fits (node_wires c.args.nodes.now c.args.links.now c.args.owners.now c.args.marks.now c.args.flags.now) c.loop-node.invariant c.loop-node-test.true (omega (arith, c.requires.2)))
 
 pub loop-node-preserved : goal.loop-node-preserved
 loop-node-preserved c =
-    (omega arith, item_written (node_wires c.args.nodes.now c.args.links.now c.args.owners.now c.args.marks.now c.args.flags.now) c.loop-node.invariant.1 c.loop-node-test.true c.list_node-next.ensures.0 c.list_node-next.ensures.1)
-
-pub shape_of-list : goal.shape_of-list
-shape_of-list c = c.loop-node.invariant.1.long
+    item_written (node_wires c.args.nodes.now c.args.links.now c.args.owners.now c.args.marks.now c.args.flags.now) c.loop-node.invariant c.loop-node-test.true c.list_node-next.ensures.0 c.list_node-next.ensures.1
 
 pub returns : goal.returns
 unfolding table_wires
-returns c = (items_written (node_wires c.args.nodes.now c.args.links.now c.args.owners.now c.args.marks.now c.args.flags.now) c.loop-node.invariant.1 c.loop-node-test.false).1
+returns c = (items_written (node_wires c.args.nodes.now c.args.links.now c.args.owners.now c.args.marks.now c.args.flags.now) c.loop-node.invariant c.loop-node-test.false).1

@@ -1,14 +1,11 @@
--- `multiportgraph::list_wires::list_nodes` meets its contract. Invariant: writing the wires of the node slots that are left amounts to writing all. Measure: the node slots that are left.
-use Prim.Native.Nat.{◌-◌, ◌≤◌}
+-- `multiportgraph::list_wires::list_nodes` meets its contract. Invariant: writing the wires of the node slots that are left amounts to writing all.
+use Prim.Native.Nat.{◌-◌}
 use Rattle.multiportgraph.specs.ListScans.{node_wires, Writing}
 use mathlib.Core.List.{flat_map}
 use Rattle.port_tables.specs.Lists.{range}
 use Rattle.multiportgraph.proofs.list_wires.list_nodes.Given as goal
 
 abbrev pub invariant-loop-node : goal.invariant-loop-node
-invariant-loop-node l = (l.node ≤ l.len)
-    × Writing l.initial.list 0 (flat_map (node_wires l.nodes l.links l.owners l.marks l.flags) (range 0 l.len)) l.list l.next
+invariant-loop-node l =
+    Writing l.initial.list 0 (flat_map (node_wires l.nodes l.links l.owners l.marks l.flags) (range 0 l.len)) l.list l.next
     (flat_map (node_wires l.nodes l.links l.owners l.marks l.flags) (range l.node (l.len - l.node)))
-
-abbrev pub decreases-loop-node : goal.decreases-loop-node
-decreases-loop-node l = l.len - l.node

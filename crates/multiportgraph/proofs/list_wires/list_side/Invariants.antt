@@ -1,14 +1,11 @@
--- `multiportgraph::list_wires::list_side` meets its contract. Invariant: writing the wires of the ports that are left amounts to writing all. Measure: the ports that are left.
+-- `multiportgraph::list_wires::list_side` meets its contract. Invariant: writing the wires of the ports that are left amounts to writing all.
 use mathlib.Core.List.{flat_map}
-use Prim.Native.Nat.{◌-◌, ◌≤◌}
+use Prim.Native.Nat.{◌-◌}
 use Rattle.port_tables.specs.Lists.{range}
 use Rattle.multiportgraph.specs.ListScans.{place_wires, Writing}
 use Rattle.multiportgraph.proofs.list_wires.list_side.Given as goal
 
 abbrev pub invariant-loop-position : goal.invariant-loop-position
-invariant-loop-position l = (l.position ≤ l.count)
-    × Writing l.initial.list l.place (flat_map (place_wires l.nodes l.links l.owners l.marks l.flags l.node l.first) (range 0 l.count)) l.list l.next
+invariant-loop-position l =
+    Writing l.initial.list l.place (flat_map (place_wires l.nodes l.links l.owners l.marks l.flags l.node l.first) (range 0 l.count)) l.list l.next
     (flat_map (place_wires l.nodes l.links l.owners l.marks l.flags l.node l.first) (range l.position (l.count - l.position)))
-
-abbrev pub decreases-loop-position : goal.decreases-loop-position
-decreases-loop-position l = l.count - l.position

@@ -1,40 +1,34 @@
--- `multiportgraph::list_wires::list_split` meets its contract. Invariant: writing the wires of the offsets that are left amounts to writing all. Measure: the offsets that are left.
+-- `multiportgraph::list_wires::list_split` meets its contract. Invariant: writing the wires of the offsets that are left amounts to writing all.
 use mathlib.Core.Path.{◌≡◌, ap}
 use mathlib.Core.List.{List, flat_map}
 use Prim.Native.Nat.{ℕ, ◌+◌, ◌≤◌}
 use native.Mathlib.Omega.{arith}
 use lib.ListN.{length}
 use Rattle.multiportgraph.specs.ListScans.{subport_wire, split_wires}
-use Rattle.multiportgraph.specs.ListSteps.{items_begun, item_fits, item_written, items_written, split_is, written_as}
+use Rattle.multiportgraph.specs.ListSteps.{item_fits, item_written, items_written, split_is, written_as}
 use Rattle.port_tables.specs.Lists.{range}
 use Rattle.multiportgraph.proofs.list_wires.list_split.Goals as goal
-use Rattle.multiportgraph.proofs.list_wires.list_split.Goals.{After-wide16-count}
+use Rattle.multiportgraph.proofs.list_wires.list_split.Goals.{After-from-count}
 
 -- the wire at each offset
-abbrev part : (c : After-wide16-count) → ℕ → List ℕ
-part c = subport_wire c.args.nodes.now c.args.links.now c.args.owners.now c.args.flags.now c.args.port c.args.node c.args.position (c.wide.result + c.wide16.result)
+abbrev part : (c : After-from-count) → ℕ → List ℕ
+part c = subport_wire c.args.nodes.now c.args.links.now c.args.owners.now c.args.flags.now c.args.port c.args.node c.args.position (c.wide.result + c.from.result)
 
 -- all of them are those of the split port
-whole : (c : After-wide16-count) → flat_map (part c) (range 0 c.wide16-count.result) ≡ split_wires c.args.nodes.now c.args.links.now c.args.owners.now c.args.flags.now c.args.port c.args.node c.args.position c.args.copy
-whole c = split_is _ _ _ _ _ _ _ c.args.copy _ _ _ c.wide.ensures c.wide16.ensures c.wide16-count.ensures
+whole : (c : After-from-count) → flat_map (part c) (range 0 c.from-count.result) ≡ split_wires c.args.nodes.now c.args.links.now c.args.owners.now c.args.flags.now c.args.port c.args.node c.args.position c.args.copy
+whole c = split_is _ _ _ _ _ _ _ c.args.copy _ _ _ c.wide.ensures c.from.ensures c.from-count.ensures
 
-room : (c : After-wide16-count) → c.args.place + length (flat_map (part c) (range 0 c.wide16-count.result)) ≤ length c.args.list.now
+room : (c : After-from-count) → c.args.place + length (flat_map (part c) (range 0 c.from-count.result)) ≤ length c.args.list.now
 room c = let e = ap length (whole c) in omega (arith, e, c.requires)
-
-pub loop-offset-init : goal.loop-offset-init
-loop-offset-init c = (omega arith, items_begun (part (goal.at.loop-offset-init c).After-wide16-count) _ _ _)
 
 pub list_slot-next-requires : goal.list_slot-next-requires
 unfolding subport_wire
-list_slot-next-requires c = item_fits (part (goal.at.list_slot-next-requires c).After-wide16-count) c.loop-offset.invariant.1 c.loop-offset-test.true (room (goal.at.list_slot-next-requires c).After-wide16-count)
+list_slot-next-requires c = item_fits (part (goal.at.list_slot-next-requires c).After-from-count) c.loop-offset.invariant c.loop-offset-test.true (room (goal.at.list_slot-next-requires c).After-from-count)
 
 pub loop-offset-preserved : goal.loop-offset-preserved
 unfolding subport_wire
 loop-offset-preserved c =
-    (omega arith, item_written (part (goal.at.loop-offset-preserved c).After-wide16-count) c.loop-offset.invariant.1 c.loop-offset-test.true c.list_slot-next.ensures.0 c.list_slot-next.ensures.1)
-
-pub shape_of-list : goal.shape_of-list
-shape_of-list c = c.loop-offset.invariant.1.long
+    item_written (part (goal.at.loop-offset-preserved c).After-from-count) c.loop-offset.invariant c.loop-offset-test.true c.list_slot-next.ensures.0 c.list_slot-next.ensures.1
 
 pub returns : goal.returns
-returns c = written_as _ _ _ _ (whole (goal.at.returns c).After-wide16-count) (items_written (part (goal.at.returns c).After-wide16-count) c.loop-offset.invariant.1 c.loop-offset-test.false)
+returns c = written_as _ _ _ _ (whole (goal.at.returns c).After-from-count) (items_written (part (goal.at.returns c).After-from-count) c.loop-offset.invariant c.loop-offset-test.false)

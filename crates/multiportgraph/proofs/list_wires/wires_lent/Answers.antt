@@ -1,4 +1,5 @@
 -- `multiportgraph::list_wires::wires_lent` meets its contract: a list that is too short, and one that is written.
+use Rattle.std.specs.Prelude.{Ok}
 use mathlib.Core.Path.{◌≡◌, sym, ap, ◌∙◌}
 use Prim.Native.Nat.{ℕ, ◌*◌}
 use native.Mathlib.Omega.{arith}
@@ -10,7 +11,6 @@ use Rattle.multiportgraph.specs.Listed.{wires_listed}
 use Rattle.multiportgraph.specs.ListSteps.{list_short, list_full}
 use Rattle.multiportgraph.specs.ListReads.{wires_length, wires_listed_lem, all_fit, len_fits, wires_counted, few_wires}
 use Rattle.multiportgraph.specs.declared.multiportgraph.MultiPortGraph.{MultiPortGraph}
-use Rattle.multiportgraph.specs.declared.list_ends.ListAnswer.TheVariants.{Listed}
 use Rattle.multiportgraph.proofs.list_wires.wires_lent.Goals as goal
 use Rattle.multiportgraph.proofs.list_wires.wires_lent.Goals.{After-link_count_lent-count}
 
@@ -42,4 +42,4 @@ returns c =
     let e = wires_listed_lem c.args.nodes.now c.args.links.now c.args.owners.now c.args.heads.now c.args.marks.now c.args.flags.now c.args.totals c.requires in
     let n = needed (goal.at.returns c).After-link_count_lent-count in
     let x = list_full (wires_listed (graph (goal.at.returns c).After-link_count_lent-count)) _ (length (all_wires (graph (goal.at.returns c).After-link_count_lent-count))) _ (omega (arith, n, c.if-list-needed.false)) (c.list_nodes.ensures ∙ ap (sets c.args.list.now 0) e) in
-    (ap Listed (counted (goal.at.returns c).After-link_count_lent-count) ∙ x.0, x.1)
+    (ap Ok (counted (goal.at.returns c).After-link_count_lent-count) ∙ x.0, x.1)

@@ -1,5 +1,4 @@
 -- `multiportgraph::subports::next_subport` meets its contract. Invariant: what is found from `port` and `first` on is what is found from the start on.
--- Measure: the ports that are left.
 use mathlib.Core.Path.{◌≡◌}
 use Prim.Native.Nat.{◌-◌, min}
 use Rattle.port_tables.specs.Limits.{port_slots}
@@ -8,6 +7,3 @@ use Rattle.multiportgraph.proofs.subports.next_subport.Given as goal
 
 abbrev pub invariant-loop-port : goal.invariant-loop-port
 invariant-loop-port l = first_subport (subports_rest l.marks l.links l.owners l.flags l.port l.first (l.stop - l.port)) ≡ first_subport (subports_rest l.marks l.links l.owners l.flags l.from l.offset (min l.end port_slots - l.from))
-
-abbrev pub decreases-loop-port : goal.decreases-loop-port
-decreases-loop-port l = l.stop - l.port

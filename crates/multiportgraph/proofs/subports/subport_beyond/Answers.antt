@@ -7,4 +7,4 @@ pub returns-then-place-from : goal.returns-then-place-from
 returns-then-place-from c = (c.next_subport.ensures.0 ∙ beyond_all c.args.marks.now c.args.links.now c.args.owners.now c.args.flags.now c.args.from c.args.end c.args.held c.args.offset _ c.wide-place.ensures c.if-place-from.true, c.next_subport.ensures.1)
 
 pub returns : goal.returns
-returns c = (c.next_subport-2.ensures.0 ∙ beyond_rest c.args.marks.now c.args.links.now c.args.owners.now c.args.flags.now c.args.from c.args.end c.args.held c.args.offset _ _ c.wide-place.ensures c.if-place-from.false c.wide16.ensures, c.next_subport-2.ensures.1)
+returns c = (c.next_subport-2.ensures.0 ∙ beyond_rest c.args.marks.now c.args.links.now c.args.owners.now c.args.flags.now c.args.from c.args.end c.args.held c.args.offset _ _ c.wide-place.ensures c.if-place-from.false c.from.ensures, c.next_subport-2.ensures.1)

@@ -1,5 +1,4 @@
 -- `multiportgraph::walks::first_port` meets its contract. Invariant: the ports from `port` on are those from `from` on.
--- Measure: the slots that are left.
 use Rattle.multiportgraph.specs.WalkSteps.{port_found, port_turn, port_none}
 use Rattle.multiportgraph.proofs.walks.first_port.Goals as goal
 

@@ -6,10 +6,10 @@ pub returns : goal.returns
 returns c =
     anew_links_done _ _ _ _ _ _ _ _ _ _ _ _ _ _
     c.wide-first.ensures
-    c.wide16-old_in.ensures
-    c.wide16-old_out.ensures
-    c.smaller.ensures
-    c.smaller-2.ensures
+    c.from-old_in.ensures
+    c.from-old_out.ensures
+    c.min.ensures
+    c.min-2.ensures
     c.fill.ensures
     c.transfer_ports.ensures
     c.transfer_ports-2.ensures

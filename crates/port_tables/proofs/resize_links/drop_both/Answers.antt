@@ -6,15 +6,15 @@ use Rattle.port_tables.proofs.resize_links.drop_both.Goals as goal
 pub overflow_add-result : goal.overflow_add-result
 overflow_add-result c =
     omega
-    (arith, c.requires, few_cuts _ _ _ _ c.drop_ports-a.ensures.0, few_cuts _ _ _ _ c.drop_ports-b.ensures.0, c.wide16-old_in.ensures, c.wide16-old_out.ensures)
+    (arith, c.requires, few_cuts _ _ _ _ c.drop_ports-a.ensures.0, few_cuts _ _ _ _ c.drop_ports-b.ensures.0, c.from-old_in.ensures, c.from-old_out.ensures)
 
 pub returns : goal.returns
 returns c =
     drop_both_done _ _ _ _ _ _ _ _ _ _ _ _ _ _ _ _
     c.wide-first.ensures
-    c.wide16-old_in.ensures
-    c.wide16-old_out.ensures
-    c.smaller-kept_in.ensures
-    c.smaller-kept_out.ensures
+    c.from-old_in.ensures
+    c.from-old_out.ensures
+    c.min-kept_in.ensures
+    c.min-kept_out.ensures
     c.drop_ports-a.ensures
     c.drop_ports-b.ensures

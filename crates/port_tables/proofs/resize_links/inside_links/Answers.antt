@@ -6,13 +6,13 @@ pub returns : goal.returns
 returns c =
     inside_links_done _ _ _ _ _ _ _ _ _ _ _ _ _ _ _
     c.wide-first.ensures
-    c.wide16-old_in.ensures
-    c.wide16-old_out.ensures
-    c.smaller-kept.ensures
+    c.from-old_in.ensures
+    c.from-old_out.ensures
+    c.min-kept.ensures
     c.shift_ports.ensures
-    c.less.ensures
+    c.saturating_sub.ensures
     c.fill.ensures
-    c.less-2.ensures
+    c.saturating_sub-2.ensures
     c.fill-2.ensures
-    c.less-3.ensures
+    c.saturating_sub-3.ensures
     c.fill-3.ensures

@@ -1,19 +1,13 @@
 -- `port_tables::tables::tell_up` meets its contract. Invariant: telling the ports that are left amounts to telling all from the start.
--- Measure: the ports that are left.
-use mathlib.Core.Path.{refl, ◌∙◌}
+use mathlib.Core.Path.{◌∙◌}
 use Prim.Native.Nat.{◌+◌, ◌*◌}
-use native.Mathlib.Nat.{add-zero, sub-zero}
-use native.Mathlib.Omega.{arith}
 use Rattle.port_tables.specs.TableSteps.{move_up_events_turn, move_up_events_done}
 use Rattle.port_tables.proofs.tables.tell_up.Goals as goal
 
-pub loop-k-init : goal.loop-k-init
-loop-k-init c = (omega arith, refl, simp (add-zero, sub-zero))
-
 pub loop-k-preserved : goal.loop-k-preserved
 loop-k-preserved c =
-    (omega arith, omega arith, move_up_events_turn c.loop-k.k c.args.count c.loop-k-test.true c.loop-k.moves c.put_event.new.moves c.args.event c.args.old c.args.new c.put_event.ensures ∙ c.loop-k.invariant.2)
+    move_up_events_turn c.loop-k.k c.args.count c.loop-k-test.true c.loop-k.moves c.put_event.new.moves c.args.event c.args.old c.args.new c.put_event.ensures ∙ c.loop-k.invariant
 
 pub returns : goal.returns
 returns c =
-    move_up_events_done c.loop-k.k c.args.count c.loop-k-test.false c.loop-k.moves (3 * (c.args.event + c.loop-k.k)) (c.args.old + c.loop-k.k) (c.args.new + c.loop-k.k) ∙ c.loop-k.invariant.2
+    move_up_events_done c.loop-k.k c.args.count c.loop-k-test.false c.loop-k.moves (3 * (c.args.event + c.loop-k.k)) (c.args.old + c.loop-k.k) (c.args.new + c.loop-k.k) ∙ c.loop-k.invariant

@@ -6,4 +6,4 @@ pub returns-then-far-eq0 : goal.returns-then-far-eq0
 returns-then-far-eq0 c = no_link_less _ _ c.if-far-eq0.true
 
 pub returns-else-far-eq0 : goal.returns-else-far-eq0
-returns-else-far-eq0 c = one_link_less _ _ _ c.if-far-eq0.false c.less.ensures
+returns-else-far-eq0 c = one_link_less _ _ _ c.if-far-eq0.false c.saturating_sub.ensures

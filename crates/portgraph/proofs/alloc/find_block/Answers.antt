@@ -1,8 +1,8 @@
 -- `portgraph::alloc::find_block` meets its contract: no block for size 0, the end of the tables, no room, and the list.
+use Rattle.std.specs.Prelude.{Some}
 use mathlib.Core.Path.{ap, sym, ◌∙◌}
 use Prim.Native.Nat.{ℕ, ◌-◌}
 use Rattle.portgraph.specs.SlotSteps.{block_of_nothing, block_at_end, block_nowhere, block_from_list}
-use Rattle.portgraph.specs.declared.alloc.Found.TheVariants.{At}
 use Rattle.portgraph.proofs.alloc.find_block.Goals as goal
 
 pub returns-then-size-eq0 : goal.returns-then-size-eq0
@@ -18,4 +18,4 @@ returns-then-head-eq0 c =
 
 pub returns : goal.returns
 returns c =
-    ap At (c.wide.ensures ∙ ap (λ (h : ℕ). h - 1) c.head_at-head.ensures) ∙ block_from_list _ _ _ c.if-size-eq0.false (λ z. c.if-head-eq0.false (c.head_at-head.ensures ∙ z))
+    ap Some (c.wide.ensures ∙ ap (λ (h : ℕ). h - 1) c.head_at-head.ensures) ∙ block_from_list _ _ _ c.if-size-eq0.false (λ z. c.if-head-eq0.false (c.head_at-head.ensures ∙ z))

@@ -1,13 +1,9 @@
--- `portgraph::lent_graph::put_slots` meets its contract. Invariant: the first `n` slots are stored, and the numbers are canonical. Measure: the slots that are left.
+-- `portgraph::lent_graph::put_slots` meets its contract. Invariant: the first `n` slots are stored, and the numbers are canonical.
 use mathlib.Core.Path.{◌≡◌}
-use Prim.Native.Nat.{◌-◌, ◌≤◌}
 use lib.ListN.{length, take}
 use Rattle.port_tables.specs.Limits.{node_slots}
 use Rattle.port_tables.specs.NodeWords.{slots_in, Canonical}
 use Rattle.portgraph.proofs.lent_graph.put_slots.Given as goal
 
 abbrev pub invariant-loop-n : goal.invariant-loop-n
-invariant-loop-n l = (l.n ≤ node_slots) × (length (slots_in l.nodes) ≡ node_slots) × (length l.slots ≡ node_slots) × (take l.n (slots_in l.nodes) ≡ take l.n l.slots) × Canonical l.nodes
-
-abbrev pub decreases-loop-n : goal.decreases-loop-n
-decreases-loop-n l = node_slots - l.n
+invariant-loop-n l = (length (slots_in l.nodes) ≡ node_slots) × (take l.n (slots_in l.nodes) ≡ take l.n l.slot-items) × Canonical l.nodes

@@ -1,12 +1,9 @@
 -- `portgraph::link_iter::next_link_to` meets its contract. Invariant: the search from `port` on finds what the search from
--- the start finds. Measure: the slots that are left.
+-- the start finds.
 use mathlib.Core.Path.{◌≡◌}
 use Prim.Native.Nat.{◌-◌}
 use Rattle.portgraph.specs.LinkWalks.{link_to, first_where}
 use Rattle.portgraph.proofs.link_iter.next_link_to.Given as goal
 
 abbrev pub invariant-loop-port : goal.invariant-loop-port
-invariant-loop-port l = first_where (link_to l.links l.owners l.node) l.port (l.end - l.port) ≡ first_where (link_to l.links l.owners l.node) l.initial.port (l.end - l.initial.port)
-
-abbrev pub decreases-loop-port : goal.decreases-loop-port
-decreases-loop-port l = l.end - l.port
+invariant-loop-port l = first_where (link_to l.links l.owners l.node) l.port (l.left.to - l.port) ≡ first_where (link_to l.links l.owners l.node) l.left.from (l.left.to - l.left.from)

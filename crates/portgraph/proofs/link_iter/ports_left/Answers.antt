@@ -7,7 +7,7 @@ returns-in_default c = left_free _ _ _ _ _ c.in_default.is
 
 pub returns-then-there : goal.returns-then-there
 returns-then-there c =
-    left_there _ _ _ _ _ _ _ _ _ c.in-Node.is c.if-there.true c.ports_from.ensures c.wide.ensures c.larger.ensures c.ports_to.ensures
+    left_there _ _ _ _ _ _ _ _ _ c.in-Node.is c.if-there.true c.ports_from.ensures c.wide.ensures c.max.ensures c.ports_to.ensures
 
 pub returns : goal.returns
 returns c = left_gone _ _ _ _ _ c.in-Node.is c.if-there.false

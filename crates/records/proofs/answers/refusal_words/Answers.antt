@@ -34,7 +34,7 @@ pub returns-in-UnknownSecondPort : goal.returns-in-UnknownSecondPort
 returns-in-UnknownSecondPort c = told refusal_numbers _ _ _ c.five_words-in-UnknownSecondPort.ensures c.in-UnknownSecondPort.is
 
 pub returns-in-IncompatibleDirections : goal.returns-in-IncompatibleDirections
-returns-in-IncompatibleDirections c = told_side _ _ _ _ _ _ c.five_words-in-IncompatibleDirections.ensures c.side_number.ensures c.in-IncompatibleDirections.is
+returns-in-IncompatibleDirections c = told_side _ _ _ _ _ _ c.five_words-in-IncompatibleDirections.ensures c.index.ensures c.in-IncompatibleDirections.is
 
 pub returns-in-AlreadyLinked : goal.returns-in-AlreadyLinked
 returns-in-AlreadyLinked c = told refusal_numbers _ _ _ c.five_words-in-AlreadyLinked.ensures c.in-AlreadyLinked.is

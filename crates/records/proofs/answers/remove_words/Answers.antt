@@ -3,8 +3,8 @@ use Rattle.records.specs.AnswerSteps.{told}
 use Rattle.multiportgraph.specs.Answers.{remove_numbers}
 use Rattle.records.proofs.answers.remove_words.Goals as goal
 
-pub returns-in-Removed : goal.returns-in-Removed
-returns-in-Removed c = told remove_numbers _ _ _ c.five_words.ensures c.in-Removed.is
+pub returns-in-Ok : goal.returns-in-Ok
+returns-in-Ok c = told remove_numbers _ _ _ c.five_words.ensures c.in-Ok.is
 
-pub returns-in-Refused : goal.returns-in-Refused
-returns-in-Refused c = told remove_numbers _ _ _ c.refusal_words.ensures c.in-Refused.is
+pub returns-in-Err : goal.returns-in-Err
+returns-in-Err c = told remove_numbers _ _ _ c.refusal_words.ensures c.in-Err.is

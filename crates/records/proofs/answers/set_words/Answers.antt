@@ -5,10 +5,10 @@ use Rattle.multiportgraph.specs.Answers.{set_numbers}
 use Rattle.records.proofs.answers.set_words.Goals as goal
 
 pub overflow_cast-events : goal.overflow_cast-events
-overflow_cast-events c = let h = events_word c.args.answer _ c.in-Set.is c.requires in omega arith
+overflow_cast-events c = let h = events_word c.args.answer _ c.in-Ok.is c.requires in omega arith
 
-pub returns-in-Set : goal.returns-in-Set
-returns-in-Set c = told set_numbers _ _ _ c.five_words.ensures c.in-Set.is
+pub returns-in-Ok : goal.returns-in-Ok
+returns-in-Ok c = told set_numbers _ _ _ c.five_words.ensures c.in-Ok.is
 
-pub returns-in-Refused : goal.returns-in-Refused
-returns-in-Refused c = told set_numbers _ _ _ c.refusal_words.ensures c.in-Refused.is
+pub returns-in-Err : goal.returns-in-Err
+returns-in-Err c = told set_numbers _ _ _ c.refusal_words.ensures c.in-Err.is

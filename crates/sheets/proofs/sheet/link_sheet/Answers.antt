@@ -1,5 +1,5 @@
 -- `sheet::link_sheet` meets its contract: one entry more is done, and what all leave.
-use Rattle.std.proofs.Common.{List, ℕ, ◌≡◌, ◌+◌, ◌-◌, ◌<◌, ◌≤◌, suc, length, arith, ap, sym, subst, ◌∙◌}
+use Rattle.std.proofs.Common.{List, ℕ, ◌≡◌, ◌+◌, ◌-◌, ◌<◌, suc, length, arith, ap, sym, subst, ◌∙◌}
 use Rattle.std.proofs.Math.ListN.{set, length-set}
 use Rattle.std.proofs.lemmas.List.{get_or_default}
 use Rattle.std.proofs.lemmas.Bool.{le-ltb}
@@ -14,7 +14,7 @@ use Rattle.sheets.proofs.sheet.link_sheet.Goals as goal
 -- what holds after the turn of an entry
 Turned : Sheet → List SheetEntry → ℕ → EntryLinked → Type 0
 Turned all es i r =
-    MultiWf r.graph × (i + 1 ≤ length (set es i r.entry)) × (finish (length (set es i r.entry) - (i + 1)) (i + 1) r.graph (set es i r.entry) ≡ all)
+    MultiWf r.graph × (finish (length (set es i r.entry) - (i + 1)) (i + 1) r.graph (set es i r.entry) ≡ all)
 
 turned : (all : Sheet) (m : MultiPortGraph) (es : List SheetEntry) (i : ℕ) → MultiWf m → i < length es → finish (length es - i) i m es ≡ all →
     Turned all es i (entry_linked m (entry_at es i))
@@ -23,20 +23,19 @@ turned all m es i w h f =
     let l = length-set es i (entry_linked m (entry_at es i)).entry in
     let k : suc (length es - (i + 1)) ≡ length es - i = omega arith in (
       entry_kept m (entry_at es i) w,
-      omega (arith, l),
       ap (λ (n : ℕ). finish (n - (i + 1)) (i + 1) (entry_linked m (entry_at es i)).graph (set es i (entry_linked m (entry_at es i)).entry)) l
           ∙ (finish_one (length es - (i + 1)) i m es ∙ (ap (λ (n : ℕ). finish n i m es) k ∙ f)),
     )
 
-pub loop-i-preserved : goal.loop-i-preserved
+pub loop-entry-preserved : goal.loop-entry-preserved
 unfolding Turned
-loop-i-preserved c =
-    let q = get_or_default c.loop-i.sheet c.loop-i.i _ no_entry c.loop-i-test.true in
-    subst (Turned _ c.loop-i.sheet c.loop-i.i) (sym (c.link_entry-done.ensures ∙ ap (entry_linked c.loop-i.after) q))
-    (turned _ c.loop-i.after c.loop-i.sheet c.loop-i.i c.loop-i.invariant.0 c.loop-i-test.true c.loop-i.invariant.2)
+loop-entry-preserved c =
+    let q = get_or_default c.loop-entry.sheet c.loop-entry.entry-index _ no_entry (omega arith) in
+    subst (Turned _ c.loop-entry.sheet c.loop-entry.entry-index) (sym (c.link_entry-done.ensures ∙ ap (entry_linked c.loop-entry.after) q))
+    (turned _ c.loop-entry.after c.loop-entry.sheet c.loop-entry.entry-index c.loop-entry.invariant.0 (omega arith) c.loop-entry.invariant.1)
 
 pub returns : goal.returns
 returns c =
-    let n : length c.loop-i.sheet - c.loop-i.i ≡ 0 = omega arith in
-    done_whole c.args.graph c.args.sheet.now (le-ltb 64 (length c.args.sheet.now) c.if-sheet-gt-SHEET_ENTRIES.false) c.loop-i.after c.loop-i.sheet
-    (finish_none c.loop-i.i c.loop-i.after c.loop-i.sheet ∙ (ap (λ (k : ℕ). finish k c.loop-i.i c.loop-i.after c.loop-i.sheet) (sym n) ∙ c.loop-i.invariant.2))
+    let n : length c.loop-entry.sheet - c.loop-entry.entry-index ≡ 0 = omega arith in
+    done_whole c.args.graph c.args.sheet.now (le-ltb 64 (length c.args.sheet.now) c.if-sheet-gt-SHEET_ENTRIES.false) c.loop-entry.after c.loop-entry.sheet
+    (finish_none c.loop-entry.entry-index c.loop-entry.after c.loop-entry.sheet ∙ (ap (λ (k : ℕ). finish k c.loop-entry.entry-index c.loop-entry.after c.loop-entry.sheet) (sym n) ∙ c.loop-entry.invariant.1))

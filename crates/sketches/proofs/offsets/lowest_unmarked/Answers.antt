@@ -1,6 +1,7 @@
--- `sketches::offsets::lowest_unmarked` meets its contract. Invariant: what is left to look at amounts to the whole. Measure: the offsets that are left.
+-- `sketches::offsets::lowest_unmarked` meets its contract. Invariant: what is left to look at amounts to the whole.
 use native.Mathlib.Nat.{sub-zero}
-use mathlib.Core.Path.{◌∙◌}
+use mathlib.Core.Path.{◌≡◌, sym, ◌∙◌}
+use native.Mathlib.Omega.{arith}
 use Rattle.sketches.specs.Offsets.{lowest_found, lowest_passed, lowest_ends}
 use Rattle.sketches.proofs.offsets.lowest_unmarked.Goals as goal
 
@@ -14,4 +15,4 @@ pub loop-i-preserved : goal.loop-i-preserved
 loop-i-preserved c = lowest_passed _ _ c.args.count c.loop-i-test.true c.if-not-marks-i.false ∙ c.loop-i.invariant
 
 pub returns : goal.returns
-returns c = lowest_ends _ _ c.args.count c.loop-i-test.false ∙ c.loop-i.invariant
+returns c = let e : c.loop-i.i ≡ c.args.count = omega arith in sym e ∙ lowest_ends _ _ c.args.count (omega arith) ∙ c.loop-i.invariant

@@ -1,5 +1,5 @@
--- `sketches::offsets::marks_of` meets its contract. Invariant: the offsets of the wires so far are marked. Measure: the wires that are left.
-use Prim.Native.Nat.{◌-◌, ◌≤◌}
+-- `sketches::offsets::marks_of` meets its contract. Invariant: the offsets of the wires so far are marked.
+use Prim.Native.Nat.{◌≤◌}
 use Rattle.sketches.specs.Plan.{spot_named}
 use Rattle.sketches.specs.Rows.{wires_in}
 use Rattle.sketches.specs.Offsets.{Marks}
@@ -7,6 +7,3 @@ use Rattle.sketches.proofs.offsets.marks_of.Given as goal
 
 abbrev pub invariant-loop-i : goal.invariant-loop-i
 invariant-loop-i l = (l.i ≤ l.count) × Marks (spot_named l.port) (wires_in l.wires l.i) l.marks
-
-abbrev pub decreases-loop-i : goal.decreases-loop-i
-decreases-loop-i l = l.count - l.i

@@ -9,4 +9,4 @@ pub returns-then-subports-eq0 : goal.returns-then-subports-eq0
 returns-then-subports-eq0 c = ready_two _ _ c.if-subports-eq0.true c.if-offset-eq0.false
 
 pub returns : goal.returns
-returns c = ready_more _ _ c.if-subports-eq0.false c.wide.ensures c.larger.ensures
+returns c = ready_more _ _ c.if-subports-eq0.false c.wide.ensures c.max.ensures

@@ -1,4 +1,4 @@
--- `sketches::tables::count_rows` meets its contract. Invariant: those of the rows so far are counted. Measure: the rows that are left.
+-- `sketches::tables::count_rows` meets its contract. Invariant: those of the rows so far are counted.
 use mathlib.Core.Path.{◌≡◌, refl, sym, ap, ◌∙◌}
 use Prim.Native.Nat.{ℕ}
 use native.Mathlib.Omega.{arith}
@@ -15,7 +15,7 @@ loop-i-init c = (omega arith, omega arith, refl)
 
 pub loop-i-preserved : goal.loop-i-preserved
 loop-i-preserved c =
-    let e = c.hits.ensures ∙ ap (hits c.args.test) c.row_at.ensures in
+    let e = c.hits.ensures in
     elim c.if-hits.branch [
       | then-hits w ↦ (omega arith, omega arith, w.n-is ∙ one_more_hit (hits c.args.test) _ _ _ (sym e ∙ w.if-hits.true) c.loop-i.invariant.2)
       | else-hits w ↦ (omega arith, omega arith, w.n-is ∙ (c.loop-i.invariant.2 ∙ sym (ap length (none_more_hit (hits c.args.test) _ _ (sym e ∙ w.if-hits.false)))))

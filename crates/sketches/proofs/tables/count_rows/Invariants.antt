@@ -1,6 +1,6 @@
--- `sketches::tables::count_rows` meets its contract. Invariant: those of the rows so far are counted. Measure: the rows that are left.
+-- `sketches::tables::count_rows` meets its contract. Invariant: those of the rows so far are counted.
 use mathlib.Core.Path.{◌≡◌}
-use Prim.Native.Nat.{◌≤◌, ◌-◌}
+use Prim.Native.Nat.{◌≤◌}
 use lib.ListN.{length}
 use Rattle.port_tables.specs.Lists.{filter}
 use Rattle.sketches.specs.Rows.{hits, rows_in}
@@ -8,6 +8,3 @@ use Rattle.sketches.proofs.tables.count_rows.Given as goal
 
 abbrev pub invariant-loop-i : goal.invariant-loop-i
 invariant-loop-i l = (l.i ≤ l.count) × (l.n ≤ l.i) × (l.n ≡ length (filter (hits l.test) (rows_in l.table l.i)))
-
-abbrev pub decreases-loop-i : goal.decreases-loop-i
-decreases-loop-i l = l.count - l.i

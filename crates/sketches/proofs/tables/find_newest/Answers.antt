@@ -1,7 +1,6 @@
--- `sketches::tables::find_newest` meets its contract. Invariant: the search among the rows that are left is the whole. Measure: these rows.
-use mathlib.Core.Path.{refl, sym, ap, ◌∙◌}
+-- `sketches::tables::find_newest` meets its contract. Invariant: the search among the rows that are left is the whole.
+use mathlib.Core.Path.{refl, sym, ◌∙◌}
 use native.Mathlib.Omega.{arith}
-use Rattle.sketches.specs.Rows.{hits}
 use Rattle.sketches.specs.RowSteps.{newest_found, newest_passed, none_newest}
 use Rattle.sketches.proofs.tables.find_newest.Goals as goal
 
@@ -9,10 +8,10 @@ pub loop-i-init : goal.loop-i-init
 loop-i-init c = (omega arith, refl)
 
 pub returns-then-hits : goal.returns-then-hits
-returns-then-hits c = newest_found _ _ _ _ c.loop-i-test.true (sym (c.hits.ensures ∙ ap (hits c.args.test) c.row_at.ensures) ∙ c.if-hits.true) ∙ c.loop-i.invariant.1
+returns-then-hits c = newest_found _ _ _ _ c.loop-i-test.true (sym c.hits.ensures ∙ c.if-hits.true) ∙ c.loop-i.invariant.1
 
 pub loop-i-preserved : goal.loop-i-preserved
-loop-i-preserved c = (omega arith, newest_passed _ _ _ _ c.loop-i-test.true (sym (c.hits.ensures ∙ ap (hits c.args.test) c.row_at.ensures) ∙ c.if-hits.false) ∙ c.loop-i.invariant.1)
+loop-i-preserved c = (omega arith, newest_passed _ _ _ _ c.loop-i-test.true (sym c.hits.ensures ∙ c.if-hits.false) ∙ c.loop-i.invariant.1)
 
 pub returns : goal.returns
 returns c = none_newest _ _ _ _ c.loop-i-test.false ∙ c.loop-i.invariant.1

@@ -1,14 +1,13 @@
--- `sketches::tables::find_oldest` meets its contract. Invariant: the search among the rows that are left is the whole. Measure: these rows.
-use mathlib.Core.Path.{sym, ap, ◌∙◌}
-use Rattle.sketches.specs.Rows.{hits}
+-- `sketches::tables::find_oldest` meets its contract. Invariant: the search among the rows that are left is the whole.
+use mathlib.Core.Path.{sym, ◌∙◌}
 use Rattle.sketches.specs.RowSteps.{oldest_found, oldest_passed, none_oldest}
 use Rattle.sketches.proofs.tables.find_oldest.Goals as goal
 
 pub returns-then-hits : goal.returns-then-hits
-returns-then-hits c = oldest_found _ _ _ c.args.high c.loop-i-test.true (sym (c.hits.ensures ∙ ap (hits c.args.test) c.row_at.ensures) ∙ c.if-hits.true) ∙ c.loop-i.invariant
+returns-then-hits c = oldest_found _ _ _ c.args.high c.loop-i-test.true (sym c.hits.ensures ∙ c.if-hits.true) ∙ c.loop-i.invariant
 
 pub loop-i-preserved : goal.loop-i-preserved
-loop-i-preserved c = oldest_passed _ _ _ c.args.high c.loop-i-test.true (sym (c.hits.ensures ∙ ap (hits c.args.test) c.row_at.ensures) ∙ c.if-hits.false) ∙ c.loop-i.invariant
+loop-i-preserved c = oldest_passed _ _ _ c.args.high c.loop-i-test.true (sym c.hits.ensures ∙ c.if-hits.false) ∙ c.loop-i.invariant
 
 pub returns : goal.returns
 returns c = none_oldest _ _ _ c.args.high c.loop-i-test.false ∙ c.loop-i.invariant

@@ -4,11 +4,14 @@ use native.Mathlib.Omega.{arith}
 use Rattle.sketches.specs.RowSteps.{newest_is_none, newest_within, newest_is}
 use Rattle.sketches.proofs.tables.newest_row.Goals as goal
 
-pub returns-then-past-eq0 : goal.returns-then-past-eq0
-returns-then-past-eq0 c = newest_is_none _ _ _ _ c.find_newest-past.ensures c.if-past-eq0.true
+pub returns-in_err-i : goal.returns-in_err-i
+returns-in_err-i c = c.from_residual.ensures ∙ newest_is_none _ _ _ _ c.find_newest.ensures c.in_err-i.was
 
-pub row_at-requires : goal.row_at-requires
-row_at-requires c = let h = newest_within _ _ _ _ c.find_newest-past.ensures c.if-past-eq0.false in omega arith
+pub bounds-table-i : goal.bounds-table-i
+bounds-table-i c = let h = newest_within _ _ _ _ c.find_newest.ensures c.in_ok-i.was in omega arith
+
+pub offset_bounds-table-i : goal.offset_bounds-table-i
+offset_bounds-table-i c = let h = newest_within _ _ _ _ c.find_newest.ensures c.in_ok-i.was in omega arith
 
 pub returns : goal.returns
-returns c = c.row_at.ensures ∙ newest_is _ _ _ _ c.find_newest-past.ensures c.if-past-eq0.false
+returns c = newest_is _ _ _ _ c.find_newest.ensures c.in_ok-i.was

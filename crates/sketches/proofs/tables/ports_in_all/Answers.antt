@@ -1,7 +1,7 @@
--- `sketches::tables::ports_in_all` meets its contract. Invariant: the ports of the blocks so far, and a bound on them. Measure: the blocks that are left.
+-- `sketches::tables::ports_in_all` meets its contract. Invariant: the ports of the blocks so far, and a bound on them.
 use mathlib.Core.Path.{◌≡◌, refl, sym, ap, ◌∙◌}
 use mathlib.Core.List.{List, map}
-use Prim.Native.Nat.{ℕ, ◌+◌}
+use Prim.Native.Nat.{ℕ}
 use native.Mathlib.Omega.{arith}
 use Rattle.sketches.specs.Plan.{ports_in_all}
 use Rattle.sketches.specs.Rows.{row_at, rows_in, block_of}
@@ -15,7 +15,7 @@ loop-i-init c = (omega arith, omega arith, refl)
 
 pub loop-i-preserved : goal.loop-i-preserved
 loop-i-preserved c =
-    (omega arith, omega arith, ports_more _ (block_of (row_at c.args.table.now c.loop-i.i)) _ _ c.loop-i.invariant.2 (c.ports_of-ports.ensures.0 ∙ ap (λ (r : Row). r.1 + r.2) c.row_at.ensures) ∙ sym (ap (λ (l : List Row). ports_in_all (map block_of l)) (rows_more c.args.table.now c.loop-i.i)))
+    (omega arith, omega arith, ports_more _ (block_of (row_at c.args.table.now c.loop-i.i)) _ _ c.loop-i.invariant.2 c.ports_of-ports.ensures.0 ∙ sym (ap (λ (l : List Row). ports_in_all (map block_of l)) (rows_more c.args.table.now c.loop-i.i)))
 
 pub returns : goal.returns
 returns c = let e : c.loop-i.i ≡ c.args.count = omega arith in c.loop-i.invariant.2 ∙ ap (λ (k : ℕ). ports_in_all (map block_of (rows_in c.args.table.now k))) e

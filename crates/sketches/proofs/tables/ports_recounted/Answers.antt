@@ -1,5 +1,4 @@
--- `sketches::tables::ports_recounted` meets its contract. Invariant: the ports of the blocks so far, and a bound on them. Measure: the blocks that are
--- left.
+-- `sketches::tables::ports_recounted` meets its contract. Invariant: the ports of the blocks so far, and a bound on them.
 use mathlib.Core.Path.{◌≡◌, refl, sym, ap, ◌∙◌}
 use mathlib.Core.List.{List, map}
 use Prim.Native.Nat.{ℕ, ◌+◌}
@@ -18,7 +17,7 @@ loop-i-init c = (omega arith, omega arith, refl)
 pub loop-i-preserved : goal.loop-i-preserved
 loop-i-preserved c =
     let g = recount c.args.name c.args.incoming c.args.outgoing in
-    (omega arith, omega arith, ports_more _ (g (block_of (row_at c.args.table.now c.loop-i.i))) _ _ c.loop-i.invariant.2 (c.ports_of-ports.ensures.0 ∙ ap (λ (x : PlanBlock). x.incoming + x.outgoing) (c.recounted.ensures ∙ ap (λ (r : Row). g (block_of r)) c.row_at.ensures)) ∙ sym (ap (λ (l : List Row). ports_in_all (map g (map block_of l))) (rows_more c.args.table.now c.loop-i.i)))
+    (omega arith, omega arith, ports_more _ (g (block_of (row_at c.args.table.now c.loop-i.i))) _ _ c.loop-i.invariant.2 (c.ports_of-ports.ensures.0 ∙ ap (λ (x : PlanBlock). x.incoming + x.outgoing) c.recounted.ensures) ∙ sym (ap (λ (l : List Row). ports_in_all (map g (map block_of l))) (rows_more c.args.table.now c.loop-i.i)))
 
 pub returns : goal.returns
 returns c = let e : c.loop-i.i ≡ c.args.count = omega arith in c.loop-i.invariant.2 ∙ ap (λ (k : ℕ). ports_in_all (map (recount c.args.name c.args.incoming c.args.outgoing) (map block_of (rows_in c.args.table.now k)))) e

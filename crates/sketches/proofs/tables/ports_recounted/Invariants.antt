@@ -1,8 +1,7 @@
--- `sketches::tables::ports_recounted` meets its contract. Invariant: the ports of the blocks so far, and a bound on them. Measure: the blocks that are
--- left.
+-- `sketches::tables::ports_recounted` meets its contract. Invariant: the ports of the blocks so far, and a bound on them.
 use mathlib.Core.Path.{◌≡◌}
 use mathlib.Core.List.{map}
-use Prim.Native.Nat.{◌*◌, ◌-◌, ◌≤◌}
+use Prim.Native.Nat.{◌*◌, ◌≤◌}
 use Rattle.sketches.specs.Plan.{ports_in_all}
 use Rattle.sketches.specs.PlanCalls.{recount}
 use Rattle.sketches.specs.Rows.{rows_in, block_of}
@@ -10,6 +9,3 @@ use Rattle.sketches.proofs.tables.ports_recounted.Given as goal
 
 abbrev pub invariant-loop-i : goal.invariant-loop-i
 invariant-loop-i l = (l.i ≤ l.count) × (l.ports ≤ 8589934590 * l.i) × (l.ports ≡ ports_in_all (map (recount l.name l.incoming l.outgoing) (map block_of (rows_in l.table l.i))))
-
-abbrev pub decreases-loop-i : goal.decreases-loop-i
-decreases-loop-i l = l.count - l.i

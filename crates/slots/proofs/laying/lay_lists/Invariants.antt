@@ -1,7 +1,7 @@
 -- `slots::laying::lay_lists` meets its contract. Invariant: laying the blocks of the sizes that are left on what is laid amounts to laying
--- all. Measure: the sizes that are left.
+-- all.
 use mathlib.Core.List.{flat_map}
-use Prim.Native.Nat.{◌-◌, ◌≤◌}
+use Prim.Native.Nat.{◌-◌}
 use Rattle.port_tables.specs.Limits.{port_slots, free_lists}
 use Rattle.port_tables.specs.Lists.{range}
 use Rattle.port_tables.specs.Tables.{head_at}
@@ -10,8 +10,4 @@ use Rattle.slots.specs.LaySteps.{Left}
 use Rattle.slots.proofs.laying.lay_lists.Given as goal
 
 abbrev pub invariant-loop-size : goal.invariant-loop-size
-invariant-loop-size l = (1 ≤ l.size) × (l.size ≤ free_lists)
-    × Left (free_in l.links l.heads) (flat_map (λ k. list_from l.links (head_at l.heads k) k port_slots) (range l.size (free_lists - l.size))) l.initial.sizes l.initial.holders l.sizes l.holders
-
-abbrev pub decreases-loop-size : goal.decreases-loop-size
-decreases-loop-size l = free_lists - l.size
+invariant-loop-size l = Left (free_in l.links l.heads) (flat_map (λ k. list_from l.links (head_at l.heads k) k port_slots) (range l.size (free_lists - l.size))) l.initial.sizes l.initial.holders l.sizes l.holders

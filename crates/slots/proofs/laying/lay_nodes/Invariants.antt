@@ -1,7 +1,7 @@
 -- `slots::laying::lay_nodes` meets its contract. Invariant: laying the blocks of the nodes that are left on what is laid amounts to laying
--- all. Measure: the node slots that are left.
+-- all.
 use mathlib.Core.List.{flat_map}
-use Prim.Native.Nat.{◌-◌, ◌≤◌}
+use Prim.Native.Nat.{◌-◌}
 use Rattle.port_tables.specs.Limits.{node_slots}
 use Rattle.port_tables.specs.Lists.{range}
 use Rattle.port_tables.specs.NodeWords.{meta_in}
@@ -11,7 +11,4 @@ use Rattle.slots.specs.LaySteps.{Left}
 use Rattle.slots.proofs.laying.lay_nodes.Given as goal
 
 abbrev pub invariant-loop-n : goal.invariant-loop-n
-invariant-loop-n l = (l.n ≤ node_slots) × Left (taken_in l.nodes) (flat_map (λ i. node_holds i (meta_in l.nodes i)) (range l.n (node_slots - l.n))) l.initial.sizes l.initial.holders l.sizes l.holders
-
-abbrev pub decreases-loop-n : goal.decreases-loop-n
-decreases-loop-n l = node_slots - l.n
+invariant-loop-n l = Left (taken_in l.nodes) (flat_map (λ i. node_holds i (meta_in l.nodes i)) (range l.n (node_slots - l.n))) l.initial.sizes l.initial.holders l.sizes l.holders

@@ -1,14 +1,13 @@
 -- `slots::listing::walk` meets its contract. Invariant: so many blocks are listed, and listing those that are left amounts to listing all.
--- Measure: how many may be left.
 use native.Mathlib.Omega.{arith}
 use Rattle.slots.specs.LaySteps.{listing_begun, laid_inside, walk_turn, walk_done, walk_out}
 use Rattle.slots.proofs.listing.walk.Goals as goal
 
 pub loop-count-init : goal.loop-count-init
-loop-count-init c = (omega arith, listing_begun _ _)
+loop-count-init c = listing_begun _ _
 
 pub returns-then-size-eq0 : goal.returns-then-size-eq0
-returns-then-size-eq0 c = walk_done _ _ _ _ _ c.loop-count.invariant.1 c.at-size.ensures c.if-size-eq0.true
+returns-then-size-eq0 c = walk_done _ _ _ _ _ c.loop-count.invariant c.at-size.ensures c.if-size-eq0.true
 
 pub overflow_mul-count : goal.overflow_mul-count
 overflow_mul-count c = omega (arith, c.loop-count-test.true)
@@ -25,12 +24,10 @@ overflow_add-slot c =
     omega (arith, h, c.wide-slot.ensures, c.at-size.type_inv)
 
 pub loop-count-preserved : goal.loop-count-preserved
-loop-count-preserved c = (
-  omega (arith, c.loop-count-test.true),
-  walk_turn _ _ c.loop-count.slot c.loop-count.count _ _ c.wide-slot.result c.loop-count.invariant.1 c.loop-count-test.true
-      c.at-size.ensures c.if-size-eq0.false c.at-holder.ensures
-      c.put_three.ensures c.wide-slot.ensures,
-)
+loop-count-preserved c =
+    walk_turn _ _ c.loop-count.slot c.loop-count.count _ _ c.wide-slot.result c.loop-count.invariant c.loop-count-test.true
+    c.at-size.ensures c.if-size-eq0.false c.at-holder.ensures
+    c.put_three.ensures c.wide-slot.ensures
 
 pub returns : goal.returns
-returns c = walk_out _ _ _ _ c.loop-count.invariant.1 c.loop-count-test.false
+returns c = let w = walk_out _ _ _ c.loop-count.count c.loop-count.invariant c.loop-count-test.false in (omega (arith, w.0), w.1)

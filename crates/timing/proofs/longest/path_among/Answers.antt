@@ -5,7 +5,7 @@ use mathlib.Core.List.{List}
 use mathlib.Core.Path.{refl, ◌∙◌, ap}
 use native.Mathlib.Omega.{arith}
 use Rattle.multiportgraph.specs.Listed.{list_after}
-use Rattle.timing.specs.AnswerSteps.{cycle_answer, sum_answer, cycle_listed, sum_listed, path_of_tables}
+use Rattle.timing.specs.AnswerSteps.{cycle_answer, sum_answer, error_listed, sum_listed, path_of_tables}
 use Rattle.timing.specs.Settling.{feeds_listed, zeros, path_among}
 use Rattle.timing.proofs.longest.path_among.Goals as goal
 
@@ -15,7 +15,7 @@ settle-requires c = (c.requires.0, refl, refl, refl)
 
 pub returns-then-at-ne0 : goal.returns-then-at-ne0
 returns-then-at-ne0 c =
-    cycle_listed (path_among (feeds_listed c.args.ends.now) c.args.times.now c.args.block) c.args.list.now
+    error_listed (path_among (feeds_listed c.args.ends.now) c.args.times.now c.args.block) c.args.list.now
     (cycle_answer (feeds_listed c.args.ends.now) c.args.times.now c.args.block c.requires.1 c.requires.2 c.settle.ensures.0 c.settle.ensures.1 c.wide-b.ensures c.at.ensures c.if-at-ne0.true)
 
 pub overflow_add-sum : goal.overflow_add-sum

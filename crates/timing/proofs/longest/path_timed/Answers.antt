@@ -5,7 +5,7 @@ use mathlib.Core.Path.{◌≡◌, sym, ◌∙◌, ap}
 use native.Mathlib.Omega.{arith}
 use Rattle.files.specs.SaveSteps.{listed_wires}
 use Rattle.multiportgraph.specs.Listed.{wires_listed}
-use Rattle.timing.specs.AnswerSteps.{times_wrong, wires_short, wires_there, bad_times_listed, listed_to_graph}
+use Rattle.timing.specs.AnswerSteps.{times_wrong, wires_short, wires_there, error_listed, listed_to_graph}
 use Rattle.timing.specs.FeedLaws.{feeds_fit}
 use Rattle.timing.specs.Longest.{feeds_in}
 use Rattle.timing.specs.Settling.{path_among}
@@ -17,7 +17,7 @@ listing : (c : After-list_wires) → take (8 * c.link_count-wires.result) c.list
 listing c = wires_there c.requires.0.fine (replicate 12288 0) c.link_count-wires.ensures (length-replicate {A = ℕ} 12288 0) c.list_wires.ensures.1
 
 pub returns-then-times-ne-NODE_SLOTS : goal.returns-then-times-ne-NODE_SLOTS
-returns-then-times-ne-NODE_SLOTS c = bad_times_listed (path_among (feeds_in c.args.graph) c.args.times.now c.args.block) c.args.list.now (times_wrong (feeds_in c.args.graph) c.args.times.now c.args.block c.if-times-ne-NODE_SLOTS.true)
+returns-then-times-ne-NODE_SLOTS c = error_listed (path_among (feeds_in c.args.graph) c.args.times.now c.args.block) c.args.list.now (times_wrong (feeds_in c.args.graph) c.args.times.now c.args.block c.if-times-ne-NODE_SLOTS.true)
 
 pub overflow_mul-end : goal.overflow_mul-end
 overflow_mul-end c = let h = wires_short c.requires.0.fine c.link_count-wires.ensures in omega arith

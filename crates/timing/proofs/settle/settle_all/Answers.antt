@@ -9,39 +9,23 @@ use Rattle.timing.specs.Settling.{feeds_listed, Tables, tables_of, block_done, s
 use Rattle.timing.proofs.settle.settle_all.Goals as goal
 
 pub loop-head-init : goal.loop-head-init
-loop-head-init c = (c.requires.0, refl, refl, refl, refl, omega arith, c.requires.2, refl)
+loop-head-init c = (c.requires.0, omega arith, c.requires.2, refl)
 
 pub block_done-tail-requires : goal.block_done-tail-requires
-block_done-tail-requires c = (c.loop-head.invariant.0, omega arith, omega arith, c.loop-head.invariant.6)
+block_done-tail-requires c = (c.loop-head.invariant.0, omega arith, omega arith, c.loop-head.invariant.2)
 
 pub loop-head-preserved : goal.loop-head-preserved
 loop-head-preserved c =
     let e = c.block_done-tail.ensures.1 ∙ ap (λ (x : ℕ). block_done (feeds_listed c.args.ends.now) c.args.firsts.now c.args.times.now x (tables_of c.loop-head.waits c.loop-head.best c.loop-head.origin c.loop-head.queue c.loop-head.tail)) c.at-block.ensures in (
       c.block_done-tail.ensures.0,
       omega arith,
-      omega arith,
-      omega arith,
-      omega arith,
-      omega arith,
-      subst (λ (t : Tables). Bounded t.best (c.loop-head.head + 1)) (sym e) (bounded_block (feeds_listed c.args.ends.now) c.args.firsts.now c.args.times.now (get_or c.loop-head.queue c.loop-head.head 0) c.loop-head.head (tables_of c.loop-head.waits c.loop-head.best c.loop-head.origin c.loop-head.queue c.loop-head.tail) (λ n. omega (arith, c.shared_slice_known-3-1.given n)) c.loop-head.invariant.6),
+      subst (λ (t : Tables). Bounded t.best (c.loop-head.head + 1)) (sym e) (bounded_block (feeds_listed c.args.ends.now) c.args.firsts.now c.args.times.now (get_or c.loop-head.queue c.loop-head.head 0) c.loop-head.head (tables_of c.loop-head.waits c.loop-head.best c.loop-head.origin c.loop-head.queue c.loop-head.tail) (λ n. omega (arith, c.shared_slice_known-3-1.given n)) c.loop-head.invariant.2),
       ap (settle (feeds_listed c.args.ends.now) c.args.firsts.now c.args.times.now (node_slots - (c.loop-head.head + 1)) (c.loop-head.head + 1)) e
-          ∙ (settle_turn (feeds_listed c.args.ends.now) c.args.firsts.now c.args.times.now c.loop-head.waits c.loop-head.best c.loop-head.origin c.loop-head.queue c.loop-head.tail c.loop-head.head (omega arith) c.loop-head.invariant.0 node_slots c.loop-head-test.true c.loop-head.invariant.0 ∙ c.loop-head.invariant.7),
+          ∙ (settle_turn (feeds_listed c.args.ends.now) c.args.firsts.now c.args.times.now c.loop-head.waits c.loop-head.best c.loop-head.origin c.loop-head.queue c.loop-head.tail c.loop-head.head (omega arith) c.loop-head.invariant.0 node_slots c.loop-head-test.true c.loop-head.invariant.0 ∙ c.loop-head.invariant.3),
     )
-
-pub shape_of-waits : goal.shape_of-waits
-shape_of-waits c = c.loop-head.invariant.1
-
-pub shape_of-best : goal.shape_of-best
-shape_of-best c = c.loop-head.invariant.2
-
-pub shape_of-origin : goal.shape_of-origin
-shape_of-origin c = c.loop-head.invariant.3
-
-pub shape_of-queue : goal.shape_of-queue
-shape_of-queue c = c.loop-head.invariant.4
 
 pub returns : goal.returns
 returns c = (
-  settle_end (feeds_listed c.args.ends.now) c.args.firsts.now c.args.times.now c.loop-head.waits c.loop-head.best c.loop-head.origin c.loop-head.queue c.loop-head.tail c.loop-head.head (omega arith) c.loop-head.invariant.0 node_slots c.loop-head-test.false ∙ c.loop-head.invariant.7,
-  bounded_more c.loop-head.best c.loop-head.head node_slots c.loop-head.invariant.5 c.loop-head.invariant.6,
+  settle_end (feeds_listed c.args.ends.now) c.args.firsts.now c.args.times.now c.loop-head.waits c.loop-head.best c.loop-head.origin c.loop-head.queue c.loop-head.tail c.loop-head.head (omega arith) c.loop-head.invariant.0 node_slots c.loop-head-test.false ∙ c.loop-head.invariant.3,
+  bounded_more c.loop-head.best c.loop-head.head node_slots c.loop-head.invariant.1 c.loop-head.invariant.2,
 )

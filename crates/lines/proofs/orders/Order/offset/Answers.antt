@@ -1,9 +1,7 @@
 -- `lines::orders::Order::offset` meets its contract. Assumes nothing.
-use Rattle.lines.specs.OrderSteps.{offset_there, offset_past}
+use Rattle.std.proofs.Common.{◌∙◌}
+use Rattle.lines.specs.OrderSteps.{offset_of}
 use Rattle.lines.proofs.orders.Order.offset.Goals as goal
 
-pub returns-then-number-lt65535 : goal.returns-then-number-lt65535
-returns-then-number-lt65535 c = offset_there _ _ _ c.number-number.ensures c.if-number-lt65535.true
-
-pub returns-else-number-lt65535 : goal.returns-else-number-lt65535
-returns-else-number-lt65535 c = offset_past _ _ _ c.number-number.ensures c.if-number-lt65535.false
+pub returns : goal.returns
+returns g c = c.unwrap_or.ensures ∙ offset_of _ _ _ _ c.number.ensures c.try_from.ensures

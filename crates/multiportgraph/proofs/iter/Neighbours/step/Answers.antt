@@ -8,10 +8,10 @@ use Rattle.multiportgraph.specs.LinkWalkSteps.{neighbours_item_lem, neighbours_n
 use Rattle.multiportgraph.proofs.iter.Neighbours.step.Goals as goal
 
 pub overflow_add-result : goal.overflow_add-result
-overflow_add-result c = let e = ap (link_port 0) c.in-Link.is in omega arith
+overflow_add-result c = let e = ap (link_port 0) c.in-Some.is in omega arith
 
 pub returns-in-None : goal.returns-in-None
 returns-in-None c = with_numbers neighbours_values (neighbours_none c.args.graph c.requires c.args.self _ _ c.self_filter-filter.ensures c.next_of_block-found.ensures.0 c.in-None.is)
 
-pub returns-in-Link : goal.returns-in-Link
-returns-in-Link c = with_numbers neighbours_values (neighbours_item_lem c.args.graph c.requires c.args.self _ _ c.self_filter-filter.ensures c.next_of_block-found.ensures.0 _ _ c.in-Link.is c.owner_in.ensures)
+pub returns-in-Some : goal.returns-in-Some
+returns-in-Some c = with_numbers neighbours_values (neighbours_item_lem c.args.graph c.requires c.args.self _ _ c.self_filter-filter.ensures c.next_of_block-found.ensures.0 _ _ c.in-Some.is c.owner_in.ensures)

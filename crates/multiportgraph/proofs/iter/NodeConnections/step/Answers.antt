@@ -8,13 +8,13 @@ use Rattle.multiportgraph.specs.LinkWalkSteps.{connections_gone, connections_ite
 use Rattle.multiportgraph.proofs.iter.NodeConnections.step.Goals as goal
 
 pub overflow_add-result : goal.overflow_add-result
-overflow_add-result c = let e = ap (link_port 0) c.in-Link.is in omega arith
+overflow_add-result c = let e = ap (link_port 0) c.in-Some.is in omega arith
 
 pub returns-in-None : goal.returns-in-None
 returns-in-None c = with_numbers node_connections_values (connections_none c.args.graph c.args.self _ (sym c.contains_node.ensures ∙ c.if-contains_node.true) c.next_of_block-found.ensures.0 c.in-None.is)
 
-pub returns-in-Link : goal.returns-in-Link
-returns-in-Link c = with_numbers node_connections_values (connections_item_lem c.args.graph c.args.self _ (sym c.contains_node.ensures ∙ c.if-contains_node.true) c.next_of_block-found.ensures.0 _ c.in-Link.is)
+pub returns-in-Some : goal.returns-in-Some
+returns-in-Some c = with_numbers node_connections_values (connections_item_lem c.args.graph c.args.self _ (sym c.contains_node.ensures ∙ c.if-contains_node.true) c.next_of_block-found.ensures.0 _ c.in-Some.is)
 
 pub returns : goal.returns
 returns c = with_numbers node_connections_values (connections_gone c.args.graph c.args.self (sym c.contains_node.ensures ∙ c.if-contains_node.false))

@@ -9,8 +9,8 @@ use Rattle.multiportgraph.specs.WalkSteps.{both_refused, both_found, node_ports_
 use Rattle.multiportgraph.proofs.iter.NodePorts.step.Goals as goal
 use Rattle.multiportgraph.proofs.iter.NodePorts.step.Goals.{Then-port-ports_to}
 
-room : (c : Then-port-ports_to) → c.larger-port.result < port_slots
-room c = ports_inside c.args.graph c.args.self c.requires _ (sym c.block-block.ensures ∙ c.in-Block.is) _ _ c.ports_to.ensures c.if-port-ports_to.true
+room : (c : Then-port-ports_to) → c.max-port.result < port_slots
+room c = ports_inside c.args.graph c.args.self c.requires _ (sym c.block-block.ensures ∙ c.in-Ok.is) _ _ c.ports_to.ensures c.if-port-ports_to.true
 
 pub returns-in_default : goal.returns-in_default
 returns-in_default c = with_numbers node_ports_values (node_ports_gone c.args.graph c.args.self (both_refused c.args.graph c.args.self.node.0 _ c.args.self.held (sym c.block-block.ensures ∙ c.in_default.is)))
@@ -25,10 +25,10 @@ pub overflow_add-result : goal.overflow_add-result
 overflow_add-result c = let h = room ((goal.at.overflow_add-result c).Then-port-ports_to) in omega arith
 
 pub returns-then-port-ports_to : goal.returns-then-port-ports_to
-returns-then-port-ports_to c = with_numbers node_ports_values (node_ports_item c.args.graph c.args.self c.requires _ (sym c.block-block.ensures ∙ c.in-Block.is) (sym c.held_seen.ensures ∙ c.if-held_seen.true) _ _ _ _ c.ports_from.ensures c.wide.ensures c.larger-port.ensures c.ports_to.ensures c.if-port-ports_to.true)
+returns-then-port-ports_to c = with_numbers node_ports_values (node_ports_item c.args.graph c.args.self c.requires _ (sym c.block-block.ensures ∙ c.in-Ok.is) (sym c.held_seen.ensures ∙ c.if-held_seen.true) _ _ _ _ c.ports_from.ensures c.wide.ensures c.max-port.ensures c.ports_to.ensures c.if-port-ports_to.true)
 
 pub returns-else-port-ports_to : goal.returns-else-port-ports_to
-returns-else-port-ports_to c = with_numbers node_ports_values (node_ports_none c.args.graph c.args.self c.requires _ (sym c.block-block.ensures ∙ c.in-Block.is) (sym c.held_seen.ensures ∙ c.if-held_seen.true) _ _ _ _ c.ports_from.ensures c.wide.ensures c.larger-port.ensures c.ports_to.ensures c.if-port-ports_to.false)
+returns-else-port-ports_to c = with_numbers node_ports_values (node_ports_none c.args.graph c.args.self c.requires _ (sym c.block-block.ensures ∙ c.in-Ok.is) (sym c.held_seen.ensures ∙ c.if-held_seen.true) _ _ _ _ c.ports_from.ensures c.wide.ensures c.max-port.ensures c.ports_to.ensures c.if-port-ports_to.false)
 
 pub returns-else-held_seen : goal.returns-else-held_seen
-returns-else-held_seen c = with_numbers node_ports_values (node_ports_gone c.args.graph c.args.self (both_found c.args.graph c.args.self.node.0 _ c.args.self.held _ c.requires (sym c.block-block.ensures ∙ c.in-Block.is) (sym c.held_seen.ensures ∙ c.if-held_seen.false)))
+returns-else-held_seen c = with_numbers node_ports_values (node_ports_gone c.args.graph c.args.self (both_found c.args.graph c.args.self.node.0 _ c.args.self.held _ c.requires (sym c.block-block.ensures ∙ c.in-Ok.is) (sym c.held_seen.ensures ∙ c.if-held_seen.false)))

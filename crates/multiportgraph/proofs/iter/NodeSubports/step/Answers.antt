@@ -12,13 +12,13 @@ pub returns-in_default : goal.returns-in_default
 returns-in_default c = with_numbers node_subports_values (subports_gone c.args.graph c.args.self (both_refused c.args.graph c.args.self.node.0 _ c.args.self.held (sym c.block-block.ensures ∙ c.in_default.is)))
 
 pub overflow_add-result : goal.overflow_add-result
-overflow_add-result c = let e = ap (subport_port 0) c.in-Subport.is in omega arith
+overflow_add-result c = let e = ap (subport_port 0) c.in-Some.is in omega arith
 
 pub returns-in-None : goal.returns-in-None
-returns-in-None c = with_numbers node_subports_values (subports_none c.args.graph c.args.self c.requires _ (sym c.block-block.ensures ∙ c.in-Block.is) (sym c.held_seen.ensures ∙ c.if-held_seen.true) _ _ _ c.ports_from.ensures c.ports_to.ensures c.subport_beyond-found.ensures.0 c.in-None.is)
+returns-in-None c = with_numbers node_subports_values (subports_none c.args.graph c.args.self c.requires _ (sym c.block-block.ensures ∙ c.in-Ok.is) (sym c.held_seen.ensures ∙ c.if-held_seen.true) _ _ _ c.ports_from.ensures c.ports_to.ensures c.subport_beyond-found.ensures.0 c.in-None.is)
 
-pub returns-in-Subport : goal.returns-in-Subport
-returns-in-Subport c = with_numbers node_subports_values (subports_item_lem c.args.graph c.args.self c.requires _ (sym c.block-block.ensures ∙ c.in-Block.is) (sym c.held_seen.ensures ∙ c.if-held_seen.true) _ _ _ c.ports_from.ensures c.ports_to.ensures c.subport_beyond-found.ensures.0 _ c.in-Subport.is)
+pub returns-in-Some : goal.returns-in-Some
+returns-in-Some c = with_numbers node_subports_values (subports_item_lem c.args.graph c.args.self c.requires _ (sym c.block-block.ensures ∙ c.in-Ok.is) (sym c.held_seen.ensures ∙ c.if-held_seen.true) _ _ _ c.ports_from.ensures c.ports_to.ensures c.subport_beyond-found.ensures.0 _ c.in-Some.is)
 
 pub returns : goal.returns
-returns c = with_numbers node_subports_values (subports_gone c.args.graph c.args.self (both_found c.args.graph c.args.self.node.0 _ c.args.self.held _ c.requires (sym c.block-block.ensures ∙ c.in-Block.is) (sym c.held_seen.ensures ∙ c.if-held_seen.false)))
+returns c = with_numbers node_subports_values (subports_gone c.args.graph c.args.self (both_found c.args.graph c.args.self.node.0 _ c.args.self.held _ c.requires (sym c.block-block.ensures ∙ c.in-Ok.is) (sym c.held_seen.ensures ∙ c.if-held_seen.false)))

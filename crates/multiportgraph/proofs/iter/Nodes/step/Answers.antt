@@ -1,9 +1,6 @@
 -- `multiportgraph::iter::Nodes::step` meets its contract. Invariant: the blocks from `n` on are those from the front on.
--- Measure: the slots that are left.
-use mathlib.Core.Path.{◌≡◌, refl, sym, ap, ◌∙◌}
-use Prim.Native.Nat.{◌-◌}
+use mathlib.Core.Path.{◌≡◌, refl, sym, ◌∙◌}
 use borrow.Author.Rules.{rules}
-use Rattle.port_tables.specs.Lists.{range, filter}
 use Rattle.port_tables.specs.TableSteps.{with_numbers}
 use Rattle.multiportgraph.specs.Wires.{is_block}
 use Rattle.multiportgraph.specs.WalkNumbers.{nodes_values}
@@ -13,9 +10,6 @@ use Rattle.multiportgraph.proofs.iter.Nodes.step.Goals.{After-is_block}
 
 block_is : (c : After-is_block) → is_block c.args.graph c.loop-n.n ≡ c.is_block.result
 block_is c = sym (block_told c.args.graph c.loop-n.n _ _ c.node_slots-slots.ensures (search rules) c.flagged.ensures c.is_block.ensures)
-
-pub loop-n-init : goal.loop-n-init
-loop-n-init c = ap (λ x. filter (is_block c.args.graph) (range x (c.end_before-end.result - x))) c.wide-n.ensures
 
 pub returns-then-is_block : goal.returns-then-is_block
 returns-then-is_block c = with_numbers nodes_values (nodes_item c.args.graph c.args.self c.args.self.front c.end_before-end.result (sym c.node_held.ensures ∙ c.if-node_held.true) (sym c.node_held-then-node_held.ensures ∙ c.if-node_held-2.true) refl c.end_before-end.ensures.0 c.loop-n.n c.loop-n.invariant c.loop-n-test.true (block_is (goal.at.returns-then-is_block c).After-is_block ∙ c.if-is_block.true))

@@ -1,8 +1,6 @@
--- `multiportgraph::iter::Nodes::step_back` meets its contract. Invariant: the last of the blocks below `end` is the last of all that are left.
--- Measure: the slots that are left.
-use mathlib.Core.Path.{◌≡◌, refl, sym, ◌∙◌}
+-- `multiportgraph::iter::Nodes::step_back` meets its contract. Invariant: the last of the blocks below `n` is the last of all that are left.
+use mathlib.Core.Path.{◌≡◌, sym, ◌∙◌}
 use Prim.Native.Nat.{◌-◌}
-use native.Mathlib.Omega.{arith}
 use borrow.Author.Rules.{rules}
 use Rattle.port_tables.specs.TableSteps.{with_numbers}
 use Rattle.multiportgraph.specs.Wires.{is_block}
@@ -11,20 +9,17 @@ use Rattle.multiportgraph.specs.WalkSteps.{block_told, back_turn, back_front_gon
 use Rattle.multiportgraph.proofs.iter.Nodes.step_back.Goals as goal
 use Rattle.multiportgraph.proofs.iter.Nodes.step_back.Goals.{After-is_block}
 
-block_is : (c : After-is_block) → is_block c.args.graph (c.loop-end.end - 1) ≡ c.is_block.result
-block_is c = sym (block_told c.args.graph (c.loop-end.end - 1) _ _ c.node_slots-slots.ensures (search rules) c.flagged.ensures c.is_block.ensures)
-
-pub loop-end-init : goal.loop-end-init
-loop-end-init c = (c.end_before-end.ensures.1, refl)
+block_is : (c : After-is_block) → is_block c.args.graph (c.loop-n.n - 1) ≡ c.is_block.result
+block_is c = sym (block_told c.args.graph (c.loop-n.n - 1) _ _ c.node_slots-slots.ensures (search rules) c.flagged.ensures c.is_block.ensures)
 
 pub returns-then-is_block : goal.returns-then-is_block
-returns-then-is_block c = with_numbers nodes_values (back_item c.args.graph c.args.self c.wide-from.result c.end_before-end.result (sym c.node_held.ensures ∙ c.if-node_held.true) (sym c.node_held-then-node_held.ensures ∙ c.if-node_held-2.true) c.wide-from.ensures c.end_before-end.ensures.0 c.loop-end.end c.loop-end.invariant.1 c.loop-end-test.true (block_is (goal.at.returns-then-is_block c).After-is_block ∙ c.if-is_block.true))
+returns-then-is_block c = with_numbers nodes_values (back_item c.args.graph c.args.self c.wide-from.result c.end_before-end.result (sym c.node_held.ensures ∙ c.if-node_held.true) (sym c.node_held-then-node_held.ensures ∙ c.if-node_held-2.true) c.wide-from.ensures c.end_before-end.ensures.0 c.loop-n.n c.loop-n.invariant c.loop-n-test.true (block_is (goal.at.returns-then-is_block c).After-is_block ∙ c.if-is_block.true))
 
-pub loop-end-preserved : goal.loop-end-preserved
-loop-end-preserved c = (omega arith, back_turn (is_block c.args.graph) c.wide-from.result c.loop-end.end c.loop-end-test.true (block_is (goal.at.loop-end-preserved c).After-is_block ∙ c.if-is_block.false) ∙ c.loop-end.invariant.1)
+pub loop-n-preserved : goal.loop-n-preserved
+loop-n-preserved c = back_turn (is_block c.args.graph) c.wide-from.result c.loop-n.n c.loop-n-test.true (block_is (goal.at.loop-n-preserved c).After-is_block ∙ c.if-is_block.false) ∙ c.loop-n.invariant
 
-pub returns-after-loop-end : goal.returns-after-loop-end
-returns-after-loop-end c = with_numbers nodes_values (back_none c.args.graph c.args.self c.wide-from.result c.end_before-end.result (sym c.node_held.ensures ∙ c.if-node_held.true) (sym c.node_held-then-node_held.ensures ∙ c.if-node_held-2.true) c.wide-from.ensures c.end_before-end.ensures.0 c.loop-end.end c.loop-end.invariant.1 c.loop-end-test.false)
+pub returns-after-loop-n : goal.returns-after-loop-n
+returns-after-loop-n c = with_numbers nodes_values (back_none c.args.graph c.args.self c.wide-from.result c.end_before-end.result (sym c.node_held.ensures ∙ c.if-node_held.true) (sym c.node_held-then-node_held.ensures ∙ c.if-node_held-2.true) c.wide-from.ensures c.end_before-end.ensures.0 c.loop-n.n c.loop-n.invariant c.loop-n-test.false)
 
 pub returns-else-node_held-2 : goal.returns-else-node_held-2
 returns-else-node_held-2 c = with_numbers nodes_values (back_back_gone c.args.graph c.args.self (sym c.node_held.ensures ∙ c.if-node_held.true) (sym c.node_held-then-node_held.ensures ∙ c.if-node_held-2.false))

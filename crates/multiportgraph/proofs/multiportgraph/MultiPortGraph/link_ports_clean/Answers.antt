@@ -6,8 +6,8 @@ use Rattle.multiportgraph.specs.declared.multiportgraph.PortsLinked.{PortsLinked
 use Rattle.multiportgraph.specs.InputSteps.{clean_linked, clean_refused}
 use Rattle.multiportgraph.proofs.multiportgraph.MultiPortGraph.link_ports_clean.Goals as goal
 
-pub returns-in-Opposite : goal.returns-in-Opposite
-returns-in-Opposite c = with_numbers (λ (r : PortsLinked). link_numbers r.answer) (clean_linked c.requires _ _ c.pair_named_under.ensures c.in-Opposite.is c.link_ports.ensures.0)
+pub returns-in-Ok : goal.returns-in-Ok
+returns-in-Ok c = with_numbers (λ (r : PortsLinked). link_numbers r.answer) (clean_linked c.requires _ _ c.pair_named_under.ensures c.in-Ok.is c.link_ports.ensures.0)
 
-pub returns-in-Refused : goal.returns-in-Refused
-returns-in-Refused c = with_numbers (λ (r : PortsLinked). link_numbers r.answer) (c.link_refused.ensures ∙ clean_refused c.requires _ _ c.pair_named_under.ensures c.in-Refused.is)
+pub returns-in-Err : goal.returns-in-Err
+returns-in-Err c = with_numbers (λ (r : PortsLinked). link_numbers r.answer) (c.link_refused.ensures ∙ clean_refused c.requires _ _ c.pair_named_under.ensures c.in-Err.is)

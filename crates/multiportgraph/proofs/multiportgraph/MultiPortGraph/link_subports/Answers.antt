@@ -6,8 +6,8 @@ use Rattle.multiportgraph.specs.declared.multiportgraph.PortsLinked.{PortsLinked
 use Rattle.multiportgraph.specs.InputSteps.{sub_joined, sub_refused}
 use Rattle.multiportgraph.proofs.multiportgraph.MultiPortGraph.link_subports.Goals as goal
 
-pub returns-in-Ends : goal.returns-in-Ends
-returns-in-Ends c = with_numbers (λ (r : PortsLinked). link_numbers r.answer) (c.link_ends.ensures ∙ sub_joined c.requires _ _ _ _ c.link_named_under.ensures c.in-Ends.is c.read_in-first.ensures c.read_in-second.ensures)
+pub returns-in-Ok : goal.returns-in-Ok
+returns-in-Ok c = with_numbers (λ (r : PortsLinked). link_numbers r.answer) (c.link_ends.ensures ∙ sub_joined c.requires _ _ _ _ c.link_named_under.ensures c.in-Ok.is c.read_in-first.ensures c.read_in-second.ensures)
 
-pub returns-in-Refused : goal.returns-in-Refused
-returns-in-Refused c = with_numbers (λ (r : PortsLinked). link_numbers r.answer) (c.link_refused.ensures ∙ sub_refused c.requires _ _ _ _ c.link_named_under.ensures c.in-Refused.is)
+pub returns-in-Err : goal.returns-in-Err
+returns-in-Err c = with_numbers (λ (r : PortsLinked). link_numbers r.answer) (c.link_refused.ensures ∙ sub_refused c.requires _ _ _ _ c.link_named_under.ensures c.in-Err.is)

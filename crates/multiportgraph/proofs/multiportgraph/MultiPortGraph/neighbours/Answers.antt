@@ -1,4 +1,5 @@
 -- `multiportgraph::multiportgraph::MultiPortGraph::neighbours` meets its contract: a node that is refused, and a block.
+use Rattle.std.proofs.lemmas.Result.{err_from_is_err_and}
 use mathlib.Core.Path.{sym, ap, ◌∙◌}
 use Rattle.port_tables.specs.TableSteps.{with_numbers}
 use Rattle.multiportgraph.specs.Walks.{neighbours_from}
@@ -6,8 +7,10 @@ use Rattle.multiportgraph.specs.WalkNumbers.{neighbours_start_numbers}
 use Rattle.multiportgraph.specs.LookupSteps.{start_at}
 use Rattle.multiportgraph.proofs.multiportgraph.MultiPortGraph.neighbours.Goals as goal
 
-pub returns-in-Refused : goal.returns-in-Refused
-returns-in-Refused c = with_numbers neighbours_start_numbers (ap (neighbours_from c.args.node c.args.sides c.args.ignore_self) (start_at c.args.self c.args.node.0 _ (sym c.block-found.ensures ∙ c.in-Refused.is)))
+pub returns-in_err-block : goal.returns-in_err-block
+returns-in_err-block c =
+    let p = err_from_is_err_and c.from_residual.result c.from_residual.ensures.1 in
+    rw (p.1, p.2) (with_numbers neighbours_start_numbers (ap (neighbours_from c.args.node c.args.sides c.args.ignore_self) (start_at c.args.self c.args.node.0 _ (sym c.block.ensures ∙ c.in_err-block.was))))
 
-pub returns-in-Block : goal.returns-in-Block
-returns-in-Block c = with_numbers neighbours_start_numbers (ap (neighbours_from c.args.node c.args.sides c.args.ignore_self) (start_at c.args.self c.args.node.0 _ (sym c.block-found.ensures ∙ c.in-Block.is)))
+pub returns : goal.returns
+returns c = with_numbers neighbours_start_numbers (ap (neighbours_from c.args.node c.args.sides c.args.ignore_self) (start_at c.args.self c.args.node.0 _ (sym c.block.ensures ∙ c.in_ok-block.was)))

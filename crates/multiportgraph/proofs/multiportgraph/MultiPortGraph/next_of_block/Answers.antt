@@ -9,7 +9,7 @@ pub returns-in_default : goal.returns-in_default
 returns-in_default c = (left_gone c.args.self c.args.node.0 c.args.sides c.args.filter c.args.held c.args.offset (both_refused c.args.self c.args.node.0 _ c.args.held (sym c.block-block.ensures ∙ c.in_default.is)), omega arith)
 
 pub returns-then-held_seen : goal.returns-then-held_seen
-returns-then-held_seen c = (left_found c.args.self c.args.node.0 c.args.sides c.args.filter c.args.held c.args.offset c.requires _ (sym c.block-block.ensures ∙ c.in-Block.is) (sym c.held_seen.ensures ∙ c.if-held_seen.true) _ _ _ c.ports_from.ensures c.ports_to.ensures c.next_beyond.ensures.0, c.next_beyond.ensures.1)
+returns-then-held_seen c = (left_found c.args.self c.args.node.0 c.args.sides c.args.filter c.args.held c.args.offset c.requires _ (sym c.block-block.ensures ∙ c.in-Ok.is) (sym c.held_seen.ensures ∙ c.if-held_seen.true) _ _ _ c.ports_from.ensures c.ports_to.ensures c.next_beyond.ensures.0, c.next_beyond.ensures.1)
 
 pub returns : goal.returns
-returns c = (left_gone c.args.self c.args.node.0 c.args.sides c.args.filter c.args.held c.args.offset (both_found c.args.self c.args.node.0 _ c.args.held _ c.requires (sym c.block-block.ensures ∙ c.in-Block.is) (sym c.held_seen.ensures ∙ c.if-held_seen.false)), omega arith)
+returns c = (left_gone c.args.self c.args.node.0 c.args.sides c.args.filter c.args.held c.args.offset (both_found c.args.self c.args.node.0 _ c.args.held _ c.requires (sym c.block-block.ensures ∙ c.in-Ok.is) (sym c.held_seen.ensures ∙ c.if-held_seen.false)), omega arith)

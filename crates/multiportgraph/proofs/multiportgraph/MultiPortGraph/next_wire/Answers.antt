@@ -1,5 +1,4 @@
 -- `multiportgraph::multiportgraph::MultiPortGraph::next_wire` meets its contract. Invariant: what is found from `n` on is what is found from `node` on.
--- Measure: the node slots that are left.
 use mathlib.Core.Path.{◌≡◌, ap, ◌∙◌}
 use mathlib.Core.List.{List}
 use native.Mathlib.Omega.{arith}
@@ -20,11 +19,11 @@ found_is c =
     ∙ (ap (λ (l : List NodeSlot). first_found (block_links_in c.args.self.multiport c.args.self.graph.port_link c.args.self.graph.port_meta c.args.self.copy_node (get_or l c.loop-n.n fresh_slot).entry c.flagged-hidden.result c.loop-n.h c.loop-n.o)) c.node_slots-slots.ensures
     ∙ ap (λ b. first_found (block_links_in c.args.self.multiport c.args.self.graph.port_link c.args.self.graph.port_meta c.args.self.copy_node (get_or c.args.self.graph.node_meta c.loop-n.n fresh_slot).entry b c.loop-n.h c.loop-n.o)) c.flagged-hidden.ensures)
 
-pub returns-in-Link : goal.returns-in-Link
-returns-in-Link c = (nodes_found c.args.self.multiport c.args.self.graph.port_link c.args.self.graph.port_meta c.args.self.copy_node c.args.self.graph.node_meta c.loop-n.n c.loop-n.h c.loop-n.o _ _ c.loop-n-test.true (found_is (goal.at.returns-in-Link c).After-block_links-found) c.in-Link.is ∙ c.loop-n.invariant, c.block_links-found.ensures.1)
+pub returns-in-Some : goal.returns-in-Some
+returns-in-Some c = (nodes_found c.args.self.multiport c.args.self.graph.port_link c.args.self.graph.port_meta c.args.self.copy_node c.args.self.graph.node_meta c.loop-n.n c.loop-n.h c.loop-n.o _ _ c.loop-n-test.true (found_is (goal.at.returns-in-Some c).After-block_links-found) c.in-Some.is ∙ c.loop-n.invariant, c.block_links-found.ensures.1)
 
 pub loop-n-preserved : goal.loop-n-preserved
-loop-n-preserved c = nodes_turn c.args.self.multiport c.args.self.graph.port_link c.args.self.graph.port_meta c.args.self.copy_node c.args.self.graph.node_meta c.loop-n.n c.loop-n.h c.loop-n.o _ c.loop-n-test.true (found_is (goal.at.loop-n-preserved c).After-block_links-found) c.in-None.is ∙ c.loop-n.invariant
+loop-n-preserved c = nodes_turn c.args.self.multiport c.args.self.graph.port_link c.args.self.graph.port_meta c.args.self.copy_node c.args.self.graph.node_meta c.loop-n.n c.loop-n.h c.loop-n.o _ c.loop-n-test.true (found_is (goal.at.loop-n-preserved c).After-block_links-found) c.in_default.is ∙ c.loop-n.invariant
 
 pub returns : goal.returns
 returns c = (nodes_done c.args.self.multiport c.args.self.graph.port_link c.args.self.graph.port_meta c.args.self.copy_node c.args.self.graph.node_meta c.loop-n.n c.loop-n.h c.loop-n.o c.loop-n-test.false ∙ c.loop-n.invariant, omega arith)

@@ -1,5 +1,4 @@
 -- `multiportgraph::multiportgraph::MultiPortGraph::next_wire` meets its contract. Invariant: what is found from `n` on is what is found from `node` on.
--- Measure: the node slots that are left.
 use mathlib.Core.Path.{◌≡◌}
 use Prim.Native.Nat.{◌-◌}
 use Rattle.port_tables.specs.Limits.{node_slots}
@@ -8,6 +7,3 @@ use Rattle.multiportgraph.proofs.multiportgraph.MultiPortGraph.next_wire.Given a
 
 abbrev pub invariant-loop-n : goal.invariant-loop-n
 invariant-loop-n l = first_found (wires_in l.self.multiport l.self.graph.port_link l.self.graph.port_meta l.self.copy_node l.self.graph.node_meta l.n l.h l.o (node_slots - l.n)) ≡ first_found (wires_in l.self.multiport l.self.graph.port_link l.self.graph.port_meta l.self.copy_node l.self.graph.node_meta l.node l.held l.offset (node_slots - l.node))
-
-abbrev pub decreases-loop-n : goal.decreases-loop-n
-decreases-loop-n l = node_slots - l.n

@@ -6,4 +6,4 @@ use Rattle.multiportgraph.proofs.multiportgraph.MultiPortGraph.node_count.Goals 
 
 pub returns : goal.returns
 unfolding visible_nodes
-returns c = c.less.ensures ∙ ap (λ x. x - c.args.self.copy_node_count) c.node_count.ensures
+returns c = c.saturating_sub.ensures ∙ ap (λ x. x - c.args.self.copy_node_count) c.node_count.ensures

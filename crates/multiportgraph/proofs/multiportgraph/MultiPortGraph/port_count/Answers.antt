@@ -6,4 +6,4 @@ use Rattle.multiportgraph.proofs.multiportgraph.MultiPortGraph.port_count.Goals 
 
 pub returns : goal.returns
 unfolding visible_ports
-returns c = c.less-2.ensures ∙ ap (λ x. x - c.args.self.copy_node_count) (c.less.ensures ∙ ap (λ x. x - c.args.self.subport_count) c.port_count.ensures)
+returns c = c.saturating_sub-2.ensures ∙ ap (λ x. x - c.args.self.copy_node_count) (c.saturating_sub.ensures ∙ ap (λ x. x - c.args.self.subport_count) c.port_count.ensures)

@@ -1,4 +1,5 @@
 -- `multiportgraph::multiportgraph::MultiPortGraph::port_index` meets its contract: a node that is refused, no such position, and a port.
+use Rattle.std.proofs.lemmas.Result.{err_from_is_err_and}
 use mathlib.Core.Path.{sym, ◌∙◌, refl}
 use Rattle.port_tables.specs.TableSteps.{with_numbers}
 use Rattle.portgraph.specs.Lookups.{port_index}
@@ -10,11 +11,10 @@ use Rattle.multiportgraph.proofs.multiportgraph.MultiPortGraph.port_index.Goals 
 pub port_index-requires : goal.port_index-requires
 port_index-requires c = lower_wf _ c.requires
 
-pub returns-in_default : goal.returns-in_default
-returns-in_default c = with_numbers port_numbers (index_at c.args.self c.args.node.0 c.args.offset _ _ (sym c.block-found.ensures ∙ c.in-Block.is) (sym c.in_default.is ∙ c.port_index.ensures.0))
+pub returns-in_err-block : goal.returns-in_err-block
+returns-in_err-block c =
+    let p = err_from_is_err_and c.from_residual.result c.from_residual.ensures.1 in
+    rw (p.1, p.2) (with_numbers port_numbers (index_at c.args.self c.args.node.0 c.args.offset _ (port_index c.args.self.graph c.args.node.0 c.args.offset) (sym c.block.ensures ∙ c.in_err-block.was) refl))
 
-pub returns-in-Refused : goal.returns-in-Refused
-returns-in-Refused c = with_numbers port_numbers (index_at c.args.self c.args.node.0 c.args.offset _ (port_index c.args.self.graph c.args.node.0 c.args.offset) (sym c.block-found.ensures ∙ c.in-Refused.is) refl)
-
-pub returns-in-Some : goal.returns-in-Some
-returns-in-Some c = with_numbers port_numbers (index_at c.args.self c.args.node.0 c.args.offset _ _ (sym c.block-found.ensures ∙ c.in-Block.is) (sym c.in-Some.is ∙ c.port_index.ensures.0))
+pub returns : goal.returns
+returns c = with_numbers port_numbers (index_at c.args.self c.args.node.0 c.args.offset _ _ (sym c.block.ensures ∙ c.in_ok-block.was) c.port_index.ensures.0)

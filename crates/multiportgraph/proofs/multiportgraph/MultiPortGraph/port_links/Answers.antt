@@ -1,24 +1,17 @@
--- `multiportgraph::multiportgraph::MultiPortGraph::port_links` meets its contract: by how the port is seen.
-use mathlib.Core.Path.{◌≡◌, sym, ap, ◌∙◌}
+-- `multiportgraph::multiportgraph::MultiPortGraph::port_links` meets its contract: a port that is refused, and one of a block.
+use Rattle.std.proofs.lemmas.Result.{err_from_is_err_and}
+use mathlib.Core.Path.{refl, sym, ap, ◌∙◌}
 use borrow.Author.Rules.{rules}
 use Rattle.port_tables.specs.TableSteps.{with_numbers}
-use Rattle.multiportgraph.specs.Reading.{seen}
-use Rattle.multi_tables.specs.Forms.{dead, hidden, seen_as}
-use Rattle.multiportgraph.specs.Walks.{port_links_from}
+use Rattle.multiportgraph.specs.Walks.{port_links_from, start_seen}
 use Rattle.multiportgraph.specs.WalkNumbers.{port_links_start_numbers}
-use Rattle.multi_tables.specs.FormSteps.{was_dead, was_hidden, was_visible}
-use Rattle.multiportgraph.specs.StartSteps.{seen_read, start_port}
+use Rattle.multiportgraph.specs.StartSteps.{block_is, block_told, start_port}
 use Rattle.multiportgraph.proofs.multiportgraph.MultiPortGraph.port_links.Goals as goal
-use Rattle.multiportgraph.proofs.multiportgraph.MultiPortGraph.port_links.Goals.{After-seen_in-seen}
 
-seen-is : (c : After-seen_in-seen) → seen_as (seen c.args.self c.args.port.0) ≡ c.seen_in-seen.result
-seen-is c = sym (c.seen_in-seen.ensures ∙ ap seen_as (seen_read c.args.self c.args.port.0 (search rules)))
+pub returns-in_err-block_port : goal.returns-in_err-block_port
+returns-in_err-block_port c =
+    let p = err_from_is_err_and c.from_residual.result c.from_residual.ensures.1 in
+    rw (p.1, p.2) (with_numbers port_links_start_numbers (block_told c.args.self c.args.port.0 (search rules) (λ s. port_links_from c.args.port (start_seen c.args.port.0 s)) _ refl refl (sym c.block_port.ensures ∙ c.in_err-block_port.was) ∙ ap (port_links_from c.args.port) (start_port c.args.self c.args.port.0 _ refl)))
 
-pub returns-in-Dead : goal.returns-in-Dead
-returns-in-Dead c = with_numbers port_links_start_numbers (ap (port_links_from c.args.port) (start_port c.args.self c.args.port.0 dead (was_dead _ (seen-is (goal.at.returns-in-Dead c).After-seen_in-seen ∙ c.in-Dead.is))))
-
-pub returns-in-Hidden : goal.returns-in-Hidden
-returns-in-Hidden c = with_numbers port_links_start_numbers (ap (port_links_from c.args.port) (start_port c.args.self c.args.port.0 hidden (was_hidden _ (seen-is (goal.at.returns-in-Hidden c).After-seen_in-seen ∙ c.in-Hidden.is))))
-
-pub returns-in-Visible : goal.returns-in-Visible
-returns-in-Visible c = with_numbers port_links_start_numbers (ap (port_links_from c.args.port) (start_port c.args.self c.args.port.0 _ (was_visible _ _ _ (seen-is (goal.at.returns-in-Visible c).After-seen_in-seen ∙ c.in-Visible.is))))
+pub returns : goal.returns
+returns c = with_numbers port_links_start_numbers (ap (port_links_from c.args.port) (start_port c.args.self c.args.port.0 _ (block_is c.args.self c.args.port.0 (search rules) _ _ (sym c.block_port.ensures ∙ c.in_ok-block_port.was))))

@@ -1,8 +1,6 @@
 -- `multiportgraph::MultiPortGraph::unsplit_range` meets its contract. Invariant: what is left to do amounts to all that was to do.
--- Measure: the ports that are left.
 use mathlib.Core.Path.{◌≡◌, ◌∙◌}
 use Prim.Native.Nat.{◌+◌}
-use native.Mathlib.Nat.{add-zero, sub-zero}
 use native.Mathlib.Omega.{arith}
 use Rattle.multiportgraph.specs.BlockSteps.{unsplit_turn, unsplit_none, unsplit_done, wf_unsplit_is}
 use Rattle.multiportgraph.specs.HiddenNodes.{unsplit}
@@ -14,14 +12,8 @@ unsplit-is : (c : Joined-marked) → c.if-marked.graph ≡ unsplit c.loop-k.grap
 unsplit-is c =
     elim c.if-marked.branch [ then-marked w ↦ w.graph-is ∙ w.unsplit-graph.ensures | else-marked w ↦ unsplit_none c.loop-k.graph _ _ _ (omega arith) c.marked.ensures w.if-marked.false w.graph-is ]
 
-pub loop-k-init : goal.loop-k-init
-loop-k-init c = (omega arith, c.requires.0, simp (add-zero, sub-zero))
-
-pub unsplit-graph-requires : goal.unsplit-graph-requires
-unsplit-graph-requires c = c.loop-k.invariant.1
-
 pub loop-k-preserved : goal.loop-k-preserved
-loop-k-preserved c = let e = unsplit-is (goal.at.loop-k-preserved c).Joined-marked in (omega arith, wf_unsplit_is _ _ _ e c.loop-k.invariant.1, unsplit_turn _ _ _ _ _ _ c.loop-k-test.true c.wide.ensures e ∙ c.loop-k.invariant.2)
+loop-k-preserved c = let e = unsplit-is (goal.at.loop-k-preserved c).Joined-marked in (wf_unsplit_is _ _ _ e c.loop-k.invariant.0, unsplit_turn _ _ _ _ _ _ c.loop-k-test.true c.wide.ensures e ∙ c.loop-k.invariant.1)
 
 pub returns : goal.returns
-returns c = unsplit_done _ _ _ _ c.loop-k-test.false ∙ c.loop-k.invariant.2
+returns c = unsplit_done _ _ _ _ c.loop-k-test.false ∙ c.loop-k.invariant.1

@@ -1,13 +1,9 @@
 -- `multiportgraph::MultiPortGraph::unsplit_range` meets its contract. Invariant: what is left to do amounts to all that was to do.
--- Measure: the ports that are left.
 use mathlib.Core.Path.{◌≡◌}
-use Prim.Native.Nat.{◌+◌, ◌-◌, ◌≤◌}
+use Prim.Native.Nat.{◌+◌, ◌-◌}
 use Rattle.portgraph.specs.Model.{Wf}
 use Rattle.multiportgraph.specs.HiddenNodes.{unsplit_range}
 use Rattle.multiportgraph.proofs.multiportgraph.MultiPortGraph.unsplit_range.Given as goal
 
 abbrev pub invariant-loop-k : goal.invariant-loop-k
-invariant-loop-k l = (l.k ≤ l.count) × Wf l.graph.graph × (unsplit_range l.graph (l.first + l.k) (l.count - l.k) ≡ unsplit_range l.initial.graph l.first l.count)
-
-abbrev pub decreases-loop-k : goal.decreases-loop-k
-decreases-loop-k l = l.count - l.k
+invariant-loop-k l = Wf l.graph.graph × (unsplit_range l.graph (l.first + l.k) (l.count - l.k) ≡ unsplit_range l.initial.graph l.first l.count)

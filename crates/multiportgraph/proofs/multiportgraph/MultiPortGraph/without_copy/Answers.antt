@@ -9,4 +9,4 @@ use Rattle.multiportgraph.proofs.multiportgraph.MultiPortGraph.without_copy.Goal
 pub returns : goal.returns
 returns c =
     c.with_copy.ensures
-    ∙ (λ i. multi (c.remove_node-removed.ensures.0 i).graph (put_flag (put_flag c.args.self.multiport port_slots c.args.copy false) port_slots c.args.port false) (put_flag c.args.self.copy_node node_slots c.args.node false) (c.less-copies.ensures i) (c.less-subports.ensures i) c.args.self.release)
+    ∙ (λ i. multi (c.remove_node-removed.ensures.0 i).graph (put_flag (put_flag c.args.self.multiport port_slots c.args.copy false) port_slots c.args.port false) (put_flag c.args.self.copy_node node_slots c.args.node false) (c.saturating_sub-copies.ensures i) (c.saturating_sub-subports.ensures i) c.args.self.release)

@@ -9,4 +9,4 @@ pub returns-in_default : goal.returns-in_default
 returns-in_default c = ap (λ (u : PortUnlinked). u.graph) (cut_done c.requires _ _ c.end_of.ensures c.in_default.is refl)
 
 pub returns : goal.returns
-returns c = c.without_wire.ensures ∙ ap (λ (u : PortUnlinked). u.graph) (end_cut_below c.requires _ _ c.end_of.ensures c.in-At.is refl refl)
+returns c = c.without_wire.ensures ∙ ap (λ (u : PortUnlinked). u.graph) (end_cut_below c.requires _ _ c.end_of.ensures c.in-Ok.is refl refl)

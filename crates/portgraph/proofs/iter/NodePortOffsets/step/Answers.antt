@@ -4,17 +4,17 @@ use Rattle.portgraph.specs.Walks.{offset_found, offset_of_step, offsets_step_num
 use Rattle.port_tables.specs.TableSteps.{with_numbers}
 use Rattle.portgraph.proofs.iter.NodePortOffsets.step.Goals as goal
 
-pub returns-in_default : goal.returns-in_default
-returns-in_default c = with_numbers offsets_step_numbers (ap (offset_of_step c.args.graph) (sym c.in_default.is ∙ c.step.ensures.0))
-
-pub returns-in_default-port_offset : goal.returns-in_default-port_offset
-returns-in_default-port_offset c =
-    with_numbers offsets_step_numbers
-    (ap (offset_found c.in-Item.next) (sym c.in_default-port_offset.is ∙ c.port_offset.ensures.0) ∙
-    ap (offset_of_step c.args.graph) (sym c.in-Item.is ∙ c.step.ensures.0))
-
 pub returns : goal.returns
 returns c =
     with_numbers offsets_step_numbers
-    (ap (offset_found c.in-Item.next) (sym c.in-Some.is ∙ c.port_offset.ensures.0) ∙
-    ap (offset_of_step c.args.graph) (sym c.in-Item.is ∙ c.step.ensures.0))
+    (ap (offset_found c.in_ok-port.next) (sym c.in_ok-offset.was ∙ c.port_offset.ensures.0) ∙
+    ap (offset_of_step c.args.graph) (sym c.in_ok-port.was ∙ c.step.ensures.0))
+
+pub returns-in_err-port : goal.returns-in_err-port
+returns-in_err-port c = with_numbers offsets_step_numbers (c.from_residual.ensures ∙ ap (offset_of_step c.args.graph) (sym c.in_err-port.was ∙ c.step.ensures.0))
+
+pub returns-in_err-offset : goal.returns-in_err-offset
+returns-in_err-offset c =
+    with_numbers offsets_step_numbers
+    (c.from_residual-in_err-offset.ensures ∙ ap (offset_found c.in_ok-port.next) (sym c.in_err-offset.was ∙ c.port_offset.ensures.0) ∙
+    ap (offset_of_step c.args.graph) (sym c.in_ok-port.was ∙ c.step.ensures.0))

@@ -1,15 +1,9 @@
 -- `portgraph::iter::Nodes::step` meets its contract. Invariant: the search from `n` on finds what the search from the cursor on finds.
--- Measure: the slots that are left.
-use mathlib.Core.Path.{sym, ap, ◌∙◌}
-use Prim.Native.Nat.{◌-◌}
-use Rattle.port_tables.specs.Limits.{node_slots}
+use mathlib.Core.Path.{sym, ◌∙◌}
 use Rattle.portgraph.specs.WalkLaws.{search_turn, search_found, search_done, step_where_gone}
-use Rattle.portgraph.specs.Walks.{node_from, nodes_step_numbers}
+use Rattle.portgraph.specs.Walks.{nodes_step_numbers}
 use Rattle.port_tables.specs.TableSteps.{with_numbers}
 use Rattle.portgraph.proofs.iter.Nodes.step.Goals as goal
-
-pub loop-n-init : goal.loop-n-init
-loop-n-init c = ap (λ n. node_from c.args.graph.node_meta n (node_slots - n)) c.wide-n.ensures
 
 pub returns-then-is_node : goal.returns-then-is_node
 returns-then-is_node c =

@@ -1,5 +1,4 @@
 -- `portgraph::iter::Nodes::step` meets its contract. Invariant: the search from `n` on finds what the search from the cursor on finds.
--- Measure: the slots that are left.
 use mathlib.Core.Path.{◌≡◌}
 use Prim.Native.Nat.{◌-◌}
 use Rattle.port_tables.specs.Limits.{node_slots}
@@ -8,6 +7,3 @@ use Rattle.portgraph.proofs.iter.Nodes.step.Given as goal
 
 abbrev pub invariant-loop-n : goal.invariant-loop-n
 invariant-loop-n l = node_from l.graph.node_meta l.n (node_slots - l.n) ≡ node_from l.graph.node_meta l.held (node_slots - l.held)
-
-abbrev pub decreases-loop-n : goal.decreases-loop-n
-decreases-loop-n l = node_slots - l.n

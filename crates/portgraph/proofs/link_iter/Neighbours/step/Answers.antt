@@ -1,6 +1,7 @@
 -- `portgraph::link_iter::Neighbours::step` meets its contract: an item, none left, and no such node.
 
 -- the step, from what was computed
+use Rattle.std.specs.Prelude.{None}
 use mathlib.Core.Path.{◌≡◌}
 use Prim.Native.Nat.{◌<◌}
 use native.Mathlib.Omega.{arith}
@@ -9,14 +10,13 @@ use Rattle.port_tables.specs.Limits.{port_slots}
 use Rattle.port_tables.specs.TableSteps.{with_numbers}
 use Rattle.portgraph.specs.LinkWalks.{neighbours_item, step_neighbours, neighbours_numbers}
 use Rattle.portgraph.specs.LinkWalkSteps.{left_inside, neighbours_outside, neighbours_by_search, neighbours_given, neighbours_over}
-use Rattle.portgraph.specs.declared.link_iter.NeighboursStep.TheVariants.{End}
 use mathlib.Core.Bool.{cond}
 use Rattle.portgraph.proofs.link_iter.Neighbours.step.Goals as goal
 use Rattle.portgraph.proofs.link_iter.Neighbours.step.Goals.{After-struct_known-1, Then-port-left}
 
 step-found : (c : After-struct_known-1)
     → step_neighbours c.args.graph c.args.self
-    ≡ cond (ltb c.next_link-port.result c.ports_left-left.result.to) (neighbours_item c.args.graph c.args.self c.next_link-port.result) End
+    ≡ cond (ltb c.next_link-port.result c.ports_left-left.result.to) (neighbours_item c.args.graph c.args.self c.next_link-port.result) None
 step-found c = neighbours_by_search c.args.graph _ _ _ _ _ _ c.wide-place.ensures c.held_in-there.ensures c.ports_left-left.ensures c.own_ports-skip.ensures c.next_link-port.ensures
 
 -- where it stops lies within the tables

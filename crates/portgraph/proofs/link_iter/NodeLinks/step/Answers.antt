@@ -1,6 +1,7 @@
 -- `portgraph::link_iter::NodeLinks::step` meets its contract: an item, none left, and no such node.
 
 -- the step, from what was computed
+use Rattle.std.specs.Prelude.{None}
 use mathlib.Core.Path.{◌≡◌}
 use Prim.Native.Nat.{◌<◌}
 use native.Mathlib.Omega.{arith}
@@ -9,14 +10,13 @@ use Rattle.port_tables.specs.Limits.{port_slots}
 use Rattle.port_tables.specs.TableSteps.{with_numbers}
 use Rattle.portgraph.specs.LinkWalks.{links_item, step_links, links_numbers}
 use Rattle.portgraph.specs.LinkWalkSteps.{left_inside, links_outside, links_by_search, links_given, links_over}
-use Rattle.portgraph.specs.declared.link_iter.NodeLinksStep.TheVariants.{End}
 use mathlib.Core.Bool.{cond}
 use Rattle.portgraph.proofs.link_iter.NodeLinks.step.Goals as goal
 use Rattle.portgraph.proofs.link_iter.NodeLinks.step.Goals.{After-struct_known-1, Then-port-left}
 
 step-found : (c : After-struct_known-1)
     → step_links c.args.graph c.args.self
-    ≡ cond (ltb c.next_link-port.result c.ports_left-left.result.to) (links_item c.args.graph c.args.self c.next_link-port.result) End
+    ≡ cond (ltb c.next_link-port.result c.ports_left-left.result.to) (links_item c.args.graph c.args.self c.next_link-port.result) None
 step-found c = links_by_search c.args.graph _ _ _ _ _ _ _ c.wide-place.ensures c.held_in-there.ensures c.ports_left-left.ensures c.wide.ensures c.wide-then-place-lt-NODE_SLOTS.ensures c.next_link-port.ensures
 
 -- where it stops lies within the tables

@@ -1,11 +1,12 @@
 -- `portgraph::portgraph::PortGraph::num_ports` meets its contract: no node and a node.
+use Rattle.std.specs.Prelude.{Option}
 use mathlib.Core.Path.{sym, ap, ◌∙◌}
 use Rattle.portgraph.specs.Lookups.{count_in}
-use Rattle.port_tables.specs.declared.node_entry.MaybeNodeMeta.{MaybeNodeMeta}
 use Rattle.portgraph.proofs.portgraph.PortGraph.num_ports.Goals as goal
+use Rattle.port_tables.specs.declared.node_entry.NodeMeta.{NodeMeta}
 
 pub returns-in_default : goal.returns-in_default
-returns-in_default c = ap (λ (m : MaybeNodeMeta). count_in m c.args.direction) (sym c.in_default.is ∙ c.node_meta_valid.ensures.0)
+returns-in_default c = ap (λ (m : Option NodeMeta). count_in m c.args.direction) (sym c.in_default.is ∙ c.node_meta_valid.ensures.0)
 
 pub returns : goal.returns
-returns c = c.num_ports.ensures ∙ ap (λ (m : MaybeNodeMeta). count_in m c.args.direction) (sym c.in-Some.is ∙ c.node_meta_valid.ensures.0)
+returns c = c.num_ports.ensures ∙ ap (λ (m : Option NodeMeta). count_in m c.args.direction) (sym c.in-Some.is ∙ c.node_meta_valid.ensures.0)

@@ -4,7 +4,7 @@
 use mathlib.Core.Path.{◌≡◌, sym, ap, ◌∙◌}
 use native.Mathlib.Omega.{arith}
 use Rattle.portgraph.specs.Lookups.{port_at, start_of, offset_of, maybe_offset_numbers}
-use Rattle.portgraph.specs.LookupSteps.{port_read, port_outside, offset_found, offset_without_node}
+use Rattle.portgraph.specs.LookupSteps.{port_read, port_outside, offset_found}
 use Rattle.port_tables.specs.TableSteps.{with_numbers}
 use Rattle.portgraph.proofs.portgraph.PortGraph.port_offset.Goals as goal
 use Rattle.portgraph.proofs.portgraph.PortGraph.port_offset.Goals.{After-read}
@@ -18,17 +18,14 @@ returns-then-place-ge-PORT_SLOTS c = with_numbers maybe_offset_numbers (ap (offs
 pub returns-in_default : goal.returns-in_default
 returns-in_default c = with_numbers maybe_offset_numbers (ap (offset_of c.args.self c.args.port.0) (sym c.in_default.is ∙ read-owner (goal.at.returns-in_default c).After-read))
 
-pub returns-in_default-node_meta_valid : goal.returns-in_default-node_meta_valid
-returns-in_default-node_meta_valid c = with_numbers maybe_offset_numbers (offset_without_node c.args.self c.args.port.0 c.in-Port.owner (sym c.in-Port.is ∙ read-owner (goal.at.returns-in_default-node_meta_valid c).After-read) (sym c.in_default-node_meta_valid.is ∙ c.node_meta_valid.ensures.0))
-
 pub returns-in-Incoming : goal.returns-in-Incoming
 returns-in-Incoming c =
-    let start = ap (start_of c.in-Some.meta) c.in-Incoming.is in
+    let start = ap (start_of c.in_ok-meta.meta) c.in-Incoming.is in
     with_numbers maybe_offset_numbers
-    (offset_found c.args.self c.args.port.0 _ c.in-Port.owner c.in-Some.meta (sym c.in-Port.is ∙ read-owner (goal.at.returns-in-Incoming c).After-read) (sym c.in-Some.is ∙ c.node_meta_valid.ensures.0) (omega arith))
+    (offset_found c.args.self c.args.port.0 _ c.in-Port.owner c.in_ok-meta.meta (sym c.in-Port.is ∙ read-owner (goal.at.returns-in-Incoming c).After-read) (sym c.in_ok-meta.was ∙ c.node_meta_valid.ensures.0) (omega arith))
 
 pub returns-in-Outgoing : goal.returns-in-Outgoing
 returns-in-Outgoing c =
-    let start = ap (start_of c.in-Some.meta) c.in-Outgoing.is in
+    let start = ap (start_of c.in_ok-meta.meta) c.in-Outgoing.is in
     with_numbers maybe_offset_numbers
-    (offset_found c.args.self c.args.port.0 _ c.in-Port.owner c.in-Some.meta (sym c.in-Port.is ∙ read-owner (goal.at.returns-in-Outgoing c).After-read) (sym c.in-Some.is ∙ c.node_meta_valid.ensures.0) (omega arith))
+    (offset_found c.args.self c.args.port.0 _ c.in-Port.owner c.in_ok-meta.meta (sym c.in-Port.is ∙ read-owner (goal.at.returns-in-Outgoing c).After-read) (sym c.in_ok-meta.was ∙ c.node_meta_valid.ensures.0) (omega arith))

@@ -26,7 +26,7 @@ pub overflow_cast-self : goal.overflow_cast-self
 overflow_cast-self c = omega (arith, neighbours_fit, node_free_fits _ c.requires)
 
 pub cut_range-cuts-requires : goal.cut_range-cuts-requires
-cut_range-cuts-requires c = omega (arith, (block-fits-at (goal.at.cut_range-cuts-requires c).In-Node).ends, c.wide-first.ensures, c.wide16-size.ensures)
+cut_range-cuts-requires c = omega (arith, (block-fits-at (goal.at.cut_range-cuts-requires c).In-Node).ends, c.wide-first.ensures, c.from-size.ensures)
 
 pub overflow_add-meta : goal.overflow_add-meta
 overflow_add-meta c = omega (arith, (block-fits-at (goal.at.overflow_add-meta c).In-Node).ends)
@@ -37,7 +37,7 @@ returns c =
     (node_removed c.args.self _ c.in-Node.meta c.in-Node.is c.requires.holds.nodes_long
     c.wide-place.ensures
     c.wide-first.ensures
-    c.wide16-size.ensures
+    c.from-size.ensures
     c.slot_after-after.ensures.0
     c.with_prev.ensures
     c.new_free.ensures
@@ -47,7 +47,7 @@ returns c =
     c.chain_block.ensures
     c.fill.ensures
     c.put_head.ensures
-    c.less.ensures
+    c.saturating_sub.ensures
     c.port_count.ensures
-    c.less-2.ensures
-    c.less-3.ensures)
+    c.saturating_sub-2.ensures
+    c.saturating_sub-3.ensures)

@@ -9,7 +9,7 @@ use Rattle.port_tables.specs.Limits.{node_slots, port_slots, node_ports}
 use Rattle.portgraph.specs.WfFacts.{port_count_fits, port_len_fits}
 use Rattle.portgraph.specs.ResizeSteps.{round_up_reaches, round_up_positive, round_up_fits, found_fits, anew_graph, anew_told_lem}
 use Rattle.portgraph.proofs.portgraph.PortGraph.resize_ports_anew.Goals as goal
-use Rattle.portgraph.proofs.portgraph.PortGraph.resize_ports_anew.Goals.{After-smaller-kept_out}
+use Rattle.portgraph.proofs.portgraph.PortGraph.resize_ports_anew.Goals.{After-min-kept_out}
 
 record Numbers (f oi oo cap ki ko i o first size len count node : ℕ) : Type 0 where
   ends : f + cap ≤ port_slots
@@ -24,8 +24,8 @@ record Numbers (f oi oo cap ki ko i o first size len count node : ℕ) : Type 0 
   count_fits : count ≤ node_slots * node_ports
   below : node < node_slots
 
-numbers : (c : After-smaller-kept_out)
-    → Numbers c.wide-first.result c.wide16-old_in.result c.wide16-old_out.result c.wide16-capacity.result c.smaller-kept_in.result c.smaller-kept_out.result
+numbers : (c : After-min-kept_out)
+    → Numbers c.wide-first.result c.from-old_in.result c.from-old_out.result c.from-capacity.result c.min-kept_in.result c.min-kept_out.result
     c.args.incoming c.args.outgoing c.args.new_first c.round_up-size.result c.args.self.port_len c.args.self.port_count c.args.node.0
 numbers c =
     let total = c.args.incoming + c.args.outgoing in
@@ -38,8 +38,8 @@ numbers c =
       ends = omega arith;
       ports = omega arith;
       small = omega arith;
-      kept_in = c.smaller-kept_in.ensures;
-      kept_out = c.smaller-kept_out.ensures;
+      kept_in = c.min-kept_in.ensures;
+      kept_out = c.min-kept_out.ensures;
       in_size = omega arith;
       size_small = omega arith;
       new_ends = omega arith;
@@ -49,70 +49,70 @@ numbers c =
     }
 
 pub overflow_cast-new_meta : goal.overflow_cast-new_meta
-overflow_cast-new_meta c = omega (arith, numbers (goal.at.overflow_cast-new_meta c).After-smaller-kept_out)
+overflow_cast-new_meta c = omega (arith, numbers (goal.at.overflow_cast-new_meta c).After-min-kept_out)
 
 pub overflow_cast-new_meta-4 : goal.overflow_cast-new_meta-4
-overflow_cast-new_meta-4 c = omega (arith, numbers (goal.at.overflow_cast-new_meta-4 c).After-smaller-kept_out)
+overflow_cast-new_meta-4 c = omega (arith, numbers (goal.at.overflow_cast-new_meta-4 c).After-min-kept_out)
 
 pub tell_moves-requires : goal.tell_moves-requires
-tell_moves-requires c = omega (arith, numbers (goal.at.tell_moves-requires c).After-smaller-kept_out)
+tell_moves-requires c = omega (arith, numbers (goal.at.tell_moves-requires c).After-min-kept_out)
 
 pub overflow_add-events-2 : goal.overflow_add-events-2
-overflow_add-events-2 c = omega (arith, numbers (goal.at.overflow_add-events-2 c).After-smaller-kept_out)
+overflow_add-events-2 c = omega (arith, numbers (goal.at.overflow_add-events-2 c).After-min-kept_out)
 
 pub overflow_add-first : goal.overflow_add-first
-overflow_add-first c = omega (arith, numbers (goal.at.overflow_add-first c).After-smaller-kept_out)
+overflow_add-first c = omega (arith, numbers (goal.at.overflow_add-first c).After-min-kept_out)
 
 pub overflow_add-new_first : goal.overflow_add-new_first
-overflow_add-new_first c = omega (arith, numbers (goal.at.overflow_add-new_first c).After-smaller-kept_out)
+overflow_add-new_first c = omega (arith, numbers (goal.at.overflow_add-new_first c).After-min-kept_out)
 
 pub tell_moves-requires-2 : goal.tell_moves-requires-2
-tell_moves-requires-2 c = omega (arith, numbers (goal.at.tell_moves-requires-2 c).After-smaller-kept_out)
+tell_moves-requires-2 c = omega (arith, numbers (goal.at.tell_moves-requires-2 c).After-min-kept_out)
 
 pub grown-requires : goal.grown-requires
-grown-requires c = omega (arith, numbers (goal.at.grown-requires c).After-smaller-kept_out)
+grown-requires c = omega (arith, numbers (goal.at.grown-requires c).After-min-kept_out)
 
 pub anew_links-requires : goal.anew_links-requires
-anew_links-requires c = omega (arith, numbers (goal.at.anew_links-requires c).After-smaller-kept_out, c.requires.3)
+anew_links-requires c = omega (arith, numbers (goal.at.anew_links-requires c).After-min-kept_out, c.requires.3)
 
 pub own_block-requires : goal.own_block-requires
-own_block-requires c = omega (arith, numbers (goal.at.own_block-requires c).After-smaller-kept_out)
+own_block-requires c = omega (arith, numbers (goal.at.own_block-requires c).After-min-kept_out)
 
 pub offset_bounds-self-place : goal.offset_bounds-self-place
-offset_bounds-self-place c = omega (arith, numbers (goal.at.offset_bounds-self-place c).After-smaller-kept_out)
+offset_bounds-self-place c = omega (arith, numbers (goal.at.offset_bounds-self-place c).After-min-kept_out)
 
 pub bounds-self-place : goal.bounds-self-place
-bounds-self-place c = omega (arith, numbers (goal.at.bounds-self-place c).After-smaller-kept_out)
+bounds-self-place c = omega (arith, numbers (goal.at.bounds-self-place c).After-min-kept_out)
 
 pub cut_range-more-requires : goal.cut_range-more-requires
-cut_range-more-requires c = omega (arith, numbers (goal.at.cut_range-more-requires c).After-smaller-kept_out)
+cut_range-more-requires c = omega (arith, numbers (goal.at.cut_range-more-requires c).After-min-kept_out)
 
 pub overflow_add-meta : goal.overflow_add-meta
-overflow_add-meta c = omega (arith, numbers (goal.at.overflow_add-meta c).After-smaller-kept_out, c.requires.3)
+overflow_add-meta c = omega (arith, numbers (goal.at.overflow_add-meta c).After-min-kept_out, c.requires.3)
 
 pub overflow_add-old_in : goal.overflow_add-old_in
-overflow_add-old_in c = omega (arith, numbers (goal.at.overflow_add-old_in c).After-smaller-kept_out)
+overflow_add-old_in c = omega (arith, numbers (goal.at.overflow_add-old_in c).After-min-kept_out)
 
 pub overflow_add-self : goal.overflow_add-self
-overflow_add-self c = omega (arith, numbers (goal.at.overflow_add-self c).After-smaller-kept_out)
+overflow_add-self c = omega (arith, numbers (goal.at.overflow_add-self c).After-min-kept_out)
 
 pub overflow_add-self-2 : goal.overflow_add-self-2
-overflow_add-self-2 c = omega (arith, numbers (goal.at.overflow_add-self-2 c).After-smaller-kept_out)
+overflow_add-self-2 c = omega (arith, numbers (goal.at.overflow_add-self-2 c).After-min-kept_out)
 
 pub overflow_add-result : goal.overflow_add-result
-overflow_add-result c = omega (arith, numbers (goal.at.overflow_add-result c).After-smaller-kept_out)
+overflow_add-result c = omega (arith, numbers (goal.at.overflow_add-result c).After-min-kept_out)
 
 pub overflow_add-result-2 : goal.overflow_add-result-2
-overflow_add-result-2 c = omega (arith, numbers (goal.at.overflow_add-result-2 c).After-smaller-kept_out)
+overflow_add-result-2 c = omega (arith, numbers (goal.at.overflow_add-result-2 c).After-min-kept_out)
 
 pub shape_of-moves : goal.shape_of-moves
 shape_of-moves c = omega (arith, c.tell_moves-2.auto, c.tell_moves.auto, c.drop_both-cuts.auto)
 
 pub returns : goal.returns
 returns c = (
-  anew_graph c.args.self c.args.meta c.args.node.0 c.args.incoming c.args.outgoing _ _ _ _ _ c.wide-first.ensures c.wide16-old_in.ensures c.wide16-old_out.ensures c.smaller-kept_in.ensures c.smaller-kept_out.ensures
+  anew_graph c.args.self c.args.meta c.args.node.0 c.args.incoming c.args.outgoing _ _ _ _ _ c.wide-first.ensures c.from-old_in.ensures c.from-old_out.ensures c.min-kept_in.ensures c.min-kept_out.ensures
       _ _ c.args.new_first _ _ _ _ _ _ _ _ _ _ _ _ _ _ _ _ _ _ _ _
-      c.wide16-capacity.ensures
+      c.from-capacity.ensures
       c.round_up-size.ensures
       c.requires.4
       c.head_at-head.ensures
@@ -132,10 +132,10 @@ returns c = (
       c.chain_block.ensures
       c.fill.ensures
       c.put_head-2.ensures
-      c.less.ensures
-      c.less-2.ensures
-      c.less-3.ensures,
-  anew_told_lem c.args.self c.args.meta 0 c.args.incoming c.args.outgoing _ _ _ _ _ c.wide-first.ensures c.wide16-old_in.ensures c.wide16-old_out.ensures c.smaller-kept_in.ensures c.smaller-kept_out.ensures
+      c.saturating_sub.ensures
+      c.saturating_sub-2.ensures
+      c.saturating_sub-3.ensures,
+  anew_told_lem c.args.self c.args.meta 0 c.args.incoming c.args.outgoing _ _ _ _ _ c.wide-first.ensures c.from-old_in.ensures c.from-old_out.ensures c.min-kept_in.ensures c.min-kept_out.ensures
       c.args.new_first _ _ _ _
       c.drop_both-cuts.ensures.2
       c.tell_moves.ensures

@@ -12,7 +12,7 @@ overflow_add-self-2 c = omega (arith, c.requires, port_count_fits _ c.requires.0
 
 pub returns : goal.returns
 returns c = (
-  inside_graph c.args.self c.args.meta c.args.node.0 c.args.incoming c.args.outgoing _ _ _ _ _ c.wide-first.ensures c.wide16-old_in.ensures c.wide16-old_out.ensures c.smaller-kept_in.ensures c.smaller-kept_out.ensures
+  inside_graph c.args.self c.args.meta c.args.node.0 c.args.incoming c.args.outgoing _ _ _ _ _ c.wide-first.ensures c.from-old_in.ensures c.from-old_out.ensures c.min-kept_in.ensures c.min-kept_out.ensures
       _ _ _ _ _ _ _ _
       c.drop_both-cuts.ensures.1
       c.drop_both-cuts.ensures.0
@@ -20,9 +20,9 @@ returns c = (
       c.own_block.ensures
       c.wide-place.ensures
       c.new_node.ensures
-      c.less.ensures
-      c.less-2.ensures,
-  inside_told_lem c.args.self c.args.meta 0 c.args.incoming c.args.outgoing _ _ _ _ _ c.wide-first.ensures c.wide16-old_in.ensures c.wide16-old_out.ensures c.smaller-kept_in.ensures c.smaller-kept_out.ensures
+      c.saturating_sub.ensures
+      c.saturating_sub-2.ensures,
+  inside_told_lem c.args.self c.args.meta 0 c.args.incoming c.args.outgoing _ _ _ _ _ c.wide-first.ensures c.from-old_in.ensures c.from-old_out.ensures c.min-kept_in.ensures c.min-kept_out.ensures
       _ _ _
       c.drop_both-cuts.ensures.2
       c.tell_moves.ensures,

@@ -19,7 +19,7 @@ returns-in_default c = with_numbers (λ (r : PortUnlinked). port_link_numbers r.
 pub returns-then-far-eq0 : goal.returns-then-far-eq0
 returns-then-far-eq0 c =
     let live = sym c.in-Port.is ∙ read-owner (goal.at.returns-then-far-eq0 c).After-read in
-    let less = c.less.ensures ∙ ap (λ (n : ℕ). c.args.self.link_count - n) c.link_count.ensures in
+    let less = c.saturating_sub.ensures ∙ ap (λ (n : ℕ). c.args.self.link_count - n) c.link_count.ensures in
     with_numbers (λ (r : PortUnlinked). port_link_numbers r.answer)
     (unlink_live c.args.self c.args.port.0 _ _ _ _ _ c.in-Port.field-0 live c.wide-place.ensures c.cut-far.ensures.0 c.cut-far.ensures.1 less
     (no_link c.args.self c.args.port.0 _ _ c.in-Port.field-0 live c.wide-place.ensures c.cut-far.ensures.0 c.if-far-eq0.true))
@@ -27,7 +27,7 @@ returns-then-far-eq0 c =
 pub returns : goal.returns
 returns c =
     let live = sym c.in-Port.is ∙ read-owner (goal.at.returns c).After-read in
-    let less = c.less.ensures ∙ ap (λ (n : ℕ). c.args.self.link_count - n) c.link_count.ensures in
+    let less = c.saturating_sub.ensures ∙ ap (λ (n : ℕ). c.args.self.link_count - n) c.link_count.ensures in
     with_numbers (λ (r : PortUnlinked). port_link_numbers r.answer)
     (unlink_live c.args.self c.args.port.0 _ _ _ _ _ c.in-Port.field-0 live c.wide-place.ensures c.cut-far.ensures.0 c.cut-far.ensures.1 less
     (link_to c.args.self c.args.port.0 _ _ c.in-Port.field-0 live c.wide-place.ensures c.cut-far.ensures.0 c.if-far-eq0.false))

@@ -1,0 +1,30 @@
+// What an entry answers where it refuses: a number above every length.
+ghost use Rattle.std.specs.Prelude.{◌≡◌, get_or};
+ghost use Rattle.multi_tables.specs.EndAnswers.{refusal_numbers};
+ghost use Rattle.exports.specs.Exports.{refused_with};
+
+use multi_tables::answers::Refusal;
+use records::answers::refusal_words;
+
+const REFUSED: u64 = 4294967296;
+
+// Refusals by their numbers.
+pub(crate) const BAD_LENGTH: u64 = REFUSED + 1;
+
+pub(crate) const BUFFER_SHORT: u64 = REFUSED + 15;
+
+pub(crate) const BAD_SUMS: u64 = REFUSED + 16;
+
+pub(crate) const BAD_LAYOUT: u64 = REFUSED + 17;
+
+pub(crate) const BAD_TIMES: u64 = REFUSED + 19;
+
+pub(crate) const CYCLE: u64 = REFUSED + 20;
+
+// A refused call.
+pub(crate) fn refusal_told(refusal: Refusal) -> u64
+    ensures { result ≡ refused_with (get_or (refusal_numbers refusal) 0 0) }
+{
+    let words = refusal_words(refusal);
+    REFUSED + words.a as u64
+}

@@ -139,7 +139,7 @@ def functions(top, crate):
     for name in sorted(os.listdir(src)):
         lines, owner = read(os.path.join(src, name)).split("\n"), name[:-3]
         for i, line in enumerate(lines):
-            impl = re.match(r"impl (\w+)", line)
+            impl = re.match(r"impl(?:<[^>]*>)? (\w+)", line)
             if impl or line == "}":
                 owner = impl.group(1) if impl else name[:-3]
             fn = re.match(r'( *)(pub |pub\(crate\) )?(?:extern "C" )?fn (\w+)', line)
@@ -268,7 +268,7 @@ def give_names(top, edit, asked):
             edit.given[gone] = name
     # what a goal's name says of conditions stands in the names of facts too
     for old, name in list(edit.given.items()):
-        old, name = (re.sub(r"^.*?-(?:then|else)-", "", word) for word in (old, name))
+        old, name = (re.sub(r"^.*?-(?:then|else)-|-clause-.*$", "", word) for word in (old, name))
         edit.given.setdefault(old, name)
     return bool(edit.given)
 

@@ -107,7 +107,7 @@ pub(crate) fn case_k() -> bool {
         .asked(Code::Add, [0, 2, 0, 0], [0, 1, 2, 0, 0])
         .asked(Code::Link, [2, 0, 0, 0], [0, 2, 0, 0, 0])
         .asked(Code::Link, [3, 0, 0, 0], [0, 3, 0, 0, 1])
-        .resized(0, 0, 1, 2, &[0, 1, 6, 1, 0, 0])
+        .resized([0, 0, 1], 2, [0, 1, 6, 1, 0, 0])
         .wired(0)
         .listed(0, &[(0, 0)]);
     state.good

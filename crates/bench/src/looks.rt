@@ -22,10 +22,7 @@ pub(crate) fn lists(graph: MultiPortGraph, node: u32, subports: &[(u32, u32)]) -
         }
         cursor = next;
     }
-    match cursor.step(graph) {
-        Some((_, _)) => false,
-        None => true,
-    }
+    cursor.step(graph).is_none()
 }
 
 // Whether the list of all wires has so many.
@@ -39,8 +36,5 @@ pub(crate) fn has_wires(graph: MultiPortGraph, count: u32) -> bool
         };
         cursor = next;
     }
-    match cursor.step(graph) {
-        Some((_, _)) => false,
-        None => true,
-    }
+    cursor.step(graph).is_none()
 }

@@ -7,8 +7,9 @@ use multiportgraph::multiportgraph::MultiPortGraph;
 use port_tables::release::Release;
 use records::answers::Answer5;
 use records::ask::{ask, empty, resize};
+use records::requests::Request;
 
-// `good` as long as every answer was the one expected.
+// `good` as long as every answer was the one expected. Stays a flag beside the graph, which goes on after another answer too.
 #[derive(Drop)]
 pub struct State {
     pub graph: MultiPortGraph,
@@ -67,7 +68,16 @@ impl State {
     {
         let graph = self.graph;
         let [a, b, c, d] = arguments;
-        let told = ask(graph, code as u32, a, b, c, d);
+        let told = ask(
+            graph,
+            Request {
+                code: code as u32,
+                a: a,
+                b: b,
+                c: c,
+                d: d,
+            },
+        );
         let after = told.graph;
         let answer = told.answer;
         let state = State {
@@ -77,19 +87,13 @@ impl State {
         state.with(is_answer(answer, words))
     }
 
-    // A resize of a node with two ports, its number of events and its move list.
-    pub(crate) fn resized(
-        self,
-        node: u32,
-        incoming: u32,
-        outgoing: u32,
-        events: usize,
-        numbers: &[u32; 6],
-    ) -> Self
+    // A resize of a node with two ports: node, inputs and outputs, its number of events and its move list.
+    pub(crate) fn resized(self, arguments: [u32; 3], events: usize, numbers: [u32; 6]) -> Self
         requires { MultiWf self.graph }
         ensures { MultiWf result.graph }
     {
         let graph = self.graph;
+        let [node, incoming, outgoing] = arguments;
         let mut moves = [0u32; 6];
         let sized = resize(graph, node, incoming, outgoing, &mut moves);
         let after = sized.graph;
@@ -98,7 +102,7 @@ impl State {
             graph: after,
             good: self.good,
         };
-        state.with(was_set(answer, events)).with(moves == *numbers)
+        state.with(was_set(answer, events)).with(moves == numbers)
     }
 
     // The subports of a node, a port and an offset each.

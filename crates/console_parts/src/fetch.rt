@@ -4,7 +4,8 @@ ghost use Rattle.multiportgraph.specs.WellFormed.{MultiWf};
 use crate::orders::Order;
 use crate::replies::{Reason, show_refusal, show_refusal_number};
 use crate::store::{path_of, show_failure};
-use files::load::{LoadError, load};
+use files::load::load;
+use files::merge::MergeError;
 use lines::show::write_bytes;
 use lines::text::{next_word, part};
 use multiportgraph::multiportgraph::MultiPortGraph;
@@ -30,13 +31,34 @@ fn read_all<'a, I: Read>(file: &mut I, buffer: &'a mut [u8]) -> io::Result<&'a [
 }
 
 // Reads the file of a name.
-pub(crate) fn read_file<'a>(
-    rt: &impl Files,
-    name: &[u8],
-    buffer: &'a mut [u8],
-) -> io::Result<&'a [u8]> {
+fn read_file<'a>(rt: &impl Files, name: &[u8], buffer: &'a mut [u8]) -> io::Result<&'a [u8]> {
     let mut file = fs::open(rt, path_of(name)?)?;
     read_all(&mut file, buffer)
+}
+
+// The same; where it cannot be read, that is said.
+pub(crate) fn fetch<'a>(
+    rt: &(impl Files + Print),
+    name: &[u8],
+    buffer: &'a mut [u8],
+) -> Option<&'a [u8]> {
+    match read_file(rt, name, buffer) {
+        Ok(bytes) => Some(bytes),
+        Err(error) => {
+            show_failure(rt, b"cannot read ", name, error);
+            None
+        }
+    }
+}
+
+// Why a file is refused, or two as one.
+pub(crate) fn show_file_refusal(rt: &impl Print, error: MergeError) {
+    match error {
+        MergeError::BadSums => show_refusal_number(rt, Reason::BadSums),
+        MergeError::BadLayout => show_refusal_number(rt, Reason::BadLayout),
+        MergeError::Refused(refusal) => show_refusal(rt, refusal),
+        MergeError::BufferShort => show_refusal_number(rt, Reason::BufferShort),
+    }
 }
 
 // The wiring of the file whose name stands in the line, for the release of the one in hand, which stays where the file cannot be read or is
@@ -52,12 +74,8 @@ pub fn load_from(
 {
     let name = part(text, next_word(text, order.from));
     let mut buffer = [0u8; FILE_ROOM];
-    let bytes = match read_file(rt, name, &mut buffer) {
-        Ok(bytes) => bytes,
-        Err(error) => {
-            show_failure(rt, b"cannot read ", name, error);
-            return graph;
-        }
+    let Some(bytes) = fetch(rt, name, &mut buffer) else {
+        return graph;
     };
     let loaded = load(graph.release(), bytes);
     let answer = loaded.answer;
@@ -66,16 +84,8 @@ pub fn load_from(
             write_bytes(rt, b"ok\n");
             loaded.graph
         }
-        Err(LoadError::BadSums) => {
-            show_refusal_number(rt, Reason::BadSums);
-            graph
-        }
-        Err(LoadError::BadLayout) => {
-            show_refusal_number(rt, Reason::BadLayout);
-            graph
-        }
-        Err(LoadError::Refused(refusal)) => {
-            show_refusal(rt, refusal);
+        Err(error) => {
+            show_file_refusal(rt, MergeError::from(error));
             graph
         }
     }

@@ -1,23 +1,11 @@
 // Two files as one, under a third name.
-use crate::fetch::{FILE_ROOM, read_file};
+use crate::fetch::{FILE_ROOM, fetch, show_file_refusal};
 use crate::orders::Order;
-use crate::replies::{Reason, show_refusal, show_refusal_number};
-use crate::store::{show_failure, write_wiring};
-use files::merge::{MergeError, merge};
+use crate::store::write_wiring;
+use files::merge::merge;
 use files::save::LONGEST_FILE;
 use lines::text::{Span, next_word, part};
 use std::fs::Files;
-
-// Reads the file of a name, or says why it cannot be read.
-fn fetch<'a>(rt: &(impl Files + Print), name: &[u8], buffer: &'a mut [u8]) -> Option<&'a [u8]> {
-    match read_file(rt, name, buffer) {
-        Ok(bytes) => Some(bytes),
-        Err(error) => {
-            show_failure(rt, b"cannot read ", name, error);
-            None
-        }
-    }
-}
 
 // Merges two files that were read, and writes the result, which is no longer than the longest file since it loads.
 fn merge_read<'a>(rt: &(impl Files + Print), first: &'a [u8], second: &'a [u8], name: &'a [u8]) {
@@ -26,10 +14,7 @@ fn merge_read<'a>(rt: &(impl Files + Print), first: &'a [u8], second: &'a [u8], 
         Ok(len) => {
             write_wiring(rt, name, part(&result, Span { from: 0, to: len }));
         }
-        Err(MergeError::BadSums) => show_refusal_number(rt, Reason::BadSums),
-        Err(MergeError::BadLayout) => show_refusal_number(rt, Reason::BadLayout),
-        Err(MergeError::Refused(refusal)) => show_refusal(rt, refusal),
-        Err(MergeError::BufferShort) => show_refusal_number(rt, Reason::BufferShort),
+        Err(error) => show_file_refusal(rt, error),
     }
 }
 

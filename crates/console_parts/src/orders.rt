@@ -1,4 +1,5 @@
 // What a line asks for: the commands, and how each is typed.
+use lines::listening::Heard;
 use lines::orders::order_by;
 use lines::rows::row_of;
 use lines::text::next_word;
@@ -93,16 +94,8 @@ fn entry_size(command: Command) -> usize {
 
 // The order of a line that was heard; where it is none, what is wrong with it is said. Stays in both consoles: commands and list sizes are each one's own, and the rest is
 // `order_by`.
-pub fn order_of(rt: &impl Print, text: &[u8], line: u64) -> Option<Order> {
-    let first = next_word(text, 0);
-    let (command, usage) = row_of(rt, &COMMANDS, text, first, line)?;
-    order_by(
-        rt,
-        command,
-        usage,
-        entry_size(command),
-        text,
-        first.to,
-        line,
-    )
+pub fn order_of(rt: &impl Print, heard: Heard) -> Option<Order> {
+    let first = next_word(heard.text, 0);
+    let row = row_of(rt, &COMMANDS, heard, first)?;
+    order_by(rt, row, entry_size(row.0), heard, first.to)
 }

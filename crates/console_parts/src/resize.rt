@@ -11,15 +11,13 @@ use records::ask::resize;
 // Three numbers for each port that a node can have.
 const MOVES: usize = 3 * NODE_PORTS;
 
-// Each event: the port, the kind, and the new port or the old link.
-fn show_moves(rt: &impl Print, moves: &[u32], events: usize) {
-    for event in moves.chunks_exact(3).take(events) {
-        let mut line = Line::of(b" ");
-        for number in event {
-            line = line.number(*number);
-        }
-        line.write(rt);
+// An event: the port, the kind, and the new port or the old link.
+fn show_move(rt: &impl Print, event: &[u32]) {
+    let mut line = Line::of(b" ");
+    for number in event {
+        line = line.number(*number);
     }
+    line.write(rt);
 }
 
 pub fn resize_block(rt: &impl Print, graph: MultiPortGraph, order: Order) -> MultiPortGraph
@@ -37,7 +35,9 @@ pub fn resize_block(rt: &impl Print, graph: MultiPortGraph, order: Order) -> Mul
     let answer = sized.answer;
     match answer {
         Ok(events) => {
-            show_moves(rt, &moves, events);
+            for event in moves.chunks_exact(3).take(events) {
+                show_move(rt, event);
+            }
             show_number(rt, events as u64);
         }
         Err(refusal) => show_refusal(rt, refusal),

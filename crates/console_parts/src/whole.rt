@@ -57,26 +57,6 @@ fn show_places(rt: &impl Print, numbers: &[u32]) {
     }
 }
 
-fn show_all(rt: &impl Print, numbers: &[u32], command: Command, count: usize) {
-    match command {
-        Command::Blocks => {
-            for block in numbers.chunks_exact(4).take(count) {
-                show_block(rt, block);
-            }
-        }
-        Command::Places => {
-            for wire in numbers.chunks_exact(8).take(count) {
-                show_places(rt, wire);
-            }
-        }
-        _ => {
-            for wire in numbers.chunks_exact(8).take(count) {
-                show_wire(rt, wire);
-            }
-        }
-    }
-}
-
 fn listed(
     graph: MultiPortGraph,
     command: Command,
@@ -97,7 +77,23 @@ pub fn list_whole(rt: &impl Print, graph: MultiPortGraph, command: Command)
     let mut numbers = [0u32; ROOM];
     match listed(graph, command, &mut numbers) {
         Ok(count) => {
-            show_all(rt, &numbers, command, count);
+            match command {
+                Command::Blocks => {
+                    for block in numbers.chunks_exact(4).take(count) {
+                        show_block(rt, block);
+                    }
+                }
+                Command::Places => {
+                    for wire in numbers.chunks_exact(8).take(count) {
+                        show_places(rt, wire);
+                    }
+                }
+                _ => {
+                    for wire in numbers.chunks_exact(8).take(count) {
+                        show_wire(rt, wire);
+                    }
+                }
+            }
             show_number(rt, count as u64);
         }
         Err(TooShort(_)) => write_bytes(rt, b"the listing is too long\n"),

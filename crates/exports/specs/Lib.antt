@@ -13,13 +13,11 @@
 --   LoadedLaws    the requests of a file are its build, and a list that begins with them goes on from the loaded graph
 --   ViewedLaws    a view is read back, and shows the book that goes with its graph
 --   TimedLaws     what a number says that an entry for times returns
---   Left          the tables that a list of requests leaves, as a graph
 --   ExportSteps, LoadedSteps, ViewedSteps, TimedSteps   what the functions' proofs cite
 pub mod Exports
 pub mod Viewed
 pub mod ViewedClaims
 pub mod Timed
-pub mod Left
 -- theorems
 pub mod ViewedTheorems
 pub mod TimedTheorems

@@ -2,10 +2,9 @@
 ghost use Rattle.std.specs.Prelude.{◌≡◌};
 ghost use Rattle.exports.specs.Exports.{save_told, save_return, save_written};
 
-use crate::left::Left;
+use crate::left::lent_left;
 use crate::told::{BAD_LENGTH, BUFFER_SHORT};
 use files::save::{BufferShort, save_lent};
-use port_tables::release::Release;
 
 // What saving comes to, as one number.
 fn save_told(answer: Result<usize, BufferShort>) -> u64
@@ -26,16 +25,5 @@ pub fn save_records(requests: &[u8], file: &mut [u8]) -> u64
     if requests.len() % 20 != 0 {
         return BAD_LENGTH;
     }
-    let mut left = Left::new(Release::One);
-    left.run(requests);
-    save_told(save_lent(
-        &left.nodes,
-        &left.links,
-        &left.owners,
-        &left.heads,
-        &left.marks,
-        &left.flags,
-        left.totals,
-        file,
-    ))
+    save_told(save_lent(&lent_left(requests), file))
 }

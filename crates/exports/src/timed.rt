@@ -4,12 +4,10 @@ ghost use Rattle.multiportgraph.specs.WellFormed.{MultiWf};
 ghost use Rattle.exports.specs.Exports.{graph_left};
 ghost use Rattle.exports.specs.Timed.{longest_told, longest_return, path_told, path_return, path_written};
 
-use crate::left::Left;
+use crate::left::lent_left;
 use crate::told::{BAD_LENGTH, BAD_TIMES, BUFFER_SHORT, CYCLE, refusal_told};
-use multiportgraph::lent_graph::graph_of_tables;
 use multiportgraph::multiportgraph::MultiPortGraph;
 use port_tables::index::NodeIndex;
-use port_tables::release::Release;
 use timing::answers::{LongestError, PathListed};
 use timing::longest::{longest, path};
 
@@ -18,17 +16,7 @@ use timing::longest::{longest, path};
 fn graph_left(requests: &[u8]) -> MultiPortGraph
     ensures { (result ≡ graph_left requests.now) × MultiWf result }
 {
-    let mut left = Left::new(Release::One);
-    left.run(requests);
-    graph_of_tables(
-        &left.nodes,
-        &left.links,
-        &left.owners,
-        &left.heads,
-        &left.marks,
-        &left.flags,
-        left.totals,
-    )
+    lent_left(requests).graph()
 }
 
 // A question without a largest sum, as one number.

@@ -1,4 +1,4 @@
-// What an entry answers where it refuses: a number above every length.
+// What an entry answers where it refuses: a number above every length. Stays a number: C calls the entries.
 ghost use Rattle.std.specs.Prelude.{◌≡◌, get_or};
 ghost use Rattle.multi_tables.specs.EndAnswers.{refusal_numbers};
 ghost use Rattle.exports.specs.Exports.{refused_with};

@@ -5,16 +5,13 @@ ghost use Rattle.multiportgraph.specs.WellFormed.{MultiWf};
 ghost use Rattle.multiportgraph.specs.Calls.{visible_nodes, visible_links};
 ghost use Rattle.multiportgraph.specs.Listed.{blocks_listed, wires_listed, list_after};
 ghost use Rattle.records.specs.Words.{bytes_of};
-ghost use Rattle.exports.specs.Left.{graph_in};
+ghost use Rattle.multiportgraph.specs.MultiLent.{graph_of};
 ghost use Rattle.exports.specs.Viewed.{view_bytes, view_told, view_return, view_written};
 
-use crate::left::Left;
+use crate::left::lent_left;
 use crate::told::{BAD_LENGTH, BUFFER_SHORT};
-use multiportgraph::lent::{link_count_lent, node_count_lent};
-use multiportgraph::list_blocks::blocks_lent;
-use multiportgraph::list_wires::wires_lent;
+use multiportgraph::lent_graph::LentGraph;
 use port_tables::index::{NODE_SLOTS, PORT_SLOTS};
-use port_tables::release::Release;
 use records::words::put_word;
 
 // So many words the blocks take at most, and the wires, of which each has two port slots.
@@ -32,60 +29,42 @@ fn put_words(bytes: &mut [u8], at: usize, words: &[u32])
     }
 }
 
-// Lays the blocks of lent tables from a byte position on.
-fn put_blocks(left: &Left, view: &mut [u8], at: usize)
-    requires { MultiWf (graph_in left.now)
-        × (at + 16 * visible_nodes (graph_in left.now) ≤ length view.old) }
-    ensures { view.new ≡ sets view.old at (bytes_of (blocks_listed (graph_in left.now))) }
+// Lays the blocks of a lent graph from a byte position on.
+fn put_blocks(left: &LentGraph, view: &mut [u8], at: usize)
+    requires { MultiWf (graph_of left.now)
+        × (at + 16 * visible_nodes (graph_of left.now) ≤ length view.old) }
+    ensures { view.new ≡ sets view.old at (bytes_of (blocks_listed (graph_of left.now))) }
 {
     let mut list = [0u32; BLOCK_WORDS];
-    let count = node_count_lent(left.totals);
+    let count = left.node_count();
     // The list is long enough, so all are written.
-    let _ = blocks_lent(
-        &left.nodes,
-        &left.links,
-        &left.owners,
-        &left.heads,
-        &left.marks,
-        &left.flags,
-        left.totals,
-        &mut list,
-    );
+    let _ = left.list_blocks(&mut list);
     let end = 4 * count;
     put_words(view, at, &list[..end]);
 }
 
-// Lays the wires of lent tables from a byte position on.
-fn put_wires(left: &Left, view: &mut [u8], at: usize)
-    requires { MultiWf (graph_in left.now)
-        × (at + 32 * visible_links (graph_in left.now) ≤ length view.old) }
-    ensures { view.new ≡ sets view.old at (bytes_of (wires_listed (graph_in left.now))) }
+// Lays the wires of a lent graph from a byte position on.
+fn put_wires(left: &LentGraph, view: &mut [u8], at: usize)
+    requires { MultiWf (graph_of left.now)
+        × (at + 32 * visible_links (graph_of left.now) ≤ length view.old) }
+    ensures { view.new ≡ sets view.old at (bytes_of (wires_listed (graph_of left.now))) }
 {
     let mut list = [0u32; WIRE_WORDS];
-    let count = link_count_lent(left.totals);
+    let count = left.link_count();
     // The list is long enough, so all are written.
-    let _ = wires_lent(
-        &left.nodes,
-        &left.links,
-        &left.owners,
-        &left.heads,
-        &left.marks,
-        &left.flags,
-        left.totals,
-        &mut list,
-    );
+    let _ = left.list_wires(&mut list);
     let end = 8 * count;
     put_words(view, at, &list[..end]);
 }
 
-// Writes the view of lent tables and answers its length, or 4,294,967,296 and 15 if the buffer is too short, which then stays as it was.
-fn view_in(left: &Left, view: &mut [u8]) -> u64
-    requires { MultiWf (graph_in left.now) }
-    ensures { (result ≡ view_told (graph_in left.now) view.old)
-        × (view.new ≡ list_after (view_bytes (graph_in left.now)) view.old) }
+// Writes the view of a lent graph and answers its length, or 4,294,967,296 and 15 if the buffer is too short, which then stays as it was.
+fn view_in(left: &LentGraph, view: &mut [u8]) -> u64
+    requires { MultiWf (graph_of left.now) }
+    ensures { (result ≡ view_told (graph_of left.now) view.old)
+        × (view.new ≡ list_after (view_bytes (graph_of left.now)) view.old) }
 {
-    let blocks = node_count_lent(left.totals);
-    let wires = link_count_lent(left.totals);
+    let blocks = left.node_count();
+    let wires = left.link_count();
     let second = 8 + 16 * blocks;
     let size = second + 32 * wires;
     if view.len() < size {
@@ -109,7 +88,5 @@ pub fn view_of_records(requests: &[u8], view: &mut [u8]) -> u64
     if requests.len() % 20 != 0 {
         return BAD_LENGTH;
     }
-    let mut left = Left::new(Release::One);
-    left.run(requests);
-    view_in(&left, view)
+    view_in(&lent_left(requests), view)
 }

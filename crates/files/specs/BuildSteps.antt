@@ -12,9 +12,6 @@ use Rattle.multiportgraph.specs.CountLaws.{visible_nodes_lem}
 use Rattle.multiportgraph.specs.HiddenStays.{true_not_false}
 use Rattle.multiportgraph.specs.Graph.{empty_graph}
 use Rattle.multiportgraph.specs.WellFormed.{MultiWf}
-use Rattle.multiportgraph.specs.LentLaws.{empty_in}
-use Rattle.multiportgraph.specs.MultiLent.{multi_in, no_totals}
-use Rattle.multiportgraph.specs.declared.lent.Totals.{Totals}
 use Rattle.multiportgraph.specs.declared.multiportgraph.MultiPortGraph.{MultiPortGraph}
 use Rattle.port_tables.specs.declared.release.Release.{Release}
 use Rattle.theorems.specs.Book as book
@@ -308,13 +305,6 @@ blocks_short (suc n) r = let h = r.there n (omega arith) in omega arith
 
 -- The whole build.
 
--- tables without anything are the empty graph
-pub tables_empty : (release : Release) (totals : Totals) → totals ≡ no_totals release →
-    multi_in (replicate node_words 0) (replicate port_slots 0) (replicate port_slots 0) (replicate free_lists 0) (replicate port_slots false) (replicate node_slots false) totals ≡ empty_graph release
-tables_empty release totals e =
-    ap (multi_in (replicate node_words 0) (replicate port_slots 0) (replicate port_slots 0) (replicate free_lists 0) (replicate port_slots false) (replicate node_slots false)) e
-    ∙ empty_in release
-
 first_append : (m : MultiPortGraph) (a b : List Call) → is_ok (first_refusal m a) ≡ true → first_refusal m (a ++ b) ≡ first_refusal (graph_after m a) b
 unfolding first_refusal_under graph_after
 first_append m [] b h = refl
@@ -458,6 +448,11 @@ module _ (release : Release) (bytes : List ℕ) where
     pub load_is_build : load_answer release bytes ≡ first_refusal (empty_graph release) (build_of (unbytes bytes))
     unfolding load_answer_under
     load_is_build = let w = l.whole in let a = l.answer in rw (w, a) refl
+
+    pub answer_is : (m : MultiPortGraph) (r : Result (Unit {0}) LoadError) →
+        MatchResult r (λ _. Built (empty_graph release) (build_of (unbytes bytes)) m) (λ e. first_refusal (empty_graph release) (build_of (unbytes bytes)) ≡ Err e) → r ≡ load_answer release bytes
+    answer_is m (Ok tt) b = sym (load_is_build ∙ b.told)
+    answer_is m (Err e) h = sym (load_is_build ∙ h)
 
     pub load_done : {m m' : MultiPortGraph} → Built (empty_graph release) (build_of (unbytes bytes)) m → m' ≡ m →
         (◌≡◌ {A = FileLoaded} (record { graph = m'; answer = Ok tt }) (record { graph = load_graph release bytes; answer = load_answer release bytes })) × MultiWf m'

@@ -21,12 +21,6 @@ four_bytes x =
     let d : x % 4294967296 / 16777216 % 256 ≡ x / 65536 / 256 % 256 = omega arith in
     rw (a, b, c, d) refl
 
--- values that take the place of as many are laid
-pub laid : (l part v : List ℕ) (i k : ℕ) → i + length v ≤ length l → part ≡ v → k ≡ length v → take i l ++ (part ++ drop k (drop i l)) ≡ sets l i v
-laid l part v i k h e n =
-    (λ j. take i l ++ (e j ++ drop (n j) (drop i l)))
-    ∙ (ap (λ (r : List ℕ). take i l ++ (v ++ r)) (drop-drop (length v) i l) ∙ (sym (append_assoc (take i l) v (drop (i + length v) l)) ∙ sym (sets-eq v l i h)))
-
 -- a field, then what follows it
 pub field_then : (l : List ℕ) (i x : ℕ) (rest : List ℕ) → sets (sets l i (field_bytes x)) (i + 2) rest ≡ sets l i (field_bytes x ++ rest)
 unfolding field_bytes

@@ -3,14 +3,14 @@
 use Rattle.std.specs.List.{list_all}
 use Rattle.std.specs.Prelude.{◌≡◌, refl, Bool, true, false, cond, ◌&&◌, leb, take}
 use Rattle.std.proofs.Math.Path.{sym, ap}
-use Rattle.std.proofs.Common.{◌∙◌, length-append, drop-cons, drop-drop, get_or-take, take_all, eqb-true, eq-eqb, ne_eqb, leb-true, leb-false, le-leb}
+use Rattle.std.proofs.Common.{◌∙◌, length-append, get_or-take, take_all, eqb-true, eq-eqb, ne_eqb, leb-true, leb-false, le-leb}
 use Rattle.std.proofs.Math.Bool.{and_assoc, and-false}
 use mathlib.Core.List.{◌++◌, List, [], ◌∷◌, map}
 use Prim.Native.Nat.{ℕ, suc, ◌+◌, ◌-◌, ◌*◌, ◌/◌, ◌%◌, ◌≤◌, ◌<◌}
 use native.Mathlib.Omega.{arith}
 use Rattle.std.proofs.Math.Dec.{eqb}
 use Rattle.std.proofs.Math.ListN.{length, get_or, drop, length-drop}
-use Rattle.std.proofs.Math.Seq.{take_at, drop_at, get_or-drop}
+use Rattle.std.proofs.Math.Seq.{take_at, drop_at, get_or-drop, length-take-le}
 use Rattle.std.proofs.lemmas.Bool.{eqb-false, lt-leb}
 use Rattle.portgraph.specs.Model.{total}
 use Rattle.portgraph.specs.Sums.{total_same}
@@ -19,6 +19,7 @@ use Rattle.files.specs.View.{View}
 use Rattle.files.specs.Layout.{Record, unit_records, field_at, word_at, sum_of, block_of, wire_of, record_at, records_at, records_of, with_records, with_unit, read_units, unbytes}
 use Rattle.files.specs.Loading.{sum_holds, units_in, unit_list, is_whole, kind_of, count_of, of_kind, kinds_right, goes_on, counts_right, block_zeros, zeros_right, units_right}
 use Rattle.files.specs.LaidLaws.{both_true, field_taken, records_many}
+use Rattle.files.specs.WrittenLaws.{records_taken}
 use Rattle.files.specs.LoadForms.{next_kind, kind_fits, count_fits, unit_fits, units_fit, ShapeIs}
 
 -- Sums.
@@ -101,60 +102,60 @@ module _ {file rest : List ℕ} (s : Summing file rest) where
 
 -- Zeros.
 
-module _ (unit : List ℕ) (long : length unit ≡ 512) where
-  zeros_on : (i : ℕ) → i < 508 → take (508 - i) (drop i unit) ≡ get_or unit i 0 ∷ take (508 - (i + 1)) (drop (i + 1) unit)
-  zeros_on i h =
-      let n : 508 - i ≡ suc (508 - (i + 1)) = omega arith in
-      let e : i + 1 ≡ suc i = omega arith in
-      rw (n, drop-cons unit i 0 (omega arith), e)
+-- the fields behind a record's second
+two_zeros : (c d : ℕ) → (eqb 0 c && eqb 0 d) ≡ eqb (c + 65536 * d) 0
+two_zeros c d = go (eqb 0 c) refl (eqb 0 d) refl
+  where
+    go : (s : Bool) → eqb 0 c ≡ s → (t : Bool) → eqb 0 d ≡ t → (s && t) ≡ eqb (c + 65536 * d) 0
+    go true e true f = let p = eqb-true 0 c e in let q = eqb-true 0 d f in sym (eq-eqb (c + 65536 * d) 0 (omega arith))
+    go true e false f = let q = eqb-false 0 d f in sym (ne_eqb (c + 65536 * d) 0 (λ z. q (omega arith)))
+    go false e t f = let p = eqb-false 0 c e in sym (ne_eqb (c + 65536 * d) 0 (λ z. p (omega arith)))
 
-  pub zero_not : (i : ℕ) (all : Bool) → i < 508 → (get_or unit i 0 ≡ 0 → ⊥) → list_all (eqb 0) (take (508 - i) (drop i unit)) ≡ all → false ≡ all
-  zero_not i all h k e = sym (rw (zeros_on i h, ne_eqb 0 (get_or unit i 0) (λ z. k (sym z))) refl) ∙ e
+-- the records that are left amount to all
+pub record Zeroing (records rest : List ℕ) : Type 0 where
+  pub whole : length rest % 8 ≡ 0
+  pub same : list_all block_zeros (records_at (length rest / 8) rest) ≡ list_all block_zeros (records_at (length records / 8) records)
 
-  pub zero_next : (i : ℕ) (all : Bool) → i < 508 → get_or unit i 0 ≡ 0 → list_all (eqb 0) (take (508 - i) (drop i unit)) ≡ all → list_all (eqb 0) (take (508 - (i + 1)) (drop (i + 1) unit)) ≡ all
-  zero_next i all h k e = sym (rw (zeros_on i h, eq-eqb 0 (get_or unit i 0) (sym k)) refl) ∙ e
+module _ {records rest : List ℕ} (s : Zeroing records rest) where
+  module _ (one next : List ℕ) (e : rest ≡ one ++ next) (n : length one ≡ 8) where
+    first : block_zeros (record_at rest) ≡ eqb (word_at one 4) 0
+    unfolding record_at word_at
+    first =
+        let a : take 8 rest ≡ one = ap (take 8) e ∙ take_at one next 8 n in
+        let c = sym (field_taken 8 4 rest (omega arith)) ∙ ap (λ (l : List ℕ). field_at l 4) a in
+        let d = sym (field_taken 8 6 rest (omega arith)) ∙ ap (λ (l : List ℕ). field_at l 6) a in
+        (λ i. eqb 0 (c i) && eqb 0 (d i)) ∙ two_zeros (field_at one 4) (field_at one 6)
 
-  pub zeros_end : (i : ℕ) (all : Bool) → 508 ≤ i → list_all (eqb 0) (take (508 - i) (drop i unit)) ≡ all → true ≡ all
-  zeros_end i all h e = let n : 508 - i ≡ 0 = omega arith in sym (rw n refl) ∙ e
-
-  -- the fields behind a record's second
-  two_zeros : (c d : ℕ) → (eqb 0 c && eqb 0 d) ≡ eqb (c + 65536 * d) 0
-  two_zeros c d = go (eqb 0 c) refl (eqb 0 d) refl
-    where
-      go : (s : Bool) → eqb 0 c ≡ s → (t : Bool) → eqb 0 d ≡ t → (s && t) ≡ eqb (c + 65536 * d) 0
-      go true e true f = let p = eqb-true 0 c e in let q = eqb-true 0 d f in sym (eq-eqb (c + 65536 * d) 0 (omega arith))
-      go true e false f = let q = eqb-false 0 d f in sym (ne_eqb (c + 65536 * d) 0 (λ z. q (omega arith)))
-      go false e t f = let p = eqb-false 0 c e in sym (ne_eqb (c + 65536 * d) 0 (λ z. p (omega arith)))
-
-  block_word : (i : ℕ) → block_zeros (record_at (drop (4 + 8 * i) unit)) ≡ eqb (word_at unit (8 * i + 8)) 0
-  unfolding record_at word_at field_at
-  block_word i =
-      let g : (k : ℕ) → get_or (drop (4 + 8 * i) unit) k 0 ≡ get_or unit (4 + 8 * i + k) 0 = λ k. get_or-drop (4 + 8 * i) unit k 0 in
-      let a : 4 + 8 * i + 4 ≡ 8 * i + 8 = omega arith in
-      let b : 4 + 8 * i + (4 + 1) ≡ 8 * i + 8 + 1 = omega arith in
-      let c : 4 + 8 * i + 6 ≡ 8 * i + 8 + 2 = omega arith in
-      let d : 4 + 8 * i + (6 + 1) ≡ 8 * i + 8 + 2 + 1 = omega arith in
-      let at : ℕ → ℕ = λ k. get_or unit k 0 in
-      two_zeros (get_or (drop (4 + 8 * i) unit) 4 0 + 256 * get_or (drop (4 + 8 * i) unit) (4 + 1) 0) (get_or (drop (4 + 8 * i) unit) 6 0 + 256 * get_or (drop (4 + 8 * i) unit) (6 + 1) 0)
-      ∙ (λ j. eqb ((g 4 ∙ ap at a) j + 256 * (g (4 + 1) ∙ ap at b) j + 65536 * ((g 6 ∙ ap at c) j + 256 * (g (6 + 1) ∙ ap at d) j)) 0)
-
-  module _ (count i : ℕ) (all : Bool) (same : list_all block_zeros (records_at (count - i) (drop (4 + 8 * i) unit)) ≡ all) where
-    records_on : i < count → records_at (count - i) (drop (4 + 8 * i) unit) ≡ record_at (drop (4 + 8 * i) unit) ∷ records_at (count - (i + 1)) (drop (4 + 8 * (i + 1)) unit)
+    zeros_on : list_all block_zeros (records_at (length rest / 8) rest) ≡ (eqb (word_at one 4) 0 && list_all block_zeros (records_at (length next / 8) next))
     unfolding records_at
-    records_on h =
-        let n : count - i ≡ suc (count - (i + 1)) = omega arith in
-        let e : 4 + 8 * i + 8 ≡ 4 + 8 * (i + 1) = omega arith in
-        rw n (ap (λ (l : List ℕ). record_at (drop (4 + 8 * i) unit) ∷ records_at (count - (i + 1)) l) (drop-drop 8 (4 + 8 * i) unit ∙ ap (λ (k : ℕ). drop k unit) e))
+    zeros_on =
+        let l = ap length e ∙ length-append one next in
+        let k : length rest / 8 ≡ suc (length next / 8) = omega arith in
+        let b : drop 8 rest ≡ next = ap (drop 8) e ∙ drop_at one next 8 n in
+        ap (λ (m : ℕ). list_all block_zeros (records_at m rest)) k ∙ (λ i. first i && list_all block_zeros (records_at (length next / 8) (b i)))
 
-    pub block_zeros_not : i < count → (word_at unit (8 * i + 8) ≡ 0 → ⊥) → false ≡ all
-    block_zeros_not h k = sym (rw (records_on h, block_word i, ne_eqb (word_at unit (8 * i + 8)) 0 k) refl) ∙ same
+    pub zeros_not : (word_at one 4 ≡ 0 → ⊥) → false ≡ list_all block_zeros (records_at (length records / 8) records)
+    zeros_not h = sym (zeros_on ∙ ap (λ (b : Bool). b && list_all block_zeros (records_at (length next / 8) next)) (ne_eqb (word_at one 4) 0 h)) ∙ s.same
 
-    pub block_zeros_next : i < count → word_at unit (8 * i + 8) ≡ 0 → list_all block_zeros (records_at (count - (i + 1)) (drop (4 + 8 * (i + 1)) unit)) ≡ all
-    block_zeros_next h k = sym (rw (records_on h, block_word i, eq-eqb (word_at unit (8 * i + 8)) 0 k) refl) ∙ same
+    pub zeros_next : word_at one 4 ≡ 0 → Zeroing records next
+    zeros_next h =
+        record {
+          whole = let a = ap length e ∙ length-append one next in let w = s.whole in omega arith;
+          same = sym (zeros_on ∙ ap (λ (b : Bool). b && list_all block_zeros (records_at (length next / 8) next)) (eq-eqb (word_at one 4) 0 h)) ∙ s.same;
+        }
 
-    pub block_zeros_end : count ≤ i → true ≡ all
-    unfolding records_at
-    block_zeros_end h = let n : count - i ≡ 0 = omega arith in sym (rw n refl) ∙ same
+  pub zeros_end : length rest < 8 → true ≡ list_all block_zeros (records_at (length records / 8) records)
+  unfolding records_at
+  zeros_end h = let z : length rest / 8 ≡ 0 = omega arith in sym (ap (λ (m : ℕ). list_all block_zeros (records_at m rest)) z) ∙ s.same
+
+-- those of a unit that are lent
+pub zeros_lent : (unit : List ℕ) (count : ℕ) {b : Bool} → length unit ≡ 512 → count ≤ unit_records →
+    b ≡ list_all block_zeros (records_at (length (take (4 + 8 * count - 4) (drop 4 unit)) / 8) (take (4 + 8 * count - 4) (drop 4 unit))) → b ≡ list_all block_zeros (records_at count (drop 4 unit))
+zeros_lent unit count long few h =
+    let d = length-drop 4 unit in
+    let l = length-take-le (4 + 8 * count - 4) (drop 4 unit) (omega arith) in
+    let n : length (take (4 + 8 * count - 4) (drop 4 unit)) / 8 ≡ count = omega arith in
+    h ∙ (ap (λ (m : ℕ). list_all block_zeros (records_at m (take (4 + 8 * count - 4) (drop 4 unit)))) n ∙ ap (list_all block_zeros) (records_taken count (4 + 8 * count - 4) (drop 4 unit) (omega arith)))
 
 -- What a unit says by itself.
 

@@ -30,7 +30,7 @@ use Rattle.files.specs.OrderLaws.{sorted_length}
 use Rattle.files.specs.ViewLaws.{wires_few}
 use Rattle.files.specs.SoundLaws.{laid_sound}
 use Rattle.files.specs.BuildLaws.{built_view}
-use Rattle.files.specs.LoadForms.{place_of, record_in, no_wire, BlocksRead, WiresRead, Laid, Firsts, Linked}
+use Rattle.files.specs.LoadForms.{place_of, record_in, no_wire, BlocksRead, WiresRead, Laid}
 use Rattle.files.specs.BuildSteps.{err_is, is_loaded, adds_few, first_refused}
 use Rattle.files.specs.declared.load.LoadError.{LoadError}
 use Rattle.files.specs.declared.load.LoadError.TheVariants.{BadSums, BadLayout}
@@ -89,9 +89,6 @@ link_turn {bytes} {numbers = numbers} {k = k} r p h e x y q g =
     pairs_turn p no_wire (omega arith) (r.each _ h ∙ ap (λ (q : ℕ). wire_of (record_in bytes q)) (sym e)) refl q (g ∙ (λ j. sets numbers k (x j ∷ y j ∷ [])))
 
 module _ {bytes : List ℕ} {n w : ℕ} (l : Laid bytes n w) where
-  pub laid_linked : {table : List ℕ} → n ≤ node_slots → Firsts table bytes n → Linked table bytes n (units_for n) w
-  laid_linked few f = record { firsts = f; read = l.blocks_are; wires_are = l.wires_are; sound = l.sound; few = few }
-
   numbers_long : length (build_numbers (unbytes bytes)) ≡ 2 * (n + w)
   unfolding build_numbers
   numbers_long =

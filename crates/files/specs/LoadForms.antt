@@ -111,14 +111,6 @@ pub record Firsts (table bytes : List ℕ) (blocks : ℕ) : Type 0 where
   pub each : (r : ℕ) → r < blocks → get_or table r 0 ≡ first_port (unbytes bytes).blocks r
   pub small : (r : ℕ) → r < blocks → get_or table r 0 ≤ 131070 * r
 
--- wires from a unit on whose ports can be told
-pub record Linked (table bytes : List ℕ) (blocks unit wires : ℕ) : Type 0 where
-  pub firsts : Firsts table bytes blocks
-  pub read : BlocksRead bytes blocks
-  pub wires_are : WiresRead bytes unit wires
-  pub sound : view_right (unbytes bytes) ≡ true
-  pub few : blocks ≤ node_slots
-
 -- a wire at a byte position whose ports can be told
 pub record Linkable (table bytes : List ℕ) (blocks at : ℕ) : Type 0 where
   pub firsts : Firsts table bytes blocks

@@ -7,19 +7,19 @@ use Rattle.files.specs.Forms.{number_of}
 use Rattle.files.specs.LoadForms.{place_of, record_in, Laid}
 use Rattle.files.specs.Merging.{raised}
 
--- the number of a block of a file, in a list from a place on
+-- the number of a block of a file, in a list
 abbrev pub block_read : List ℕ → ℕ → ℕ
 block_read bytes i = number_of (block_record (block_of (record_in bytes (place_of 0 i))))
 
-abbrev pub block_read_turn : List ℕ → ℕ → ℕ → List ℕ → List ℕ
-block_read_turn bytes from i numbers = set numbers (from + i) (block_read bytes i)
+abbrev pub block_read_turn : List ℕ → ℕ → List ℕ → List ℕ
+block_read_turn bytes i numbers = set numbers i (block_read bytes i)
 
--- the number of a wire of a file, its ranks raised, in a list from a place on
+-- the number of a wire of a file, its ranks raised, in a list
 abbrev pub wire_read : List ℕ → ℕ → ℕ → ℕ → ℕ
 wire_read bytes unit raise i = number_of (wire_record (raised raise (wire_of (record_in bytes (place_of unit i)))))
 
-abbrev pub wire_read_turn : List ℕ → ℕ → ℕ → ℕ → ℕ → List ℕ → List ℕ
-wire_read_turn bytes unit raise from i numbers = set numbers (from + i) (wire_read bytes unit raise i)
+abbrev pub wire_read_turn : List ℕ → ℕ → ℕ → ℕ → List ℕ → List ℕ
+wire_read_turn bytes unit raise i numbers = set numbers i (wire_read bytes unit raise i)
 
 -- the ranks of a wire at a byte position fit their fields when they are raised
 abbrev pub RaisedAt : List ℕ → ℕ → ℕ → Type 0

@@ -1,5 +1,5 @@
 -- What the functions that merge files cite: the records of both as numbers, the result laid and built, and the answers in their order.
-use Rattle.std.specs.Prelude.{◌≡◌, true, ℕ, zero, suc, ◌+◌, ◌*◌, ◌≤◌, ◌<◌, get_or, set, take, Result, Ok, Err, IsErrAnd}
+use Rattle.std.specs.Prelude.{◌≡◌, true, ℕ, zero, suc, ◌+◌, ◌-◌, ◌*◌, ◌≤◌, ◌<◌, get_or, set, take, Result, Ok, Err, IsErrAnd}
 use Rattle.std.proofs.Math.Path.{refl, ap}
 use Rattle.std.proofs.Common.{sym, ◌∙◌, subst, inl, inr, length-append, length-drop, take_at}
 use mathlib.Core.List.{List, [], ◌∷◌, ◌++◌, map, append_assoc, append-nil}
@@ -7,7 +7,9 @@ use native.Mathlib.Omega.{arith}
 use Rattle.std.proofs.Math.ListN.{length, drop}
 use Rattle.std.proofs.Math.Seq.{sets}
 use Rattle.std.proofs.lemmas.List.Edits.{sets-eq}
-use Rattle.std.proofs.lemmas.List.{set_at}
+use Rattle.std.proofs.lemmas.List.{set_at, nil_from_length}
+use Rattle.std.proofs.lemmas.Slice.{take-put_mid}
+use borrow.Rule.Slice.PartMut.{put_mid}
 use borrow.Author.Tests.{le-leb, lt-leb}
 use Rattle.port_tables.specs.Lists.{range, Member}
 use Rattle.port_tables.specs.ResizeLinkSteps.{sets_append}
@@ -27,7 +29,7 @@ use Rattle.files.specs.LoadForms.{place_of, record_in, no_wire, BlocksRead, Wire
 use Rattle.files.specs.SaveSteps.{records_back}
 use Rattle.files.specs.WireSteps.{blocks_read, wires_read}
 use Rattle.files.specs.Merging.{raised, merged_view, merged_file, layout_answer, merge_error, result_answer, merge_answer, buffer_if, merge_buffer}
-use Rattle.files.specs.MergeForms.{block_read, block_read_turn, wire_read, wire_read_turn, RaisedFit, BothLaid, BothFew}
+use Rattle.files.specs.MergeForms.{block_read, wire_read, RaisedFit, BothLaid, BothFew}
 use Rattle.files.specs.MergeLaws.{map_unraised, map_both, merged_appends, merged_sound, merged_fits}
 use Rattle.files.specs.MergeAnswers.{loaded_few}
 use Rattle.files.specs.declared.load.LoadError.{LoadError}
@@ -109,66 +111,58 @@ module _ (bytes : List ℕ) (small : Bytes bytes) where
   pub unraised_fit : (unit n : ℕ) → RaisedFit bytes unit n 0
   unraised_fit unit n i h = let f = record_fits bytes small (place_of unit i) in (let a = f.a in omega arith, let c = f.c in omega arith)
 
--- Two lists of numbers, stored one behind the other.
+-- Numbers stored in a list, one after the other.
 
-stored_from : (f : ℕ → ℕ) (s n i : ℕ) (sofar rest : List ℕ) → length sofar ≡ s + i → n ≤ length rest →
-    turns (λ j l. set l (s + j) (f j)) i n (sofar ++ rest) ≡ (sofar ++ map f (range i n)) ++ drop n rest
+stored_from : (f : ℕ → ℕ) (n i : ℕ) (sofar rest : List ℕ) → length sofar ≡ i → n ≤ length rest →
+    turns (λ j l. set l j (f j)) i n (sofar ++ rest) ≡ (sofar ++ map f (range i n)) ++ drop n rest
 unfolding turns range
-stored_from f s zero i sofar rest e h = ap (λ l. l ++ rest) (sym (append-nil sofar))
-stored_from f s (suc n) i sofar [] e h = absurd (omega arith)
-stored_from f s (suc n) i sofar (z ∷ rest) e h =
+stored_from f zero i sofar rest e h = ap (λ l. l ++ rest) (sym (append-nil sofar))
+stored_from f (suc n) i sofar [] e h = absurd (omega arith)
+stored_from f (suc n) i sofar (z ∷ rest) e h =
     let x = f i in
-    let a : set (sofar ++ (z ∷ rest)) (s + i) x ≡ (sofar ++ (x ∷ [])) ++ rest = set_at sofar z rest x (s + i) e ∙ sym (append_assoc sofar (x ∷ []) rest) in
+    let a : set (sofar ++ (z ∷ rest)) i x ≡ (sofar ++ (x ∷ [])) ++ rest = set_at sofar z rest x i e ∙ sym (append_assoc sofar (x ∷ []) rest) in
     let l = length-append sofar (x ∷ []) in
-    ap (turns (λ j l. set l (s + j) (f j)) (suc i) n) a
-    ∙ (stored_from f s n (suc i) (sofar ++ (x ∷ [])) rest (omega arith) (omega arith)
+    ap (turns (λ j l. set l j (f j)) (suc i) n) a
+    ∙ (stored_from f n (suc i) (sofar ++ (x ∷ [])) rest (omega arith) (omega arith)
     ∙ ap (λ k. k ++ drop n rest) (append_assoc sofar (x ∷ []) (map f (range (suc i) n))))
 
-module _ (f g : ℕ → ℕ) (n k : ℕ) (numbers : List ℕ) (room : n + k ≤ length numbers) where
-  abbrev both : List ℕ
-  both = turns (λ j l. set l (n + j) (g j)) 0 k (turns (λ j l. set l (0 + j) (f j)) 0 n numbers)
+-- in a list with a place for each
+pub stored : (f : ℕ → ℕ) (n : ℕ) (numbers : List ℕ) → length numbers ≡ n → turns (λ j l. set l j (f j)) 0 n numbers ≡ map f (range 0 n)
+stored f n numbers e = stored_from f n 0 [] numbers refl (omega arith) ∙ (ap (λ l. map f (range 0 n) ++ l) (drop_whole n numbers e) ∙ append-nil (map f (range 0 n)))
+  where
+    drop_whole : (n : ℕ) (l : List ℕ) → length l ≡ n → drop n l ≡ []
+    drop_whole n l e = let d = length-drop n l in nil_from_length (drop n l) (omega arith)
 
-  both_stored : both ≡ (map f (range 0 n) ++ map g (range 0 k)) ++ drop k (drop n numbers)
-  both_stored =
-      let l = length_map f (range 0 n) ∙ length_range 0 n in
-      let d = length-drop n numbers in
-      ap (turns (λ j l. set l (n + j) (g j)) 0 k) (stored_from f 0 n 0 [] numbers refl (omega arith))
-      ∙ stored_from g n k 0 (map f (range 0 n)) (drop n numbers) (omega arith) (omega arith)
+-- two lists, one lent behind the other: the first so many are both
+pub both_taken : (f g : ℕ → ℕ) (n k count : ℕ) (numbers : List ℕ) {a b : List ℕ} → count ≡ n + k → a ≡ map f (range 0 n) → b ≡ map g (range 0 k) →
+    take count (put_mid n (count - n) (a ++ drop n numbers) b) ≡ map f (range 0 n) ++ map g (range 0 k)
+both_taken f g n k count numbers {a} {b} e p q =
+    let u = ap length p ∙ (length_map f (range 0 n) ∙ length_range 0 n) in
+    let v = ap length q ∙ (length_map g (range 0 k) ∙ length_range 0 k) in
+    let l = length-append a (drop n numbers) in
+    take-put_mid n (count - n) (a ++ drop n numbers) b count (omega arith) (omega arith) ∙ ((λ j. take_at a (drop n numbers) n (omega arith) j ++ b) ∙ (λ j. p j ++ q j))
 
-  -- the first so many are both
-  pub both_taken : take (n + k) both ≡ map f (range 0 n) ++ map g (range 0 k)
-  both_taken =
-      let a = length_map f (range 0 n) ∙ length_range 0 n in
-      let b = length_map g (range 0 k) ∙ length_range 0 k in
-      let c = length-append (map f (range 0 n)) (map g (range 0 k)) in
-      ap (take (n + k)) both_stored ∙ take_at (map f (range 0 n) ++ map g (range 0 k)) (drop k (drop n numbers)) (n + k) (omega arith)
-
-  pub both_many : length (take (n + k) both) ≡ n + k
-  both_many =
-      let a = length_map f (range 0 n) ∙ length_range 0 n in
-      let b = length_map g (range 0 k) ∙ length_range 0 k in
-      let c = length-append (map f (range 0 n)) (map g (range 0 k)) in
-      ap length both_taken ∙ (omega arith)
+pub both_long : (f g : ℕ → ℕ) (n k : ℕ) → length (map f (range 0 n) ++ map g (range 0 k)) ≡ n + k
+both_long f g n k =
+    let a = length_map f (range 0 n) ∙ length_range 0 n in
+    let b = length_map g (range 0 k) ∙ length_range 0 k in
+    length-append (map f (range 0 n)) (map g (range 0 k)) ∙ (omega arith)
 
 -- the records that are written of the blocks, and of the wires, of both
-module _ (first second : List ℕ) (small : Bytes first) (small₂ : Bytes second) (n k : ℕ) (numbers : List ℕ) (room : n + k ≤ length numbers) where
-  pub both_block_records : BlocksRead first n → BlocksRead second k →
-      map record_of (take (n + k) (turns (block_read_turn second n) 0 k (turns (block_read_turn first 0) 0 n numbers))) ≡ map block_record ((unbytes first).blocks ++ (unbytes second).blocks)
+module _ (first second : List ℕ) (small : Bytes first) (small₂ : Bytes second) (n k : ℕ) where
+  pub both_block_records : BlocksRead first n → BlocksRead second k → map record_of (map (block_read first) (range 0 n) ++ map (block_read second) (range 0 k)) ≡ map block_record ((unbytes first).blocks ++ (unbytes second).blocks)
   both_block_records r s =
       let a = block_records_read first small n r in
       let b = block_records_read second small₂ k s in
-      ap (map record_of) (both_taken (block_read first) (block_read second) n k numbers room)
-      ∙ (map_both record_of (map (block_read first) (range 0 n)) (map (block_read second) (range 0 k)) ∙ ((λ j. a j ++ b j) ∙ sym (map_both block_record (unbytes first).blocks (unbytes second).blocks)))
+      map_both record_of (map (block_read first) (range 0 n)) (map (block_read second) (range 0 k)) ∙ ((λ j. a j ++ b j) ∙ sym (map_both block_record (unbytes first).blocks (unbytes second).blocks))
 
   pub both_wire_records : (unit unit₂ raise : ℕ) → WiresRead first unit n → WiresRead second unit₂ k → RaisedFit second unit₂ k raise →
-      map record_of (take (n + k) (turns (wire_read_turn second unit₂ raise n) 0 k (turns (wire_read_turn first unit 0 0) 0 n numbers)))
-      ≡ map wire_record ((unbytes first).wires ++ map (raised raise) (unbytes second).wires)
+      map record_of (map (wire_read first unit 0) (range 0 n) ++ map (wire_read second unit₂ raise) (range 0 k)) ≡ map wire_record ((unbytes first).wires ++ map (raised raise) (unbytes second).wires)
   both_wire_records unit unit₂ raise r s fit =
       let a = wire_records_read first small unit n 0 r (unraised_fit first small unit n) ∙ ap (map wire_record) (map_unraised (unbytes first).wires) in
       let b = wire_records_read second small₂ unit₂ k raise s fit in
-      ap (map record_of) (both_taken (wire_read first unit 0) (wire_read second unit₂ raise) n k numbers room)
-      ∙ (map_both record_of (map (wire_read first unit 0) (range 0 n)) (map (wire_read second unit₂ raise) (range 0 k))
-      ∙ ((λ j. a j ++ b j) ∙ sym (map_both wire_record (unbytes first).wires (map (raised raise) (unbytes second).wires))))
+      map_both record_of (map (wire_read first unit 0) (range 0 n)) (map (wire_read second unit₂ raise) (range 0 k))
+      ∙ ((λ j. a j ++ b j) ∙ sym (map_both wire_record (unbytes first).wires (map (raised raise) (unbytes second).wires)))
 
 -- The result of two laid files.
 

@@ -364,6 +364,13 @@ module _ {m : MultiPortGraph} {M : Model} (f : Fine m M) where
       let d = ap length (walked_places f) ∙ length_map (wire_places m) (all_wires m) in
       (omega arith, omega arith)
 
+  -- the parts of the lists that have the listings
+  pub blocks_taken : (list : List ℕ) {n : ℕ} {after : List ℕ} → n ≡ visible_nodes m → 4 * visible_nodes m ≤ length list → after ≡ list_after (blocks_listed m) list → take (4 * n) after ≡ blocks_listed m
+  blocks_taken list {n} e h p = let k = listed_blocks n e in ap (take (4 * n)) p ∙ listing_taken (blocks_listed m) list _ k.0 (omega arith)
+
+  pub wires_taken : (list : List ℕ) {n : ℕ} {after : List ℕ} → n ≡ visible_links m → 8 * visible_links m ≤ length list → after ≡ list_after (wires_listed m) list → take (8 * n) after ≡ wires_listed m
+  wires_taken list {n} e h p = let k = listed_wires n e in ap (take (8 * n)) p ∙ listing_taken (wires_listed m) list _ k.0 (omega arith)
+
 module _ {m : MultiPortGraph} {M : Model} (f : Fine m M) (buffer : List ℕ) (size : ℕ) (sized : size ≡ file_length (visible_nodes m) (visible_links m)) where
   pub save_short : length buffer < size → (Err (record {}) ≡ save_answer m buffer) × (buffer ≡ save_buffer m buffer)
   unfolding save_answer save_buffer list_after

@@ -103,7 +103,7 @@ record_taken n bytes h =
     let s = field_taken n 6 bytes (omega arith) in
     λ j. record { a = p j; b = q j; c = r j; d = s j }
 
-records_taken : (n k : ℕ) (bytes : List ℕ) → 8 * n ≤ k → records_at n (take k bytes) ≡ records_at n bytes
+pub records_taken : (n k : ℕ) (bytes : List ℕ) → 8 * n ≤ k → records_at n (take k bytes) ≡ records_at n bytes
 unfolding records_at
 records_taken zero k bytes h = refl
 records_taken (suc n) k bytes h =

@@ -1,6 +1,6 @@
 // Holding a file against its layout: the sums of its units, and what each unit says by itself.
 ghost use Rattle.std.specs.List.{list_all};
-ghost use Rattle.std.specs.Prelude.{◌≡◌, false, ◌-◌, ◌%◌, ◌≤◌, eqb, length, take, drop, MatchOption};
+ghost use Rattle.std.specs.Prelude.{◌≡◌, false, ◌-◌, ◌/◌, ◌%◌, ◌≤◌, eqb, length, take, drop, MatchOption};
 ghost use Rattle.files.specs.Layout.{records_at};
 ghost use Rattle.files.specs.Loading.{sum_holds, is_whole, unit_list, block_zeros, units_right};
 ghost use Rattle.files.specs.LoadForms.{kind_fits, count_fits, next_kind, unit_fits, ShapeIs};
@@ -65,13 +65,13 @@ fn zeros_from(unit: &[u8], from: usize) -> bool
     unit[from..508].iter().all(|byte| *byte == 0)
 }
 
-// The last two fields of each block's record are zero.
-fn block_zeros(unit: &[u8], count: usize) -> bool
-    requires { (length unit.now ≡ 512) × (count ≤ 63) }
-    ensures { result ≡ list_all block_zeros (records_at count (drop 4 unit.now)) }
+// The last two fields of each record are zero, as they are of a block's.
+fn block_zeros(records: &[u8]) -> bool
+    requires { length records.now % 8 ≡ 0 }
+    ensures { result ≡ list_all block_zeros (records_at (length records.now / 8) records.now) }
 {
-    for i in 0..count {
-        if word_at(unit, 8 * i + 8) != 0 {
+    for record in records.chunks_exact(8) {
+        if word_at(record, 4) != 0 {
             return false;
         }
     }
@@ -91,11 +91,12 @@ fn unit_right(unit: &[u8], next: u64) -> bool
     if !count_right(kind, next, count) {
         return false;
     }
-    if !zeros_from(unit, 4 + 8 * (count as usize)) {
+    let end = 4 + 8 * (count as usize);
+    if !zeros_from(unit, end) {
         return false;
     }
     if kind == 1 {
-        return block_zeros(unit, count as usize);
+        return block_zeros(&unit[4..end]);
     }
     true
 }

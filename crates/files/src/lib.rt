@@ -4,9 +4,11 @@
 pub mod build;
 pub mod bytes;
 pub mod check;
+mod file;
 pub mod listing;
 pub mod load;
 pub mod merge;
+mod ports;
 pub mod ranks;
 pub mod save;
 pub mod units;

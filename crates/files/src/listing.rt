@@ -6,12 +6,11 @@ ghost use Rattle.port_tables.specs.Limits.{node_slots};
 ghost use Rattle.multiportgraph.specs.Listed.{list_after};
 ghost use Rattle.files.specs.Layout.{unbytes};
 ghost use Rattle.files.specs.BuildList.{add_pair, link_pair, build_numbers, list_build, build_after};
-ghost use Rattle.files.specs.LoadForms.{BlocksRead, Laid, Linked};
 
-use crate::build::{fill_firsts, in_port, out_port};
 use crate::bytes::field_at;
+use crate::file::File;
 use crate::load::{LoadError, build_answer, laid};
-use crate::wires::place;
+use crate::ports::{Ports, fill_firsts};
 use port_tables::index::{NODE_SLOTS, PORT_SLOTS};
 use port_tables::release::Release;
 
@@ -34,59 +33,47 @@ fn put_pair(numbers: &mut [u32], at: usize, a: u32, b: u32)
 }
 
 // Lists the adds.
-fn list_adds(numbers: &mut [u32], file: &[u8], blocks: usize)
-    requires { BlocksRead file.now blocks × (2 * blocks ≤ length numbers.old) }
-    ensures { numbers.new ≡ sets numbers.old 0 (flat_map add_pair (unbytes file.now).blocks) }
+fn list_adds(numbers: &mut [u32], file: File)
+    requires { 2 * file.blocks ≤ length numbers.old }
+    ensures { numbers.new ≡ sets numbers.old 0 (flat_map add_pair (unbytes file.entry.bytes.now).blocks) }
 {
-    for i in 0..blocks {
-        let at = place(0, i);
-        let incoming = field_at(file, at) as u32;
-        let outgoing = field_at(file, at + 2) as u32;
+    for i in 0..file.blocks {
+        let at = file.block_place(i);
+        let incoming = field_at(file.bytes, at) as u32;
+        let outgoing = field_at(file.bytes, at + 2) as u32;
         put_pair(numbers, 2 * i, incoming, outgoing);
     }
 }
 
 // Lists the links, from a place on.
-fn list_links<'a>(
-    numbers: &mut [u32],
-    from: usize,
-    firsts: &'a [u32; NODE_SLOTS],
-    file: &'a [u8],
-    blocks: usize,
-    unit: usize,
-    wires: usize,
-)
-    requires { Linked firsts.now file.now blocks unit wires × (from + 2 * wires ≤ length numbers.old) }
-    ensures { numbers.new ≡ sets numbers.old from (flat_map (link_pair (unbytes file.now).blocks) (unbytes file.now).wires) }
+fn list_links(numbers: &mut [u32], from: usize, ports: Ports)
+    requires { from + 2 * ports.file.wires ≤ length numbers.old }
+    ensures { numbers.new ≡ sets numbers.old from (flat_map (link_pair (unbytes ports.entry.file.bytes.now).blocks) (unbytes ports.entry.file.bytes.now).wires) }
 {
-    for i in 0..wires {
-        let at = place(unit, i);
-        let a = out_port(firsts, file, blocks, at);
-        let b = in_port(firsts, file, blocks, at);
+    for i in 0..ports.file.wires {
+        let at = ports.file.wire_place(i);
+        let a = ports.out_port(at);
+        let b = ports.in_port(at);
         put_pair(numbers, from + 2 * i, a.0, b.0);
     }
 }
 
-// Lists the build of a laid file; a list that is too short stays as it was.
-fn list_laid(numbers: &mut [u32], file: &[u8], blocks: usize, wires: usize)
-    requires { Laid file.now blocks wires × (blocks ≤ node_slots) }
-    ensures { numbers.new ≡ list_after (build_numbers (unbytes file.now)) numbers.old }
+// Lists the build of a file; a list that is too short stays as it was.
+fn list_laid(numbers: &mut [u32], file: File)
+    requires { file.blocks ≤ node_slots }
+    ensures { numbers.new ≡ list_after (build_numbers (unbytes file.entry.bytes.now)) numbers.old }
 {
-    if numbers.len() < 2 * (blocks + wires) {
+    if numbers.len() < 2 * (file.blocks + file.wires) {
         return;
     }
     let mut firsts = [0u32; NODE_SLOTS];
-    fill_firsts(&mut firsts, file, blocks);
-    list_adds(numbers, file, blocks);
-    list_links(
-        numbers,
-        2 * blocks,
-        &firsts,
-        file,
-        blocks,
-        (blocks + 62) / 63,
-        wires,
-    );
+    fill_firsts(&mut firsts, file);
+    list_adds(numbers, file);
+    let ports = Ports {
+        file: file,
+        firsts: &firsts,
+    };
+    list_links(numbers, 2 * file.blocks, ports);
 }
 
 // Lists the adds and links that build the wiring of a file for a release: two numbers for each block, incoming and outgoing, then two for each wire, the output
@@ -98,11 +85,11 @@ pub fn list_build(
 ) -> Result<BuildListed, LoadError>
     ensures { (result ≡ list_build release file.now) × (numbers.new ≡ build_after release file.now numbers.old) }
 {
-    let shape = laid(file)?;
-    build_answer(release, file, shape)?;
-    list_laid(numbers, file, shape.blocks, shape.wires);
+    let laid = laid(file)?;
+    build_answer(release, laid)?;
+    list_laid(numbers, laid);
     Ok(BuildListed {
-        blocks: shape.blocks,
-        wires: shape.wires,
+        blocks: laid.blocks,
+        wires: laid.wires,
     })
 }

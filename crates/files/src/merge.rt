@@ -1,20 +1,20 @@
 // Two files as one: both are held against their layout, then they and the result are built; then the result is written.
 ghost use Rattle.std.specs.Prelude.{◌≡◌, ◌++◌, map, ◌+◌, ◌*◌, ◌≤◌, ◌<◌, length};
 ghost use Rattle.std.proofs.lemmas.List.Edits.{sets};
+ghost use Rattle.port_tables.specs.Lists.{range};
 ghost use Rattle.port_tables.specs.declared.release.Release.TheVariants.{One};
-ghost use Rattle.files.specs.Layout.{block_of, block_record, wire_of, wire_record, units_for, units_of, file_length, unbytes};
+ghost use Rattle.files.specs.Layout.{block_of, block_record, wire_of, wire_record, units_for, units_of, unbytes};
 ghost use Rattle.files.specs.Loading.{load_answer};
-ghost use Rattle.files.specs.Forms.{number_of, turns};
-ghost use Rattle.files.specs.LoadForms.{record_in, BlocksRead, WiresRead};
+ghost use Rattle.files.specs.Forms.{number_of};
+ghost use Rattle.files.specs.LoadForms.{record_in};
 ghost use Rattle.files.specs.Merging.{raised, merged_file, merge_error, result_answer, merge_answer, buffer_if, merge_buffer};
-ghost use Rattle.files.specs.MergeForms.{block_read_turn, wire_read_turn, RaisedAt, RaisedFit, BothLaid, BothFew};
+ghost use Rattle.files.specs.MergeForms.{block_read, wire_read, RaisedAt, RaisedFit, BothFew};
 
 use crate::bytes::{field_at, number_of};
-use crate::check::Shape;
+use crate::file::File;
 use crate::load::{LoadError, build_answer, laid};
 use crate::save::file_length;
 use crate::units::put_units;
-use crate::wires::place;
 use multi_tables::answers::Refusal;
 use port_tables::index::{NODE_SLOTS, PORT_SLOTS};
 use port_tables::release::Release;
@@ -60,14 +60,14 @@ fn block_number(file: &[u8], at: usize) -> u64
     number_of(incoming, outgoing, 0, 0)
 }
 
-// The records of the blocks of a file, as numbers, in a list from a place on.
-fn read_blocks(file: &[u8], count: usize, numbers: &mut [u64], from: usize)
-    requires { BlocksRead file.now count × (from + count ≤ length numbers.old) }
-    ensures { numbers.new ≡ turns (block_read_turn file.now from) 0 count numbers.old }
+// The records of the blocks of a file, as numbers, in a list with a place for each.
+fn read_blocks(file: File, numbers: &mut [u64])
+    requires { length numbers.old ≡ file.blocks }
+    ensures { numbers.new ≡ map (block_read file.entry.bytes.now) (range 0 file.entry.blocks) }
 {
-    for i in 0..count {
-        let at = place(0, i);
-        numbers[from + i] = block_number(file, at);
+    for i in 0..file.blocks {
+        let at = file.block_place(i);
+        numbers[i] = block_number(file.bytes, at);
     }
 }
 
@@ -83,136 +83,121 @@ fn raised_number(file: &[u8], at: usize, raise: u64) -> u64
     number_of(source, output, target, input)
 }
 
-// The records of the wires of a file, their ranks raised, as numbers, in a list from a place on.
-fn read_wires(file: &[u8], unit: usize, count: usize, raise: u64, numbers: &mut [u64], from: usize)
-    requires { WiresRead file.now unit count × RaisedFit file.now unit count raise × (from + count ≤ length numbers.old) }
-    ensures { numbers.new ≡ turns (wire_read_turn file.now unit raise from) 0 count numbers.old }
+// The records of the wires of a file, their ranks raised, as numbers, in a list with a place for each.
+fn read_wires(file: File, raise: u64, numbers: &mut [u64])
+    requires { RaisedFit file.bytes.now (units_for file.blocks) file.wires raise × (length numbers.old ≡ file.wires) }
+    ensures { numbers.new ≡ map (wire_read file.entry.bytes.now (units_for file.entry.blocks) raise) (range 0 file.entry.wires) }
 {
-    for i in 0..count {
-        let at = place(unit, i);
-        numbers[from + i] = raised_number(file, at, raise);
+    for i in 0..file.wires {
+        let at = file.wire_place(i);
+        numbers[i] = raised_number(file.bytes, at, raise);
     }
 }
 
-// Lays the units of the blocks of both files from the buffer's start on; answers the place after them.
-fn put_blocks_of_both<'a>(
-    first: &'a [u8],
-    second: &'a [u8],
-    blocks: usize,
-    blocks_2: usize,
-    numbers: &mut [u64],
-    buffer: &mut [u8],
-) -> usize
-    requires { BlocksRead first.now blocks × BlocksRead second.now blocks_2 × (blocks + blocks_2 ≤ length numbers.old) × (512 * units_for (blocks + blocks_2) ≤ length buffer.old) }
-    ensures { (result ≡ 512 * units_for (blocks + blocks_2))
-        × (buffer.new ≡ sets buffer.old 0 (units_of 1 (map block_record ((unbytes first.now).blocks ++ (unbytes second.now).blocks)))) }
-{
-    read_blocks(first, blocks, numbers, 0);
-    read_blocks(second, blocks_2, numbers, blocks);
-    let count = blocks + blocks_2;
-    put_units(buffer, 0, 1, &numbers[..count])
+// Two files, of which both load.
+#[derive(Clone, Copy)]
+struct Both<'a> {
+    first: File<'a>,
+    second: File<'a>,
+    ghost few: { BothFew first.blocks first.wires second.blocks second.wires },
 }
 
-// Lays the units of the wires of both files from a place on, the second's ranks raised.
-fn put_wires_of_both<'a>(
-    first: &'a [u8],
-    second: &'a [u8],
-    unit: usize,
-    unit_2: usize,
-    wires: usize,
-    wires_2: usize,
-    raise: u64,
-    numbers: &mut [u64],
-    buffer: &mut [u8],
-    at: usize,
-)
-    requires { WiresRead first.now unit wires × WiresRead second.now unit_2 wires_2 × RaisedFit second.now unit_2 wires_2 raise
-        × (wires + wires_2 ≤ length numbers.old) × (at + 512 * units_for (wires + wires_2) ≤ length buffer.old) }
-    ensures { buffer.new ≡ sets buffer.old at (units_of 2 (map wire_record ((unbytes first.now).wires ++ map (raised raise) (unbytes second.now).wires))) }
-{
-    read_wires(first, unit, wires, 0, numbers, 0);
-    read_wires(second, unit_2, wires_2, raise, numbers, wires);
-    let count = wires + wires_2;
-    put_units(buffer, at, 2, &numbers[..count]);
+impl<'a> Both<'a> {
+    // How many blocks and wires the result has.
+    fn blocks(self) -> usize
+        ensures { result ≡ self.entry.first.blocks + self.entry.second.blocks }
+    {
+        self.first.blocks + self.second.blocks
+    }
+
+    fn wires(self) -> usize
+        ensures { result ≡ self.entry.first.wires + self.entry.second.wires }
+    {
+        self.first.wires + self.second.wires
+    }
+
+    // The length of the result.
+    fn size(self) -> usize
+        ensures { result ≡ length (merged_file self.entry.first.bytes.now self.entry.second.bytes.now) }
+    {
+        file_length(self.blocks(), self.wires())
+    }
+
+    // Lays the units of the blocks of both from the buffer's start on; answers the place after them.
+    fn put_blocks(self, numbers: &mut [u64], buffer: &mut [u8]) -> usize
+        requires { (self.first.blocks + self.second.blocks ≤ length numbers.old) × (512 * units_for (self.first.blocks + self.second.blocks) ≤ length buffer.old) }
+        ensures { (result ≡ 512 * units_for (self.entry.first.blocks + self.entry.second.blocks))
+            × (buffer.new ≡ sets buffer.old 0 (units_of 1 (map block_record ((unbytes self.entry.first.bytes.now).blocks ++ (unbytes self.entry.second.bytes.now).blocks)))) }
+    {
+        let count = self.blocks();
+        read_blocks(self.first, &mut numbers[..self.first.blocks]);
+        read_blocks(self.second, &mut numbers[self.first.blocks..count]);
+        put_units(buffer, 0, 1, &numbers[..count])
+    }
+
+    // Lays the units of the wires of both from a place on, the second's ranks raised.
+    fn put_wires(self, numbers: &mut [u64], buffer: &mut [u8], at: usize)
+        requires { (self.first.wires + self.second.wires ≤ length numbers.old) × (at + 512 * units_for (self.first.wires + self.second.wires) ≤ length buffer.old) }
+        ensures { buffer.new ≡ sets buffer.old at (units_of 2 (map wire_record ((unbytes self.entry.first.bytes.now).wires ++ map (raised self.entry.first.blocks) (unbytes self.entry.second.bytes.now).wires))) }
+    {
+        let count = self.wires();
+        read_wires(self.first, 0, &mut numbers[..self.first.wires]);
+        read_wires(
+            self.second,
+            self.first.blocks as u64,
+            &mut numbers[self.first.wires..count],
+        );
+        put_units(buffer, at, 2, &numbers[..count]);
+    }
+
+    // Lays the result from the buffer's start on.
+    fn put(self, buffer: &mut [u8])
+        requires { length (merged_file self.first.bytes.now self.second.bytes.now) ≤ length buffer.old }
+        ensures { buffer.new ≡ sets buffer.old 0 (merged_file self.entry.first.bytes.now self.entry.second.bytes.now) }
+    {
+        let mut numbers = [0u64; MOST_RECORDS];
+        let at = self.put_blocks(&mut numbers, buffer);
+        self.put_wires(&mut numbers, buffer, at);
+    }
+
+    // What loading the result for release 1 answers.
+    fn answer(self) -> Result<(), LoadError>
+        ensures { result ≡ load_answer One (merged_file self.entry.first.bytes.now self.entry.second.bytes.now) }
+    {
+        let mut result = [0u8; LONGEST_RESULT];
+        self.put(&mut result);
+        let size = self.size();
+        let file = File::new(&result[..size], self.blocks(), self.wires());
+        build_answer(Release::One, file)
+    }
+
+    // Writes the result, which loads, where the buffer is long enough.
+    fn write(self, buffer: &mut [u8]) -> Result<usize, MergeError>
+        ensures { (result ≡ result_answer (merged_file self.entry.first.bytes.now self.entry.second.bytes.now) buffer.old)
+            × (buffer.new ≡ buffer_if result (merged_file self.entry.first.bytes.now self.entry.second.bytes.now) buffer.old) }
+    {
+        let size = self.size();
+        if buffer.len() < size {
+            return Err(MergeError::BufferShort);
+        }
+        self.put(buffer);
+        Ok(size)
+    }
 }
 
-// Lays the file of both from the buffer's start on.
-fn put_both<'a>(first: &'a [u8], second: &'a [u8], one: Shape, two: Shape, buffer: &mut [u8])
-    requires { BothLaid first.now second.now one.blocks one.wires two.blocks two.wires × BothFew one.blocks one.wires two.blocks two.wires × (file_length (one.blocks + two.blocks) (one.wires + two.wires) ≤ length buffer.old) }
-    ensures { buffer.new ≡ sets buffer.old 0 (merged_file first.now second.now) }
+// Merges two files: the first, the second and the result must load for release 1.
+fn merge_laid<'a>(first: File<'a>, second: File<'a>, buffer: &mut [u8]) -> Result<usize, MergeError>
+    ensures { (result ≡ merge_answer first.entry.bytes.now second.entry.bytes.now buffer.old)
+        × (buffer.new ≡ merge_buffer first.entry.bytes.now second.entry.bytes.now buffer.old) }
 {
-    let mut numbers = [0u64; MOST_RECORDS];
-    let at = put_blocks_of_both(first, second, one.blocks, two.blocks, &mut numbers, buffer);
-    put_wires_of_both(
-        first,
-        second,
-        (one.blocks + 62) / 63,
-        (two.blocks + 62) / 63,
-        one.wires,
-        two.wires,
-        one.blocks as u64,
-        &mut numbers,
-        buffer,
-        at,
-    );
-}
-
-// What loading the result for release 1 answers.
-fn result_answer<'a>(
-    first: &'a [u8],
-    second: &'a [u8],
-    one: Shape,
-    two: Shape,
-) -> Result<(), LoadError>
-    requires { BothLaid first.now second.now one.blocks one.wires two.blocks two.wires × BothFew one.blocks one.wires two.blocks two.wires }
-    ensures { result ≡ load_answer One (merged_file first.now second.now) }
-{
-    let mut result = [0u8; LONGEST_RESULT];
-    put_both(first, second, one, two, &mut result);
-    let both = Shape {
-        blocks: one.blocks + two.blocks,
-        wires: one.wires + two.wires,
+    build_answer(Release::One, first)?;
+    build_answer(Release::One, second)?;
+    let both = Both {
+        first: first,
+        second: second,
     };
-    let size = file_length(both.blocks, both.wires);
-    build_answer(Release::One, &result[..size], both)
-}
-
-// Writes the result, which loads, where the buffer is long enough.
-fn put_result<'a>(
-    first: &'a [u8],
-    second: &'a [u8],
-    one: Shape,
-    two: Shape,
-    buffer: &mut [u8],
-) -> Result<usize, MergeError>
-    requires { BothLaid first.now second.now one.blocks one.wires two.blocks two.wires × BothFew one.blocks one.wires two.blocks two.wires }
-    ensures { (result ≡ result_answer (merged_file first.now second.now) buffer.old)
-        × (buffer.new ≡ buffer_if result (merged_file first.now second.now) buffer.old) }
-{
-    let size = file_length(one.blocks + two.blocks, one.wires + two.wires);
-    if buffer.len() < size {
-        return Err(MergeError::BufferShort);
-    }
-    put_both(first, second, one, two, buffer);
-    Ok(size)
-}
-
-// Merges two laid files: the first, the second and the result must load for release 1.
-fn merge_laid<'a>(
-    first: &'a [u8],
-    second: &'a [u8],
-    one: Shape,
-    two: Shape,
-    buffer: &mut [u8],
-) -> Result<usize, MergeError>
-    requires { BothLaid first.now second.now one.blocks one.wires two.blocks two.wires }
-    ensures { (result ≡ merge_answer first.now second.now buffer.old)
-        × (buffer.new ≡ merge_buffer first.now second.now buffer.old) }
-{
-    build_answer(Release::One, first, one)?;
-    build_answer(Release::One, second, two)?;
-    result_answer(first, second, one, two)?;
-    put_result(first, second, one, two, buffer)
+    both.answer()?;
+    both.write(buffer)
 }
 
 // Writes two files as one to a lent buffer and answers the length of the result: the blocks of the second behind those of the first, its wires with
@@ -224,5 +209,5 @@ pub fn merge<'a>(first: &'a [u8], second: &'a [u8], buffer: &mut [u8]) -> Result
 {
     let one = laid(first)?;
     let two = laid(second)?;
-    merge_laid(first, second, one, two, buffer)
+    merge_laid(one, two, buffer)
 }

@@ -1,10 +1,10 @@
 // Saving a graph as a file: the units of its blocks, then those of its wires.
 ghost use Rattle.std.specs.Prelude.{◌≡◌, map, ◌+◌, ◌*◌, ◌≤◌, length};
 ghost use Rattle.std.proofs.lemmas.List.Edits.{sets};
-ghost use Rattle.port_tables.specs.Limits.{port_slots};
+ghost use Rattle.port_tables.specs.Limits.{node_slots, port_slots};
 ghost use Rattle.multiportgraph.specs.Calls.{visible_nodes, visible_links};
 ghost use Rattle.multiportgraph.specs.WellFormed.{MultiWf};
-ghost use Rattle.multiportgraph.specs.MultiLent.{multi_in};
+ghost use Rattle.multiportgraph.specs.MultiLent.{graph_of};
 ghost use Rattle.files.specs.View.{rank_among, sorted};
 ghost use Rattle.files.specs.Layout.{block_record, wire_record, units_for, units_of, file_length};
 ghost use Rattle.files.specs.Saving.{save_answer, save_buffer};
@@ -12,13 +12,10 @@ ghost use Rattle.files.specs.Forms.{record_of, sorted_numbers, blocks_in, nodes_
 
 use crate::ranks::{block_numbers, fill_ranks, wire_numbers};
 use crate::units::put_units;
-use multiportgraph::lent::{Totals, link_count_lent, node_count_lent};
-use multiportgraph::lent_graph::tables_of_graph;
-use multiportgraph::list_blocks::blocks_lent;
-use multiportgraph::list_wires::wires_lent;
+use multiportgraph::lent_graph::LentGraph;
 use multiportgraph::multiportgraph::MultiPortGraph;
-use port_tables::index::{FREE_LISTS, NODE_SLOTS, PORT_SLOTS};
-use port_tables::lent::NODE_WORDS;
+use port_tables::index::{NODE_SLOTS, PORT_SLOTS};
+use port_tables::release::Release;
 
 // A wire takes two port slots.
 const MOST_WIRES: usize = PORT_SLOTS / 2;
@@ -80,139 +77,74 @@ fn put_sorted(numbers: &mut [u64], buffer: &mut [u8], at: usize)
 fn put_wires<'a>(
     listed: &'a [u32],
     ends: &'a [u32],
-    ranks: &mut [u32],
     numbers: &mut [u64],
     buffer: &mut [u8],
     at: usize,
 )
-    requires { Listings listed.now ends.now (length ranks.old) × (wires_in ends.now ≤ length numbers.old) × (at + 512 * units_for (wires_in ends.now) ≤ length buffer.old) }
+    requires { Listings listed.now ends.now node_slots × (wires_in ends.now ≤ length numbers.old) × (at + 512 * units_for (wires_in ends.now) ≤ length buffer.old) }
     ensures { buffer.new ≡ sets buffer.old at (units_of 2 (map wire_record (sorted (wires_of (rank_among (nodes_of listed.now)) ends.now)))) }
 {
-    fill_ranks(listed, ranks);
-    wire_numbers(ends, ranks, numbers);
+    let mut ranks = [0u32; NODE_SLOTS];
+    fill_ranks(listed, &mut ranks);
+    wire_numbers(ends, &ranks, numbers);
     let count = ends.len() / 8;
     put_sorted(&mut numbers[..count], buffer, at);
 }
 
-// Lays the file of lent tables from the buffer's start on, by working lists that are long enough.
-fn write_in<'a>(
-    nodes: &'a [u32; NODE_WORDS],
-    links: &'a [u32; PORT_SLOTS],
-    owners: &'a [u32; PORT_SLOTS],
-    heads: &'a [u32; FREE_LISTS],
-    marks: &'a [bool; PORT_SLOTS],
-    flags: &'a [bool; NODE_SLOTS],
-    totals: Totals,
-    listed: &mut [u32],
-    ends: &mut [u32],
-    ranks: &mut [u32],
-    numbers: &mut [u64],
+// Lays the file of a lent graph from the buffer's start on, by lists of these lengths: what the listings of blocks and of wires take, and as many numbers of records.
+fn write_by<const LISTED: usize, const ENDS: usize, const NUMBERS: usize>(
+    graph: &LentGraph,
     buffer: &mut [u8],
 )
-    requires { MultiWf (multi_in nodes.now links.now owners.now heads.now marks.now flags.now totals)
-        × (4 * visible_nodes (multi_in nodes.now links.now owners.now heads.now marks.now flags.now totals) ≤ length listed.old)
-        × (8 * visible_links (multi_in nodes.now links.now owners.now heads.now marks.now flags.now totals) ≤ length ends.old)
-        × (totals.counts.node_len ≤ length ranks.old)
-        × (visible_nodes (multi_in nodes.now links.now owners.now heads.now marks.now flags.now totals) ≤ length numbers.old)
-        × (visible_links (multi_in nodes.now links.now owners.now heads.now marks.now flags.now totals) ≤ length numbers.old)
-        × (file_length (visible_nodes (multi_in nodes.now links.now owners.now heads.now marks.now flags.now totals)) (visible_links (multi_in nodes.now links.now owners.now heads.now marks.now flags.now totals)) ≤ length buffer.old) }
-    ensures { buffer.new ≡ save_buffer (multi_in nodes.now links.now owners.now heads.now marks.now flags.now totals) buffer.old }
+    requires { MultiWf (graph_of graph.now)
+        × (4 * visible_nodes (graph_of graph.now) ≤ LISTED)
+        × (8 * visible_links (graph_of graph.now) ≤ ENDS)
+        × (visible_nodes (graph_of graph.now) ≤ NUMBERS)
+        × (visible_links (graph_of graph.now) ≤ NUMBERS)
+        × (file_length (visible_nodes (graph_of graph.now)) (visible_links (graph_of graph.now)) ≤ length buffer.old)
+        × (LISTED ≤ 65536) × (ENDS ≤ 65536) × (NUMBERS ≤ 65536) }
+    ensures { buffer.new ≡ save_buffer (graph_of graph.now) buffer.old }
 {
-    let blocks = node_count_lent(totals);
-    let wires = link_count_lent(totals);
+    let mut listed = [0u32; LISTED];
+    let mut ends = [0u32; ENDS];
+    let mut numbers = [0u64; NUMBERS];
     // The lists are long enough, so both are written.
-    let _ = blocks_lent(nodes, links, owners, heads, marks, flags, totals, listed);
-    let _ = wires_lent(nodes, links, owners, heads, marks, flags, totals, ends);
-    let block_end = 4 * blocks;
-    let wire_end = 8 * wires;
-    let next = put_blocks(&listed[..block_end], numbers, buffer);
+    let _ = graph.list_blocks(&mut listed);
+    let _ = graph.list_wires(&mut ends);
+    let block_end = 4 * graph.node_count();
+    let wire_end = 8 * graph.link_count();
+    let next = put_blocks(&listed[..block_end], &mut numbers, buffer);
     put_wires(
         &listed[..block_end],
         &ends[..wire_end],
-        ranks,
-        numbers,
+        &mut numbers,
         buffer,
         next,
     );
 }
 
-// The same by lists of these lengths: what the listings of blocks and of wires take, and as many numbers of records.
-fn write_by<'a, const LISTED: usize, const ENDS: usize, const NUMBERS: usize>(
-    nodes: &'a [u32; NODE_WORDS],
-    links: &'a [u32; PORT_SLOTS],
-    owners: &'a [u32; PORT_SLOTS],
-    heads: &'a [u32; FREE_LISTS],
-    marks: &'a [bool; PORT_SLOTS],
-    flags: &'a [bool; NODE_SLOTS],
-    totals: Totals,
-    buffer: &mut [u8],
-)
-    requires { MultiWf (multi_in nodes.now links.now owners.now heads.now marks.now flags.now totals)
-        × (4 * visible_nodes (multi_in nodes.now links.now owners.now heads.now marks.now flags.now totals) ≤ LISTED)
-        × (8 * visible_links (multi_in nodes.now links.now owners.now heads.now marks.now flags.now totals) ≤ ENDS)
-        × (visible_nodes (multi_in nodes.now links.now owners.now heads.now marks.now flags.now totals) ≤ NUMBERS)
-        × (visible_links (multi_in nodes.now links.now owners.now heads.now marks.now flags.now totals) ≤ NUMBERS)
-        × (file_length (visible_nodes (multi_in nodes.now links.now owners.now heads.now marks.now flags.now totals)) (visible_links (multi_in nodes.now links.now owners.now heads.now marks.now flags.now totals)) ≤ length buffer.old)
-        × (LISTED ≤ 65536) × (ENDS ≤ 65536) × (NUMBERS ≤ 65536) }
-    ensures { buffer.new ≡ save_buffer (multi_in nodes.now links.now owners.now heads.now marks.now flags.now totals) buffer.old }
+// Writes a lent graph to a lent buffer and answers the file's length; bytes past it keep their contents, and so does a buffer that is too short.
+pub fn save_lent(graph: &LentGraph, buffer: &mut [u8]) -> Result<usize, BufferShort>
+    requires { MultiWf (graph_of graph.now) }
+    ensures { (result ≡ save_answer (graph_of graph.now) buffer.old)
+        × (buffer.new ≡ save_buffer (graph_of graph.now) buffer.old) }
 {
-    let mut listed = [0u32; LISTED];
-    let mut ends = [0u32; ENDS];
-    let mut ranks = [0u32; NODE_SLOTS];
-    let mut numbers = [0u64; NUMBERS];
-    write_in(
-        nodes,
-        links,
-        owners,
-        heads,
-        marks,
-        flags,
-        totals,
-        &mut listed,
-        &mut ends,
-        &mut ranks,
-        &mut numbers,
-        buffer,
-    );
-}
-
-// Writes lent tables to a lent buffer and answers the file's length; bytes past it keep their contents, and so does a buffer that is too short.
-pub fn save_lent<'a>(
-    nodes: &'a [u32; NODE_WORDS],
-    links: &'a [u32; PORT_SLOTS],
-    owners: &'a [u32; PORT_SLOTS],
-    heads: &'a [u32; FREE_LISTS],
-    marks: &'a [bool; PORT_SLOTS],
-    flags: &'a [bool; NODE_SLOTS],
-    totals: Totals,
-    buffer: &mut [u8],
-) -> Result<usize, BufferShort>
-    requires { MultiWf (multi_in nodes.now links.now owners.now heads.now marks.now flags.now totals) }
-    ensures { (result ≡ save_answer (multi_in nodes.now links.now owners.now heads.now marks.now flags.now totals) buffer.old)
-        × (buffer.new ≡ save_buffer (multi_in nodes.now links.now owners.now heads.now marks.now flags.now totals) buffer.old) }
-{
-    let blocks = node_count_lent(totals);
-    let wires = link_count_lent(totals);
+    let blocks = graph.node_count();
+    let wires = graph.link_count();
     let size = file_length(blocks, wires);
     if buffer.len() < size {
         return Err(BufferShort);
     }
     let most = blocks.max(wires);
     if most <= FEW {
-        write_by::<FEW_LISTED, FEW_ENDS, FEW>(
-            nodes, links, owners, heads, marks, flags, totals, buffer,
-        );
+        write_by::<FEW_LISTED, FEW_ENDS, FEW>(graph, buffer);
         return Ok(size);
     }
     if most <= SOME {
-        write_by::<SOME_LISTED, SOME_ENDS, SOME>(
-            nodes, links, owners, heads, marks, flags, totals, buffer,
-        );
+        write_by::<SOME_LISTED, SOME_ENDS, SOME>(graph, buffer);
         return Ok(size);
     }
-    write_by::<ALL_LISTED, ALL_ENDS, MOST_WIRES>(
-        nodes, links, owners, heads, marks, flags, totals, buffer,
-    );
+    write_by::<ALL_LISTED, ALL_ENDS, MOST_WIRES>(graph, buffer);
     Ok(size)
 }
 
@@ -221,22 +153,7 @@ pub fn save(graph: MultiPortGraph, buffer: &mut [u8]) -> Result<usize, BufferSho
     requires { MultiWf graph }
     ensures { (result ≡ save_answer graph buffer.old) × (buffer.new ≡ save_buffer graph buffer.old) }
 {
-    let mut nodes = [0u32; NODE_WORDS];
-    let mut links = [0u32; PORT_SLOTS];
-    let mut owners = [0u32; PORT_SLOTS];
-    let mut heads = [0u32; FREE_LISTS];
-    let mut marks = [false; PORT_SLOTS];
-    let mut flags = [false; NODE_SLOTS];
-    let totals = tables_of_graph(
-        graph,
-        &mut nodes,
-        &mut links,
-        &mut owners,
-        &mut heads,
-        &mut marks,
-        &mut flags,
-    );
-    save_lent(
-        &nodes, &links, &owners, &heads, &marks, &flags, totals, buffer,
-    )
+    let mut held = LentGraph::new(Release::One);
+    held.put(graph);
+    save_lent(&held, buffer)
 }

@@ -1,17 +1,17 @@
 // Hidden nodes over lent tables: what is read of them, and how they go.
-ghost use Rattle.std.specs.Prelude.{◌≡◌, ◌+◌, ◌≤◌, length, take};
+ghost use Rattle.std.specs.Prelude.{◌≡◌, ◌+◌, ◌≤◌};
 ghost use Rattle.port_tables.specs.Limits.{port_slots};
 ghost use Rattle.port_tables.specs.NodeWords.{StaysCanonical};
-ghost use Rattle.multiportgraph.specs.MultiLent.{multi_in, port_of_in, copy_side_in, far_port_in, copy_node_in, Sound};
+ghost use Rattle.multiportgraph.specs.MultiLent.{graph_of, port_of_in, copy_side_in, far_port_in, copy_node_in, Sound};
 ghost use Rattle.multiportgraph.specs.HiddenNodes.{remove_copy, remove_lone, remove_all, unsplit, unsplit_range};
 
 use lent_portgraph::lent_reads::{num_ports_in, port_index_in};
 use lent_portgraph::lent_slots::remove_node_lent;
 use multi_tables::marks::{marked, put_flag, put_mark};
 use multi_tables::reads::{far_in, owner_in};
-use multiportgraph::lent::Totals;
+use multiportgraph::lent_graph::LentGraph;
 use port_tables::direction::Direction;
-use port_tables::index::{FREE_LISTS, NODE_SLOTS, NodeIndex, PORT_SLOTS, PortOffset};
+use port_tables::index::{NodeIndex, PORT_SLOTS, PortOffset};
 use port_tables::lent::NODE_WORDS;
 use port_tables::numbers::wide;
 use port_tables::port_entry::PortEntry;
@@ -78,136 +78,64 @@ pub(crate) fn copy_node_in<'a>(
 }
 
 // The hidden node of a split port goes, with every link at it.
-fn remove_copy_lent(
-    nodes: &mut [u32; NODE_WORDS],
-    links: &mut [u32; PORT_SLOTS],
-    owners: &mut [u32; PORT_SLOTS],
-    heads: &mut [u32; FREE_LISTS],
-    marks: &mut [bool; PORT_SLOTS],
-    flags: &mut [bool; NODE_SLOTS],
-    totals: Totals,
-    port: u32,
-    node: u32,
-) -> Totals
-    requires { Sound (multi_in nodes.old links.old owners.old heads.old marks.old flags.old totals) }
-    ensures { (multi_in nodes.new links.new owners.new heads.new marks.new flags.new result ≡ remove_copy (multi_in nodes.old links.old owners.old heads.old marks.old flags.old totals) port node)
-        × StaysCanonical nodes.old nodes.new }
+fn remove_copy_lent(graph: &mut LentGraph, port: u32, node: u32)
+    requires { Sound (graph_of graph.old) }
+    ensures { (graph_of graph.new ≡ remove_copy (graph_of graph.old) port node)
+        × StaysCanonical graph.old.ports.nodes graph.new.ports.nodes }
 {
-    let side = copy_side_in(nodes, marks, node);
-    let copy = port_of_in(nodes, node, side, 0);
-    let count = num_ports_in(nodes, node, side.reverse());
-    let counts = totals.counts;
-    let removed = remove_node_lent(nodes, links, owners, heads, counts, NodeIndex(node));
-    let after = removed.counts;
-    put_mark(marks, wide(copy), false);
-    put_mark(marks, wide(port), false);
-    put_flag(flags, wide(node), false);
-    let release = totals.release;
-    Totals {
-        counts: after,
-        copies: totals.copies.saturating_sub(1),
-        subs: totals.subs.saturating_sub(count),
-        release: release,
-    }
+    let side = copy_side_in(&graph.ports.nodes, &graph.marks, node);
+    let copy = port_of_in(&graph.ports.nodes, node, side, 0);
+    let count = num_ports_in(&graph.ports.nodes, node, side.reverse());
+    // Of a node that is not live nothing goes.
+    let _ = remove_node_lent(&mut graph.ports, NodeIndex(node));
+    put_mark(&mut graph.marks, wide(copy), false);
+    put_mark(&mut graph.marks, wide(port), false);
+    put_flag(&mut graph.flags, wide(node), false);
+    graph.copies = graph.copies.saturating_sub(1);
+    graph.subs = graph.subs.saturating_sub(count);
 }
 
 // A port of a block loses its hidden node, if it has one.
-pub(crate) fn unsplit_lent(
-    nodes: &mut [u32; NODE_WORDS],
-    links: &mut [u32; PORT_SLOTS],
-    owners: &mut [u32; PORT_SLOTS],
-    heads: &mut [u32; FREE_LISTS],
-    marks: &mut [bool; PORT_SLOTS],
-    flags: &mut [bool; NODE_SLOTS],
-    totals: Totals,
-    port: u32,
-) -> Totals
-    requires { Sound (multi_in nodes.old links.old owners.old heads.old marks.old flags.old totals) }
-    ensures { (multi_in nodes.new links.new owners.new heads.new marks.new flags.new result ≡ unsplit (multi_in nodes.old links.old owners.old heads.old marks.old flags.old totals) port)
-        × StaysCanonical nodes.old nodes.new }
+pub(crate) fn unsplit_lent(graph: &mut LentGraph, port: u32)
+    requires { Sound (graph_of graph.old) }
+    ensures { (graph_of graph.new ≡ unsplit (graph_of graph.old) port)
+        × StaysCanonical graph.old.ports.nodes graph.new.ports.nodes }
 {
-    if marked(marks, wide(port)) {
-        let node = copy_node_in(links, owners, port);
-        return remove_copy_lent(
-            nodes, links, owners, heads, marks, flags, totals, port, node,
-        );
+    if marked(&graph.marks, wide(port)) {
+        let node = copy_node_in(&graph.ports.links, &graph.ports.owners, port);
+        remove_copy_lent(graph, port, node);
     }
-    totals
 }
 
 // `count` ports from `first` on lose their hidden nodes, the first one first.
-pub(crate) fn unsplit_range_lent(
-    nodes: &mut [u32; NODE_WORDS],
-    links: &mut [u32; PORT_SLOTS],
-    owners: &mut [u32; PORT_SLOTS],
-    heads: &mut [u32; FREE_LISTS],
-    marks: &mut [bool; PORT_SLOTS],
-    flags: &mut [bool; NODE_SLOTS],
-    totals: Totals,
-    first: u32,
-    count: usize,
-) -> Totals
-    requires { Sound (multi_in nodes.old links.old owners.old heads.old marks.old flags.old totals) × (first + count ≤ port_slots) }
-    ensures { (multi_in nodes.new links.new owners.new heads.new marks.new flags.new result ≡ unsplit_range (multi_in nodes.old links.old owners.old heads.old marks.old flags.old totals) first count)
-        × StaysCanonical nodes.old nodes.new }
+pub(crate) fn unsplit_range_lent(graph: &mut LentGraph, first: u32, count: usize)
+    requires { Sound (graph_of graph.old) × (first + count ≤ port_slots) }
+    ensures { (graph_of graph.new ≡ unsplit_range (graph_of graph.old) first count)
+        × StaysCanonical graph.old.ports.nodes graph.new.ports.nodes }
 {
-    let mut left = totals;
     for k in 0..count {
-        left = unsplit_lent(
-            nodes,
-            links,
-            owners,
-            heads,
-            marks,
-            flags,
-            left,
-            (wide(first) + k) as u32,
-        );
+        unsplit_lent(graph, (wide(first) + k) as u32);
     }
-    left
 }
 
 // A hidden node whose split port is gone already.
-fn remove_lone_lent(
-    nodes: &mut [u32; NODE_WORDS],
-    links: &mut [u32; PORT_SLOTS],
-    owners: &mut [u32; PORT_SLOTS],
-    heads: &mut [u32; FREE_LISTS],
-    marks: &mut [bool; PORT_SLOTS],
-    flags: &mut [bool; NODE_SLOTS],
-    totals: Totals,
-    node: u32,
-) -> Totals
-    requires { Sound (multi_in nodes.old links.old owners.old heads.old marks.old flags.old totals) }
-    ensures { (multi_in nodes.new links.new owners.new heads.new marks.new flags.new result ≡ remove_lone (multi_in nodes.old links.old owners.old heads.old marks.old flags.old totals) node)
-        × StaysCanonical nodes.old nodes.new }
+fn remove_lone_lent(graph: &mut LentGraph, node: u32)
+    requires { Sound (graph_of graph.old) }
+    ensures { (graph_of graph.new ≡ remove_lone (graph_of graph.old) node)
+        × StaysCanonical graph.old.ports.nodes graph.new.ports.nodes }
 {
-    let side = copy_side_in(nodes, marks, node);
-    let copy = port_of_in(nodes, node, side, 0);
-    remove_copy_lent(
-        nodes, links, owners, heads, marks, flags, totals, copy, node,
-    )
+    let side = copy_side_in(&graph.ports.nodes, &graph.marks, node);
+    let copy = port_of_in(&graph.ports.nodes, node, side, 0);
+    remove_copy_lent(graph, copy, node);
 }
 
-// The first `count` hidden nodes of a list go, in order; the ports that they hung on are gone already.
-pub(crate) fn remove_all_lent(
-    nodes: &mut [u32; NODE_WORDS],
-    links: &mut [u32; PORT_SLOTS],
-    owners: &mut [u32; PORT_SLOTS],
-    heads: &mut [u32; FREE_LISTS],
-    marks: &mut [bool; PORT_SLOTS],
-    flags: &mut [bool; NODE_SLOTS],
-    totals: Totals,
-    list: &[u32],
-    count: usize,
-) -> Totals
-    requires { Sound (multi_in nodes.old links.old owners.old heads.old marks.old flags.old totals) × (count ≤ length list.now) }
-    ensures { (multi_in nodes.new links.new owners.new heads.new marks.new flags.new result ≡ remove_all (multi_in nodes.old links.old owners.old heads.old marks.old flags.old totals) (take count list.now))
-        × StaysCanonical nodes.old nodes.new }
+// The hidden nodes of a list go, in order; the ports that they hung on are gone already.
+pub(crate) fn remove_all_lent(graph: &mut LentGraph, list: &[u32])
+    requires { Sound (graph_of graph.old) }
+    ensures { (graph_of graph.new ≡ remove_all (graph_of graph.old) list.now)
+        × StaysCanonical graph.old.ports.nodes graph.new.ports.nodes }
 {
-    let mut left = totals;
-    for node in &list[..count] {
-        left = remove_lone_lent(nodes, links, owners, heads, marks, flags, left, *node);
+    for node in list {
+        remove_lone_lent(graph, *node);
     }
-    left
 }

@@ -1,4 +1,4 @@
-// What the ends of a link need, and whether there is room for both: read off lent tables, before anything changes.
+// What the ends of a link need, and whether there is room for both: read off a lent graph, before anything changes.
 ghost use Rattle.std.specs.Prelude.{◌≡◌, ◌≤◌};
 ghost use Rattle.port_tables.specs.Limits.{node_slots, port_slots};
 ghost use Rattle.port_tables.specs.NodeWords.{meta_in};
@@ -8,14 +8,23 @@ use multi_tables::marks::marked;
 use multi_tables::named::row_fits;
 use multi_tables::reads::{far_in, lowest_unlinked, owner_in};
 use multiportgraph::lent::{Need, Takes};
+use multiportgraph::lent_graph::LentGraph;
 use port_tables::direction::Direction;
-use port_tables::index::{FREE_LISTS, NODE_SLOTS, NodeIndex, PORT_SLOTS};
-use port_tables::lent::{Counts, NODE_WORDS, meta_in, slot_in};
+use port_tables::index::{NODE_SLOTS, NodeIndex, PORT_SLOTS};
+use port_tables::lent::{NODE_WORDS, meta_in, slot_in};
 use port_tables::node_entry::NodeMeta;
 use port_tables::numbers::wide;
 use port_tables::resize_links::round_up;
 use port_tables::tables::{at, head_at};
 use portgraph::alloc::grown;
+use portgraph::lent_graph::PortTables;
+
+// A port of a block, and its side.
+#[derive(Clone, Copy)]
+pub(crate) struct SidedPort {
+    pub(crate) port: u32,
+    pub(crate) side: Direction,
+}
 
 // The slot of the first port of a node's side.
 fn side_slot(meta: NodeMeta, direction: Direction) -> usize
@@ -29,21 +38,16 @@ fn side_slot(meta: NodeMeta, direction: Direction) -> usize
 }
 
 // The lowest unlinked subport of a hidden node, else one more.
-fn copy_need<'a>(
-    nodes: &'a [u32; NODE_WORDS],
-    links: &'a [u32; PORT_SLOTS],
-    direction: Direction,
-    node: u32,
-) -> Need
-    ensures { result ≡ copy_need_in links.now direction node (meta_in nodes.now node) }
+fn copy_need(tables: &PortTables, direction: Direction, node: u32) -> Need
+    ensures { result ≡ copy_need_in tables.now.links direction node (meta_in tables.now.nodes node) }
 {
-    let Some(meta) = meta_in(nodes, node) else {
+    let Some(meta) = meta_in(&tables.nodes, node) else {
         return Need::Split;
     };
     let first = side_slot(meta, direction);
     let count = meta.num_ports(direction);
     if row_fits(first, count) {
-        let offset = lowest_unlinked(links, first, count);
+        let offset = lowest_unlinked(&tables.links, first, count);
         if offset < count {
             return Need::Ready((first + offset) as u32, offset as u16);
         }
@@ -52,22 +56,16 @@ fn copy_need<'a>(
 }
 
 // What the end that a link of this port takes needs.
-pub(crate) fn need_of<'a>(
-    nodes: &'a [u32; NODE_WORDS],
-    links: &'a [u32; PORT_SLOTS],
-    owners: &'a [u32; PORT_SLOTS],
-    marks: &'a [bool; PORT_SLOTS],
-    port: u32,
-    direction: Direction,
-) -> Need
-    ensures { result ≡ need_in nodes.now links.now owners.now marks.now port direction }
+pub(crate) fn need_of(graph: &LentGraph, port: SidedPort) -> Need
+    ensures { result ≡ need_in graph.now.ports.nodes graph.now.ports.links graph.now.ports.owners graph.now.marks port.port port.side }
 {
-    if marked(marks, wide(port)) {
-        let node = owner_in(owners, far_in(links, wide(port)));
-        return copy_need(nodes, links, direction, node);
+    let slot = wide(port.port);
+    if marked(&graph.marks, slot) {
+        let node = owner_in(&graph.ports.owners, far_in(&graph.ports.links, slot));
+        return copy_need(&graph.ports, port.side, node);
     }
-    if at(links, wide(port)) == 0 {
-        return Need::Ready(port, 0);
+    if at(&graph.ports.links, slot) == 0 {
+        return Need::Ready(port.port, 0);
     }
     Need::Split
 }
@@ -118,16 +116,16 @@ fn next_free(nodes: &[u32; NODE_WORDS], free: u32) -> u32
 }
 
 // The used length of the node table after both ends took what they take.
-fn nodes_left(nodes: &[u32; NODE_WORDS], counts: Counts, first: bool, second: bool) -> usize
-    requires { counts.node_len ≤ node_slots }
-    ensures { result ≡ nodes_left nodes.now counts.node_free counts.node_len first second }
+fn nodes_left(tables: &PortTables, first: bool, second: bool) -> usize
+    requires { tables.now.counts.node_len ≤ node_slots }
+    ensures { result ≡ nodes_left tables.now.nodes tables.now.counts.node_free tables.now.counts.node_len first second }
 {
-    let free = counts.node_free;
-    let len = counts.node_len;
+    let free = tables.counts.node_free;
+    let len = tables.counts.node_len;
     if first {
         let after = grown(free, len, 1);
         if second {
-            return grown(next_free(nodes, free), after, 1);
+            return grown(next_free(&tables.nodes, free), after, 1);
         }
         return after;
     }
@@ -138,60 +136,39 @@ fn nodes_left(nodes: &[u32; NODE_WORDS], counts: Counts, first: bool, second: bo
 }
 
 // The first free block of a size, one higher than its first slot, after the first end took and gave; 0 for none.
-fn head_left<'a>(
-    links: &'a [u32; PORT_SLOTS],
-    heads: &'a [u32; FREE_LISTS],
-    first: Takes,
-    size: usize,
-) -> u32
-    ensures { result ≡ head_left links.now heads.now first size }
+fn head_left(tables: &PortTables, first: Takes, size: usize) -> u32
+    ensures { result ≡ head_left tables.now.links tables.now.heads first size }
 {
     if size == first.give {
         return 1;
     }
-    let head = head_at(heads, size);
+    let head = head_at(&tables.heads, size);
     if size == first.take {
         if head == 0 {
             return 0;
         }
-        return at(links, wide(head - 1));
+        return at(&tables.links, wide(head - 1));
     }
     head
 }
 
 // The used length of the port tables after both ends took what they take.
-fn ports_left<'a>(
-    links: &'a [u32; PORT_SLOTS],
-    heads: &'a [u32; FREE_LISTS],
-    len: usize,
-    first: Takes,
-    second: Takes,
-) -> usize
-    requires { (len ≤ port_slots) × (first.take ≤ port_slots) × (second.take ≤ port_slots) }
-    ensures { result ≡ ports_left links.now heads.now len first second }
+fn ports_left(tables: &PortTables, first: Takes, second: Takes) -> usize
+    requires { (tables.now.counts.port_len ≤ port_slots) × (first.take ≤ port_slots) × (second.take ≤ port_slots) }
+    ensures { result ≡ ports_left tables.now.links tables.now.heads tables.now.counts.port_len first second }
 {
-    let after = grown(head_at(heads, first.take), len, first.take);
-    grown(
-        head_left(links, heads, first, second.take),
-        after,
-        second.take,
-    )
+    let head = head_at(&tables.heads, first.take);
+    let after = grown(head, tables.counts.port_len, first.take);
+    grown(head_left(tables, first, second.take), after, second.take)
 }
 
 // Whether there is room for both ends of a link, one after the other.
-pub(crate) fn room_for<'a>(
-    nodes: &'a [u32; NODE_WORDS],
-    links: &'a [u32; PORT_SLOTS],
-    heads: &'a [u32; FREE_LISTS],
-    counts: Counts,
-    first: Takes,
-    second: Takes,
-) -> bool
-    requires { (counts.node_len ≤ node_slots) × (counts.port_len ≤ port_slots) × (first.take ≤ port_slots) × (second.take ≤ port_slots) }
-    ensures { result ≡ room_for nodes.now links.now heads.now counts first second }
+pub(crate) fn room_for(tables: &PortTables, first: Takes, second: Takes) -> bool
+    requires { (tables.now.counts.node_len ≤ node_slots) × (tables.now.counts.port_len ≤ port_slots) × (first.take ≤ port_slots) × (second.take ≤ port_slots) }
+    ensures { result ≡ room_for tables.now.nodes tables.now.links tables.now.heads tables.now.counts first second }
 {
-    if nodes_left(nodes, counts, first.node, second.node) <= NODE_SLOTS {
-        return ports_left(links, heads, counts.port_len, first, second) <= PORT_SLOTS;
+    if nodes_left(tables, first.node, second.node) <= NODE_SLOTS {
+        return ports_left(tables, first, second) <= PORT_SLOTS;
     }
     false
 }

@@ -14,10 +14,17 @@ pub struct Listener {
     // Whether each line is printed before its answer.
     echo: bool,
     // The number of the line that was heard last, and whether the one in hand is too long.
-    pub line: u64,
+    line: u64,
     too_long: bool,
     // Whether no line is read any more.
     pub ended: bool,
+}
+
+// A line that is heard: its text, without a carriage return, and its number.
+#[derive(Clone, Copy)]
+pub struct Heard<'a> {
+    pub text: &'a [u8],
+    pub number: u64,
 }
 
 // Whether a line has no word, or is a comment.
@@ -51,8 +58,8 @@ impl Listener {
         self.too_long = true;
     }
 
-    // The line in hand ends with this text: what is heard of it, without a carriage return.
-    fn end_line<'a>(&mut self, rt: &impl Print, buffer: &'a [u8], span: Span) -> Option<&'a [u8]> {
+    // The line in hand ends with this text: what is heard of it.
+    fn end_line<'a>(&mut self, rt: &impl Print, buffer: &'a [u8], span: Span) -> Option<Heard<'a>> {
         self.line = self.line.saturating_add(1);
         if self.too_long {
             self.too_long = false;
@@ -66,16 +73,19 @@ impl Listener {
         if self.echo {
             show_line(rt, text);
         }
-        Some(text)
+        Some(Heard {
+            text: text,
+            number: self.line,
+        })
     }
 
-    // One step in the input: the text of a line, if one is heard.
+    // One step in the input: a line, if one is heard.
     pub fn listen<'a, I: Read>(
         &mut self,
         rt: &impl Print,
         input: &mut I,
         buffer: &'a mut [u8],
-    ) -> Option<&'a [u8]> {
+    ) -> Option<Heard<'a>> {
         match self.reader.step(input, buffer) {
             Ok(None) => None,
             Ok(Some(Found::Line(span))) => self.end_line(rt, buffer, span),

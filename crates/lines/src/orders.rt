@@ -5,6 +5,7 @@ ghost use Rattle.lines.specs.Text.{bytes_of, same_bytes, value_or_none, number_s
 ghost use Rattle.lines.specs.declared.wrong.Wrong.TheVariants.{LongName};
 ghost use Rattle.lines.specs.Orders.{Asks, Numbered, Ordered, Says, file_name, start_of, with_number, number_at, offset_at};
 
+use crate::listening::Heard;
 use crate::text::{Span, is_word, next_word, number_of};
 use crate::wrong::{Wrong, show_bad};
 
@@ -190,28 +191,28 @@ fn with_list<C: Copy>(
     Err(Wrong::WordCount)
 }
 
-// The order of a line with this command for its first word, which is typed so, and with further words from a place on; if something is wrong
-// with the line, that is said, and there is no order. The size is how many numbers an entry of the command's list has, 0 where it has no list.
+// The order of a line that has the command of this row for its first word, and further words from a place on; if something is wrong with the line, that is said, and there is
+// no order. The size is how many numbers an entry of the command's list has, 0 where it has no list.
+// Stays a number: in an Option it would need a proof that it is more than 0.
 pub fn order_by<C: Copy>(
     rt: &impl Print,
-    command: C,
-    usage: &[u8],
+    row: (C, &[u8]),
     size: usize,
-    text: &[u8],
+    heard: Heard,
     from: usize,
-    line: u64,
 ) -> Option<Order<C>>
-    ensures { IfSome result (λ order. Ordered command size text.now from usage.now order) }
+    ensures { IfSome result (λ order. Ordered row.entry.0 size heard.entry.text.now from row.entry.1.now order) }
 {
+    let (command, usage) = row;
     let ordered = if 0 < size {
-        with_list(command, text, from, usage, size)
+        with_list(command, heard.text, from, usage, size)
     } else {
-        with_numbers(command, text, from, usage)
+        with_numbers(command, heard.text, from, usage)
     };
     match ordered {
         Ok(order) => Some(order),
         Err(wrong) => {
-            show_bad(rt, line, wrong, usage);
+            show_bad(rt, heard.number, wrong, usage);
             None
         }
     }

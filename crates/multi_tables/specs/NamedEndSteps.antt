@@ -1,9 +1,9 @@
 -- Ends that calls name, step by step: what the functions' proofs cite.
-use Rattle.std.specs.Prelude.{◌≡◌, List, Bool, ◌⊎◌, ℕ, ◌+◌, ◌-◌, ◌≤◌, ◌<◌, leb, Result, Ok, Err}
+use Rattle.std.specs.Prelude.{◌≡◌, List, Bool, ◌⊎◌, ℕ, ◌+◌, ◌≤◌, ◌<◌, leb, Result, Ok, Err}
 use Rattle.std.proofs.Common.{sym, ◌∙◌, inl, inr, arith}
 use Rattle.std.proofs.Math.Path.{ap, refl}
 use Rattle.std.proofs.Math.Bool.{true, false, cond}
-use borrow.Author.Tests.{eq-eqb, ne_eqb, le-leb, lt-leb, leb-true, leb-false, lt-ltb, le-ltb}
+use borrow.Author.Tests.{eq-eqb, ne_eqb, lt-ltb, le-ltb}
 use Rattle.port_tables.specs.Entries.{port_entry, node_of, node#, same_side, port#}
 use Rattle.port_tables.specs.Tables.{at}
 use Rattle.port_tables.specs.declared.port_entry.PortMeta.{PortMeta}
@@ -49,6 +49,11 @@ found_as p dead n d e = let z : ◌≡◌ {A = ℕ} 0 1 = cc in absurd (omega ar
 found_as p hidden n d e = let z : ◌≡◌ {A = ℕ} 0 1 = cc in absurd (omega arith)
 found_as p (visible k f) n d e = let g : ◌≡◌ {A = NodeIndex × Direction} (node# k, f) (n, d) = cc in ap (λ (x : NodeIndex × Direction). visible x.0.0 x.1) g
 
+unseen_as : (p : ℕ) {A : Type 0} (f : Port → A) (z : A) (s : Port) (r : Refusal) → f dead ≡ z → f hidden ≡ z → block_or p s ≡ Err r → f s ≡ z
+unseen_as p f z dead r g h e = g
+unseen_as p f z hidden r g h e = h
+unseen_as p f z (visible n d) r g h e = let k : ◌≡◌ {A = ℕ} 0 1 = cc in absurd (omega arith)
+
 module _ (owners : List ℕ) (flags : List Bool) (p : ℕ) where
   pub block_seen : (s : Port) → seen_in owners flags p ≡ s → block_or p s ≡ block_port owners flags p
   unfolding block_port
@@ -58,6 +63,12 @@ module _ (owners : List ℕ) (flags : List Bool) (p : ℕ) where
       → block_port owners flags p ≡ Err r → Err r ≡ f (seen_in owners flags p)
   unfolding block_port
   block_refused f r g h e = refused_as p f (seen_in owners flags p) r g h e
+
+  -- what a dead and a hidden port give alike, a port that is refused gives
+  pub block_unseen : {A : Type 0} (f : Port → A) (z : A) (r : Refusal) → f dead ≡ z → f hidden ≡ z → block_port owners flags p ≡ Err r
+      → f (seen_in owners flags p) ≡ z
+  unfolding block_port
+  block_unseen f z r g h e = unseen_as p f z (seen_in owners flags p) r g h e
 
   pub block_found : (n : NodeIndex) (d : Direction) → block_port owners flags p ≡ Ok (n, d) → seen_in owners flags p ≡ visible n.0 d
   unfolding block_port
@@ -210,14 +221,6 @@ module _ (owners : List ℕ) (flags : List Bool) (p o q r : ℕ) where
     pub both_good : good_offset r ≡ true → {l : Result SeenPair Refusal} → l ≡ seen_pair owners flags p q → l ≡ subport_pair owners flags p o q r
     unfolding subport_pair
     both_good h e = e ∙ rw (g, h)
-
--- A range of slots.
-pub fits_inside : (f n : ℕ) (b : Bool) → f ≤ port_slots → b ≡ leb n (port_slots - f) → b ≡ leb (f + n) port_slots
-fits_inside f n true h e = let l = leb-true n (port_slots - f) (sym e) in sym (le-leb (f + n) port_slots (omega arith))
-fits_inside f n false h e = let l = leb-false n (port_slots - f) (sym e) in sym (lt-leb (f + n) port_slots (omega arith))
-
-pub fits_outside : (f n : ℕ) → port_slots < f → false ≡ leb (f + n) port_slots
-fits_outside f n h = sym (lt-leb (f + n) port_slots (omega arith))
 
 -- What an end needs.
 module _ (links owners : List ℕ) (p : ℕ) (d : Direction) {n f : ℕ} (e : n ≡ subports_in links owners p d) (g : f ≡ first_in links owners p d) {b : Bool} (h : b ≡ leb (f + n) port_slots) where

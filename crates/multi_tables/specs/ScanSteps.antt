@@ -1,5 +1,5 @@
 -- Steps of the scans over lent tables, over plain values.
-use Rattle.std.specs.Prelude.{◌≡◌, Bool, eqb, leb, get_or, Option, Some, None, Result, Ok, Err}
+use Rattle.std.specs.Prelude.{◌≡◌, Bool, eqb, get_or, Option, Some, None, Result, Ok, Err}
 use Rattle.std.proofs.Math.Path.{refl, ap, sym}
 use Rattle.std.proofs.Common.{◌∙◌, eq-eqb, ne_eqb, le-leb}
 use mathlib.Core.List.{List, [], ◌∷◌, ◌++◌, flat_map}
@@ -7,7 +7,7 @@ use Rattle.std.proofs.Math.Bool.{true, false, cond}
 use Prim.Native.Nat.{ℕ, ◌<◌, ◌+◌, ◌-◌, ◌≤◌, min, suc}
 use native.Mathlib.Omega.{arith}
 use Rattle.std.proofs.lemmas.Bool.{lt-leb}
-use Rattle.multi_tables.specs.Scans.{first_found, link_port, span_first, span_count, not_own_output, passes_in, links_in, port_links_by, port_links_in, links_rest, beyond_in, block_links_in, wires_in}
+use Rattle.multi_tables.specs.Scans.{first_found, link_port, span_first, span_count, not_own_output, links_in, port_links_by, port_links_in, links_rest, beyond_in, block_links_in, wires_in}
 use Rattle.multi_tables.specs.declared.answers.SubportLink.{SubportLink}
 use Rattle.port_tables.specs.Lists.{filter, range}
 use Rattle.port_tables.specs.Listing.{filter_append}
@@ -16,12 +16,9 @@ use Rattle.port_tables.specs.Tables.{at}
 use Rattle.port_tables.specs.declared.direction.Direction.{Direction}
 use Rattle.port_tables.specs.declared.direction.Direction.TheVariants.{Incoming, Outgoing}
 use Rattle.multi_tables.specs.Forms.{flag_at, seen_as, wire_to, subport#, Port, visible}
-use Rattle.multi_tables.specs.TableReads.{far_in, owns_up, owns_down, run_up, run_down, count_beside, subports_in, first_in, owner_in, seen_in, subport_in, place_in, far_place_in, wire_in, wire_end_in}
+use Rattle.multi_tables.specs.TableReads.{far_in, owns_up, owns_down, run_up, run_down, count_beside, subports_in, first_in, seen_in, subport_in, place_in, far_place_in, wire_in, wire_end_in}
 use Rattle.multi_tables.specs.TableReadSteps.{run_bound}
-use Rattle.port_tables.specs.Entries.{same_side, fresh_slot, ports_from, ports_to}
-use Rattle.port_tables.specs.declared.index.NodeIndex.{NodeIndex}
-use Rattle.multi_tables.specs.declared.seen.SeenPort.{SeenPort}
-use Rattle.multi_tables.specs.declared.scans.LinkFilter.{LinkFilter}
+use Rattle.port_tables.specs.Entries.{node#, same_side, fresh_slot, ports_from, ports_to}
 use Rattle.port_tables.specs.TableSteps.{at_outside}
 use Rattle.multi_tables.specs.declared.answers.SubportIndex.{SubportIndex}
 use Rattle.multi_tables.specs.declared.answers.PortPlace.{PortPlace}
@@ -32,7 +29,6 @@ use Rattle.port_tables.specs.declared.node_entry.FreeNodeEntry.{FreeNodeEntry}
 use Rattle.port_tables.specs.declared.node_entry.NodeMeta.{NodeMeta}
 use Rattle.port_tables.specs.declared.node_entry.NodeSlot.{NodeSlot}
 use Rattle.multi_tables.specs.declared.seen.SeenPort.TheVariants as seen_port
-use Rattle.multi_tables.specs.declared.scans.LinkFilter.TheVariants as filters
 use Rattle.port_tables.specs.declared.node_entry.NodeEntry.TheVariants as node_variants
 
 -- The first of two lists, one after the other.
@@ -93,37 +89,16 @@ module _ (marks : List Bool) (links owners : List ℕ) (p w : ℕ) (d : Directio
 
 -- Filters.
 
-module _ (n : ℕ) (s : SeenPort) (k : NodeIndex) (d : Direction) (told : s ≡ seen_port.Visible k d) where
-  pub own_same : (e : Direction) → k.0 ≡ n → d ≡ e → same_side e Incoming ≡ not_own_output n s
-  own_same e h f =
-      let g : not_own_output n (seen_port.Visible k d) ≡ same_side d Incoming = rw (eq-eqb k.0 n h) in
-      sym (ap (not_own_output n) told ∙ g ∙ ap (λ x. same_side x Incoming) f)
+module _ (n : ℕ) (s : Port) (k : ℕ) (d : Direction) (told : s ≡ visible k d) where
+  pub own_same : k ≡ n → same_side d Incoming ≡ not_own_output n (seen_as s)
+  own_same h =
+      let g : not_own_output n (seen_port.Visible (node# k) d) ≡ same_side d Incoming = rw (eq-eqb k n h) in
+      sym (ap (λ (x : Port). not_own_output n (seen_as x)) told ∙ g)
 
-  pub own_other : (k.0 ≡ n → ⊥) → true ≡ not_own_output n s
+  pub own_other : (k ≡ n → ⊥) → true ≡ not_own_output n (seen_as s)
   own_other h =
-      let g : not_own_output n (seen_port.Visible k d) ≡ true = rw (ne_eqb k.0 n h) in
-      sym (ap (not_own_output n) told ∙ g)
-
-module _ (owners : List ℕ) (flags : List Bool) (f : LinkFilter) (p : ℕ) where
-  pub passes_by : (g : LinkFilter) → f ≡ g → passes_in owners flags g p ≡ passes_in owners flags f p
-  passes_by g e = ap (λ x. passes_in owners flags x p) (sym e)
-
-  pub skip_past : (lo hi : ℕ) → f ≡ filters.Skip lo hi → lo ≤ p → leb hi p ≡ passes_in owners flags f p
-  skip_past lo hi e h =
-      let g : leb hi p ≡ passes_in owners flags (filters.Skip lo hi) p = rw (le-leb lo p h) in
-      g ∙ passes_by (filters.Skip lo hi) e
-
-  pub skip_before : (lo hi : ℕ) → f ≡ filters.Skip lo hi → p < lo → true ≡ passes_in owners flags f p
-  skip_before lo hi e h =
-      let g : true ≡ passes_in owners flags (filters.Skip lo hi) p = rw (lt-leb lo p h) in
-      g ∙ passes_by (filters.Skip lo hi) e
-
-  pub passes_output : (n : NodeIndex) (s : SeenPort) (r : Bool) → f ≡ filters.NotOutputOf n → s ≡ seen_as (seen_in owners flags p) → r ≡ not_own_output n.0 s
-      → r ≡ passes_in owners flags f p
-  passes_output n s r e h g = g ∙ ap (not_own_output n.0) h ∙ passes_by (filters.NotOutputOf n) e
-
-  pub passes_to : (n : NodeIndex) (o : ℕ) → f ≡ filters.To n → o ≡ owner_in owners p → eqb o n.0 ≡ passes_in owners flags f p
-  passes_to n o e h = ap (λ x. eqb x n.0) h ∙ passes_by (filters.To n) e
+      let g : not_own_output n (seen_port.Visible (node# k) d) ≡ true = rw (ne_eqb k n h) in
+      sym (ap (λ (x : Port). not_own_output n (seen_as x)) told ∙ g)
 
 -- One end.
 
@@ -204,9 +179,9 @@ module _ (marks : List Bool) (links owners : List ℕ) (flags : List Bool) where
     unfolding port_links_in
     port_links_at s e = ap (λ x. first_found (filter t (port_links_by marks links owners flags p o x))) (sym e)
 
-    pub port_links_none : (s : Port) → seen_in owners flags p ≡ s → port_links_by marks links owners flags p o s ≡ [] → None ≡ first_found (filter t (port_links_in marks links owners flags p o))
+    pub port_links_none : port_links_by marks links owners flags p o (seen_in owners flags p) ≡ [] → None ≡ first_found (filter t (port_links_in marks links owners flags p o))
     unfolding first_found filter
-    port_links_none s e h = ap (λ l. first_found (filter t l)) (sym h) ∙ port_links_at s e
+    port_links_none h = ap (λ l. first_found (filter t l)) (sym h) ∙ port_links_at (seen_in owners flags p) refl
 
     pub port_links_scanned : (n : ℕ) (d : Direction) (first end : ℕ) (r : Option SubportLink) → seen_in owners flags p ≡ visible n d
         → first ≡ span_first marks links owners p d → end ≡ span_count marks links owners p d

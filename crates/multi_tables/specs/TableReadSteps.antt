@@ -139,13 +139,6 @@ module _ (t : List ℕ) (q w : ℕ) (e : w ≡ q) where
   unfolding first_beside
   first_out d f = rw (e, f)
 
-  pub count_below : (d : Direction) (n : ℕ) → d ≡ Incoming → n ≡ count_beside t q d → (n ≤ w) × (n ≤ port_slots)
-  unfolding count_beside
-  count_below d n f g =
-      let h : n ≡ run_down t (at t (q - 1)) q = g ∙ ap (count_beside t q) f in
-      let b = down_bound t (at t (q - 1)) q in
-      omega arith
-
   module _ (d : Direction) (o v : ℕ) (u : v ≡ o) where
     pub end_in_lem : (n s : ℕ) → d ≡ Incoming → n ≡ count_beside t q d → v < n → s ≡ w - n → Some (s + v) ≡ end_as (end_beside t q d o)
     unfolding end_beside first_beside

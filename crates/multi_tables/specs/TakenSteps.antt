@@ -1,11 +1,11 @@
 -- The check of 18, step by step: what the functions' proofs cite.
 use Rattle.std.specs.Prelude.{◌≡◌, Bool, not, List, ℕ, eqb, Result, Ok, Err}
 use Rattle.std.proofs.Math.Path.{refl, ap}
-use Rattle.std.proofs.Common.{sym, ◌∙◌, eq-eqb, ne_eqb}
+use Rattle.std.proofs.Common.{sym, ◌∙◌, arith}
 use Rattle.std.proofs.Math.Bool.{true, false, cond}
 use Rattle.port_tables.specs.Entries.{port#}
 use Rattle.port_tables.specs.declared.direction.Direction.{Direction}
-use Rattle.port_tables.specs.declared.direction.Direction.TheVariants.{Incoming}
+use Rattle.port_tables.specs.declared.direction.Direction.TheVariants.{Incoming, Outgoing}
 use Rattle.multi_tables.specs.Forms.{Port, dead, hidden, visible, End, inner, lacking, good_offset, taken_under}
 use Rattle.multi_tables.specs.TableReads.{seen_in, end_in}
 use Rattle.multi_tables.specs.FanOutScans.{wires_at_in}
@@ -26,15 +26,10 @@ module _ (marks : List Bool) (links owners : List ℕ) (flags : List Bool) where
   unfolding wired_in
   wired_seen p s e = ap (wired_port marks links owners flags p) (sym e)
 
-  module _ (p n : ℕ) (e : seen_in owners flags p ≡ visible n Incoming) (k : ℕ) (f : k ≡ wires_at_in marks links owners p Incoming) where
-    told : (b : Bool) → not (eqb k 0) ≡ b → b ≡ wired_in marks links owners flags p
-    told b g = sym g ∙ (ap (λ (x : ℕ). not (eqb x 0)) f ∙ wired_seen p (visible n Incoming) e)
-
-    pub wired_some : (k ≡ 0 → ⊥) → true ≡ wired_in marks links owners flags p
-    wired_some h = told true (ap not (ne_eqb k 0 h))
-
-    pub wired_none : k ≡ 0 → false ≡ wired_in marks links owners flags p
-    wired_none h = told false (ap not (eq-eqb k 0 h))
+  pub wired_count : (p n : ℕ) (d : Direction) → seen_in owners flags p ≡ visible n d → d ≡ Incoming → (k : ℕ) → k ≡ wires_at_in marks links owners p d
+      → not (eqb k 0) ≡ wired_in marks links owners flags p
+  wired_count p n Incoming e f k h = ap (λ (x : ℕ). not (eqb x 0)) h ∙ wired_seen p (visible n Incoming) e
+  wired_count p n Outgoing e f k h = let z : ◌≡◌ {A = ℕ} 0 1 = cc in absurd (omega arith)
 
   pub taken_one : (a b : ℕ) (v : Release) → v ≡ release.One → false ≡ taken_in marks links owners flags v a b
   unfolding taken_in

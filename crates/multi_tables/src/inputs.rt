@@ -5,187 +5,128 @@ ghost use Rattle.multi_tables.specs.NamedEnds.{taken_second};
 ghost use Rattle.multi_tables.specs.TakenInputs.{wired_in, taken_in, taken_sub_in, taken_ports_in, link_need_under, pair_named_under, link_named_under};
 
 use crate::answers::{Refusal, SubportIndex};
-use crate::named::{
-    LinkNeed, SeenPair, link_named, link_need, pair_named, seen_pair, subport_pair,
-};
-use crate::reads::{end_in, seen_in};
-use crate::seen::SeenPort;
-use crate::wire_counts::wires_at;
+use crate::named::{LinkNeed, SeenPair};
+use crate::wire_tables::WireTables;
 use port_tables::direction::Direction;
-use port_tables::index::{NODE_SLOTS, PORT_SLOTS, PortIndex};
+use port_tables::index::PortIndex;
 use port_tables::release::Release;
 
-// Whether a port is a live input of a block and has a wire.
-fn wired_input<'a>(
-    marks: &'a [bool; PORT_SLOTS],
-    links: &'a [u32; PORT_SLOTS],
-    owners: &'a [u32; PORT_SLOTS],
-    flags: &'a [bool; NODE_SLOTS],
-    port: u32,
-) -> bool
-    ensures { result ≡ wired_in marks.now links.now owners.now flags.now port }
-{
-    match seen_in(owners, flags, port) {
-        SeenPort::Dead => false,
-        SeenPort::Hidden => false,
-        SeenPort::Visible(_, side) => {
-            match side {
-                Direction::Incoming => {
-                    let wires = wires_at(marks, links, owners, port, Direction::Incoming);
-                    if wires == 0 {
-                        return false;
-                    }
-                    true
+impl WireTables<'_> {
+    // Whether a port is a live input of a block and has a wire.
+    fn wired_input(self, port: u32) -> bool
+        ensures { result ≡ wired_in self.entry.marks.now self.entry.links.now self.entry.owners.now self.entry.flags.now port }
+    {
+        let Ok((_, side)) = self.block_port(PortIndex(port)) else {
+            return false;
+        };
+        match side {
+            Direction::Incoming => self.wires_at(port, side) != 0,
+            Direction::Outgoing => false,
+        }
+    }
+
+    // Whether a link of two ports names such an input, under release 2.
+    pub fn input_taken(self, release: Release, a: u32, b: u32) -> bool
+        ensures { result ≡ taken_in self.entry.marks.now self.entry.links.now self.entry.owners.now self.entry.flags.now release a b }
+    {
+        match release {
+            Release::One => false,
+            Release::Two => {
+                if self.wired_input(a) {
+                    return true;
                 }
-                Direction::Outgoing => false,
+                self.wired_input(b)
             }
         }
     }
-}
 
-// Whether a link of two ports names such an input, under release 2.
-pub fn input_taken<'a>(
-    marks: &'a [bool; PORT_SLOTS],
-    links: &'a [u32; PORT_SLOTS],
-    owners: &'a [u32; PORT_SLOTS],
-    flags: &'a [bool; NODE_SLOTS],
-    release: Release,
-    a: u32,
-    b: u32,
-) -> bool
-    ensures { result ≡ taken_in marks.now links.now owners.now flags.now release a b }
-{
-    match release {
-        Release::One => false,
-        Release::Two => {
-            if wired_input(marks, links, owners, flags, a) {
-                return true;
+    // What such a link of ports is refused with.
+    pub fn taken_ports(self, a: PortIndex, b: PortIndex) -> Refusal
+        ensures { result ≡ taken_ports_in self.entry.owners.now self.entry.flags.now a.0 b.0 }
+    {
+        match self.seen_pair(a, b) {
+            Err(refusal) => refusal,
+            Ok(SeenPair::First(_)) => Refusal::InputWired,
+            Ok(SeenPair::Both(_, _)) => Refusal::InputWired,
+        }
+    }
+
+    // What it is refused with at the last end that is looked at.
+    fn taken_end(self, subport: SubportIndex, direction: Direction) -> Refusal
+        ensures { result ≡ taken_second subport.port.0 (end_in self.entry.marks.now self.entry.links.now self.entry.owners.now subport.port.0 direction subport.subport_offset) }
+    {
+        let port = subport.port;
+        let Some(_) = self.end_in(port.0, direction, subport.subport_offset) else {
+            return Refusal::UnknownOffset(port);
+        };
+        Refusal::InputWired
+    }
+
+    // And such a link of subports.
+    pub fn taken_subports(self, from: SubportIndex, to: SubportIndex) -> Refusal
+        ensures { result ≡ taken_sub_in self.entry.marks.now self.entry.links.now self.entry.owners.now self.entry.flags.now from.port.0 from.subport_offset to.port.0 to.subport_offset }
+    {
+        match self.subport_pair(from, to) {
+            Err(refusal) => {
+                return refusal;
             }
-            wired_input(marks, links, owners, flags, b)
+            Ok(SeenPair::First(d)) => {
+                return self.taken_end(from, d);
+            }
+            Ok(SeenPair::Both(d, e)) => {
+                let p = from.port;
+                let Some(_) = self.end_in(p.0, d, from.subport_offset) else {
+                    return Refusal::UnknownOffset(p);
+                };
+                return self.taken_end(to, e);
+            }
         }
     }
-}
 
-// What such a link of ports is refused with.
-pub fn taken_ports<'a>(
-    owners: &'a [u32; PORT_SLOTS],
-    flags: &'a [bool; NODE_SLOTS],
-    a: PortIndex,
-    b: PortIndex,
-) -> Refusal
-    ensures { result ≡ taken_ports_in owners.now flags.now a.0 b.0 }
-{
-    match seen_pair(owners, flags, a, b) {
-        Err(refusal) => refusal,
-        Ok(SeenPair::First(_)) => Refusal::InputWired,
-        Ok(SeenPair::Both(_, _)) => Refusal::InputWired,
-    }
-}
-
-// What it is refused with at the last end that is looked at.
-fn taken_end<'a>(
-    marks: &'a [bool; PORT_SLOTS],
-    links: &'a [u32; PORT_SLOTS],
-    owners: &'a [u32; PORT_SLOTS],
-    subport: SubportIndex,
-    direction: Direction,
-) -> Refusal
-    ensures { result ≡ taken_second subport.port.0 (end_in marks.now links.now owners.now subport.port.0 direction subport.subport_offset) }
-{
-    let port = subport.port;
-    let Some(_) = end_in(
-        marks,
-        links,
-        owners,
-        port.0,
-        direction,
-        subport.subport_offset,
-    ) else {
-        return Refusal::UnknownOffset(port);
-    };
-    Refusal::InputWired
-}
-
-// And such a link of subports.
-pub fn taken_subports<'a>(
-    marks: &'a [bool; PORT_SLOTS],
-    links: &'a [u32; PORT_SLOTS],
-    owners: &'a [u32; PORT_SLOTS],
-    flags: &'a [bool; NODE_SLOTS],
-    from: SubportIndex,
-    to: SubportIndex,
-) -> Refusal
-    ensures { result ≡ taken_sub_in marks.now links.now owners.now flags.now from.port.0 from.subport_offset to.port.0 to.subport_offset }
-{
-    match subport_pair(owners, flags, from, to) {
-        Err(refusal) => {
-            return refusal;
+    // What a link of two ports needs, or why it is refused, by release 2 too.
+    pub fn link_need_under(
+        self,
+        release: Release,
+        a: PortIndex,
+        b: PortIndex,
+    ) -> Result<LinkNeed, Refusal>
+        ensures { result ≡ link_need_under self.entry.marks.now self.entry.links.now self.entry.owners.now self.entry.flags.now release a.0 b.0 }
+    {
+        if self.input_taken(release, a.0, b.0) {
+            return Err(self.taken_ports(a, b));
         }
-        Ok(SeenPair::First(d)) => {
-            return taken_end(marks, links, owners, from, d);
+        self.link_need(a, b)
+    }
+
+    // Whether two ports can be linked, room apart, by release 2 too.
+    pub fn pair_named_under(
+        self,
+        release: Release,
+        a: PortIndex,
+        b: PortIndex,
+    ) -> Result<(), Refusal>
+        ensures { result ≡ pair_named_under self.entry.marks.now self.entry.links.now self.entry.owners.now self.entry.flags.now release a.0 b.0 }
+    {
+        if self.input_taken(release, a.0, b.0) {
+            return Err(self.taken_ports(a, b));
         }
-        Ok(SeenPair::Both(d, e)) => {
-            let p = from.port;
-            let Some(_) = end_in(marks, links, owners, p.0, d, from.subport_offset) else {
-                return Refusal::UnknownOffset(p);
-            };
-            return taken_end(marks, links, owners, to, e);
+        self.pair_named(a, b)
+    }
+
+    // The ends of a link of two subports, or why it is refused, by release 2 too.
+    pub fn link_named_under(
+        self,
+        release: Release,
+        from: SubportIndex,
+        to: SubportIndex,
+    ) -> Result<(u32, u32), Refusal>
+        ensures { result ≡ link_named_under self.entry.marks.now self.entry.links.now self.entry.owners.now self.entry.flags.now release from.port.0 from.subport_offset to.port.0 to.subport_offset }
+    {
+        let p = from.port;
+        let q = to.port;
+        if self.input_taken(release, p.0, q.0) {
+            return Err(self.taken_subports(from, to));
         }
+        self.link_named(from, to)
     }
-}
-
-// What a link of two ports needs, or why it is refused, by release 2 too.
-pub fn link_need_under<'a>(
-    marks: &'a [bool; PORT_SLOTS],
-    links: &'a [u32; PORT_SLOTS],
-    owners: &'a [u32; PORT_SLOTS],
-    flags: &'a [bool; NODE_SLOTS],
-    release: Release,
-    a: PortIndex,
-    b: PortIndex,
-) -> Result<LinkNeed, Refusal>
-    ensures { result ≡ link_need_under marks.now links.now owners.now flags.now release a.0 b.0 }
-{
-    if input_taken(marks, links, owners, flags, release, a.0, b.0) {
-        return Err(taken_ports(owners, flags, a, b));
-    }
-    link_need(marks, links, owners, flags, a, b)
-}
-
-// Whether two ports can be linked, room apart, by release 2 too.
-pub fn pair_named_under<'a>(
-    marks: &'a [bool; PORT_SLOTS],
-    links: &'a [u32; PORT_SLOTS],
-    owners: &'a [u32; PORT_SLOTS],
-    flags: &'a [bool; NODE_SLOTS],
-    release: Release,
-    a: PortIndex,
-    b: PortIndex,
-) -> Result<(), Refusal>
-    ensures { result ≡ pair_named_under marks.now links.now owners.now flags.now release a.0 b.0 }
-{
-    if input_taken(marks, links, owners, flags, release, a.0, b.0) {
-        return Err(taken_ports(owners, flags, a, b));
-    }
-    pair_named(owners, flags, a, b)
-}
-
-// The ends of a link of two subports, or why it is refused, by release 2 too.
-pub fn link_named_under<'a>(
-    marks: &'a [bool; PORT_SLOTS],
-    links: &'a [u32; PORT_SLOTS],
-    owners: &'a [u32; PORT_SLOTS],
-    flags: &'a [bool; NODE_SLOTS],
-    release: Release,
-    from: SubportIndex,
-    to: SubportIndex,
-) -> Result<(u32, u32), Refusal>
-    ensures { result ≡ link_named_under marks.now links.now owners.now flags.now release from.port.0 from.subport_offset to.port.0 to.subport_offset }
-{
-    let p = from.port;
-    let q = to.port;
-    if input_taken(marks, links, owners, flags, release, p.0, q.0) {
-        return Err(taken_subports(marks, links, owners, flags, from, to));
-    }
-    link_named(marks, links, owners, flags, from, to)
 }

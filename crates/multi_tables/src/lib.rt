@@ -10,3 +10,4 @@ pub mod reads;
 pub mod scans;
 pub mod seen;
 pub mod wire_counts;
+pub mod wire_tables;

@@ -5,10 +5,11 @@ ghost use Rattle.multi_tables.specs.NamedEnds.{block_port, seen_pair, subport_pa
 
 use crate::answers::{Refusal, SubportIndex};
 use crate::marks::marked;
-use crate::reads::{end_in, first_in, lowest_unlinked, seen_in, subports_in};
+use crate::reads::lowest_unlinked;
 use crate::seen::SeenPort;
+use crate::wire_tables::WireTables;
 use port_tables::direction::Direction;
-use port_tables::index::{NODE_SLOTS, NodeIndex, PORT_SLOTS, PortIndex};
+use port_tables::index::{NodeIndex, PORT_SLOTS, PortIndex};
 use port_tables::numbers::wide;
 use port_tables::tables::at;
 
@@ -43,78 +44,6 @@ pub enum LinkNeed {
     Both(Direction, Direction),
 }
 
-// The block that has a port, and the side, or why the port is refused.
-pub fn block_port<'a>(
-    owners: &'a [u32; PORT_SLOTS],
-    flags: &'a [bool; NODE_SLOTS],
-    port: PortIndex,
-) -> Result<(NodeIndex, Direction), Refusal>
-    ensures { result ≡ block_port owners.now flags.now port.0 }
-{
-    match seen_in(owners, flags, port.0) {
-        SeenPort::Dead => Err(Refusal::UnknownPort(port)),
-        SeenPort::Hidden => Err(Refusal::HiddenPort(port)),
-        SeenPort::Visible(node, direction) => Ok((node, direction)),
-    }
-}
-
-// How two ports are seen, or the refusal.
-pub fn seen_pair<'a>(
-    owners: &'a [u32; PORT_SLOTS],
-    flags: &'a [bool; NODE_SLOTS],
-    a: PortIndex,
-    b: PortIndex,
-) -> Result<SeenPair, Refusal>
-    ensures { result ≡ seen_pair owners.now flags.now a.0 b.0 }
-{
-    let (_, d) = block_port(owners, flags, a)?;
-    match seen_in(owners, flags, b.0) {
-        SeenPort::Hidden => Err(Refusal::HiddenPort(b)),
-        SeenPort::Dead => Ok(SeenPair::First(d)),
-        SeenPort::Visible(_, e) => Ok(SeenPair::Both(d, e)),
-    }
-}
-
-// The same of the ports of two subports, after their offsets.
-pub fn subport_pair<'a>(
-    owners: &'a [u32; PORT_SLOTS],
-    flags: &'a [bool; NODE_SLOTS],
-    from: SubportIndex,
-    to: SubportIndex,
-) -> Result<SeenPair, Refusal>
-    ensures { result ≡ subport_pair owners.now flags.now from.port.0 from.subport_offset to.port.0 to.subport_offset }
-{
-    if from.subport_offset == 65535 {
-        return Err(Refusal::BadOffset);
-    }
-    if to.subport_offset == 65535 {
-        return Err(Refusal::BadOffset);
-    }
-    seen_pair(owners, flags, from.port, to.port)
-}
-
-// The end that a subport means.
-pub fn end_named<'a>(
-    marks: &'a [bool; PORT_SLOTS],
-    links: &'a [u32; PORT_SLOTS],
-    owners: &'a [u32; PORT_SLOTS],
-    flags: &'a [bool; NODE_SLOTS],
-    subport: SubportIndex,
-) -> Result<u32, Refusal>
-    ensures { result ≡ end_named marks.now links.now owners.now flags.now subport.port.0 subport.subport_offset }
-{
-    let port = subport.port;
-    let offset = subport.subport_offset;
-    if offset == 65535 {
-        return Err(Refusal::BadOffset);
-    }
-    let (_, direction) = block_port(owners, flags, port)?;
-    let Some(inner) = end_in(marks, links, owners, port.0, direction, offset) else {
-        return Err(Refusal::UnknownOffset(port));
-    };
-    Ok(inner)
-}
-
 // Two ends that are there: on opposite sides, and neither linked.
 fn free_ends(
     links: &[u32; PORT_SLOTS],
@@ -135,72 +64,6 @@ fn free_ends(
         return Err(Refusal::AlreadyLinked(PortIndex(y)));
     }
     Ok((x, y))
-}
-
-// The first end is there, with its side: the second.
-fn second_end<'a>(
-    marks: &'a [bool; PORT_SLOTS],
-    links: &'a [u32; PORT_SLOTS],
-    owners: &'a [u32; PORT_SLOTS],
-    flags: &'a [bool; NODE_SLOTS],
-    subport: SubportIndex,
-    x: u32,
-    d: Direction,
-) -> Result<(u32, u32), Refusal>
-    ensures { result ≡ second_end marks.now links.now owners.now flags.now subport.port.0 subport.subport_offset x d }
-{
-    let port = subport.port;
-    let offset = subport.subport_offset;
-    match seen_in(owners, flags, port.0) {
-        SeenPort::Dead => Err(Refusal::UnknownSecondPort(port)),
-        SeenPort::Hidden => Err(Refusal::HiddenPort(port)),
-        SeenPort::Visible(_, e) => {
-            let Some(y) = end_in(marks, links, owners, port.0, e, offset) else {
-                return Err(Refusal::UnknownOffset(port));
-            };
-            free_ends(links, x, d, y, e)
-        }
-    }
-}
-
-// The second port is not live or of a block: the first end, then the second.
-fn first_end<'a>(
-    marks: &'a [bool; PORT_SLOTS],
-    links: &'a [u32; PORT_SLOTS],
-    owners: &'a [u32; PORT_SLOTS],
-    flags: &'a [bool; NODE_SLOTS],
-    from: SubportIndex,
-    to: SubportIndex,
-    d: Direction,
-) -> Result<(u32, u32), Refusal>
-    ensures { result ≡ first_end marks.now links.now owners.now flags.now from.port.0 from.subport_offset to.port.0 to.subport_offset d }
-{
-    let port = from.port;
-    let Some(x) = end_in(marks, links, owners, port.0, d, from.subport_offset) else {
-        return Err(Refusal::UnknownOffset(port));
-    };
-    second_end(marks, links, owners, flags, to, x, d)
-}
-
-// The ends of a link.
-pub fn link_named<'a>(
-    marks: &'a [bool; PORT_SLOTS],
-    links: &'a [u32; PORT_SLOTS],
-    owners: &'a [u32; PORT_SLOTS],
-    flags: &'a [bool; NODE_SLOTS],
-    from: SubportIndex,
-    to: SubportIndex,
-) -> Result<(u32, u32), Refusal>
-    ensures { result ≡ link_named marks.now links.now owners.now flags.now from.port.0 from.subport_offset to.port.0 to.subport_offset }
-{
-    match subport_pair(owners, flags, from, to)? {
-        SeenPair::First(d) => {
-            return first_end(marks, links, owners, flags, from, to, d);
-        },
-        SeenPair::Both(d, _) => {
-            return first_end(marks, links, owners, flags, from, to, d);
-        },
-    }
 }
 
 // An end as read: on an unsplit port every offset means the port itself.
@@ -227,126 +90,190 @@ pub fn row_fits(first: usize, count: usize) -> bool
     false
 }
 
-// A split port: the lowest unlinked offset, else one more.
-fn reuse_in<'a>(
-    links: &'a [u32; PORT_SLOTS],
-    owners: &'a [u32; PORT_SLOTS],
-    port: u32,
-    direction: Direction,
-) -> EndNeed
-    ensures { result ≡ reuse_in links.now owners.now port direction }
-{
-    let count = subports_in(links, owners, port, direction);
-    let first = first_in(links, owners, port, direction);
-    if row_fits(first, count) {
-        let offset = lowest_unlinked(links, first, count);
-        if offset < count {
-            return EndNeed::Ready((first + offset) as u32, offset as u16);
+impl WireTables<'_> {
+    // The block that has a port, and the side, or why the port is refused.
+    pub fn block_port(self, port: PortIndex) -> Result<(NodeIndex, Direction), Refusal>
+        ensures { result ≡ block_port self.entry.owners.now self.entry.flags.now port.0 }
+    {
+        match self.seen_in(port.0) {
+            SeenPort::Dead => Err(Refusal::UnknownPort(port)),
+            SeenPort::Hidden => Err(Refusal::HiddenPort(port)),
+            SeenPort::Visible(node, direction) => Ok((node, direction)),
         }
     }
-    EndNeed::Grow
-}
 
-// What the end that a link of this port takes needs.
-pub fn need_in<'a>(
-    marks: &'a [bool; PORT_SLOTS],
-    links: &'a [u32; PORT_SLOTS],
-    owners: &'a [u32; PORT_SLOTS],
-    port: u32,
-    direction: Direction,
-) -> EndNeed
-    ensures { result ≡ end_need_in marks.now links.now owners.now port direction }
-{
-    if marked(marks, wide(port)) {
-        return reuse_in(links, owners, port, direction);
+    // How two ports are seen, or the refusal. The second is read as `SeenPort`: a dead one is no refusal here, as it is to `block_port`.
+    pub fn seen_pair(self, a: PortIndex, b: PortIndex) -> Result<SeenPair, Refusal>
+        ensures { result ≡ seen_pair self.entry.owners.now self.entry.flags.now a.0 b.0 }
+    {
+        let (_, d) = self.block_port(a)?;
+        match self.seen_in(b.0) {
+            SeenPort::Hidden => Err(Refusal::HiddenPort(b)),
+            SeenPort::Dead => Ok(SeenPair::First(d)),
+            SeenPort::Visible(_, e) => Ok(SeenPair::Both(d, e)),
+        }
     }
-    if at(links, wide(port)) == 0 {
-        return EndNeed::Ready(port, 0);
-    }
-    EndNeed::Split
-}
 
-// The second port is not live.
-fn first_need<'a>(
-    marks: &'a [bool; PORT_SLOTS],
-    links: &'a [u32; PORT_SLOTS],
-    owners: &'a [u32; PORT_SLOTS],
-    a: u32,
-    d: Direction,
-    b: PortIndex,
-) -> Result<LinkNeed, Refusal>
-    ensures { result ≡ first_need marks.now links.now owners.now a d b.0 }
-{
-    match need_in(marks, links, owners, a, d) {
-        EndNeed::Ready(_, _) => Err(Refusal::UnknownSecondPort(b)),
-        EndNeed::Grow => Ok(LinkNeed::First(d)),
-        EndNeed::Split => Ok(LinkNeed::First(d)),
+    // The same of the ports of two subports, after their offsets.
+    pub fn subport_pair(self, from: SubportIndex, to: SubportIndex) -> Result<SeenPair, Refusal>
+        ensures { result ≡ subport_pair self.entry.owners.now self.entry.flags.now from.port.0 from.subport_offset to.port.0 to.subport_offset }
+    {
+        if from.subport_offset == 65535 {
+            return Err(Refusal::BadOffset);
+        }
+        if to.subport_offset == 65535 {
+            return Err(Refusal::BadOffset);
+        }
+        self.seen_pair(from.port, to.port)
     }
-}
 
-// Both ports are live.
-fn both_need<'a>(
-    marks: &'a [bool; PORT_SLOTS],
-    links: &'a [u32; PORT_SLOTS],
-    owners: &'a [u32; PORT_SLOTS],
-    a: u32,
-    d: Direction,
-    b: u32,
-    e: Direction,
-) -> Result<LinkNeed, Refusal>
-    ensures { result ≡ both_need marks.now links.now owners.now a d b e }
-{
-    let EndNeed::Ready(x, o) = need_in(marks, links, owners, a, d) else {
-        return Ok(LinkNeed::Both(d, e));
-    };
-    let EndNeed::Ready(y, r) = need_in(marks, links, owners, b, e) else {
-        return Ok(LinkNeed::Both(d, e));
-    };
-    if d == e {
-        return Err(Refusal::IncompatibleDirections(PortIndex(x), PortIndex(y), d));
+    // The end that a subport means.
+    pub fn end_named(self, subport: SubportIndex) -> Result<u32, Refusal>
+        ensures { result ≡ end_named self.entry.marks.now self.entry.links.now self.entry.owners.now self.entry.flags.now subport.port.0 subport.subport_offset }
+    {
+        let port = subport.port;
+        let offset = subport.subport_offset;
+        if offset == 65535 {
+            return Err(Refusal::BadOffset);
+        }
+        let (_, direction) = self.block_port(port)?;
+        let Some(inner) = self.end_in(port.0, direction, offset) else {
+            return Err(Refusal::UnknownOffset(port));
+        };
+        Ok(inner)
     }
-    Ok(LinkNeed::Ends(x, o, y, r))
-}
 
-// What a link of two ports needs, or why it is refused.
-pub fn link_need<'a>(
-    marks: &'a [bool; PORT_SLOTS],
-    links: &'a [u32; PORT_SLOTS],
-    owners: &'a [u32; PORT_SLOTS],
-    flags: &'a [bool; NODE_SLOTS],
-    a: PortIndex,
-    b: PortIndex,
-) -> Result<LinkNeed, Refusal>
-    ensures { result ≡ link_need marks.now links.now owners.now flags.now a.0 b.0 }
-{
-    match seen_pair(owners, flags, a, b)? {
-        SeenPair::First(d) => {
-            return first_need(marks, links, owners, a.0, d, b);
-        },
-        SeenPair::Both(d, e) => {
-            return both_need(marks, links, owners, a.0, d, b.0, e);
-        },
-    }
-}
-
-// Whether two ports can be linked, room apart, or the refusal with the ports as named.
-pub fn pair_named<'a>(
-    owners: &'a [u32; PORT_SLOTS],
-    flags: &'a [bool; NODE_SLOTS],
-    a: PortIndex,
-    b: PortIndex,
-) -> Result<(), Refusal>
-    ensures { result ≡ pair_named owners.now flags.now a.0 b.0 }
-{
-    match seen_pair(owners, flags, a, b)? {
-        SeenPair::First(_) => {
-            return Err(Refusal::UnknownSecondPort(b));
-        },
-        SeenPair::Both(d, e) => {
-            if d == e {
-                return Err(Refusal::IncompatibleDirections(a, b, d));
+    // The first end is there, with its side: the second. Read as `SeenPort`: a dead port is another refusal than to `block_port`.
+    fn second_end(self, subport: SubportIndex, x: u32, d: Direction) -> Result<(u32, u32), Refusal>
+        ensures { result ≡ second_end self.entry.marks.now self.entry.links.now self.entry.owners.now self.entry.flags.now subport.port.0 subport.subport_offset x d }
+    {
+        let port = subport.port;
+        let offset = subport.subport_offset;
+        match self.seen_in(port.0) {
+            SeenPort::Dead => Err(Refusal::UnknownSecondPort(port)),
+            SeenPort::Hidden => Err(Refusal::HiddenPort(port)),
+            SeenPort::Visible(_, e) => {
+                let Some(y) = self.end_in(port.0, e, offset) else {
+                    return Err(Refusal::UnknownOffset(port));
+                };
+                free_ends(self.links, x, d, y, e)
             }
-            return Ok(());
-        },
+        }
+    }
+
+    // The second port is not live or of a block: the first end, then the second.
+    fn first_end(
+        self,
+        from: SubportIndex,
+        to: SubportIndex,
+        d: Direction,
+    ) -> Result<(u32, u32), Refusal>
+        ensures { result ≡ first_end self.entry.marks.now self.entry.links.now self.entry.owners.now self.entry.flags.now from.port.0 from.subport_offset to.port.0 to.subport_offset d }
+    {
+        let port = from.port;
+        let Some(x) = self.end_in(port.0, d, from.subport_offset) else {
+            return Err(Refusal::UnknownOffset(port));
+        };
+        self.second_end(to, x, d)
+    }
+
+    // The ends of a link.
+    pub fn link_named(self, from: SubportIndex, to: SubportIndex) -> Result<(u32, u32), Refusal>
+        ensures { result ≡ link_named self.entry.marks.now self.entry.links.now self.entry.owners.now self.entry.flags.now from.port.0 from.subport_offset to.port.0 to.subport_offset }
+    {
+        match self.subport_pair(from, to)? {
+            SeenPair::First(d) => {
+                return self.first_end(from, to, d);
+            },
+            SeenPair::Both(d, _) => {
+                return self.first_end(from, to, d);
+            },
+        }
+    }
+
+    // A split port: the lowest unlinked offset, else one more.
+    fn reuse_in(self, port: u32, direction: Direction) -> EndNeed
+        ensures { result ≡ reuse_in self.entry.links.now self.entry.owners.now port direction }
+    {
+        let count = self.subports_in(port, direction);
+        let first = self.first_in(port, direction);
+        if row_fits(first, count) {
+            let offset = lowest_unlinked(self.links, first, count);
+            if offset < count {
+                return EndNeed::Ready((first + offset) as u32, offset as u16);
+            }
+        }
+        EndNeed::Grow
+    }
+
+    // What the end that a link of this port takes needs.
+    pub fn need_in(self, port: u32, direction: Direction) -> EndNeed
+        ensures { result ≡ end_need_in self.entry.marks.now self.entry.links.now self.entry.owners.now port direction }
+    {
+        if marked(self.marks, wide(port)) {
+            return self.reuse_in(port, direction);
+        }
+        if at(self.links, wide(port)) == 0 {
+            return EndNeed::Ready(port, 0);
+        }
+        EndNeed::Split
+    }
+
+    // The second port is not live.
+    fn first_need(self, a: u32, d: Direction, b: PortIndex) -> Result<LinkNeed, Refusal>
+        ensures { result ≡ first_need self.entry.marks.now self.entry.links.now self.entry.owners.now a d b.0 }
+    {
+        match self.need_in(a, d) {
+            EndNeed::Ready(_, _) => Err(Refusal::UnknownSecondPort(b)),
+            EndNeed::Grow => Ok(LinkNeed::First(d)),
+            EndNeed::Split => Ok(LinkNeed::First(d)),
+        }
+    }
+
+    // Both ports are live.
+    fn both_need(self, a: u32, d: Direction, b: u32, e: Direction) -> Result<LinkNeed, Refusal>
+        ensures { result ≡ both_need self.entry.marks.now self.entry.links.now self.entry.owners.now a d b e }
+    {
+        let EndNeed::Ready(x, o) = self.need_in(a, d) else {
+            return Ok(LinkNeed::Both(d, e));
+        };
+        let EndNeed::Ready(y, r) = self.need_in(b, e) else {
+            return Ok(LinkNeed::Both(d, e));
+        };
+        if d == e {
+            return Err(Refusal::IncompatibleDirections(PortIndex(x), PortIndex(y), d));
+        }
+        Ok(LinkNeed::Ends(x, o, y, r))
+    }
+
+    // What a link of two ports needs, or why it is refused.
+    pub fn link_need(self, a: PortIndex, b: PortIndex) -> Result<LinkNeed, Refusal>
+        ensures { result ≡ link_need self.entry.marks.now self.entry.links.now self.entry.owners.now self.entry.flags.now a.0 b.0 }
+    {
+        match self.seen_pair(a, b)? {
+            SeenPair::First(d) => {
+                return self.first_need(a.0, d, b);
+            },
+            SeenPair::Both(d, e) => {
+                return self.both_need(a.0, d, b.0, e);
+            },
+        }
+    }
+
+    // Whether two ports can be linked, room apart, or the refusal with the ports as named.
+    pub fn pair_named(self, a: PortIndex, b: PortIndex) -> Result<(), Refusal>
+        ensures { result ≡ pair_named self.entry.owners.now self.entry.flags.now a.0 b.0 }
+    {
+        match self.seen_pair(a, b)? {
+            SeenPair::First(_) => {
+                return Err(Refusal::UnknownSecondPort(b));
+            },
+            SeenPair::Both(d, e) => {
+                if d == e {
+                    return Err(Refusal::IncompatibleDirections(a, b, d));
+                }
+                return Ok(());
+            },
+        }
     }
 }

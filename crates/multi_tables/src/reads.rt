@@ -1,6 +1,7 @@
 // Leaves that read lent tables: what a port number is, the subports of a split port, the ends, what an end is linked with, and where
 // that stands.
 // No leaf takes the graph, and none asks anything of its port.
+// Where a slot has no link or no owner `far_in` and `owner_in` stay at 0, as their definitions: who calls them knows that there is one.
 ghost use Rattle.std.specs.Prelude.{◌≡◌, ◌+◌, ◌≤◌, min};
 ghost use Rattle.port_tables.specs.Limits.{port_slots};
 ghost use Rattle.multi_tables.specs.Forms.{seen_as, end_as, lowest_unlinked};
@@ -9,8 +10,9 @@ ghost use Rattle.multi_tables.specs.TableReads.{far_in, owner_in, seen_in, run_u
 use crate::answers::{PortPlace, Refusal, SubportIndex};
 use crate::marks::{flagged, marked};
 use crate::seen::SeenPort;
+use crate::wire_tables::WireTables;
 use port_tables::direction::Direction;
-use port_tables::index::{NODE_SLOTS, NodeIndex, PORT_SLOTS, PortIndex};
+use port_tables::index::{NodeIndex, PORT_SLOTS, PortIndex};
 use port_tables::numbers::wide;
 use port_tables::port_entry::PortEntry;
 use port_tables::tables::at;
@@ -46,25 +48,6 @@ pub fn owner_in(owners: &[u32; PORT_SLOTS], port: u32) -> u32
     };
     let node = meta.node;
     node.0
-}
-
-// A port number: not live, of a hidden node, or of a block.
-pub fn seen_in<'a>(
-    owners: &'a [u32; PORT_SLOTS],
-    flags: &'a [bool; NODE_SLOTS],
-    port: u32,
-) -> SeenPort
-    ensures { result ≡ seen_as (seen_in owners.now flags.now port) }
-{
-    let PortEntry::Port(meta) = PortEntry::read(at(owners, wide(port))) else {
-        return SeenPort::Dead;
-    };
-    let node = meta.node;
-    if flagged(flags, wide(node.0)) {
-        return SeenPort::Hidden;
-    }
-    let direction = meta.direction;
-    SeenPort::Visible(node, direction)
 }
 
 // The smaller of a number and the table's size.
@@ -173,47 +156,6 @@ fn end_beside(
     }
 }
 
-// How many subports a split port has.
-pub fn subports_in<'a>(
-    links: &'a [u32; PORT_SLOTS],
-    owners: &'a [u32; PORT_SLOTS],
-    port: u32,
-    direction: Direction,
-) -> usize
-    ensures { result ≡ subports_in links.now owners.now port direction }
-{
-    count_beside(owners, far_in(links, wide(port)), direction)
-}
-
-// The slot of the first subport of a split port.
-pub fn first_in<'a>(
-    links: &'a [u32; PORT_SLOTS],
-    owners: &'a [u32; PORT_SLOTS],
-    port: u32,
-    direction: Direction,
-) -> usize
-    ensures { result ≡ first_in links.now owners.now port direction }
-{
-    first_beside(owners, far_in(links, wide(port)), direction)
-}
-
-// The inner port of an end.
-pub fn end_in<'a>(
-    marks: &'a [bool; PORT_SLOTS],
-    links: &'a [u32; PORT_SLOTS],
-    owners: &'a [u32; PORT_SLOTS],
-    port: u32,
-    direction: Direction,
-    offset: u16,
-) -> Option<u32>
-    ensures { result ≡ end_as (end_in marks.now links.now owners.now port direction offset) }
-{
-    if marked(marks, wide(port)) {
-        return end_beside(owners, far_in(links, wide(port)), direction, offset);
-    }
-    Some(port)
-}
-
 // The slot of the copy port beside the subports among which a slot is.
 fn copy_beside(owners: &[u32; PORT_SLOTS], port: u32, direction: Direction) -> usize
     ensures { result ≡ copy_beside owners.now port direction }
@@ -225,38 +167,6 @@ fn copy_beside(owners: &[u32; PORT_SLOTS], port: u32, direction: Direction) -> u
         Direction::Outgoing => place
             .saturating_sub(run_down(owners, owner, place))
             .saturating_sub(1),
-    }
-}
-
-// The subport that an inner port is.
-pub fn subport_in<'a>(
-    links: &'a [u32; PORT_SLOTS],
-    owners: &'a [u32; PORT_SLOTS],
-    flags: &'a [bool; NODE_SLOTS],
-    port: u32,
-) -> SubportIndex
-    ensures { result ≡ subport_in links.now owners.now flags.now port }
-{
-    let owner = at(owners, wide(port));
-    let PortEntry::Port(meta) = PortEntry::read(owner) else {
-        return SubportIndex {
-            port: PortIndex(port),
-            subport_offset: 0,
-        };
-    };
-    let node = meta.node;
-    if flagged(flags, wide(node.0)) {
-        let direction = meta.direction;
-        let copy = copy_beside(owners, port, direction);
-        let offset = run_down(owners, owner, wide(port));
-        return SubportIndex {
-            port: PortIndex(far_in(links, copy)),
-            subport_offset: offset as u16,
-        };
-    }
-    SubportIndex {
-        port: PortIndex(port),
-        subport_offset: 0,
     }
 }
 
@@ -278,63 +188,7 @@ pub fn place_in(owners: &[u32; PORT_SLOTS], port: u32) -> PortPlace
     }
 }
 
-// What an end is linked with, and where that stands.
-pub fn wire_in<'a>(
-    links: &'a [u32; PORT_SLOTS],
-    owners: &'a [u32; PORT_SLOTS],
-    flags: &'a [bool; NODE_SLOTS],
-    port: u32,
-) -> Result<Option<(SubportIndex, PortPlace)>, Refusal>
-    ensures { result ≡ wire_in links.now owners.now flags.now port }
-{
-    if at(links, wide(port)) == 0 {
-        return Ok(None);
-    }
-    let end = subport_in(links, owners, flags, far_in(links, wide(port)));
-    let far = end.port;
-    Ok(Some((end, place_in(owners, far.0))))
-}
-
-// What an end is linked with.
-pub fn wire_end_in<'a>(
-    links: &'a [u32; PORT_SLOTS],
-    owners: &'a [u32; PORT_SLOTS],
-    flags: &'a [bool; NODE_SLOTS],
-    port: u32,
-) -> Result<Option<SubportIndex>, Refusal>
-    ensures { result ≡ wire_end_in links.now owners.now flags.now port }
-{
-    if at(links, wide(port)) == 0 {
-        return Ok(None);
-    }
-    Ok(Some(subport_in(links, owners, flags, far_in(links, wide(port)))))
-}
-
-// What cutting an unsplit port answers: its inner far port, and where the visible end of that stands.
-pub fn plain_in<'a>(
-    links: &'a [u32; PORT_SLOTS],
-    owners: &'a [u32; PORT_SLOTS],
-    flags: &'a [bool; NODE_SLOTS],
-    port: u32,
-) -> Result<Option<(SubportIndex, PortPlace)>, Refusal>
-    ensures { result ≡ plain_in links.now owners.now flags.now port }
-{
-    if at(links, wide(port)) == 0 {
-        return Ok(None);
-    }
-    let inner = far_in(links, wide(port));
-    let end = subport_in(links, owners, flags, inner);
-    let far = end.port;
-    Ok(Some((
-        SubportIndex {
-            port: PortIndex(inner),
-            subport_offset: 0,
-        },
-        place_in(owners, far.0),
-    )))
-}
-
-// The lowest offset from 0 whose port, counted from `first`, has no link; `count` where all have.
+// The lowest offset from 0 whose port, counted from `first`, has no link; `count` where all have, which stays a number: it is the offset of the next subport.
 pub fn lowest_unlinked(links: &[u32; PORT_SLOTS], first: usize, count: usize) -> usize
     requires { first + count ≤ port_slots }
     ensures { result ≡ lowest_unlinked links.now first 0 count }
@@ -345,4 +199,118 @@ pub fn lowest_unlinked(links: &[u32; PORT_SLOTS], first: usize, count: usize) ->
         }
     }
     count
+}
+
+impl WireTables<'_> {
+    // A port number: not live, of a hidden node, or of a block.
+    pub fn seen_in(self, port: u32) -> SeenPort
+        ensures { result ≡ seen_as (seen_in self.entry.owners.now self.entry.flags.now port) }
+    {
+        let PortEntry::Port(meta) = PortEntry::read(at(self.owners, wide(port))) else {
+            return SeenPort::Dead;
+        };
+        let node = meta.node;
+        if flagged(self.flags, wide(node.0)) {
+            return SeenPort::Hidden;
+        }
+        let direction = meta.direction;
+        SeenPort::Visible(node, direction)
+    }
+
+    // How many subports a split port has.
+    pub fn subports_in(self, port: u32, direction: Direction) -> usize
+        ensures { result ≡ subports_in self.entry.links.now self.entry.owners.now port direction }
+    {
+        count_beside(self.owners, far_in(self.links, wide(port)), direction)
+    }
+
+    // The slot of the first subport of a split port.
+    pub fn first_in(self, port: u32, direction: Direction) -> usize
+        ensures { result ≡ first_in self.entry.links.now self.entry.owners.now port direction }
+    {
+        first_beside(self.owners, far_in(self.links, wide(port)), direction)
+    }
+
+    // The inner port of an end.
+    pub fn end_in(self, port: u32, direction: Direction, offset: u16) -> Option<u32>
+        ensures { result ≡ end_as (end_in self.entry.marks.now self.entry.links.now self.entry.owners.now port direction offset) }
+    {
+        if marked(self.marks, wide(port)) {
+            return end_beside(
+                self.owners,
+                far_in(self.links, wide(port)),
+                direction,
+                offset,
+            );
+        }
+        Some(port)
+    }
+
+    // The subport that an inner port is.
+    pub fn subport_in(self, port: u32) -> SubportIndex
+        ensures { result ≡ subport_in self.entry.links.now self.entry.owners.now self.entry.flags.now port }
+    {
+        let owner = at(self.owners, wide(port));
+        let PortEntry::Port(meta) = PortEntry::read(owner) else {
+            return SubportIndex {
+                port: PortIndex(port),
+                subport_offset: 0,
+            };
+        };
+        let node = meta.node;
+        if flagged(self.flags, wide(node.0)) {
+            let direction = meta.direction;
+            let copy = copy_beside(self.owners, port, direction);
+            let offset = run_down(self.owners, owner, wide(port));
+            return SubportIndex {
+                port: PortIndex(far_in(self.links, copy)),
+                subport_offset: offset as u16,
+            };
+        }
+        SubportIndex {
+            port: PortIndex(port),
+            subport_offset: 0,
+        }
+    }
+
+    // What an end is linked with, and where that stands.
+    pub fn wire_in(self, port: u32) -> Result<Option<(SubportIndex, PortPlace)>, Refusal>
+        ensures { result ≡ wire_in self.entry.links.now self.entry.owners.now self.entry.flags.now port }
+    {
+        if at(self.links, wide(port)) == 0 {
+            return Ok(None);
+        }
+        let end = self.subport_in(far_in(self.links, wide(port)));
+        let far = end.port;
+        Ok(Some((end, place_in(self.owners, far.0))))
+    }
+
+    // What an end is linked with.
+    pub fn wire_end_in(self, port: u32) -> Result<Option<SubportIndex>, Refusal>
+        ensures { result ≡ wire_end_in self.entry.links.now self.entry.owners.now self.entry.flags.now port }
+    {
+        if at(self.links, wide(port)) == 0 {
+            return Ok(None);
+        }
+        Ok(Some(self.subport_in(far_in(self.links, wide(port)))))
+    }
+
+    // What cutting an unsplit port answers: its inner far port, and where the visible end of that stands.
+    pub fn plain_in(self, port: u32) -> Result<Option<(SubportIndex, PortPlace)>, Refusal>
+        ensures { result ≡ plain_in self.entry.links.now self.entry.owners.now self.entry.flags.now port }
+    {
+        if at(self.links, wide(port)) == 0 {
+            return Ok(None);
+        }
+        let inner = far_in(self.links, wide(port));
+        let end = self.subport_in(inner);
+        let far = end.port;
+        Ok(Some((
+            SubportIndex {
+                port: PortIndex(inner),
+                subport_offset: 0,
+            },
+            place_in(self.owners, far.0),
+        )))
+    }
 }

@@ -2,16 +2,16 @@
 ghost use Rattle.std.specs.Prelude.{◌≡◌, ◌+◌, ◌-◌, ◌≤◌, ◌<◌, min};
 ghost use Rattle.port_tables.specs.Limits.{port_slots};
 ghost use Rattle.port_tables.specs.Lists.{filter};
-ghost use Rattle.multi_tables.specs.Forms.{subport#, wire_to};
-ghost use Rattle.multi_tables.specs.TableReads.{wire_in};
+ghost use Rattle.multi_tables.specs.Forms.{seen_as, subport#, wire_to};
+ghost use Rattle.multi_tables.specs.TableReads.{seen_in, wire_in};
 ghost use Rattle.multi_tables.specs.Scans.{first_found, link_port, span_first, span_count, not_own_output, passes_in, links_in, port_links_in, links_rest, beyond_in, block_links_in};
 
 use crate::answers::{SubportIndex, SubportLink};
 use crate::marks::marked;
-use crate::reads::{first_in, owner_in, place_in, seen_in, subports_in, wire_end_in};
-use crate::seen::SeenPort;
+use crate::reads::{owner_in, place_in};
+use crate::wire_tables::WireTables;
 use port_tables::direction::Direction;
-use port_tables::index::{NODE_SLOTS, NodeIndex, PORT_SLOTS, PortIndex};
+use port_tables::index::{NodeIndex, PORT_SLOTS, PortIndex};
 use port_tables::node_entry::{NodeEntry, NodeSlot};
 use port_tables::numbers::wide;
 use port_tables::sides::{Sides, ports_from, ports_to};
@@ -26,6 +26,23 @@ pub enum LinkFilter {
     To(NodeIndex),
 }
 
+// Ends of a port: those at offsets from `from` on and below `end`. The port's first end is at the slot `first`.
+#[derive(Clone, Copy)]
+pub struct PortEnds {
+    pub port: u32,
+    pub first: usize,
+    pub from: usize,
+    pub end: usize,
+}
+
+// What a walk gave last: the port, one higher than its number, with 0 at the start, and the offset. Stays a number, as in the walks: one past the
+// last port is where a walk goes on.
+#[derive(Clone, Copy)]
+pub struct Held {
+    pub port: u32,
+    pub offset: u16,
+}
+
 // The smaller of a number and the table's size.
 pub fn capped(x: usize) -> usize
     ensures { result ≡ min x port_slots }
@@ -33,265 +50,191 @@ pub fn capped(x: usize) -> usize
     if x <= PORT_SLOTS { x } else { PORT_SLOTS }
 }
 
-// The slot of a port's first end.
-pub fn span_first<'a>(
-    marks: &'a [bool; PORT_SLOTS],
-    links: &'a [u32; PORT_SLOTS],
-    owners: &'a [u32; PORT_SLOTS],
-    port: u32,
-    direction: Direction,
-) -> usize
-    ensures { (result ≡ span_first marks.now links.now owners.now port direction) × (result ≤ port_slots) }
-{
-    if marked(marks, wide(port)) {
-        return capped(first_in(links, owners, port, direction));
+impl WireTables<'_> {
+    // The slot of a port's first end.
+    pub fn span_first(self, port: u32, direction: Direction) -> usize
+        ensures { (result ≡ span_first self.entry.marks.now self.entry.links.now self.entry.owners.now port direction) × (result ≤ port_slots) }
+    {
+        if marked(self.marks, wide(port)) {
+            return capped(self.first_in(port, direction));
+        }
+        capped(wide(port))
     }
-    capped(wide(port))
-}
 
-// How many ends a port has.
-pub fn span_count<'a>(
-    marks: &'a [bool; PORT_SLOTS],
-    links: &'a [u32; PORT_SLOTS],
-    owners: &'a [u32; PORT_SLOTS],
-    port: u32,
-    direction: Direction,
-) -> usize
-    ensures { (result ≡ span_count marks.now links.now owners.now port direction) × (result ≤ port_slots) }
-{
-    if marked(marks, wide(port)) {
-        return subports_in(links, owners, port, direction);
+    // How many ends a port has.
+    pub fn span_count(self, port: u32, direction: Direction) -> usize
+        ensures { (result ≡ span_count self.entry.marks.now self.entry.links.now self.entry.owners.now port direction) × (result ≤ port_slots) }
+    {
+        if marked(self.marks, wide(port)) {
+            return self.subports_in(port, direction);
+        }
+        1
     }
-    1
-}
 
-// Whether a port is no outgoing port of a node.
-fn not_own_output(node: u32, seen: SeenPort) -> bool
-    ensures { result ≡ not_own_output node seen }
-{
-    match seen {
-        SeenPort::Dead => true,
-        SeenPort::Hidden => true,
-        SeenPort::Visible(other, direction) => {
-            if other.0 == node {
-                return match direction {
-                    Direction::Incoming => true,
-                    Direction::Outgoing => false,
-                };
+    // Whether a port is no outgoing port of a node.
+    fn not_own_output(self, node: NodeIndex, port: u32) -> bool
+        ensures { result ≡ not_own_output node.0 (seen_as (seen_in self.entry.owners.now self.entry.flags.now port)) }
+    {
+        let Ok((other, direction)) = self.block_port(PortIndex(port)) else {
+            return true;
+        };
+        if other.0 == node.0 {
+            return direction == Direction::Incoming;
+        }
+        true
+    }
+
+    // Whether a link to a port is given.
+    fn passes(self, only: LinkFilter, port: u32) -> bool
+        ensures { result ≡ passes_in self.entry.owners.now self.entry.flags.now only port }
+    {
+        match only {
+            LinkFilter::All => true,
+            LinkFilter::Skip(from, to) => {
+                if from <= port {
+                    return to <= port;
+                }
+                true
             }
-            true
+            LinkFilter::NotOutputOf(node) => self.not_own_output(node, port),
+            LinkFilter::To(node) => owner_in(self.owners, port) == node.0,
         }
     }
-}
 
-// Whether a link to a port is given.
-fn passes<'a>(
-    owners: &'a [u32; PORT_SLOTS],
-    flags: &'a [bool; NODE_SLOTS],
-    only: LinkFilter,
-    port: u32,
-) -> bool
-    ensures { result ≡ passes_in owners.now flags.now only port }
-{
-    match only {
-        LinkFilter::All => true,
-        LinkFilter::Skip(from, to) => {
-            if from <= port {
-                return to <= port;
+    // The link of the end at a slot, if it has one that is given.
+    pub fn link_at(
+        self,
+        only: LinkFilter,
+        port: u32,
+        slot: usize,
+        offset: u16,
+    ) -> Option<SubportLink>
+        ensures { (result ≡ first_found (filter (λ w. passes_in self.entry.owners.now self.entry.flags.now only w.to.port.0)
+            (wire_to (subport# port offset) (wire_in self.entry.links.now self.entry.owners.now self.entry.flags.now slot))))
+            × (link_port port result ≡ port) }
+    {
+        if slot < PORT_SLOTS {
+            let Ok(found) = self.wire_end_in(slot as u32) else {
+                return None;
+            };
+            let Some(to) = found else {
+                return None;
+            };
+            let far = to.port;
+            if self.passes(only, far.0) {
+                let place = place_in(self.owners, far.0);
+                return Some(SubportLink {
+                    from: SubportIndex {
+                        port: PortIndex(port),
+                        subport_offset: offset,
+                    },
+                    to: to,
+                    place: place,
+                });
             }
-            true
         }
-        LinkFilter::NotOutputOf(node) => not_own_output(node.0, seen_in(owners, flags, port)),
-        LinkFilter::To(node) => owner_in(owners, port) == node.0,
+        None
     }
-}
 
-// The link of the end at a slot, if it has one that is given.
-pub fn link_at<'a>(
-    links: &'a [u32; PORT_SLOTS],
-    owners: &'a [u32; PORT_SLOTS],
-    flags: &'a [bool; NODE_SLOTS],
-    only: LinkFilter,
-    port: u32,
-    slot: usize,
-    offset: u16,
-) -> Option<SubportLink>
-    ensures { (result ≡ first_found (filter (λ w. passes_in owners.now flags.now only w.to.port.0)
-        (wire_to (subport# port offset) (wire_in links.now owners.now flags.now slot))))
-        × (link_port port result ≡ port) }
-{
-    if slot < PORT_SLOTS {
-        let Ok(found) = wire_end_in(links, owners, flags, slot as u32) else {
+    // The first link at these ends.
+    pub fn scan_port(self, only: LinkFilter, ends: PortEnds) -> Option<SubportLink>
+        requires { (ends.first ≤ port_slots) × (ends.end ≤ port_slots) }
+        ensures { (result ≡ first_found (filter (λ w. passes_in self.entry.owners.now self.entry.flags.now only w.to.port.0)
+            (links_in self.entry.links.now self.entry.owners.now self.entry.flags.now ends.port ends.first ends.from (ends.end - ends.from))))
+            × (link_port ends.port result ≡ ends.port) }
+    {
+        for offset in ends.from..ends.end {
+            let found = self.link_at(only, ends.port, ends.first + offset, offset as u16);
+            if let Some(_) = found {
+                return found;
+            }
+        }
+        None
+    }
+
+    // The first link of a port at an offset from `from` on.
+    fn port_link_from(self, only: LinkFilter, port: u32, from: usize) -> Option<SubportLink>
+        ensures { (result ≡ first_found (filter (λ w. passes_in self.entry.owners.now self.entry.flags.now only w.to.port.0)
+            (port_links_in self.entry.marks.now self.entry.links.now self.entry.owners.now self.entry.flags.now port from)))
+            × (link_port port result ≡ port) }
+    {
+        let Ok((_, direction)) = self.block_port(PortIndex(port)) else {
             return None;
         };
-        let Some(to) = found else {
-            return None;
-        };
-        let far = to.port;
-        if passes(owners, flags, only, far.0) {
-            let place = place_in(owners, far.0);
-            return Some(SubportLink {
-                from: SubportIndex {
-                    port: PortIndex(port),
-                    subport_offset: offset,
-                },
-                to: to,
-                place: place,
-            });
-        }
-    }
-    None
-}
-
-// The first link of a port at an offset from `from` on and below `end`; the port's ends begin at the slot `first`.
-pub fn scan_port<'a>(
-    links: &'a [u32; PORT_SLOTS],
-    owners: &'a [u32; PORT_SLOTS],
-    flags: &'a [bool; NODE_SLOTS],
-    only: LinkFilter,
-    port: u32,
-    first: usize,
-    from: usize,
-    end: usize,
-) -> Option<SubportLink>
-    requires { (first ≤ port_slots) × (end ≤ port_slots) }
-    ensures { (result ≡ first_found (filter (λ w. passes_in owners.now flags.now only w.to.port.0)
-        (links_in links.now owners.now flags.now port first from (end - from))))
-        × (link_port port result ≡ port) }
-{
-    for offset in from..end {
-        let found = link_at(
-            links,
-            owners,
-            flags,
+        let first = self.span_first(port, direction);
+        let end = self.span_count(port, direction);
+        self.scan_port(
             only,
-            port,
-            first + offset,
-            offset as u16,
-        );
-        if let Some(_) = found {
-            return found;
+            PortEnds {
+                port: port,
+                first: first,
+                from: from,
+                end: end,
+            },
+        )
+    }
+
+    // The first link of the ports below `end`, from one port and offset on.
+    fn next_link(
+        self,
+        only: LinkFilter,
+        from: usize,
+        offset: usize,
+        end: usize,
+    ) -> Option<SubportLink>
+        ensures { (result ≡ first_found (filter (λ w. passes_in self.entry.owners.now self.entry.flags.now only w.to.port.0)
+            (links_rest self.entry.marks.now self.entry.links.now self.entry.owners.now self.entry.flags.now from offset (min end port_slots - from))))
+            × (link_port 0 result < port_slots) }
+    {
+        let stop = capped(end);
+        let mut first = offset;
+        for port in from..stop {
+            let found = self.port_link_from(only, port as u32, first);
+            if let Some(_) = found {
+                return found;
+            }
+            first = 0;
         }
+        None
     }
-    None
-}
 
-// The first link of a port at an offset from `from` on.
-fn port_link_from<'a>(
-    marks: &'a [bool; PORT_SLOTS],
-    links: &'a [u32; PORT_SLOTS],
-    owners: &'a [u32; PORT_SLOTS],
-    flags: &'a [bool; NODE_SLOTS],
-    only: LinkFilter,
-    port: u32,
-    from: usize,
-) -> Option<SubportLink>
-    ensures { (result ≡ first_found (filter (λ w. passes_in owners.now flags.now only w.to.port.0)
-        (port_links_in marks.now links.now owners.now flags.now port from)))
-        × (link_port port result ≡ port) }
-{
-    let seen = seen_in(owners, flags, port);
-    match seen {
-        SeenPort::Dead => None,
-        SeenPort::Hidden => None,
-        SeenPort::Visible(_, direction) => {
-            let first = span_first(marks, links, owners, port, direction);
-            let end = span_count(marks, links, owners, port, direction);
-            scan_port(links, owners, flags, only, port, first, from, end)
+    // The first link of the ports from `from` on and below `end` that lies beyond what a cursor holds.
+    pub fn next_beyond(
+        self,
+        only: LinkFilter,
+        from: usize,
+        end: usize,
+        held: Held,
+    ) -> Option<SubportLink>
+        ensures { (result ≡ first_found (filter (λ w. passes_in self.entry.owners.now self.entry.flags.now only w.to.port.0)
+            (beyond_in self.entry.marks.now self.entry.links.now self.entry.owners.now self.entry.flags.now from end held.port held.offset)))
+            × (link_port 0 result < port_slots) }
+    {
+        let place = wide(held.port);
+        if place <= from {
+            return self.next_link(only, from, 0, end);
         }
+        self.next_link(only, place - 1, usize::from(held.offset) + 1, end)
     }
-}
 
-// The first link of the ports below `end`, from one port and offset on.
-fn next_link<'a>(
-    marks: &'a [bool; PORT_SLOTS],
-    links: &'a [u32; PORT_SLOTS],
-    owners: &'a [u32; PORT_SLOTS],
-    flags: &'a [bool; NODE_SLOTS],
-    only: LinkFilter,
-    from: usize,
-    offset: usize,
-    end: usize,
-) -> Option<SubportLink>
-    ensures { (result ≡ first_found (filter (λ w. passes_in owners.now flags.now only w.to.port.0)
-        (links_rest marks.now links.now owners.now flags.now from offset (min end port_slots - from))))
-        × (link_port 0 result < port_slots) }
-{
-    let stop = capped(end);
-    let mut first = offset;
-    for port in from..stop {
-        let found = port_link_from(marks, links, owners, flags, only, port as u32, first);
-        if let Some(_) = found {
-            return found;
+    // The first link of the outgoing side of what a node slot holds, beyond what a cursor holds.
+    pub fn block_links(self, slot: NodeSlot, hidden: bool, held: Held) -> Option<SubportLink>
+        ensures { (result ≡ first_found (block_links_in self.entry.marks.now self.entry.links.now self.entry.owners.now self.entry.flags.now slot.entry hidden held.port held.offset))
+            × (link_port 0 result < port_slots) }
+    {
+        if hidden {
+            return None;
         }
-        first = 0;
+        let entry = slot.entry;
+        let NodeEntry::Node(meta) = entry else {
+            return None;
+        };
+        let side = Sides::One(Direction::Outgoing);
+        self.next_beyond(
+            LinkFilter::All,
+            ports_from(meta, side),
+            ports_to(meta, side),
+            held,
+        )
     }
-    None
-}
-
-// The first link of the ports from `from` on and below `end` that lies beyond what a cursor holds.
-pub fn next_beyond<'a>(
-    marks: &'a [bool; PORT_SLOTS],
-    links: &'a [u32; PORT_SLOTS],
-    owners: &'a [u32; PORT_SLOTS],
-    flags: &'a [bool; NODE_SLOTS],
-    only: LinkFilter,
-    from: usize,
-    end: usize,
-    held: u32,
-    offset: u16,
-) -> Option<SubportLink>
-    ensures { (result ≡ first_found (filter (λ w. passes_in owners.now flags.now only w.to.port.0)
-        (beyond_in marks.now links.now owners.now flags.now from end held offset)))
-        × (link_port 0 result < port_slots) }
-{
-    let place = wide(held);
-    if place <= from {
-        return next_link(marks, links, owners, flags, only, from, 0, end);
-    }
-    next_link(
-        marks,
-        links,
-        owners,
-        flags,
-        only,
-        place - 1,
-        usize::from(offset) + 1,
-        end,
-    )
-}
-
-// The first link of the outgoing side of what a node slot holds, beyond what a cursor holds.
-pub fn block_links<'a>(
-    marks: &'a [bool; PORT_SLOTS],
-    links: &'a [u32; PORT_SLOTS],
-    owners: &'a [u32; PORT_SLOTS],
-    flags: &'a [bool; NODE_SLOTS],
-    slot: NodeSlot,
-    hidden: bool,
-    held: u32,
-    offset: u16,
-) -> Option<SubportLink>
-    ensures { (result ≡ first_found (block_links_in marks.now links.now owners.now flags.now slot.entry hidden held offset))
-        × (link_port 0 result < port_slots) }
-{
-    if hidden {
-        return None;
-    }
-    let entry = slot.entry;
-    let NodeEntry::Node(meta) = entry else {
-        return None;
-    };
-    let side = Sides::One(Direction::Outgoing);
-    next_beyond(
-        marks,
-        links,
-        owners,
-        flags,
-        LinkFilter::All,
-        ports_from(meta, side),
-        ports_to(meta, side),
-        held,
-        offset,
-    )
 }

@@ -7,6 +7,7 @@ ghost use Rattle.multi_tables.specs.FanOutScans.{linked_at, linked_up, linked_do
 use crate::marks::marked;
 use crate::reads::far_in;
 use crate::scans::capped;
+use crate::wire_tables::WireTables;
 use port_tables::direction::Direction;
 use port_tables::index::PORT_SLOTS;
 use port_tables::numbers::wide;
@@ -22,80 +23,59 @@ fn linked_at(links: &[u32; PORT_SLOTS], slot: usize) -> usize
     1
 }
 
-// How many of the slots in a row from `from` on that have this owner are linked.
-fn linked_up<'a>(
-    links: &'a [u32; PORT_SLOTS],
-    owners: &'a [u32; PORT_SLOTS],
-    owner: u32,
-    from: usize,
-) -> usize
-    requires { from ≤ 4294967296 }
-    ensures { (result ≡ linked_up links.now from (run_up owners.now owner from)) × (result ≤ port_slots) }
-{
-    let mut linked: usize = 0;
-    for k in 0..PORT_SLOTS {
-        if at(owners, from + k) != owner {
-            return linked;
+impl WireTables<'_> {
+    // How many of the slots in a row from `from` on that have this owner are linked.
+    fn linked_up(self, owner: u32, from: usize) -> usize
+        requires { from ≤ 4294967296 }
+        ensures { (result ≡ linked_up self.entry.links.now from (run_up self.entry.owners.now owner from)) × (result ≤ port_slots) }
+    {
+        let mut linked: usize = 0;
+        for k in 0..PORT_SLOTS {
+            if at(self.owners, from + k) != owner {
+                return linked;
+            }
+            linked += linked_at(self.links, from + k);
         }
-        linked += linked_at(links, from + k);
+        linked
     }
-    linked
-}
 
-// How many of the slots in a row below `from` that have this owner are linked.
-fn linked_down<'a>(
-    links: &'a [u32; PORT_SLOTS],
-    owners: &'a [u32; PORT_SLOTS],
-    owner: u32,
-    from: usize,
-) -> usize
-    ensures { (result ≡ linked_down links.now from (run_down owners.now owner from)) × (result ≤ port_slots) }
-{
-    let most = capped(from);
-    let mut linked: usize = 0;
-    for k in 0..most {
-        if at(owners, from - (k + 1)) != owner {
-            return linked;
+    // How many of the slots in a row below `from` that have this owner are linked.
+    fn linked_down(self, owner: u32, from: usize) -> usize
+        ensures { (result ≡ linked_down self.entry.links.now from (run_down self.entry.owners.now owner from)) × (result ≤ port_slots) }
+    {
+        let most = capped(from);
+        let mut linked: usize = 0;
+        for k in 0..most {
+            if at(self.owners, from - (k + 1)) != owner {
+                return linked;
+            }
+            linked += linked_at(self.links, from - (k + 1));
         }
-        linked += linked_at(links, from - (k + 1));
+        linked
     }
-    linked
-}
 
-// How many of the subports beside a copy port are linked.
-fn linked_beside<'a>(
-    links: &'a [u32; PORT_SLOTS],
-    owners: &'a [u32; PORT_SLOTS],
-    copy: u32,
-    direction: Direction,
-) -> usize
-    ensures { (result ≡ linked_beside links.now owners.now copy direction) × (result ≤ port_slots) }
-{
-    let place = wide(copy);
-    match direction {
-        Direction::Incoming => linked_down(
-            links,
-            owners,
-            at(owners, place.saturating_sub(1)),
-            place,
-        ),
-        Direction::Outgoing => linked_up(links, owners, at(owners, place + 1), place + 1),
+    // How many of the subports beside a copy port are linked.
+    fn linked_beside(self, copy: u32, direction: Direction) -> usize
+        ensures { (result ≡ linked_beside self.entry.links.now self.entry.owners.now copy direction) × (result ≤ port_slots) }
+    {
+        let place = wide(copy);
+        match direction {
+            Direction::Incoming => self.linked_down(
+                at(self.owners, place.saturating_sub(1)),
+                place,
+            ),
+            Direction::Outgoing => self.linked_up(at(self.owners, place + 1), place + 1),
+        }
     }
-}
 
-// How many wires a port has.
-pub fn wires_at<'a>(
-    marks: &'a [bool; PORT_SLOTS],
-    links: &'a [u32; PORT_SLOTS],
-    owners: &'a [u32; PORT_SLOTS],
-    port: u32,
-    direction: Direction,
-) -> usize
-    ensures { (result ≡ wires_at_in marks.now links.now owners.now port direction) × (result ≤ port_slots) }
-{
-    let slot = wide(port);
-    if marked(marks, slot) {
-        return linked_beside(links, owners, far_in(links, slot), direction);
+    // How many wires a port has.
+    pub fn wires_at(self, port: u32, direction: Direction) -> usize
+        ensures { (result ≡ wires_at_in self.entry.marks.now self.entry.links.now self.entry.owners.now port direction) × (result ≤ port_slots) }
+    {
+        let slot = wide(port);
+        if marked(self.marks, slot) {
+            return self.linked_beside(far_in(self.links, slot), direction);
+        }
+        linked_at(self.links, slot)
     }
-    linked_at(links, slot)
 }

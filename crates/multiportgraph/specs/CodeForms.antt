@@ -1,5 +1,5 @@
 -- The code's forms of what the definitions say: an enum or a struct for each.
-use Rattle.std.specs.Prelude.{Bool, true, false, cond, List, ℕ, zero, suc, ◌+◌, eqb, Option, Some, None, Result, Ok, Err}
+use Rattle.std.specs.Prelude.{Bool, cond, List, ℕ, zero, suc, ◌+◌, eqb, Option, Some, None, Result, Ok, Err}
 use Rattle.port_tables.specs.Tables.{at}
 use Rattle.portgraph.specs.Lookups.{meta_at}
 use Rattle.multiportgraph.specs.Reading.{is_hidden}
@@ -17,8 +17,8 @@ linked_from t first (suc n) = cond (eqb (at t (first + n)) 0) (linked_from t fir
 
 -- a prepared end; without room the graph is the one handed in
 abbrev pub prepared_as : MultiPortGraph → hiding.Prepared → Prepared
-prepared_as m (hiding.ready k q o) = record { graph = k; port = q; offset = o; ready = true }
-prepared_as m hiding.full = record { graph = m; port = 0; offset = 0; ready = false }
+prepared_as m (hiding.ready k q o) = record { graph = k; end = Some (q, o) }
+prepared_as m hiding.full = record { graph = m; end = None }
 
 abbrev pub block_in : Bool → Option NodeMeta → Result NodeMeta Refusal
 block_in h None = Err UnknownNode

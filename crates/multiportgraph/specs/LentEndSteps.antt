@@ -1,5 +1,5 @@
 -- Preparing an end and linking ports over lent tables leave the graph, and give the answer, that their definitions say.
-use Rattle.std.specs.Prelude.{◌≡◌, refl, Bool, true, false, cond, List, ◌⊎◌, ℕ, ◌+◌, ◌*◌, ◌≤◌, ◌<◌, Option, Result, Ok, Err}
+use Rattle.std.specs.Prelude.{◌≡◌, refl, Bool, true, false, cond, List, ◌⊎◌, ℕ, ◌+◌, ◌*◌, ◌≤◌, ◌<◌, Option, Some, None, Result, Ok, Err}
 use Rattle.std.proofs.Common.{sym, ap, ◌∙◌, arith}
 use Rattle.port_tables.specs.Limits.{port_slots, node_ports, present}
 use Rattle.port_tables.specs.Entries.{ports_on, same_side, port#}
@@ -26,7 +26,7 @@ use Rattle.multiportgraph.specs.TableSteps.{Growing, grow_full, grow_told, grow_
 use Rattle.multiportgraph.specs.LinkSteps.{is_ready, is_full, others_stay, still_wf, first_ready_lem, first_full, seen_told}
 use Rattle.multiportgraph.specs.NamedLaws.{both_joined}
 use Rattle.multi_tables.specs.TableReads.{far_in, last_beside, grown_incoming, grown_outgoing}
-use Rattle.multiportgraph.specs.MultiLent.{multi_in, totals_counts, totals_links, prepared_in}
+use Rattle.multiportgraph.specs.MultiLent.{Totals, multi_in, totals_counts, totals_links, prepared_in}
 use Rattle.multiportgraph.specs.LentSteps.{set_kept, link_parts}
 use Rattle.multiportgraph.specs.Needs.{need_of, takes_of, room_for}
 use Rattle.multiportgraph.specs.NeedLaws.{again_ready, need_stays, first_finds_room, second_still, second_finds_room, room_lacks}
@@ -36,8 +36,6 @@ use Rattle.multiportgraph.specs.declared.multiportgraph.PortsLinked.{PortsLinked
 use Rattle.multi_tables.specs.declared.seen.SeenPort.{SeenPort}
 use Rattle.multi_tables.specs.declared.seen.SeenPort.TheVariants as seen_port
 use Rattle.multiportgraph.specs.declared.prepare.Prepared.{Prepared}
-use Rattle.multiportgraph.specs.declared.lent.Totals.{Totals}
-use Rattle.multiportgraph.specs.declared.lent.PreparedLent.{PreparedLent}
 use Rattle.multiportgraph.specs.declared.lent.Need.{Need}
 use Rattle.multiportgraph.specs.declared.lent.Takes.{Takes}
 use Rattle.multiportgraph.specs.Graph.{with_graph}
@@ -82,12 +80,12 @@ module _ (nodes links owners heads : List ℕ) (marks flags : List Bool) (totals
       }
 
   pub grow_full_in : (tag : Result ℕ SetError → ℕ) → ((q : ℕ) → tag (Ok q) ≡ 0) → (tag a ≡ 1) ⊎ ((tag a ≡ 2) ⊎ ((tag a ≡ 3) ⊎ (tag a ≡ 4))) → {totals' : Totals} → totals' ≡ totals_counts totals counts₁ →
-      ◌≡◌ {A = Prepared} (record { graph = multi_in nodes₁ links₁ owners₁ heads₁ marks flags totals'; port = 0; offset = 0; ready = false }) (prepared_as whole (grow whole c d))
+      ◌≡◌ {A = Prepared} (record { graph = multi_in nodes₁ links₁ owners₁ heads₁ marks flags totals'; end = None }) (prepared_as whole (grow whole c d))
   grow_full_in tag zeroth t {totals'} h =
       let same : multi_in nodes₁ links₁ owners₁ heads₁ marks flags totals' ≡ whole =
       ap (multi_in nodes₁ links₁ owners₁ heads₁ marks flags) h
       ∙ ap (with_graph whole) (f₄ ∙ set_kept (graph_in nodes links owners heads totals.counts) c i o (3 * node_ports) tag zeroth f₅ t) in
-      ap (λ (v : MultiPortGraph). record { graph = v; port = 0; offset = 0; ready = false }) same
+      ap (λ (v : MultiPortGraph). record { graph = v; end = None }) same
       ∙ (grow_full growing {r = record { graph = graph_in nodes₁ links₁ owners₁ heads₁ counts₁; answer = a }} f₁ f₂ refl (λ v. record { graph = f₄ v; answer = f₅ v }) tag zeroth t
       ∙ ap (λ (v : ℕ). prepared_as whole (grow whole v d)) b.copy)
 
@@ -107,7 +105,7 @@ module _ (nodes links owners heads : List ℕ) (marks flags : List Bool) (totals
         w₃ ≡ far →
         t₂ ≡ put_flag t₁ port_slots w₃ true →
         new ≡ last_beside d far count →
-        ◌≡◌ {A = Prepared} (record { graph = multi_in nodes₁ links₁ owners₁ heads₁ t₂ flags (record { counts = counts₁; copies = totals.copies; subs = totals.subs + 1; release = totals.release }); port = new; offset = count; ready = true })
+        ◌≡◌ {A = Prepared} (record { graph = multi_in nodes₁ links₁ owners₁ heads₁ t₂ flags (record { counts = counts₁; copies = totals.copies; subs = totals.subs + 1; release = totals.release }); end = Some (new, count) })
         (prepared_as whole (grow whole c d))
     grow_done_in k₁ k₂ k₃ k₄ k₅ k₆ k₇ =
         grow_done growing {r = record { graph = graph_in nodes₁ links₁ owners₁ heads₁ counts₁; answer = a }} f₁ f₂ refl (λ v. record { graph = f₄ v; answer = f₅ v }) t k₁ k₂ k₃ k₄ k₅ k₆
@@ -117,48 +115,48 @@ module _ (nodes links owners heads : List ℕ) (marks flags : List Bool) (totals
 -- Linking.
 
 -- an end that is not prepared leaves the graph
-unchanged : (m : MultiPortGraph) (p : hiding.Prepared) {g : MultiPortGraph} (r : PreparedLent) → prepared_in g r ≡ prepared_as m p → r.ready ≡ false → g ≡ m
-unchanged m (hiding.ready k q o) {g} r e t = absurd (zero_is_not_one (let h : r.ready ≡ true = ap (λ (s : Prepared). s.ready) e in cc))
+unchanged : (m : MultiPortGraph) (p : hiding.Prepared) {g : MultiPortGraph} (r : Option (ℕ × ℕ)) → prepared_in g r ≡ prepared_as m p → r ≡ None → g ≡ m
+unchanged m (hiding.ready k q o) {g} r e t = absurd (zero_is_not_one (let u : ◌≡◌ {A = Option (ℕ × ℕ)} (Some (q, o)) None = ap (λ (s : Prepared). s.end) (sym e) ∙ t in cc))
 unchanged m hiding.full r e t = ap (λ (s : Prepared). s.graph) e
 
-module _ (m : MultiPortGraph) (a : ℕ) (d : Direction) {g : MultiPortGraph} (r : PreparedLent) (e : prepared_in g r ≡ prepared_as m (prepare m a d)) where
+module _ (m : MultiPortGraph) (a : ℕ) (d : Direction) {g : MultiPortGraph} (r : Option (ℕ × ℕ)) (e : prepared_in g r ≡ prepared_as m (prepare m a d)) where
   -- the second port is not live
-  pub first_parts : (b : ℕ) → r.ready ≡ true → (g ≡ (link_first m b (prepare m a d)).graph) × (Err (UnknownSecondPort (port# b)) ≡ (link_first m b (prepare m a d)).answer)
-  first_parts b t = link_parts (first_ready_lem m a d b (prepared_in g r) e t refl)
+  pub first_parts : (b : ℕ) → {n : ℕ × ℕ} → r ≡ Some n → (g ≡ (link_first m b (prepare m a d)).graph) × (Err (UnknownSecondPort (port# b)) ≡ (link_first m b (prepare m a d)).answer)
+  first_parts b {n} t = link_parts (first_ready_lem m a d b (prepared_in g r) e t refl)
 
-  pub first_none : (b : ℕ) → r.ready ≡ false → (g ≡ (link_first m b (prepare m a d)).graph) × (Err NoRoom ≡ (link_first m b (prepare m a d)).answer)
+  pub first_none : (b : ℕ) → r ≡ None → (g ≡ (link_first m b (prepare m a d)).graph) × (Err NoRoom ≡ (link_first m b (prepare m a d)).answer)
   first_none b t =
       link_parts (first_full m a d b (prepared_in g r) e t (ap (λ (x : MultiPortGraph). link_refused x NoRoom) (unchanged m (prepare m a d) r e t)))
 
   -- a port with itself
-  pub self_parts : OnBlock m a d → r.ready ≡ true →
-      (g ≡ (link_live m a d a d (prepare m a d)).graph) × (Err (IncompatibleDirections (port# r.port) (port# r.port) d) ≡ (link_live m a d a d (prepare m a d)).answer)
-  self_parts b t =
+  pub self_parts : OnBlock m a d → {n : ℕ × ℕ} → r ≡ Some n →
+      (g ≡ (link_live m a d a d (prepare m a d)).graph) × (Err (IncompatibleDirections (port# n.0) (port# n.0) d) ≡ (link_live m a d a d (prepare m a d)).answer)
+  self_parts b {n} t =
       let is = is_ready m (prepare m a d) (prepared_in g r) e t in
       link_parts (sym (ap (link_live m a d a d) is
-      ∙ (ap (link_second m a d r.port r.offset a d) (again_ready b g r.port r.offset is)
-      ∙ ap (λ (c : Bool). cond c (link_refused g (IncompatibleDirections (port# r.port) (port# r.port) d))
-      (record { graph = with_graph g (Rattle.portgraph.specs.Calls.link_ports g.graph r.port r.port).graph; answer = Ok (subport# a r.offset, subport# a r.offset) })) (one_side d))))
+      ∙ (ap (link_second m a d n.0 n.1 a d) (again_ready b g n.0 n.1 is)
+      ∙ ap (λ (c : Bool). cond c (link_refused g (IncompatibleDirections (port# n.0) (port# n.0) d))
+      (record { graph = with_graph g (Rattle.portgraph.specs.Calls.link_ports g.graph n.0 n.0).graph; answer = Ok (subport# a n.1, subport# a n.1) })) (one_side d))))
     where
       one_side : (d : Direction) → same_side d d ≡ true
       one_side Incoming = refl
       one_side Outgoing = refl
 
-  pub self_none : r.ready ≡ false → (g ≡ (link_live m a d a d (prepare m a d)).graph) × (Err NoRoom ≡ (link_live m a d a d (prepare m a d)).answer)
+  pub self_none : r ≡ None → (g ≡ (link_live m a d a d (prepare m a d)).graph) × (Err NoRoom ≡ (link_live m a d a d (prepare m a d)).answer)
   self_none t =
       link_parts (ap (λ (x : MultiPortGraph). link_refused x NoRoom) (unchanged m (prepare m a d) r e t) ∙ sym (ap (link_live m a d a d) (is_full m (prepare m a d) (prepared_in g r) e t)))
 
 -- the first end is ready
-module _ {m : MultiPortGraph} {a : ℕ} {d : Direction} {x o b : ℕ} {e : Direction} (w : FirstReady m a d x o b e) {k : MultiPortGraph} (s : PreparedLent) (j : prepared_in k s ≡ prepared_as m (prepare m b e)) where
+module _ {m : MultiPortGraph} {a : ℕ} {d : Direction} {x o b : ℕ} {e : Direction} (w : FirstReady m a d x o b e) {k : MultiPortGraph} (s : Option (ℕ × ℕ)) (j : prepared_in k s ≡ prepared_as m (prepare m b e)) where
   by_second : (p : hiding.Prepared) → prepare m b e ≡ p → link_live m a d b e (prepare m a d) ≡ link_second m a d x o b e p
   by_second p q = ap (link_live m a d b e) w.is ∙ ap (link_second m a d x o b e) q
 
-  pub second_none : s.ready ≡ false → (k ≡ (link_live m a d b e (prepare m a d)).graph) × (Err NoRoom ≡ (link_live m a d b e (prepare m a d)).answer)
+  pub second_none : s ≡ None → (k ≡ (link_live m a d b e (prepare m a d)).graph) × (Err NoRoom ≡ (link_live m a d b e (prepare m a d)).answer)
   second_none t =
       link_parts (ap (λ (v : MultiPortGraph). link_refused v NoRoom) (unchanged m (prepare m b e) s j t) ∙ sym (by_second hiding.full (is_full m (prepare m b e) (prepared_in k s) j t)))
 
-  module _ (t : s.ready ≡ true) where
-    second_is : prepare m b e ≡ hiding.ready k s.port s.offset
+  module _ {n : ℕ × ℕ} (t : s ≡ Some n) where
+    second_is : prepare m b e ≡ hiding.ready k n.0 n.1
     second_is = is_ready m (prepare m b e) (prepared_in k s) j t
 
     -- the graph after the second end is one of the calls
@@ -166,26 +164,26 @@ module _ {m : MultiPortGraph} {a : ℕ} {d : Direction} {x o b : ℕ} {e : Direc
     second_after = still_wf w.both.second (prepared_in k s) j t
 
     pub second_same : same_side d e ≡ true →
-        (k ≡ (link_live m a d b e (prepare m a d)).graph) × (Err (IncompatibleDirections (port# x) (port# s.port) d) ≡ (link_live m a d b e (prepare m a d)).answer)
+        (k ≡ (link_live m a d b e (prepare m a d)).graph) × (Err (IncompatibleDirections (port# x) (port# n.0) d) ≡ (link_live m a d b e (prepare m a d)).answer)
     second_same c =
-        link_parts (sym (by_second (hiding.ready k s.port s.offset) second_is
-        ∙ ap (λ (v : Bool). cond v (link_refused k (IncompatibleDirections (port# x) (port# s.port) d))
-        (record { graph = with_graph k (Rattle.portgraph.specs.Calls.link_ports k.graph x s.port).graph; answer = Ok (subport# a o, subport# b s.offset) })) c))
+        link_parts (sym (by_second (hiding.ready k n.0 n.1) second_is
+        ∙ ap (λ (v : Bool). cond v (link_refused k (IncompatibleDirections (port# x) (port# n.0) d))
+        (record { graph = with_graph k (Rattle.portgraph.specs.Calls.link_ports k.graph x n.0).graph; answer = Ok (subport# a o, subport# b n.1) })) c))
 
-    pub second_linked : same_side d e ≡ false → {l : List ℕ} → l ≡ tables.link_both k.graph.port_link x s.port →
+    pub second_linked : same_side d e ≡ false → {l : List ℕ} → l ≡ tables.link_both k.graph.port_link x n.0 →
         (with_graph k (with_links k.graph l (k.graph.link_count + 1)) ≡ (link_live m a d b e (prepare m a d)).graph)
-        × (Ok (subport# a o, subport# b s.offset) ≡ (link_live m a d b e (prepare m a d)).answer)
+        × (Ok (subport# a o, subport# b n.1) ≡ (link_live m a d b e (prepare m a d)).answer)
     second_linked c q =
-        link_parts (both_joined w.both {r = record { graph = m; port = x; offset = o; ready = true }} {s = prepared_in k s} (ap (prepared_as m) (sym w.is)) refl j t c q)
+        link_parts (both_joined w.both {r = record { graph = m; end = Some (x, o) }} {s = prepared_in k s} (ap (prepared_as m) (sym w.is)) refl j t c q)
 
 -- the same over lent tables
-pub second_linked_in : {m : MultiPortGraph} {a : ℕ} {d : Direction} {x o b : ℕ} {e : Direction} (w : FirstReady m a d x o b e) (nodes₁ : List ℕ) {links₁ owners₁ heads₁ : List ℕ} {marks₁ flags₁ : List Bool} (s : PreparedLent) →
-    prepared_in (multi_in nodes₁ links₁ owners₁ heads₁ marks₁ flags₁ s.totals) s ≡ prepared_as m (prepare m b e) → s.ready ≡ true → same_side d e ≡ false →
-    {l : List ℕ} {totals' : Totals} → l ≡ tables.link_both links₁ x s.port → totals' ≡ totals_links s.totals (s.totals.counts.link_count + 1) →
+pub second_linked_in : {m : MultiPortGraph} {a : ℕ} {d : Direction} {x o b : ℕ} {e : Direction} (w : FirstReady m a d x o b e) (nodes₁ : List ℕ) {links₁ owners₁ heads₁ : List ℕ} {marks₁ flags₁ : List Bool} {totals₁ : Totals} (s : Option (ℕ × ℕ)) {n : ℕ × ℕ} →
+    prepared_in (multi_in nodes₁ links₁ owners₁ heads₁ marks₁ flags₁ totals₁) s ≡ prepared_as m (prepare m b e) → s ≡ Some n → same_side d e ≡ false →
+    {l : List ℕ} {totals' : Totals} → l ≡ tables.link_both links₁ x n.0 → totals' ≡ totals_links totals₁ (totals₁.counts.link_count + 1) →
     (multi_in nodes₁ l owners₁ heads₁ marks₁ flags₁ totals' ≡ (link_live m a d b e (prepare m a d)).graph)
-    × (Ok (subport# a o, subport# b s.offset) ≡ (link_live m a d b e (prepare m a d)).answer)
-second_linked_in w nodes₁ {links₁} {owners₁} {heads₁} {marks₁} {flags₁} s j t c {l} q h =
-    let z = second_linked w {k = multi_in nodes₁ links₁ owners₁ heads₁ marks₁ flags₁ s.totals} s j t c q in
+    × (Ok (subport# a o, subport# b n.1) ≡ (link_live m a d b e (prepare m a d)).answer)
+second_linked_in w nodes₁ {links₁} {owners₁} {heads₁} {marks₁} {flags₁} {totals₁} s j t c {l} q h =
+    let z = second_linked w {k = multi_in nodes₁ links₁ owners₁ heads₁ marks₁ flags₁ totals₁} s j t c q in
     (ap (multi_in nodes₁ l owners₁ heads₁ marks₁ flags₁) h ∙ z.0, z.1)
 
 -- two ports: the first end is prepared, and there is room for both
@@ -202,36 +200,36 @@ module _ (nodes links owners heads : List ℕ) (marks flags : List Bool) (totals
   pub both_lack : c ≡ false → (m ≡ (link_live m a d b e (prepare m a d)).graph) × (Err NoRoom ≡ (link_live m a d b e (prepare m a d)).answer)
   both_lack q = link_parts (sym (room_lacks nodes links owners heads marks flags totals w apart (room false q)))
 
-  module _ (q : c ≡ true) {g : MultiPortGraph} (r : PreparedLent) (h : prepared_in g r ≡ prepared_as m (prepare m a d)) where
-    prepared : (z : Bool) → r.ready ≡ z → r.ready ≡ true
-    prepared true t = t
-    prepared false t = absurd (first_finds_room nodes links owners heads marks flags totals w apart (room true q) (is_full m (prepare m a d) (prepared_in g r) h t))
+  module _ (q : c ≡ true) {g : MultiPortGraph} (r : Option (ℕ × ℕ)) (h : prepared_in g r ≡ prepared_as m (prepare m a d)) where
+    pub first_found : r ≡ None → ⊥
+    first_found t = first_finds_room nodes links owners heads marks flags totals w apart (room true q) (is_full m (prepare m a d) (prepared_in g r) h t)
 
-    is : prepare m a d ≡ hiding.ready g r.port r.offset
-    is = is_ready m (prepare m a d) (prepared_in g r) h (prepared r.ready refl)
+    module _ {n : ℕ × ℕ} (t : r ≡ Some n) where
+      is : prepare m a d ≡ hiding.ready g n.0 n.1
+      is = is_ready m (prepare m a d) (prepared_in g r) h t
 
-    pub both_first : FirstReady g a d r.port r.offset b e
-    both_first =
-        record {
-          both = record { first = others_stay w.first (prepared_in g r) h (prepared r.ready refl) a d w.first; second = second_still nodes links owners heads marks flags totals w apart g r.port r.offset is };
-          is = again_ready w.first g r.port r.offset is;
-        }
+      pub both_first : FirstReady g a d n.0 n.1 b e
+      both_first =
+          record {
+            both = record { first = others_stay w.first (prepared_in g r) h t a d w.first; second = second_still nodes links owners heads marks flags totals w apart g n.0 n.1 is };
+            is = again_ready w.first g n.0 n.1 is;
+          }
 
-    pub both_need : v ≡ need_of g b e
-    both_need = ev ∙ sym (need_stays w.first g r.port r.offset is w.second apart)
+      pub both_need : v ≡ need_of g b e
+      both_need = ev ∙ sym (need_stays w.first g n.0 n.1 is w.second apart)
 
-    both_same : (p : hiding.Prepared) → prepare g b e ≡ p → link_live g a d b e (prepare g a d) ≡ link_live m a d b e (prepare m a d)
-    both_same hiding.full k = absurd (second_finds_room nodes links owners heads marks flags totals w apart g r.port r.offset is (room true q) k)
-    both_same (hiding.ready m₂ y z) k =
-        ap (link_live g a d b e) both_first.is
-        ∙ (ap (link_second g a d r.port r.offset b e) k
-        ∙ (sym (ap (link_second m a d r.port r.offset b e) k) ∙ sym (ap (link_live m a d b e) is)))
+      both_same : (p : hiding.Prepared) → prepare g b e ≡ p → link_live g a d b e (prepare g a d) ≡ link_live m a d b e (prepare m a d)
+      both_same hiding.full k = absurd (second_finds_room nodes links owners heads marks flags totals w apart g n.0 n.1 is (room true q) k)
+      both_same (hiding.ready m₂ y z) k =
+          ap (link_live g a d b e) both_first.is
+          ∙ (ap (link_second g a d n.0 n.1 b e) k
+          ∙ (sym (ap (link_second m a d n.0 n.1 b e) k) ∙ sym (ap (link_live m a d b e) is)))
 
-    pub both_done : {k : MultiPortGraph} {y : Result (SubportIndex × SubportIndex) Refusal} → (k ≡ (link_live g a d b e (prepare g a d)).graph) × (y ≡ (link_live g a d b e (prepare g a d)).answer) →
-        (k ≡ (link_live m a d b e (prepare m a d)).graph) × (y ≡ (link_live m a d b e (prepare m a d)).answer)
-    both_done z =
-        let s = both_same (prepare g b e) refl in
-        (z.0 ∙ ap (λ (l : PortsLinked). l.graph) s, z.1 ∙ ap (λ (l : PortsLinked). l.answer) s)
+      pub both_done : {k : MultiPortGraph} {y : Result (SubportIndex × SubportIndex) Refusal} → (k ≡ (link_live g a d b e (prepare g a d)).graph) × (y ≡ (link_live g a d b e (prepare g a d)).answer) →
+          (k ≡ (link_live m a d b e (prepare m a d)).graph) × (y ≡ (link_live m a d b e (prepare m a d)).answer)
+      both_done z =
+          let s = both_same (prepare g b e) refl in
+          (z.0 ∙ ap (λ (l : PortsLinked). l.graph) s, z.1 ∙ ap (λ (l : PortsLinked). l.answer) s)
 
 -- How the ports are seen.
 

@@ -9,9 +9,8 @@ use Rattle.port_tables.specs.declared.node_entry.NodeSlot.{NodeSlot}
 use Rattle.portgraph.specs.declared.portgraph.PortGraph.{PortGraph}
 use Rattle.port_tables.specs.declared.lent.Counts.{Counts}
 use Rattle.multiportgraph.specs.Graph.{multi, with_graph}
-use Rattle.multiportgraph.specs.MultiLent.{multi_in}
+use Rattle.multiportgraph.specs.MultiLent.{Totals, multi_in}
 use Rattle.multiportgraph.specs.declared.multiportgraph.MultiPortGraph.{MultiPortGraph}
-use Rattle.multiportgraph.specs.declared.lent.Totals.{Totals}
 
 pub multi_made : (nodes links owners heads : List ℕ) (marks flags : List Bool) (totals : Totals) (g : PortGraph) → g ≡ graph_in nodes links owners heads totals.counts
     → ◌≡◌ {A = MultiPortGraph} (multi g marks flags totals.copies totals.subs totals.release) (multi_in nodes links owners heads marks flags totals)

@@ -25,10 +25,9 @@ use Rattle.multi_tables.specs.FormSteps.{flag_is}
 use Rattle.multiportgraph.specs.CallSteps.{empty_made, lower_wf}
 use Rattle.multiportgraph.specs.BlockSteps.{wf_remove_copy}
 use Rattle.multi_tables.specs.TableReads.{far_in, owner_in}
-use Rattle.multiportgraph.specs.MultiLent.{multi_in, no_totals, port_of_in, copy_side_in, far_entry, far_port_in, copy_node_in, Sound}
+use Rattle.multiportgraph.specs.MultiLent.{Totals, multi_in, no_totals, port_of_in, copy_side_in, far_entry, far_port_in, copy_node_in, Sound}
 use Rattle.multiportgraph.specs.declared.multiportgraph.MultiPortGraph.{MultiPortGraph}
 use Rattle.port_tables.specs.declared.release.Release.{Release}
-use Rattle.multiportgraph.specs.declared.lent.Totals.{Totals}
 use Rattle.multiportgraph.specs.Graph.{empty_graph}
 use Rattle.multiportgraph.specs.HiddenNodes.{remove_copy, remove_lone, unsplit}
 use Rattle.port_tables.specs.declared.node_entry.NodeMeta.{NodeMeta}

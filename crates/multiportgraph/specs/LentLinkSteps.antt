@@ -19,10 +19,9 @@ use Rattle.multiportgraph.specs.PrepareSteps.{lower_wf, split_full}
 use Rattle.multiportgraph.specs.SplitLaws.{SplitTables}
 use Rattle.multiportgraph.specs.TableSteps.{split_told, split_done}
 use Rattle.multi_tables.specs.TableReads.{hang_on, copy_at, subports_at}
-use Rattle.multiportgraph.specs.MultiLent.{multi_in, totals_counts, totals_links}
+use Rattle.multiportgraph.specs.MultiLent.{Totals, multi_in, totals_counts, totals_links}
 use Rattle.multiportgraph.specs.declared.multiportgraph.MultiPortGraph.{MultiPortGraph}
 use Rattle.multiportgraph.specs.declared.prepare.Prepared.{Prepared}
-use Rattle.multiportgraph.specs.declared.lent.Totals.{Totals}
 use Rattle.multiportgraph.specs.Graph.{with_graph}
 use Rattle.multiportgraph.specs.HiddenNodes.{copy_incoming, copy_outgoing, split}
 use Rattle.multiportgraph.specs.Presumed.{LinkedPort}
@@ -60,14 +59,14 @@ module _ (nodes links owners heads : List ℕ) (marks flags : List Bool) (totals
       (e₃ : graph_in nodes₁ links₁ owners₁ heads₁ counts₁ ≡ (add_node (graph_in nodes links owners heads totals.counts) i o).graph)
       (e₄ : a ≡ (add_node (graph_in nodes links owners heads totals.counts) i o).answer) where
     pub split_full_in : (tag : Result (NodeIndex × PortIndex) AddError → ℕ) → ((n : NodeIndex) (f : PortIndex) → tag (Ok (n, f)) ≡ 0) → (tag a ≡ 1) ⊎ (tag a ≡ 2) → {totals' : Totals} → totals' ≡ totals_counts totals counts₁ →
-        ◌≡◌ {A = Prepared} (record { graph = multi_in nodes₁ links₁ owners₁ heads₁ marks flags totals'; port = 0; offset = 0; ready = false })
+        ◌≡◌ {A = Prepared} (record { graph = multi_in nodes₁ links₁ owners₁ heads₁ marks flags totals'; end = None })
         (prepared_as (multi_in nodes links owners heads marks flags totals) (split (multi_in nodes links owners heads marks flags totals) p d))
     split_full_in tag zeroth t {totals'} h =
         let m = multi_in nodes links owners heads marks flags totals in
         let same : multi_in nodes₁ links₁ owners₁ heads₁ marks flags totals' ≡ m =
         ap (multi_in nodes₁ links₁ owners₁ heads₁ marks flags) h
         ∙ ap (with_graph m) (e₃ ∙ add_kept (graph_in nodes links owners heads totals.counts) i o tag zeroth e₄ t) in
-        ap (λ (x : MultiPortGraph). record { graph = x; port = 0; offset = 0; ready = false }) same
+        ap (λ (x : MultiPortGraph). record { graph = x; end = None }) same
         ∙ split_full m p d {r = record { graph = graph_in nodes₁ links₁ owners₁ heads₁ counts₁; answer = a }} e₁ e₂ (λ v. record { graph = e₃ v; answer = e₄ v }) tag zeroth t
 
     module _ (b : LinkedPort (multi_in nodes links owners heads marks flags totals) p d) where
@@ -94,8 +93,8 @@ module _ (nodes links owners heads : List ℕ) (marks flags : List Bool) (totals
             w₃ ≡ n.0 →
             t₃ ≡ put_flag flags node_slots w₃ true →
             totals' ≡ totals_links (record { counts = counts₁; copies = totals.copies + 1; subs = totals.subs + 2; release = totals.release }) (left + 2) →
-            ◌≡◌ {A = Prepared} (record { graph = multi_in nodes₁ links₂ owners₁ heads₁ t₂ t₃ totals'; port = old + 1; offset = 1; ready = true })
+            ◌≡◌ {A = Prepared} (record { graph = multi_in nodes₁ links₂ owners₁ heads₁ t₂ t₃ totals'; end = Some (old + 1, 1) })
             (prepared_as (multi_in nodes links owners heads marks flags totals) (split (multi_in nodes links owners heads marks flags totals) p d))
         split_done_in {old = old} {links₂ = links₂} {t₂ = t₂} {t₃ = t₃} c₁ c₂ c₃ c₄ c₅ c₆ c₇ k₁ k₂ k₃ k₄ k₅ k₆ h =
-            ap (λ (x : Totals). record { graph = multi_in nodes₁ links₂ owners₁ heads₁ t₂ t₃ x; port = old + 1; offset = 1; ready = true }) h
+            ap (λ (x : Totals). record { graph = multi_in nodes₁ links₂ owners₁ heads₁ t₂ t₃ x; end = Some (old + 1, 1) }) h
             ∙ split_done b {r = record { graph = graph_in nodes₁ links₁ owners₁ heads₁ counts₁; answer = a }} e₁ e₂ (λ v. record { graph = e₃ v; answer = e₄ v }) t c₁ c₂ c₃ c₄ c₅ c₆ c₇ k₁ k₂ k₃ k₄ k₅ k₆

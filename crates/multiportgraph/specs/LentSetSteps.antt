@@ -19,11 +19,10 @@ use Rattle.multiportgraph.specs.Calls.{set_as, set_counts}
 use Rattle.multi_tables.specs.MarkLaws.{length_lay_marks}
 use Rattle.multiportgraph.specs.BlockSteps.{set_block, block_in_lem, copies_dropped_most, copies_dropped_few, list_taken}
 use Rattle.multiportgraph.specs.PrepareSteps.{lower_wf}
-use Rattle.multiportgraph.specs.MultiLent.{multi_in, totals_counts, Sound, FitsIf, Resizes, settled}
+use Rattle.multiportgraph.specs.MultiLent.{Totals, multi_in, totals_counts, Sound, FitsIf, Resizes, settled}
 use Rattle.multiportgraph.specs.LentSteps.{found_fits}
 use Rattle.multiportgraph.specs.declared.multiportgraph.MultiPortGraph.{MultiPortGraph}
 use Rattle.multiportgraph.specs.declared.multiportgraph.PortsSet.{PortsSet}
-use Rattle.multiportgraph.specs.declared.lent.Totals.{Totals}
 use Rattle.multiportgraph.specs.Graph.{with_graph, with_marks}
 use Rattle.multiportgraph.specs.HiddenNodes.{copies_dropped, recounted, marks_moved, remove_all}
 use Rattle.multiportgraph.specs.Cases.{resized}

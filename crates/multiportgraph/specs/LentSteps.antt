@@ -37,7 +37,7 @@ use Rattle.multi_tables.specs.NamedEnds.{end_named, link_named, read_in}
 use Rattle.multiportgraph.specs.TableReadLaws.{wire_unplaced}
 use Rattle.multiportgraph.specs.NamedLaws.{read_done, cut_done, link_done, end_cut, join_made, port_cut_none, port_cut_far}
 use Rattle.multiportgraph.specs.WellFormed.{MultiWf}
-use Rattle.multiportgraph.specs.MultiLent.{multi_in, totals_counts, totals_links, port_of_in, copy_side_in, far_entry, far_port_in, copy_node_in, Sound, FitsIf}
+use Rattle.multiportgraph.specs.MultiLent.{Totals, multi_in, totals_counts, totals_links, port_of_in, copy_side_in, far_entry, far_port_in, copy_node_in, Sound, FitsIf}
 use Rattle.multiportgraph.specs.LentLaws.{port_of_read, count_read, copy_side_read, copy_node_read}
 use Rattle.multi_tables.specs.declared.answers.SubportIndex.{SubportIndex}
 use Rattle.multi_tables.specs.declared.answers.Refusal.{Refusal}
@@ -50,7 +50,6 @@ use Rattle.multi_tables.specs.EndAnswers.{refusal_numbers, unplaced, unplaced_nu
 use Rattle.multiportgraph.specs.declared.multiportgraph.PortUnlinked.{PortUnlinked}
 use Rattle.multiportgraph.specs.declared.multiportgraph.PortsLinked.{PortsLinked}
 use Rattle.multiportgraph.specs.declared.multiportgraph.MultiPortGraph.{MultiPortGraph}
-use Rattle.multiportgraph.specs.declared.lent.Totals.{Totals}
 use Rattle.multiportgraph.specs.HiddenNodes.{remove_copy, unsplit, unsplit_range, remove_lone, marks_moved, copies_in}
 use Rattle.multiportgraph.specs.Presumed.{OnBlock}
 use Rattle.port_tables.specs.declared.index.NodeIndex.{NodeIndex}

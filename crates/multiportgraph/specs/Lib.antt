@@ -40,6 +40,7 @@ pub mod MultiLent
 -- the code's own forms of these: the calls by cases, what inner functions give and presume, what is read off lent tables
 pub mod Cases
 pub mod CodeForms
+pub mod OwnTables
 pub mod Presumed
 pub mod Named
 pub mod Needs

@@ -1,5 +1,5 @@
 -- What the code's steps of a link amount to: the ends that are prepared, and each refusal.
-use Rattle.std.specs.Prelude.{◌≡◌, refl, Bool, true, false, cond, ℕ, ◌+◌, ◌<◌, Ok}
+use Rattle.std.specs.Prelude.{◌≡◌, refl, Bool, true, false, cond, ℕ, ◌+◌, ◌<◌, Option, Some, None, Ok}
 use Rattle.std.proofs.Common.{sym, ◌∙◌, ap, subst}
 use Rattle.port_tables.specs.Entries.{port#, same_side}
 use Rattle.portgraph.specs.Calls.{link_ports}
@@ -27,21 +27,24 @@ use Rattle.multiportgraph.specs.Cases.{link_refused, link_prepared, link_second,
 use Rattle.multiportgraph.specs.Presumed.{OnBlock}
 
 -- what a prepared end is
-pub is_ready : (m : MultiPortGraph) (p : hiding.Prepared) (r : Prepared) → r ≡ prepared_as m p → r.ready ≡ true → p ≡ hiding.ready r.graph r.port r.offset
-is_ready m (hiding.ready k q o) r e t = ap (λ (s : Prepared). hiding.ready s.graph s.port s.offset) (sym e)
-is_ready m hiding.full r e t = absurd (zero_is_not_one (let h : r.ready ≡ false = ap (λ (s : Prepared). s.ready) e in cc))
+pub is_ready : (m : MultiPortGraph) (p : hiding.Prepared) (r : Prepared) {n : ℕ × ℕ} → r ≡ prepared_as m p → r.end ≡ Some n → p ≡ hiding.ready r.graph n.0 n.1
+is_ready m (hiding.ready k q o) r {n} e t =
+    let u : ◌≡◌ {A = Option (ℕ × ℕ)} (Some n) (Some (q, o)) = sym t ∙ ap (λ (s : Prepared). s.end) e in
+    let g : ◌≡◌ {A = ℕ × ℕ} n (q, o) = cc in
+    λ i. hiding.ready (ap (λ (s : Prepared). s.graph) (sym e) i) (sym g i).0 (sym g i).1
+is_ready m hiding.full r {n} e t = absurd (zero_is_not_one (let u : ◌≡◌ {A = Option (ℕ × ℕ)} (Some n) None = sym t ∙ ap (λ (s : Prepared). s.end) e in cc))
 
-pub is_full : (m : MultiPortGraph) (p : hiding.Prepared) (r : Prepared) → r ≡ prepared_as m p → r.ready ≡ false → p ≡ hiding.full
+pub is_full : (m : MultiPortGraph) (p : hiding.Prepared) (r : Prepared) → r ≡ prepared_as m p → r.end ≡ None → p ≡ hiding.full
 is_full m hiding.full r e t = refl
-is_full m (hiding.ready k q o) r e t = absurd (zero_is_not_one (let h : r.ready ≡ true = ap (λ (s : Prepared). s.ready) e in cc))
+is_full m (hiding.ready k q o) r e t = absurd (zero_is_not_one (let u : ◌≡◌ {A = Option (ℕ × ℕ)} (Some (q, o)) None = ap (λ (s : Prepared). s.end) (sym e) ∙ t in cc))
 
 -- what stays of other ports of blocks where an end is prepared
-module _ {m : MultiPortGraph} {p : ℕ} {d : Direction} (b : OnBlock m p d) (r : Prepared) (e : r ≡ prepared_as m (prepare m p d)) (t : r.ready ≡ true) where
+module _ {m : MultiPortGraph} {p : ℕ} {d : Direction} (b : OnBlock m p d) (r : Prepared) {n : ℕ × ℕ} (e : r ≡ prepared_as m (prepare m p d)) (t : r.end ≡ Some n) where
   pub others_stay : (q : ℕ) (s : Direction) → OnBlock m q s → OnBlock r.graph q s
   others_stay q s c =
       let f = b.wf.fine in
       let x = block_seen f p b.node d b.is in
-      let l = prepare_law f x.place x.is_seen r.graph r.port r.offset
+      let l = prepare_law f x.place x.is_seen r.graph n.0 n.1
       (ap (λ (u : ℕ). prepare m u x.place.side) x.slot ∙ (ap (prepare m p) x.side ∙ is_ready m (prepare m p d) r e t)) in
       let y = block_seen f q c.node s c.is in
       let k = slot_in_block f.good y.place y.is_seen.0 in
@@ -62,46 +65,46 @@ module _ {m : MultiPortGraph} {p : ℕ} {d : Direction} (b : OnBlock m p d) (r :
 
 -- The second port is not live.
 
-pub first_ready_lem : (m : MultiPortGraph) (a : ℕ) (d : Direction) (b : ℕ) (r : Prepared) {u : PortsLinked} → r ≡ prepared_as m (prepare m a d) → r.ready ≡ true →
+pub first_ready_lem : (m : MultiPortGraph) (a : ℕ) (d : Direction) (b : ℕ) (r : Prepared) {n : ℕ × ℕ} {u : PortsLinked} → r ≡ prepared_as m (prepare m a d) → r.end ≡ Some n →
     u ≡ link_refused r.graph (UnknownSecondPort (port# b)) → u ≡ link_first m b (prepare m a d)
 first_ready_lem m a d b r e t h = h ∙ sym (ap (link_first m b) (is_ready m (prepare m a d) r e t))
 
-pub first_full : (m : MultiPortGraph) (a : ℕ) (d : Direction) (b : ℕ) (r : Prepared) {u : PortsLinked} → r ≡ prepared_as m (prepare m a d) → r.ready ≡ false →
+pub first_full : (m : MultiPortGraph) (a : ℕ) (d : Direction) (b : ℕ) (r : Prepared) {u : PortsLinked} → r ≡ prepared_as m (prepare m a d) → r.end ≡ None →
     u ≡ link_refused m NoRoom → u ≡ link_first m b (prepare m a d)
 first_full m a d b r e t h = h ∙ sym (ap (link_first m b) (is_full m (prepare m a d) r e t))
 
 -- Both ports are live.
 
 module _ (m : MultiPortGraph) (a : ℕ) (d : Direction) (b : ℕ) (e : Direction) (r : Prepared) (h : r ≡ prepared_as m (prepare m a d)) where
-  pub both_full : {u : PortsLinked} → r.ready ≡ false → u ≡ link_refused m NoRoom → u ≡ link_live m a d b e (prepare m a d)
+  pub both_full : {u : PortsLinked} → r.end ≡ None → u ≡ link_refused m NoRoom → u ≡ link_live m a d b e (prepare m a d)
   both_full t g = g ∙ sym (ap (link_live m a d b e) (is_full m (prepare m a d) r h t))
 
-  module _ (t : r.ready ≡ true) (s : Prepared) (k : s ≡ prepared_as r.graph (prepare r.graph b e)) where
-    pub second_full : {u : PortsLinked} → s.ready ≡ false → u ≡ link_refused m NoRoom → u ≡ link_live m a d b e (prepare m a d)
+  module _ {n : ℕ × ℕ} (t : r.end ≡ Some n) (s : Prepared) (k : s ≡ prepared_as r.graph (prepare r.graph b e)) where
+    pub second_full : {u : PortsLinked} → s.end ≡ None → u ≡ link_refused m NoRoom → u ≡ link_live m a d b e (prepare m a d)
     second_full v g =
         g ∙ sym (ap (link_live m a d b e) (is_ready m (prepare m a d) r h t)
-        ∙ ap (link_second m a d r.port r.offset b e) (is_full r.graph (prepare r.graph b e) s k v))
+        ∙ ap (link_second m a d n.0 n.1 b e) (is_full r.graph (prepare r.graph b e) s k v))
 
-    both_ready_lem : s.ready ≡ true → link_live m a d b e (prepare m a d) ≡ link_prepared s.graph a d r.port r.offset b e s.port s.offset
-    both_ready_lem v =
+    both_ready_lem : {o : ℕ × ℕ} → s.end ≡ Some o → link_live m a d b e (prepare m a d) ≡ link_prepared s.graph a d n.0 n.1 b e o.0 o.1
+    both_ready_lem {o} v =
         ap (link_live m a d b e) (is_ready m (prepare m a d) r h t)
-        ∙ ap (link_second m a d r.port r.offset b e) (is_ready r.graph (prepare r.graph b e) s k v)
+        ∙ ap (link_second m a d n.0 n.1 b e) (is_ready r.graph (prepare r.graph b e) s k v)
 
-    pub one_side : {u : PortsLinked} → s.ready ≡ true → same_side d e ≡ true →
-        u ≡ link_refused s.graph (IncompatibleDirections (port# r.port) (port# s.port) d) → u ≡ link_live m a d b e (prepare m a d)
-    one_side v c g =
+    pub one_side : {o : ℕ × ℕ} {u : PortsLinked} → s.end ≡ Some o → same_side d e ≡ true →
+        u ≡ link_refused s.graph (IncompatibleDirections (port# n.0) (port# o.0) d) → u ≡ link_live m a d b e (prepare m a d)
+    one_side {o} v c g =
         g ∙ sym (both_ready_lem v
-        ∙ ap (λ (x : Bool). cond x (link_refused s.graph (IncompatibleDirections (port# r.port) (port# s.port) d))
-        (record { graph = with_graph s.graph (link_ports s.graph.graph r.port s.port).graph; answer = Ok (subport# a r.offset, subport# b s.offset) })) c)
+        ∙ ap (λ (x : Bool). cond x (link_refused s.graph (IncompatibleDirections (port# n.0) (port# o.0) d))
+        (record { graph = with_graph s.graph (link_ports s.graph.graph n.0 o.0).graph; answer = Ok (subport# a n.1, subport# b o.1) })) c)
 
-    pub both_linked_lem : (l : lower.PortsLinked) → s.ready ≡ true → same_side d e ≡ false → l ≡ link_ports s.graph.graph r.port s.port →
-        ◌≡◌ {A = PortsLinked} (record { graph = with_graph s.graph l.graph; answer = Ok (subport# a r.offset, subport# b s.offset) })
+    pub both_linked_lem : {o : ℕ × ℕ} (l : lower.PortsLinked) → s.end ≡ Some o → same_side d e ≡ false → l ≡ link_ports s.graph.graph n.0 o.0 →
+        ◌≡◌ {A = PortsLinked} (record { graph = with_graph s.graph l.graph; answer = Ok (subport# a n.1, subport# b o.1) })
         (link_live m a d b e (prepare m a d))
-    both_linked_lem l v c g =
-        ap (λ (x : lower.PortsLinked). record { graph = with_graph s.graph x.graph; answer = Ok (subport# a r.offset, subport# b s.offset) }) g
+    both_linked_lem {o} l v c g =
+        ap (λ (x : lower.PortsLinked). record { graph = with_graph s.graph x.graph; answer = Ok (subport# a n.1, subport# b o.1) }) g
         ∙ sym (both_ready_lem v
-        ∙ ap (λ (x : Bool). cond x (link_refused s.graph (IncompatibleDirections (port# r.port) (port# s.port) d))
-        (record { graph = with_graph s.graph (link_ports s.graph.graph r.port s.port).graph; answer = Ok (subport# a r.offset, subport# b s.offset) })) c)
+        ∙ ap (λ (x : Bool). cond x (link_refused s.graph (IncompatibleDirections (port# n.0) (port# o.0) d))
+        (record { graph = with_graph s.graph (link_ports s.graph.graph n.0 o.0).graph; answer = Ok (subport# a n.1, subport# b o.1) })) c)
 
 -- How the two ports are seen.
 

@@ -1,7 +1,7 @@
 -- What one pass over lent tables lists is what the walk lists: under MultiWf each end, the wires of a port, of a block, and all;
 -- and all blocks.
 use Rattle.std.specs.Prelude.{◌≡◌, Bool, ℕ, zero, suc, ◌+◌, ◌-◌, ◌*◌, ◌≤◌, ◌<◌, eqb, length, Option, Some, None, Result, Ok}
-use Rattle.std.proofs.Math.Path.{refl, sym, ap}
+use Rattle.std.proofs.Math.Path.{refl, sym, ap, subst}
 use Rattle.std.proofs.Common.{◌∙◌, inl, inr, length-append}
 use Rattle.std.proofs.Math.Bool.{true, false, cond}
 use mathlib.Core.List.{List, [], ◌∷◌, ◌++◌, append-nil, flat_map}
@@ -15,7 +15,7 @@ use Rattle.port_tables.specs.Tables.{at}
 use Rattle.portgraph.specs.Lookups.{meta_at, is_some, count_in, port_link}
 use Rattle.portgraph.specs.Model as model
 use Rattle.portgraph.specs.Model.{Model, Far, nowhere, to, Slots, live, Valid, slot_of, count_of, first_of, side_start}
-use Rattle.port_tables.specs.NodeWords.{meta_in}
+use Rattle.port_tables.specs.NodeWords.{meta_in, slots_in}
 use Rattle.portgraph.specs.LentSteps.{meta_read}
 use Rattle.portgraph.specs.WfFacts.{link_count_fits, node_count_fits, node_len_fits}
 use Rattle.portgraph.specs.PlaceLaws.{meta_of_node, node_of_meta, link_to, link_none, port_link_to, port_link_none}
@@ -38,14 +38,19 @@ use Rattle.multiportgraph.specs.TableReadLaws.{far_is, owner_read, mark_told}
 use Rattle.multiportgraph.specs.ScanLaws.{links_from_to, ports_across, range_append, flat_map_append, flat_map_same, flat_map_map, flat_map_flat_map, port_seen_there, side_in_row, links_in_row, links_of_split, links_of_plain}
 use Rattle.multiportgraph.specs.CallSteps.{lower_wf}
 use Rattle.multiportgraph.specs.CountLaws.{visible_nodes_lem, visible_links_lem}
-use Rattle.multiportgraph.specs.MultiLent.{multi_in}
-use Rattle.multiportgraph.specs.Listed.{end_numbers, wire_numbers, wires_listed, first_port, block_numbers, blocks_listed}
+use Rattle.multiportgraph.specs.MultiLent.{Totals, multi_in}
+use Rattle.multiportgraph.specs.LentGraph.{lent_is}
+use Rattle.multiportgraph.specs.ListSteps.{listed_as}
+use Rattle.portgraph.specs.Lent.{counts_of}
+use Rattle.port_tables.specs.declared.lent.Counts.{Counts}
+use Rattle.port_tables.specs.declared.node_entry.NodeSlot.{NodeSlot}
+use Rattle.multiportgraph.specs.Listed.{end_numbers, wire_numbers, wires_listed, first_port, block_numbers, blocks_listed, list_after, list_answer}
 use Rattle.multiportgraph.specs.ListScans.{end_words, first_of_meta, in_end, far_end, out_end, slot_wire, subport_wire, split_wires, port_wires, place_wires, side_wires, node_wires, table_wires, of_block, port_of_meta, block_words, node_block, table_blocks, AllFit}
+use Rattle.multiportgraph.specs.declared.list_ends.TooShort.{TooShort}
 use Rattle.multiportgraph.specs.declared.multiportgraph.MultiPortGraph.{MultiPortGraph}
 use Rattle.multi_tables.specs.declared.answers.SubportIndex.{SubportIndex}
 use Rattle.multi_tables.specs.declared.answers.PortPlace.{PortPlace}
 use Rattle.multi_tables.specs.declared.answers.SubportLink.{SubportLink}
-use Rattle.multiportgraph.specs.declared.lent.Totals.{Totals}
 use Rattle.port_tables.specs.declared.index.PortIndex.{PortIndex}
 use Rattle.portgraph.specs.declared.portgraph.NoSuchPort.{NoSuchPort}
 
@@ -422,3 +427,75 @@ module _ (nodes links owners heads : List ℕ) (marks flags : List Bool) (totals
 
   pub few_blocks : totals.counts.node_count - totals.copies ≤ node_slots
   few_blocks = let h = node_count_fits graph.graph (lower_wf graph w) in omega arith
+
+  -- What a listing of so many presumes, and what it tells.
+
+  pub wires_list_fits : {count : ℕ} → count ≡ totals.counts.link_count - totals.copies
+      → AllFit nodes × (totals.counts.node_len ≤ node_slots) × (8 * count ≡ length (table_wires nodes links owners marks flags totals.counts.node_len)) × (count ≤ node_slots * node_ports)
+  wires_list_fits {count} e =
+      let few = few_wires in
+      (all_fit, len_fits, ap (λ (n : ℕ). 8 * n) (wires_counted count e) ∙ (sym (wires_length graph) ∙ sym (ap length wires_listed_lem)), omega (arith, few, e))
+
+  pub wires_list_told : {count : ℕ} {r : Result ℕ TooShort} (l : List ℕ) {l' : List ℕ} → count ≡ totals.counts.link_count - totals.copies
+      → (r ≡ list_answer count (table_wires nodes links owners marks flags totals.counts.node_len) l) × (l' ≡ list_after (table_wires nodes links owners marks flags totals.counts.node_len) l)
+      → (r ≡ list_answer (length (all_wires graph)) (wires_listed graph) l) × (l' ≡ list_after (wires_listed graph) l)
+  wires_list_told {count} l e x =
+      let n = wires_counted count e in
+      let t = wires_listed_lem in
+      (x.0 ∙ (λ i. list_answer (n i) (t i) l), x.1 ∙ ap (λ (w : List ℕ). list_after w l) t)
+
+  pub blocks_list_fits : {count : ℕ} → count ≡ totals.counts.node_count - totals.copies
+      → (totals.counts.node_len ≤ node_slots) × (4 * count ≡ length (table_blocks nodes flags totals.counts.node_len)) × (count ≤ node_slots)
+  blocks_list_fits {count} e =
+      let few = few_blocks in
+      (len_fits, ap (λ (n : ℕ). 4 * n) (blocks_counted count e) ∙ (sym (blocks_length graph) ∙ sym (ap length blocks_listed_lem)), omega (arith, few, e))
+
+  pub blocks_list_told : {count : ℕ} {r : Result ℕ TooShort} (l : List ℕ) {l' : List ℕ} → count ≡ totals.counts.node_count - totals.copies
+      → (r ≡ list_answer count (table_blocks nodes flags totals.counts.node_len) l) × (l' ≡ list_after (table_blocks nodes flags totals.counts.node_len) l)
+      → (r ≡ list_answer (length (blocks graph)) (blocks_listed graph) l) × (l' ≡ list_after (blocks_listed graph) l)
+  blocks_list_told {count} l e x =
+      let n = blocks_counted count e in
+      let t = blocks_listed_lem in
+      (x.0 ∙ (λ i. list_answer (n i) (t i) l), x.1 ∙ ap (λ (w : List ℕ). list_after w l) t)
+
+-- The same of a graph by value, whose node table is stored as numbers.
+module _ (m : MultiPortGraph) (w : MultiWf m) (nodes : List ℕ) {slots : List NodeSlot} {counts : Counts} (a : slots_in nodes ≡ slots) (b : slots ≡ m.graph.node_meta) (c : counts ≡ counts_of m.graph) where
+  abbrev beside : Totals
+  beside = record { counts = counts; copies = m.copy_node_count; subs = m.subport_count; release = m.release }
+
+  is_graph : multi_in nodes m.graph.port_link m.graph.port_meta m.graph.port_free m.multiport m.copy_node beside ≡ m
+  is_graph = lent_is m nodes a b refl c
+
+  holds : MultiWf (multi_in nodes m.graph.port_link m.graph.port_meta m.graph.port_free m.multiport m.copy_node beside)
+  holds = subst MultiWf (sym is_graph) w
+
+  links_counted : {count : ℕ} → count ≡ visible_links m → count ≡ counts.link_count - m.copy_node_count
+  unfolding visible_links
+  links_counted e = e ∙ sym (ap (λ (k : Counts). k.link_count - m.copy_node_count) c)
+
+  nodes_counted : {count : ℕ} → count ≡ visible_nodes m → count ≡ counts.node_count - m.copy_node_count
+  unfolding visible_nodes
+  nodes_counted e = e ∙ sym (ap (λ (k : Counts). k.node_count - m.copy_node_count) c)
+
+  pub wires_fit_by_value : {count : ℕ} → count ≡ visible_links m
+      → AllFit nodes × (counts.node_len ≤ node_slots) × (8 * count ≡ length (table_wires nodes m.graph.port_link m.graph.port_meta m.multiport m.copy_node counts.node_len)) × (count ≤ node_slots * node_ports)
+  wires_fit_by_value e = wires_list_fits nodes m.graph.port_link m.graph.port_meta m.graph.port_free m.multiport m.copy_node beside holds (links_counted e)
+
+  pub wires_told_by_value : {count : ℕ} {r : Result ℕ TooShort} (l : List ℕ) {l' : List ℕ} → count ≡ visible_links m
+      → (r ≡ list_answer count (table_wires nodes m.graph.port_link m.graph.port_meta m.multiport m.copy_node counts.node_len) l)
+      × (l' ≡ list_after (table_wires nodes m.graph.port_link m.graph.port_meta m.multiport m.copy_node counts.node_len) l)
+      → (r ≡ list_answer (length (all_wires m)) (wires_listed m) l) × (l' ≡ list_after (wires_listed m) l)
+  wires_told_by_value l e x =
+      listed_as (λ m. length (all_wires m)) wires_listed l is_graph
+      (wires_list_told nodes m.graph.port_link m.graph.port_meta m.graph.port_free m.multiport m.copy_node beside holds l (links_counted e) x)
+
+  pub blocks_fit_by_value : {count : ℕ} → count ≡ visible_nodes m
+      → (counts.node_len ≤ node_slots) × (4 * count ≡ length (table_blocks nodes m.copy_node counts.node_len)) × (count ≤ node_slots)
+  blocks_fit_by_value e = blocks_list_fits nodes m.graph.port_link m.graph.port_meta m.graph.port_free m.multiport m.copy_node beside holds (nodes_counted e)
+
+  pub blocks_told_by_value : {count : ℕ} {r : Result ℕ TooShort} (l : List ℕ) {l' : List ℕ} → count ≡ visible_nodes m
+      → (r ≡ list_answer count (table_blocks nodes m.copy_node counts.node_len) l) × (l' ≡ list_after (table_blocks nodes m.copy_node counts.node_len) l)
+      → (r ≡ list_answer (length (blocks m)) (blocks_listed m) l) × (l' ≡ list_after (blocks_listed m) l)
+  blocks_told_by_value l e x =
+      listed_as (λ m. length (blocks m)) blocks_listed l is_graph
+      (blocks_list_told nodes m.graph.port_link m.graph.port_meta m.graph.port_free m.multiport m.copy_node beside holds l (nodes_counted e) x)

@@ -23,16 +23,30 @@ use Rattle.multi_tables.specs.TableReads.{far_in, owner_in}
 use Rattle.multiportgraph.specs.declared.multiportgraph.MultiPortGraph.{MultiPortGraph}
 use Rattle.port_tables.specs.declared.release.Release.{Release}
 use Rattle.multiportgraph.specs.declared.prepare.Prepared.{Prepared}
-use Rattle.multiportgraph.specs.declared.lent.Totals.{Totals}
-use Rattle.multiportgraph.specs.declared.lent.PreparedLent.{PreparedLent}
+use Rattle.multiportgraph.specs.declared.lent_graph.LentGraph.{LentGraph}
 use Rattle.multiportgraph.specs.HiddenNodes.{marks_moved, remove_all}
 use Rattle.portgraph.specs.declared.resize.SetError.TheVariants as set_error
 use Rattle.portgraph.specs.declared.resize.SetError.{SetError}
+
+-- what a graph has besides its tables
+pub record Totals : Type 0 where
+  pub counts : Counts
+  pub copies : ℕ
+  pub subs : ℕ
+  pub release : Release
 
 -- the graph that lent tables and numbers are
 abbrev pub multi_in : List ℕ → List ℕ → List ℕ → List ℕ → List Bool → List Bool → Totals → MultiPortGraph
 multi_in nodes links owners heads marks flags totals =
     multi (graph_in nodes links owners heads totals.counts) marks flags totals.copies totals.subs totals.release
+
+-- what a lent graph has besides its tables
+abbrev pub totals_of : LentGraph → Totals
+totals_of g = record { counts = g.ports.counts; copies = g.copies; subs = g.subs; release = g.release }
+
+-- the graph that a lent one is
+abbrev pub graph_of : LentGraph → MultiPortGraph
+graph_of g = multi_in g.ports.nodes g.ports.links g.ports.owners g.ports.heads g.marks g.flags (totals_of g)
 
 -- the numbers of the empty graph that is made for a release
 abbrev pub no_totals : Release → Totals
@@ -105,5 +119,5 @@ settled m n k l (Err set_error.MovesTooShort) = m
 settled m n k l (Err set_error.NoRoom) = m
 
 -- a prepared end with its graph
-abbrev pub prepared_in : MultiPortGraph → PreparedLent → Prepared
-prepared_in m r = record { graph = m; port = r.port; offset = r.offset; ready = r.ready }
+abbrev pub prepared_in : MultiPortGraph → Option (ℕ × ℕ) → Prepared
+prepared_in m r = record { graph = m; end = r }

@@ -554,12 +554,12 @@ module _ {m : MultiPortGraph} {p : ℕ} {d : Direction} (b : OnBlock m p d) wher
 
 -- both ends are prepared, and linked in the tables
 module _ {m : MultiPortGraph} {a b : ℕ} {d e : Direction} (both : BothOnBlock m a d b e) {r s : prepare_forms.Prepared}
-    (h : r ≡ prepared_as m (prepare m a d)) (t : r.ready ≡ true) (k : s ≡ prepared_as r.graph (prepare r.graph b e)) (v : s.ready ≡ true) (apart : same_side d e ≡ false) where
+    (h : r ≡ prepared_as m (prepare m a d)) {u : ℕ × ℕ} (t : r.end ≡ Some u) (k : s ≡ prepared_as r.graph (prepare r.graph b e)) {w : ℕ × ℕ} (v : s.end ≡ Some w) (apart : same_side d e ≡ false) where
   middle : OnBlock r.graph b e
   middle = others_stay both.first r h t b e both.second
 
-  second_ready_lem : ReadyEnd s.graph e s.port
-  second_ready_lem = ready_end middle.wf b middle.node e middle.is s.graph s.port s.offset (is_ready r.graph (prepare r.graph b e) s k v)
+  second_ready_lem : ReadyEnd s.graph e w.0
+  second_ready_lem = ready_end middle.wf b middle.node e middle.is s.graph w.0 w.1 (is_ready r.graph (prepare r.graph b e) s k v)
 
   sides_apart : (d e : Direction) → same_side d e ≡ false → d ≡ e → ⊥
   sides_apart Incoming Incoming p q = zero_is_not_one (cc)
@@ -567,22 +567,22 @@ module _ {m : MultiPortGraph} {a b : ℕ} {d e : Direction} (both : BothOnBlock 
   sides_apart Outgoing Incoming p q = zero_is_not_one (cc)
   sides_apart Outgoing Outgoing p q = zero_is_not_one (cc)
 
-  first_ready_lem : ReadyEnd s.graph d r.port
+  first_ready_lem : ReadyEnd s.graph d u.0
   first_ready_lem =
-      let one = prepared both.first.wf a both.first.node d both.first.is r.graph r.port r.offset (is_ready m (prepare m a d) r h t) in
+      let one = prepared both.first.wf a both.first.node d both.first.is r.graph u.0 u.1 (is_ready m (prepare m a d) r h t) in
       let z = one.1 in
       let c = block both.first.wf a both.first.node d both.first.is in
       let x = block_seen z.fine b middle.node e middle.is in
-      let two = prepare_law z.fine x.place x.is_seen s.graph s.port s.offset
+      let two = prepare_law z.fine x.place x.is_seen s.graph w.0 w.1
       ((λ i. prepare r.graph (x.slot i) (x.side i)) ∙ is_ready r.graph (prepare r.graph b e) s k v) in
       let side : z.z.side ≡ d = z.side ∙ c.side in
       let kept = two.1.keeps z.z z.end z.free (λ q. sides_apart d e apart (sym side ∙ (q ∙ x.side))) in
       end_ready two.1.fine z.z kept.end.valid kept.free (kept.slot ∙ z.slot) side
 
-  pub both_joined : {l : List ℕ} → l ≡ link_both s.graph.graph.port_link r.port s.port →
+  pub both_joined : {l : List ℕ} → l ≡ link_both s.graph.graph.port_link u.0 w.0 →
       ◌≡◌ {A = PortsLinked}
       (record {
         graph = with_graph s.graph (with_links s.graph.graph l (s.graph.graph.link_count + 1));
-        answer = Ok (subport# a r.offset, subport# b s.offset);
+        answer = Ok (subport# a u.1, subport# b w.1);
       }) (cases.link_live m a d b e (prepare m a d))
-  both_joined q = both_linked_lem m a d b e r h t s k _ v apart (ready_joined d e r.port s.port first_ready_lem second_ready_lem apart q)
+  both_joined q = both_linked_lem m a d b e r h t s k _ v apart (ready_joined d e u.0 w.0 first_ready_lem second_ready_lem apart q)

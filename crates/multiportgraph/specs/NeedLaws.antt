@@ -42,12 +42,11 @@ use Rattle.multiportgraph.specs.LinkSteps.{others_stay}
 use Rattle.multi_tables.specs.TableReads.{far_in, owner_in}
 use Rattle.multiportgraph.specs.TableReadLaws.{mark_told, owner_read}
 use Rattle.multiportgraph.specs.NamedLaws.{has_link_lem}
-use Rattle.multiportgraph.specs.MultiLent.{multi_in}
+use Rattle.multiportgraph.specs.MultiLent.{Totals, multi_in}
 use Rattle.multiportgraph.specs.Needs.{copy_need, need_of, prepared_for, side_slot, copy_need_in, need_in, GrowsFew, takes_nothing, takes_of, next_free, nodes_left, head_left, ports_left, room_for}
 use Rattle.multiportgraph.specs.declared.multiportgraph.MultiPortGraph.{MultiPortGraph}
 use Rattle.multi_tables.specs.declared.answers.Refusal.TheVariants.{NoRoom}
 use Rattle.multiportgraph.specs.declared.prepare.Prepared.{Prepared}
-use Rattle.multiportgraph.specs.declared.lent.Totals.{Totals}
 use Rattle.multiportgraph.specs.declared.lent.Need.{Need}
 use Rattle.multiportgraph.specs.declared.lent.Need.TheVariants as need
 use Rattle.multiportgraph.specs.declared.lent.Takes.{Takes}
@@ -541,7 +540,7 @@ module _ (nodes links owners heads : List ℕ) (marks flags : List Bool) (totals
   -- the second end, after the first
   module _ (m₁ : MultiPortGraph) (x o : ℕ) (q : prepare m a d ≡ hiding.ready m₁ x o) where
     pub second_still : OnBlock m₁ b e
-    second_still = others_stay w.first (record { graph = m₁; port = x; offset = o; ready = true }) (ap (prepared_as m) (sym q)) refl b e w.second
+    second_still = others_stay w.first (record { graph = m₁; end = Some (x, o) }) (ap (prepared_as m) (sym q)) refl b e w.second
 
     second_works : prepare_works m₁ b e ≡ need_works (need_of m b e)
     second_works = works_need second_still ∙ ap need_works (need_stays w.first m₁ x o q w.second apart)

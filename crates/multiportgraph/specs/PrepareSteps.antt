@@ -110,11 +110,11 @@ module _ (m : MultiPortGraph) (p : ℕ) (d : Direction) {i o : ℕ} {r : NodeAdd
   added_is = rw (e₃, e₁, e₂)
 
   pub split_full : (tag : Result (NodeIndex × PortIndex) AddError → ℕ) → ((n : NodeIndex) (f : PortIndex) → tag (Ok (n, f)) ≡ 0) → (tag r.answer ≡ 1) ⊎ (tag r.answer ≡ 2) →
-      ◌≡◌ {A = Prepared} (record { graph = m; port = 0; offset = 0; ready = false }) (prepared_as m (split m p d))
+      ◌≡◌ {A = Prepared} (record { graph = m; end = None }) (prepared_as m (split m p d))
   unfolding split_under
   split_full tag zeroth z = go r.answer z ∙ (λ j. prepared_as m (split_by m p d (added_is j).graph (added_is j).answer))
     where
-      go : (a : Result (NodeIndex × PortIndex) AddError) → (tag a ≡ 1) ⊎ (tag a ≡ 2) → ◌≡◌ {A = Prepared} (record { graph = m; port = 0; offset = 0; ready = false }) (prepared_as m (split_by m p d r.graph a))
+      go : (a : Result (NodeIndex × PortIndex) AddError) → (tag a ≡ 1) ⊎ (tag a ≡ 2) → ◌≡◌ {A = Prepared} (record { graph = m; end = None }) (prepared_as m (split_by m p d r.graph a))
       go (Ok (n, f)) (inl t) = let k = zeroth n f in absurd (omega arith)
       go (Ok (n, f)) (inr t) = let k = zeroth n f in absurd (omega arith)
       go (Err add_error.TooManyPorts) t = refl

@@ -1,7 +1,7 @@
 -- What the steps of the starts of walks amount to, over plain values.
 use Rattle.std.specs.Prelude.{◌≡◌, Bool, false, ℕ, length, List, Result, Ok, Err}
 use Rattle.std.proofs.Math.Path.{refl, ap}
-use Rattle.std.proofs.Common.{sym, ◌∙◌, true≢false, arith}
+use Rattle.std.proofs.Common.{sym, ◌∙◌, true≢false}
 use Rattle.std.proofs.Math.Bool.{true, cond}
 use Rattle.std.proofs.lemmas.Bool.{false≢true}
 use Rattle.std.specs.Result.{is_ok}
@@ -13,6 +13,7 @@ use Rattle.multiportgraph.specs.Reading.{is_hidden, seen_entry, seen}
 use Rattle.multi_tables.specs.Forms.{Port, dead, hidden, visible, flag_at}
 use Rattle.multi_tables.specs.FormSteps.{flag_is}
 use Rattle.multi_tables.specs.NamedEnds.{block_or, block_port}
+use Rattle.multi_tables.specs.NamedEndSteps as tables
 use Rattle.multi_tables.specs.NamedEndSteps.{block_seen, block_refused, block_found}
 use Rattle.multi_tables.specs.TableReads.{seen_owner, seen_in}
 use Rattle.port_tables.specs.Entries.{port#}
@@ -31,12 +32,6 @@ seen_is_ok p (visible n d) = refl
 -- a port that is not refused is seen
 pub port_is_ok : (owners : List ℕ) (flags : List Bool) (p : ℕ) → is_ok (block_port owners flags p) ≡ is_seen (seen_in owners flags p)
 port_is_ok owners flags p = ap is_ok (sym (block_seen owners flags p (seen_in owners flags p) refl)) ∙ seen_is_ok p (seen_in owners flags p)
-
--- what is the same of a port that is not live and of a hidden one is so of a refused one
-unseen_as : (p : ℕ) {A : Type 0} (f : Port → A) (z : A) (s : Port) (r : Refusal) → f dead ≡ z → f hidden ≡ z → block_or p s ≡ Err r → f s ≡ z
-unseen_as p f z dead r g h e = g
-unseen_as p f z hidden r g h e = h
-unseen_as p f z (visible n d) r g h e = let k : ◌≡◌ {A = ℕ} 0 1 = cc in absurd (omega arith)
 
 module _ (m : MultiPortGraph) where
   owner_by : (e : PortEntry) → length m.copy_node ≡ node_slots → seen_owner m.copy_node e ≡ seen_entry m e
@@ -63,7 +58,7 @@ module _ (m : MultiPortGraph) where
     block_is_seen = port_is_ok m.graph.port_meta m.copy_node p ∙ ap is_seen (seen_read p long)
 
     pub block_unseen : {A : Type 0} (f : Port → A) (z : A) (r : Refusal) → f dead ≡ z → f hidden ≡ z → block_port m.graph.port_meta m.copy_node p ≡ Err r → f (seen m p) ≡ z
-    block_unseen f z r g h e = unseen_as p f z (seen m p) r g h (block_seen m.graph.port_meta m.copy_node p (seen m p) (seen_read p long) ∙ e)
+    block_unseen f z r g h e = ap f (sym (seen_read p long)) ∙ tables.block_unseen m.graph.port_meta m.copy_node p f z r g h e
 
   pub start_port : (p : ℕ) (s : Port) → seen m p ≡ s → start_seen p s ≡ start_at_port m p
   unfolding start_at_port

@@ -1,7 +1,7 @@
 -- Steps of a split and of one more subport, made in the tables.
 use Rattle.std.proofs.Math.Path.{◌≡◌, refl, sym, ap, transport}
 use Rattle.std.proofs.Common.{◌∙◌, inl, inr, arith}
-use Rattle.std.specs.Prelude.{Bool, List, ◌⊎◌, ℕ, ◌+◌, ◌-◌, Result, Ok, Err}
+use Rattle.std.specs.Prelude.{Bool, List, ◌⊎◌, ℕ, ◌+◌, ◌-◌, Some, None, Result, Ok, Err}
 use Rattle.std.proofs.Math.Bool.{true, false}
 use Rattle.std.proofs.Math.ListN.{set}
 use Rattle.port_tables.specs.Limits.{node_slots, port_slots}
@@ -13,6 +13,7 @@ use Rattle.portgraph.specs.Resize.{set_num_ports}
 use Rattle.portgraph.specs.Model.{Far, nowhere, to}
 use Rattle.portgraph.specs.PlaceLaws.{link_none}
 use Rattle.port_tables.specs.declared.direction.Direction.{Direction}
+use Rattle.port_tables.specs.declared.direction.Direction.TheVariants.{Incoming, Outgoing}
 use Rattle.port_tables.specs.declared.index.NodeIndex.{NodeIndex}
 use Rattle.port_tables.specs.declared.index.PortIndex.{PortIndex}
 use Rattle.portgraph.specs.declared.portgraph.PortGraph.{PortGraph}
@@ -35,6 +36,7 @@ use Rattle.multiportgraph.specs.GrowLaws.{GrowTables, grow_tables, grown_counts}
 use Rattle.multiportgraph.specs.declared.multiportgraph.MultiPortGraph.{MultiPortGraph}
 use Rattle.multiportgraph.specs.declared.prepare.Prepared.{Prepared}
 use Rattle.multiportgraph.specs.HiddenNodes.{copy_incoming, copy_outgoing, split_graph, split_port, split_by, split, recounted, more, enough, grown_by, grow, split_under, grow_under}
+use Rattle.multiportgraph.specs.Tidy.{left_incoming, left_outgoing}
 use Rattle.multiportgraph.specs.Presumed.{LinkedPort, SplitPort}
 use Rattle.portgraph.specs.declared.resize.SetError.{SetError}
 use Rattle.portgraph.specs.declared.resize.SetError.TheVariants as set_error
@@ -84,9 +86,7 @@ module _ {m : MultiPortGraph} {p : ℕ} {d : Direction} (b : LinkedPort m p d) {
         t₃ ≡ put_flag m.copy_node node_slots w₃ true →
         ◌≡◌ {A = Prepared} (record {
           graph = multi g t₂ t₃ (m.copy_node_count + 1) (m.subport_count + 2) m.release;
-          port = old + 1;
-          offset = 1;
-          ready = true;
+          end = Some (old + 1, 1);
         }) (prepared_as m (split m p d))
     unfolding split_under split_port
     split_made {g} {w₁} {w₂} {w₃} {t₁} {t₂} {t₃} graph_is k₁ k₂ k₃ k₄ k₅ k₆ =
@@ -96,9 +96,7 @@ module _ {m : MultiPortGraph} {p : ℕ} {d : Direction} (b : LinkedPort m p d) {
         let flags_is : t₃ ≡ set m.copy_node n.0 true = rw (k₆, k₅) (put_flag_is m.copy_node node_slots n.0 true w.flags_long) in
         (λ j. record {
           graph = multi (graph_is j) (marks_is j) (flags_is j) (m.copy_node_count + 1) (m.subport_count + 2) m.release;
-          port = new_is j;
-          offset = 1;
-          ready = true;
+          end = Some (new_is j, 1);
         })
         ∙ ((λ j. prepared_as m (split_by m p d r.graph (sym a j))) ∙ (λ j. prepared_as m (split_by m p d (added_is j).graph (added_is j).answer)))
 
@@ -118,9 +116,7 @@ module _ {m : MultiPortGraph} {p : ℕ} {d : Direction} (b : LinkedPort m p d) {
         t₃ ≡ put_flag m.copy_node node_slots w₃ true →
         ◌≡◌ {A = Prepared} (record {
           graph = multi l₂.graph t₂ t₃ (m.copy_node_count + 1) (m.subport_count + 2) m.release;
-          port = old + 1;
-          offset = 1;
-          ready = true;
+          end = Some (old + 1, 1);
         }) (prepared_as m (split m p d))
     unfolding split_graph
     split_called {u = u} {l₁ = l₁} {l₂ = l₂} e₄ e₅ e₆ e₇ e₈ =
@@ -143,9 +139,7 @@ module _ {m : MultiPortGraph} {p : ℕ} {d : Direction} (b : LinkedPort m p d) {
         t₃ ≡ put_flag m.copy_node node_slots w₃ true →
         ◌≡◌ {A = Prepared} (record {
           graph = multi (with_links r.graph t (left + 2)) t₂ t₃ (m.copy_node_count + 1) (m.subport_count + 2) m.release;
-          port = old + 1;
-          offset = 1;
-          ready = true;
+          end = Some (old + 1, 1);
         }) (prepared_as m (split m p d))
     split_done {held} {left} {t = t} c₅ c₆ c₇ =
         split_made (rw (c₆, c₇, c₅, c₂, c₁, c₄, c₃) (sym split_told.graph))
@@ -173,6 +167,11 @@ growing_read {m} {p} {d} b e₁ e₂ e₃ e₄ =
       count_is = e₄ ∙ subports_read b.block.wf.fine p b.block.node d b.block.is b.split;
     }
 
+-- the counts with one more subport
+pub counts_grown : (d : Direction) (n : ℕ) {r : ℕ × ℕ} → r ≡ (left_incoming d (n + 1), left_outgoing d (n + 1)) → (r.0 ≡ grown_incoming d n) × (r.1 ≡ grown_outgoing d n)
+counts_grown Incoming n e = (ap (λ (x : ℕ × ℕ). x.0) e, ap (λ (x : ℕ × ℕ). x.1) e)
+counts_grown Outgoing n e = (ap (λ (x : ℕ × ℕ). x.0) e, ap (λ (x : ℕ × ℕ). x.1) e)
+
 module _ {m : MultiPortGraph} {p : ℕ} {d : Direction} {copy node count : ℕ} (s : Growing m p d copy node count) where
   module _ {i o len : ℕ} {r : PortsSet} (f₁ : i ≡ grown_incoming d count) (f₂ : o ≡ grown_outgoing d count) (f₃ : len ≡ enough) (f₄ : r ≡ set_num_ports m.graph node i o len) where
     set_is : r ≡ growth# m (copy_node m p) d
@@ -181,12 +180,12 @@ module _ {m : MultiPortGraph} {p : ℕ} {d : Direction} {copy node count : ℕ} 
         f₄ ∙ (λ j. set_num_ports m.graph (s.node_is j) ((f₁ ∙ g.0) j) ((f₂ ∙ g.1) j) (f₃ j))
 
     pub grow_full : (tag : Result ℕ SetError → ℕ) → ((e : ℕ) → tag (Ok e) ≡ 0) → (tag r.answer ≡ 1) ⊎ ((tag r.answer ≡ 2) ⊎ ((tag r.answer ≡ 3) ⊎ (tag r.answer ≡ 4))) →
-        ◌≡◌ {A = Prepared} (record { graph = m; port = 0; offset = 0; ready = false }) (prepared_as m (grow m (copy_node m p) d))
+        ◌≡◌ {A = Prepared} (record { graph = m; end = None }) (prepared_as m (grow m (copy_node m p) d))
     unfolding grow_under
     grow_full tag zeroth z = go r.answer z ∙ (λ j. prepared_as m (grown_by m (copy_node m p) d (set_is j).graph (set_is j).answer))
       where
         go : (x : Result ℕ SetError) → (tag x ≡ 1) ⊎ ((tag x ≡ 2) ⊎ ((tag x ≡ 3) ⊎ (tag x ≡ 4))) →
-            ◌≡◌ {A = Prepared} (record { graph = m; port = 0; offset = 0; ready = false }) (prepared_as m (grown_by m (copy_node m p) d r.graph x))
+            ◌≡◌ {A = Prepared} (record { graph = m; end = None }) (prepared_as m (grown_by m (copy_node m p) d r.graph x))
         go (Ok e) (inl t) = let k = zeroth e in absurd (omega arith)
         go (Ok e) (inr (inl t)) = let k = zeroth e in absurd (omega arith)
         go (Ok e) (inr (inr (inl t))) = let k = zeroth e in absurd (omega arith)
@@ -212,9 +211,7 @@ module _ {m : MultiPortGraph} {p : ℕ} {d : Direction} {copy node count : ℕ} 
           q ≡ port_of r.graph (copy_node m p) d count →
           ◌≡◌ {A = Prepared} (record {
             graph = multi r.graph t₂ m.copy_node m.copy_node_count (m.subport_count + 1) m.release;
-            port = q;
-            offset = count;
-            ready = true;
+            end = Some (q, count);
           }) (prepared_as m (grow m (copy_node m p) d))
       unfolding grow_under recounted
       grow_done {far} {q} {w₁} {w₂} {w₃} {t₁} {t₂} k₁ k₂ k₃ k₄ k₅ k₆ k₇ =
@@ -223,9 +220,7 @@ module _ {m : MultiPortGraph} {p : ℕ} {d : Direction} {copy node count : ℕ} 
           let marks_is : t₂ ≡ (recounted m (copy_node m p) r.graph).multiport = rw (k₆, k₄, k₅, k₃, far_is, s.copy_is) (two_puts m.multiport port_slots _ _ false true s.port.block.wf.fine.marks_long ∙ sym g.marks) in
           (λ j. record {
             graph = multi r.graph (marks_is j) m.copy_node m.copy_node_count (m.subport_count + 1) m.release;
-            port = k₇ j;
-            offset = count;
-            ready = true;
+            end = Some (k₇ j, count);
           })
-          ∙ ((λ j. record { graph = more (recounted m (copy_node m p) r.graph); port = port_of r.graph (copy_node m p) d (s.count_is j); offset = s.count_is j; ready = true })
+          ∙ ((λ j. record { graph = more (recounted m (copy_node m p) r.graph); end = Some (port_of r.graph (copy_node m p) d (s.count_is j), s.count_is j) })
           ∙ ((λ j. prepared_as m (grown_by m (copy_node m p) d r.graph (sym a j))) ∙ (λ j. prepared_as m (grown_by m (copy_node m p) d (set_is j).graph (set_is j).answer))))

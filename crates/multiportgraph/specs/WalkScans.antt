@@ -54,13 +54,6 @@ block_slot e h = cond h false (is_node e)
 unfoldable pub ports_in : List ℕ → List Bool → ℕ → ℕ → List ℕ
 ports_in owners flags from end = filter (λ p. is_seen (seen_in owners flags p)) (range from (end - from))
 
--- the first and the last of a list of numbers, or a given number
-abbrev pub first_or : ℕ → List ℕ → ℕ
-first_or d l = on_first d (λ x. x) l
-
-abbrev pub last_or : ℕ → List ℕ → ℕ
-last_or d l = on_last d (λ x. x) l
-
 -- Subports.
 
 unfoldable pub first_subport : List SubportIndex → Option SubportIndex

@@ -1,13 +1,13 @@
 -- Steps of the walks over blocks, ports and a block's ports, over plain values.
 use Rattle.std.specs.Prelude.{◌≡◌, Bool, eqb, leb, get_or, length, Option, Some, None, Ok, Err}
 use Rattle.std.proofs.Math.Path.{refl, sym, ap}
-use Rattle.std.proofs.Common.{◌∙◌, inl, inr, eq-eqb, ne_eqb}
+use Rattle.std.proofs.Common.{◌∙◌, eq-eqb, ne_eqb}
 use Rattle.std.proofs.Math.Bool.{true, false, cond}
 use mathlib.Core.List.{List, [], ◌∷◌, ◌++◌, append-nil}
 use Prim.Native.Nat.{ℕ, suc, ◌+◌, ◌-◌, ◌≤◌, ◌<◌, max}
 use native.Mathlib.Omega.{arith}
 use Rattle.port_tables.specs.Limits.{node_slots, port_slots}
-use Rattle.port_tables.specs.Lists.{range, filter, on_first, on_last, Member}
+use Rattle.port_tables.specs.Lists.{range, filter, on_first, on_last}
 use Rattle.port_tables.specs.Entries.{fresh_slot, is_node, node#, port#, meta_of_entry, ports_from, ports_to}
 use Rattle.portgraph.specs.Lookups.{entry_at, is_some}
 use Rattle.port_tables.specs.declared.node_entry.NodeMeta.{NodeMeta}
@@ -23,10 +23,10 @@ use Rattle.multi_tables.specs.TableReads.{seen_in}
 use Rattle.multiportgraph.specs.TableReadLaws.{seen_read}
 use Rattle.multiportgraph.specs.Wires.{is_block, blocks}
 use Rattle.multiportgraph.specs.Walks.{is_seen, held_seen, both_seen, between, node_held, blocks_left, step_nodes, step_nodes_back, all_ports, ports_left, step_all_ports, step_all_ports_back, ports_of_node, step_node_ports}
-use Rattle.port_tables.specs.Listing.{member_filter, member_range, filter_append, filter_same}
+use Rattle.port_tables.specs.Listing.{filter_append, filter_same}
 use Rattle.multiportgraph.specs.ScanLaws.{range_append, filter_swap, range_between, block_not_hidden, block_ports_rest, row_fits}
 use Rattle.multiportgraph.specs.LookupSteps.{block_at, meta_is}
-use Rattle.multiportgraph.specs.WalkScans.{held_in, block_slot, ports_in, first_or, last_or}
+use Rattle.multiportgraph.specs.WalkScans.{held_in, block_slot, ports_in}
 use Rattle.multiportgraph.specs.declared.multiportgraph.MultiPortGraph.{MultiPortGraph}
 use Rattle.multi_tables.specs.declared.answers.Refusal.{Refusal}
 use Rattle.multiportgraph.specs.declared.iter.Nodes.{Nodes}
@@ -221,74 +221,65 @@ module _ (owners : List ℕ) (flags : List Bool) (from end : ℕ) where
   is_port_in p = is_seen (seen_in owners flags p)
 
   module _ (p : ℕ) (inv : ports_in owners flags p end ≡ ports_in owners flags from end) (r : Bool) (e : r ≡ held_in owners flags (p + 1)) where
-    pub port_found : p < end → r ≡ true → p ≡ first_or port_slots (ports_in owners flags from end)
+    pub port_found : p < end → r ≡ true → ◌≡◌ {A = Option ℕ} (Some p) (on_first None Some (ports_in owners flags from end))
     unfolding ports_in
     port_found h g =
-        sym (search_found is_port_in p end port_slots (λ x. x) h (sym (held_next owners flags p) ∙ sym e ∙ g)) ∙ ap (first_or port_slots) inv
+        sym (search_found is_port_in p end None Some h (sym (held_next owners flags p) ∙ sym e ∙ g)) ∙ ap (on_first None Some) inv
 
     pub port_turn : p < end → r ≡ false → ports_in owners flags (p + 1) end ≡ ports_in owners flags from end
     unfolding ports_in
     port_turn h g = search_turn is_port_in p end h (sym (held_next owners flags p) ∙ sym e ∙ g) ∙ inv
 
-  pub port_none : (p : ℕ) → ports_in owners flags p end ≡ ports_in owners flags from end → end ≤ p → port_slots ≡ first_or port_slots (ports_in owners flags from end)
+  pub port_none : (p : ℕ) → ports_in owners flags p end ≡ ports_in owners flags from end → end ≤ p → ◌≡◌ {A = Option ℕ} None (on_first None Some (ports_in owners flags from end))
   unfolding ports_in on_first
-  port_none p inv h = ap (first_or port_slots) (sym (search_done is_port_in p end h) ∙ inv)
+  port_none p inv h = ap (on_first None Some) (sym (search_done is_port_in p end h) ∙ inv)
 
   module _ (stop : ℕ) (inv : ports_in owners flags from stop ≡ ports_in owners flags from end) where
     module _ (r : Bool) (e : r ≡ held_in owners flags (stop - 1 + 1)) (h : from < stop) where
-      pub last_port_found : r ≡ true → stop - 1 ≡ last_or port_slots (ports_in owners flags from end)
+      pub last_port_found : r ≡ true → ◌≡◌ {A = Option ℕ} (Some (stop - 1)) (on_last None Some (ports_in owners flags from end))
       unfolding ports_in
       last_port_found g =
-          sym (back_found is_port_in from stop h port_slots (λ x. x) (sym (held_next owners flags (stop - 1)) ∙ sym e ∙ g)) ∙ ap (last_or port_slots) inv
+          sym (back_found is_port_in from stop h None Some (sym (held_next owners flags (stop - 1)) ∙ sym e ∙ g)) ∙ ap (on_last None Some) inv
 
       pub last_port_turn : r ≡ false → ports_in owners flags from (stop - 1) ≡ ports_in owners flags from end
       unfolding ports_in
       last_port_turn g = back_turn is_port_in from stop h (sym (held_next owners flags (stop - 1)) ∙ sym e ∙ g) ∙ inv
 
-    pub last_port_none : stop ≤ from → port_slots ≡ last_or port_slots (ports_in owners flags from end)
+    pub last_port_none : stop ≤ from → ◌≡◌ {A = Option ℕ} None (on_last None Some (ports_in owners flags from end))
     unfolding ports_in on_last
-    last_port_none h = ap (last_or port_slots) (sym (search_done is_port_in from stop h) ∙ inv)
+    last_port_none h = ap (on_last None Some) (sym (search_done is_port_in from stop h) ∙ inv)
 
--- the first and the last of a list whose numbers are below a bound, told by the bound itself where there is none
-Below : ℕ → List ℕ → Type 0
-Below k l = (x : ℕ) → Member x l → x < k
-
-module _ {B : Type 0} (x : B) (f : ℕ → B) (k : ℕ) where
-  first_by : (l : List ℕ) (p : ℕ) → p ≡ first_or k l → p < k → f p ≡ on_first x f l
+-- what is made of the first and of the last of a list, by whether there is one
+module _ {B : Type 0} (x : B) (f : ℕ → B) where
+  first_by : (l : List ℕ) (p : ℕ) → ◌≡◌ {A = Option ℕ} (Some p) (on_first None Some l) → f p ≡ on_first x f l
   unfolding on_first
-  first_by [] p e h = absurd (omega arith)
-  first_by (y ∷ l) p e h = ap f e
+  first_by [] p e = let z : ◌≡◌ {A = ℕ} 0 1 = cc in absurd (omega arith)
+  first_by (y ∷ l) p e = let g : p ≡ y = cc in ap f g
 
-  first_lacks : (l : List ℕ) (p : ℕ) → Below k l → p ≡ first_or k l → k ≤ p → x ≡ on_first x f l
-  unfolding on_first Below
-  first_lacks [] p b e h = refl
-  first_lacks (y ∷ l) p b e h = let a = b y (inl refl) in absurd (omega arith)
+  first_lacks : (l : List ℕ) → ◌≡◌ {A = Option ℕ} None (on_first None Some l) → x ≡ on_first x f l
+  unfolding on_first
+  first_lacks [] e = refl
+  first_lacks (y ∷ l) e = let z : ◌≡◌ {A = ℕ} 0 1 = cc in absurd (omega arith)
 
-  last_tied : (l : List ℕ) (y : ℕ) → on_last (f y) f l ≡ f (last_or y l)
+  last_after : (l : List ℕ) (y p : ℕ) → ◌≡◌ {A = Option ℕ} (Some p) (on_last (Some y) Some l) → f p ≡ on_last (f y) f l
   unfolding on_last
-  last_tied [] y = refl
-  last_tied (z ∷ l) y = last_tied l z
+  last_after [] y p e = let g : p ≡ y = cc in ap f g
+  last_after (z ∷ l) y p e = last_after l z p e
 
-  last_below : (l : List ℕ) (y : ℕ) → y < k → Below k l → last_or y l < k
-  unfolding on_last Below
-  last_below [] y h b = h
-  last_below (z ∷ l) y h b = last_below l z (b z (inl refl)) (λ v i. b v (inr i))
-
-  last_by : (l : List ℕ) (p : ℕ) → p ≡ last_or k l → p < k → f p ≡ on_last x f l
+  last_there : (l : List ℕ) (y : ℕ) → ◌≡◌ {A = Option ℕ} None (on_last (Some y) Some l) → ⊥
   unfolding on_last
-  last_by [] p e h = absurd (omega arith)
-  last_by (y ∷ l) p e h = ap f e ∙ sym (last_tied l y)
+  last_there [] y e = let z : ◌≡◌ {A = ℕ} 0 1 = cc in omega arith
+  last_there (z ∷ l) y e = last_there l z e
 
-  last_lacks : (l : List ℕ) (p : ℕ) → Below k l → p ≡ last_or k l → k ≤ p → x ≡ on_last x f l
-  unfolding on_last Below
-  last_lacks [] p b e h = refl
-  last_lacks (y ∷ l) p b e h = let a = last_below l y (b y (inl refl)) (λ v i. b v (inr i)) in absurd (omega arith)
+  last_by : (l : List ℕ) (p : ℕ) → ◌≡◌ {A = Option ℕ} (Some p) (on_last None Some l) → f p ≡ on_last x f l
+  unfolding on_last
+  last_by [] p e = let z : ◌≡◌ {A = ℕ} 0 1 = cc in absurd (omega arith)
+  last_by (y ∷ l) p e = last_after l y p e
 
-ports_below : (owners : List ℕ) (flags : List Bool) (from end : ℕ) → end ≤ port_slots → Below port_slots (ports_in owners flags from end)
-unfolding Below ports_in
-ports_below owners flags from end h x i =
-    let r = member_range x from (end - from) (member_filter (λ p. is_seen (seen_in owners flags p)) x (range from (end - from)) i).0 in
-    omega arith
+  last_lacks : (l : List ℕ) → ◌≡◌ {A = Option ℕ} None (on_last None Some l) → x ≡ on_last x f l
+  unfolding on_last
+  last_lacks [] e = refl
+  last_lacks (y ∷ l) e = absurd (last_there l y e)
 
 module _ (m : MultiPortGraph) (w : MultiWf m) (c : Ports) where
   module _ (a : Bool) (ea : a ≡ held_in m.graph.port_meta m.copy_node c.front) where
@@ -315,7 +306,7 @@ module _ (m : MultiPortGraph) (w : MultiWf m) (c : Ports) where
       unfolding step_all_ports_back ports_left on_last
       ports_back_back_gone h = rw (front_is true ha, back_is false h)
 
-      module _ (hb : b ≡ true) (front end : ℕ) (ef : front ≡ c.front) (ee : end ≡ end_before c.back port_slots) (le : end ≤ port_slots) where
+      module _ (hb : b ≡ true) (front end : ℕ) (ef : front ≡ c.front) (ee : end ≡ end_before c.back port_slots) where
         abbrev scanned : List ℕ
         scanned = ports_in m.graph.port_meta m.copy_node front end
 
@@ -327,32 +318,32 @@ module _ (m : MultiPortGraph) (w : MultiWf m) (c : Ports) where
             ∙ ap (λ (x : ℕ). filter (λ p. is_seen (seen m p)) (range c.front (x - c.front))) ee
             ∙ rw (front_is true ha, back_is true hb) (sym (left_between (λ p. is_seen (seen m p)) c.front c.back port_slots))
 
-        pub ports_item_lem : (p : ℕ) → p ≡ first_or port_slots scanned → p < port_slots → Some (port# p, record { front = p + 1; back = c.back }) ≡ step_all_ports m c
+        pub ports_item_lem : (p : ℕ) → ◌≡◌ {A = Option ℕ} (Some p) (on_first None Some scanned) → Some (port# p, record { front = p + 1; back = c.back }) ≡ step_all_ports m c
         unfolding step_all_ports
-        ports_item_lem p e h =
+        ports_item_lem p e =
             let one : p + 1 ≡ suc p = omega arith in
             ap (λ (x : ℕ). Some (port# p, record { front = x; back = c.back })) one
-            ∙ first_by None (λ x. Some (port# x, record { front = suc x; back = c.back })) port_slots scanned p e h
+            ∙ first_by None (λ x. Some (port# x, record { front = suc x; back = c.back })) scanned p e
             ∙ ap (on_first None (λ x. Some (port# x, record { front = suc x; back = c.back }))) ports_left_lem
 
-        pub ports_none : (p : ℕ) → p ≡ first_or port_slots scanned → port_slots ≤ p → None ≡ step_all_ports m c
+        pub ports_none : ◌≡◌ {A = Option ℕ} None (on_first None Some scanned) → None ≡ step_all_ports m c
         unfolding step_all_ports
-        ports_none p e h =
-            first_lacks None (λ x. Some (port# x, record { front = suc x; back = c.back })) port_slots scanned p (ports_below _ _ front end le) e h
+        ports_none e =
+            first_lacks None (λ x. Some (port# x, record { front = suc x; back = c.back })) scanned e
             ∙ ap (on_first None (λ x. Some (port# x, record { front = suc x; back = c.back }))) ports_left_lem
 
-        pub ports_back_item : (p : ℕ) → p ≡ last_or port_slots scanned → p < port_slots → Some (port# p, record { front = c.front; back = p + 1 }) ≡ step_all_ports_back m c
+        pub ports_back_item : (p : ℕ) → ◌≡◌ {A = Option ℕ} (Some p) (on_last None Some scanned) → Some (port# p, record { front = c.front; back = p + 1 }) ≡ step_all_ports_back m c
         unfolding step_all_ports_back
-        ports_back_item p e h =
+        ports_back_item p e =
             let one : p + 1 ≡ suc p = omega arith in
             ap (λ (x : ℕ). Some (port# p, record { front = c.front; back = x })) one
-            ∙ last_by None (λ x. Some (port# x, record { front = c.front; back = suc x })) port_slots scanned p e h
+            ∙ last_by None (λ x. Some (port# x, record { front = c.front; back = suc x })) scanned p e
             ∙ ap (on_last None (λ x. Some (port# x, record { front = c.front; back = suc x }))) ports_left_lem
 
-        pub ports_back_none : (p : ℕ) → p ≡ last_or port_slots scanned → port_slots ≤ p → None ≡ step_all_ports_back m c
+        pub ports_back_none : ◌≡◌ {A = Option ℕ} None (on_last None Some scanned) → None ≡ step_all_ports_back m c
         unfolding step_all_ports_back
-        ports_back_none p e h =
-            last_lacks None (λ x. Some (port# x, record { front = c.front; back = suc x })) port_slots scanned p (ports_below _ _ front end le) e h
+        ports_back_none e =
+            last_lacks None (λ x. Some (port# x, record { front = c.front; back = suc x })) scanned e
             ∙ ap (on_last None (λ x. Some (port# x, record { front = c.front; back = suc x }))) ports_left_lem
 
 -- Ports of a block.

@@ -1,5 +1,5 @@
 // Removing blocks, and changing their counts.
-ghost use Rattle.std.specs.Prelude.{◌≡◌, cond, leb, ◌+◌, ◌≤◌, length, take, Ok, Err};
+ghost use Rattle.std.specs.Prelude.{◌≡◌, cond, leb, ◌+◌, ◌≤◌, length, Ok, Err};
 ghost use Rattle.std.proofs.lemmas.List.Edits.{sets};
 ghost use Rattle.port_tables.specs.Limits.{port_slots, node_ports};
 ghost use Rattle.portgraph.specs.Model.{Wf};
@@ -21,18 +21,21 @@ use port_tables::numbers::wide;
 use portgraph::portgraph::PortGraph;
 use portgraph::resize::SetError;
 
-// A block that is to have so many ports, or why that is refused.
-fn within(
-    found: Result<NodeMeta, Refusal>,
+// How many ports a block is to have on each side.
+#[derive(Clone, Copy)]
+struct SideCounts {
     incoming: usize,
     outgoing: usize,
-) -> Result<NodeMeta, Refusal>
-    ensures { result ≡ cond (leb (incoming + outgoing) node_ports) found (Err TooManyPorts) }
+}
+
+// A block that is to have so many ports, or why that is refused.
+fn within(found: Result<NodeMeta, Refusal>, counts: SideCounts) -> Result<NodeMeta, Refusal>
+    ensures { result ≡ cond (leb (counts.incoming + counts.outgoing) node_ports) found (Err TooManyPorts) }
 {
-    if NODE_PORTS < incoming {
+    if NODE_PORTS < counts.incoming {
         return Err(Refusal::TooManyPorts);
     }
-    if NODE_PORTS - incoming < outgoing {
+    if NODE_PORTS - counts.incoming < counts.outgoing {
         return Err(Refusal::TooManyPorts);
     }
     found
@@ -118,13 +121,13 @@ impl MultiPortGraph {
         place
     }
 
-    // The first `count` hidden nodes of a list go, in order; the ports that they hung on are gone already.
-    fn remove_all(self, list: &[u32; NODE_PORTS], count: usize) -> MultiPortGraph
-        requires { Wf self.graph × (count ≤ node_ports) × (length list.now ≡ node_ports) }
-        ensures { result ≡ remove_all self (take count list.now) }
+    // The hidden nodes of a list go, in order; the ports that they hung on are gone already.
+    fn remove_all(self, list: &[u32]) -> MultiPortGraph
+        requires { Wf self.graph }
+        ensures { result ≡ remove_all self list.now }
     {
         let mut graph = self;
-        for node in &list[..count] {
+        for node in list {
             graph = graph.remove_lone(*node);
         }
         graph
@@ -153,9 +156,13 @@ impl MultiPortGraph {
             × (moves.new ≡ moves_told self node.0 incoming outgoing moves.old)
             × (set_numbers result.answer ≡ set_numbers (set_counts self node.0 incoming outgoing (length moves.old)).answer) }
     {
-        match within(self.block(node), incoming, outgoing) {
+        let counts = SideCounts {
+            incoming: incoming,
+            outgoing: outgoing,
+        };
+        match within(self.block(node), counts) {
             Ok(meta) => {
-                return self.resize(node, meta, incoming, outgoing, moves);
+                return self.resize(node, meta, counts, moves);
             }
             Err(refusal) => {
                 return PortsSet {
@@ -171,15 +178,16 @@ impl MultiPortGraph {
         self,
         node: NodeIndex,
         meta: NodeMeta,
-        incoming: usize,
-        outgoing: usize,
+        counts: SideCounts,
         moves: &mut [u32],
     ) -> PortsSet
-        requires { MultiWf self × (incoming + outgoing ≤ node_ports) × (Ok meta ≡ block_found self node.0) }
-        ensures { (result ≡ set_counts self node.0 incoming outgoing (length moves.old))
-            × (moves.new ≡ moves_told self node.0 incoming outgoing moves.old) }
+        requires { MultiWf self × (counts.incoming + counts.outgoing ≤ node_ports) × (Ok meta ≡ block_found self node.0) }
+        ensures { (result ≡ set_counts self node.0 counts.incoming counts.outgoing (length moves.old))
+            × (moves.new ≡ moves_told self node.0 counts.incoming counts.outgoing moves.old) }
     {
-        let sized = self.graph.set_num_ports(node, incoming, outgoing, moves);
+        let sized = self
+            .graph
+            .set_num_ports(node, counts.incoming, counts.outgoing, moves);
         let lower = sized.answer;
         let answer = set_answer(lower);
         let Ok(_) = answer else {
@@ -189,7 +197,7 @@ impl MultiPortGraph {
             };
         };
         PortsSet {
-            graph: self.without_dropped(node, meta, incoming, outgoing, sized.graph),
+            graph: self.without_dropped(node, meta, counts, sized.graph),
             answer: answer,
         }
     }
@@ -199,17 +207,16 @@ impl MultiPortGraph {
         self,
         node: NodeIndex,
         meta: NodeMeta,
-        incoming: usize,
-        outgoing: usize,
+        counts: SideCounts,
         after: PortGraph,
     ) -> MultiPortGraph
         requires { Wf self.graph × Wf after × BlockFits meta }
-        ensures { result ≡ remove_all (recounted self node.0 after) (copies_dropped self meta incoming outgoing) }
+        ensures { result ≡ remove_all (recounted self node.0 after) (copies_dropped self meta counts.incoming counts.outgoing) }
     {
         let mut list = [0u32; NODE_PORTS];
-        let count = self.copies_dropped(&mut list, meta, incoming, outgoing);
+        let count = self.copies_dropped(&mut list, meta, counts);
         let loose = self.recounted(node.0, after);
-        loose.remove_all(&list, count)
+        loose.remove_all(&list[..count])
     }
 
     // Lists the hidden nodes of the ports that are dropped, in the order in which these are reported, and answers how many.
@@ -217,17 +224,16 @@ impl MultiPortGraph {
         self,
         list: &mut [u32; NODE_PORTS],
         meta: NodeMeta,
-        incoming: usize,
-        outgoing: usize,
+        counts: SideCounts,
     ) -> usize
         requires { BlockFits meta }
-        ensures { (result ≡ length (copies_dropped self meta incoming outgoing)) × (list.new ≡ sets list.old 0 (copies_dropped self meta incoming outgoing)) }
+        ensures { (result ≡ length (copies_dropped self meta counts.incoming counts.outgoing)) × (list.new ≡ sets list.old 0 (copies_dropped self meta counts.incoming counts.outgoing)) }
     {
         let first = wide(meta.first_port.0);
         let old_in = usize::from(meta.incoming);
         let old_out = usize::from(meta.outgoing);
-        let kept_in = old_in.min(incoming);
-        let kept_out = old_out.min(outgoing);
+        let kept_in = old_in.min(counts.incoming);
+        let kept_out = old_out.min(counts.outgoing);
         let middle = self.copies_in(list, 0, first + kept_in, old_in - kept_in);
         self.copies_in(list, middle, first + old_in + kept_out, old_out - kept_out)
     }

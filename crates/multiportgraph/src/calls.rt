@@ -11,10 +11,9 @@ ghost use Rattle.multiportgraph.specs.Answers.{add_numbers, link_numbers, cut_nu
 
 use crate::multiportgraph::{MultiPortGraph, NodeAdded, PortUnlinked, PortsLinked};
 use multi_tables::answers::{PortPlace, Refusal, SubportIndex};
-use multi_tables::inputs::link_named_under;
 use multi_tables::marks::marked;
-use multi_tables::named::{end_named, read_in};
-use multi_tables::reads::{place_in, plain_in, wire_in};
+use multi_tables::named::read_in;
+use multi_tables::reads::place_in;
 use port_tables::direction::Direction;
 use port_tables::index::{NODE_SLOTS, NodeIndex, PORT_SLOTS, PortIndex};
 use port_tables::numbers::wide;
@@ -104,13 +103,7 @@ impl MultiPortGraph {
     fn end_of(self, subport: SubportIndex) -> Result<u32, Refusal>
         ensures { result ≡ end_named self.multiport self.graph.port_link self.graph.port_meta self.copy_node subport.port.0 subport.subport_offset }
     {
-        end_named(
-            &self.multiport,
-            &self.graph.port_link,
-            &self.graph.port_meta,
-            &self.copy_node,
-            subport,
-        )
+        self.wire_tables().end_named(subport)
     }
 
     // What a subport is linked with, and where that stands.
@@ -122,12 +115,7 @@ impl MultiPortGraph {
         ensures { (result ≡ subport_link self subport.port.0 subport.subport_offset) × (cut_numbers result ≡ cut_numbers (subport_link self subport.port.0 subport.subport_offset)) }
     {
         let inner = self.end_of(subport)?;
-        wire_in(
-            &self.graph.port_link,
-            &self.graph.port_meta,
-            &self.copy_node,
-            inner,
-        )
+        self.wire_tables().wire_in(inner)
     }
 
     // The graph with the link of an inner port cut.
@@ -217,12 +205,7 @@ impl MultiPortGraph {
                 place,
             )));
         }
-        plain_in(
-            &self.graph.port_link,
-            &self.graph.port_meta,
-            &self.copy_node,
-            port.0,
-        )
+        self.wire_tables().plain_in(port.0)
     }
 
     // Links two subports, and answers both ends as read.
@@ -232,15 +215,7 @@ impl MultiPortGraph {
             × (link_numbers result.answer ≡ link_numbers (link_sub self from.port.0 from.subport_offset to.port.0 to.subport_offset).answer) }
     {
         let release = self.release;
-        match link_named_under(
-            &self.multiport,
-            &self.graph.port_link,
-            &self.graph.port_meta,
-            &self.copy_node,
-            release,
-            from,
-            to,
-        ) {
+        match self.wire_tables().link_named_under(release, from, to) {
             Ok((x, y)) => {
                 let first = read_in(&self.multiport, from);
                 let second = read_in(&self.multiport, to);

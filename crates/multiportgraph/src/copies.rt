@@ -12,9 +12,9 @@ ghost use Rattle.multiportgraph.specs.Presumed.{SplitPort};
 use crate::ends::port_of;
 use crate::multiportgraph::MultiPortGraph;
 use multi_tables::marks::{lay_marks, marked, put_flag, put_marks};
-use multi_tables::reads::{far_in, owner_in, subports_in};
+use multi_tables::reads::{far_in, owner_in};
 use port_tables::direction::Direction;
-use port_tables::index::{NodeIndex, PORT_SLOTS};
+use port_tables::index::NodeIndex;
 use port_tables::numbers::wide;
 use portgraph::portgraph::PortGraph;
 
@@ -26,43 +26,26 @@ pub(crate) struct HiddenCopy {
     pub(crate) count: usize,
 }
 
-// The hidden node of a split port, read off lent tables.
-pub(crate) fn copy_in<'a>(
-    links: &'a [u32; PORT_SLOTS],
-    owners: &'a [u32; PORT_SLOTS],
-    port: u32,
-    direction: Direction,
-) -> HiddenCopy
-    ensures { (result.copy ≡ far_in links.now port) × (result.node ≡ owner_in owners.now result.copy) × (result.count ≡ subports_in links.now owners.now port direction) }
-{
-    let copy = far_in(links, wide(port));
-    HiddenCopy {
-        copy: copy,
-        node: owner_in(owners, copy),
-        count: subports_in(links, owners, port, direction),
-    }
-}
-
 impl MultiPortGraph {
-    // The graph with this lower graph, in which a hidden node came or went: the marks of its copy port and of the port that it hangs
-    // on, and its flag, are set so, and there are so many hidden nodes and subports.
-    pub(crate) fn with_copy(
-        mut self,
-        graph: PortGraph,
-        port: u32,
-        copy: u32,
-        node: u32,
-        there: bool,
-        copies: usize,
-        subports: usize,
-    ) -> MultiPortGraph
-        ensures { result ≡ multi graph (put_flag (put_flag self.multiport port_slots copy there) port_slots port there) (put_flag self.copy_node node_slots node there) copies subports self.release }
+    // The hidden node of a split port, read off the tables.
+    pub(crate) fn hidden_copy(&self, port: u32, direction: Direction) -> HiddenCopy
+        ensures { (result.copy ≡ far_in self.now.graph.port_link port) × (result.node ≡ owner_in self.now.graph.port_meta result.copy) × (result.count ≡ subports_in self.now.graph.port_link self.now.graph.port_meta port direction) }
     {
-        put_marks(&mut self.multiport, copy, there, port, there);
-        put_flag(&mut self.copy_node, wide(node), there);
-        self.copy_node_count = copies;
-        self.subport_count = subports;
-        self.graph = graph;
+        let copy = far_in(&self.graph.port_link, wide(port));
+        HiddenCopy {
+            copy: copy,
+            node: owner_in(&self.graph.port_meta, copy),
+            count: self.wire_tables().subports_in(port, direction),
+        }
+    }
+
+    // The graph in which the marks of a hidden node's copy port and of the port that it hangs on, and its flag, are set so: a
+    // hidden node comes or goes.
+    pub(crate) fn with_copy(mut self, port: u32, copy: u32, node: u32, mark: bool) -> MultiPortGraph
+        ensures { result ≡ multi self.graph (put_flag (put_flag self.multiport port_slots copy mark) port_slots port mark) (put_flag self.copy_node node_slots node mark) self.copy_node_count self.subport_count self.release }
+    {
+        put_marks(&mut self.multiport, copy, mark, port, mark);
+        put_flag(&mut self.copy_node, wide(node), mark);
         self
     }
 
@@ -84,15 +67,17 @@ impl MultiPortGraph {
         self
     }
 
-    // The graph without a hidden node that hangs on this port, and that has so many subports.
-    fn without_copy(self, port: u32, copy: u32, node: u32, count: usize) -> MultiPortGraph
+    // The graph without a hidden node that hangs on this port.
+    fn without_copy(self, port: u32, hidden: HiddenCopy) -> MultiPortGraph
         requires { Wf self.graph }
-        ensures { result ≡ multi (remove_node self.graph node).graph (put_flag (put_flag self.multiport port_slots copy false) port_slots port false) (put_flag self.copy_node node_slots node false) (self.copy_node_count - 1) (self.subport_count - count) self.release }
+        ensures { result ≡ multi (remove_node self.graph hidden.node).graph (put_flag (put_flag self.multiport port_slots hidden.copy false) port_slots port false) (put_flag self.copy_node node_slots hidden.node false) (self.copy_node_count - 1) (self.subport_count - hidden.count) self.release }
     {
-        let copies = self.copy_node_count.saturating_sub(1);
-        let subports = self.subport_count.saturating_sub(count);
-        let removed = self.graph.remove_node(NodeIndex(node));
-        self.with_copy(removed.graph, port, copy, node, false, copies, subports)
+        let removed = self.graph.remove_node(NodeIndex(hidden.node));
+        let mut bare = self.with_copy(port, hidden.copy, hidden.node, false);
+        bare.graph = removed.graph;
+        bare.copy_node_count = bare.copy_node_count.saturating_sub(1);
+        bare.subport_count = bare.subport_count.saturating_sub(hidden.count);
+        bare
     }
 
     // The hidden node of a split port goes, with every link at it.
@@ -101,9 +86,12 @@ impl MultiPortGraph {
         ensures { result ≡ remove_copy self port node }
     {
         let side = self.copy_side(node);
-        let copy = port_of(self.graph, node, side, 0);
-        let count = self.graph.num_ports(NodeIndex(node), side.reverse());
-        self.without_copy(port, copy, node, count)
+        let hidden = HiddenCopy {
+            copy: port_of(self.graph, node, side, 0),
+            node: node,
+            count: self.graph.num_ports(NodeIndex(node), side.reverse()),
+        };
+        self.without_copy(port, hidden)
     }
 
     // A split port of a block loses its hidden node, with every link at it.
@@ -111,13 +99,8 @@ impl MultiPortGraph {
         requires { SplitPort self port direction }
         ensures { result ≡ unsplit self port }
     {
-        let hidden = copy_in(
-            &self.graph.port_link,
-            &self.graph.port_meta,
-            port,
-            direction,
-        );
-        self.without_copy(port, hidden.copy, hidden.node, hidden.count)
+        let hidden = self.hidden_copy(port, direction);
+        self.without_copy(port, hidden)
     }
 
     // A port of a block loses its hidden node, if it has one.

@@ -1,5 +1,5 @@
-// How a port number is read, and readers of the hidden node of a split port. Where tables can be lent, the leaves of `reads`
-// serve instead.
+// Readers of the hidden node of a split port. Where tables can be lent, the leaves of `reads` serve instead.
+// Where there is nothing they stay at 0, as their definitions: who calls them knows that there is something.
 ghost use Rattle.std.specs.Prelude.{◌≡◌};
 ghost use Rattle.portgraph.specs.Model.{Wf};
 ghost use Rattle.multiportgraph.specs.Reading.{far_port, owner_of, port_of, position_of, copy_node, copy_side};

@@ -8,27 +8,20 @@ ghost use Rattle.multi_tables.specs.FanOutScans.{fan_out_in};
 
 use crate::multiportgraph::MultiPortGraph;
 use multi_tables::answers::Refusal;
-use multi_tables::named::block_port;
 use multi_tables::scans::capped;
-use multi_tables::wire_counts::wires_at;
+use multi_tables::wire_tables::WireTables;
 use port_tables::direction::Direction;
-use port_tables::index::{NodeIndex, PORT_SLOTS, PortIndex};
+use port_tables::index::{NodeIndex, PortIndex};
 use port_tables::sides::{Sides, ports_from, ports_to};
 
 // The sum of the fan-outs of the outgoing ports from `from` on and below `end`.
-fn fan_out_sum<'a>(
-    marks: &'a [bool; PORT_SLOTS],
-    links: &'a [u32; PORT_SLOTS],
-    owners: &'a [u32; PORT_SLOTS],
-    from: usize,
-    end: usize,
-) -> usize
-    ensures { result ≡ fan_out_in marks.now links.now owners.now from (min end port_slots - from) }
+fn fan_out_sum(tables: WireTables<'_>, from: usize, end: usize) -> usize
+    ensures { result ≡ fan_out_in tables.entry.marks.now tables.entry.links.now tables.entry.owners.now from (min end port_slots - from) }
 {
     let stop = capped(end);
     let mut sum: usize = 0;
     for port in from..stop {
-        sum += wires_at(marks, links, owners, port as u32, Direction::Outgoing);
+        sum += tables.wires_at(port as u32, Direction::Outgoing);
     }
     sum
 }
@@ -39,14 +32,8 @@ impl MultiPortGraph {
         requires { MultiWf self }
         ensures { (result ≡ port_fan_out self port.0) × (count_numbers result ≡ count_numbers (port_fan_out self port.0)) }
     {
-        let (_, direction) = block_port(&self.graph.port_meta, &self.copy_node, port)?;
-        Ok(wires_at(
-            &self.multiport,
-            &self.graph.port_link,
-            &self.graph.port_meta,
-            port.0,
-            direction,
-        ))
+        let (_, direction) = self.block_port(port)?;
+        Ok(self.wire_tables().wires_at(port.0, direction))
     }
 
     // How many wires leave a block: the sum of the fan-outs of its outgoing ports.
@@ -57,9 +44,7 @@ impl MultiPortGraph {
         let meta = self.block(node)?;
         let side = Sides::One(Direction::Outgoing);
         Ok(fan_out_sum(
-            &self.multiport,
-            &self.graph.port_link,
-            &self.graph.port_meta,
+            self.wire_tables(),
             ports_from(meta, side),
             ports_to(meta, side),
         ))

@@ -1,6 +1,6 @@
 // Walks as cursors by value: a step takes the cursor and the present graph, and gives the item with the next cursor.
-// A cursor holds what it gave last: a node or port one higher than its number, 0 at the start, and an offset.
-use multi_tables::answers::{Refusal, SubportIndex, SubportLink};
+// A cursor holds what it gave last: a node or port one higher than its number, 0 at the start, and an offset. These stay numbers: one past the last
+// item is where a walk goes on, also from the start.
 use port_tables::index::{NodeIndex, PortIndex};
 use port_tables::sides::Sides;
 

@@ -1,67 +1,133 @@
-// The graph by value out of lent tables, and back into them: so another crate builds and reads graphs over lent tables.
-ghost use Rattle.std.specs.Prelude.{◌≡◌};
+// A graph that is lent to the calls as one value: its tables, of which none is copied, and what it has besides them. And the graph by value out of it and
+// into it.
+ghost use Rattle.std.specs.Prelude.{◌≡◌, ◌-◌};
 ghost use Rattle.port_tables.specs.NodeWords.{Canonical};
+ghost use Rattle.multiportgraph.specs.Graph.{empty_graph};
 ghost use Rattle.multiportgraph.specs.WellFormed.{MultiWf};
-ghost use Rattle.multiportgraph.specs.MultiLent.{multi_in};
+ghost use Rattle.multiportgraph.specs.MultiLent.{graph_of};
 
-use crate::lent::Totals;
+use crate::list_ends::ListTables;
 use crate::multiportgraph::MultiPortGraph;
-use port_tables::index::{FREE_LISTS, NODE_SLOTS, PORT_SLOTS};
-use port_tables::lent::NODE_WORDS;
-use portgraph::lent_graph::{graph_in, put_graph};
+use multi_tables::wire_tables::WireTables;
+use port_tables::index::{NODE_SLOTS, PORT_SLOTS};
+use port_tables::release::Release;
+use portgraph::lent_graph::PortTables;
 
-// The graph that lent tables and numbers are.
-pub fn graph_of_tables<'a>(
-    nodes: &'a [u32; NODE_WORDS],
-    links: &'a [u32; PORT_SLOTS],
-    owners: &'a [u32; PORT_SLOTS],
-    heads: &'a [u32; FREE_LISTS],
-    marks: &'a [bool; PORT_SLOTS],
-    flags: &'a [bool; NODE_SLOTS],
-    totals: Totals,
-) -> MultiPortGraph
-    requires { MultiWf (multi_in nodes.now links.now owners.now heads.now marks.now flags.now totals) }
-    ensures { result ≡ multi_in nodes.now links.now owners.now heads.now marks.now flags.now totals }
-{
-    let counts = totals.counts;
-    let graph = graph_in(nodes, links, owners, heads, counts);
-    let multiport = *marks;
-    let copy_node = *flags;
-    let release = totals.release;
-    MultiPortGraph {
-        graph: graph,
-        multiport: multiport,
-        copy_node: copy_node,
-        copy_node_count: totals.copies,
-        subport_count: totals.subs,
-        release: release,
-    }
+// MultiWf stays a clause, as of the graph by value.
+#[derive(Drop)]
+pub struct LentGraph {
+    // The tables of the single-link graph, hidden nodes and their ports included.
+    pub ports: PortTables,
+    // Marks of the ports that connect a main port with its copy node, at both ends.
+    pub marks: [bool; PORT_SLOTS],
+    // Flags of the hidden copy nodes.
+    pub flags: [bool; NODE_SLOTS],
+    // The number of hidden nodes, and of subports in them.
+    pub copies: usize,
+    pub subs: usize,
+    // The release that it is made for, which no call changes.
+    pub release: Release,
 }
 
-// Stores a graph in lent tables, whatever they hold, and answers its numbers.
-pub fn tables_of_graph(
-    graph: MultiPortGraph,
-    nodes: &mut [u32; NODE_WORDS],
-    links: &mut [u32; PORT_SLOTS],
-    owners: &mut [u32; PORT_SLOTS],
-    heads: &mut [u32; FREE_LISTS],
-    marks: &mut [bool; PORT_SLOTS],
-    flags: &mut [bool; NODE_SLOTS],
-) -> Totals
-    ensures { (multi_in nodes.new links.new owners.new heads.new marks.new flags.new result ≡ graph)
-        × Canonical nodes.new }
-{
-    let lower = graph.graph;
-    let counts = put_graph(lower, nodes, links, owners, heads);
-    let multiport = graph.multiport;
-    *marks = multiport;
-    let copy_node = graph.copy_node;
-    *flags = copy_node;
-    let release = graph.release;
-    Totals {
-        counts: counts,
-        copies: graph.copy_node_count,
-        subs: graph.subport_count,
-        release: release,
+impl LentGraph {
+    // The empty graph of a release.
+    pub fn new(release: Release) -> Self
+        ensures { (graph_of result ≡ empty_graph release) × Canonical result.ports.nodes }
+    {
+        LentGraph {
+            ports: PortTables::new(),
+            marks: [false; PORT_SLOTS],
+            flags: [false; NODE_SLOTS],
+            copies: 0,
+            subs: 0,
+            release: release,
+        }
+    }
+
+    // The number of blocks.
+    pub fn node_count(&self) -> usize
+        ensures { result ≡ self.now.ports.counts.node_count - self.now.copies }
+    {
+        self.ports.counts.node_count.saturating_sub(self.copies)
+    }
+
+    // The number of ports of blocks.
+    pub fn port_count(&self) -> usize
+        ensures { result ≡ self.now.ports.counts.port_count - self.now.subs - self.now.copies }
+    {
+        let ports = self.ports.counts.port_count;
+        ports.saturating_sub(self.subs).saturating_sub(self.copies)
+    }
+
+    // The number of wires.
+    pub fn link_count(&self) -> usize
+        ensures { result ≡ self.now.ports.counts.link_count - self.now.copies }
+    {
+        self.ports.counts.link_count.saturating_sub(self.copies)
+    }
+
+    // The tables that tell what a port is and what it is wired with.
+    pub fn wire_tables(&self) -> WireTables<'_>
+        ensures { (result.marks.now ≡ self.now.marks) × (result.links.now ≡ self.now.ports.links) × (result.owners.now ≡ self.now.ports.owners)
+            × (result.flags.now ≡ self.now.flags) }
+    {
+        WireTables {
+            marks: &self.marks,
+            links: &self.ports.links,
+            owners: &self.ports.owners,
+            flags: &self.flags,
+        }
+    }
+
+    // The tables that a listing reads.
+    pub(crate) fn list_tables(&self) -> ListTables<'_>
+        ensures { (result.nodes.now ≡ self.now.ports.nodes) × (result.links.now ≡ self.now.ports.links) × (result.owners.now ≡ self.now.ports.owners)
+            × (result.marks.now ≡ self.now.marks) × (result.flags.now ≡ self.now.flags) × (result.len ≡ self.now.ports.counts.node_len) }
+    {
+        let tables = self.wire_tables();
+        ListTables {
+            nodes: &self.ports.nodes,
+            links: tables.links,
+            owners: tables.owners,
+            marks: tables.marks,
+            flags: tables.flags,
+            len: self.ports.counts.node_len,
+        }
+    }
+
+    // The graph by value.
+    pub fn graph(&self) -> MultiPortGraph
+        requires { MultiWf (graph_of self.now) }
+        ensures { result ≡ graph_of self.now }
+    {
+        let graph = self.ports.graph();
+        let multiport = self.marks;
+        let copy_node = self.flags;
+        let release = self.release;
+        MultiPortGraph {
+            graph: graph,
+            multiport: multiport,
+            copy_node: copy_node,
+            copy_node_count: self.copies,
+            subport_count: self.subs,
+            release: release,
+        }
+    }
+
+    // Holds a graph, whatever was held.
+    pub fn put(&mut self, graph: MultiPortGraph)
+        ensures { (graph_of self.new ≡ graph)
+            × Canonical self.new.ports.nodes }
+    {
+        let lower = graph.graph;
+        self.ports.put(lower);
+        let multiport = graph.multiport;
+        self.marks = multiport;
+        let copy_node = graph.copy_node;
+        self.flags = copy_node;
+        self.copies = graph.copy_node_count;
+        self.subs = graph.subport_count;
+        let release = graph.release;
+        self.release = release;
     }
 }

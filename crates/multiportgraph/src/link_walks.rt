@@ -9,10 +9,9 @@ ghost use Rattle.multiportgraph.specs.WalkScans.{block_left, self_filter};
 
 use crate::iter::{Neighbours, NodeConnections, NodeLinks};
 use crate::multiportgraph::MultiPortGraph;
-use crate::walks::held_seen;
 use multi_tables::answers::SubportLink;
 use multi_tables::reads::owner_in;
-use multi_tables::scans::{LinkFilter, next_beyond};
+use multi_tables::scans::{Held, LinkFilter};
 use port_tables::direction::Direction;
 use port_tables::index::NodeIndex;
 use port_tables::sides::{Sides, ports_from, ports_to};
@@ -24,27 +23,21 @@ impl MultiPortGraph {
         node: NodeIndex,
         sides: Sides,
         filter: LinkFilter,
-        held: u32,
-        offset: u16,
+        held: Held,
     ) -> Option<SubportLink>
         requires { MultiWf self }
-        ensures { (result ≡ first_found (block_left self node.0 sides filter held offset)) × (link_port 0 result < port_slots) }
+        ensures { (result ≡ first_found (block_left self node.0 sides filter held.port held.offset)) × (link_port 0 result < port_slots) }
     {
         let block = self.block(node);
         let Ok(meta) = block else {
             return None;
         };
-        if held_seen(&self.graph.port_meta, &self.copy_node, held) {
-            return next_beyond(
-                &self.multiport,
-                &self.graph.port_link,
-                &self.graph.port_meta,
-                &self.copy_node,
+        if self.held_seen(held.port) {
+            return self.wire_tables().next_beyond(
                 filter,
                 ports_from(meta, sides),
                 ports_to(meta, sides),
                 held,
-                offset,
             );
         }
         None
@@ -59,7 +52,11 @@ impl NodeLinks {
         let node = self.node;
         let sides = self.sides;
         let filter = LinkFilter::Skip(self.skip_from, self.skip_to);
-        let found = graph.next_of_block(node, sides, filter, self.held, self.offset);
+        let held = Held {
+            port: self.held,
+            offset: self.offset,
+        };
+        let found = graph.next_of_block(node, sides, filter, held);
         match found {
             None => None,
             Some(link) => {
@@ -100,7 +97,11 @@ impl Neighbours {
         let node = self.node;
         let sides = self.sides;
         let filter = self_filter(node, self.ignore_self);
-        let found = graph.next_of_block(node, sides, filter, self.held, self.offset);
+        let held = Held {
+            port: self.held,
+            offset: self.offset,
+        };
+        let found = graph.next_of_block(node, sides, filter, held);
         match found {
             None => None,
             Some(link) => {
@@ -133,7 +134,11 @@ impl NodeConnections {
         if graph.contains_node(target) {
             let side = Sides::One(Direction::Outgoing);
             let filter = LinkFilter::To(target);
-            let found = graph.next_of_block(node, side, filter, self.held, self.offset);
+            let held = Held {
+                port: self.held,
+                offset: self.offset,
+            };
+            let found = graph.next_of_block(node, side, filter, held);
             return match found {
                 None => None,
                 Some(link) => {

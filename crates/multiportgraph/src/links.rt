@@ -11,10 +11,17 @@ ghost use Rattle.multiportgraph.specs.Calls.{link_pair, link_clean};
 
 use crate::multiportgraph::{MultiPortGraph, PortsLinked};
 use multi_tables::answers::{Refusal, SubportIndex};
-use multi_tables::inputs::{link_need_under, pair_named_under};
 use multi_tables::named::LinkNeed;
 use port_tables::direction::Direction;
 use port_tables::index::PortIndex;
+
+// A prepared end: its inner port, its side, and the subport that it is.
+#[derive(Clone, Copy)]
+struct LinkEnd {
+    inner: u32,
+    side: Direction,
+    subport: SubportIndex,
+}
 
 impl MultiPortGraph {
     // A link that is refused, with the graph as it is.
@@ -49,26 +56,18 @@ impl MultiPortGraph {
     }
 
     // Both ends are prepared: they are linked if they are on opposite sides.
-    fn link_prepared(
-        self,
-        x: u32,
-        d: Direction,
-        from: SubportIndex,
-        y: u32,
-        e: Direction,
-        to: SubportIndex,
-    ) -> PortsLinked
+    fn link_prepared(self, from: LinkEnd, to: LinkEnd) -> PortsLinked
         requires { MultiWf self }
-        ensures { result ≡ link_prepared self from.port.0 d x from.subport_offset to.port.0 e y to.subport_offset }
+        ensures { result ≡ link_prepared self from.subport.port.0 from.side from.inner from.subport.subport_offset to.subport.port.0 to.side to.inner to.subport.subport_offset }
     {
-        if d == e {
+        if from.side == to.side {
             return self.link_refused(Refusal::IncompatibleDirections(
-                PortIndex(x),
-                PortIndex(y),
-                d,
+                PortIndex(from.inner),
+                PortIndex(to.inner),
+                from.side,
             ));
         }
-        self.link_ends(x, y, from, to)
+        self.link_ends(from.inner, to.inner, from.subport, to.subport)
     }
 
     // The second port is not live: the preparation of the first stays.
@@ -77,12 +76,10 @@ impl MultiPortGraph {
         ensures { result ≡ link_first self b.0 (prepare self a d) }
     {
         let first = self.prepare(a, d);
-        let ready = first.ready;
-        if ready {
-            let after = first.graph;
-            return after.link_refused(Refusal::UnknownSecondPort(b));
-        }
-        self.link_refused(Refusal::NoRoom)
+        let Some(_) = first.end else {
+            return self.link_refused(Refusal::NoRoom);
+        };
+        first.graph.link_refused(Refusal::UnknownSecondPort(b))
     }
 
     // Both ports are live: both ends are prepared.
@@ -91,25 +88,30 @@ impl MultiPortGraph {
         ensures { result ≡ link_live self a d b e (prepare self a d) }
     {
         let first = self.prepare(a, d);
-        let ready = first.ready;
-        if ready {
-            let middle = first.graph;
-            let second = middle.prepare(b, e);
-            let both = second.ready;
-            if both {
-                let last = second.graph;
-                let from = SubportIndex {
-                    port: PortIndex(a),
-                    subport_offset: first.offset,
-                };
-                let to = SubportIndex {
-                    port: PortIndex(b),
-                    subport_offset: second.offset,
-                };
-                return last.link_prepared(first.port, d, from, second.port, e, to);
-            }
-        }
-        self.link_refused(Refusal::NoRoom)
+        let Some((x, o)) = first.end else {
+            return self.link_refused(Refusal::NoRoom);
+        };
+        let second = first.graph.prepare(b, e);
+        let Some((y, r)) = second.end else {
+            return self.link_refused(Refusal::NoRoom);
+        };
+        let from = LinkEnd {
+            inner: x,
+            side: d,
+            subport: SubportIndex {
+                port: PortIndex(a),
+                subport_offset: o,
+            },
+        };
+        let to = LinkEnd {
+            inner: y,
+            side: e,
+            subport: SubportIndex {
+                port: PortIndex(b),
+                subport_offset: r,
+            },
+        };
+        second.graph.link_prepared(from, to)
     }
 
     // Links two ports; each end takes the lowest offset without a wire.
@@ -118,15 +120,7 @@ impl MultiPortGraph {
         ensures { (result ≡ link_pair self port_a.0 port_b.0) × (link_numbers result.answer ≡ link_numbers (link_pair self port_a.0 port_b.0).answer) }
     {
         let release = self.release;
-        match link_need_under(
-            &self.multiport,
-            &self.graph.port_link,
-            &self.graph.port_meta,
-            &self.copy_node,
-            release,
-            port_a,
-            port_b,
-        ) {
+        match self.wire_tables().link_need_under(release, port_a, port_b) {
             Ok(LinkNeed::Ends(x, o, y, r)) => {
                 let from = SubportIndex {
                     port: port_a,
@@ -156,15 +150,7 @@ impl MultiPortGraph {
         ensures { (result ≡ link_clean self port_a.0 port_b.0) × (link_numbers result.answer ≡ link_numbers (link_clean self port_a.0 port_b.0).answer) }
     {
         let release = self.release;
-        match pair_named_under(
-            &self.multiport,
-            &self.graph.port_link,
-            &self.graph.port_meta,
-            &self.copy_node,
-            release,
-            port_a,
-            port_b,
-        ) {
+        match self.wire_tables().pair_named_under(release, port_a, port_b) {
             Ok(()) => {
                 return self.link_ports(port_a, port_b);
             }

@@ -1,5 +1,5 @@
-// What a listing answers and writes: numbers in a row, four for an end of a wire. The ends are read off lent tables with no search.
-ghost use Rattle.std.specs.Prelude.{◌≡◌, [], ◌∷◌, ◌+◌, ◌-◌, ◌≤◌, length};
+// What a listing answers and writes: numbers in a row, four for an end of a wire. The ends are read off the tables with no search.
+ghost use Rattle.std.specs.Prelude.{◌≡◌, ◌+◌, ◌-◌, ◌≤◌, length};
 ghost use Rattle.std.proofs.lemmas.List.Edits.{sets};
 ghost use Rattle.port_tables.specs.NodeWords.{meta_in};
 ghost use Rattle.multiportgraph.specs.ListScans.{first_of_meta, in_end, far_end};
@@ -13,6 +13,17 @@ use port_tables::numbers::wide;
 // The list is too short and stayed as it was: it must have so many numbers.
 #[derive(Clone, Copy)]
 pub struct TooShort(pub usize);
+
+// The tables that a listing reads, and how many slots of the node table have been used.
+#[derive(Clone, Copy)]
+pub(crate) struct ListTables<'a> {
+    pub(crate) nodes: &'a [u32; NODE_WORDS],
+    pub(crate) links: &'a [u32; PORT_SLOTS],
+    pub(crate) owners: &'a [u32; PORT_SLOTS],
+    pub(crate) marks: &'a [bool; PORT_SLOTS],
+    pub(crate) flags: &'a [bool; NODE_SLOTS],
+    pub(crate) len: usize,
+}
 
 // An end of a wire.
 #[derive(Clone, Copy)]
@@ -34,53 +45,41 @@ fn first_of(nodes: &[u32; NODE_WORDS], node: u32) -> u32
     meta.first_port.0
 }
 
-// An incoming port of a block, with an offset.
-fn in_end<'a>(
-    nodes: &'a [u32; NODE_WORDS],
-    owners: &'a [u32; PORT_SLOTS],
-    port: u32,
-    offset: u32,
-) -> WireEnd
-    ensures { result ≡ in_end nodes.now owners.now port offset }
-{
-    let node = owner_in(owners, port);
-    WireEnd {
-        port: port,
-        offset: offset,
-        node: node,
-        position: port.saturating_sub(first_of(nodes, node)),
+impl ListTables<'_> {
+    // An incoming port of a block, with an offset.
+    fn in_end(self, port: u32, offset: u32) -> WireEnd
+        ensures { result ≡ in_end self.entry.nodes.now self.entry.owners.now port offset }
+    {
+        let node = owner_in(self.owners, port);
+        WireEnd {
+            port: port,
+            offset: offset,
+            node: node,
+            position: port.saturating_sub(first_of(self.nodes, node)),
+        }
     }
-}
 
-// The incoming end of a wire, by its inner port.
-pub(crate) fn far_end<'a>(
-    nodes: &'a [u32; NODE_WORDS],
-    links: &'a [u32; PORT_SLOTS],
-    owners: &'a [u32; PORT_SLOTS],
-    flags: &'a [bool; NODE_SLOTS],
-    inner: u32,
-) -> WireEnd
-    ensures { result ≡ far_end nodes.now links.now owners.now flags.now inner }
-{
-    let node = owner_in(owners, inner);
-    if flagged(flags, wide(node)) {
-        let Some(meta) = meta_in(nodes, node) else {
-            return in_end(nodes, owners, inner, 0);
-        };
-        let first = meta.first_port.0;
-        let main = far_in(links, wide(first) + usize::from(meta.incoming));
-        return in_end(nodes, owners, main, inner.saturating_sub(first));
+    // The incoming end of a wire, by its inner port.
+    pub(crate) fn far_end(self, inner: u32) -> WireEnd
+        ensures { result ≡ far_end self.entry.nodes.now self.entry.links.now self.entry.owners.now self.entry.flags.now inner }
+    {
+        let node = owner_in(self.owners, inner);
+        if flagged(self.flags, wide(node)) {
+            let Some(meta) = meta_in(self.nodes, node) else {
+                return self.in_end(inner, 0);
+            };
+            let first = meta.first_port.0;
+            let main = far_in(self.links, wide(first) + usize::from(meta.incoming));
+            return self.in_end(main, inner.saturating_sub(first));
+        }
+        self.in_end(inner, 0)
     }
-    in_end(nodes, owners, inner, 0)
 }
 
 // Writes four numbers in a row.
-pub(crate) fn put_four(list: &mut [u32], place: usize, a: u32, b: u32, c: u32, d: u32)
+pub(crate) fn put_four(list: &mut [u32], place: usize, numbers: [u32; 4])
     requires { place + 4 ≤ length list.old }
-    ensures { list.new ≡ sets list.old place (a ∷ b ∷ c ∷ d ∷ []) }
+    ensures { list.new ≡ sets list.old place numbers }
 {
-    list[place] = a;
-    list[place + 1] = b;
-    list[place + 2] = c;
-    list[place + 3] = d;
+    list[place..place + 4].copy_from_slice(&numbers);
 }

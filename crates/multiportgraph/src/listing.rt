@@ -1,13 +1,10 @@
-// All wires, or all blocks, at once into a list that the caller lends: the graph by value, over the passes on lent tables.
+// All wires, or all blocks, at once into a list that the caller lends: the graph by value, over the passes on tables.
 ghost use Rattle.std.specs.Prelude.{◌≡◌, length};
 ghost use Rattle.multiportgraph.specs.WellFormed.{MultiWf};
 ghost use Rattle.multiportgraph.specs.Wires.{blocks, all_wires};
 ghost use Rattle.multiportgraph.specs.Listed.{wires_listed, blocks_listed, list_after, list_answer};
 
-use crate::lent::Totals;
-use crate::list_blocks::blocks_lent;
-use crate::list_ends::TooShort;
-use crate::list_wires::wires_lent;
+use crate::list_ends::{ListTables, TooShort};
 use crate::multiportgraph::MultiPortGraph;
 use port_tables::lent::NODE_WORDS;
 use portgraph::lent_graph::put_slots;
@@ -20,28 +17,19 @@ impl MultiPortGraph {
         ensures { (result ≡ list_answer (length (all_wires self)) (wires_listed self) list.old) × (list.new ≡ list_after (wires_listed self) list.old) }
     {
         let mut nodes: [u32; NODE_WORDS] = [0; NODE_WORDS];
-        let lower = self.graph;
-        let slots = lower.node_slots();
+        let slots = self.graph.node_slots();
         put_slots(&mut nodes, slots);
-        let heads = lower.free_heads();
-        let counts = lower.counts();
-        let release = self.release;
-        let totals = Totals {
-            counts: counts,
-            copies: self.copy_node_count,
-            subs: self.subport_count,
-            release: release,
+        let counts = self.graph.counts();
+        let count = self.link_count();
+        let tables = ListTables {
+            nodes: &nodes,
+            links: &self.graph.port_link,
+            owners: &self.graph.port_meta,
+            marks: &self.multiport,
+            flags: &self.copy_node,
+            len: counts.node_len,
         };
-        wires_lent(
-            &nodes,
-            &self.graph.port_link,
-            &self.graph.port_meta,
-            &heads,
-            &self.multiport,
-            &self.copy_node,
-            totals,
-            list,
-        )
+        tables.list_wires(count, list)
     }
 
     // Lists all blocks, by ascending number, with four numbers each: node, incoming and outgoing ports, and the first port, 0 for
@@ -51,27 +39,18 @@ impl MultiPortGraph {
         ensures { (result ≡ list_answer (length (blocks self)) (blocks_listed self) list.old) × (list.new ≡ list_after (blocks_listed self) list.old) }
     {
         let mut nodes: [u32; NODE_WORDS] = [0; NODE_WORDS];
-        let lower = self.graph;
-        let slots = lower.node_slots();
+        let slots = self.graph.node_slots();
         put_slots(&mut nodes, slots);
-        let heads = lower.free_heads();
-        let counts = lower.counts();
-        let release = self.release;
-        let totals = Totals {
-            counts: counts,
-            copies: self.copy_node_count,
-            subs: self.subport_count,
-            release: release,
+        let counts = self.graph.counts();
+        let count = self.node_count();
+        let tables = ListTables {
+            nodes: &nodes,
+            links: &self.graph.port_link,
+            owners: &self.graph.port_meta,
+            marks: &self.multiport,
+            flags: &self.copy_node,
+            len: counts.node_len,
         };
-        blocks_lent(
-            &nodes,
-            &self.graph.port_link,
-            &self.graph.port_meta,
-            &heads,
-            &self.multiport,
-            &self.copy_node,
-            totals,
-            list,
-        )
+        tables.list_blocks(count, list)
     }
 }

@@ -1,5 +1,6 @@
 // Lookups on blocks and their ports. A node or port that is not live, or hidden, is refused.
 ghost use Rattle.std.specs.Prelude.{◌≡◌};
+ghost use Rattle.multi_tables.specs.NamedEnds.{block_port};
 ghost use Rattle.multiportgraph.specs.Wires.{is_block};
 ghost use Rattle.multiportgraph.specs.Lookups.{direction_of, node_of, offset_of, port_index_of, num_ports_of, capacity_of, contains_port_of, empty_of, direction_numbers, node_numbers, offset_numbers, port_numbers, count_numbers};
 ghost use Rattle.multiportgraph.specs.WellFormed.{MultiWf};
@@ -9,7 +10,6 @@ use crate::ends::position_of;
 use crate::multiportgraph::MultiPortGraph;
 use multi_tables::answers::Refusal;
 use multi_tables::marks::flagged;
-use multi_tables::named::block_port;
 use port_tables::direction::Direction;
 use port_tables::index::{NodeIndex, PortIndex, PortOffset};
 use port_tables::node_entry::NodeMeta;
@@ -30,11 +30,18 @@ impl MultiPortGraph {
         Ok(meta)
     }
 
+    // The block that has a port, and the side, or why the port is refused.
+    pub(crate) fn block_port(&self, port: PortIndex) -> Result<(NodeIndex, Direction), Refusal>
+        ensures { result ≡ block_port self.now.graph.port_meta self.now.copy_node port.0 }
+    {
+        self.wire_tables().block_port(port)
+    }
+
     // The side of a port.
     pub fn port_direction(self, port: PortIndex) -> Result<Direction, Refusal>
         ensures { (result ≡ direction_of self port.0) × (direction_numbers result ≡ direction_numbers (direction_of self port.0)) }
     {
-        let (_, direction) = block_port(&self.graph.port_meta, &self.copy_node, port)?;
+        let (_, direction) = self.block_port(port)?;
         Ok(direction)
     }
 
@@ -42,7 +49,7 @@ impl MultiPortGraph {
     pub fn port_node(self, port: PortIndex) -> Result<NodeIndex, Refusal>
         ensures { (result ≡ node_of self port.0) × (node_numbers result ≡ node_numbers (node_of self port.0)) }
     {
-        let (node, _) = block_port(&self.graph.port_meta, &self.copy_node, port)?;
+        let (node, _) = self.block_port(port)?;
         Ok(node)
     }
 
@@ -50,7 +57,7 @@ impl MultiPortGraph {
     pub fn port_offset(self, port: PortIndex) -> Result<PortOffset, Refusal>
         ensures { (result ≡ offset_of self port.0) × (offset_numbers result ≡ offset_numbers (offset_of self port.0)) }
     {
-        let (_, direction) = block_port(&self.graph.port_meta, &self.copy_node, port)?;
+        let (_, direction) = self.block_port(port)?;
         let graph = self.graph;
         Ok(PortOffset {
             direction: direction,
@@ -98,7 +105,7 @@ impl MultiPortGraph {
     pub fn contains_port(self, port: PortIndex) -> bool
         ensures { result ≡ contains_port_of self port.0 }
     {
-        block_port(&self.graph.port_meta, &self.copy_node, port).is_ok()
+        self.block_port(port).is_ok()
     }
 
     // Whether there is no node and no port.

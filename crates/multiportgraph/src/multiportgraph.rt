@@ -1,10 +1,14 @@
 // Wrapper around a port graph that provides multiports through hidden copy nodes.
+ghost use Rattle.std.specs.Prelude.{◌≡◌};
+
 use multi_tables::answers::{PortPlace, Refusal, SubportIndex};
+use multi_tables::wire_tables::WireTables;
 use port_tables::index::{NODE_SLOTS, NodeIndex, PORT_SLOTS, PortIndex};
 use port_tables::release::Release;
 use portgraph::portgraph::PortGraph;
 
-// A port graph, by value, that allows several links at one port.
+// A port graph, by value, that allows several links at one port. MultiWf stays a clause of the calls: their steps run on graphs that are halfway, for which an
+// invariant would need a type of their own.
 #[derive(Clone, Copy)]
 pub struct MultiPortGraph {
     pub(crate) graph: PortGraph,
@@ -17,6 +21,20 @@ pub struct MultiPortGraph {
     pub(crate) subport_count: usize,
     // The release that it is made for, which no call changes.
     pub(crate) release: Release,
+}
+
+impl MultiPortGraph {
+    // The tables that tell what a port is and what it is wired with.
+    pub(crate) fn wire_tables(&self) -> WireTables<'_>
+        ensures { (result.marks.now ≡ self.now.multiport) × (result.links.now ≡ self.now.graph.port_link) × (result.owners.now ≡ self.now.graph.port_meta) × (result.flags.now ≡ self.now.copy_node) }
+    {
+        WireTables {
+            marks: &self.multiport,
+            links: &self.graph.port_link,
+            owners: &self.graph.port_meta,
+            flags: &self.copy_node,
+        }
+    }
 }
 
 #[derive(Clone, Copy)]

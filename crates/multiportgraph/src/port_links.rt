@@ -4,40 +4,28 @@ ghost use Rattle.port_tables.specs.Limits.{port_slots};
 ghost use Rattle.multiportgraph.specs.Walks.{step_front, step_back};
 ghost use Rattle.multiportgraph.specs.WalkNumbers.{port_links_values};
 ghost use Rattle.multiportgraph.specs.WellFormed.{MultiWf};
-ghost use Rattle.multi_tables.specs.Scans.{first_found, links_in};
+ghost use Rattle.multi_tables.specs.Scans.{first_found, span_first, span_count, links_in, end_before};
 ghost use Rattle.multiportgraph.specs.WalkScans.{last_found, left_in};
 
 use crate::iter::PortLinks;
 use crate::multiportgraph::MultiPortGraph;
 use crate::walks::end_before;
 use multi_tables::answers::SubportLink;
-use multi_tables::named::block_port;
-use multi_tables::scans::{LinkFilter, link_at, scan_port, span_count, span_first};
+use multi_tables::scans::{LinkFilter, PortEnds};
+use multi_tables::wire_tables::WireTables;
 use port_tables::direction::Direction;
-use port_tables::index::{NODE_SLOTS, PORT_SLOTS};
 use port_tables::numbers::wide;
 
-// The last link of a port at an offset from `from` on and below `end`; the port's ends begin at the slot `first`.
-fn scan_back<'a>(
-    links: &'a [u32; PORT_SLOTS],
-    owners: &'a [u32; PORT_SLOTS],
-    flags: &'a [bool; NODE_SLOTS],
-    port: u32,
-    first: usize,
-    from: usize,
-    end: usize,
-) -> Option<SubportLink>
-    requires { (first ≤ port_slots) × (end ≤ port_slots) }
-    ensures { result ≡ last_found (links_in links.now owners.now flags.now port first from (end - from)) }
+// The last link at these ends.
+fn scan_back(tables: WireTables<'_>, ends: PortEnds) -> Option<SubportLink>
+    requires { (ends.first ≤ port_slots) × (ends.end ≤ port_slots) }
+    ensures { result ≡ last_found (links_in tables.entry.links.now tables.entry.owners.now tables.entry.flags.now ends.port ends.first ends.from (ends.end - ends.from)) }
 {
-    for offset in (from..end).rev() {
-        let found = link_at(
-            links,
-            owners,
-            flags,
+    for offset in (ends.from..ends.end).rev() {
+        let found = tables.link_at(
             LinkFilter::All,
-            port,
-            first + offset,
+            ends.port,
+            ends.first + offset,
             offset as u16,
         );
         if let Some(_) = found {
@@ -47,49 +35,39 @@ fn scan_back<'a>(
     None
 }
 
-// The first link of a port between the offsets given from the front and from the back.
-fn first_left<'a>(
-    marks: &'a [bool; PORT_SLOTS],
-    links: &'a [u32; PORT_SLOTS],
-    owners: &'a [u32; PORT_SLOTS],
-    flags: &'a [bool; NODE_SLOTS],
-    port: u32,
-    direction: Direction,
-    front: u32,
-    back: u32,
-) -> Option<SubportLink>
-    ensures { result ≡ first_found (left_in marks.now links.now owners.now flags.now port direction front back) }
-{
-    let first = span_first(marks, links, owners, port, direction);
-    let end = end_before(back, span_count(marks, links, owners, port, direction));
-    scan_port(
-        links,
-        owners,
-        flags,
-        LinkFilter::All,
-        port,
-        first,
-        wide(front),
-        end,
-    )
-}
+impl PortLinks {
+    // The ends between the offsets given from the front and from the back.
+    fn ends_left(self, tables: WireTables<'_>, direction: Direction) -> PortEnds
+        ensures { (result ≡ record {
+          port = self.port.0;
+          first = span_first tables.entry.marks.now tables.entry.links.now tables.entry.owners.now self.port.0 direction;
+          from = self.front;
+          end = end_before self.back (span_count tables.entry.marks.now tables.entry.links.now tables.entry.owners.now self.port.0 direction);
+        }) × (result.first ≤ port_slots) × (result.end ≤ port_slots) }
+    {
+        let port = self.port;
+        let count = tables.span_count(port.0, direction);
+        PortEnds {
+            port: port.0,
+            first: tables.span_first(port.0, direction),
+            from: wide(self.front),
+            end: end_before(self.back, count),
+        }
+    }
 
-// The last of them.
-fn last_left<'a>(
-    marks: &'a [bool; PORT_SLOTS],
-    links: &'a [u32; PORT_SLOTS],
-    owners: &'a [u32; PORT_SLOTS],
-    flags: &'a [bool; NODE_SLOTS],
-    port: u32,
-    direction: Direction,
-    front: u32,
-    back: u32,
-) -> Option<SubportLink>
-    ensures { result ≡ last_found (left_in marks.now links.now owners.now flags.now port direction front back) }
-{
-    let first = span_first(marks, links, owners, port, direction);
-    let end = end_before(back, span_count(marks, links, owners, port, direction));
-    scan_back(links, owners, flags, port, first, wide(front), end)
+    // The first link at them.
+    fn first_left(self, tables: WireTables<'_>, direction: Direction) -> Option<SubportLink>
+        ensures { result ≡ first_found (left_in tables.entry.marks.now tables.entry.links.now tables.entry.owners.now tables.entry.flags.now self.port.0 direction self.front self.back) }
+    {
+        tables.scan_port(LinkFilter::All, self.ends_left(tables, direction))
+    }
+
+    // The last of them.
+    fn last_left(self, tables: WireTables<'_>, direction: Direction) -> Option<SubportLink>
+        ensures { result ≡ last_found (left_in tables.entry.marks.now tables.entry.links.now tables.entry.owners.now tables.entry.flags.now self.port.0 direction self.front self.back) }
+    {
+        scan_back(tables, self.ends_left(tables, direction))
+    }
 }
 
 impl PortLinks {
@@ -98,19 +76,10 @@ impl PortLinks {
         ensures { (result ≡ step_front graph self) × (port_links_values result ≡ port_links_values (step_front graph self)) }
     {
         let port = self.port;
-        let Ok((_, direction)) = block_port(&graph.graph.port_meta, &graph.copy_node, port) else {
+        let Ok((_, direction)) = graph.block_port(port) else {
             return None;
         };
-        let Some(link) = first_left(
-            &graph.multiport,
-            &graph.graph.port_link,
-            &graph.graph.port_meta,
-            &graph.copy_node,
-            port.0,
-            direction,
-            self.front,
-            self.back,
-        ) else {
+        let Some(link) = self.first_left(graph.wire_tables(), direction) else {
             return None;
         };
         let from = link.from;
@@ -129,19 +98,10 @@ impl PortLinks {
         ensures { (result ≡ step_back graph self) × (port_links_values result ≡ port_links_values (step_back graph self)) }
     {
         let port = self.port;
-        let Ok((_, direction)) = block_port(&graph.graph.port_meta, &graph.copy_node, port) else {
+        let Ok((_, direction)) = graph.block_port(port) else {
             return None;
         };
-        let Some(link) = last_left(
-            &graph.multiport,
-            &graph.graph.port_link,
-            &graph.graph.port_meta,
-            &graph.copy_node,
-            port.0,
-            direction,
-            self.front,
-            self.back,
-        ) else {
+        let Some(link) = self.last_left(graph.wire_tables(), direction) else {
             return None;
         };
         let from = link.from;

@@ -1,97 +1,77 @@
 // Preparing an end of a link: by the cases of mark and link.
-ghost use Rattle.std.specs.Prelude.{true, false, ◌≡◌, ◌+◌, ◌≤◌, Ok};
+ghost use Rattle.std.specs.Prelude.{true, false, ◌≡◌, ◌+◌, ◌≤◌, Some};
 ghost use Rattle.port_tables.specs.Limits.{port_slots};
-ghost use Rattle.portgraph.specs.Calls.{add_node, link_ports, unlink_port};
+ghost use Rattle.portgraph.specs.Calls.{link_ports, unlink_port};
 ghost use Rattle.portgraph.specs.Resize.{set_num_ports};
 ghost use Rattle.portgraph.specs.Model.{Wf};
 ghost use Rattle.multiportgraph.specs.Graph.{multi};
 ghost use Rattle.multiportgraph.specs.WellFormed.{MultiWf};
 ghost use Rattle.multiportgraph.specs.Reading.{copy_node};
-ghost use Rattle.multi_tables.specs.TableReads.{far_in, first_in, copy_at, subports_at, grown_incoming, grown_outgoing};
+ghost use Rattle.multi_tables.specs.TableReads.{far_in, first_in, copy_at, subports_at};
 ghost use Rattle.multiportgraph.specs.CodeForms.{prepared_as};
 ghost use Rattle.multi_tables.specs.Forms.{put_flag};
 ghost use Rattle.multiportgraph.specs.HiddenNodes.{enough, split, grow, prepare, copy_incoming, copy_outgoing};
+ghost use Rattle.multiportgraph.specs.Tidy.{left_incoming, left_outgoing};
 ghost use Rattle.multiportgraph.specs.Presumed.{OnBlock, LinkedPort, SplitPort};
 
-use crate::copies::copy_in;
+use crate::copies::HiddenCopy;
 use crate::multiportgraph::MultiPortGraph;
-use multi_tables::named::{EndNeed, need_in};
-use multi_tables::reads::{far_in, first_in};
+use multi_tables::named::EndNeed;
+use multi_tables::reads::far_in;
 use port_tables::direction::Direction;
 use port_tables::index::{NODE_PORTS, NodeIndex, PortIndex};
 use port_tables::numbers::wide;
-use portgraph::alloc::NodeAdded as LowerAdded;
 use portgraph::portgraph::PortGraph;
 use portgraph::resize::PortsSet;
 
 // A move list that is long enough for every node.
 const MOVES: usize = 3 * NODE_PORTS;
 
-// A prepared end: the graph, the inner port and its offset; or, where there is no room, the graph as it was.
+// A prepared end: the inner port and its offset, with the graph after it; where there is no room, none, with the graph as it was.
 #[derive(Clone, Copy)]
 pub struct Prepared {
     pub graph: MultiPortGraph,
-    pub port: u32,
-    pub offset: u16,
-    pub ready: bool,
+    pub end: Option<(u32, u16)>,
 }
 
-pub fn copy_incoming(direction: Direction) -> usize
-    ensures { result ≡ copy_incoming direction }
-{
-    match direction {
-        Direction::Incoming => 2,
-        Direction::Outgoing => 1,
+// A new hidden node with two subports: its counts, and where the copy port and the first subport stand in its block.
+#[derive(Clone, Copy)]
+pub struct SplitShape {
+    pub incoming: usize,
+    pub outgoing: usize,
+    pub copy: u32,
+    pub subports: u32,
+}
+
+impl SplitShape {
+    // The one for a port of this side.
+    pub fn new(direction: Direction) -> Self
+        ensures { (result.incoming ≡ copy_incoming direction) × (result.outgoing ≡ copy_outgoing direction) × (result.copy ≡ copy_at direction) × (result.subports ≡ subports_at direction) }
+    {
+        match direction {
+            Direction::Incoming => SplitShape {
+                incoming: 2,
+                outgoing: 1,
+                copy: 2,
+                subports: 0,
+            },
+            Direction::Outgoing => SplitShape {
+                incoming: 1,
+                outgoing: 2,
+                copy: 0,
+                subports: 1,
+            },
+        }
     }
 }
 
-pub fn copy_outgoing(direction: Direction) -> usize
-    ensures { result ≡ copy_outgoing direction }
+// The counts of a hidden node with so many subports on this side.
+pub fn hidden_counts(direction: Direction, subports: usize) -> (usize, usize)
+    ensures { result ≡ (left_incoming direction subports, left_outgoing direction subports) }
 {
     match direction {
-        Direction::Incoming => 1,
-        Direction::Outgoing => 2,
-    }
-}
-
-// Where the copy port stands in a new hidden node's block.
-pub fn copy_at(direction: Direction) -> u32
-    ensures { result ≡ copy_at direction }
-{
-    match direction {
-        Direction::Incoming => 2,
-        Direction::Outgoing => 0,
-    }
-}
-
-// Where the first subport stands there.
-pub fn subports_at(direction: Direction) -> u32
-    ensures { result ≡ subports_at direction }
-{
-    match direction {
-        Direction::Incoming => 0,
-        Direction::Outgoing => 1,
-    }
-}
-
-// The counts of a hidden node that has `count` subports on this side, with one more.
-pub fn grown_incoming(direction: Direction, count: usize) -> usize
-    requires { count ≤ port_slots }
-    ensures { result ≡ grown_incoming direction count }
-{
-    match direction {
-        Direction::Incoming => count + 1,
-        Direction::Outgoing => 1,
-    }
-}
-
-pub fn grown_outgoing(direction: Direction, count: usize) -> usize
-    requires { count ≤ port_slots }
-    ensures { result ≡ grown_outgoing direction count }
-{
-    match direction {
-        Direction::Incoming => 1,
-        Direction::Outgoing => count + 1,
+        Direction::Incoming => (subports, 1),
+        Direction::Outgoing => (1, subports),
     }
 }
 
@@ -125,69 +105,48 @@ pub(crate) fn resized(graph: PortGraph, node: u32, incoming: usize, outgoing: us
 }
 
 impl MultiPortGraph {
-    // The split of a port for which this node was added to the lower graph.
-    fn split_by(
-        self,
-        added: LowerAdded,
-        node: NodeIndex,
-        first: PortIndex,
-        port: u32,
-        direction: Direction,
-    ) -> Prepared
-        requires { LinkedPort self port direction × (added ≡ add_node self.graph (copy_incoming direction) (copy_outgoing direction)) × (added.answer ≡ Ok (node, first)) }
-        ensures { result ≡ prepared_as self (split self port direction) }
-    {
-        let copy = first.0 + copy_at(direction);
-        let old = first.0 + subports_at(direction);
-        let hung = hung_on(added.graph, port, copy, old);
-        let copies = self.copy_node_count + 1;
-        let subports = self.subport_count + 2;
-        Prepared {
-            graph: self.with_copy(hung, port, copy, node.0, true, copies, subports),
-            port: old + 1,
-            offset: 1,
-            ready: true,
-        }
-    }
-
     // Unsplit and linked: a hidden node with 2 subports is made, the old link moves to offset 0, and offset 1 is given.
     pub(crate) fn split(self, port: u32, direction: Direction) -> Prepared
         requires { LinkedPort self port direction }
         ensures { result ≡ prepared_as self (split self port direction) }
     {
-        let added = self
-            .graph
-            .add_node(copy_incoming(direction), copy_outgoing(direction));
+        let shape = SplitShape::new(direction);
+        let added = self.graph.add_node(shape.incoming, shape.outgoing);
         let answer = added.answer;
         let Ok((node, first)) = answer else {
             return Prepared {
                 graph: self,
-                port: 0,
-                offset: 0,
-                ready: false,
+                end: None,
             };
         };
-        self.split_by(added, node, first, port, direction)
+        let copy = first.0 + shape.copy;
+        let old = first.0 + shape.subports;
+        let mut split = self.with_copy(port, copy, node.0, true);
+        split.graph = hung_on(added.graph, port, copy, old);
+        split.copy_node_count += 1;
+        split.subport_count += 2;
+        Prepared {
+            graph: split,
+            end: Some((old + 1, 1)),
+        }
     }
 
     // One more subport after so many of a split port's hidden node, which this lower graph has already.
     fn grow_by(
         self,
         graph: PortGraph,
-        copy: u32,
-        count: usize,
+        hidden: HiddenCopy,
         port: u32,
         direction: Direction,
     ) -> Prepared
-        requires { MultiWf self × (first_in graph.port_link graph.port_meta port direction + count ≤ port_slots) }
-        ensures { result ≡ record { graph = multi graph (put_flag (put_flag self.multiport port_slots copy false) port_slots (far_in graph.port_link port) true) self.copy_node self.copy_node_count (self.subport_count + 1) self.release; port = first_in graph.port_link graph.port_meta port direction + count; offset = count; ready = true } }
+        requires { MultiWf self × (first_in graph.port_link graph.port_meta port direction + hidden.count ≤ port_slots) }
+        ensures { result ≡ record { graph = multi graph (put_flag (put_flag self.multiport port_slots hidden.copy false) port_slots (far_in graph.port_link port) true) self.copy_node self.copy_node_count (self.subport_count + 1) self.release; end = Some (first_in graph.port_link graph.port_meta port direction + hidden.count, hidden.count) } }
     {
-        let first = first_in(&graph.port_link, &graph.port_meta, port, direction);
+        let grown = self.copy_moved(graph, port, hidden.copy, self.subport_count + 1);
+        let first = grown.wire_tables().first_in(port, direction);
         Prepared {
-            graph: self.copy_moved(graph, port, copy, self.subport_count + 1),
-            port: (first + count) as u32,
-            offset: count as u16,
-            ready: true,
+            graph: grown,
+            end: Some(((first + hidden.count) as u32, hidden.count as u16)),
         }
     }
 
@@ -196,21 +155,17 @@ impl MultiPortGraph {
         requires { SplitPort self port direction }
         ensures { result ≡ prepared_as self (grow self (copy_node self port) direction) }
     {
-        let graph = self.graph;
-        let hidden = copy_in(&graph.port_link, &graph.port_meta, port, direction);
-        let more_in = grown_incoming(direction, hidden.count);
-        let more_out = grown_outgoing(direction, hidden.count);
-        let sized = resized(graph, hidden.node, more_in, more_out);
+        let hidden = self.hidden_copy(port, direction);
+        let (incoming, outgoing) = hidden_counts(direction, hidden.count + 1);
+        let sized = resized(self.graph, hidden.node, incoming, outgoing);
         let answer = sized.answer;
         let Ok(_) = answer else {
             return Prepared {
                 graph: self,
-                port: 0,
-                offset: 0,
-                ready: false,
+                end: None,
             };
         };
-        self.grow_by(sized.graph, hidden.copy, hidden.count, port, direction)
+        self.grow_by(sized.graph, hidden, port, direction)
     }
 
     // The end that a link of this port takes.
@@ -218,18 +173,10 @@ impl MultiPortGraph {
         requires { OnBlock self port direction }
         ensures { result ≡ prepared_as self (prepare self port direction) }
     {
-        match need_in(
-            &self.multiport,
-            &self.graph.port_link,
-            &self.graph.port_meta,
-            port,
-            direction,
-        ) {
+        match self.wire_tables().need_in(port, direction) {
             EndNeed::Ready(inner, offset) => Prepared {
                 graph: self,
-                port: inner,
-                offset: offset,
-                ready: true,
+                end: Some((inner, offset)),
             },
             EndNeed::Grow => self.grow(port, direction),
             EndNeed::Split => self.split(port, direction),

@@ -10,7 +10,6 @@ use crate::iter::{
 use crate::multiportgraph::MultiPortGraph;
 use multi_tables::answers::Refusal;
 use multi_tables::marks::either_flagged;
-use multi_tables::named::block_port;
 use port_tables::index::{NodeIndex, PortIndex};
 use port_tables::sides::Sides;
 
@@ -65,7 +64,7 @@ impl MultiPortGraph {
     pub fn port_links(self, port: PortIndex) -> Result<PortLinks, Refusal>
         ensures { (result ≡ start_port_links self port) × (port_links_start_numbers result ≡ port_links_start_numbers (start_port_links self port)) }
     {
-        block_port(&self.graph.port_meta, &self.copy_node, port)?;
+        self.block_port(port)?;
         Ok(PortLinks {
             port: port,
             front: 0,

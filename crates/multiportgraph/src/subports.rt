@@ -8,60 +8,44 @@ ghost use Rattle.multiportgraph.specs.WalkScans.{first_subport, subport_port, po
 
 use crate::iter::NodeSubports;
 use crate::multiportgraph::MultiPortGraph;
-use crate::walks::held_seen;
 use multi_tables::answers::SubportIndex;
-use multi_tables::reads::seen_in;
-use multi_tables::scans::{capped, span_count};
-use multi_tables::seen::SeenPort;
-use port_tables::index::{NODE_SLOTS, PORT_SLOTS, PortIndex};
+use multi_tables::scans::{Held, capped};
+use multi_tables::wire_tables::WireTables;
+use port_tables::index::PortIndex;
 use port_tables::numbers::wide;
 use port_tables::sides::{ports_from, ports_to};
 
 // The subport of a port at an offset, if it has one.
-fn subport_from<'a>(
-    marks: &'a [bool; PORT_SLOTS],
-    links: &'a [u32; PORT_SLOTS],
-    owners: &'a [u32; PORT_SLOTS],
-    flags: &'a [bool; NODE_SLOTS],
-    port: u32,
-    offset: usize,
-) -> Option<SubportIndex>
-    ensures { (result ≡ first_subport (port_subports_in marks.now links.now owners.now flags.now port offset))
+fn subport_from(tables: WireTables<'_>, port: u32, offset: usize) -> Option<SubportIndex>
+    ensures { (result ≡ first_subport (port_subports_in tables.entry.marks.now tables.entry.links.now tables.entry.owners.now tables.entry.flags.now port offset))
         × (subport_port port result ≡ port) }
 {
-    let seen = seen_in(owners, flags, port);
-    match seen {
-        SeenPort::Dead => None,
-        SeenPort::Hidden => None,
-        SeenPort::Visible(_, direction) => {
-            if offset < span_count(marks, links, owners, port, direction) {
-                return Some(SubportIndex {
-                    port: PortIndex(port),
-                    subport_offset: offset as u16,
-                });
-            }
-            None
-        }
+    let Ok((_, direction)) = tables.block_port(PortIndex(port)) else {
+        return None;
+    };
+    if offset < tables.span_count(port, direction) {
+        return Some(SubportIndex {
+            port: PortIndex(port),
+            subport_offset: offset as u16,
+        });
     }
+    None
 }
 
 // The first subport of the ports below `end`, from one port and offset on.
-fn next_subport<'a>(
-    marks: &'a [bool; PORT_SLOTS],
-    links: &'a [u32; PORT_SLOTS],
-    owners: &'a [u32; PORT_SLOTS],
-    flags: &'a [bool; NODE_SLOTS],
+fn next_subport(
+    tables: WireTables<'_>,
     from: usize,
     offset: usize,
     end: usize,
 ) -> Option<SubportIndex>
-    ensures { (result ≡ first_subport (subports_rest marks.now links.now owners.now flags.now from offset (min end port_slots - from)))
+    ensures { (result ≡ first_subport (subports_rest tables.entry.marks.now tables.entry.links.now tables.entry.owners.now tables.entry.flags.now from offset (min end port_slots - from)))
         × (subport_port 0 result < port_slots) }
 {
     let stop = capped(end);
     let mut first = offset;
     for port in from..stop {
-        let found = subport_from(marks, links, owners, flags, port as u32, first);
+        let found = subport_from(tables, port as u32, first);
         if let Some(_) = found {
             return found;
         }
@@ -71,32 +55,20 @@ fn next_subport<'a>(
 }
 
 // The first subport of the ports from `from` on and below `end` that lies beyond what a cursor holds.
-fn subport_beyond<'a>(
-    marks: &'a [bool; PORT_SLOTS],
-    links: &'a [u32; PORT_SLOTS],
-    owners: &'a [u32; PORT_SLOTS],
-    flags: &'a [bool; NODE_SLOTS],
+fn subport_beyond(
+    tables: WireTables<'_>,
     from: usize,
     end: usize,
-    held: u32,
-    offset: u16,
+    held: Held,
 ) -> Option<SubportIndex>
-    ensures { (result ≡ first_subport (subports_beyond marks.now links.now owners.now flags.now from end held offset))
+    ensures { (result ≡ first_subport (subports_beyond tables.entry.marks.now tables.entry.links.now tables.entry.owners.now tables.entry.flags.now from end held.port held.offset))
         × (subport_port 0 result < port_slots) }
 {
-    let place = wide(held);
+    let place = wide(held.port);
     if place <= from {
-        return next_subport(marks, links, owners, flags, from, 0, end);
+        return next_subport(tables, from, 0, end);
     }
-    next_subport(
-        marks,
-        links,
-        owners,
-        flags,
-        place - 1,
-        usize::from(offset) + 1,
-        end,
-    )
+    next_subport(tables, place - 1, usize::from(held.offset) + 1, end)
 }
 
 impl NodeSubports {
@@ -110,16 +82,16 @@ impl NodeSubports {
         let Ok(meta) = block else {
             return None;
         };
-        if held_seen(&graph.graph.port_meta, &graph.copy_node, self.held) {
+        if graph.held_seen(self.held) {
+            let held = Held {
+                port: self.held,
+                offset: self.offset,
+            };
             let found = subport_beyond(
-                &graph.multiport,
-                &graph.graph.port_link,
-                &graph.graph.port_meta,
-                &graph.copy_node,
+                graph.wire_tables(),
                 ports_from(meta, sides),
                 ports_to(meta, sides),
-                self.held,
-                self.offset,
+                held,
             );
             return match found {
                 None => None,

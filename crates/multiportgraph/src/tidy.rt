@@ -5,17 +5,15 @@ ghost use Rattle.port_tables.specs.Tables.{at};
 ghost use Rattle.multiportgraph.specs.Reading.{copy_node, is_split, subports};
 ghost use Rattle.multi_tables.specs.TableReads.{first_in};
 ghost use Rattle.multiportgraph.specs.CodeForms.{linked_from};
-ghost use Rattle.multiportgraph.specs.Tidy.{left_incoming, left_outgoing, drop_subports, link_directly, subports_left, tidied};
+ghost use Rattle.multiportgraph.specs.Tidy.{drop_subports, link_directly, subports_left, tidied};
 ghost use Rattle.multiportgraph.specs.Calls.{tidy_port};
 ghost use Rattle.multiportgraph.specs.Answers.{tidy_numbers};
 ghost use Rattle.multiportgraph.specs.WellFormed.{MultiWf};
 ghost use Rattle.multiportgraph.specs.Presumed.{OnBlock, SplitPort, LeftPort};
 
-use crate::copies::copy_in;
 use crate::multiportgraph::{MultiPortGraph, PortTidied};
-use crate::prepare::{linked, resized};
+use crate::prepare::{hidden_counts, linked, resized};
 use multi_tables::marks::marked;
-use multi_tables::reads::{first_in, subports_in};
 use port_tables::direction::Direction;
 use port_tables::index::{PORT_SLOTS, PortIndex};
 use port_tables::numbers::wide;
@@ -34,37 +32,6 @@ pub(crate) fn linked_from(links: &[u32; PORT_SLOTS], first: usize, count: usize)
     0
 }
 
-// The counts of a hidden node with so many subports on this side.
-fn left_incoming(direction: Direction, left: usize) -> usize
-    ensures { result ≡ left_incoming direction left }
-{
-    match direction {
-        Direction::Incoming => left,
-        Direction::Outgoing => 1,
-    }
-}
-
-fn left_outgoing(direction: Direction, left: usize) -> usize
-    ensures { result ≡ left_outgoing direction left }
-{
-    match direction {
-        Direction::Incoming => 1,
-        Direction::Outgoing => left,
-    }
-}
-
-// What the first subport of a split port is linked with, one higher; 0 for nothing.
-fn first_held<'a>(
-    links: &'a [u32; PORT_SLOTS],
-    owners: &'a [u32; PORT_SLOTS],
-    port: u32,
-    direction: Direction,
-) -> u32
-    ensures { result ≡ at links.now (first_in links.now owners.now port direction) }
-{
-    at(links, first_in(links, owners, port, direction))
-}
-
 impl MultiPortGraph {
     // A split port's hidden node is left with some of its subports. The copy port's mark moves with it.
     fn drop_subports(
@@ -77,11 +44,9 @@ impl MultiPortGraph {
         requires { LeftPort self port direction count left }
         ensures { result ≡ drop_subports self (copy_node self port) direction left }
     {
-        let graph = self.graph;
-        let hidden = copy_in(&graph.port_link, &graph.port_meta, port, direction);
-        let incoming = left_incoming(direction, left);
-        let outgoing = left_outgoing(direction, left);
-        let sized = resized(graph, hidden.node, incoming, outgoing);
+        let hidden = self.hidden_copy(port, direction);
+        let (incoming, outgoing) = hidden_counts(direction, left);
+        let sized = resized(self.graph, hidden.node, incoming, outgoing);
         let subports = self
             .subport_count
             .saturating_sub(count.saturating_sub(left));
@@ -93,11 +58,10 @@ impl MultiPortGraph {
         requires { SplitPort self port direction }
         ensures { result ≡ link_directly self port direction }
     {
-        let held = first_held(
+        // as the table holds it: one higher than the port, 0 for nothing
+        let held = at(
             &self.graph.port_link,
-            &self.graph.port_meta,
-            port,
-            direction,
+            self.wire_tables().first_in(port, direction),
         );
         let mut bare = self.drop_copy(port, direction);
         if held == 0 {
@@ -137,18 +101,9 @@ impl MultiPortGraph {
         ensures { result ≡ cond (is_split self port) (tidied self port direction) self }
     {
         if marked(&self.multiport, wide(port)) {
-            let count = subports_in(
-                &self.graph.port_link,
-                &self.graph.port_meta,
-                port,
-                direction,
-            );
-            let first = first_in(
-                &self.graph.port_link,
-                &self.graph.port_meta,
-                port,
-                direction,
-            );
+            let tables = self.wire_tables();
+            let count = tables.subports_in(port, direction);
+            let first = tables.first_in(port, direction);
             let left = linked_from(&self.graph.port_link, first, count);
             return self.with_left(port, direction, count, left);
         }

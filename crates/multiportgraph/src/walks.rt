@@ -1,34 +1,20 @@
 // Walks over the blocks, over all ports, and over the ports of a block.
-ghost use Rattle.std.specs.Prelude.{◌≡◌, ◌≤◌};
+ghost use Rattle.std.specs.Prelude.{◌≡◌, ◌<◌, ◌≤◌, MatchOption, Some, None};
 ghost use Rattle.port_tables.specs.Limits.{port_slots};
 ghost use Rattle.multiportgraph.specs.Walks.{node_held, step_nodes, step_nodes_back, step_all_ports, step_all_ports_back, step_node_ports};
 ghost use Rattle.multiportgraph.specs.WalkNumbers.{nodes_values, ports_values, node_ports_values};
 ghost use Rattle.multiportgraph.specs.WellFormed.{MultiWf};
-ghost use Rattle.multiportgraph.specs.WalkScans.{held_in, block_slot, ports_in, first_or, last_or};
+ghost use Rattle.multiportgraph.specs.WalkScans.{held_in, block_slot, ports_in};
+ghost use Rattle.port_tables.specs.Lists.{on_first, on_last};
 ghost use Rattle.multi_tables.specs.Scans.{end_before};
 
 use crate::iter::{NodePorts, Nodes, Ports};
 use crate::multiportgraph::MultiPortGraph;
 use multi_tables::marks::flagged;
-use multi_tables::named::block_port;
 use port_tables::index::{NODE_SLOTS, NodeIndex, PORT_SLOTS, PortIndex};
 use port_tables::node_entry::NodeSlot;
 use port_tables::numbers::wide;
 use port_tables::sides::{ports_from, ports_to};
-
-// Whether the port that a cursor holds is still there.
-pub(crate) fn held_seen<'a>(
-    owners: &'a [u32; PORT_SLOTS],
-    flags: &'a [bool; NODE_SLOTS],
-    held: u32,
-) -> bool
-    ensures { result ≡ held_in owners.now flags.now held }
-{
-    if held == 0 {
-        return true;
-    }
-    block_port(owners, flags, PortIndex(held - 1)).is_ok()
-}
 
 // Of `count` items those before what was given last from the back.
 pub(crate) fn end_before(back: u32, count: usize) -> usize
@@ -60,6 +46,42 @@ impl MultiPortGraph {
             return true;
         }
         self.contains_node(NodeIndex(held - 1))
+    }
+
+    // Whether the port that a cursor holds is still there.
+    pub(crate) fn held_seen(&self, held: u32) -> bool
+        ensures { result ≡ held_in self.now.graph.port_meta self.now.copy_node held }
+    {
+        if held == 0 {
+            return true;
+        }
+        self.block_port(PortIndex(held - 1)).is_ok()
+    }
+
+    // The first port of a block from one slot on and below another.
+    fn first_port(&self, from: usize, end: usize) -> Option<u32>
+        requires { end ≤ port_slots }
+        ensures { (result ≡ on_first None Some (ports_in self.now.graph.port_meta self.now.copy_node from end)) × MatchOption result (Unit {0}) (λ p. p < port_slots) }
+    {
+        for port in from..end {
+            if self.held_seen(port as u32 + 1) {
+                return Some(port as u32);
+            }
+        }
+        None
+    }
+
+    // The last one.
+    fn last_port(&self, from: usize, end: usize) -> Option<u32>
+        requires { end ≤ port_slots }
+        ensures { (result ≡ on_last None Some (ports_in self.now.graph.port_meta self.now.copy_node from end)) × MatchOption result (Unit {0}) (λ p. p < port_slots) }
+    {
+        for port in (from..end).rev() {
+            if self.held_seen(port as u32 + 1) {
+                return Some(port as u32);
+            }
+        }
+        None
     }
 }
 
@@ -120,42 +142,6 @@ impl Nodes {
     }
 }
 
-// The first port of a block from one slot on and below another; the latter where there is none.
-fn first_port<'a>(
-    owners: &'a [u32; PORT_SLOTS],
-    flags: &'a [bool; NODE_SLOTS],
-    from: usize,
-    end: usize,
-) -> usize
-    requires { end ≤ port_slots }
-    ensures { result ≡ first_or port_slots (ports_in owners.now flags.now from end) }
-{
-    for port in from..end {
-        if held_seen(owners, flags, port as u32 + 1) {
-            return port;
-        }
-    }
-    PORT_SLOTS
-}
-
-// The last one.
-fn last_port<'a>(
-    owners: &'a [u32; PORT_SLOTS],
-    flags: &'a [bool; NODE_SLOTS],
-    from: usize,
-    end: usize,
-) -> usize
-    requires { end ≤ port_slots }
-    ensures { result ≡ last_or port_slots (ports_in owners.now flags.now from end) }
-{
-    for port in (from..end).rev() {
-        if held_seen(owners, flags, port as u32 + 1) {
-            return port;
-        }
-    }
-    PORT_SLOTS
-}
-
 impl Ports {
     pub fn step(self, graph: MultiPortGraph) -> Option<(PortIndex, Ports)>
         requires { MultiWf graph }
@@ -163,19 +149,19 @@ impl Ports {
     {
         let front = self.front;
         let back = self.back;
-        if held_seen(&graph.graph.port_meta, &graph.copy_node, front) {
-            if held_seen(&graph.graph.port_meta, &graph.copy_node, back) {
+        if graph.held_seen(front) {
+            if graph.held_seen(back) {
                 let end = end_before(back, PORT_SLOTS);
-                let port = first_port(&graph.graph.port_meta, &graph.copy_node, wide(front), end);
-                if port < PORT_SLOTS {
-                    return Some((
-                        PortIndex(port as u32),
-                        Ports {
-                            front: port as u32 + 1,
-                            back: back,
-                        },
-                    ));
-                }
+                let Some(port) = graph.first_port(wide(front), end) else {
+                    return None;
+                };
+                return Some((
+                    PortIndex(port),
+                    Ports {
+                        front: port + 1,
+                        back: back,
+                    },
+                ));
             }
         }
         None
@@ -187,19 +173,19 @@ impl Ports {
     {
         let front = self.front;
         let back = self.back;
-        if held_seen(&graph.graph.port_meta, &graph.copy_node, front) {
-            if held_seen(&graph.graph.port_meta, &graph.copy_node, back) {
+        if graph.held_seen(front) {
+            if graph.held_seen(back) {
                 let end = end_before(back, PORT_SLOTS);
-                let port = last_port(&graph.graph.port_meta, &graph.copy_node, wide(front), end);
-                if port < PORT_SLOTS {
-                    return Some((
-                        PortIndex(port as u32),
-                        Ports {
-                            front: front,
-                            back: port as u32 + 1,
-                        },
-                    ));
-                }
+                let Some(port) = graph.last_port(wide(front), end) else {
+                    return None;
+                };
+                return Some((
+                    PortIndex(port),
+                    Ports {
+                        front: front,
+                        back: port + 1,
+                    },
+                ));
             }
         }
         None
@@ -218,7 +204,7 @@ impl NodePorts {
         let Ok(meta) = block else {
             return None;
         };
-        if held_seen(&graph.graph.port_meta, &graph.copy_node, held) {
+        if graph.held_seen(held) {
             let port = ports_from(meta, sides).max(wide(held));
             if port < ports_to(meta, sides) {
                 return Some((

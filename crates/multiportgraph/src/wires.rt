@@ -11,39 +11,26 @@ use crate::iter::Wires;
 use crate::multiportgraph::MultiPortGraph;
 use multi_tables::answers::SubportLink;
 use multi_tables::marks::flagged;
-use multi_tables::named::block_port;
-use multi_tables::scans::block_links;
+use multi_tables::scans::Held;
 use port_tables::index::{NODE_SLOTS, PortIndex};
 use port_tables::numbers::wide;
 
 impl MultiPortGraph {
     // The first wire of the node slots from `node` on; of that one beyond what a cursor holds.
-    fn next_wire(self, node: usize, held: u32, offset: u16) -> Option<SubportLink>
-        ensures { (result ≡ first_found (wires_in self.multiport self.graph.port_link self.graph.port_meta self.copy_node self.graph.node_meta node held offset (node_slots - node)))
+    fn next_wire(self, node: usize, held: Held) -> Option<SubportLink>
+        ensures { (result ≡ first_found (wires_in self.multiport self.graph.port_link self.graph.port_meta self.copy_node self.graph.node_meta node held.port held.offset (node_slots - node)))
             × (link_port 0 result < port_slots) }
     {
         let lower = self.graph;
         let slots = lower.node_slots();
-        let mut h = held;
-        let mut o = offset;
+        let tables = self.wire_tables();
+        let mut left = held;
         for n in node..NODE_SLOTS {
-            let slot = slots[n];
-            let hidden = flagged(&self.copy_node, n);
-            let found = block_links(
-                &self.multiport,
-                &self.graph.port_link,
-                &self.graph.port_meta,
-                &self.copy_node,
-                slot,
-                hidden,
-                h,
-                o,
-            );
+            let found = tables.block_links(slots[n], flagged(&self.copy_node, n), left);
             if let Some(_) = found {
                 return found;
             }
-            h = 0;
-            o = 0;
+            left = Held { port: 0, offset: 0 };
         }
         None
     }
@@ -76,14 +63,17 @@ impl Wires {
         requires { MultiWf graph }
         ensures { (result ≡ step_wires graph self) × (wires_values result ≡ wires_values (step_wires graph self)) }
     {
-        let held = self.held;
-        if held == 0 {
-            return wires_item(graph.next_wire(0, 0, 0));
+        let held = Held {
+            port: self.held,
+            offset: self.offset,
+        };
+        if held.port == 0 {
+            return wires_item(graph.next_wire(0, Held { port: 0, offset: 0 }));
         }
-        let port = PortIndex(held - 1);
-        let Ok((node, _)) = block_port(&graph.graph.port_meta, &graph.copy_node, port) else {
+        let port = PortIndex(held.port - 1);
+        let Ok((node, _)) = graph.block_port(port) else {
             return None;
         };
-        wires_item(graph.next_wire(wide(node.0), held, self.offset))
+        wires_item(graph.next_wire(wide(node.0), held))
     }
 }

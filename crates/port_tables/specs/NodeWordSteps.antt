@@ -1,10 +1,10 @@
 -- Slots read and written as numbers, step by step: what the functions' proofs cite.
-use Rattle.std.specs.Prelude.{◌≡◌, refl, List, [], ◌∷◌, ◌++◌, Bool, true, false, set, get_or, length, ltb}
+use Rattle.std.specs.Prelude.{◌≡◌, refl, List, [], ◌∷◌, ◌++◌, Bool, true, false, set, get_or, length, ltb, take, drop}
 use Rattle.std.proofs.Common.{ap, sym, ◌∙◌, subst, lt-ltb, le-ltb, eq-eqb, ne_eqb, ltb-true, ltb-false}
 use Prim.Native.Nat.{ℕ, suc, ◌*◌, ◌+◌, zero, ◌<◌, ◌≤◌}
 use native.Mathlib.Omega.{arith}
-use Rattle.std.proofs.lemmas.List.Edits.{sets}
-use Rattle.std.proofs.lemmas.List.{set-get_or}
+use Rattle.std.proofs.lemmas.List.Edits.{sets, sets-eq}
+use Rattle.std.proofs.lemmas.List.{set-get_or, append_assoc, drop-drop}
 use Rattle.port_tables.specs.NodeWords.{slot_of_words, slots_in, narrow, slot_in, put_slot, meta_in, words_of_entry, words_of, Own, Canonical, StaysCanonical}
 use Rattle.port_tables.specs.declared.node_entry.NodeSlot.{NodeSlot}
 use Rattle.port_tables.specs.Entries.{fresh_slot, free_slot_of, node_slot_of, meta_of, with_prev, next_of, meta_of_entry}
@@ -219,6 +219,48 @@ free_own f h i = ap (λ (s : NodeSlot). words_of_entry s.entry) (sym (free_of_wo
 pub node_own : (m : NodeMeta) → m.incoming < 65536 → m.outgoing < 65536 → m.capacity < 65536 → Own 1 m.first_port.0 m.incoming m.outgoing m.capacity
 unfolding words_of_entry
 node_own m h i j = ap (λ (s : NodeSlot). words_of_entry s.entry) (node_words m h i j)
+
+-- The numbers of a slot, read back, and stored.
+
+pub free_read : (s : NodeSlot) (f : FreeNodeEntry) → s.entry ≡ node_variants.Free f → f.prev < 65536 → f.next < 65536
+    → (0 ∷ f.prev ∷ f.next ∷ 0 ∷ 0 ∷ [] ≡ words_of_entry s.entry) × (slots_in (0 ∷ f.prev ∷ f.next ∷ 0 ∷ 0 ∷ []) ≡ s ∷ [])
+unfolding words_of_entry slots_in
+free_read s f e h i = (
+  ap words_of_entry (sym e),
+  ap (λ (x : NodeSlot). x ∷ []) (sym (free_of_words 0 f.prev f.next 0 0 _ _ refl (narrow_small f.prev h) (narrow_small f.next i)) ∙ ap (λ (x : NodeEntry). slot_of x) (sym e)),
+)
+
+pub node_read : (s : NodeSlot) (m : NodeMeta) → s.entry ≡ node_variants.Node m → m.incoming < 65536 → m.outgoing < 65536 → m.capacity < 65536
+    → (1 ∷ m.first_port.0 ∷ m.incoming ∷ m.outgoing ∷ m.capacity ∷ [] ≡ words_of_entry s.entry) × (slots_in (1 ∷ m.first_port.0 ∷ m.incoming ∷ m.outgoing ∷ m.capacity ∷ []) ≡ s ∷ [])
+unfolding words_of_entry slots_in
+node_read s m e h i j = (
+  ap words_of_entry (sym e),
+  ap (λ (x : NodeSlot). x ∷ []) (node_words m h i j ∙ ap (λ (x : NodeEntry). slot_of x) (sym e)),
+)
+
+slot_written : (t : List ℕ) (n : ℕ) (s : NodeSlot) (e : NodeEntry) → slots_in (words_of_entry e) ≡ s ∷ [] → slots_in (sets t (5 * n) (words_of_entry e)) ≡ set (slots_in t) n s
+unfolding words_of_entry slots_in
+slot_written t n s (Free f) r = let q : slot_of_words 0 f.prev f.next 0 0 ≡ s = cc in words_written t n 0 f.prev f.next 0 0 ∙ ap (set (slots_in t) n) q
+slot_written t n s (Node m) r = let q : slot_of_words 1 m.first_port.0 m.incoming m.outgoing m.capacity ≡ s = cc in words_written t n 1 m.first_port.0 m.incoming m.outgoing m.capacity ∙ ap (set (slots_in t) n) q
+
+pub length_words : (e : NodeEntry) → length (words_of_entry e) ≡ 5
+unfolding words_of_entry
+length_words (Free f) = refl
+length_words (Node m) = refl
+
+-- a slot stored as its numbers, in the place of those that stood there
+pub slot_put : (t ws : List ℕ) (n m : ℕ) (s : NodeSlot) → n < node_slots → 5 * n + 5 ≤ length t → m ≡ 5 → ws ≡ words_of_entry s.entry → slots_in ws ≡ s ∷ []
+    → (slots_in (take (5 * n) t ++ (ws ++ drop m (drop (5 * n) t))) ≡ put_slot (slots_in t) n s) × StaysCanonical t (take (5 * n) t ++ (ws ++ drop m (drop (5 * n) t)))
+slot_put t ws n m s h l five e r =
+    let w : List ℕ = words_of_entry s.entry in
+    let new : List ℕ = take (5 * n) t ++ (ws ++ drop m (drop (5 * n) t)) in
+    let long : 5 * n + length w ≤ length t = omega (arith, length_words s.entry) in
+    let put : sets t (5 * n) w ≡ take (5 * n) t ++ w ++ drop (5 * n + 5) t = rw (length_words s.entry) at (sets-eq w t (5 * n) long) in
+    let same : sets t (5 * n) w ≡ new = rw (e, five, drop-drop, ← append_assoc) put in
+    let read : slots_in new ≡ set (slots_in t) n s = ap slots_in (sym same) ∙ slot_written t n s s.entry (rw e at r) in (
+      read ∙ sym (put_inside (slots_in t) n s h),
+      λ c. sym same ∙ (ap (λ (x : List ℕ). sets x (5 * n) w) c ∙ (slot_stored (slots_in t) n s.entry ∙ ap words_of (sym read))),
+    )
 
 -- The entry before a free one.
 

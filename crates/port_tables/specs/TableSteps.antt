@@ -1,13 +1,14 @@
 -- What single steps and single turns of a loop do to the port tables.
 -- A law of a step says which definition its stores amount to; a law of a turn takes one port off the work that is left.
 use Rattle.std.specs.Prelude.{◌≡◌, refl, List, [], ◌∷◌, ◌++◌, Bool, true, false, cond, ℕ, ◌<◌, ◌≤◌, zero, suc, ◌+◌, ◌-◌, ◌*◌, get_or, set, length, take, drop, eqb}
-use Rattle.std.proofs.Common.{ap, arith, length-drop, suc-add, zero-add, lt-ltb, le-ltb, le-leb, ne_eqb, eq-eqb}
+use Rattle.std.proofs.Common.{ap, arith, length-drop, suc-add, zero-add, add-zero, lt-ltb, le-ltb, le-leb, ne_eqb, eq-eqb}
 use Rattle.std.proofs.Math.ListN.{replicate}
 use Rattle.std.proofs.lemmas.List.Edits.{sets}
 use Rattle.std.proofs.lemmas.Bool.{lt-leb}
 use Rattle.std.proofs.Math.Seq.{length-take-le}
+use Rattle.std.proofs.Math.Nat.{sub-zero}
 use Rattle.port_tables.specs.Limits.{port_slots, node_ports, no_port}
-use Rattle.port_tables.specs.Tables.{at, put, head_at, put_head, fill, fill_range, link_both, cut_far, cut, link_count, told_link, relink, move_port, chain_block, cut_range, cut_count, move_up, transfer, drop_events, move_up_events, move_down_events, move_down}
+use Rattle.port_tables.specs.Tables.{at, put, head_at, put_head, fill, fill_range, link_both, cut_far, cut, link_count, told_link, relink, move_port, chain_block, cut_range, cut_count, move_up, transfer, drop_events, move_up_events, move_down_events, move_down, shift, shift_events, moved_at}
 
 -- Reading and storing.
 pub at_inside : (t : List ℕ) (s : ℕ) → s < port_slots → get_or t s 0 ≡ at t s
@@ -242,6 +243,42 @@ pub move_down_done : (k : ℕ) → k ≤ 0 → (t : List ℕ) (old new : ℕ) �
 unfolding move_down
 move_down_done zero h t old new = refl
 move_down_done (suc k) h t old new = absurd (omega arith)
+
+-- What is left of a shift of n ports, and of what is told of it, once k of them are done.
+abbrev pub shift_left : List ℕ → Bool → ℕ → ℕ → ℕ → ℕ → List ℕ
+shift_left t ascending old new n k = cond ascending (move_up t (old + k) (new + k) (n - k)) (move_down t old new (n - k))
+
+abbrev pub shift_events_left : Bool → ℕ → ℕ → ℕ → ℕ → List ℕ
+shift_events_left ascending old new n k = cond ascending (move_up_events (old + k) (new + k) (n - k)) (move_down_events old new (n - k))
+
+pub shift_starts : (t : List ℕ) (ascending : Bool) (old new n : ℕ) → shift_left t ascending old new n 0 ≡ shift t ascending old new n
+unfolding shift
+shift_starts t ascending old new n = simp (add-zero, sub-zero)
+
+pub shift_turn : (ascending : Bool) (k n : ℕ) → k < n → (t t' : List ℕ) (old new : ℕ) → t' ≡ move_port t (old + moved_at ascending n k) (new + moved_at ascending n k)
+    → shift_left t' ascending old new n (k + 1) ≡ shift_left t ascending old new n k
+shift_turn true k n h t t' old new e = move_up_turn k n h t t' old new e
+shift_turn false k n h t t' old new e =
+    let f : n - (k + 1) ≡ n - k - 1 = omega arith in
+    rw f (move_down_turn (n - k) (omega arith) t t' old new (rw f at e))
+
+pub shift_done : (k n : ℕ) → n ≤ k → (t : List ℕ) (ascending : Bool) (old new : ℕ) → t ≡ shift_left t ascending old new n k
+shift_done k n h t true old new = move_up_done k n h t (old + k) (new + k)
+shift_done k n h t false old new = move_down_done (n - k) (omega arith) t old new
+
+pub shift_events_start : (ascending : Bool) (old new n : ℕ) → shift_events_left ascending old new n 0 ≡ shift_events ascending old new n
+unfolding shift_events
+shift_events_start ascending old new n = simp (add-zero, sub-zero)
+
+pub shift_events_turn : (ascending : Bool) (k n : ℕ) → k < n → (m m' : List ℕ) (i old new : ℕ)
+    → m' ≡ sets m (3 * (i + k)) ((old + moved_at ascending n k) ∷ 0 ∷ (new + moved_at ascending n k) ∷ [])
+    → sets m' (3 * (i + (k + 1))) (shift_events_left ascending old new n (k + 1)) ≡ sets m (3 * (i + k)) (shift_events_left ascending old new n k)
+shift_events_turn true k n h m m' i old new e = move_up_events_turn k n h m m' i old new e
+shift_events_turn false k n h m m' i old new e = move_down_events_turn k n h m m' i old new e
+
+pub shift_events_done : (k n : ℕ) → n ≤ k → (m : List ℕ) (i : ℕ) (ascending : Bool) (old new : ℕ) → m ≡ sets m i (shift_events_left ascending old new n k)
+shift_events_done k n h m i true old new = move_up_events_done k n h m i (old + k) (new + k)
+shift_events_done k n h m i false old new = move_down_events_done k n h m i old new
 
 pub no_link_less : (n far : ℕ) → far ≡ 0 → n ≡ n - link_count far
 unfolding link_count

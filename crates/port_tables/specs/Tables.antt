@@ -5,6 +5,7 @@ use Rattle.port_tables.specs.Limits.{port_slots, node_ports, no_port}
 use Rattle.port_tables.specs.Entries.{owner_number}
 use Rattle.port_tables.specs.declared.direction.Direction.TheVariants.{Incoming, Outgoing}
 use Rattle.port_tables.specs.declared.node_entry.NodeMeta.{NodeMeta}
+use Rattle.port_tables.specs.declared.tables.Shift.{Shift}
 
 -- what a port table holds at a slot; 0 outside
 unfoldable pub at : List ℕ → ℕ → ℕ
@@ -32,6 +33,10 @@ head_at heads size = cond (leb size node_ports) (get_or heads size 0) 0
 -- the heads with another first free block of a size; there are no blocks of size 0
 unfoldable pub put_head : List ℕ → ℕ → ℕ → List ℕ
 put_head heads size v = cond (ltb 0 size) (cond (leb size node_ports) (set heads size v) heads) heads
+
+-- a block within the tables that has room for its ports
+abbrev pub BlockWithin : NodeMeta → Type 0
+BlockWithin m = (m.first_port.0 + m.capacity ≤ port_slots) × (m.incoming + m.outgoing ≤ m.capacity)
 
 -- owners: the slots of a block belong to its node, incoming ports first, then outgoing; what is left is free
 unfoldable pub own_block : List ℕ → ℕ → NodeMeta → List ℕ
@@ -89,6 +94,14 @@ move_down t old new (suc n) = move_down (move_port t (old + n) (new + n)) old ne
 -- n ports move within their block: from the first one where they go down, else from the last, so that none is overwritten
 unfoldable pub shift : List ℕ → Bool → ℕ → ℕ → ℕ → List ℕ
 shift t ascending old new n = cond ascending (move_up t old new n) (move_down t old new n)
+
+-- ports that move, where they are and where they go, lie within the tables
+abbrev pub ShiftFits : Shift → Type 0
+ShiftFits s = (s.from + s.count ≤ port_slots) × (s.to + s.count ≤ port_slots)
+
+-- which of n ports moves k-th: from the first one on, or from the last one down
+abbrev pub moved_at : Bool → ℕ → ℕ → ℕ
+moved_at ascending n k = cond ascending k (n - (k + 1))
 
 -- n ports move to another block, the first one first; the old slots are left without a link
 unfoldable pub transfer : List ℕ → ℕ → ℕ → ℕ → List ℕ

@@ -1,8 +1,8 @@
 // The graph's tables lent one by one, for a run that copies none of them. The node table is held as numbers, five a slot:
 // 0, previous and next free entry, 0, 0; or 1, first port, incoming, outgoing, capacity.
-ghost use Rattle.std.specs.Prelude.{◌≡◌};
+ghost use Rattle.std.specs.Prelude.{◌≡◌, [], ◌∷◌};
 ghost use Rattle.port_tables.specs.Entries.{next_of, with_prev};
-ghost use Rattle.port_tables.specs.NodeWords.{narrow, slot_of_words, slots_in, slot_in, put_slot, meta_in, Own, StaysCanonical};
+ghost use Rattle.port_tables.specs.NodeWords.{narrow, words_of_entry, slots_in, slot_in, put_slot, meta_in, StaysCanonical};
 
 use crate::index::{NODE_SLOTS, PortIndex};
 use crate::node_entry::{NodeEntry, NodeMeta, NodeSlot};
@@ -25,28 +25,15 @@ pub struct Counts {
 }
 
 // A number as one of 16 bits; 0 for one that is too large, which no call stores.
+#[tactic(auto, unfolding(crate::specs::NodeWords::narrow))]
 fn narrow(x: u32) -> u16
     ensures { result ≡ narrow x }
 {
     u16::try_from(x).unwrap_or(0)
 }
 
-// Five numbers, read as a slot.
-fn slot_of_words(kind: u32, a: u32, b: u32, c: u32, d: u32) -> NodeSlot
-    ensures { result ≡ slot_of_words kind a b c d }
-{
-    if kind == 0 {
-        return NodeSlot::new_free(narrow(a), narrow(b));
-    }
-    NodeSlot::new_node(NodeMeta {
-        first_port: PortIndex(a),
-        incoming: narrow(b),
-        outgoing: narrow(c),
-        capacity: narrow(d),
-    })
-}
-
 // A slot of the node table; a free one outside.
+#[tactic(auto, unfolding(crate::specs::NodeWords::slot_in, crate::specs::NodeWords::slot_of_words))]
 pub fn slot_in(nodes: &[u32; NODE_WORDS], n: usize) -> NodeSlot
     ensures { result ≡ slot_in nodes.now n }
 {
@@ -54,27 +41,31 @@ pub fn slot_in(nodes: &[u32; NODE_WORDS], n: usize) -> NodeSlot
         return NodeSlot::new_free(0, 0);
     }
     let k = 5 * n;
-    slot_of_words(
-        nodes[k],
-        nodes[k + 1],
-        nodes[k + 2],
-        nodes[k + 3],
-        nodes[k + 4],
-    )
+    if nodes[k] == 0 {
+        return NodeSlot::new_free(narrow(nodes[k + 1]), narrow(nodes[k + 2]));
+    }
+    NodeSlot::new_node(NodeMeta {
+        first_port: PortIndex(nodes[k + 1]),
+        incoming: narrow(nodes[k + 2]),
+        outgoing: narrow(nodes[k + 3]),
+        capacity: narrow(nodes[k + 4]),
+    })
 }
 
-// Stores a slot as its five numbers; outside nothing changes.
-fn put_words(nodes: &mut [u32; NODE_WORDS], n: usize, kind: u32, a: u32, b: u32, c: u32, d: u32)
-    ensures { (slots_in nodes.new ≡ put_slot (slots_in nodes.old) n (slot_of_words kind a b c d))
-        × (Own kind a b c d → StaysCanonical nodes.old nodes.new) }
+// The five numbers of a slot. They are read back as this slot.
+fn words_of(slot: NodeSlot) -> [u32; 5]
+    ensures { (result ≡ words_of_entry slot.entry) × (slots_in result ≡ slot ∷ []) }
 {
-    if n < NODE_SLOTS {
-        let k = 5 * n;
-        nodes[k] = kind;
-        nodes[k + 1] = a;
-        nodes[k + 2] = b;
-        nodes[k + 3] = c;
-        nodes[k + 4] = d;
+    let entry = slot.entry;
+    match entry {
+        NodeEntry::Free(free) => [0, free.prev as u32, free.next as u32, 0, 0],
+        NodeEntry::Node(meta) => [
+            1,
+            meta.first_port.0,
+            meta.incoming as u32,
+            meta.outgoing as u32,
+            meta.capacity as u32,
+        ],
     }
 }
 
@@ -82,22 +73,14 @@ fn put_words(nodes: &mut [u32; NODE_WORDS], n: usize, kind: u32, a: u32, b: u32,
 pub fn put_slot(nodes: &mut [u32; NODE_WORDS], n: usize, slot: NodeSlot)
     ensures { (slots_in nodes.new ≡ put_slot (slots_in nodes.old) n slot) × StaysCanonical nodes.old nodes.new }
 {
-    let entry = slot.entry;
-    match entry {
-        NodeEntry::Free(free) => put_words(nodes, n, 0, free.prev as u32, free.next as u32, 0, 0),
-        NodeEntry::Node(meta) => put_words(
-            nodes,
-            n,
-            1,
-            meta.first_port.0,
-            meta.incoming as u32,
-            meta.outgoing as u32,
-            meta.capacity as u32,
-        ),
+    if n < NODE_SLOTS {
+        let k = 5 * n;
+        nodes[k..k + 5].copy_from_slice(&words_of(slot));
     }
 }
 
 // The next free entry after one; 0 for none, and for a node.
+#[tactic(auto, unfolding(crate::specs::NodeWords::slot_in, crate::specs::NodeWords::slot_of_words))]
 pub fn next_in(nodes: &[u32; NODE_WORDS], n: usize) -> u32
     ensures { result ≡ next_of (slot_in nodes.now n).entry }
 {

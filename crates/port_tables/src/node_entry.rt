@@ -5,7 +5,7 @@ ghost use Rattle.port_tables.specs.Entries.{is_node, next_of, with_prev, free_sl
 use crate::direction::Direction;
 use crate::index::PortIndex;
 
-// Meta data of a valid node.
+// Meta data of a valid node. BlockFits stays a clause: a slot may hold any numbers, and lookups read them all.
 #[derive(Clone, Copy)]
 pub struct NodeMeta {
     // The first slot of the node's block; 0 for a node without a block.

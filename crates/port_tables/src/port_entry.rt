@@ -25,6 +25,7 @@ pub enum PortEntry {
 }
 
 impl PortEntry {
+    #[tactic(auto, unfolding(crate::specs::Entries::port_entry))]
     pub fn read(entry: u32) -> Self
         ensures { (result ≡ port_entry entry) × (port_entry_numbers result ≡ port_entry_numbers (port_entry entry)) }
     {

@@ -2,14 +2,17 @@
 ghost use Rattle.std.specs.Prelude.{◌≡◌, ◌+◌, ◌*◌, ◌≤◌, ◌<◌};
 ghost use Rattle.std.proofs.lemmas.List.Edits.{sets};
 ghost use Rattle.port_tables.specs.Limits.{port_slots, node_ports};
-ghost use Rattle.port_tables.specs.ResizeLinks.{round_up, same_counts, fits_inside, drop_links, drop_count, drop_told, inside_links, anew_links};
+ghost use Rattle.port_tables.specs.Entries.{meta_of};
+ghost use Rattle.port_tables.specs.Tables.{BlockWithin};
+ghost use Rattle.port_tables.specs.ResizeLinks.{round_up, same_counts, fits_inside, first_slot, kept_incoming, kept_outgoing, drop_links, drop_count, drop_told, inside_links, anew_links};
 
-use crate::index::PORT_SLOTS;
+use crate::index::{PORT_SLOTS, PortIndex};
 use crate::node_entry::NodeMeta;
 use crate::numbers::wide;
-use crate::tables::{drop_ports, fill, shift_ports, transfer_ports};
+use crate::tables::{Shift, drop_ports, fill};
 
 // A total rounded up to a power of two; 1 for a total of 0.
+#[tactic(auto, using(crate::specs::ResizeLinkSteps::round_up_power))]
 pub fn round_up(total: usize) -> usize
     requires { total ≤ port_slots }
     ensures { result ≡ round_up total }
@@ -17,116 +20,153 @@ pub fn round_up(total: usize) -> usize
     total.next_power_of_two()
 }
 
-// Whether a node has these counts already.
-pub fn same_counts(meta: NodeMeta, incoming: usize, outgoing: usize) -> bool
-    ensures { result ≡ same_counts meta incoming outgoing }
-{
-    if incoming == usize::from(meta.incoming) {
-        return outgoing == usize::from(meta.outgoing);
+// A node's meta data, and the counts that it is to have.
+#[derive(Clone, Copy)]
+pub struct Resize {
+    pub meta: NodeMeta,
+    pub incoming: usize,
+    pub outgoing: usize,
+}
+
+impl Resize {
+    // Whether the node has these counts already.
+    #[tactic(auto, unfolding(crate::specs::ResizeLinks::same_counts))]
+    pub fn is_same(self) -> bool
+        ensures { result ≡ same_counts self.meta self.incoming self.outgoing }
+    {
+        if self.incoming == usize::from(self.meta.incoming) {
+            return self.outgoing == usize::from(self.meta.outgoing);
+        }
+        false
     }
-    false
-}
 
-// Whether these counts are done within the node's block.
-pub fn fits_inside(meta: NodeMeta, incoming: usize, outgoing: usize) -> bool
-    requires { incoming + outgoing ≤ node_ports }
-    ensures { result ≡ fits_inside meta incoming outgoing }
-{
-    let total = incoming + outgoing;
-    if 0 < total {
-        return total < usize::from(meta.capacity);
+    // Whether these counts are done within the node's block.
+    #[tactic(auto, unfolding(crate::specs::ResizeLinks::fits_inside))]
+    pub fn fits_inside(self) -> bool
+        requires { self.incoming + self.outgoing ≤ node_ports }
+        ensures { result ≡ fits_inside self.meta self.incoming self.outgoing }
+    {
+        let total = self.incoming + self.outgoing;
+        if 0 < total {
+            return total < usize::from(self.meta.capacity);
+        }
+        false
     }
-    false
-}
 
-// Drops the highest positions of each side, incoming ones first, and answers how many links there were.
-pub fn drop_both(
-    links: &mut [u32; PORT_SLOTS],
-    moves: &mut [u32],
-    meta: NodeMeta,
-    incoming: usize,
-    outgoing: usize,
-) -> usize
-    requires { (meta.first_port.0 + meta.capacity ≤ port_slots) × (meta.incoming + meta.outgoing ≤ meta.capacity) }
-    ensures { (result ≡ drop_count links.old meta incoming outgoing)
-        × (links.new ≡ drop_links links.old meta incoming outgoing)
-        × (moves.new ≡ sets moves.old 0 (drop_told links.old meta incoming outgoing)) }
-{
-    let first = wide(meta.first_port.0);
-    let old_in = usize::from(meta.incoming);
-    let old_out = usize::from(meta.outgoing);
-    let kept_in = old_in.min(incoming);
-    let kept_out = old_out.min(outgoing);
-    let a = drop_ports(links, moves, 0, first + kept_in, old_in - kept_in);
-    let b = drop_ports(
-        links,
-        moves,
-        old_in - kept_in,
-        first + old_in + kept_out,
-        old_out - kept_out,
-    );
-    a + b
-}
+    // The node's new meta data, with a block from `first` on.
+    pub fn meta_at(self, first: usize, capacity: usize) -> NodeMeta
+        requires { (self.incoming + self.outgoing ≤ node_ports) × (first ≤ port_slots) × (capacity ≤ node_ports) }
+        ensures { result ≡ meta_of first self.incoming self.outgoing capacity }
+    {
+        NodeMeta {
+            first_port: PortIndex(first as u32),
+            incoming: self.incoming as u16,
+            outgoing: self.outgoing as u16,
+            capacity: capacity as u16,
+        }
+    }
 
-// Moves the outgoing ports that stay, and clears new slots and slots no longer used.
-pub fn inside_links(links: &mut [u32; PORT_SLOTS], meta: NodeMeta, incoming: usize, outgoing: usize)
-    requires { (meta.first_port.0 + meta.capacity ≤ port_slots) × (meta.incoming + meta.outgoing ≤ meta.capacity)
-        × (incoming + outgoing ≤ meta.capacity) × (meta.capacity ≤ node_ports) }
-    ensures { links.new ≡ inside_links links.old meta incoming outgoing }
-{
-    let first = wide(meta.first_port.0);
-    let old_in = usize::from(meta.incoming);
-    let old_out = usize::from(meta.outgoing);
-    let kept = old_out.min(outgoing);
-    shift_ports(
-        links,
-        incoming < old_in,
-        first + old_in,
-        first + incoming,
-        kept,
-    );
-    fill(
-        links,
-        (first + old_in) as u32,
-        incoming.saturating_sub(old_in) as u16,
-        0,
-    );
-    fill(
-        links,
-        (first + incoming + old_out) as u32,
-        outgoing.saturating_sub(old_out) as u16,
-        0,
-    );
-    fill(
-        links,
-        (first + (incoming + outgoing)) as u32,
-        (old_in + old_out).saturating_sub(incoming + outgoing) as u16,
-        0,
-    );
-}
+    // How many incoming ports stay.
+    pub fn kept_incoming(self) -> usize
+        ensures { result ≡ kept_incoming self.meta self.incoming }
+    {
+        usize::from(self.meta.incoming).min(self.incoming)
+    }
 
-// Clears the slots of a new block, and moves the ports that stay into it.
-pub fn anew_links(
-    links: &mut [u32; PORT_SLOTS],
-    meta: NodeMeta,
-    incoming: usize,
-    outgoing: usize,
-    new_first: usize,
-    size: usize,
-)
-    requires { (meta.first_port.0 + meta.capacity ≤ port_slots) × (meta.incoming + meta.outgoing ≤ meta.capacity)
-        × (incoming + outgoing ≤ size) × (size ≤ node_ports) × (new_first + size ≤ port_slots) }
-    ensures { links.new ≡ anew_links links.old meta incoming outgoing new_first size }
-{
-    let first = wide(meta.first_port.0);
-    let old_in = usize::from(meta.incoming);
-    let old_out = usize::from(meta.outgoing);
-    fill(links, new_first as u32, size as u16, 0);
-    transfer_ports(links, first, new_first, old_in.min(incoming));
-    transfer_ports(
-        links,
-        first + old_in,
-        new_first + incoming,
-        old_out.min(outgoing),
-    );
+    // How many outgoing ports stay.
+    pub fn kept_outgoing(self) -> usize
+        ensures { result ≡ kept_outgoing self.meta self.outgoing }
+    {
+        usize::from(self.meta.outgoing).min(self.outgoing)
+    }
+
+    // The incoming ports that stay, as they go to a block from `first` on.
+    pub fn incoming_shift(self, first: usize) -> Shift
+        ensures { (result.from ≡ first_slot self.meta) × (result.to ≡ first) × (result.count ≡ kept_incoming self.meta self.incoming) }
+    {
+        Shift {
+            from: wide(self.meta.first_port.0),
+            to: first,
+            count: self.kept_incoming(),
+        }
+    }
+
+    // The outgoing ports that stay, as they go to a block from `first` on.
+    pub fn outgoing_shift(self, first: usize) -> Shift
+        requires { first + self.incoming ≤ port_slots }
+        ensures { (result.from ≡ first_slot self.meta + self.meta.incoming) × (result.to ≡ first + self.incoming)
+            × (result.count ≡ kept_outgoing self.meta self.outgoing) }
+    {
+        Shift {
+            from: wide(self.meta.first_port.0) + usize::from(self.meta.incoming),
+            to: first + self.incoming,
+            count: self.kept_outgoing(),
+        }
+    }
+
+    // Drops the highest positions of each side, incoming ones first, and answers how many links there were.
+    pub fn drop_both(self, links: &mut [u32; PORT_SLOTS], moves: &mut [u32]) -> usize
+        requires { BlockWithin self.meta }
+        ensures { (result ≡ drop_count links.old self.meta self.incoming self.outgoing)
+            × (links.new ≡ drop_links links.old self.meta self.incoming self.outgoing)
+            × (moves.new ≡ sets moves.old 0 (drop_told links.old self.meta self.incoming self.outgoing)) }
+    {
+        let first = wide(self.meta.first_port.0);
+        let old_in = usize::from(self.meta.incoming);
+        let old_out = usize::from(self.meta.outgoing);
+        let kept_in = self.kept_incoming();
+        let kept_out = self.kept_outgoing();
+        let a = drop_ports(links, moves, 0, first + kept_in, old_in - kept_in);
+        let b = drop_ports(
+            links,
+            moves,
+            old_in - kept_in,
+            first + old_in + kept_out,
+            old_out - kept_out,
+        );
+        a + b
+    }
+
+    // Moves the outgoing ports that stay, and clears new slots and slots no longer used.
+    #[tactic(auto, unfolding(crate::specs::ResizeLinks::inside_links))]
+    pub fn inside_links(self, links: &mut [u32; PORT_SLOTS])
+        requires { BlockWithin self.meta × (self.incoming + self.outgoing ≤ self.meta.capacity) × (self.meta.capacity ≤ node_ports) }
+        ensures { links.new ≡ inside_links links.old self.meta self.incoming self.outgoing }
+    {
+        let first = wide(self.meta.first_port.0);
+        let old_in = usize::from(self.meta.incoming);
+        let old_out = usize::from(self.meta.outgoing);
+        let total = self.incoming + self.outgoing;
+        let shift = self.outgoing_shift(first);
+        shift.move_ports(links, self.incoming < old_in);
+        fill(
+            links,
+            (first + old_in) as u32,
+            self.incoming.saturating_sub(old_in) as u16,
+            0,
+        );
+        fill(
+            links,
+            (first + self.incoming + old_out) as u32,
+            self.outgoing.saturating_sub(old_out) as u16,
+            0,
+        );
+        fill(
+            links,
+            (first + total) as u32,
+            (old_in + old_out).saturating_sub(total) as u16,
+            0,
+        );
+    }
+
+    // Clears the slots of a new block, and moves the ports that stay into it.
+    #[tactic(auto, unfolding(crate::specs::ResizeLinks::anew_links))]
+    pub fn anew_links(self, links: &mut [u32; PORT_SLOTS], new_first: usize, size: usize)
+        requires { BlockWithin self.meta × (self.incoming + self.outgoing ≤ size) × (size ≤ node_ports) × (new_first + size ≤ port_slots) }
+        ensures { links.new ≡ anew_links links.old self.meta self.incoming self.outgoing new_first size }
+    {
+        fill(links, new_first as u32, size as u16, 0);
+        self.incoming_shift(new_first).transfer_ports(links);
+        self.outgoing_shift(new_first).transfer_ports(links);
+    }
 }

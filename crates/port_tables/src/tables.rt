@@ -1,15 +1,16 @@
 // The leaves: each works on one lent table, the move list beside it where events are told.
 // A public leaf tests its numbers and asks nothing of them.
-ghost use Rattle.std.specs.Prelude.{◌≡◌, ◌+◌, ◌-◌, ◌*◌, ◌≤◌, set, [], ◌∷◌};
+ghost use Rattle.std.specs.Prelude.{◌≡◌, ◌+◌, ◌-◌, ◌*◌, ◌≤◌, ◌<◌, set, [], ◌∷◌};
 ghost use Rattle.std.proofs.lemmas.List.Edits.{sets};
 ghost use Rattle.port_tables.specs.Limits.{port_slots};
-ghost use Rattle.port_tables.specs.Tables.{at, put, fill_range, head_at, put_head, own_block, link_both, cut, cut_range, cut_count, link_count, move_port, move_up, move_down, shift, transfer, chain_block, told_link, drop_events, move_up_events, move_down_events, shift_events};
+ghost use Rattle.port_tables.specs.Tables.{at, put, fill_range, head_at, put_head, own_block, link_both, cut, cut_range, cut_count, link_count, move_port, shift, transfer, chain_block, told_link, drop_events, shift_events, moved_at, BlockWithin, ShiftFits};
 
 use crate::index::{FREE_LISTS, NODE_PORTS, PORT_SLOTS};
 use crate::node_entry::NodeMeta;
 use crate::numbers::wide;
 
 // What a table holds at a slot; 0 outside.
+#[tactic(auto, unfolding(crate::specs::Tables::at))]
 pub fn at(table: &[u32; PORT_SLOTS], slot: usize) -> u32
     ensures { result ≡ at table.now slot }
 {
@@ -17,6 +18,7 @@ pub fn at(table: &[u32; PORT_SLOTS], slot: usize) -> u32
 }
 
 // Stores a number at a slot; outside nothing changes.
+#[tactic(auto, unfolding(crate::specs::Tables::put))]
 pub fn put(table: &mut [u32; PORT_SLOTS], slot: usize, value: u32)
     ensures { table.new ≡ put table.old slot value }
 {
@@ -26,6 +28,7 @@ pub fn put(table: &mut [u32; PORT_SLOTS], slot: usize, value: u32)
 }
 
 // The number of links after one is cut, by what the link table held; no link is one that was there.
+#[tactic(auto, unfolding(crate::specs::Tables::link_count))]
 pub fn without_link(count: usize, far: u32) -> usize
     ensures { result ≡ count - link_count far }
 {
@@ -49,6 +52,7 @@ pub fn fill(table: &mut [u32; PORT_SLOTS], first: u32, count: u16, value: u32)
 
 // The first free block of a size, one higher than its first slot; 0 for none.
 // Stays beside at: each says its own table's definition, so that one function over the size would stand below both as a third.
+#[tactic(auto, unfolding(crate::specs::Tables::head_at))]
 pub fn head_at(heads: &[u32; FREE_LISTS], size: usize) -> u32
     ensures { result ≡ head_at heads.now size }
 {
@@ -56,6 +60,7 @@ pub fn head_at(heads: &[u32; FREE_LISTS], size: usize) -> u32
 }
 
 // Makes another block the first free one of its size.
+#[tactic(auto, unfolding(crate::specs::Tables::put_head))]
 pub fn put_head(heads: &mut [u32; FREE_LISTS], size: usize, value: u32)
     ensures { heads.new ≡ put_head heads.old size value }
 {
@@ -67,8 +72,9 @@ pub fn put_head(heads: &mut [u32; FREE_LISTS], size: usize, value: u32)
 }
 
 // The slots of a block get their owner: the node, incoming ports first, then outgoing; what is left is free.
+#[tactic(auto, unfolding(crate::specs::Tables::own_block))]
 pub fn own_block(owners: &mut [u32; PORT_SLOTS], node: u32, meta: NodeMeta)
-    requires { (node ≤ port_slots) × (meta.first_port.0 + meta.capacity ≤ port_slots) × (meta.incoming + meta.outgoing ≤ meta.capacity) }
+    requires { (node ≤ port_slots) × BlockWithin meta }
     ensures { owners.new ≡ own_block owners.old node meta }
 {
     let first = meta.first_port.0;
@@ -82,6 +88,7 @@ pub fn own_block(owners: &mut [u32; PORT_SLOTS], node: u32, meta: NodeMeta)
 }
 
 // Links two ports with one another.
+#[tactic(auto, unfolding(crate::specs::Tables::link_both))]
 pub fn link_both(links: &mut [u32; PORT_SLOTS], a: u32, b: u32)
     ensures { links.new ≡ link_both links.old a b }
 {
@@ -94,6 +101,7 @@ pub fn link_both(links: &mut [u32; PORT_SLOTS], a: u32, b: u32)
 }
 
 // Cuts the link of a port at both ends, and answers what the table held for it.
+#[tactic(auto, unfolding(crate::specs::Tables::cut, crate::specs::Tables::cut_far))]
 pub fn cut(links: &mut [u32; PORT_SLOTS], port: usize) -> u32
     ensures { (result ≡ at links.old port) × (links.new ≡ cut links.old port) }
 {
@@ -106,6 +114,7 @@ pub fn cut(links: &mut [u32; PORT_SLOTS], port: usize) -> u32
 }
 
 // 1 for a link, 0 for none.
+#[tactic(auto, unfolding(crate::specs::Tables::link_count))]
 pub fn link_count(far: u32) -> usize
     ensures { result ≡ link_count far }
 {
@@ -126,6 +135,7 @@ pub fn cut_range(links: &mut [u32; PORT_SLOTS], first: usize, count: usize) -> u
 }
 
 // A port moves to another slot with its link; what stood at the old slot stays there.
+#[tactic(auto, unfolding(crate::specs::Tables::move_port, crate::specs::Tables::relink))]
 pub fn move_port(links: &mut [u32; PORT_SLOTS], old: usize, new: usize)
     requires { new ≤ port_slots }
     ensures { links.new ≡ move_port links.old old new }
@@ -137,56 +147,8 @@ pub fn move_port(links: &mut [u32; PORT_SLOTS], old: usize, new: usize)
     }
 }
 
-// Ports move, the first one first.
-fn move_up(links: &mut [u32; PORT_SLOTS], old: usize, new: usize, count: usize)
-    requires { (old + count ≤ port_slots) × (new + count ≤ port_slots) }
-    ensures { links.new ≡ move_up links.old old new count }
-{
-    for k in 0..count {
-        move_port(links, old + k, new + k);
-    }
-}
-
-// Ports move, the last one first.
-fn move_down(links: &mut [u32; PORT_SLOTS], old: usize, new: usize, count: usize)
-    requires { (old + count ≤ port_slots) × (new + count ≤ port_slots) }
-    ensures { links.new ≡ move_down links.old old new count }
-{
-    for k in (0..count).rev() {
-        move_port(links, old + k, new + k);
-    }
-}
-
-// Ports move within their block: from the first one where they go down, else from the last, so that none is overwritten.
-pub fn shift_ports(
-    links: &mut [u32; PORT_SLOTS],
-    ascending: bool,
-    old: usize,
-    new: usize,
-    count: usize,
-)
-    requires { (old + count ≤ port_slots) × (new + count ≤ port_slots) }
-    ensures { links.new ≡ shift links.old ascending old new count }
-{
-    if ascending {
-        move_up(links, old, new, count);
-    } else {
-        move_down(links, old, new, count);
-    }
-}
-
-// Ports move to another block, the first one first; the old slots are left without a link.
-pub fn transfer_ports(links: &mut [u32; PORT_SLOTS], old: usize, new: usize, count: usize)
-    requires { (old + count ≤ port_slots) × (new + count ≤ port_slots) }
-    ensures { links.new ≡ transfer links.old old new count }
-{
-    for k in 0..count {
-        move_port(links, old + k, new + k);
-        put(links, old + k, 0);
-    }
-}
-
 // A free block is put before the others of its size: its first slot holds the one that was first.
+#[tactic(auto, unfolding(crate::specs::Tables::chain_block))]
 pub fn chain_block(links: &mut [u32; PORT_SLOTS], first: usize, size: usize, head: u32)
     ensures { links.new ≡ chain_block links.old first size head }
 {
@@ -205,6 +167,7 @@ pub fn store(list: &mut [u32], place: usize, value: u32)
 }
 
 // Writes an event of the move list.
+#[tactic(auto, using(crate::specs::TableSteps::stored_event))]
 fn put_event(moves: &mut [u32], event: u32, port: u32, kind: u32, number: u32)
     ensures { moves.new ≡ sets moves.old (3 * event) (port ∷ kind ∷ number ∷ []) }
 {
@@ -215,6 +178,7 @@ fn put_event(moves: &mut [u32], event: u32, port: u32, kind: u32, number: u32)
 }
 
 // What an event tells of a link: the port, or 4294967295 for none.
+#[tactic(auto, unfolding(crate::specs::Tables::told_link))]
 fn told_link(far: u32) -> u32
     ensures { result ≡ told_link far }
 {
@@ -249,52 +213,59 @@ pub fn drop_ports(
     n
 }
 
-fn tell_up(moves: &mut [u32], event: usize, old: usize, new: usize, count: usize)
-    requires { (event + count ≤ port_slots) × (old + count ≤ port_slots) × (new + count ≤ port_slots) }
-    ensures { moves.new ≡ sets moves.old (3 * event) (move_up_events old new count) }
-{
-    for k in 0..count {
-        put_event(
-            moves,
-            (event + k) as u32,
-            (old + k) as u32,
-            0,
-            (new + k) as u32,
-        );
-    }
+// Ports that move: `count` ports from the slot `from` on go to the slots from `to` on.
+#[derive(Clone, Copy)]
+pub struct Shift {
+    pub from: usize,
+    pub to: usize,
+    pub count: usize,
 }
 
-fn tell_down(moves: &mut [u32], event: usize, old: usize, new: usize, count: usize)
-    requires { (event + count ≤ port_slots) × (old + count ≤ port_slots) × (new + count ≤ port_slots) }
-    ensures { moves.new ≡ sets moves.old (3 * event) (move_down_events old new count) }
-{
-    for k in 0..count {
-        let at = count - (k + 1);
-        put_event(
-            moves,
-            (event + k) as u32,
-            (old + at) as u32,
-            0,
-            (new + at) as u32,
-        );
+impl Shift {
+    // Which of these ports moves k-th: from the first one on, or from the last one down.
+    fn place(self, ascending: bool, k: usize) -> usize
+        requires { k < self.count }
+        ensures { (result < self.count) × (result ≡ moved_at ascending self.count k) }
+    {
+        if ascending { k } else { self.count - (k + 1) }
     }
-}
 
-// Tells `count` ports that move, in the order in which they do.
-pub fn tell_moves(
-    moves: &mut [u32],
-    event: usize,
-    ascending: bool,
-    old: usize,
-    new: usize,
-    count: usize,
-)
-    requires { (event + count ≤ port_slots) × (old + count ≤ port_slots) × (new + count ≤ port_slots) }
-    ensures { moves.new ≡ sets moves.old (3 * event) (shift_events ascending old new count) }
-{
-    if ascending {
-        tell_up(moves, event, old, new, count);
-    } else {
-        tell_down(moves, event, old, new, count);
+    // Ports move within their block: from the first one where they go down, else from the last, so that none is overwritten.
+    pub fn move_ports(self, links: &mut [u32; PORT_SLOTS], ascending: bool)
+        requires { ShiftFits self }
+        ensures { links.new ≡ shift links.old ascending self.from self.to self.count }
+    {
+        for k in 0..self.count {
+            let at = self.place(ascending, k);
+            move_port(links, self.from + at, self.to + at);
+        }
+    }
+
+    // Ports move to another block, the first one first; the old slots are left without a link.
+    pub fn transfer_ports(self, links: &mut [u32; PORT_SLOTS])
+        requires { ShiftFits self }
+        ensures { links.new ≡ transfer links.old self.from self.to self.count }
+    {
+        for k in 0..self.count {
+            move_port(links, self.from + k, self.to + k);
+            put(links, self.from + k, 0);
+        }
+    }
+
+    // Tells the ports that move, in the order in which they do.
+    pub fn tell_moves(self, moves: &mut [u32], event: usize, ascending: bool)
+        requires { (event + self.count ≤ port_slots) × ShiftFits self }
+        ensures { moves.new ≡ sets moves.old (3 * event) (shift_events ascending self.from self.to self.count) }
+    {
+        for k in 0..self.count {
+            let at = self.place(ascending, k);
+            put_event(
+                moves,
+                (event + k) as u32,
+                (self.from + at) as u32,
+                0,
+                (self.to + at) as u32,
+            );
+        }
     }
 }

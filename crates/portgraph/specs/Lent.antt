@@ -14,6 +14,7 @@ use Rattle.port_tables.specs.declared.port_entry.PortEntry.{PortEntry}
 use Rattle.port_tables.specs.declared.port_entry.PortEntry.TheVariants as port_variants
 use Rattle.portgraph.specs.declared.portgraph.PortGraph.{PortGraph}
 use Rattle.port_tables.specs.declared.lent.Counts.{Counts}
+use Rattle.portgraph.specs.declared.lent_graph.PortTables.{PortTables}
 use Rattle.port_tables.specs.NodeWords.{meta_in, slots_in}
 use Rattle.port_tables.specs.declared.index.PortIndex.{PortIndex}
 
@@ -53,6 +54,10 @@ graph_in nodes links owners heads counts =
       port_count = counts.port_count;
       link_count = counts.link_count;
     }
+
+-- the graph that tables held as one value are
+abbrev pub graph_of : PortTables → PortGraph
+graph_of t = graph_in t.nodes t.links t.owners t.heads t.counts
 
 -- what a graph has besides its tables
 abbrev pub counts_of : PortGraph → Counts

@@ -5,7 +5,7 @@ use Rattle.std.proofs.Common.{sym, ◌∙◌, arith, add-one}
 use Rattle.std.proofs.Math.Bool.{true, false, cond}
 use Prim.Native.Nat.{ℕ, zero, suc, ◌+◌, ◌-◌, ◌/◌, ◌%◌, ◌≤◌, ◌<◌, max}
 use Rattle.std.proofs.Math.Dec.{eqb, leb, ltb}
-use borrow.Author.Tests.{lt-ltb, le-ltb, le-leb, lt-leb, eq-eqb, ne_eqb, leb-true, leb-false, eqb-true, eqb-false}
+use borrow.Author.Tests.{lt-ltb, le-ltb, le-leb, lt-leb, eq-eqb, ne_eqb, leb-true, leb-false, eqb-true, eqb-false, ltb-true, ltb-false}
 use Rattle.port_tables.specs.Limits.{node_slots, port_slots}
 use Rattle.port_tables.specs.Lists.{range, filter, on_first}
 use Rattle.port_tables.specs.Entries.{port_entry, node#, port#, meta_of_entry, ports_from, ports_to}
@@ -14,7 +14,7 @@ use Rattle.portgraph.specs.Model.{Wf}
 use Rattle.portgraph.specs.Lookups.{entry_at, meta_at, is_port}
 use Rattle.portgraph.specs.LookupSteps.{node_outside}
 use Rattle.portgraph.specs.WalkLaws.{ports_of_node, ports_end_inside}
-use Rattle.portgraph.specs.LinkWalks.{beyond, far_in, owner_in, is_port_in, held_in, is_kept, link_kept, is_of, link_to, ports_in, own_from, own_to, links_item, step_links, neighbours_item, step_neighbours, connections_item, step_connections, all_ports, all_ports_item, step_all_ports, first_where, span, ports_left, own_ports}
+use Rattle.portgraph.specs.LinkWalks.{beyond, far_in, owner_in, is_port_in, held_in, is_kept, link_kept, is_of, link_to, ports_in, own_from, own_to, links_item, step_links, neighbours_item, step_neighbours, connections_item, step_connections, all_ports, all_ports_item, step_all_ports, first_where, before, span, ports_left, own_ports}
 use Rattle.port_tables.specs.declared.direction.Direction.TheVariants.{Incoming, Outgoing}
 use Rattle.port_tables.specs.declared.node_entry.NodeMeta.{NodeMeta}
 use Rattle.port_tables.specs.declared.node_entry.FreeNodeEntry.{FreeNodeEntry}
@@ -69,6 +69,31 @@ search_none f p end q r is within done rest = go (leb p end) refl
     go : (b : Bool) → leb p end ≡ b → r ≡ first_where f p (end - p)
     go true h = let l : p ≤ end = leb-true p end h in let w : q ≤ end = within l in let e : r ≡ q = omega arith in e ∙ (search_ends f q end done ∙ rest)
     go false h = let l : end < p = leb-false p end h in let e : r ≡ p = omega arith in e ∙ search_ends f p end (omega arith)
+
+pub search_found : (f : ℕ → Bool) (p from end : ℕ) → p < end → p ≡ first_where f from (end - from) → Some p ≡ before end (first_where f from (end - from))
+unfolding before
+search_found f p from end h e = rw (← e, lt-ltb p end h)
+
+pub search_over : (f : ℕ → Bool) (p from end : ℕ) → end ≤ p → first_where f p (end - p) ≡ first_where f from (end - from) → None ≡ before end (first_where f from (end - from))
+unfolding before
+search_over f p from end h e = let l : end ≤ first_where f from (end - from) = omega (arith, search_ends f p end h) in rw (le-ltb (first_where f from (end - from)) end l)
+
+-- what a search says that stopped, and that did not
+pub stopped : (end q p : ℕ) → before end q ≡ Some p → (p ≡ q) × (p < end)
+unfolding before
+stopped end q p h = go (ltb q end) refl h
+  where
+    go : (b : Bool) → ltb q end ≡ b → cond b (Some q) None ≡ Some p → (p ≡ q) × (p < end)
+    go true t e = let same : p ≡ q = cc in (same, omega (arith, ltb-true q end t))
+    go false t e = absurd cc
+
+pub not_stopped : (end q : ℕ) → before end q ≡ None → end ≤ q
+unfolding before
+not_stopped end q h = go (ltb q end) refl h
+  where
+    go : (b : Bool) → ltb q end ≡ b → cond b (Some q) None ≡ None → end ≤ q
+    go true t e = absurd cc
+    go false t e = ltb-false q end t
 
 -- A search against the listing.
 
@@ -181,6 +206,13 @@ module _ (t : List ℕ) (p e : ℕ) (read : e ≡ at t p) where
   pub owner_some : (e ≡ 0 → ⊥) → (e - 1) / 2 ≡ owner_in t p
   unfolding owner_in port_entry
   owner_some n = rw (ne_eqb (at t p) 0 (λ z. n (read ∙ z)), read)
+
+  pub owner_read : (w : ℕ) → w ≡ e - 1 → w / 2 ≡ owner_in t p
+  owner_read w h = go (eqb e 0) refl
+    where
+      go : (b : Bool) → eqb e 0 ≡ b → w / 2 ≡ owner_in t p
+      go true z = let none : e ≡ 0 = eqb-true e 0 z in let half : w / 2 ≡ 0 = omega arith in half ∙ owner_none none
+      go false z = ap (λ x. x / 2) h ∙ owner_some (eqb-false e 0 z)
 
   pub port_told : ltb 0 e ≡ is_port_in t p
   unfolding is_port_in port_entry

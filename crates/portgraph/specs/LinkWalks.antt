@@ -1,6 +1,6 @@
 -- Walks over the links of a node and over all ports: the list that each gives, and the step of its cursor on any graph.
 -- A step gives the next item of the present listing beyond the port held; a cursor whose node or port is gone ends the walk.
-use Rattle.std.specs.Prelude.{Bool, true, false, cond, List, [], ◌∷◌, map, ℕ, suc, ◌-◌, zero, max, eqb, leb, Option, Some, None, Result, Ok, Err}
+use Rattle.std.specs.Prelude.{Bool, true, false, cond, List, [], ◌∷◌, map, ℕ, suc, ◌-◌, zero, max, eqb, leb, ltb, Option, Some, None, Result, Ok, Err}
 use Rattle.port_tables.specs.Limits.{port_slots}
 use Rattle.port_tables.specs.Lists.{filter, on_first, range}
 use Rattle.port_tables.specs.Entries.{port_entry, node#, port#, node_of, meta_of_entry, ports_from, ports_to}
@@ -208,6 +208,10 @@ all_ports_numbers None = []
 unfoldable pub first_where : (ℕ → Bool) → ℕ → ℕ → ℕ
 first_where f p zero = p
 first_where f p (suc k) = cond (f p) p (first_where f (suc p) k)
+
+-- where a search stopped before its end; none where it came to the end
+unfoldable pub before : ℕ → ℕ → Option ℕ
+before end p = cond (ltb p end) (Some p) None
 
 abbrev pub span : ℕ → ℕ → Span
 span a b = record { from = a; to = b }

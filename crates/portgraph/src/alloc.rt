@@ -35,6 +35,7 @@ pub struct NodeRemoved {
 }
 
 // The node slot that is taken next: the one freed last, else the next at the end.
+#[tactic(auto, unfolding(crate::specs::Calls::find_slot_under))]
 pub fn find_slot(free: u32, len: usize) -> Option<usize>
     ensures { result ≡ find_slot free len }
 {
@@ -48,6 +49,7 @@ pub fn find_slot(free: u32, len: usize) -> Option<usize>
 }
 
 // The block that is taken next: the one of exactly this size freed last, else the end.
+#[tactic(auto, unfolding(crate::specs::Calls::find_block_under))]
 pub fn find_block(heads: &[u32; FREE_LISTS], len: usize, size: usize) -> Option<usize>
     requires { (len ≤ port_slots) × (size ≤ port_slots) }
     ensures { result ≡ find_block heads.now len size }
@@ -66,6 +68,7 @@ pub fn find_block(heads: &[u32; FREE_LISTS], len: usize, size: usize) -> Option<
 }
 
 // The first of a list of free ones after its first is taken, which names the next.
+#[tactic(auto, unfolding(crate::specs::Calls::rest_of))]
 pub fn rest_of(head: u32, next: u32) -> u32
     ensures { result ≡ rest_of head next }
 {
@@ -73,6 +76,7 @@ pub fn rest_of(head: u32, next: u32) -> u32
 }
 
 // A table's used length, where something of this size is taken: from the list, else at the end.
+#[tactic(auto, unfolding(crate::specs::Calls::grown))]
 pub fn grown(head: u32, len: usize, size: usize) -> usize
     requires { (len ≤ 2 * port_slots) × (size ≤ port_slots) }
     ensures { result ≡ grown head len size }
@@ -81,6 +85,7 @@ pub fn grown(head: u32, len: usize, size: usize) -> usize
 }
 
 // The slot of a free entry that is given one higher than its number, or another slot where there is none.
+#[tactic(auto, unfolding(crate::specs::Calls::slot_after))]
 pub fn slot_after(code: u32, other: usize) -> usize
     requires { other < node_slots }
     ensures { (result ≡ slot_after code other) × (result < node_slots) }
@@ -96,6 +101,7 @@ pub fn slot_after(code: u32, other: usize) -> usize
 
 impl PortGraph {
     // Adds a node with a block of exactly incoming + outgoing slots.
+    #[tactic(auto, unfolding(crate::specs::Calls::add_node_under))]
     pub fn add_node(mut self, incoming: usize, outgoing: usize) -> NodeAdded
         requires { Wf self }
         ensures { (result ≡ add_node self incoming outgoing) × (add_numbers result.answer ≡ add_numbers (add_node self incoming outgoing).answer) }
@@ -154,6 +160,7 @@ impl PortGraph {
     }
 
     // Removes a node with the links of its ports. Its slot and its block are taken first from then on.
+    #[tactic(auto, unfolding(crate::specs::Calls::remove_node))]
     pub fn remove_node(mut self, node: NodeIndex) -> NodeRemoved
         requires { Wf self }
         ensures { (result ≡ remove_node self node.0) × (remove_numbers result.answer ≡ remove_numbers (remove_node self node.0).answer) }

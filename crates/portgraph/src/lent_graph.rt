@@ -1,13 +1,24 @@
 // The graph by value out of lent tables, and back into them: for a caller that holds the one and needs the other.
 ghost use Rattle.std.specs.Prelude.{◌≡◌, length};
 ghost use Rattle.port_tables.specs.Limits.{node_slots};
-ghost use Rattle.portgraph.specs.Lent.{graph_in, counts_of};
+ghost use Rattle.portgraph.specs.Calls.{new_graph};
+ghost use Rattle.portgraph.specs.Lent.{graph_of, counts_of};
 ghost use Rattle.port_tables.specs.NodeWords.{slots_in, Canonical};
 
 use crate::portgraph::PortGraph;
 use port_tables::index::{FREE_LISTS, NODE_SLOTS, PORT_SLOTS};
 use port_tables::lent::{Counts, NODE_WORDS, put_slot, slot_in};
 use port_tables::node_entry::NodeSlot;
+
+// The tables of a graph and what it has besides them, which are lent to the calls as one value. The node table is held as numbers.
+#[derive(Drop)]
+pub struct PortTables {
+    pub nodes: [u32; NODE_WORDS],
+    pub links: [u32; PORT_SLOTS],
+    pub owners: [u32; PORT_SLOTS],
+    pub heads: [u32; FREE_LISTS],
+    pub counts: Counts,
+}
 
 // What a caller reads of a graph without reaching into it.
 impl PortGraph {
@@ -63,53 +74,64 @@ pub fn put_slots(nodes: &mut [u32; NODE_WORDS], slots: [NodeSlot; NODE_SLOTS])
     }
 }
 
-// The graph that lent tables and counts are.
-pub fn graph_in<'a>(
-    nodes: &'a [u32; NODE_WORDS],
-    links: &'a [u32; PORT_SLOTS],
-    owners: &'a [u32; PORT_SLOTS],
-    heads: &'a [u32; FREE_LISTS],
-    counts: Counts,
-) -> PortGraph
-    requires { length (slots_in nodes.now) ≡ node_slots }
-    ensures { result ≡ graph_in nodes.now links.now owners.now heads.now counts }
-{
-    let slots = slots_in(nodes);
-    let port_link = *links;
-    let port_meta = *owners;
-    let port_free = *heads;
-    PortGraph {
-        node_meta: slots,
-        port_link: port_link,
-        port_meta: port_meta,
-        port_free: port_free,
-        node_free: counts.node_free,
-        node_len: counts.node_len,
-        port_len: counts.port_len,
-        node_count: counts.node_count,
-        port_count: counts.port_count,
-        link_count: counts.link_count,
+impl PortTables {
+    // Those of the empty graph.
+    pub fn new() -> Self
+        ensures { (graph_of result ≡ new_graph) × Canonical result.nodes }
+    {
+        PortTables {
+            nodes: [0; NODE_WORDS],
+            links: [0; PORT_SLOTS],
+            owners: [0; PORT_SLOTS],
+            heads: [0; FREE_LISTS],
+            counts: Counts {
+                node_free: 0,
+                node_len: 0,
+                port_len: 0,
+                node_count: 0,
+                port_count: 0,
+                link_count: 0,
+            },
+        }
     }
-}
 
-// Stores a graph in lent tables, and answers its counts.
-pub fn put_graph(
-    graph: PortGraph,
-    nodes: &mut [u32; NODE_WORDS],
-    links: &mut [u32; PORT_SLOTS],
-    owners: &mut [u32; PORT_SLOTS],
-    heads: &mut [u32; FREE_LISTS],
-) -> Counts
-    ensures { (graph_in nodes.new links.new owners.new heads.new result ≡ graph)
-        × Canonical nodes.new }
-{
-    let slots = graph.node_meta;
-    put_slots(nodes, slots);
-    let port_link = graph.port_link;
-    *links = port_link;
-    let port_meta = graph.port_meta;
-    *owners = port_meta;
-    let port_free = graph.port_free;
-    *heads = port_free;
-    graph.counts()
+    // The graph that they are.
+    pub fn graph(&self) -> PortGraph
+        requires { length (slots_in self.now.nodes) ≡ node_slots }
+        ensures { result ≡ graph_of self.now }
+    {
+        let slots = slots_in(&self.nodes);
+        let port_link = self.links;
+        let port_meta = self.owners;
+        let port_free = self.heads;
+        let counts = self.counts;
+        PortGraph {
+            node_meta: slots,
+            port_link: port_link,
+            port_meta: port_meta,
+            port_free: port_free,
+            node_free: counts.node_free,
+            node_len: counts.node_len,
+            port_len: counts.port_len,
+            node_count: counts.node_count,
+            port_count: counts.port_count,
+            link_count: counts.link_count,
+        }
+    }
+
+    // Holds a graph, whatever was held.
+    pub fn put(&mut self, graph: PortGraph)
+        ensures { (graph_of self.new ≡ graph)
+            × Canonical self.new.nodes }
+    {
+        let slots = graph.node_meta;
+        put_slots(&mut self.nodes, slots);
+        let port_link = graph.port_link;
+        self.links = port_link;
+        let port_meta = graph.port_meta;
+        self.owners = port_meta;
+        let port_free = graph.port_free;
+        self.heads = port_free;
+        self.counts = graph.counts();
+    }
 }

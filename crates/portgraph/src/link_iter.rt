@@ -3,7 +3,7 @@
 ghost use Rattle.std.specs.Prelude.{◌≡◌, ◌-◌};
 ghost use Rattle.port_tables.specs.Limits.{port_slots};
 ghost use Rattle.portgraph.specs.Model.{Wf};
-ghost use Rattle.portgraph.specs.LinkWalks.{far_in, owner_in, is_port_in, held_in, is_kept, link_kept, is_of, link_to, step_links, links_numbers, start_links, links_start_numbers, step_neighbours, neighbours_numbers, start_neighbours, neighbours_start_numbers, step_connections, connections_numbers, start_connections, connections_start_numbers, step_all_ports, all_ports_numbers, first_where, ports_left, own_ports};
+ghost use Rattle.portgraph.specs.LinkWalks.{far_in, owner_in, is_port_in, held_in, is_kept, link_kept, is_of, link_to, step_links, links_numbers, start_links, links_start_numbers, step_neighbours, neighbours_numbers, start_neighbours, neighbours_start_numbers, step_connections, connections_numbers, start_connections, connections_start_numbers, step_all_ports, all_ports_numbers, first_where, before, ports_left, own_ports};
 
 use crate::alloc::NoSuchNode;
 use crate::portgraph::PortGraph;
@@ -62,23 +62,23 @@ pub struct Span {
     pub to: usize,
 }
 
-// The port that a port is linked with; 0 for none.
+// The port that a port is linked with; 0 for none, which no caller asks for.
 fn far_in(links: &[u32; PORT_SLOTS], port: usize) -> u32
     ensures { result ≡ far_in links.now port }
 {
-    let far = at(links, port);
-    if far == 0 { 0 } else { far - 1 }
+    at(links, port).saturating_sub(1)
 }
 
-// The node that has a port; 0 for none.
+// The node that has a port; 0 for none, which no caller asks for.
+#[tactic(auto, unfolding(crate::specs::LinkWalks::owner_in, port_tables::specs::Entries::port_entry))]
 fn owner_in(owners: &[u32; PORT_SLOTS], port: usize) -> u32
     ensures { result ≡ owner_in owners.now port }
 {
-    let owner = at(owners, port);
-    if owner == 0 { 0 } else { (owner - 1) / 2 }
+    at(owners, port).saturating_sub(1) / 2
 }
 
 // Whether a port is live.
+#[tactic(auto, unfolding(crate::specs::LinkWalks::is_port_in, port_tables::specs::Entries::port_entry))]
 fn is_port_in(owners: &[u32; PORT_SLOTS], port: usize) -> bool
     ensures { result ≡ is_port_in owners.now port }
 {
@@ -86,6 +86,7 @@ fn is_port_in(owners: &[u32; PORT_SLOTS], port: usize) -> bool
 }
 
 // Whether the port that a cursor holds is still there.
+#[tactic(auto, unfolding(crate::specs::LinkWalks::held_in))]
 fn held_in(owners: &[u32; PORT_SLOTS], held: u32) -> bool
     ensures { result ≡ held_in owners.now held }
 {
@@ -96,6 +97,7 @@ fn held_in(owners: &[u32; PORT_SLOTS], held: u32) -> bool
 }
 
 // Whether there is a link and its far port, given one higher than its number, lies outside a span.
+#[tactic(auto, unfolding(crate::specs::LinkWalks::is_kept))]
 fn is_kept(far: u32, skip: Span) -> bool
     ensures { result ≡ is_kept far skip.from skip.to }
 {
@@ -109,19 +111,20 @@ fn is_kept(far: u32, skip: Span) -> bool
     skip.to <= port
 }
 
-// The first port of a span whose link leads outside another; the end or more for none.
-fn next_link(links: &[u32; PORT_SLOTS], left: Span, skip: Span) -> usize
-    ensures { result ≡ first_where (link_kept links.now skip.from skip.to) left.from (left.to - left.from) }
+// The first port of a span whose link leads outside another.
+fn next_link(links: &[u32; PORT_SLOTS], left: Span, skip: Span) -> Option<usize>
+    ensures { result ≡ before left.to (first_where (link_kept links.now skip.from skip.to) left.from (left.to - left.from)) }
 {
     for port in left.from..left.to {
         if is_kept(at(links, port), skip) {
-            return port;
+            return Some(port);
         }
     }
-    left.from.max(left.to)
+    None
 }
 
 // Whether an owner's number is that of a port of a node.
+#[tactic(auto, unfolding(crate::specs::LinkWalks::is_of, port_tables::specs::Entries::port_entry))]
 fn is_of(owner: u32, node: u32) -> bool
     ensures { result ≡ is_of node owner }
 {
@@ -132,6 +135,7 @@ fn is_of(owner: u32, node: u32) -> bool
 }
 
 // Whether a port is linked with a port of a node.
+#[tactic(auto, unfolding(crate::specs::LinkWalks::link_to))]
 fn link_to<'a>(
     links: &'a [u32; PORT_SLOTS],
     owners: &'a [u32; PORT_SLOTS],
@@ -147,36 +151,37 @@ fn link_to<'a>(
     is_of(at(owners, wide(far - 1)), node)
 }
 
-// The first port of a span that is linked with a port of a node; the end or more for none.
+// The first port of a span that is linked with a port of a node.
 fn next_link_to<'a>(
     links: &'a [u32; PORT_SLOTS],
     owners: &'a [u32; PORT_SLOTS],
     left: Span,
     node: u32,
-) -> usize
-    ensures { result ≡ first_where (link_to links.now owners.now node) left.from (left.to - left.from) }
+) -> Option<usize>
+    ensures { result ≡ before left.to (first_where (link_to links.now owners.now node) left.from (left.to - left.from)) }
 {
     for port in left.from..left.to {
         if link_to(links, owners, node, port) {
-            return port;
+            return Some(port);
         }
     }
-    left.from.max(left.to)
+    None
 }
 
-// The first live port from a slot on; the number of slots or more for none.
-fn next_port(owners: &[u32; PORT_SLOTS], from: usize) -> usize
-    ensures { result ≡ first_where (is_port_in owners.now) from (port_slots - from) }
+// The first live port from a slot on.
+fn next_port(owners: &[u32; PORT_SLOTS], from: usize) -> Option<usize>
+    ensures { result ≡ before port_slots (first_where (is_port_in owners.now) from (port_slots - from)) }
 {
     for port in from..PORT_SLOTS {
         if is_port_in(owners, port) {
-            return port;
+            return Some(port);
         }
     }
-    from.max(PORT_SLOTS)
+    None
 }
 
 // The ports that a walk over a node's ports has left; none where the port that it holds is gone.
+#[tactic(auto, unfolding(crate::specs::LinkWalks::ports_left))]
 fn ports_left(slot: NodeSlot, sides: Sides, held: u32, there: bool) -> Span
     ensures { result ≡ ports_left slot.entry sides held there }
 {
@@ -194,6 +199,7 @@ fn ports_left(slot: NodeSlot, sides: Sides, held: u32, there: bool) -> Span
 }
 
 // A node's outgoing ports, where the flag asks to leave them out.
+#[tactic(auto, unfolding(crate::specs::LinkWalks::own_ports))]
 fn own_ports(slot: NodeSlot, flag: bool) -> Span
     ensures { result ≡ own_ports slot.entry flag }
 {
@@ -298,22 +304,20 @@ impl NodeLinks {
                 from: wide(self.skip_from),
                 to: wide(self.skip_to),
             };
-            let port = next_link(&graph.port_link, left, skip);
-            if port < left.to {
-                return Some((
-                    Link {
-                        from: PortIndex(port as u32),
-                        to: PortIndex(far_in(&graph.port_link, port)),
-                    },
-                    NodeLinks {
-                        node: node,
-                        sides: sides,
-                        skip_from: self.skip_from,
-                        skip_to: self.skip_to,
-                        held: port as u32 + 1,
-                    },
-                ));
-            }
+            let port = next_link(&graph.port_link, left, skip)?;
+            return Some((
+                Link {
+                    from: PortIndex(port as u32),
+                    to: PortIndex(far_in(&graph.port_link, port)),
+                },
+                NodeLinks {
+                    node: node,
+                    sides: sides,
+                    skip_from: self.skip_from,
+                    skip_to: self.skip_to,
+                    held: port as u32 + 1,
+                },
+            ));
         }
         None
     }
@@ -332,19 +336,17 @@ impl Neighbours {
             let there = held_in(&graph.port_meta, self.held);
             let left = ports_left(slot, sides, self.held, there);
             let skip = own_ports(slot, self.ignore_self);
-            let port = next_link(&graph.port_link, left, skip);
-            if port < left.to {
-                let far = far_in(&graph.port_link, port);
-                return Some((
-                    NodeIndex(owner_in(&graph.port_meta, wide(far))),
-                    Neighbours {
-                        node: node,
-                        sides: sides,
-                        ignore_self: self.ignore_self,
-                        held: port as u32 + 1,
-                    },
-                ));
-            }
+            let port = next_link(&graph.port_link, left, skip)?;
+            let far = far_in(&graph.port_link, port);
+            return Some((
+                NodeIndex(owner_in(&graph.port_meta, wide(far))),
+                Neighbours {
+                    node: node,
+                    sides: sides,
+                    ignore_self: self.ignore_self,
+                    held: port as u32 + 1,
+                },
+            ));
         }
         None
     }
@@ -362,20 +364,18 @@ impl NodeConnections {
             let slot = graph.node_meta[place];
             let there = held_in(&graph.port_meta, self.held);
             let left = ports_left(slot, Sides::One(Direction::Outgoing), self.held, there);
-            let port = next_link_to(&graph.port_link, &graph.port_meta, left, target.0);
-            if port < left.to {
-                return Some((
-                    Link {
-                        from: PortIndex(port as u32),
-                        to: PortIndex(far_in(&graph.port_link, port)),
-                    },
-                    NodeConnections {
-                        node: node,
-                        target: target,
-                        held: port as u32 + 1,
-                    },
-                ));
-            }
+            let port = next_link_to(&graph.port_link, &graph.port_meta, left, target.0)?;
+            return Some((
+                Link {
+                    from: PortIndex(port as u32),
+                    to: PortIndex(far_in(&graph.port_link, port)),
+                },
+                NodeConnections {
+                    node: node,
+                    target: target,
+                    held: port as u32 + 1,
+                },
+            ));
         }
         None
     }
@@ -386,15 +386,13 @@ impl Ports {
         ensures { (result ≡ step_all_ports graph self) × (all_ports_numbers result ≡ all_ports_numbers (step_all_ports graph self)) }
     {
         if held_in(&graph.port_meta, self.held) {
-            let port = next_port(&graph.port_meta, wide(self.held));
-            if port < PORT_SLOTS {
-                return Some((
-                    PortIndex(port as u32),
-                    Ports {
-                        held: port as u32 + 1,
-                    },
-                ));
-            }
+            let port = next_port(&graph.port_meta, wide(self.held))?;
+            return Some((
+                PortIndex(port as u32),
+                Ports {
+                    held: port as u32 + 1,
+                },
+            ));
         }
         None
     }

@@ -12,7 +12,7 @@ use port_tables::numbers::wide;
 use port_tables::port_entry::PortEntry;
 use port_tables::tables::{at, cut, link_both, link_count};
 
-// A port graph, by value.
+// A port graph, by value. Wf stays a clause of the calls that need it: lookups and graph_in know graphs of any content, and an invariant would ask it of them.
 #[derive(Clone, Copy)]
 pub struct PortGraph {
     // The nodes; free entries form a list.
@@ -82,6 +82,7 @@ impl PortGraph {
     }
 
     // The meta data of a node, if it is live.
+    #[tactic(auto, using(crate::specs::LookupSteps::length_of_map, crate::specs::LookupSteps::node_outside))]
     pub fn node_meta_valid(self, node: NodeIndex) -> Option<NodeMeta>
         ensures { (result ≡ meta_at self node.0) × (meta_numbers result ≡ meta_numbers (meta_at self node.0)) }
     {
@@ -125,6 +126,7 @@ impl PortGraph {
     }
 
     // The side and position of a port.
+    #[tactic(auto, using(crate::specs::LookupSteps::port_outside))]
     pub fn port_offset(self, port: PortIndex) -> Option<PortOffset>
         ensures { (result ≡ port_offset self port.0) × (maybe_offset_numbers result ≡ maybe_offset_numbers (port_offset self port.0)) }
     {
@@ -253,6 +255,7 @@ impl PortGraph {
     }
 
     // Links two ports of opposite directions that have no link yet.
+    #[tactic(auto, unfolding(crate::specs::Calls::link_ports))]
     pub fn link_ports(mut self, port_a: PortIndex, port_b: PortIndex) -> PortsLinked
         requires { Wf self }
         ensures { (result ≡ link_ports self port_a.0 port_b.0) × (link_numbers result.answer ≡ link_numbers (link_ports self port_a.0 port_b.0).answer) }
@@ -300,6 +303,7 @@ impl PortGraph {
     }
 
     // Cuts the link of a port, and answers what it was linked with.
+    #[tactic(auto, unfolding(crate::specs::Calls::unlink_port))]
     pub fn unlink_port(mut self, port: PortIndex) -> PortUnlinked
         ensures { (result ≡ unlink_port self port.0) × (port_link_numbers result.answer ≡ port_link_numbers (unlink_port self port.0).answer) }
     {

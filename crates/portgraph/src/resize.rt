@@ -9,15 +9,11 @@ ghost use Rattle.port_tables.specs.ResizeLinks.{BlockFits, round_up};
 
 use crate::alloc::{find_block, grown, rest_of};
 use crate::portgraph::PortGraph;
-use port_tables::index::{NODE_PORTS, NODE_SLOTS, NodeIndex, PortIndex};
-use port_tables::node_entry::{NodeEntry, NodeMeta, NodeSlot};
+use port_tables::index::{NODE_PORTS, NODE_SLOTS, NodeIndex};
+use port_tables::node_entry::{NodeEntry, NodeSlot};
 use port_tables::numbers::wide;
-use port_tables::resize_links::{
-    anew_links, drop_both, fits_inside, inside_links, round_up, same_counts,
-};
-use port_tables::tables::{
-    at, chain_block, cut_range, fill, head_at, own_block, put_head, tell_moves,
-};
+use port_tables::resize_links::{Resize, round_up};
+use port_tables::tables::{at, chain_block, cut_range, fill, head_at, own_block, put_head};
 
 // Why a node's counts are not changed.
 #[derive(Clone, Copy)]
@@ -42,46 +38,31 @@ impl PortGraph {
     fn resize_ports_inplace(
         mut self,
         node: NodeIndex,
-        meta: NodeMeta,
-        incoming: usize,
-        outgoing: usize,
+        resize: Resize,
         moves: &mut [u32],
     ) -> PortsSet
-        requires { Wf self × (node.0 < node_slots) × (incoming + outgoing ≤ meta.capacity) × BlockFits meta }
-        ensures { (result ≡ set_by self node.0 incoming outgoing (inside meta))
-            × (moves.new ≡ sets moves.old 0 (inside_told self meta incoming outgoing)) }
+        requires { Wf self × (node.0 < node_slots) × (resize.incoming + resize.outgoing ≤ resize.meta.capacity) × BlockFits resize.meta }
+        ensures { (result ≡ set_by self node.0 resize.incoming resize.outgoing (inside resize.meta))
+            × (moves.new ≡ sets moves.old 0 (inside_told self resize.meta resize.incoming resize.outgoing)) }
     {
-        let first = wide(meta.first_port.0);
-        let old_in = usize::from(meta.incoming);
-        let old_out = usize::from(meta.outgoing);
-        let kept_in = old_in.min(incoming);
-        let kept_out = old_out.min(outgoing);
-        let events = (old_in - kept_in) + (old_out - kept_out);
-        let first_port = meta.first_port;
-        let new_meta = NodeMeta {
-            first_port: first_port,
-            incoming: incoming as u16,
-            outgoing: outgoing as u16,
-            capacity: meta.capacity,
-        };
-        let cuts = drop_both(&mut self.port_link, moves, meta, incoming, outgoing);
-        tell_moves(
-            moves,
-            events,
-            incoming < old_in,
-            first + old_in,
-            first + incoming,
-            kept_out,
-        );
-        inside_links(&mut self.port_link, meta, incoming, outgoing);
+        let first = wide(resize.meta.first_port.0);
+        let old_in = usize::from(resize.meta.incoming);
+        let old_out = usize::from(resize.meta.outgoing);
+        let outputs = resize.outgoing_shift(first);
+        let events = (old_in - resize.kept_incoming()) + (old_out - outputs.count);
+        let new_meta = resize.meta_at(first, usize::from(resize.meta.capacity));
+        let cuts = resize.drop_both(&mut self.port_link, moves);
+        outputs.tell_moves(moves, events, resize.incoming < old_in);
+        resize.inside_links(&mut self.port_link);
         own_block(&mut self.port_meta, node.0, new_meta);
         let place = wide(node.0);
         self.node_meta[place] = NodeSlot::new_node(new_meta);
-        self.port_count = self.port_count.saturating_sub(old_in + old_out) + (incoming + outgoing);
+        self.port_count = self.port_count.saturating_sub(old_in + old_out)
+            + (resize.incoming + resize.outgoing);
         self.link_count = self.link_count.saturating_sub(cuts);
         PortsSet {
             graph: self,
-            answer: Ok(events + kept_out),
+            answer: Ok(events + outputs.count),
         }
     }
 
@@ -89,52 +70,33 @@ impl PortGraph {
     fn resize_ports_anew(
         mut self,
         node: NodeIndex,
-        meta: NodeMeta,
-        incoming: usize,
-        outgoing: usize,
+        resize: Resize,
         new_first: usize,
         moves: &mut [u32],
     ) -> PortsSet
-        requires { Wf self × (node.0 < node_slots) × (incoming + outgoing ≤ node_ports) × BlockFits meta × (find_block self.port_free self.port_len (round_up (incoming + outgoing)) ≡ Some new_first) }
-        ensures { (result ≡ set_by self node.0 incoming outgoing (anew meta new_first))
-            × (moves.new ≡ sets moves.old 0 (anew_told self meta incoming outgoing new_first)) }
+        requires { Wf self × (node.0 < node_slots) × (resize.incoming + resize.outgoing ≤ node_ports) × BlockFits resize.meta
+            × (find_block self.port_free self.port_len (round_up (resize.incoming + resize.outgoing)) ≡ Some new_first) }
+        ensures { (result ≡ set_by self node.0 resize.incoming resize.outgoing (anew resize.meta new_first))
+            × (moves.new ≡ sets moves.old 0 (anew_told self resize.meta resize.incoming resize.outgoing new_first)) }
     {
+        let meta = resize.meta;
         let first = wide(meta.first_port.0);
         let old_in = usize::from(meta.incoming);
         let old_out = usize::from(meta.outgoing);
         let capacity = usize::from(meta.capacity);
-        let size = round_up(incoming + outgoing);
-        let kept_in = old_in.min(incoming);
-        let kept_out = old_out.min(outgoing);
-        let events = (old_in - kept_in) + (old_out - kept_out);
-        let new_meta = NodeMeta {
-            first_port: PortIndex(new_first as u32),
-            incoming: incoming as u16,
-            outgoing: outgoing as u16,
-            capacity: size as u16,
-        };
+        let size = round_up(resize.incoming + resize.outgoing);
+        let inputs = resize.incoming_shift(new_first);
+        let outputs = resize.outgoing_shift(new_first);
+        let events = (old_in - inputs.count) + (old_out - outputs.count);
+        let new_meta = resize.meta_at(new_first, size);
         let head = head_at(&self.port_free, size);
         let rest = rest_of(head, at(&self.port_link, new_first));
-        let cuts = drop_both(&mut self.port_link, moves, meta, incoming, outgoing);
-        tell_moves(moves, events, true, first, new_first, kept_in);
-        tell_moves(
-            moves,
-            events + kept_in,
-            true,
-            first + old_in,
-            new_first + incoming,
-            kept_out,
-        );
+        let cuts = resize.drop_both(&mut self.port_link, moves);
+        inputs.tell_moves(moves, events, true);
+        outputs.tell_moves(moves, events + inputs.count, true);
         put_head(&mut self.port_free, size, rest);
         self.port_len = grown(head, self.port_len, size);
-        anew_links(
-            &mut self.port_link,
-            meta,
-            incoming,
-            outgoing,
-            new_first,
-            size,
-        );
+        resize.anew_links(&mut self.port_link, new_first, size);
         own_block(&mut self.port_meta, node.0, new_meta);
         let place = wide(node.0);
         self.node_meta[place] = NodeSlot::new_node(new_meta);
@@ -143,16 +105,18 @@ impl PortGraph {
         chain_block(&mut self.port_link, first, capacity, old_head);
         fill(&mut self.port_meta, meta.first_port.0, meta.capacity, 0);
         put_head(&mut self.port_free, capacity, meta.first_port.0 + 1);
-        self.port_count = self.port_count.saturating_sub(old_in + old_out) + (incoming + outgoing);
+        self.port_count = self.port_count.saturating_sub(old_in + old_out)
+            + (resize.incoming + resize.outgoing);
         self.link_count = self.link_count.saturating_sub(cuts).saturating_sub(more);
         PortsSet {
             graph: self,
-            answer: Ok(events + (kept_in + kept_out)),
+            answer: Ok(events + (inputs.count + outputs.count)),
         }
     }
 
     // Changes the number of ports of a node. Every port that is moved or removed is told in `moves`, three numbers each:
     // the port; 0 for moved and 1 for removed; the new port, or what it was linked with (4294967295 for nothing).
+    #[tactic(auto, unfolding(crate::specs::Resize::set_num_ports_under, crate::specs::Resize::plan_of_under, crate::specs::Resize::moves_after_under))]
     pub fn set_num_ports(
         self,
         node: NodeIndex,
@@ -198,14 +162,19 @@ impl PortGraph {
                 answer: Err(SetError::MovesTooShort),
             };
         }
-        if same_counts(meta, incoming, outgoing) {
+        let resize = Resize {
+            meta: meta,
+            incoming: incoming,
+            outgoing: outgoing,
+        };
+        if resize.is_same() {
             return PortsSet {
                 graph: self,
                 answer: Ok(0),
             };
         }
-        if fits_inside(meta, incoming, outgoing) {
-            return self.resize_ports_inplace(node, meta, incoming, outgoing, moves);
+        if resize.fits_inside() {
+            return self.resize_ports_inplace(node, resize, moves);
         }
         let size = round_up(incoming + outgoing);
         let Some(new_first) = find_block(&self.port_free, self.port_len, size) else {
@@ -214,6 +183,6 @@ impl PortGraph {
                 answer: Err(SetError::NoRoom),
             };
         };
-        self.resize_ports_anew(node, meta, incoming, outgoing, new_first, moves)
+        self.resize_ports_anew(node, resize, new_first, moves)
     }
 }

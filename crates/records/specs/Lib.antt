@@ -16,7 +16,6 @@
 --   AnswerSteps   what the tests on a request say, and numbers that fit a word
 --   AskSteps      one request on a graph
 --   RunSteps      the turns of a run, with what stays true in them (Running), and refusal 1
---   LentSteps     the tables that the run over lent tables starts with
 pub mod Words
 pub mod Run
 pub mod Forms
@@ -30,4 +29,3 @@ pub mod WordSteps
 pub mod AnswerSteps
 pub mod AskSteps
 pub mod RunSteps
-pub mod LentSteps

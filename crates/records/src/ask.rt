@@ -12,7 +12,7 @@ ghost use Rattle.multiportgraph.specs.HiddenNodes.{enough};
 use crate::answers::{
     Answer5, add_words, count_words, cut_words, five_words, link_words, remove_words, set_words,
 };
-use crate::requests::{Ask, MOVES, ask_of};
+use crate::requests::{Ask, MOVES, Request, ask_of};
 use multi_tables::answers::{SubportIndex, unplaced};
 use multiportgraph::multiportgraph::{MultiPortGraph, PortTidied, PortUnlinked, PortsSet};
 use port_tables::index::{NodeIndex, PortIndex};
@@ -180,10 +180,10 @@ pub(crate) fn answer(graph: MultiPortGraph, asked: Ask) -> Asked
     }
 }
 
-// A code with its four arguments, asked of a graph.
-pub fn ask(graph: MultiPortGraph, code: u32, a: u32, b: u32, c: u32, d: u32) -> Asked
+// A request, asked of a graph.
+pub fn ask(graph: MultiPortGraph, request: Request) -> Asked
     requires { MultiWf graph }
-    ensures { Answered graph (asked_by code a b c d) (words5 result.answer) result.graph }
+    ensures { Answered graph (asked_by request.code request.a request.b request.c request.d) (words5 result.answer) result.graph }
 {
-    answer(graph, ask_of(code, a, b, c, d))
+    answer(graph, ask_of(request))
 }

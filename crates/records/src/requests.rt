@@ -86,10 +86,21 @@ fn ask_subport_link(p: u32, o: u32) -> Ask
     Ask::SubportLink(subport(p, o as u16))
 }
 
-// What a code asks of its four arguments.
-pub(crate) fn ask_of(code: u32, a: u32, b: u32, c: u32, d: u32) -> Ask
-    ensures { meant result ≡ asked_by code a b c d }
+// The five words of a request: a code, and its arguments.
+#[derive(Clone, Copy)]
+pub struct Request {
+    pub code: u32,
+    pub a: u32,
+    pub b: u32,
+    pub c: u32,
+    pub d: u32,
+}
+
+// What a request asks.
+pub(crate) fn ask_of(request: Request) -> Ask
+    ensures { meant result ≡ asked_by request.code request.a request.b request.c request.d }
 {
+    let Request { code, a, b, c, d } = request;
     match code {
         1 => ask_if(all_zero(0, 0, c, d), Ask::Add(a, b)),
         2 => ask_if(all_zero(0, b, c, d), Ask::Remove(NodeIndex(a))),
@@ -114,5 +125,11 @@ pub(crate) fn ask_at(requests: &[u8], at: usize) -> Ask
     let b = word_at(requests, at + 8);
     let c = word_at(requests, at + 12);
     let d = word_at(requests, at + 16);
-    ask_of(code, a, b, c, d)
+    ask_of(Request {
+        code: code,
+        a: a,
+        b: b,
+        c: c,
+        d: d,
+    })
 }

@@ -30,7 +30,7 @@ fn list_taken<'a>(requests: &'a [u8], answers: &'a [u8]) -> bool
     requests.len() == answers.len() && requests.len() % 20 == 0
 }
 
-// Runs a list of requests of five little-endian words. 1 for refusal 1, which leaves the answers as they are; else 0.
+// Runs a list of requests of five little-endian words. 1 for refusal 1, which leaves the answers as they are; else 0. Stays a number: the C entry gives it on.
 pub fn run_records(requests: &[u8], answers: &mut [u8]) -> u32
     ensures { (result ≡ returned requests.now answers.old)
         × (answers.new ≡ written requests.now answers.old) }

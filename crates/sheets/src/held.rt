@@ -1,4 +1,5 @@
-// A sheet whose caller holds its entries by value, in an array: the first places are lent, as many as there are entries.
+// A sheet whose caller holds its entries by value, in an array: the first places are lent, as many as there are entries. Stays an array with its count, since an array has
+// one length; over a slice there is `link_sheet`.
 ghost use Rattle.std.specs.Prelude.{◌≡◌, ◌≤◌};
 ghost use Rattle.multiportgraph.specs.WellFormed.{MultiWf};
 ghost use Rattle.sheets.specs.Held.{sheet_places, link_first, link_held};

@@ -10,12 +10,12 @@ fn converse(rt: &(impl Print + Input), sketch: &mut Sketch, buffer: &mut [u8], e
     let mut listener = Listener::new(echo);
     let mut input = rt.reader();
     for _turn in 0..u64::MAX {
-        if let Some(text) = listener.listen(rt, &mut input, buffer) {
-            if let Some(order) = order_of(rt, text, listener.line) {
+        if let Some(heard) = listener.listen(rt, &mut input, buffer) {
+            if let Some(order) = order_of(rt, heard) {
                 if order.command == Command::Quit {
                     return;
                 }
-                run(rt, sketch, order, text);
+                run(rt, sketch, order, heard.text);
             }
         }
         if listener.ended {

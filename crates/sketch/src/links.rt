@@ -1,5 +1,5 @@
 // Links: of two ports, and of two ends.
-use crate::orders::{Command, Order, port_at};
+use crate::orders::{Command, Order, end_at, port_at};
 use crate::replies::{show_refused_on, with_end};
 use lines::show::Line;
 use sketches::sketch::{Reason, SketchEnd};
@@ -24,12 +24,7 @@ fn linked(sketch: &mut Sketch, order: Order) -> Result<(SketchEnd, SketchEnd), R
     match order.command {
         Command::Link => sketch.link(port_at(order, 0), port_at(order, 3)),
         Command::LinkClean => sketch.link_clean(port_at(order, 0), port_at(order, 3)),
-        _ => sketch.link_subports(
-            port_at(order, 0),
-            order.offset(3),
-            port_at(order, 4),
-            order.offset(7),
-        ),
+        _ => sketch.link_subports(end_at(order, 0), end_at(order, 4)),
     }
 }
 

@@ -1,9 +1,13 @@
 // What a line asks for: the commands, and how each is typed.
+ghost use Rattle.std.specs.Prelude.{◌<◌};
+ghost use Rattle.lines.specs.Orders.{most_numbers};
+
+use lines::listening::Heard;
 use lines::orders::order_by;
 use lines::rows::row_of;
 use lines::text::next_word;
-use port_tables::direction::Direction;
-use sketches::sketch::SketchPort;
+use sketches::sketch::{SketchEnd, SketchPort};
+use sketches::tests::side_of;
 
 #[derive(Clone, Copy, PartialEq, Eq)]
 pub enum Command {
@@ -65,28 +69,24 @@ const COMMANDS: [(Command, &'static [u8]); 25] = [
     (Command::Quit, b"quit"),
 ];
 
-// 0 incoming, 1 outgoing. Stays a function of any number, as `release_of` is: a TryFrom would have a refusal that no line comes to.
-pub(crate) fn side_of(number: u32) -> Direction {
-    if number == 0 {
-        return Direction::Incoming;
+// The port that three numbers of an order name, from a place on.
+pub(crate) fn port_at(order: Order, place: usize) -> SketchPort
+    requires { place < most_numbers }
+{
+    SketchPort {
+        block: order.number(place),
+        side: side_of(order.number(place + 1)),
+        position: order.number(place + 2),
     }
-    Direction::Outgoing
 }
 
-// The port that three numbers of an order name, from a place on.
-pub(crate) fn port_at(order: Order, place: usize) -> SketchPort {
-    let numbers = order.numbers;
-    if place < 6 {
-        return SketchPort {
-            block: numbers[place],
-            side: side_of(numbers[place + 1]),
-            position: numbers[place + 2],
-        };
-    }
-    SketchPort {
-        block: 0,
-        side: Direction::Incoming,
-        position: 0,
+// The end that four numbers of an order name, from a place on.
+pub(crate) fn end_at(order: Order, place: usize) -> SketchEnd
+    requires { place < most_numbers }
+{
+    SketchEnd {
+        port: port_at(order, place),
+        offset: order.offset(place + 3),
     }
 }
 
@@ -100,16 +100,8 @@ fn entry_size(command: Command) -> usize {
 
 // The order of a line that was heard; where it is none, what is wrong with it is said. Stays in both consoles: commands and list sizes are each one's own, and the rest is
 // `order_by`.
-pub(crate) fn order_of(rt: &impl Print, text: &[u8], line: u64) -> Option<Order> {
-    let first = next_word(text, 0);
-    let (command, usage) = row_of(rt, &COMMANDS, text, first, line)?;
-    order_by(
-        rt,
-        command,
-        usage,
-        entry_size(command),
-        text,
-        first.to,
-        line,
-    )
+pub(crate) fn order_of(rt: &impl Print, heard: Heard) -> Option<Order> {
+    let first = next_word(heard.text, 0);
+    let row = row_of(rt, &COMMANDS, heard, first)?;
+    order_by(rt, row, entry_size(row.0), heard, first.to)
 }

@@ -6,6 +6,7 @@ use lines::show::Line;
 use sketches::sketch::{Reason, SketchEnd, SketchPort};
 
 // The number of a refusal.
+#[tactic(auto, unfolding(sketches::specs::PlanNumbers::reason_number))]
 fn number_of(reason: Reason) -> u32
     ensures { result ≡ reason_number reason }
 {

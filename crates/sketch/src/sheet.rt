@@ -1,12 +1,13 @@
 // A whole sheet of links from one line: six numbers, a port and a port, are an entry.
 
 use crate::links::show_linked_on;
-use crate::orders::{Order, side_of};
+use crate::orders::Order;
 use crate::replies::show_number;
 use lines::show::{Line, write_bytes};
 use lines::text::{next_word, number_or_zero};
 use sketches::sheet::{SHEET_ENTRIES, no_entry};
 use sketches::sketch::{SheetEntry, SketchPort, TooManyEntries};
+use sketches::tests::side_of;
 use sketches::totals::Sketch;
 
 // One place more than a sheet has entries, so that a sheet that is too long can be handed in.

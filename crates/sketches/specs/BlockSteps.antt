@@ -11,13 +11,11 @@ use Rattle.sketches.specs.PlanCalls.{most_adds, Sketched, leaves, add_block, rem
 use Rattle.sketches.specs.PlanNumbers.{add_numbers, done_numbers}
 use Rattle.sketches.specs.PlanWf.{PlanWf}
 use Rattle.sketches.specs.CallsWf.{or_false, add_wf, remove_wf, resize_wf}
-use Rattle.sketches.specs.Rows.{Table, rows_in, put_row, blocks_in, splits_in, wires_in, block_of, split_of, wire_of, missed}
-use Rattle.sketches.specs.RowSteps.{row_added, length_put}
+use Rattle.sketches.specs.Rows.{Table, rows_in, blocks_in, splits_in, wires_in, block_of, split_of, wire_of, missed}
 use Rattle.sketches.specs.RowReads.{blocks_left_lem, splits_left, wires_left}
 use Rattle.sketches.specs.Offsets.{length_rows}
-use Rattle.sketches.specs.SketchTables.{plan_in, totals_counts, SketchWf, Leaves}
+use Rattle.sketches.specs.SketchTables.{Totals, plan_in, totals_counts, SketchWf, Leaves}
 use Rattle.sketches.specs.declared.rows.Row.{Row}
-use Rattle.sketches.specs.declared.totals.Totals.{Totals}
 use Rattle.sketches.specs.declared.tests.EndTest.TheVariants as ask
 use Rattle.sketches.specs.declared.tests.Test.TheVariants as test
 use Rattle.sketches.specs.declared.sketch.Reason.TheVariants.{TooManyPorts, UnknownBlock, NoRoom}
@@ -26,9 +24,6 @@ use Rattle.sketches.specs.declared.sketch.Reason.{Reason}
 -- the rows of the tables are as many as the plan's lists are long, so that they are within the tables
 pub length_blocks : (t : List Row) (n : ℕ) → length (blocks_in t n) ≡ n
 length_blocks t n = length_map block_of (rows_in t n) ∙ length_rows t n
-
-pub blocks_within : {b s w : List Row} {h : Totals} → SketchWf b s w h → h.blocks ≤ node_slots
-blocks_within {b} {s} {w} {h} wf = let e = length_blocks b h.blocks in let k = wf.plan.blocks in omega arith
 
 -- a call by its definition, where that is known
 pub leaves_as : {A : Type 0} {numbers : A → List ℕ} {called : Sketched A} {b s w : List Row} {h : Totals} {a : A} (K : Plan) (x : A) → called ≡ leaves K x → plan_in b s w h ≡ K → a ≡ x → SketchWf b s w h →
@@ -82,25 +77,20 @@ module _ (b s w : List Row) (h : Totals) (wf : SketchWf b s w h) (i o : ℕ) whe
   pub added_no_room : {n : ℕ} → n ≡ i + o → n ≤ node_ports → no_room h.adds h.blocks (blocks_in b h.blocks) n ≡ true → Leaves add_numbers (add_block (plan_in b s w h) i o) b s w h (Err NoRoom)
   added_no_room e k r = leaves_as (plan_in b s w h) (Err NoRoom) (add_no_room (plan_in b s w h) i o (omega arith) (room_is e ∙ r)) refl refl wf
 
-  pub added : {n : ℕ} {b' : List Row} → n ≡ i + o → n ≤ node_ports → no_room h.adds h.blocks (blocks_in b h.blocks) n ≡ false →
-      b' ≡ put_row b h.blocks (record { 0 = h.adds; 1 = i; 2 = o; 3 = 0; 4 = 0; 5 = 0 }) →
-      Leaves add_numbers (add_block (plan_in b s w h) i o) b' s w (record { release = h.release; adds = h.adds + 1; blocks = h.blocks + 1; splits = h.splits; wires = h.wires }) (Ok h.adds)
-  added {n} {b'} e k r p =
-      leaves_as (new_block (plan_in b s w h) i o) (Ok h.adds) at_once (plan b' p) refl
-      (tables_wf (ap length p ∙ length_put b h.blocks new ∙ wf.block_table) wf.split_table wf.wire_table (plan b' p)
+  pub added : {n m : ℕ} {b' : List Row} → n ≡ i + o → n ≤ node_ports → no_room h.adds h.blocks (blocks_in b h.blocks) n ≡ false →
+      (rows_in b' m ≡ record { 0 = h.adds; 1 = i; 2 = o; 3 = 0; 4 = 0; 5 = 0 } ∷ rows_in b h.blocks) × Table b' →
+      Leaves add_numbers (add_block (plan_in b s w h) i o) b' s w (record { release = h.release; adds = h.adds + 1; blocks = m; splits = h.splits; wires = h.wires }) (Ok h.adds)
+  added {n} {m} {b'} e k r p =
+      leaves_as (new_block (plan_in b s w h) i o) (Ok h.adds) at_once plan refl
+      (tables_wf p.1 wf.split_table wf.wire_table plan
       (subst (λ (c : Sketched (Result ℕ Reason)). PlanWf c.plan) at_once (add_wf (plan_in b s w h) i o wf.plan)))
     where
-      new : Row
-      new = record { 0 = h.adds; 1 = i; 2 = o; 3 = 0; 4 = 0; 5 = 0 }
-
       at_once : add_block (plan_in b s w h) i o ≡ leaves (new_block (plan_in b s w h) i o) (Ok h.adds)
       at_once = add_accepted (plan_in b s w h) i o (omega arith) (room_is e ∙ r)
 
-      plan : (b' : List Row) → b' ≡ put_row b h.blocks new → plan_in b' s w (record { release = h.release; adds = h.adds + 1; blocks = h.blocks + 1; splits = h.splits; wires = h.wires }) ≡ new_block (plan_in b s w h) i o
-      plan b' p =
-          let l : h.blocks ≤ node_slots = blocks_within wf in
-          let x : blocks_in b' (h.blocks + 1) ≡ block_of new ∷ blocks_in b h.blocks =
-          ap (λ (t : List Row). blocks_in t (h.blocks + 1)) p ∙ ap (map block_of) (row_added b h.blocks new wf.block_table (omega arith)) in
+      plan : plan_in b' s w (record { release = h.release; adds = h.adds + 1; blocks = m; splits = h.splits; wires = h.wires }) ≡ new_block (plan_in b s w h) i o
+      plan =
+          let x : blocks_in b' m ≡ record { name = h.adds; incoming = i; outgoing = o } ∷ blocks_in b h.blocks = ap (map block_of) p.0 in
           rw (x, add-one h.adds)
 
 -- Removing.
@@ -184,13 +174,13 @@ module _ (b s w : List Row) (h : Totals) (wf : SketchWf b s w h) (n : ℕ) where
     resized_no_room p q e k x l = leaves_as (plan_in b s w h) (Err NoRoom) (resize_no_room (plan_in b s w h) n i o (omega arith) k (omega arith)) refl refl wf
 
     pub resized : {a c m : ℕ} → a ≡ i → c ≡ o → a + c ≤ node_ports → has_block (blocks_in b h.blocks) n ≡ true → m ≡ ports_in_all (map (recount n i o) (blocks_in b h.blocks)) → m ≤ port_slots →
-        (b' s' w' : List Row) (ns nw : ℕ) →
-        (blocks_in b' h.blocks ≡ map (recount n i o) (blocks_in b h.blocks)) × Table b' →
+        (b' s' w' : List Row) (nb ns nw : ℕ) →
+        (blocks_in b' nb ≡ map (recount n i o) (blocks_in b h.blocks)) × Table b' →
         (rows_in s' ns ≡ filter (missed (test.Split (ask.OfDropped n i o))) (rows_in s h.splits)) × Table s' →
         (rows_in w' nw ≡ filter (missed (test.Wire (ask.OfDropped n i o))) (rows_in w h.wires)) × Table w' →
-        {h' : Totals} → h' ≡ totals_counts h h.blocks ns nw →
+        {h' : Totals} → h' ≡ totals_counts h nb ns nw →
         Leaves done_numbers (set_counts (plan_in b s w h) n i o) b' s' w' h' (Ok tt)
-    resized u v e k m l b' s' w' ns nw p q r {h'} c =
+    resized u v e k m l b' s' w' nb ns nw p q r {h'} c =
         leaves_as (block_resized (plan_in b s w h) n i o) (Ok tt) at_once plan refl
         (tables_wf p.1 q.1 r.1 plan (subst (λ (c : Sketched (Result (Unit {0}) Reason)). PlanWf c.plan) at_once (resize_wf (plan_in b s w h) n i o wf.plan)))
       where

@@ -11,9 +11,8 @@ use Rattle.sketches.specs.Plan.{Plan, has_block, spot_named, is_there}
 use Rattle.sketches.specs.PlanLists.{block_count, port_count, wire_count, port_fan_out, block_fan_out}
 use Rattle.sketches.specs.Rows.{rows_in, wire_of, hits}
 use Rattle.sketches.specs.RowReads.{filter_map}
-use Rattle.sketches.specs.SketchTables.{plan_in}
+use Rattle.sketches.specs.SketchTables.{Totals, plan_in}
 use Rattle.sketches.specs.declared.rows.Row.{Row}
-use Rattle.sketches.specs.declared.totals.Totals.{Totals}
 use Rattle.sketches.specs.declared.counts.SketchCounts.{SketchCounts}
 use Rattle.sketches.specs.declared.tests.EndTest.TheVariants as ask
 use Rattle.sketches.specs.declared.tests.Test.TheVariants as test

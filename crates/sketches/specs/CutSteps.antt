@@ -4,7 +4,7 @@ use Rattle.std.proofs.Common.{sym, ◌∙◌, inl, inr, arith}
 use Rattle.std.specs.Prelude.{Bool, not, ℕ, ◌≤◌, ◌<◌, Option, Some, None, Result, Ok, Err}
 use Rattle.std.proofs.Math.Bool.{true, false, cond}
 use mathlib.Core.List.{List, [], ◌∷◌, map}
-use borrow.Author.Tests.{le-leb, lt-leb, eq-eqb, ne_eqb}
+use borrow.Author.Tests.{eq-eqb, ne_eqb}
 use Rattle.port_tables.specs.Lists.{filter, Member}
 use Rattle.port_tables.specs.Places.{Place, Wire, touches, at_spot, at_end, without}
 use Rattle.sketches.specs.Plan.{Plan, with_wires, spot_named, is_there, subports_of, set_subports, offset_read, lacks_offset, Far, nothing, far, far_from, above_wired}
@@ -17,9 +17,8 @@ use Rattle.sketches.specs.RowReads.{wires_left}
 use Rattle.sketches.specs.BlockSteps.{leaves_as, tables_wf}
 use Rattle.sketches.specs.SplitSteps.{splits_with, SplitsRoom, IsPlan, room_for, subports_set}
 use Rattle.sketches.specs.EndSteps.{judge_by, judge_end}
-use Rattle.sketches.specs.SketchTables.{plan_in, totals_counts, held_splits, held_wires, SketchWf, Leaves}
+use Rattle.sketches.specs.SketchTables.{Totals, plan_in, totals_counts, held_splits, held_wires, SketchWf, Leaves}
 use Rattle.sketches.specs.declared.rows.Row.{Row}
-use Rattle.sketches.specs.declared.totals.Totals.{Totals}
 use Rattle.sketches.specs.declared.tests.EndTest.{EndTest}
 use Rattle.sketches.specs.declared.tests.EndTest.TheVariants as ask
 use Rattle.sketches.specs.declared.tests.Test.TheVariants as test
@@ -215,12 +214,6 @@ module _ (b s w : List Row) (h : Totals) (wf : SketchWf b s w h) (x : SketchPort
           (rw (there, ne_eqb (subports_of (plan_in b s w h) x) 0 (λ q. z (e ∙ q)))) plan_cut_lem.plan refl plan_cut_lem.wf
 
 -- Tidying.
-
-pub left_none : (n : ℕ) → n ≤ 1 → 0 ≡ tidied n
-left_none n h = rw (le-leb n 1 h)
-
-pub left_some : (n : ℕ) → 1 < n → n ≡ tidied n
-left_some n h = rw (lt-leb n 1 h)
 
 module _ (b s w : List Row) (h : Totals) (wf : SketchWf b s w h) (x : SketchPort) where
   pub tidy_unknown : is_there (plan_in b s w h) x ≡ false → Leaves done_numbers (tidy_port (plan_in b s w h) x) b s w h (Err UnknownPort)

@@ -1,19 +1,18 @@
 -- Linking two ends over the tables: what is refused before any change, then one more wire.
-use Rattle.std.specs.Prelude.{◌≡◌, refl, Bool, true, false, cond, not, ◌||◌, List, ℕ, ◌+◌, ◌<◌, leb, ltb, length, Result, Ok, Err}
-use Rattle.std.proofs.Common.{sym, ap, ◌∙◌, arith, leb-true, leb-false, eq-eqb, ne_eqb, ltb-true, ltb-false}
+use Rattle.std.specs.Prelude.{◌≡◌, refl, Bool, true, false, cond, not, ◌||◌, List, ◌∷◌, ℕ, ◌<◌, leb, length, Result, Ok, Err}
+use Rattle.std.proofs.Common.{sym, ap, ◌∙◌, arith, leb-false, eq-eqb, ne_eqb}
 use Rattle.port_tables.specs.Entries.{same_side}
 use Rattle.port_tables.specs.Places.{wire_of_sides}
 use Rattle.sketches.specs.Plan.{Plan, is_there, input_taken, place_named, end#, subports_of, offset_read, lacks_offset}
 use Rattle.sketches.specs.PlanCalls.{most_wires, Sketched, leaves, with_wire, is_full, is_wired, bad_offset, link_subports}
 use Rattle.sketches.specs.PlanNumbers.{link_numbers}
 use Rattle.sketches.specs.CallsWf.{wire_wf, read_within}
-use Rattle.sketches.specs.Rows.{row_slots, put_row, wire_of}
+use Rattle.sketches.specs.Rows.{Table, rows_in, row_slots, wire_of}
 use Rattle.sketches.specs.Offsets.{length_wires}
 use Rattle.sketches.specs.BlockSteps.{leaves_as, tables_wf}
 use Rattle.sketches.specs.LinkSteps.{wire_laid}
-use Rattle.sketches.specs.SketchTables.{plan_in, held_wires, SketchWf, Leaves}
+use Rattle.sketches.specs.SketchTables.{Totals, plan_in, held_wires, SketchWf, Leaves}
 use Rattle.sketches.specs.declared.rows.Row.{Row}
-use Rattle.sketches.specs.declared.totals.Totals.{Totals}
 use Rattle.sketches.specs.declared.sketch.SketchPort.{SketchPort}
 use Rattle.sketches.specs.declared.sketch.Reason.{Reason}
 use Rattle.sketches.specs.declared.sketch.Reason.TheVariants.{BadOffset, UnknownPort, UnknownOffset, NoRoom, UnknownSecondPort, SameSide, AlreadyLinked, InputWired}
@@ -43,15 +42,6 @@ unfoldable pub judge_ends : Plan → SketchPort → ℕ → SketchPort → ℕ �
 judge_ends K x o y r =
     judge_all (bad_offset o || bad_offset r) (is_there K x) (lacks_offset K x o || cond (is_there K y) (lacks_offset K y r) false) (input_taken K x y) (is_there K y) (same_side x.side y.side)
     (is_wired K x o || is_wired K y r) (is_full K)
-
-pub bad_is : (o : ℕ) → leb 65535 o ≡ bad_offset o
-bad_is o = go (leb 65535 o) refl (ltb o 65535) refl
-  where
-    go : (a : Bool) → leb 65535 o ≡ a → (b : Bool) → ltb o 65535 ≡ b → a ≡ not b
-    go true p true q = let h = leb-true 65535 o p in let k = ltb-true o 65535 q in absurd (omega arith)
-    go true p false q = refl
-    go false p true q = refl
-    go false p false q = let h = leb-false 65535 o p in let k = ltb-false o 65535 q in absurd (omega arith)
 
 pub read_unsplit : (K : Plan) (x : SketchPort) (o : ℕ) {c : ℕ} → c ≡ subports_of K x → c ≡ 0 → 0 ≡ offset_read K x o
 read_unsplit K x o e z = rw (eq-eqb (subports_of K x) 0 (sym e ∙ z))
@@ -207,14 +197,14 @@ module _ (b s w : List Row) (h : Totals) (wf : SketchWf b s w h) (x : SketchPort
     ends_room = let k = fine.room in let n = length_wires w h.wires in omega arith
 
     pub ends_linked : {p q : ℕ} → p ≡ offset_read (plan_in b s w h) x o → q ≡ offset_read (plan_in b s w h) y r → {row : Row} → wire_of row ≡ wire_of_sides x.side (place_named x p) (place_named y q) →
-        {w' : List Row} → w' ≡ put_row w h.wires row → {h' : Totals} → h' ≡ held_wires h (h.wires + 1) →
-        Leaves link_numbers (link_subports (plan_in b s w h) x o y r) b s w' h' (Ok (end# x p, end# y q))
-    ends_linked {p} {q} u v {row} c {w'} k {h'} l =
-        let t = wire_laid x y p q wf refl ends_room c k l in
-        let g : plan_in b s w' h' ≡ with_wire (plan_in b s w h) x (offset_read (plan_in b s w h) x o) y (offset_read (plan_in b s w h) y r) =
-        t.0 ∙ ap (λ (n : ℕ). with_wire (plan_in b s w h) x n y q) u ∙ ap (λ (n : ℕ). with_wire (plan_in b s w h) x (offset_read (plan_in b s w h) x o) y n) v in
+        {w' : List Row} {m : ℕ} → (rows_in w' m ≡ row ∷ rows_in w h.wires) × Table w' →
+        Leaves link_numbers (link_subports (plan_in b s w h) x o y r) b s w' (held_wires h m) (Ok (end# x p, end# y q))
+    ends_linked {p} {q} u v {row} c {w'} {m} k =
+        let t = wire_laid x y p q b s w w' h m refl c k.0 in
+        let g : plan_in b s w' (held_wires h m) ≡ with_wire (plan_in b s w h) x (offset_read (plan_in b s w h) x o) y (offset_read (plan_in b s w h) y r) =
+        t ∙ ap (λ (n : ℕ). with_wire (plan_in b s w h) x n y q) u ∙ ap (λ (n : ℕ). with_wire (plan_in b s w h) x (offset_read (plan_in b s w h) x o) y n) v in
         leaves_as (with_wire (plan_in b s w h) x (offset_read (plan_in b s w h) x o) y (offset_read (plan_in b s w h) y r)) (Ok (end# x (offset_read (plan_in b s w h) x o), end# y (offset_read (plan_in b s w h) y r)))
         (link_as_judged (plan_in b s w h) x o y r ∙ ap (link_as (plan_in b s w h) x o y r) (sym e ∙ f)) g
         (ap (λ (n : ℕ). (Ok (end# x n, end# y q))) u ∙ ap (λ (n : ℕ). (Ok (end# x (offset_read (plan_in b s w h) x o), end# y n))) v)
-        (tables_wf wf.block_table wf.split_table t.1 g
+        (tables_wf wf.block_table wf.split_table k.1 g
         (wire_wf (plan_in b s w h) x (offset_read (plan_in b s w h) x o) y (offset_read (plan_in b s w h) y r) wf.plan fine.room (read_within (plan_in b s w h) x o wf.plan fine.first) (read_within (plan_in b s w h) y r wf.plan fine.second)))

@@ -8,6 +8,7 @@
 --   SketchTables  three tables as a plan, what a call presumes and keeps (SketchWf) and what it promises (Leaves)
 --   Held          a sketch as contracts see it
 --   Rows          the rows of a table, and the tests on them
+--   Tables        a table as contracts see it
 --   SketchWalks   what a step of each walk gives
 --   WalkLaws, SubportLaws   a walk gives each item of its list once, and ends
 --   PlanWf, CallsWf         what holds of a plan after every call: no more split ports than ports, offsets that fit 16 bits
@@ -22,6 +23,7 @@ pub mod RowSteps
 pub mod RowReads
 pub mod Offsets
 pub mod PlanWf
+pub mod Tables
 pub mod SketchTables
 pub mod Held
 pub mod CallsWf

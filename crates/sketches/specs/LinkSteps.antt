@@ -1,5 +1,5 @@
 -- Linking two ports over the tables.
-use Rattle.std.specs.Prelude.{◌≡◌, refl, Bool, true, false, cond, List, ◌∷◌, map, ℕ, ◌+◌, ◌<◌, length, Result, Ok, Err}
+use Rattle.std.specs.Prelude.{◌≡◌, refl, Bool, true, false, cond, List, ◌∷◌, map, ℕ, ◌<◌, length, Result, Ok, Err}
 use Rattle.std.proofs.Common.{sym, ap, ◌∙◌, subst, arith}
 use borrow.Author.Tests.{leb-false}
 use Rattle.port_tables.specs.Entries.{same_side}
@@ -12,14 +12,12 @@ use Rattle.sketches.specs.Plan.{Plan, with_wires, spot_named, is_there, wired_si
 use Rattle.sketches.specs.PlanCalls.{most_wires, Sketched, leaves, is_full, with_wire, both_linked, link_ports, link_clean}
 use Rattle.sketches.specs.PlanNumbers.{link_numbers}
 use Rattle.sketches.specs.CallsWf.{ready_wires, ready_there, linked_wf, offset_within}
-use Rattle.sketches.specs.Rows.{row_slots, Table, put_row, wires_in, wire_of}
-use Rattle.sketches.specs.RowSteps.{row_added, length_put}
+use Rattle.sketches.specs.Rows.{rows_in, row_slots, Table, wires_in, wire_of}
 use Rattle.sketches.specs.Offsets.{length_wires}
 use Rattle.sketches.specs.BlockSteps.{leaves_as, tables_wf}
 use Rattle.sketches.specs.SplitSteps.{IsPlan}
-use Rattle.sketches.specs.SketchTables.{plan_in, held_wires, SketchWf, Leaves}
+use Rattle.sketches.specs.SketchTables.{Totals, plan_in, held_wires, SketchWf, Leaves}
 use Rattle.sketches.specs.declared.rows.Row.{Row}
-use Rattle.sketches.specs.declared.totals.Totals.{Totals}
 use Rattle.sketches.specs.declared.sketch.SketchPort.{SketchPort}
 use Rattle.sketches.specs.declared.sketch.Reason.{Reason}
 use Rattle.sketches.specs.declared.sketch.Reason.TheVariants.{UnknownPort, NoRoom, UnknownSecondPort, SameSide, InputWired}
@@ -50,36 +48,12 @@ taken_second_lem K x y e h = ap (λ (b : Bool). cond b true (wired_side K y y.si
 
 -- A wire's row.
 
-pub row_in : (x y : SketchPort) (o r : ℕ) → x.side ≡ Incoming → same_side x.side y.side ≡ false →
-    wire_of (record { 0 = y.block; 1 = y.position; 2 = r; 3 = x.block; 4 = x.position; 5 = o }) ≡ wire_of_sides x.side (place_named x o) (place_named y r)
-row_in x y o r e h = go x.side y.side e h
-  where
-    go : (d f : Direction) → d ≡ Incoming → same_side d f ≡ false →
-        wire_of (record { 0 = y.block; 1 = y.position; 2 = r; 3 = x.block; 4 = x.position; 5 = o }) ≡ wire_of_sides d (record { node = x.block; side = d; pos = x.position; offset = o }) (record { node = y.block; side = f; pos = y.position; offset = r })
-    go Incoming Outgoing p q = refl
-    go Incoming Incoming p q = absurd (let z : ◌≡◌ {A = ℕ} 0 1 = cc in omega arith)
-    go Outgoing f p q = absurd (let z : ◌≡◌ {A = ℕ} 0 1 = cc in omega arith)
-
-pub row_out : (x y : SketchPort) (o r : ℕ) → x.side ≡ Outgoing → same_side x.side y.side ≡ false →
-    wire_of (record { 0 = x.block; 1 = x.position; 2 = o; 3 = y.block; 4 = y.position; 5 = r }) ≡ wire_of_sides x.side (place_named x o) (place_named y r)
-row_out x y o r e h = go x.side y.side e h
-  where
-    go : (d f : Direction) → d ≡ Outgoing → same_side d f ≡ false →
-        wire_of (record { 0 = x.block; 1 = x.position; 2 = o; 3 = y.block; 4 = y.position; 5 = r }) ≡ wire_of_sides d (record { node = x.block; side = d; pos = x.position; offset = o }) (record { node = y.block; side = f; pos = y.position; offset = r })
-    go Outgoing Incoming p q = refl
-    go Outgoing Outgoing p q = absurd (let z : ◌≡◌ {A = ℕ} 0 1 = cc in omega arith)
-    go Incoming f p q = absurd (let z : ◌≡◌ {A = ℕ} 0 1 = cc in omega arith)
-
 -- one more wire in the tables of a plan
-pub wire_laid : (x y : SketchPort) (o r : ℕ) {b s w w' : List Row} {h h' : Totals} {K : Plan} {row : Row} → SketchWf b s w h → plan_in b s w h ≡ K → h.wires < row_slots →
-    wire_of row ≡ wire_of_sides x.side (place_named x o) (place_named y r) → w' ≡ put_row w h.wires row → h' ≡ held_wires h (h.wires + 1) →
-    (plan_in b s w' h' ≡ with_wire K x o y r) × Table w'
-wire_laid x y o r {b} {s} {w} {w'} {h} {h'} {K} {row} wf e l c p q = (
-  ap (plan_in b s w') q
-      ∙ ap (with_wires (plan_in b s w h)) (ap (λ (t : List Row). wires_in t (h.wires + 1)) p ∙ ap (map wire_of) (row_added w h.wires row wf.wire_table l) ∙ ap (λ (v : Wire). v ∷ wires_in w h.wires) c)
-      ∙ ap (λ (k : Plan). with_wire k x o y r) e,
-  ap length p ∙ length_put w h.wires row ∙ wf.wire_table,
-)
+pub wire_laid : (x y : SketchPort) (o r : ℕ) (b s w w' : List Row) (h : Totals) (m : ℕ) {K : Plan} {row : Row} → plan_in b s w h ≡ K →
+    wire_of row ≡ wire_of_sides x.side (place_named x o) (place_named y r) → rows_in w' m ≡ row ∷ rows_in w h.wires →
+    plan_in b s w' (held_wires h m) ≡ with_wire K x o y r
+wire_laid x y o r b s w w' h m {K} {row} e c q =
+    ap (with_wires (plan_in b s w h)) (ap (map wire_of) q ∙ ap (λ (v : Wire). v ∷ wires_in w h.wires) c) ∙ ap (λ (k : Plan). with_wire k x o y r) e
 
 -- the second port is there after the first was made ready
 pub both_there : (b s w : List Row) (h : Totals) (x y : SketchPort) {b₁ s₁ w₁ : List Row} {h₁ : Totals} → IsPlan (ready (plan_in b s w h) x) b₁ s₁ w₁ h₁ → is_there (plan_in b s w h) y ≡ true →
@@ -116,16 +90,16 @@ module _ (b s w : List Row) (h : Totals) (x y : SketchPort) (l : Linkable b s w 
           omega arith
 
       pub both_linked_lem : {o r : ℕ} → o ≡ offset_ready (plan_in b s w h) x → r ≡ offset_ready (plan_in b s w h) y → {row : Row} → wire_of row ≡ wire_of_sides x.side (place_named x o) (place_named y r) →
-          {w₃ : List Row} → w₃ ≡ put_row w₂ h₂.wires row → {h₃ : Totals} → h₃ ≡ held_wires h₂ (h₂.wires + 1) →
-          Leaves link_numbers (both_linked (plan_in b s w h) x y) b₂ s₂ w₃ h₃ (Ok (end# x o, end# y r))
-      both_linked_lem {o} {r} f g {row} c {w₃} u {h₃} v =
-          let t = wire_laid x y o r q.wf both still_room c u v in
-          let n = length_wires w h.wires in
+          {w₃ : List Row} {n : ℕ} → (rows_in w₃ n ≡ row ∷ rows_in w₂ h₂.wires) × Table w₃ →
+          Leaves link_numbers (both_linked (plan_in b s w h) x y) b₂ s₂ w₃ (held_wires h₂ n) (Ok (end# x o, end# y r))
+      both_linked_lem {o} {r} f g {row} c {w₃} {n} u =
+          let t = wire_laid x y o r b₂ s₂ w₂ w₃ h₂ n both c u.0 in
+          let a = length_wires w h.wires in
           let m = l.room in
-          let e : plan_in b₂ s₂ w₃ h₃ ≡ (both_linked (plan_in b s w h) x y).plan = t.0 ∙ ap (λ (k : ℕ). with_wire (ready (ready (plan_in b s w h) x) y) x k y r) f ∙ ap (λ (k : ℕ). with_wire (ready (ready (plan_in b s w h) x) y) x (offset_ready (plan_in b s w h) x) y k) g in
+          let e : plan_in b₂ s₂ w₃ (held_wires h₂ n) ≡ (both_linked (plan_in b s w h) x y).plan = t ∙ ap (λ (k : ℕ). with_wire (ready (ready (plan_in b s w h) x) y) x k y r) f ∙ ap (λ (k : ℕ). with_wire (ready (ready (plan_in b s w h) x) y) x (offset_ready (plan_in b s w h) x) y k) g in
           leaves_as (both_linked (plan_in b s w h) x y).plan (both_linked (plan_in b s w h) x y).answer refl e
           (ap (λ (k : ℕ). (Ok (end# x k, end# y r))) f ∙ ap (λ (k : ℕ). (Ok (end# x (offset_ready (plan_in b s w h) x), end# y k))) g)
-          (tables_wf q.wf.block_table q.wf.split_table t.1 e (linked_wf (plan_in b s w h) x y l.wf.plan l.first l.second (omega arith)))
+          (tables_wf q.wf.block_table q.wf.split_table u.1 e (linked_wf (plan_in b s w h) x y l.wf.plan l.first l.second (omega arith)))
 
 -- The calls, by what they are refused with.
 

@@ -1,5 +1,5 @@
 -- Turns of the loops over a table, and what a store of a row leaves.
-use Rattle.std.specs.Prelude.{◌≡◌, Bool, cond, not, eqb, Option, Some, None, is_some}
+use Rattle.std.specs.Prelude.{◌≡◌, Bool, cond, Option, Some, None, is_some}
 use Rattle.std.proofs.Math.Path.{refl, sym, ap, subst}
 use Rattle.std.proofs.Common.{◌∙◌, length-set, get_or-set_same, get_or-set_other}
 use Rattle.std.proofs.Math.Bool.{true, false}
@@ -8,16 +8,11 @@ use Prim.Native.Nat.{ℕ, zero, suc, ◌+◌, ◌-◌, ◌≤◌, ◌<◌}
 use Rattle.std.proofs.Math.Numerals.{add-one}
 use native.Mathlib.Omega.{arith}
 use Rattle.std.proofs.Math.ListN.{length}
-use borrow.Author.Tests.{le-leb, lt-leb, eq-eqb, ne_eqb}
+use borrow.Author.Tests.{le-leb, lt-leb}
 use Rattle.port_tables.specs.Lists.{filter}
-use Rattle.port_tables.specs.declared.direction.Direction.{Direction}
-use Rattle.port_tables.specs.declared.direction.Direction.TheVariants.{Incoming, Outgoing}
-use Rattle.port_tables.specs.Places.{end_on}
 use Rattle.sketches.specs.Plan.{PlanBlock, ports_in_all}
-use Rattle.sketches.specs.PlanCalls.{recount}
-use Rattle.sketches.specs.Rows.{row_at, put_row, rows_in, Table, newest_hit, oldest_hit, wire_of, block_of, hits, past, first, is_there_any, no_row}
+use Rattle.sketches.specs.Rows.{row_at, put_row, rows_in, Table, newest_hit, oldest_hit, block_of, past, first, is_there_any, no_row}
 use Rattle.sketches.specs.declared.rows.Row.{Row}
-use Rattle.sketches.specs.declared.tests.Test.TheVariants as test
 
 -- The newest and the oldest row that is hit.
 
@@ -193,32 +188,7 @@ pub rows_more : (t : List Row) (i : ℕ) → rows_in t (i + 1) ≡ row_at t i �
 unfolding rows_in
 rows_more t i = rw (add-one i)
 
-pub recounted_same : (r : Row) (n i o : ℕ) → r.0 ≡ n → (record { name = n; incoming = i; outgoing = o }) ≡ recount n i o (block_of r)
-recounted_same r n i o e = rw (eq-eqb r.0 n e)
-
-pub recounted_other : (r : Row) (n i o : ℕ) → (r.0 ≡ n → ⊥) → block_of r ≡ recount n i o (block_of r)
-recounted_other r n i o e = rw (ne_eqb r.0 n e)
-
 -- Neighbours.
-
-pub neighbour_in : (n : ℕ) (d : Direction) (flag : Bool) (r : Row) → d ≡ Incoming → flag ≡ true → (end_on d (wire_of r)).node ≡ n →
-    not (eqb r.0 n) ≡ hits (test.Neighbour n d flag) r
-neighbour_in n d flag r p q h =
-    subst (λ (x : Direction). (end_on x (wire_of r)).node ≡ n → not (eqb r.0 n) ≡ hits (test.Neighbour n x flag) r) (sym p)
-    (subst (λ (x : Bool). r.3 ≡ n → not (eqb r.0 n) ≡ hits (test.Neighbour n Incoming x) r) (sym q) (λ e. rw (eq-eqb r.3 n e) (same (eqb r.0 n)))) h
-  where
-    same : (b : Bool) → not b ≡ not (cond b true false)
-    same true = refl
-    same false = refl
-
-pub neighbour_out : (n : ℕ) (d : Direction) (flag : Bool) (r : Row) → d ≡ Outgoing → (end_on d (wire_of r)).node ≡ n → true ≡ hits (test.Neighbour n d flag) r
-neighbour_out n d flag r p h =
-    subst (λ (x : Direction). (end_on x (wire_of r)).node ≡ n → true ≡ hits (test.Neighbour n x flag) r) (sym p) (λ e. rw (eq-eqb r.0 n e) (same flag (eqb r.3 n))) h
-  where
-    same : (a b : Bool) → true ≡ not (cond a (cond b false false) false)
-    same true true = refl
-    same true false = refl
-    same false b = refl
 
 -- The newest row that is hit is the first of those that are.
 

@@ -8,7 +8,14 @@ use Rattle.sketches.specs.PlanCalls.{Sketched}
 use Rattle.sketches.specs.PlanWf.{PlanWf, empty_wf}
 use Rattle.sketches.specs.Rows.{Table, rows_in, blocks_in, splits_in, wires_in}
 use Rattle.sketches.specs.declared.rows.Row.{Row}
-use Rattle.sketches.specs.declared.totals.Totals.{Totals}
+
+-- the numbers of a sketch: its release, the adds that were accepted, and how many rows of each table are in use
+pub record Totals : Type 0 where
+  pub release : Release
+  pub adds : ℕ
+  pub blocks : ℕ
+  pub splits : ℕ
+  pub wires : ℕ
 
 abbrev pub new_held : Release → Totals
 new_held r = record { release = r; adds = 0; blocks = 0; splits = 0; wires = 0 }

@@ -5,7 +5,7 @@ use Rattle.std.proofs.Math.Path.{ap}
 use Prim.Native.Nat.{ℕ, zero, suc, ◌+◌, ◌-◌, ◌≤◌, ◌<◌, min}
 use native.Mathlib.Omega.{arith}
 use Rattle.std.proofs.Math.Numerals.{add-one}
-use borrow.Author.Tests.{eqb-true, eqb-false, eq-eqb, ne_eqb, leb-true, leb-false, le-leb, lt-leb, lt-ltb, le-ltb}
+use borrow.Author.Tests.{eqb-true, eqb-false, ne_eqb, leb-true, leb-false, le-leb, lt-leb, lt-ltb, le-ltb}
 use Rattle.port_tables.specs.Lists.{Member}
 use Rattle.port_tables.specs.Places.{Wire}
 use Rattle.port_tables.specs.Listing.{map_member}
@@ -14,9 +14,8 @@ use Rattle.sketches.specs.PlanLists.{port_on}
 use Rattle.sketches.specs.PlanWf.{PlanWf, most_subports}
 use Rattle.sketches.specs.CallsWf.{subports_within}
 use Rattle.sketches.specs.Rows.{row_at, rows_in, wire_of, hits, past, newest_hit, oldest_hit}
-use Rattle.sketches.specs.SketchTables.{SketchWf}
+use Rattle.sketches.specs.SketchTables.{Totals, SketchWf}
 use Rattle.sketches.specs.declared.rows.Row.{Row}
-use Rattle.sketches.specs.declared.totals.Totals.{Totals}
 use Rattle.sketches.specs.declared.tests.Test.{Test}
 use Rattle.sketches.specs.declared.walks.Walk.{Walk}
 use Rattle.sketches.specs.declared.walks.SketchWire.{SketchWire}
@@ -107,6 +106,11 @@ newest_high f t low (suc n) = go (leb low n) (f (row_at t n)) (newest_high f t l
     go true false h = omega arith
     go false b h = omega arith
 
+-- the rows that are left of a whole walk are all
+pub whole_found : (t : List Row) (n : ℕ) (x : Test) {w : Walk} {k : ℕ} → w ≡ whole_walk n x → k ≡ newest_hit (hits w.test) t w.low (min w.high n) → k ≡ newest_hit (hits x) t 0 n
+whole_found t n x {w} {k} e h =
+    h ∙ ap (λ (v : Walk). newest_hit (hits v.test) t v.low (min v.high n)) e ∙ ap (newest_hit (hits x) t 0) (omega arith)
+
 pub oldest_high : (f : Row → Bool) (t : List Row) (i n : ℕ) → oldest_hit f t i n ≤ i + n
 unfolding oldest_hit
 oldest_high f t i zero = omega arith
@@ -132,73 +136,60 @@ row_among t (suc n) i h = go (eqb i n) refl (row_among t n i)
 pub row_offsets : {b s w : List Row} {h : Totals} (i : ℕ) → SketchWf b s w h → i < h.wires → ((wire_of (row_at w i)).out.offset < most_subports) × ((wire_of (row_at w i)).into.offset < most_subports)
 row_offsets {b} {s} {w} {h} i wf l = wf.plan.offsets (wire_of (row_at w i)) (map_member wire_of (row_at w i) (rows_in w h.wires) (row_among w h.wires i l))
 
-module _ (t : List Row) (n : ℕ) (w : Walk) {m : ℕ} (k : Option ℕ) (p : m ≡ min w.high n) where
-  module _ (e : past k ≡ newest_hit (hits w.test) t w.low m) where
-    same : past k ≡ newest_hit (hits w.test) t w.low (min w.high n)
-    same = e ∙ ap (newest_hit (hits w.test) t w.low) p
-
+module _ (t : List Row) (n : ℕ) (w : Walk) (k : Option ℕ) where
+  module _ (e : past k ≡ newest_hit (hits w.test) t w.low (min w.high n)) where
     pub next_ends : k ≡ None → None ≡ next_wire t n w
     unfolding next_wire
-    next_ends z = ap (wire_below t w) (sym (ap past z) ∙ same)
+    next_ends z = ap (wire_below t w) (sym (ap past z) ∙ e)
+
+    -- in a table the least of its rows in use and of all of its rows is the first
+    same_block : n ≤ 3072 → past k ≡ newest_hit (hits w.test) t w.low (min w.high (min n 3072))
+    same_block l = e ∙ ap (newest_hit (hits w.test) t w.low) (omega arith)
+
+    pub block_ends : n ≤ 3072 → k ≡ None → None ≡ next_block t n w
+    unfolding next_block
+    block_ends l z = ap (block_below t w) (sym (ap past z) ∙ same_block l)
 
     module _ {i : ℕ} (z : k ≡ Some i) where
       pub next_within : i < n
-      next_within = let s : suc i ≡ newest_hit (hits w.test) t w.low m = sym (ap past z) ∙ e in let h = newest_high (hits w.test) t w.low m in omega arith
+      next_within = let s : suc i ≡ newest_hit (hits w.test) t w.low (min w.high n) = sym (ap past z) ∙ e in let h = newest_high (hits w.test) t w.low (min w.high n) in omega arith
 
       pub next_gives : {x : SketchWire} → x ≡ wire_held (wire_of (row_at t i)) → Some (x, record { low = w.low; high = i; test = w.test }) ≡ next_wire t n w
       unfolding next_wire
       next_gives {x} q =
-          ap (λ (y : SketchWire). Some (y, record { low = w.low; high = i; test = w.test })) q ∙ ap (wire_below t w) (sym (ap past z) ∙ same)
+          ap (λ (y : SketchWire). Some (y, record { low = w.low; high = i; test = w.test })) q ∙ ap (wire_below t w) (sym (ap past z) ∙ e)
 
-  module _ (e : past k ≡ oldest_hit (hits w.test) t w.low (m - w.low)) where
-    same_back : past k ≡ oldest_hit (hits w.test) t w.low (min w.high n - w.low)
-    same_back = e ∙ ap (λ (j : ℕ). oldest_hit (hits w.test) t w.low (j - w.low)) p
+      pub block_gives : n ≤ 3072 → Some ((row_at t i).0, record { low = w.low; high = i; test = w.test }) ≡ next_block t n w
+      unfolding next_block
+      block_gives l = ap (block_below t w) (sym (ap past z) ∙ same_block l)
 
+  module _ (e : past k ≡ oldest_hit (hits w.test) t w.low (min w.high n - w.low)) where
     pub previous_ends : k ≡ None → None ≡ previous_wire t n w
     unfolding previous_wire
-    previous_ends z = ap (wire_above t w) (sym (ap past z) ∙ same_back)
+    previous_ends z = ap (wire_above t w) (sym (ap past z) ∙ e)
 
     module _ {i : ℕ} (z : k ≡ Some i) where
-      found_back : suc i ≡ oldest_hit (hits w.test) t w.low (m - w.low)
+      found_back : suc i ≡ oldest_hit (hits w.test) t w.low (min w.high n - w.low)
       found_back = sym (ap past z) ∙ e
 
       pub previous_within : i < n
-      previous_within = go (leb w.low m) refl
+      previous_within = go (leb w.low (min w.high n)) refl
         where
-          go : (b : Bool) → leb w.low m ≡ b → i < n
-          go true l = let a = leb-true w.low m l in let h = oldest_high (hits w.test) t w.low (m - w.low) in let f = found_back in omega arith
+          go : (b : Bool) → leb w.low (min w.high n) ≡ b → i < n
+          go true l = let a = leb-true w.low (min w.high n) l in let h = oldest_high (hits w.test) t w.low (min w.high n - w.low) in let f = found_back in omega arith
           go false l =
-              let a = leb-false w.low m l in
-              let c : m - w.low ≡ 0 = omega arith in
-              let f : suc i ≡ 0 = found_back ∙ no_rows (hits w.test) t w.low (m - w.low) c in
+              let a = leb-false w.low (min w.high n) l in
+              let c : min w.high n - w.low ≡ 0 = omega arith in
+              let f : suc i ≡ 0 = found_back ∙ no_rows (hits w.test) t w.low (min w.high n - w.low) c in
               absurd (omega arith)
 
       pub previous_gives : {x : SketchWire} → x ≡ wire_held (wire_of (row_at t i)) → Some (x, record { low = i + 1; high = w.high; test = w.test }) ≡ previous_wire t n w
       unfolding previous_wire
       previous_gives {x} q =
           ap (λ (y : SketchWire). Some (y, record { low = i + 1; high = w.high; test = w.test })) q
-          ∙ ap (λ (j : ℕ). Some (wire_held (wire_of (row_at t i)), record { low = j; high = w.high; test = w.test })) (add-one i) ∙ ap (wire_above t w) (sym (ap past z) ∙ same_back)
-
-module _ (t : List Row) (n : ℕ) (w : Walk) {c m : ℕ} (k : Option ℕ) (q : c ≡ min n 3072) (p : m ≡ min w.high c) (e : past k ≡ newest_hit (hits w.test) t w.low m) where
-  same_block : past k ≡ newest_hit (hits w.test) t w.low (min w.high (min n 3072))
-  same_block = e ∙ ap (newest_hit (hits w.test) t w.low) (p ∙ ap (min w.high) q)
-
-  pub block_ends : k ≡ None → None ≡ next_block t n w
-  unfolding next_block
-  block_ends z = ap (block_below t w) (sym (ap past z) ∙ same_block)
-
-  module _ {i : ℕ} (z : k ≡ Some i) where
-    pub block_within : i < 3072
-    block_within = let s : suc i ≡ newest_hit (hits w.test) t w.low m = sym (ap past z) ∙ e in let h = newest_high (hits w.test) t w.low m in omega arith
-
-    pub block_gives : Some ((row_at t i).0, record { low = w.low; high = i; test = w.test }) ≡ next_block t n w
-    unfolding next_block
-    block_gives = ap (block_below t w) (sym (ap past z) ∙ same_block)
+          ∙ ap (λ (j : ℕ). Some (wire_held (wire_of (row_at t i)), record { low = j; high = w.high; test = w.test })) (add-one i) ∙ ap (wire_above t w) (sym (ap past z) ∙ e)
 
 -- Subports.
-
-pub knows_one : (K : Plan) (x : SketchPort) {c : ℕ} → c ≡ subports_of K x → c ≡ 0 → Knows K x 1
-knows_one K x e z = record { count = rw (eq-eqb (subports_of K x) 0 (sym e ∙ z)); within = omega arith }
 
 pub knows_more : (K : Plan) (x : SketchPort) {c : ℕ} → PlanWf K → c ≡ subports_of K x → (c ≡ 0 → ⊥) → Knows K x c
 knows_more K x wf e z = let l = subports_within K x wf in record { count = e ∙ rw (ne_eqb (subports_of K x) 0 (λ q. z (e ∙ q))); within = omega arith }

@@ -12,15 +12,13 @@ use Rattle.sketches.specs.Plan.{Plan, with_splits, spot_named, is_there, subport
 use Rattle.sketches.specs.PlanCalls.{most_wires}
 use Rattle.sketches.specs.PlanWf.{most_subports, splits_set, splits_fit, subports_wf}
 use Rattle.sketches.specs.CallsWf.{offset_within, ready_within, subports_within}
-use Rattle.sketches.specs.Rows.{row_slots, Table, rows_in, put_row, splits_in, split_of, side_of, missed}
-use Rattle.sketches.specs.RowSteps.{row_added, length_put}
+use Rattle.sketches.specs.Rows.{row_slots, Table, rows_in, splits_in, split_of, side_of, missed}
 use Rattle.sketches.specs.RowReads.{splits_left}
-use Rattle.sketches.specs.Offsets.{length_rows, length_wires}
+use Rattle.sketches.specs.Offsets.{length_rows}
 use Rattle.sketches.specs.BlockSteps.{tables_wf}
 use Rattle.sketches.specs.Held.{Held, plan_of}
-use Rattle.sketches.specs.SketchTables.{plan_in, held_splits, SketchWf}
+use Rattle.sketches.specs.SketchTables.{Totals, plan_in, held_splits, SketchWf}
 use Rattle.sketches.specs.declared.rows.Row.{Row}
-use Rattle.sketches.specs.declared.totals.Totals.{Totals}
 use Rattle.sketches.specs.declared.sketch.SketchPort.{SketchPort}
 use Rattle.sketches.specs.declared.tests.EndTest.TheVariants as ask
 use Rattle.sketches.specs.declared.tests.Test.TheVariants as test
@@ -40,10 +38,8 @@ set_is_with K p c = go (eqb (subports_of K p) c)
     go false = refl
 
 -- there is room for the change
-pub record SplitsRoom (t : List Row) (n : ℕ) (p : SketchPort) (c : ℕ) : Type 0 where
-  pub table : Table t
-  pub now : n ≤ row_slots
-  pub then : length (splits_with (splits_in t n) p c) ≤ row_slots
+abbrev pub SplitsRoom : List Row → ℕ → SketchPort → ℕ → Type 0
+SplitsRoom t n p c = length (splits_with (splits_in t n) p c) ≤ row_slots
 
 abbrev pub split_row : SketchPort → ℕ → Row
 split_row p c = record { 0 = p.block; 1 = side_number p.side; 2 = p.position; 3 = c; 4 = 0; 5 = 0 }
@@ -73,22 +69,14 @@ module _ (t : List Row) (n : ℕ) (p : SketchPort) (c : ℕ) where
     more z = changed ∙ rw (ne_eqb c 0 z, others)
 
     pub room_left : (c ≡ 0 → ⊥) → SplitsRoom t n p c → kept < row_slots
-    room_left z r = let a = ap length (more z) in let b = length_splits t' kept in let l = r.then in omega arith
+    room_left z r = let a = ap length (more z) in let b = length_splits t' kept in omega arith
 
-    pub subports_some : (c ≡ 0 → ⊥) → SplitsRoom t n p c → Table t' → {t'' : List Row} {r : Row} → r ≡ split_row p c → t'' ≡ put_row t' kept r → (splits_in t'' (kept + 1) ≡ splits_with (splits_in t n) p c) × Table t''
-    subports_some z room w {t''} {r} s q =
-        let l = room_left z room in (
-          ap (λ (u : List Row). splits_in u (kept + 1)) q ∙ ap (map split_of) (row_added t' kept r w l) ∙ ap (λ (y : Row). split_of y ∷ splits_in t' kept) s ∙ ap (λ (y : Place). y ∷ splits_in t' kept) (split_row_is p c) ∙ sym (more z),
-          ap length q ∙ length_put t' kept r ∙ w,
-        )
+    pub subports_some : (c ≡ 0 → ⊥) → (t'' : List Row) (k : ℕ) {r : Row} → r ≡ split_row p c → rows_in t'' k ≡ r ∷ rows_in t' kept → splits_in t'' k ≡ splits_with (splits_in t n) p c
+    subports_some z t'' k {r} s q =
+        ap (map split_of) q ∙ ap (λ (y : Row). split_of y ∷ splits_in t' kept) s
+        ∙ ap (λ (y : Place). y ∷ splits_in t' kept) (split_row_is p c) ∙ sym (more z)
 
 -- Making ready.
-
-pub ready_none : (c o : ℕ) → c ≡ 0 → o ≡ 0 → 0 ≡ subports_ready c o
-ready_none c o h k = rw (eq-eqb c 0 h, eq-eqb o 0 k)
-
-pub ready_two : (c o : ℕ) → c ≡ 0 → (o ≡ 0 → ⊥) → 2 ≡ subports_ready c o
-ready_two c o h k = rw (eq-eqb c 0 h, ne_eqb o 0 k)
 
 pub ready_more : (c o : ℕ) {n m : ℕ} → (c ≡ 0 → ⊥) → n ≡ c → m ≡ max n (o + 1) → m ≡ subports_ready c o
 ready_more c o h e p = p ∙ rw (ne_eqb c 0 h, e, add-one o)
@@ -105,18 +93,12 @@ plan_seen_as f {i} {k} {b} {s} {w} {h} e p = subst (λ (x : Held). IsPlan (f (pl
 pub plan_back : {K : Plan} {i k : Held} → i ≡ k → IsPlan K k.blocks k.splits k.wires k.totals → IsPlan K i.blocks i.splits i.wires i.totals
 plan_back {K} e p = subst (λ (x : Held). IsPlan K x.blocks x.splits x.wires x.totals) (sym e) p
 
-pub splits_within : {b s w : List Row} {h : Totals} → SketchWf b s w h → h.splits ≤ row_slots
-splits_within {b} {s} {w} {h} wf = let e = length_splits s h.splits in let k = splits_fit (plan_in b s w h) wf.plan in omega arith
-
-pub wires_within : {b s w : List Row} {h : Totals} → SketchWf b s w h → h.wires ≤ most_wires
-wires_within {b} {s} {w} {h} wf = let e = length_wires w h.wires in let k = wf.plan.wires in omega arith
-
 module _ (b s w : List Row) (h : Totals) (wf : SketchWf b s w h) (p : SketchPort) (there : is_there (plan_in b s w h) p ≡ true) (c : ℕ) (within : c ≤ most_subports) where
   pub room_for : SplitsRoom s h.splits p c
   room_for =
       let k : length (set_subports (plan_in b s w h) p c).splits ≤ row_slots = splits_fit (set_subports (plan_in b s w h) p c) (subports_wf (plan_in b s w h) p c wf.plan there within) in
       let e = ap (λ (K : Plan). length K.splits) (set_is_with (plan_in b s w h) p c) in
-      record { table = wf.split_table; now = splits_within wf; then = omega arith }
+      omega arith
 
   pub subports_set : {s' : List Row} {n : ℕ} → (splits_in s' n ≡ splits_with (splits_in s h.splits) p c) × Table s' → IsPlan (set_subports (plan_in b s w h) p c) b s' w (held_splits h n)
   subports_set {s'} {n} x =

@@ -17,10 +17,9 @@ use Rattle.sketches.specs.Plan.{PlanBlock, spot_named}
 use Rattle.sketches.specs.PlanLists.{links_of_port, links_of_side, is_own_output, neighbours_of_side, connections, block_names}
 use Rattle.sketches.specs.Rows.{row_at, rows_in, block_of, wire_of, hits, newest_hit, oldest_hit}
 use Rattle.sketches.specs.RowReads.{filter_map}
-use Rattle.sketches.specs.SketchTables.{plan_in}
+use Rattle.sketches.specs.SketchTables.{Totals, plan_in}
 use Rattle.sketches.specs.SketchWalks.{item_of, rest_of, whole_walk, wire_held, wire_below, wire_above, block_below, next_wire, previous_wire, next_block, newest_high}
 use Rattle.sketches.specs.declared.rows.Row.{Row}
-use Rattle.sketches.specs.declared.totals.Totals.{Totals}
 use Rattle.sketches.specs.declared.tests.EndTest.TheVariants as ask
 use Rattle.sketches.specs.declared.tests.Test.{Test}
 use Rattle.sketches.specs.declared.tests.Test.TheVariants as test

@@ -8,7 +8,6 @@ ghost use Rattle.sketches.specs.BlockSteps.{no_room};
 
 use crate::rows::Row;
 use crate::sketch::Reason;
-use crate::tables::{drop_rows, ports_in_all, ports_recounted, recount_rows};
 use crate::tests::{EndTest, Test};
 use crate::totals::Sketch;
 use port_tables::index::{NODE_PORTS, NODE_SLOTS, PORT_SLOTS};
@@ -20,20 +19,20 @@ impl Sketch {
         requires { ports ≤ node_ports }
         ensures { result ≡ no_room self.now.totals.adds self.now.totals.blocks (plan_of self.now).blocks ports }
     {
-        if self.totals.adds == 4294967295 {
+        if self.adds == 4294967295 {
             return true;
         }
-        if NODE_SLOTS <= self.totals.blocks {
+        if NODE_SLOTS <= self.blocks.count {
             return true;
         }
-        PORT_SLOTS < ports_in_all(&self.blocks, self.totals.blocks) + ports
+        PORT_SLOTS < self.blocks.ports_in_all() + ports
     }
 
     // Adds a block: its name is how many adds were accepted before it.
     pub fn add(&mut self, incoming: u32, outgoing: u32) -> Result<u32, Reason>
         ensures { Left add_numbers (add_block (plan_of self.old) incoming outgoing) self.new result }
     {
-        let name = self.totals.adds;
+        let name = self.adds;
         let ports = wide(incoming) + wide(outgoing);
         if NODE_PORTS < ports {
             return Err(Reason::TooManyPorts);
@@ -41,9 +40,8 @@ impl Sketch {
         if self.no_room(ports) {
             return Err(Reason::NoRoom);
         }
-        self.blocks[self.totals.blocks] = Row(name, incoming, outgoing, 0, 0, 0);
-        self.totals.adds += 1;
-        self.totals.blocks += 1;
+        self.blocks.push(Row(name, incoming, outgoing, 0, 0, 0));
+        self.adds += 1;
         Ok(name)
     }
 
@@ -55,9 +53,9 @@ impl Sketch {
             return Err(Reason::UnknownBlock);
         }
         let end = EndTest::OfBlock(name);
-        self.totals.blocks = drop_rows(&mut self.blocks, self.totals.blocks, Test::Block(name));
-        self.totals.splits = drop_rows(&mut self.splits, self.totals.splits, Test::Split(end));
-        self.totals.wires = drop_rows(&mut self.wires, self.totals.wires, Test::Wire(end));
+        self.blocks.drop_where(Test::Block(name));
+        self.splits.drop_where(Test::Split(end));
+        self.wires.drop_where(Test::Wire(end));
         Ok(())
     }
 
@@ -65,20 +63,21 @@ impl Sketch {
     pub fn resize(&mut self, name: u32, incoming: u32, outgoing: u32) -> Result<(), Reason>
         ensures { Left done_numbers (set_counts (plan_of self.old) name incoming outgoing) self.new result }
     {
-        let count = self.totals.blocks;
+        let known = self.has_block(name);
         if NODE_PORTS < wide(incoming) + wide(outgoing) {
             return Err(Reason::TooManyPorts);
         }
-        if !self.has_block(name) {
+        if !known {
             return Err(Reason::UnknownBlock);
         }
-        if PORT_SLOTS < ports_recounted(&self.blocks, count, name, incoming, outgoing) {
+        let block = Row(name, incoming, outgoing, 0, 0, 0);
+        if PORT_SLOTS < self.blocks.ports_recounted(block) {
             return Err(Reason::NoRoom);
         }
-        recount_rows(&mut self.blocks, count, name, incoming, outgoing);
+        self.blocks.recount(block);
         let dropped = EndTest::OfDropped(name, incoming, outgoing);
-        self.totals.splits = drop_rows(&mut self.splits, self.totals.splits, Test::Split(dropped));
-        self.totals.wires = drop_rows(&mut self.wires, self.totals.wires, Test::Wire(dropped));
+        self.splits.drop_where(Test::Split(dropped));
+        self.wires.drop_where(Test::Wire(dropped));
         Ok(())
     }
 }

@@ -7,7 +7,6 @@ ghost use Rattle.sketches.specs.CutSteps.{Answers};
 ghost use Rattle.sketches.specs.CountSteps.{counts_of};
 
 use crate::sketch::{Reason, SketchPort};
-use crate::tables::{count_rows, ports_in_all};
 use crate::tests::{EndTest, Test};
 use crate::totals::Sketch;
 use port_tables::direction::Direction;
@@ -25,9 +24,9 @@ impl Sketch {
         ensures { result ≡ counts_of (plan_of self.now) }
     {
         SketchCounts {
-            blocks: self.totals.blocks,
-            ports: ports_in_all(&self.blocks, self.totals.blocks),
-            wires: self.totals.wires,
+            blocks: self.blocks.count,
+            ports: self.blocks.ports_in_all(),
+            wires: self.wires.count,
         }
     }
 
@@ -39,7 +38,7 @@ impl Sketch {
             return Err(Reason::UnknownPort);
         }
         let test = Test::Wire(EndTest::AtPort(port));
-        Ok(count_rows(&self.wires, self.totals.wires, test))
+        Ok(self.wires.count_of(test))
     }
 
     // The wires that leave a block.
@@ -50,6 +49,6 @@ impl Sketch {
             return Err(Reason::UnknownBlock);
         }
         let test = Test::Side(name, Direction::Outgoing);
-        Ok(count_rows(&self.wires, self.totals.wires, test))
+        Ok(self.wires.count_of(test))
     }
 }

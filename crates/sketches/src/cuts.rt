@@ -9,8 +9,6 @@ ghost use Rattle.sketches.specs.Held.{plan_of, Left};
 ghost use Rattle.sketches.specs.CutSteps.{far_of, FarFits, Answers};
 
 use crate::sketch::{Reason, SketchEnd, SketchPort};
-use crate::subports::set_subports;
-use crate::tables::{drop_rows, newest_row};
 use crate::tests::{EndTest, RowEnd, Test, end_hits, in_end, out_end};
 use crate::totals::Sketch;
 
@@ -63,7 +61,7 @@ impl Sketch {
     fn far_from(&self, test: EndTest) -> Option<RowEnd>
         ensures { far_of result ≡ far_from (end_hits test) (plan_of self.now).wires }
     {
-        let row = newest_row(&self.wires, self.totals.wires, Test::Wire(test))?;
+        let row = self.wires.newest(Test::Wire(test))?;
         if end_hits(test, out_end(row)) {
             return Some(in_end(row));
         }
@@ -79,9 +77,8 @@ impl Sketch {
         }
         let subports = self.subports_of(port);
         let far = self.far_from(EndTest::AtPort(port));
-        let test = Test::Wire(EndTest::AtPort(port));
-        self.totals.wires = drop_rows(&mut self.wires, self.totals.wires, test);
-        self.totals.splits = set_subports(&mut self.splits, self.totals.splits, port, 0);
+        self.wires.drop_where(Test::Wire(EndTest::AtPort(port)));
+        self.splits.set_subports(port, 0);
         if subports == 0 {
             return port_found(far);
         }
@@ -89,27 +86,22 @@ impl Sketch {
     }
 
     // What an end is linked with.
-    pub fn subport_link(&self, port: SketchPort, offset: u16) -> Result<Option<SketchEnd>, Reason>
-        ensures { Answers found_numbers (subport_link (plan_of self.now) port offset) result }
+    pub fn subport_link(&self, end: SketchEnd) -> Result<Option<SketchEnd>, Reason>
+        ensures { Answers found_numbers (subport_link (plan_of self.now) end.port end.offset) result }
     {
-        self.judge_end(port, offset)?;
-        let read = self.offset_read(port, offset);
-        end_found(self.far_from(EndTest::AtEnd(port, read as u32)))
+        self.judge_end(end)?;
+        let read = self.offset_read(end);
+        end_found(self.far_from(EndTest::AtEnd(end.port, read as u32)))
     }
 
     // Cuts the wire at an end, if there is one.
-    pub fn cut_subport(
-        &mut self,
-        port: SketchPort,
-        offset: u16,
-    ) -> Result<Option<SketchEnd>, Reason>
-        ensures { Left found_numbers (cut_subport (plan_of self.old) port offset) self.new result }
+    pub fn cut_subport(&mut self, end: SketchEnd) -> Result<Option<SketchEnd>, Reason>
+        ensures { Left found_numbers (cut_subport (plan_of self.old) end.port end.offset) self.new result }
     {
-        let count = self.totals.wires;
-        let far = self.subport_link(port, offset)?;
-        let read = self.offset_read(port, offset);
-        let test = Test::Wire(EndTest::AtEnd(port, read as u32));
-        self.totals.wires = drop_rows(&mut self.wires, count, test);
+        let far = self.subport_link(end)?;
+        let read = self.offset_read(end);
+        let test = Test::Wire(EndTest::AtEnd(end.port, read as u32));
+        self.wires.drop_where(test);
         Ok(far)
     }
 
@@ -124,7 +116,7 @@ impl Sketch {
             return Ok(());
         }
         let left = subports_left(self.above_wired(port));
-        self.totals.splits = set_subports(&mut self.splits, self.totals.splits, port, left);
+        self.splits.set_subports(port, left);
         Ok(())
     }
 }

@@ -16,15 +16,28 @@ use crate::totals::Sketch;
 use port_tables::direction::Direction;
 use port_tables::release::Release;
 
-// The row of a wire between two ends, of which one is an output.
-pub(crate) fn wire_row(x: SketchPort, o: u32, y: SketchPort, r: u32) -> Row
-    requires { same_side x.side y.side ≡ false }
-    ensures { wire_of result ≡ wire_of_sides x.side (place_named x o) (place_named y r) }
+// The row of a wire from one end to another.
+fn ends_row(out: SketchEnd, into: SketchEnd) -> Row
+    ensures { result ≡ record { 0 = out.port.block; 1 = out.port.position; 2 = out.offset; 3 = into.port.block; 4 = into.port.position; 5 = into.offset } }
 {
-    let side = x.side;
-    match side {
-        Direction::Incoming => Row(y.block, y.position, r, x.block, x.position, o),
-        Direction::Outgoing => Row(x.block, x.position, o, y.block, y.position, r),
+    Row(
+        out.port.block,
+        out.port.position,
+        out.offset as u32,
+        into.port.block,
+        into.port.position,
+        into.offset as u32,
+    )
+}
+
+// The row of a wire between two ends, of which one is an output.
+pub(crate) fn wire_row(x: SketchEnd, y: SketchEnd) -> Row
+    requires { same_side x.port.side y.port.side ≡ false }
+    ensures { wire_of result ≡ wire_of_sides x.port.side (place_named x.port x.offset) (place_named y.port y.offset) }
+{
+    match x.port.side {
+        Direction::Incoming => ends_row(y, x),
+        Direction::Outgoing => ends_row(x, y),
     }
 }
 
@@ -44,7 +57,7 @@ impl Sketch {
     pub(crate) fn input_taken(&self, x: SketchPort, y: SketchPort) -> bool
         ensures { result ≡ input_taken (plan_of self.now) x y }
     {
-        let release = self.totals.release;
+        let release = self.release;
         match release {
             Release::One => false,
             Release::Two => self.wired_input(x) || self.wired_input(y),
@@ -56,20 +69,17 @@ impl Sketch {
         requires { Linkable self.old.blocks self.old.splits self.old.wires self.old.totals x y }
         ensures { Left link_numbers (both_linked (plan_of self.old) x y) self.new (Ok result) }
     {
-        let o = self.offset_ready(x);
-        let r = self.offset_ready(y);
-        self.ready_port(x);
-        self.ready_port(y);
-        self.wires[self.totals.wires] = wire_row(x, o as u32, y, r as u32);
-        self.totals.wires += 1;
         let first = SketchEnd {
             port: x,
-            offset: o as u16,
+            offset: self.offset_ready(x) as u16,
         };
         let second = SketchEnd {
             port: y,
-            offset: r as u16,
+            offset: self.offset_ready(y) as u16,
         };
+        self.ready_port(x);
+        self.ready_port(y);
+        self.wires.push(wire_row(first, second));
         (first, second)
     }
 

@@ -1,12 +1,13 @@
 // The wired offsets of a port: the lowest one without a wire, and the highest with one.
-ghost use Rattle.std.specs.Prelude.{◌≡◌, ◌≤◌};
+ghost use Rattle.std.specs.Prelude.{◌≡◌, map, ◌≤◌};
 ghost use Rattle.sketches.specs.Plan.{spot_named, above_end, above_wired, offset_ready};
-ghost use Rattle.sketches.specs.Rows.{row_slots, place_in, wire_of, wires_in};
+ghost use Rattle.sketches.specs.Rows.{row_slots, place_in, wire_of};
 ghost use Rattle.sketches.specs.Held.{plan_of};
 ghost use Rattle.sketches.specs.Offsets.{mark, marked, Marks, lowest_unmarked};
 
 use crate::rows::{ROWS, Row};
 use crate::sketch::SketchPort;
+use crate::tables::Rows;
 use crate::tests::{RowEnd, at_port, in_end, out_end};
 use crate::totals::Sketch;
 use port_tables::numbers::wide;
@@ -27,20 +28,6 @@ fn mark_end(marks: &mut [bool; ROWS], port: SketchPort, end: RowEnd)
     if at_port(port, end) {
         mark(marks, end.offset);
     }
-}
-
-// Which offsets of a port are wired.
-fn marks_of(wires: &[Row; ROWS], count: usize, port: SketchPort) -> [bool; ROWS]
-    requires { count ≤ row_slots }
-    ensures { Marks (spot_named port) (wires_in wires.now count) result }
-{
-    let mut marks = [false; ROWS];
-    for i in 0..count {
-        let row = wires[i];
-        mark_end(&mut marks, port, out_end(row));
-        mark_end(&mut marks, port, in_end(row));
-    }
-    marks
 }
 
 // The lowest offset that is not marked, looking at most so far.
@@ -72,16 +59,32 @@ fn above_row(port: SketchPort, row: Row, above: usize) -> usize
     above_end(port, out_end(row), above_end(port, in_end(row), above))
 }
 
-// One more than the highest offset that a table of wires has at a port; 0 where none is wired.
-fn above_wired(wires: &[Row; ROWS], count: usize, port: SketchPort) -> usize
-    requires { count ≤ row_slots }
-    ensures { result ≡ above_wired (spot_named port) (wires_in wires.now count) }
-{
-    let mut above: usize = 0;
-    for i in 0..count {
-        above = above_row(port, wires[i], above);
+impl Rows {
+    ghost use Rattle.sketches.specs.Tables.{listed};
+
+    // Which offsets of a port are wired, in a table of wires.
+    fn marks_of(&self, port: SketchPort) -> [bool; ROWS]
+        ensures { Marks (spot_named port) (map wire_of (listed self.now)) result }
+    {
+        let mut marks = [false; ROWS];
+        for i in 0..self.count {
+            let row = self.rows[i];
+            mark_end(&mut marks, port, out_end(row));
+            mark_end(&mut marks, port, in_end(row));
+        }
+        marks
     }
-    above
+
+    // One more than the highest wired offset of a port; 0 where none is wired.
+    fn above_wired(&self, port: SketchPort) -> usize
+        ensures { result ≡ above_wired (spot_named port) (map wire_of (listed self.now)) }
+    {
+        let mut above: usize = 0;
+        for i in 0..self.count {
+            above = above_row(port, self.rows[i], above);
+        }
+        above
+    }
 }
 
 impl Sketch {
@@ -89,14 +92,13 @@ impl Sketch {
     pub(crate) fn offset_ready(&self, port: SketchPort) -> usize
         ensures { result ≡ offset_ready (plan_of self.now) port }
     {
-        let count = self.totals.wires;
-        lowest_unmarked(marks_of(&self.wires, count, port), count)
+        lowest_unmarked(self.wires.marks_of(port), self.wires.count)
     }
 
-    // One more than the highest wired offset; 0 where none is wired.
+    // One more than the highest wired offset; 0 where none is wired. Stays a number: so many subports reach up to that offset.
     pub(crate) fn above_wired(&self, port: SketchPort) -> usize
         ensures { result ≡ above_wired (spot_named port) (plan_of self.now).wires }
     {
-        above_wired(&self.wires, self.totals.wires, port)
+        self.wires.above_wired(port)
     }
 }

@@ -7,7 +7,7 @@ ghost use Rattle.sketches.specs.Held.{plan_of, Left, HeldWf};
 ghost use Rattle.sketches.specs.EndSteps.{judge_end, judge_ends};
 
 use crate::links::wire_row;
-use crate::sketch::{Reason, SketchEnd, SketchPort};
+use crate::sketch::{Reason, SketchEnd};
 use crate::tests::EndTest;
 use crate::totals::Sketch;
 
@@ -19,94 +19,94 @@ fn bad_offset(offset: u16) -> bool
 }
 
 // Whether one of two ends has an offset of 65,535.
-fn bad_offsets(o: u16, r: u16) -> bool
-    ensures { result ≡ (bad_offset o || bad_offset r) }
+fn bad_offsets(x: SketchEnd, y: SketchEnd) -> bool
+    ensures { result ≡ (bad_offset x.offset || bad_offset y.offset) }
 {
-    bad_offset(o) || bad_offset(r)
+    bad_offset(x.offset) || bad_offset(y.offset)
 }
 
 impl Sketch {
     // An offset as read: 0 on a port that is not split.
-    pub(crate) fn offset_read(&self, port: SketchPort, offset: u16) -> u16
-        ensures read { result ≡ offset_read (plan_of self.now) port offset }
+    pub(crate) fn offset_read(&self, end: SketchEnd) -> u16
+        ensures read { result ≡ offset_read (plan_of self.now) end.port end.offset }
         ensures wf { HeldWf self.now }
     {
-        if self.subports_of(port) == 0 {
+        if self.subports_of(end.port) == 0 {
             return 0;
         }
-        offset
+        end.offset
     }
 
     // Whether a port is split and has no such offset.
-    fn lacks_offset(&self, port: SketchPort, offset: u16) -> bool
-        ensures { result ≡ lacks_offset (plan_of self.now) port offset }
+    fn lacks_offset(&self, end: SketchEnd) -> bool
+        ensures { result ≡ lacks_offset (plan_of self.now) end.port end.offset }
     {
-        let subports = self.subports_of(port);
-        subports != 0 && subports <= offset as u32
+        let subports = self.subports_of(end.port);
+        subports != 0 && subports <= end.offset as u32
     }
 
     // One end that is named.
-    pub(crate) fn judge_end(&self, port: SketchPort, offset: u16) -> Result<(), Reason>
-        ensures { result ≡ judge_end (plan_of self.now) port offset }
+    pub(crate) fn judge_end(&self, end: SketchEnd) -> Result<(), Reason>
+        ensures { result ≡ judge_end (plan_of self.now) end.port end.offset }
     {
-        if bad_offset(offset) {
+        if bad_offset(end.offset) {
             return Err(Reason::BadOffset);
         }
-        if !self.is_there(port) {
+        if !self.is_there(end.port) {
             return Err(Reason::UnknownPort);
         }
-        if self.lacks_offset(port, offset) {
+        if self.lacks_offset(end) {
             return Err(Reason::UnknownOffset);
         }
         Ok(())
     }
 
     // Whether one of two ends is on a split port that has no such offset; the second counts if it is there.
-    fn lack_offsets(&self, x: SketchPort, o: u16, y: SketchPort, r: u16) -> bool
-        ensures { result ≡ (lacks_offset (plan_of self.now) x o || cond (is_there (plan_of self.now) y) (lacks_offset (plan_of self.now) y r) false) }
+    fn lack_offsets(&self, x: SketchEnd, y: SketchEnd) -> bool
+        ensures { result ≡ (lacks_offset (plan_of self.now) x.port x.offset || cond (is_there (plan_of self.now) y.port) (lacks_offset (plan_of self.now) y.port y.offset) false) }
     {
-        self.lacks_offset(x, o) || (self.is_there(y) && self.lacks_offset(y, r))
+        self.lacks_offset(x) || (self.is_there(y.port) && self.lacks_offset(y))
     }
 
     // Whether an end, as read, has a wire.
-    fn end_wired(&self, port: SketchPort, offset: u16) -> bool
-        ensures { result ≡ is_wired (plan_of self.now) port offset }
+    fn end_wired(&self, end: SketchEnd) -> bool
+        ensures { result ≡ is_wired (plan_of self.now) end.port end.offset }
     {
-        let read = self.offset_read(port, offset);
-        self.is_wired(EndTest::AtEnd(port, read as u32))
+        let read = self.offset_read(end);
+        self.is_wired(EndTest::AtEnd(end.port, read as u32))
     }
 
-    fn ends_wired(&self, x: SketchPort, o: u16, y: SketchPort, r: u16) -> bool
-        ensures { result ≡ (is_wired (plan_of self.now) x o || is_wired (plan_of self.now) y r) }
+    fn ends_wired(&self, x: SketchEnd, y: SketchEnd) -> bool
+        ensures { result ≡ (is_wired (plan_of self.now) x.port x.offset || is_wired (plan_of self.now) y.port y.offset) }
     {
-        self.end_wired(x, o) || self.end_wired(y, r)
+        self.end_wired(x) || self.end_wired(y)
     }
 
     // Two ends that are to be linked.
-    fn judge_ends(&self, x: SketchPort, o: u16, y: SketchPort, r: u16) -> Result<(), Reason>
-        ensures { result ≡ judge_ends (plan_of self.now) x o y r }
+    fn judge_ends(&self, x: SketchEnd, y: SketchEnd) -> Result<(), Reason>
+        ensures { result ≡ judge_ends (plan_of self.now) x.port x.offset y.port y.offset }
     {
-        if bad_offsets(o, r) {
+        if bad_offsets(x, y) {
             return Err(Reason::BadOffset);
         }
-        if !self.is_there(x) {
+        if !self.is_there(x.port) {
             return Err(Reason::UnknownPort);
         }
-        if self.lack_offsets(x, o, y, r) {
+        if self.lack_offsets(x, y) {
             return Err(Reason::UnknownOffset);
         }
-        if self.input_taken(x, y) {
+        if self.input_taken(x.port, y.port) {
             return Err(Reason::InputWired);
         }
-        if !self.is_there(y) {
+        if !self.is_there(y.port) {
             return Err(Reason::UnknownSecondPort);
         }
-        let a = x.side;
-        let b = y.side;
+        let a = x.port.side;
+        let b = y.port.side;
         if a == b {
             return Err(Reason::SameSide);
         }
-        if self.ends_wired(x, o, y, r) {
+        if self.ends_wired(x, y) {
             return Err(Reason::AlreadyLinked);
         }
         if self.is_full() {
@@ -118,22 +118,21 @@ impl Sketch {
     // Links two ends.
     pub fn link_subports(
         &mut self,
-        x: SketchPort,
-        o: u16,
-        y: SketchPort,
-        r: u16,
+        x: SketchEnd,
+        y: SketchEnd,
     ) -> Result<(SketchEnd, SketchEnd), Reason>
-        ensures { Left link_numbers (link_subports (plan_of self.old) x o y r) self.new result }
+        ensures { Left link_numbers (link_subports (plan_of self.old) x.port x.offset y.port y.offset) self.new result }
     {
-        let count = self.totals.wires;
-        self.judge_ends(x, o, y, r)?;
-        let p = self.offset_read(x, o);
-        let q = self.offset_read(y, r);
-        self.wires[count] = wire_row(x, p as u32, y, q as u32);
-        self.totals.wires = count + 1;
-        Ok((
-            SketchEnd { port: x, offset: p },
-            SketchEnd { port: y, offset: q },
-        ))
+        self.judge_ends(x, y)?;
+        let first = SketchEnd {
+            port: x.port,
+            offset: self.offset_read(x),
+        };
+        let second = SketchEnd {
+            port: y.port,
+            offset: self.offset_read(y),
+        };
+        self.wires.push(wire_row(first, second));
+        Ok((first, second))
     }
 }

@@ -1,16 +1,15 @@
 // The number of subports of a port, and making an end ready: an unsplit port without a wire is the end itself; with one it becomes two
 // subports; a split port gives its lowest offset without a wire, or one subport more.
-ghost use Rattle.std.specs.Prelude.{◌≡◌, true, ◌≤◌};
+ghost use Rattle.std.specs.Prelude.{◌≡◌, map, true, ◌≤◌};
 ghost use Rattle.sketches.specs.Plan.{is_there, subports_ready, ready};
 ghost use Rattle.sketches.specs.PlanCalls.{most_wires};
-ghost use Rattle.sketches.specs.Rows.{Table, splits_in};
+ghost use Rattle.sketches.specs.Rows.{split_of};
 ghost use Rattle.sketches.specs.Held.{plan_of};
 ghost use Rattle.sketches.specs.SplitSteps.{splits_with, SplitsRoom, split_row, IsPlan};
 
-use crate::ports::subports_among;
-use crate::rows::{ROWS, Row};
+use crate::rows::Row;
 use crate::sketch::SketchPort;
-use crate::tables::drop_rows;
+use crate::tables::Rows;
 use crate::tests::{EndTest, Test};
 use crate::totals::Sketch;
 use port_tables::numbers::wide;
@@ -23,25 +22,22 @@ fn split_row(port: SketchPort, subports: u32) -> Row
     Row(port.block, side.index(), port.position, subports, 0, 0)
 }
 
-// Gives a port another number of subports; 0 is that of an unsplit port. The rows of the table afterwards.
-pub(crate) fn set_subports(
-    splits: &mut [Row; ROWS],
-    count: usize,
-    port: SketchPort,
-    subports: u32,
-) -> usize
-    requires { SplitsRoom splits.old count port subports }
-    ensures { (splits_in splits.new result ≡ splits_with (splits_in splits.old count) port subports) × Table splits.new }
-{
-    if subports_among(splits, count, port) == subports {
-        return count;
+impl Rows {
+    ghost use Rattle.sketches.specs.Tables.{listed};
+
+    // Gives a port another number of subports, in a table of split ports; 0 is that of an unsplit port.
+    pub(crate) fn set_subports(&mut self, port: SketchPort, subports: u32)
+        requires { SplitsRoom self.old.rows self.old.count port subports }
+        ensures { map split_of (listed self.new) ≡ splits_with (map split_of (listed self.old)) port subports }
+    {
+        if self.subports_among(port) == subports {
+            return;
+        }
+        self.drop_where(Test::Split(EndTest::AtPort(port)));
+        if subports != 0 {
+            self.push(split_row(port, subports));
+        }
     }
-    let kept = drop_rows(splits, count, Test::Split(EndTest::AtPort(port)));
-    if subports == 0 {
-        return kept;
-    }
-    splits[kept] = split_row(port, subports);
-    kept + 1
 }
 
 // The subports of a port that is made ready at an offset.
@@ -66,6 +62,6 @@ impl Sketch {
     {
         let offset = self.offset_ready(port);
         let subports = subports_ready(self.subports_of(port), offset);
-        self.totals.splits = set_subports(&mut self.splits, self.totals.splits, port, subports);
+        self.splits.set_subports(port, subports);
     }
 }

@@ -1,96 +1,143 @@
-// The work on one table: finding, counting, dropping and changing rows.
-ghost use Rattle.std.specs.Prelude.{◌≡◌, map, ◌+◌, ◌-◌, ◌≤◌, length};
+// A table: rows, of which the first are in use, and how many those are. A new row stands behind the others.
+ghost use Rattle.std.specs.Prelude.{◌≡◌, ◌∷◌, map, ◌+◌, ◌-◌, ◌≤◌, ◌<◌, min, length};
 ghost use Rattle.port_tables.specs.Lists.{filter};
 ghost use Rattle.sketches.specs.Plan.{ports_in_all};
 ghost use Rattle.sketches.specs.PlanCalls.{recount};
-ghost use Rattle.sketches.specs.Rows.{row_slots, rows_in, Table, past, newest_hit, oldest_hit, hits, missed, first, is_there_any, block_of};
+ghost use Rattle.sketches.specs.Rows.{row_slots, Table, past, newest_hit, oldest_hit, hits, missed, first, is_there_any, block_of};
 
 use crate::rows::{ROWS, Row};
 use crate::tests::{Test, hits};
+use crate::walks::{Walk, whole_walk};
 use port_tables::numbers::wide;
 
-// The newest row that is hit, of those from `low` up to `high`.
-pub(crate) fn find_newest(table: &[Row; ROWS], low: usize, high: usize, test: Test) -> Option<usize>
-    requires { high ≤ row_slots }
-    ensures { past result ≡ newest_hit (hits test) table.now low high }
-{
-    for i in (low..high).rev() {
-        if hits(test, table[i]) {
-            return Some(i);
+#[derive(Drop)]
+pub(crate) struct Rows {
+    pub rows: [Row; ROWS],
+    pub count: usize,
+    ghost full: { Table rows },
+    ghost within: { count ≤ row_slots },
+}
+
+impl Rows {
+    ghost use Rattle.sketches.specs.Tables.{listed};
+
+    // A table without rows in use.
+    pub(crate) fn new() -> Rows
+        ensures { result.count ≡ 0 }
+    {
+        Rows {
+            rows: [Row(0, 0, 0, 0, 0, 0); ROWS],
+            count: 0,
         }
     }
-    None
-}
 
-// The oldest.
-pub(crate) fn find_oldest(table: &[Row; ROWS], low: usize, high: usize, test: Test) -> Option<usize>
-    requires { high ≤ row_slots }
-    ensures { past result ≡ oldest_hit (hits test) table.now low (high - low) }
-{
-    for i in low..high {
-        if hits(test, table[i]) {
-            return Some(i);
+    // The newest row that is hit, of those that are left of a walk.
+    pub(crate) fn newest_left(&self, walk: Walk) -> Option<usize>
+        ensures { past result ≡ newest_hit (hits walk.test) self.now.rows walk.low (min walk.high self.now.count) }
+    {
+        for i in (walk.low..walk.high.min(self.count)).rev() {
+            if hits(walk.test, self.rows[i]) {
+                return Some(i);
+            }
+        }
+        None
+    }
+
+    // The oldest. Stays beside `newest_left`: one loop for both would ask at each turn from which end it counts.
+    pub(crate) fn oldest_left(&self, walk: Walk) -> Option<usize>
+        ensures { past result ≡ oldest_hit (hits walk.test) self.now.rows walk.low (min walk.high self.now.count - walk.low) }
+    {
+        for i in walk.low..walk.high.min(self.count) {
+            if hits(walk.test, self.rows[i]) {
+                return Some(i);
+            }
+        }
+        None
+    }
+
+    // Whether a row is hit.
+    pub(crate) fn any(&self, test: Test) -> bool
+        ensures { result ≡ is_there_any (filter (hits test) (listed self.now)) }
+    {
+        self.newest_left(whole_walk(self.count, test)).is_some()
+    }
+
+    // The newest row that is hit.
+    pub(crate) fn newest(&self, test: Test) -> Option<Row>
+        ensures { result ≡ first (filter (hits test) (listed self.now)) }
+    {
+        let i = self.newest_left(whole_walk(self.count, test))?;
+        Some(self.rows[i])
+    }
+
+    // How many rows are hit.
+    pub(crate) fn count_of(&self, test: Test) -> usize
+        ensures { result ≡ length (filter (hits test) (listed self.now)) }
+    {
+        let mut n: usize = 0;
+        for i in 0..self.count {
+            if hits(test, self.rows[i]) {
+                n += 1;
+            }
+        }
+        n
+    }
+
+    // One row more.
+    pub(crate) fn push(&mut self, row: Row)
+        requires { self.old.count < row_slots }
+        ensures { listed self.new ≡ row ∷ listed self.old }
+    {
+        self.rows[self.count] = row;
+        self.count += 1;
+    }
+
+    // Drops the rows that are hit; the others close up.
+    pub(crate) fn drop_where(&mut self, test: Test)
+        ensures { listed self.new ≡ filter (missed test) (listed self.old) }
+    {
+        let mut kept: usize = 0;
+        for i in 0..self.count {
+            let row = self.rows[i];
+            if !hits(test, row) {
+                self.rows[kept] = row;
+                kept += 1;
+            }
+        }
+        self.count = kept;
+    }
+
+    // The ports of all blocks.
+    pub(crate) fn ports_in_all(&self) -> usize
+        ensures { result ≡ ports_in_all (map block_of (listed self.now)) }
+    {
+        let mut ports: usize = 0;
+        for i in 0..self.count {
+            ports += ports_of(self.rows[i]);
+        }
+        ports
+    }
+
+    // The ports of all blocks, if one of them had other counts. Stays beside `ports_in_all`: one loop for both would take the change as a closure,
+    // and say of it in its contract what `recount` says.
+    pub(crate) fn ports_recounted(&self, block: Row) -> usize
+        ensures { result ≡ ports_in_all (map (recount block.0 block.1 block.2) (map block_of (listed self.now))) }
+    {
+        let mut ports: usize = 0;
+        for i in 0..self.count {
+            ports += ports_of(recounted(self.rows[i], block));
+        }
+        ports
+    }
+
+    // Gives a block other counts.
+    pub(crate) fn recount(&mut self, block: Row)
+        ensures { map block_of (listed self.new) ≡ map (recount block.0 block.1 block.2) (map block_of (listed self.old)) }
+    {
+        for i in 0..self.count {
+            self.rows[i] = recounted(self.rows[i], block);
         }
     }
-    None
-}
-
-// Whether a row is hit.
-pub(crate) fn any_row(table: &[Row; ROWS], count: usize, test: Test) -> bool
-    requires { count ≤ row_slots }
-    ensures { result ≡ is_there_any (filter (hits test) (rows_in table.now count)) }
-{
-    find_newest(table, 0, count, test).is_some()
-}
-
-// The newest row that is hit.
-pub(crate) fn newest_row(table: &[Row; ROWS], count: usize, test: Test) -> Option<Row>
-    requires { count ≤ row_slots }
-    ensures { result ≡ first (filter (hits test) (rows_in table.now count)) }
-{
-    let i = find_newest(table, 0, count, test)?;
-    Some(table[i])
-}
-
-pub(crate) fn count_rows(table: &[Row; ROWS], count: usize, test: Test) -> usize
-    requires { count ≤ row_slots }
-    ensures { result ≡ length (filter (hits test) (rows_in table.now count)) }
-{
-    let mut n: usize = 0;
-    for i in 0..count {
-        if hits(test, table[i]) {
-            n += 1;
-        }
-    }
-    n
-}
-
-// Drops the rows that are hit; the others close up. The number of those that stay.
-pub(crate) fn drop_rows(table: &mut [Row; ROWS], count: usize, test: Test) -> usize
-    requires { (count ≤ row_slots) × Table table.old }
-    ensures { (rows_in table.new result ≡ filter (missed test) (rows_in table.old count)) × Table table.new }
-{
-    let mut kept: usize = 0;
-    for i in 0..count {
-        let row = table[i];
-        if !hits(test, row) {
-            table[kept] = row;
-            kept += 1;
-        }
-    }
-    kept
-}
-
-// The ports of all blocks.
-pub(crate) fn ports_in_all(table: &[Row; ROWS], count: usize) -> usize
-    requires { count ≤ row_slots }
-    ensures { result ≡ ports_in_all (map block_of (rows_in table.now count)) }
-{
-    let mut ports: usize = 0;
-    for i in 0..count {
-        ports += ports_of(table[i]);
-    }
-    ports
 }
 
 fn ports_of(block: Row) -> usize
@@ -99,46 +146,12 @@ fn ports_of(block: Row) -> usize
     wide(block.1) + wide(block.2)
 }
 
-// The row of a block with other counts, if it has this name.
-fn recounted(row: Row, name: u32, incoming: u32, outgoing: u32) -> Row
-    ensures { block_of result ≡ recount name incoming outgoing (block_of row) }
+// The row of a block, with the counts of another of its name.
+fn recounted(row: Row, block: Row) -> Row
+    ensures { block_of result ≡ recount block.0 block.1 block.2 (block_of row) }
 {
-    if row.0 == name {
-        return Row(name, incoming, outgoing, 0, 0, 0);
+    if row.0 == block.0 {
+        return block;
     }
     row
-}
-
-// The ports of all blocks, if one of them had other counts.
-pub(crate) fn ports_recounted(
-    table: &[Row; ROWS],
-    count: usize,
-    name: u32,
-    incoming: u32,
-    outgoing: u32,
-) -> usize
-    requires { count ≤ row_slots }
-    ensures { result ≡ ports_in_all (map (recount name incoming outgoing) (map block_of (rows_in table.now count))) }
-{
-    let mut ports: usize = 0;
-    for i in 0..count {
-        ports += ports_of(recounted(table[i], name, incoming, outgoing));
-    }
-    ports
-}
-
-// Gives a block other counts.
-pub(crate) fn recount_rows(
-    table: &mut [Row; ROWS],
-    count: usize,
-    name: u32,
-    incoming: u32,
-    outgoing: u32,
-)
-    requires { (count ≤ row_slots) × Table table.old }
-    ensures { (map block_of (rows_in table.new count) ≡ map (recount name incoming outgoing) (map block_of (rows_in table.old count))) × Table table.new }
-{
-    for i in 0..count {
-        table[i] = recounted(table[i], name, incoming, outgoing);
-    }
 }

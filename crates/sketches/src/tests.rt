@@ -45,8 +45,8 @@ pub enum Test {
     Neighbour(u32, Direction, bool),
 }
 
-// The side of a row, 0 incoming. Stays a function of any number: a TryFrom would have a refusal that no row comes to.
-fn side_of(number: u32) -> Direction
+// The side of a number, 0 incoming. Stays a function of any number: a TryFrom would have a refusal that no row and no line comes to.
+pub fn side_of(number: u32) -> Direction
     ensures { result ≡ side_of number }
 {
     if number == 0 {
@@ -90,6 +90,7 @@ pub(crate) fn in_end(row: Row) -> RowEnd
     }
 }
 
+#[tactic(auto, using(port_tables::specs::SameSides::sides_differ), unfolding(port_tables::specs::Places::at_spot))]
 pub(crate) fn at_port(port: SketchPort, end: RowEnd) -> bool
     ensures { result ≡ at_spot (spot_named port) (place_in end) }
 {
@@ -104,6 +105,7 @@ pub(crate) fn at_port(port: SketchPort, end: RowEnd) -> bool
     end.position == port.position
 }
 
+#[tactic(auto, unfolding(port_tables::specs::Places::at_end))]
 fn at_end(port: SketchPort, offset: u32, end: RowEnd) -> bool
     ensures { result ≡ at_end (spot_named port) offset (place_in end) }
 {

@@ -3,39 +3,28 @@ ghost use Rattle.std.specs.Prelude.{◌≡◌};
 ghost use Rattle.sketches.specs.Plan.{empty_plan};
 ghost use Rattle.sketches.specs.Held.{plan_of};
 
-use crate::rows::{ROWS, Row};
+use crate::tables::Rows;
 use port_tables::release::Release;
 use std::marker::Model;
 
-// What a sketch has besides its tables.
-#[derive(Clone, Copy)]
-pub struct Totals {
-    pub release: Release,
-    // The adds that were accepted.
-    pub adds: u32,
-    // The rows of each table.
-    pub blocks: usize,
-    pub splits: usize,
-    pub wires: usize,
-}
-
 #[derive(Drop)]
 pub struct Sketch {
-    pub(crate) blocks: [Row; ROWS],
-    pub(crate) splits: [Row; ROWS],
-    pub(crate) wires: [Row; ROWS],
-    pub(crate) totals: Totals,
+    pub(crate) release: Release,
+    // The adds that were accepted.
+    pub(crate) adds: u32,
+    pub(crate) blocks: Rows,
+    pub(crate) splits: Rows,
+    pub(crate) wires: Rows,
 }
 
 impl Model for Sketch {
-    ghost use Rattle.sketches.specs.Held.{Held};
-    ghost use Rattle.sketches.specs.SketchTables.{SketchWf};
+    ghost use Rattle.sketches.specs.Held.{Held, held, HeldWf};
 
     ghost Value = { Held };
 
-    ghost view = { λ s. record { blocks = s.blocks; splits = s.splits; wires = s.wires; totals = s.totals } };
+    ghost view = { λ s. held s.release s.adds s.blocks s.splits s.wires };
 
-    ghost invariant = { λ s. SketchWf s.blocks s.splits s.wires s.totals };
+    ghost invariant = { λ s. HeldWf (held s.release s.adds s.blocks s.splits s.wires) };
 }
 
 impl Sketch {
@@ -43,18 +32,12 @@ impl Sketch {
     pub fn new(release: Release) -> Sketch
         ensures { plan_of result ≡ empty_plan release }
     {
-        let rows = [Row(0, 0, 0, 0, 0, 0); ROWS];
         Sketch {
-            blocks: rows,
-            splits: rows,
-            wires: rows,
-            totals: Totals {
-                release,
-                adds: 0,
-                blocks: 0,
-                splits: 0,
-                wires: 0,
-            },
+            release,
+            adds: 0,
+            blocks: Rows::new(),
+            splits: Rows::new(),
+            wires: Rows::new(),
         }
     }
 }

@@ -5,9 +5,7 @@ ghost use Rattle.sketches.specs.Rows.{wire_of, row_at};
 ghost use Rattle.sketches.specs.Held.{plan_of};
 ghost use Rattle.sketches.specs.SketchWalks.{start_of, whole_walk, wire_held, next_wire, previous_wire, next_block, next_subport, Knows};
 
-use crate::rows::ROWS;
 use crate::sketch::{Reason, SketchEnd, SketchPort};
-use crate::tables::{find_newest, find_oldest};
 use crate::tests::{EndTest, Test};
 use crate::totals::Sketch;
 use port_tables::direction::Direction;
@@ -50,14 +48,14 @@ impl Sketch {
     pub fn blocks(&self) -> Walk
         ensures { result ≡ whole_walk self.now.totals.blocks Test.Every }
     {
-        whole_walk(self.totals.blocks, Test::Every)
+        whole_walk(self.blocks.count, Test::Every)
     }
 
     // A walk over the wires that a test hits.
     pub fn wires(&self, test: Test) -> Walk
         ensures { result ≡ whole_walk self.now.totals.wires test }
     {
-        whole_walk(self.totals.wires, test)
+        whole_walk(self.wires.count, test)
     }
 
     // Starts a walk over the wires at a port.
@@ -86,7 +84,7 @@ impl Sketch {
         ensures { result ≡ wire_held (wire_of (row_at self.now.wires i)) }
     {
         let wires = &self.wires;
-        let row = wires[i];
+        let row = wires.rows[i];
         SketchWire {
             out: SketchEnd {
                 port: SketchPort {
@@ -111,46 +109,24 @@ impl Sketch {
     pub fn next_wire(&self, walk: Walk) -> Option<(SketchWire, Walk)>
         ensures { result ≡ next_wire self.now.wires self.now.totals.wires walk }
     {
-        let test = walk.test;
-        let high = walk.high.min(self.totals.wires);
-        let i = find_newest(&self.wires, walk.low, high, test)?;
-        let rest = Walk {
-            low: walk.low,
-            high: i,
-            test,
-        };
-        Some((self.wire_at(i), rest))
+        let i = self.wires.newest_left(walk)?;
+        Some((self.wire_at(i), Walk { high: i, ..walk }))
     }
 
-    // The next wire from the back.
+    // The next wire from the back. Stays beside `next_wire`: which row, and what is left, is all that either says.
     pub fn previous_wire(&self, walk: Walk) -> Option<(SketchWire, Walk)>
         ensures { result ≡ previous_wire self.now.wires self.now.totals.wires walk }
     {
-        let test = walk.test;
-        let high = walk.high.min(self.totals.wires);
-        let i = find_oldest(&self.wires, walk.low, high, test)?;
-        let rest = Walk {
-            low: i + 1,
-            high: walk.high,
-            test,
-        };
-        Some((self.wire_at(i), rest))
+        let i = self.wires.oldest_left(walk)?;
+        Some((self.wire_at(i), Walk { low: i + 1, ..walk }))
     }
 
     // The next block, by its name.
     pub fn next_block(&self, walk: Walk) -> Option<(u32, Walk)>
         ensures { result ≡ next_block self.now.blocks self.now.totals.blocks walk }
     {
-        let test = walk.test;
-        let count = self.totals.blocks.min(ROWS);
-        let i = find_newest(&self.blocks, walk.low, walk.high.min(count), test)?;
-        let row = self.blocks[i];
-        let rest = Walk {
-            low: walk.low,
-            high: i,
-            test,
-        };
-        Some((row.0, rest))
+        let i = self.blocks.newest_left(walk)?;
+        Some((self.blocks.rows[i].0, Walk { high: i, ..walk }))
     }
 
     // The offsets of a port: those of its subports, or 0 alone.

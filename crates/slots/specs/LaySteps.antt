@@ -18,8 +18,7 @@ use Rattle.portgraph.specs.LentSteps.{meta_read}
 use Rattle.port_tables.specs.declared.lent.Counts.{Counts}
 use Rattle.port_tables.specs.declared.node_entry.NodeMeta.{NodeMeta}
 use Rattle.multiportgraph.specs.WellFormed.{MultiWf}
-use Rattle.multiportgraph.specs.MultiLent.{multi_in}
-use Rattle.multiportgraph.specs.declared.lent.Totals.{Totals}
+use Rattle.multiportgraph.specs.MultiLent.{Totals, multi_in}
 use Rattle.multiportgraph.specs.declared.multiportgraph.MultiPortGraph.{MultiPortGraph}
 use Rattle.slots.specs.Blocks.{free, SlotBlock, slot_block, node_holds, held_blocks, chained, free_of, free_blocks, holder_number, holder_of, size_of, holder_of_block, laid, sizes_laid, holders_laid, walk_blocks, slot_list, slot_numbers, block_numbers}
 use Rattle.slots.specs.Forms.{list_in, taken_in, list_from, free_in, LaysBoth}
@@ -237,12 +236,13 @@ pub from_head : (links heads : List ℕ) (size head : ℕ) {s h s' h' : List ℕ
 from_head links heads size head e x = rw e at x
 
 -- Both tables, from nothing laid: what is held and then what is free.
-pub laid_all : (nodes links heads s h : List ℕ) {s' h' : List ℕ} → LaysBoth (taken_in nodes) (replicate port_slots 0) (replicate port_slots 0) s h → LaysBoth (free_in links heads) s h s' h' →
+pub laid_all : (nodes links heads : List ℕ) {s₀ h₀ s h s' h' : List ℕ} → (s₀ ≡ replicate port_slots 0) × (h₀ ≡ replicate port_slots 0) → LaysBoth (taken_in nodes) s₀ h₀ s h → LaysBoth (free_in links heads) s h s' h' →
     (walk_blocks s' h' 0 port_slots ≡ list_in nodes links heads)
 unfolding list_in
-laid_all nodes links heads s h x y =
+laid_all nodes links heads none x y =
     let z = lays_then {a = taken_in nodes} {b = free_in links heads} x y in
-    λ i. walk_blocks (z.sizes_are i) (z.holders_are i) 0 port_slots
+    let all = taken_in nodes ++ free_in links heads in
+    λ i. walk_blocks ((z.sizes_are ∙ ap (laid size_of all) none.0) i) ((z.holders_are ∙ ap (laid holder_of_block all) none.1) i) 0 port_slots
 
 -- the walk over them lists the blocks of the tables
 pub listed_so : (blocks list : List SlotBlock) (l l' : List ℕ) (r : ℕ) → blocks ≡ list → (r ≡ length blocks) × (l' ≡ sets l 0 (flat_map block_numbers blocks)) →

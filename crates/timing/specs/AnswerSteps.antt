@@ -1,7 +1,7 @@
 -- What the functions that answer of a graph cite: the listing of its wires, the answer off the settled tables, a path, and orders.
 use Rattle.std.proofs.Math.Path.{◌≡◌, refl, sym, ap}
-use Rattle.std.proofs.Common.{◌∙◌, length-set, length-drop, drop_of_length-le, drop-cons, drop-set-lt, get_or-set_same, take_all, eq-eqb, ne_eqb, le-leb, lt-ltb, le-ltb}
-use Rattle.std.specs.Prelude.{Bool, true, false, ltb, length, take, drop, Result, Ok, Err}
+use Rattle.std.proofs.Common.{◌∙◌, length-set, drop_of_length-le, drop-cons, drop-set-lt, get_or-set_same, eq-eqb, ne_eqb, le-leb, lt-ltb, le-ltb}
+use Rattle.std.specs.Prelude.{Bool, true, false, ltb, length, take, drop, Result, Ok, Err, OnOk}
 use Rattle.std.specs.Result.{IsErrAnd}
 use mathlib.Core.List.{List, [], ◌∷◌, ◌++◌, map}
 use Prim.Native.Nat.{ℕ, zero, suc, ◌+◌, ◌-◌, ◌*◌, ◌/◌, ◌≤◌, ◌<◌}
@@ -27,8 +27,8 @@ use Rattle.theorems.proofs.StartLaws.{start_at_node_starts}
 use Rattle.files.specs.Forms.{node_listed, nodes_of, blocks_in}
 use Rattle.files.specs.RankLaws.{blocks_rise}
 use Rattle.files.specs.SaveSteps.{listing_taken, listed_blocks, listed_wires, nodes_are}
-use Rattle.timing.specs.Longest.{Feed, feeds_in, feeders, time_in, longest_among, longest_timed, longest_from, longest_of, longest_numbers}
-use Rattle.timing.specs.Settling.{feeds_listed, zeros, settled, path_back, path_among}
+use Rattle.timing.specs.Longest.{Feed, feeds_in, feeders, longest_among, longest_timed, longest_from, longest_of, longest_numbers}
+use Rattle.timing.specs.Settling.{feeds_listed, Tables, zeros, settled, sum_at, path_back, path_among}
 use Rattle.timing.specs.RunOrder.{run_order}
 use Rattle.timing.specs.RunOrderLaws.{right_length, right_named, right_forward, found_right, run_order_right, right_run_order}
 use Rattle.timing.specs.TimingClaims.{RightOrder}
@@ -38,7 +38,7 @@ use Rattle.timing.specs.SettleSteps.{listed_next, listed_end, feeds_next, feeds_
 use Rattle.timing.specs.StartLaws.{FeedsFit, zeros_long, zeros_read, answer_settled}
 use Rattle.timing.specs.FeedLaws.{feeds_listed_lem, feeders_between, block_below}
 use Rattle.timing.specs.declared.answers.LongestError.{LongestError}
-use Rattle.timing.specs.declared.answers.LongestError.TheVariants.{Refused, BadTimes, Cycle}
+use Rattle.timing.specs.declared.answers.LongestError.TheVariants.{Refused, BadTimes}
 use Rattle.timing.specs.declared.answers.PathListed.{PathListed}
 
 -- a refusal that comes through a `?`
@@ -46,22 +46,16 @@ pub refused_told : {T : Type 0} {r : Refusal} (a : Result T LongestError) → Is
 refused_told (Ok x) h = absurd h
 refused_told (Err x) h = ap Err h
 
+-- what holds at any answer
+pub ok_or_not : {T E P : Type 0} (a : Result T E) → P → OnOk a P
+ok_or_not (Ok x) h = h
+ok_or_not (Err x) h = tt
+
 -- Off the settled tables.
 
-module _ (feeds : List Feed) (times : List ℕ) (n : ℕ) (fit : FeedsFit feeds) (below : n < node_slots) {waits best : List ℕ} (areWaits : waits ≡ (settled feeds times).waits)
-    (areBest : best ≡ (settled feeds times).best) {b w : ℕ} (is_block : b ≡ n) (isWait : w ≡ get_or waits b 0) where
-  wait_is : get_or (settled feeds times).waits n 0 ≡ w
-  wait_is = sym (isWait ∙ (λ j. get_or (areWaits j) (is_block j) 0))
-
-  pub cycle_answer : (w ≡ 0 → ⊥) → Err Cycle ≡ longest_among feeds times n
-  cycle_answer h =
-      sym (rw (ne_eqb (get_or (settled feeds times).waits n 0) 0 (λ e. h (sym wait_is ∙ e))) refl)
-      ∙ answer_settled feeds fit.below fit.rises times n below
-
-  pub sum_answer : {x y : ℕ} → w ≡ 0 → x ≡ get_or best b 0 → y ≡ get_or times b 0 → Ok (x + y) ≡ longest_among feeds times n
-  sum_answer {x} {y} h p q =
-      (λ j. Ok ((p ∙ (λ k. get_or (areBest k) (is_block k) 0)) j + (q ∙ ap (time_in times) is_block) j))
-      ∙ (sym (rw (eq-eqb (get_or (settled feeds times).waits n 0) 0 (wait_is ∙ h)) refl) ∙ answer_settled feeds fit.below fit.rises times n below)
+pub answer_of_tables : (feeds : List Feed) (times : List ℕ) (n : ℕ) → FeedsFit feeds → n < node_slots → {t : Tables} → t ≡ settled feeds times → sum_at t times n ≡ longest_among feeds times n
+unfolding sum_at
+answer_of_tables feeds times n fit below e = ap (λ (t : Tables). sum_at t times n) e ∙ answer_settled feeds fit.below fit.rises times n below
 
 -- 19.
 
@@ -99,8 +93,8 @@ module _ {m : MultiPortGraph} {M : Model} (f : Fine m M) where
   pub among_listed : (times : List ℕ) (n : ℕ) {ends : List ℕ} → ends ≡ wires_listed m → longest_among (feeds_listed ends) times n ≡ longest_among (feeds_in m) times n
   among_listed times n e = ap (λ (l : List Feed). longest_among l times n) (ap feeds_listed e ∙ feeds_listed_lem f)
 
-  pub path_listed_is : (times : List ℕ) (n : ℕ) {ends : List ℕ} → ends ≡ wires_listed m → path_among (feeds_listed ends) times n ≡ path_among (feeds_in m) times n
-  path_listed_is times n e = ap (λ (l : List Feed). path_among l times n) (ap feeds_listed e ∙ feeds_listed_lem f)
+  pub settled_listed : (times : List ℕ) {ends : List ℕ} → ends ≡ wires_listed m → settled (feeds_listed ends) times ≡ settled (feeds_in m) times
+  settled_listed times e = ap (λ (l : List Feed). settled l times) (ap feeds_listed e ∙ feeds_listed_lem f)
 
   -- 4 and 5
 
@@ -134,10 +128,6 @@ module _ {m : MultiPortGraph} {M : Model} (f : Fine m M) where
 
 -- A path.
 
-sum_listed_by : (a : Result ℕ LongestError) (path : List ℕ) → sum_of (listed_by a path) ≡ a
-sum_listed_by (Ok s) path = refl
-sum_listed_by (Err x) path = refl
-
 pub error_listed : {a : Result ℕ LongestError} {x : LongestError} (path list : List ℕ) → Err x ≡ a → (Err x ≡ listed_by a path) × (list ≡ if_longest a (list_after path list) list)
 error_listed path list e = (ap (λ (x : Result ℕ LongestError). listed_by x path) e, ap (λ (x : Result ℕ LongestError). if_longest x (list_after path list) list) e)
 
@@ -146,42 +136,22 @@ pub sum_listed : {a : Result ℕ LongestError} {s blocks : ℕ} {list' : List �
 sum_listed {s = s} path list e b q =
     ((λ j. Ok (record { sum = s; blocks = b j })) ∙ ap (λ (x : Result ℕ LongestError). listed_by x path) e, q ∙ ap (λ (x : Result ℕ LongestError). if_longest x (list_after path list) list) e)
 
--- the path of the settled tables
-pub path_of_tables : (feeds : List Feed) (times : List ℕ) (n : ℕ) {origin : List ℕ} → origin ≡ (settled feeds times).origin → path_back origin (node_slots - 1) n [] ≡ path_among feeds times n
-unfolding path_among
-path_of_tables feeds times n e = ap (λ (l : List ℕ). path_back l (node_slots - 1) n []) e
-
--- from the listing to the graph
-pub listed_to_graph : {m : MultiPortGraph} {M : Model} → Fine m M → (times : List ℕ) (n : ℕ) (list : List ℕ) {ends list' : List ℕ} {r : Result PathListed LongestError} → length times ≡ node_slots → ends ≡ wires_listed m →
-    r ≡ listed_by (longest_among (feeds_listed ends) times n) (path_among (feeds_listed ends) times n) →
-    list' ≡ if_longest (longest_among (feeds_listed ends) times n) (list_after (path_among (feeds_listed ends) times n) list) list →
-    (r ≡ listed_by (longest_timed (feeds_in m) times n) (path_among (feeds_in m) times n)) × (list' ≡ if_longest (longest_timed (feeds_in m) times n) (list_after (path_among (feeds_in m) times n) list) list)
-listed_to_graph {m} f times n list h e p q =
-    let a = among_listed f times n e ∙ times_right (feeds_in m) times n h in
-    let b = path_listed_is f times n e in
-    (p ∙ (λ j. listed_by (a j) (b j)), q ∙ (λ j. if_longest (a j) (list_after (b j) list) list))
-
-pub path_answer : (m : MultiPortGraph) (n : ℕ) (times list : List ℕ) (a : Result ℕ LongestError) → a ≡ longest_of m n times →
-    (listed_by a (path_among (feeds_in m) times n) ≡ path_listed m n times) × (if_longest a (list_after (path_among (feeds_in m) times n) list) list ≡ path_after m n times list)
-unfolding path_listed path_after path_of
-path_answer m n times list a e =
-    (ap (λ (x : Result ℕ LongestError). listed_by x (path_among (feeds_in m) times n)) e, ap (λ (x : Result ℕ LongestError). if_longest x (list_after (path_among (feeds_in m) times n) list) list) e)
-
-module _ {m : MultiPortGraph} {M : Model} (f : Fine m M) (n : ℕ) (times list : List ℕ) where
-  pub refused_listed : (r : Refusal) → Err r ≡ capacity_of m n → {told : Result PathListed LongestError} → told ≡ Err (Refused r) →
+module _ (m : MultiPortGraph) (n : ℕ) (times list : List ℕ) where
+  pub path_refused : {x : LongestError} {told : Result PathListed LongestError} → told ≡ Err x → Err x ≡ longest_of m n times →
       (told ≡ path_listed m n times) × (list ≡ path_after m n times list) × (longest_numbers (sum_of told) ≡ longest_numbers (longest_of m n times))
-  refused_listed r e q =
-      let a = refused_answer f n times r e in
-      let p = path_answer m n times list (Err (Refused r)) a in
-      (q ∙ p.0, p.1, ap (λ (x : Result PathListed LongestError). longest_numbers (sum_of x)) q ∙ ap longest_numbers a)
+  unfolding path_listed path_after
+  path_refused q e =
+      let p = error_listed (path_of m n times) list e in
+      (q ∙ p.0, p.1, ap (λ (x : Result PathListed LongestError). longest_numbers (sum_of x)) q ∙ ap longest_numbers e)
 
-  pub found_listed : (k : ℕ) → Ok k ≡ capacity_of m n → {r : Result PathListed LongestError} {list' : List ℕ} → r ≡ listed_by (longest_timed (feeds_in m) times n) (path_among (feeds_in m) times n) →
-      list' ≡ if_longest (longest_timed (feeds_in m) times n) (list_after (path_among (feeds_in m) times n) list) list →
-      (r ≡ path_listed m n times) × (list' ≡ path_after m n times list) × (longest_numbers (sum_of r) ≡ longest_numbers (longest_of m n times))
-  found_listed k e p q =
-      let a = found_answer f n times k e in
-      let b = path_answer m n times list (longest_timed (feeds_in m) times n) a in
-      (p ∙ b.0, q ∙ b.1, ap (λ (x : Result PathListed LongestError). longest_numbers (sum_of x)) p ∙ ap longest_numbers (sum_listed_by (longest_timed (feeds_in m) times n) (path_among (feeds_in m) times n) ∙ a))
+  pub path_found : {s blocks : ℕ} {t : Tables} {list' : List ℕ} → Ok s ≡ longest_of m n times → t ≡ settled (feeds_in m) times → blocks ≡ length (path_back t.origin (node_slots - 1) n []) →
+      list' ≡ list_after (path_back t.origin (node_slots - 1) n []) list →
+      (Ok (record { sum = s; blocks = blocks }) ≡ path_listed m n times) × (list' ≡ path_after m n times list) × (longest_numbers (sum_of (Ok (record { sum = s; blocks = blocks }))) ≡ longest_numbers (longest_of m n times))
+  unfolding path_listed path_after path_of path_among
+  path_found e q b l =
+      let w = ap (λ (t : Tables). path_back t.origin (node_slots - 1) n []) q in
+      let p = sum_listed (path_of m n times) list e (b ∙ ap length w) (l ∙ ap (λ (x : List ℕ). list_after x list) w) in
+      (p.0, p.1, ap longest_numbers e)
 
 module _ (origin back : List ℕ) (k n : ℕ) (long : k < length back) where
   -- a block is laid before the path
@@ -211,14 +181,6 @@ path_goes origin zero n path h p q d = absurd (omega arith)
 path_goes origin (suc k) n path {j} {x} h p q d =
     let z : j ≡ k = omega arith in
     sym (rw (ne_eqb (get_or origin n 0) 0 (λ e. d (q ∙ e)), ← q, ← z) refl)
-
--- what is laid back is lent from its beginning on
-pub laid_back : (back : List ℕ) (from : ℕ) {path list' : List ℕ} (list : List ℕ) → length back ≡ node_slots → from < node_slots → drop from back ≡ path → list' ≡ list_after (take (node_slots - from) (drop from back)) list →
-    (node_slots - from ≡ length path) × (list' ≡ list_after path list)
-laid_back back from list l h e q =
-    let n = length-drop from back in
-    let k = ap length e in
-    (omega arith, q ∙ ap (λ (x : List ℕ). list_after x list) (take_all (node_slots - from) (drop from back) (omega arith) ∙ e))
 
 -- a copy
 pub copied : (numbers list : List ℕ) {list' : List ℕ} → length numbers ≤ length list → list' ≡ numbers ++ drop (length numbers) list → list' ≡ list_after numbers list

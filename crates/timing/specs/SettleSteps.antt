@@ -13,7 +13,7 @@ use Rattle.port_tables.specs.Limits.{node_slots}
 use Rattle.port_tables.specs.Lists.{range}
 use Rattle.port_tables.specs.Listing.{length_map, length_range}
 use Rattle.timing.specs.Longest.{Feed, time_in}
-use Rattle.timing.specs.Settling.{feed_at, feeds_listed, Tables, tables_of, zeros, waits_of, firsts_of, pushed, push_ready, wire_done, run_done, block_done, start_tables, settle, settled, Bounded}
+use Rattle.timing.specs.Settling.{feed_at, feeds_listed, Tables, zeros, waits_of, firsts_of, unsettled, with_order, pushed, push_ready, raised, wire_done, run_done, block_done, start_tables, settle, settled, Bounded}
 use Rattle.timing.specs.SettleLaws.{same_or_not}
 use Rattle.timing.specs.StartLaws.{zeros_read}
 
@@ -114,9 +114,6 @@ finding_turns {ends} {firsts₀} {firsts} {firsts'} {i} {k} {s} f h p q e =
           ∙ sym (ap (λ (l : List Feed). firsts_of l k firsts₀) (feeds_next ends k (omega arith))));
     }
 
-pub finding_ends : {ends firsts₀ firsts : List ℕ} {i : ℕ} → Finding ends firsts₀ firsts i → i ≤ 0 → firsts ≡ firsts_of (feeds_listed ends) 0 firsts₀
-finding_ends {ends} {firsts₀} {firsts} {i} f h = let z : i ≡ 0 = omega arith in f.found ∙ ap (λ (k : ℕ). firsts_of (drop k (feeds_listed ends)) k firsts₀) z
-
 -- Settled blocks in a table.
 
 module _ (queue : List ℕ) (tail block : ℕ) (long : length queue ≡ node_slots) where
@@ -134,45 +131,46 @@ module _ (queue : List ℕ) (tail block : ℕ) (long : length queue ≡ node_slo
       rw (le-ltb (length (take tail queue)) node_slots (omega arith))
 
 -- slots one after the other
-pub ready_turn : (waits order : List ℕ) (slots n : ℕ) → n < slots →
-    push_ready waits (range (n + 1) (slots - (n + 1))) (cond (eqb (get_or waits n 0) 0) (pushed order n) order) ≡ push_ready waits (range n (slots - n)) order
-unfolding push_ready range
-ready_turn waits order slots n h =
-    let e : slots - n ≡ suc (slots - (n + 1)) = omega arith in
-    let s : n + 1 ≡ suc n = omega arith in
-    rw (e, s) refl
+module _ (t : Tables) (n : ℕ) where
+  pub ready_push : {waits : List ℕ} {x : ℕ} {t' : Tables} → waits ≡ t.waits → x ≡ get_or waits n 0 → x ≡ 0 → t' ≡ with_order t (pushed t.order n) → t' ≡ with_order t (cond (eqb (get_or t.waits n 0) 0) (pushed t.order n) t.order)
+  ready_push w q z e = rw (eq-eqb (get_or t.waits n 0) 0 (ap (λ (l : List ℕ). get_or l n 0) (sym w) ∙ (sym q ∙ z))) e
 
-pub ready_end : (waits order : List ℕ) (slots n : ℕ) → slots ≤ n → order ≡ push_ready waits (range n (slots - n)) order
-unfolding push_ready range
-ready_end waits order slots n h = let e : slots - n ≡ 0 = omega arith in rw e refl
+  pub ready_stays : {waits : List ℕ} {x : ℕ} {t' : Tables} → waits ≡ t.waits → x ≡ get_or waits n 0 → (x ≡ 0 → ⊥) → t' ≡ t → t' ≡ with_order t (cond (eqb (get_or t.waits n 0) 0) (pushed t.order n) t.order)
+  ready_stays w q d e = rw (ne_eqb (get_or t.waits n 0) 0 (λ z. d (q ∙ (ap (λ (l : List ℕ). get_or l n 0) w ∙ z)))) e
+
+  pub ready_turn : (slots : ℕ) {t' : Tables} → n < slots → t' ≡ with_order t (cond (eqb (get_or t.waits n 0) 0) (pushed t.order n) t.order) →
+      with_order t' (push_ready t'.waits (range (n + 1) (slots - (n + 1))) t'.order) ≡ with_order t (push_ready t.waits (range n (slots - n)) t.order)
+  unfolding push_ready range
+  ready_turn slots h e =
+      let k : slots - n ≡ suc (slots - (n + 1)) = omega arith in
+      let s : n + 1 ≡ suc n = omega arith in
+      ap (λ (r : Tables). with_order r (push_ready r.waits (range (n + 1) (slots - (n + 1))) r.order)) e ∙ rw (k, s) refl
+
+  pub ready_end : (slots : ℕ) → slots ≤ n → t ≡ with_order t (push_ready t.waits (range n (slots - n)) t.order)
+  unfolding push_ready range
+  ready_end slots h = let e : slots - n ≡ 0 = omega arith in rw e refl
 
 -- The wires of a block.
 
-module _ (waits best origin queue : List ℕ) (tail block sum : ℕ) {waits' best' origin' : List ℕ} {target c left : ℕ} (isTarget : c ≡ target)
-    (isBest : best' ≡ cond (leb (get_or best c 0) sum) (set best c sum) best) (isOrigin : origin' ≡ cond (leb (get_or best c 0) sum) (set origin c (block + 1)) origin)
-    (isLeft : left ≡ get_or waits c 0 - 1) (isWaits : waits' ≡ set waits c left) where
-  left_is : left ≡ get_or waits target 0 - 1
-  left_is = isLeft ∙ ap (λ (x : ℕ). get_or waits x 0 - 1) isTarget
-
-  wire_tables : (order : List ℕ) → order ≡ cond (eqb left 0) (pushed (take tail queue) target) (take tail queue) →
-      ◌≡◌ {A = Tables} (record { waits = waits'; best = best'; origin = origin'; order = order }) (wire_done block sum target (tables_of waits best origin queue tail))
-  unfolding wire_done
-  wire_tables order q =
-      λ j.
+module _ (t : Tables) (block sum : ℕ) {waits best origin waits' order : List ℕ} {target c left : ℕ} (is_target : c ≡ target)
+    (raised_so : ◌≡◌ {A = Tables} (record { waits = waits; best = best; origin = origin; order = order }) (raised block sum c t)) (is_left : left ≡ get_or waits c 0 - 1) (are_waits : waits' ≡ set waits c left) where
+  wire_tables : (order' : List ℕ) → order' ≡ cond (eqb left 0) (pushed order c) order → ◌≡◌ {A = Tables} (record { waits = waits'; best = best; origin = origin; order = order' }) (wire_done block sum target t)
+  unfolding raised wire_done
+  wire_tables order' q =
+      (λ j.
       record {
-        waits = (isWaits ∙ (λ k. set waits (isTarget k) (left_is k))) j;
-        best = (isBest ∙ ap (λ (x : ℕ). cond (leb (get_or best x 0) sum) (set best x sum) best) isTarget) j;
-        origin = (isOrigin ∙ ap (λ (x : ℕ). cond (leb (get_or best x 0) sum) (set origin x (block + 1)) origin) isTarget) j;
-        order = (q ∙ ap (λ (x : ℕ). cond (eqb x 0) (pushed (take tail queue) target) (take tail queue)) left_is) j;
-      }
+        waits = (are_waits ∙ (λ k. set (raised_so k).waits c ((is_left ∙ ap (λ (r : Tables). get_or r.waits c 0 - 1) raised_so) k))) j;
+        best = (raised_so j).best;
+        origin = (raised_so j).origin;
+        order = (q ∙ (λ k. cond (eqb ((is_left ∙ ap (λ (r : Tables). get_or r.waits c 0 - 1) raised_so) k) 0) (pushed (raised_so k).order c) (raised_so k).order)) j;
+      })
+      ∙ ap (λ (x : ℕ). wire_done block sum x t) is_target
 
-  pub wire_last : (order : List ℕ) → left ≡ 0 → order ≡ pushed (take tail queue) target →
-      ◌≡◌ {A = Tables} (record { waits = waits'; best = best'; origin = origin'; order = order }) (wire_done block sum target (tables_of waits best origin queue tail))
-  wire_last order e q = wire_tables order (rw (eq-eqb left 0 e) q)
+  pub wire_last : {t' : Tables} → left ≡ 0 → t' ≡ record { waits = waits'; best = best; origin = origin; order = pushed order target } → t' ≡ wire_done block sum target t
+  wire_last e q = q ∙ wire_tables (pushed order target) (rw (eq-eqb left 0 e, is_target) refl)
 
-  pub wire_stays : (left ≡ 0 → ⊥) →
-      ◌≡◌ {A = Tables} (record { waits = waits'; best = best'; origin = origin'; order = take tail queue }) (wire_done block sum target (tables_of waits best origin queue tail))
-  wire_stays e = wire_tables (take tail queue) (rw (ne_eqb left 0 e) refl)
+  pub wire_stays : (left ≡ 0 → ⊥) → ◌≡◌ {A = Tables} (record { waits = waits'; best = best; origin = origin; order = order }) (wire_done block sum target t)
+  wire_stays e = wire_tables order (rw (ne_eqb left 0 e) refl)
 
 module _ (ends : List ℕ) (b v i : ℕ) (t : Tables) where
   pub run_turn : i < length ends / 8 → get_or ends (8 * i + 2) 0 ≡ b → run_done b v (drop (i + 1) (feeds_listed ends)) (wire_done b v (get_or ends (8 * i + 6) 0) t) ≡ run_done b v (drop i (feeds_listed ends)) t
@@ -244,40 +242,38 @@ bounded_block feeds firsts times b k t small s = go (ltb b node_slots)
 
 -- Settled blocks one after the other.
 
-module _ (feeds : List Feed) (firsts times : List ℕ) (waits best origin queue : List ℕ) (tail head : ℕ) (long : length queue ≡ node_slots) (short : tail ≤ node_slots) where
-  abbrev before : Tables
-  before = tables_of waits best origin queue tail
+module _ (feeds : List Feed) (firsts times : List ℕ) (t : Tables) (queue : List ℕ) (tail head : ℕ) (long : length queue ≡ node_slots) (short : tail ≤ node_slots) (seen : take tail queue ≡ t.order) where
+  so_many : length t.order ≡ tail
+  so_many = ap length (sym seen) ∙ length-take-le tail queue (omega arith)
 
-  pub settle_turn : (slots : ℕ) → head < tail → tail ≤ slots →
-      settle feeds firsts times (slots - (head + 1)) (head + 1) (block_done feeds firsts times (get_or queue head 0) before) ≡ settle feeds firsts times (slots - head) head before
+  pub settle_turn : head < tail → settle feeds firsts times (node_slots - (head + 1)) (head + 1) (block_done feeds firsts times (get_or queue head 0) t) ≡ settle feeds firsts times (node_slots - head) head t
   unfolding settle
-  settle_turn slots h k =
-      let n = length-take-le tail queue (omega arith) in
-      let e : slots - head ≡ suc (slots - (head + 1)) = omega arith in
+  settle_turn h =
+      let n = so_many in
+      let e : node_slots - head ≡ suc (node_slots - (head + 1)) = omega arith in
       let s : head + 1 ≡ suc head = omega arith in
-      let g = get_or-take tail queue head 0 h in
-      rw (e, lt-ltb head (length (take tail queue)) (omega arith), g, s) refl
+      let g : get_or t.order head 0 ≡ get_or queue head 0 = ap (λ (l : List ℕ). get_or l head 0) (sym seen) ∙ get_or-take tail queue head 0 h in
+      rw (e, lt-ltb head (length t.order) (omega arith), g, s) refl
 
-  pub settle_end : (slots : ℕ) → tail ≤ head → before ≡ settle feeds firsts times (slots - head) head before
+  pub settle_end : tail ≤ head → t ≡ settle feeds firsts times (node_slots - head) head t
   unfolding settle
-  settle_end slots h = go (slots - head)
+  settle_end h = go (node_slots - head)
     where
-      go : (fuel : ℕ) → before ≡ settle feeds firsts times fuel head before
+      go : (fuel : ℕ) → t ≡ settle feeds firsts times fuel head t
       go zero = refl
-      go (suc fuel) = let n = length-take-le tail queue (omega arith) in rw (le-ltb head (length (take tail queue)) (omega arith))
-
-pub bounded_more : (best : List ℕ) (k n : ℕ) → k ≤ n → Bounded best k → Bounded best n
-bounded_more best k n h s i = let e = s i in omega arith
-
-pub zeros_bounded : (best : List ℕ) → best ≡ zeros → Bounded best 0
-zeros_bounded best e n = let z = ap (λ (l : List ℕ). get_or l n 0) e ∙ zeros_read n in omega arith
+      go (suc fuel) = let n = so_many in rw (le-ltb head (length t.order) (omega arith))
 
 -- From tables of zeros.
-pub settled_is : (feeds : List Feed) (times : List ℕ) {waits firsts best origin : List ℕ} (queue : List ℕ) (tail : ℕ) {t : Tables} → waits ≡ waits_of feeds zeros → firsts ≡ firsts_of feeds 0 zeros →
-    take tail queue ≡ push_ready waits (range 0 node_slots) [] → best ≡ zeros → origin ≡ zeros → t ≡ settle feeds firsts times node_slots 0 (tables_of waits best origin queue tail) → t ≡ settled feeds times
-unfolding settled start_tables
-settled_is feeds times {waits} {firsts} {best} {origin} queue tail w f q b o e =
-    e
-    ∙ (λ j.
-    settle feeds (f j) times node_slots 0
-    (record { waits = w j; best = b j; origin = o j; order = (q ∙ ap (λ (l : List ℕ). push_ready l (range 0 node_slots) []) w) j }))
+module _ (feeds : List Feed) {t : Tables} where
+  pub starts : {i : Tables} {waits : List ℕ} → i ≡ unsettled → waits ≡ waits_of feeds zeros →
+      t ≡ record { waits = waits; best = i.best; origin = i.origin; order = push_ready waits (range 0 node_slots) i.order } → t ≡ start_tables feeds
+  unfolding unsettled start_tables
+  starts s w e = e ∙ (λ j. record { waits = w j; best = (s j).best; origin = (s j).origin; order = push_ready (w j) (range 0 node_slots) (s j).order })
+
+  pub start_bounded : t ≡ start_tables feeds → Bounded t.best 0
+  unfolding start_tables
+  start_bounded e n = let z = ap (λ (r : Tables). get_or r.best n 0) e ∙ zeros_read n in omega arith
+
+  pub settled_is : (times : List ℕ) {firsts : List ℕ} → firsts ≡ firsts_of feeds 0 zeros → t ≡ start_tables feeds → settle feeds firsts times node_slots 0 t ≡ settled feeds times
+  unfolding settled
+  settled_is times f e = λ j. settle feeds (f j) times node_slots 0 (e j)

@@ -1,9 +1,11 @@
 -- How the code finds the largest sums, in one pass over the wires: a block is settled once every wire into it comes from a settled block.
 -- What the passes come to is what Longest says (SettleLaws); nobody has to believe them.
-use Rattle.std.specs.Prelude.{cond, List, [], ◌∷◌, ◌++◌, map, ℕ, zero, suc, ◌+◌, ◌-◌, ◌*◌, ◌/◌, ◌≤◌, eqb, leb, ltb, length, get_or, set, take, drop, replicate}
+use Rattle.std.specs.Prelude.{cond, List, [], ◌∷◌, ◌++◌, map, ℕ, zero, suc, ◌+◌, ◌-◌, ◌*◌, ◌/◌, ◌≤◌, eqb, leb, ltb, length, get_or, set, take, drop, replicate, Result, Ok, Err}
 use Rattle.port_tables.specs.Limits.{node_slots}
 use Rattle.port_tables.specs.Lists.{range}
 use Rattle.timing.specs.Longest.{Feed, time_in}
+use Rattle.timing.specs.declared.answers.LongestError.{LongestError}
+use Rattle.timing.specs.declared.answers.LongestError.TheVariants.{Cycle}
 
 -- Which block feeds which, read off a listing of wires with eight numbers each.
 
@@ -30,6 +32,9 @@ tables_of waits best origin queue tail = record { waits = waits; best = best; or
 unfoldable pub zeros : List ℕ
 zeros = replicate node_slots 0
 
+unfoldable pub unsettled : Tables
+unsettled = record { waits = zeros; best = zeros; origin = zeros; order = [] }
+
 -- the wires into each block are counted,
 unfoldable pub waits_of : List Feed → List ℕ → List ℕ
 waits_of [] waits = waits
@@ -44,6 +49,9 @@ firsts_of (f ∷ l) i firsts = set (firsts_of l (suc i) firsts) f.source i
 unfoldable pub pushed : List ℕ → ℕ → List ℕ
 pushed order n = cond (ltb (length order) node_slots) (order ++ (n ∷ [])) order
 
+abbrev pub with_order : Tables → List ℕ → Tables
+with_order t order = record { waits = t.waits; best = t.best; origin = t.origin; order = order }
+
 -- blocks into which no wire goes are settled first
 unfoldable pub push_ready : List ℕ → List ℕ → List ℕ → List ℕ
 push_ready waits [] order = order
@@ -56,6 +64,16 @@ start_tables feeds =
       best = zeros;
       origin = zeros;
       order = push_ready (waits_of feeds zeros) (range 0 node_slots) [];
+    }
+
+-- block c holds the larger sum, v from block b or the one before
+unfoldable pub raised : ℕ → ℕ → ℕ → Tables → Tables
+raised b v c t =
+    record {
+      waits = t.waits;
+      best = cond (leb (get_or t.best c 0) v) (set t.best c v) t.best;
+      origin = cond (leb (get_or t.best c 0) v) (set t.origin c (b + 1)) t.origin;
+      order = t.order;
     }
 
 -- a wire into block c is done, from block b to which the sum v comes
@@ -85,6 +103,10 @@ settle feeds firsts times (suc fuel) head t =
 
 unfoldable pub settled : List Feed → List ℕ → Tables
 settled feeds times = settle feeds (firsts_of feeds 0 zeros) times node_slots 0 (start_tables feeds)
+
+-- what the tables say of a block
+unfoldable pub sum_at : Tables → List ℕ → ℕ → Result ℕ LongestError
+sum_at t times n = cond (eqb (get_or t.waits n 0) 0) (Ok (get_or t.best n 0 + time_in times n)) (Err Cycle)
 
 -- every sum is that of so many times at the most
 abbrev pub Bounded : List ℕ → ℕ → Type 0

@@ -64,6 +64,7 @@ pub fn run_order(graph: MultiPortGraph, order: &[u32]) -> bool
     }
     let mut listed = [0u32; 4 * NODE_SLOTS];
     let mut ends = [0u32; 8 * MOST_WIRES];
+    // Of a slot with a block 1, then its place in the order, two higher. Stays numbers: all_forward compares them as they are, and an enum would be matched there.
     let mut places = [0u32; NODE_SLOTS];
     let wires = graph.link_count();
     // Both lists are long enough.

@@ -1,14 +1,42 @@
 // Blocks settled one after the other (Kahn's algorithm): a block is settled once every wire into it comes from a settled block. Each wire is
 // looked at once for each of two tables, and once when its block is done.
-ghost use Rattle.std.specs.Prelude.{◌≡◌, [], ◌+◌, ◌*◌, ◌-◌, ◌<◌, ◌≤◌, cond, eqb, leb, length, get_or, set, take, drop};
+ghost use Rattle.std.specs.Prelude.{◌≡◌, ◌*◌, ◌<◌, ◌≤◌, length, drop};
 ghost use Rattle.port_tables.specs.Limits.{node_slots, port_slots};
 ghost use Rattle.port_tables.specs.Lists.{range};
-ghost use Rattle.timing.specs.Settling.{feeds_listed, tables_of, zeros, waits_of, firsts_of, pushed, push_ready, wire_done, run_done, block_done, Bounded, settle, settled};
+ghost use Rattle.timing.specs.Settling.{feeds_listed, zeros, waits_of, firsts_of, unsettled, with_order, pushed, push_ready, raised, wire_done, run_done, block_done, Bounded, settled, sum_at};
 
+use crate::answers::LongestError;
 use crate::tables::{at, source_at, target_at, time_at};
 use port_tables::index::NODE_SLOTS;
 use port_tables::numbers::wide;
 use port_tables::tables::store;
+use std::marker::Model;
+
+// What is known of each node slot while blocks are settled, and the settled blocks.
+#[derive(Drop)]
+pub(crate) struct Settling {
+    // How many wires into a block come from blocks that are not done.
+    waits: [u32; NODE_SLOTS],
+    // The largest sum that comes to a block from those that are.
+    best: [u32; NODE_SLOTS],
+    // The block that it comes from, one higher; 0 for none. Stays a number: an Option takes twice the room, and a match where it is written and where it is read.
+    pub(crate) origin: [u32; NODE_SLOTS],
+    // The settled blocks, so many of them.
+    queue: [u32; NODE_SLOTS],
+    tail: usize,
+}
+
+impl Model for Settling {
+    ghost use Rattle.std.specs.Prelude.{◌≤◌};
+    ghost use Rattle.port_tables.specs.Limits.{node_slots};
+    ghost use Rattle.timing.specs.Settling.{Tables, tables_of};
+
+    ghost Value = { Tables };
+
+    ghost view = { λ s. tables_of s.waits s.best s.origin s.queue s.tail };
+
+    ghost invariant = { λ s. s.tail ≤ node_slots };
+}
 
 // Counts the wires into each block.
 fn count_wires(ends: &[u32], waits: &mut [u32])
@@ -33,186 +61,119 @@ fn find_firsts(ends: &[u32], firsts: &mut [u32])
     }
 }
 
-// A block is settled, if there is room; answers how many are.
-fn push(queue: &mut [u32], tail: usize, block: u32) -> usize
-    requires { (tail ≤ node_slots) × (length queue.old ≡ node_slots) }
-    ensures { (result ≤ node_slots) × (take result queue.new ≡ pushed (take tail queue.old) block) }
-{
-    if tail < queue.len() {
-        queue[tail] = block;
-        return tail + 1;
-    }
-    tail
-}
-
-// A slot into which no wire goes is settled at once.
-fn push_if_ready<'a>(waits: &'a [u32], queue: &mut [u32], tail: usize, n: usize) -> usize
-    requires { (tail ≤ node_slots) × (length queue.old ≡ node_slots) × (n < node_slots) }
-    ensures { (result ≤ node_slots) × (take result queue.new ≡ cond (eqb (get_or waits.now n 0) 0) (pushed (take tail queue.old) n) (take tail queue.old)) }
-{
-    if at(waits, n) == 0 {
-        return push(queue, tail, n as u32);
-    }
-    tail
-}
-
-// All of these.
-fn push_ready(waits: &[u32], queue: &mut [u32]) -> usize
-    requires { length queue.old ≡ node_slots }
-    ensures { (result ≤ node_slots) × (take result queue.new ≡ push_ready waits.now (range 0 node_slots) []) }
-{
-    let mut tail: usize = 0;
-    for n in 0..NODE_SLOTS {
-        tail = push_if_ready(waits, queue, tail, n);
-    }
-    tail
-}
-
-// The far end of a wire holds the larger sum, and the block that it comes from.
-fn raise(best: &mut [u32], origin: &mut [u32], target: usize, block: u32, sum: u32)
-    requires { block < node_slots }
-    ensures { (best.new ≡ cond (leb (get_or best.old target 0) sum) (set best.old target sum) best.old)
-        × (origin.new ≡ cond (leb (get_or best.old target 0) sum) (set origin.old target (block + 1)) origin.old) }
-{
-    if at(best, target) <= sum {
-        store(best, target, sum);
-        store(origin, target, block + 1);
-    }
-}
-
-// A wire is done, from a block to which the sum comes: its far end waits for one less, and holds the larger sum. Answers how many are settled.
-fn wire_done(
-    waits: &mut [u32],
-    best: &mut [u32],
-    origin: &mut [u32],
-    queue: &mut [u32],
-    tail: usize,
-    block: u32,
-    sum: u32,
-    target: u32,
-) -> usize
-    requires { (tail ≤ node_slots) × (length queue.old ≡ node_slots) × (block < node_slots) }
-    ensures { (result ≤ node_slots) × (tables_of waits.new best.new origin.new queue.new result
-        ≡ wire_done block sum target (tables_of waits.old best.old origin.old queue.old tail)) }
-{
-    let c = wide(target);
-    raise(best, origin, c, block, sum);
-    let left = at(waits, c).saturating_sub(1);
-    store(waits, c, left);
-    if left == 0 {
-        return push(queue, tail, target);
-    }
-    tail
-}
-
-// The wires of a block that stand in a row from a place on are done.
-fn run_done<'a>(
-    ends: &'a [u32],
-    from: usize,
-    waits: &mut [u32],
-    best: &mut [u32],
-    origin: &mut [u32],
-    queue: &mut [u32],
-    tail: usize,
-    block: u32,
-    sum: u32,
-) -> usize
-    requires { (tail ≤ node_slots) × (length queue.old ≡ node_slots) × (block < node_slots) }
-    ensures { (result ≤ node_slots) × (tables_of waits.new best.new origin.new queue.new result
-        ≡ run_done block sum (drop from (feeds_listed ends.now)) (tables_of waits.old best.old origin.old queue.old tail)) }
-{
-    let mut next = tail;
-    for i in from..ends.len() / 8 {
-        if source_at(ends, i) != block {
-            return next;
+impl Settling {
+    // No block is settled.
+    pub(crate) fn new() -> Settling
+        ensures { result ≡ unsettled }
+    {
+        Settling {
+            waits: [0; NODE_SLOTS],
+            best: [0; NODE_SLOTS],
+            origin: [0; NODE_SLOTS],
+            queue: [0; NODE_SLOTS],
+            tail: 0,
         }
-        next = wire_done(
-            waits,
-            best,
-            origin,
-            queue,
-            next,
-            block,
-            sum,
-            target_at(ends, i),
-        );
     }
-    next
-}
 
-// A settled block is done.
-fn block_done<'a>(
-    ends: &'a [u32],
-    firsts: &'a [u32],
-    times: &'a [u16],
-    waits: &mut [u32],
-    best: &mut [u32],
-    origin: &mut [u32],
-    queue: &mut [u32],
-    tail: usize,
-    head: usize,
-    block: u32,
-) -> usize
-    requires { (tail ≤ node_slots) × (length queue.old ≡ node_slots) × (head < node_slots) × Bounded best.old head }
-    ensures { (result ≤ node_slots) × (tables_of waits.new best.new origin.new queue.new result
-        ≡ block_done (feeds_listed ends.now) firsts.now times.now block (tables_of waits.old best.old origin.old queue.old tail)) }
-{
-    let b = wide(block);
-    if b < NODE_SLOTS {
-        let sum = at(best, b) + time_at(times, b);
-        let from = wide(at(firsts, b));
-        return run_done(ends, from, waits, best, origin, queue, tail, block, sum);
+    // A block is settled, if there is room.
+    fn push(&mut self, block: u32)
+        ensures { self.new ≡ with_order self.old (pushed self.old.order block) }
+    {
+        if self.tail < NODE_SLOTS {
+            self.queue[self.tail] = block;
+            self.tail += 1;
+        }
     }
-    tail
-}
 
-// Settled blocks are done one after the other, and settle others behind them.
-fn settle_all<'a>(
-    ends: &'a [u32],
-    firsts: &'a [u32],
-    times: &'a [u16],
-    waits: &mut [u32],
-    best: &mut [u32],
-    origin: &mut [u32],
-    queue: &mut [u32],
-    start: usize,
-) -> usize
-    requires { (start ≤ node_slots) × (length queue.old ≡ node_slots) × Bounded best.old 0 }
-    ensures { (tables_of waits.new best.new origin.new queue.new result
-        ≡ settle (feeds_listed ends.now) firsts.now times.now node_slots 0 (tables_of waits.old best.old origin.old queue.old start))
-        × Bounded best.new node_slots }
-{
-    let mut tail = start;
-    let mut head: usize = 0;
-    // Stays a while: the blocks that are settled grow in number while they are done.
-    while head < tail {
-        let block = at(queue, head);
-        tail = block_done(
-            ends, firsts, times, waits, best, origin, queue, tail, head, block,
-        );
-        head += 1;
+    // The slots into which no wire goes are settled at once.
+    fn push_ready(&mut self)
+        ensures { self.new ≡ with_order self.old (push_ready self.old.waits (range 0 node_slots) self.old.order) }
+    {
+        for n in 0..NODE_SLOTS {
+            if at(&self.waits, n) == 0 {
+                self.push(n as u32);
+            }
+        }
     }
-    tail
-}
 
-// From tables of zeros.
-pub(crate) fn settle<'a>(
-    ends: &'a [u32],
-    times: &'a [u16],
-    waits: &mut [u32],
-    best: &mut [u32],
-    origin: &mut [u32],
-) -> usize
-    requires { (length ends.now ≤ 8 * port_slots) × (waits.old ≡ zeros) × (best.old ≡ zeros) × (origin.old ≡ zeros) }
-    ensures { (waits.new ≡ (settled (feeds_listed ends.now) times.now).waits)
-        × (best.new ≡ (settled (feeds_listed ends.now) times.now).best)
-        × (origin.new ≡ (settled (feeds_listed ends.now) times.now).origin)
-        × Bounded best.new node_slots }
-{
-    let mut firsts = [0u32; NODE_SLOTS];
-    let mut queue = [0u32; NODE_SLOTS];
-    count_wires(ends, waits);
-    find_firsts(ends, &mut firsts);
-    let tail = push_ready(waits, &mut queue);
-    settle_all(ends, &firsts, times, waits, best, origin, &mut queue, tail)
+    // The far end of a wire holds the larger sum, and the block that it comes from.
+    fn raise(&mut self, target: usize, block: u32, sum: u32)
+        requires { block < node_slots }
+        ensures { self.new ≡ raised block sum target self.old }
+    {
+        if at(&self.best, target) <= sum {
+            store(&mut self.best, target, sum);
+            store(&mut self.origin, target, block + 1);
+        }
+    }
+
+    // A wire is done, from a block to which the sum comes: its far end waits for one less, and holds the larger sum.
+    fn wire_done(&mut self, block: u32, sum: u32, target: u32)
+        requires { block < node_slots }
+        ensures { self.new ≡ wire_done block sum target self.old }
+    {
+        let c = wide(target);
+        self.raise(c, block, sum);
+        let left = at(&self.waits, c).saturating_sub(1);
+        store(&mut self.waits, c, left);
+        if left == 0 {
+            self.push(target);
+        }
+    }
+
+    // The wires of a block that stand in a row from a place on are done.
+    fn run_done<'a>(&mut self, ends: &'a [u32], from: usize, block: u32, sum: u32)
+        requires { block < node_slots }
+        ensures { self.new ≡ run_done block sum (drop from (feeds_listed ends.now)) self.old }
+    {
+        for i in from..ends.len() / 8 {
+            if source_at(ends, i) != block {
+                return;
+            }
+            self.wire_done(block, sum, target_at(ends, i));
+        }
+    }
+
+    // A settled block is done.
+    fn block_done<'a>(&mut self, ends: &'a [u32], firsts: &'a [u32], times: &'a [u16], block: u32)
+        requires { Bounded self.old.best node_slots }
+        ensures { self.new ≡ block_done (feeds_listed ends.now) firsts.now times.now block self.old }
+    {
+        let b = wide(block);
+        if b < NODE_SLOTS {
+            let sum = at(&self.best, b) + time_at(times, b);
+            let from = wide(at(firsts, b));
+            self.run_done(ends, from, block, sum);
+        }
+    }
+
+    // Settled blocks are done one after the other, and settle others behind them.
+    pub(crate) fn settle<'a>(&mut self, ends: &'a [u32], times: &'a [u16])
+        requires { (length ends.now ≤ 8 * port_slots) × (self.old ≡ unsettled) }
+        ensures tables { self.new ≡ settled (feeds_listed ends.now) times.now }
+        ensures small { Bounded self.new.best node_slots }
+    {
+        let mut firsts = [0u32; NODE_SLOTS];
+        count_wires(ends, &mut self.waits);
+        find_firsts(ends, &mut firsts);
+        self.push_ready();
+        let mut head: usize = 0;
+        // Stays a while: the blocks that are settled grow in number while they are done.
+        while head < self.tail {
+            let block = at(&self.queue, head);
+            self.block_done(ends, &firsts, times, block);
+            head += 1;
+        }
+    }
+
+    // The largest sum of times that ends at a block, its own included.
+    pub(crate) fn sum_at(&self, times: &[u16], block: usize) -> Result<u32, LongestError>
+        requires { Bounded self.now.best node_slots }
+        ensures { result ≡ sum_at self.now times.now block }
+    {
+        if at(&self.waits, block) != 0 {
+            return Err(LongestError::Cycle);
+        }
+        Ok(at(&self.best, block) + time_at(times, block))
+    }
 }

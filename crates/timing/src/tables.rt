@@ -1,7 +1,7 @@
 // Leaves on lent tables, and on listings of wires with eight numbers each.
 ghost use Rattle.std.specs.Prelude.{◌≡◌, ◌+◌, ◌*◌, ◌/◌, ◌<◌, length, get_or};
 
-// A table's entry; 0 outside.
+// A table's entry; 0 outside. Stays a number: the definitions read 0 there, so each caller would turn an Option into it.
 pub(crate) fn at(table: &[u32], i: usize) -> u32
     ensures { result ≡ get_or table.now i 0 }
 {

@@ -19,6 +19,7 @@ use multiportgraph::multiportgraph::MultiPortGraph;
 use port_tables::index::{NodeIndex, PortIndex};
 use port_tables::release::Release;
 use records::ask::{ask, empty, link_clean};
+use records::requests::Request;
 use std::fs::Files;
 
 // A request, and so many values of its answer.
@@ -28,11 +29,13 @@ fn request(rt: &impl Print, graph: MultiPortGraph, order: Order, values: usize) 
 {
     let told = ask(
         graph,
-        order.command as u32,
-        order.number(0),
-        order.number(1),
-        order.number(2),
-        order.number(3),
+        Request {
+            code: order.command as u32,
+            a: order.number(0),
+            b: order.number(1),
+            c: order.number(2),
+            d: order.number(3),
+        },
     );
     let answer = told.answer;
     show_answer(rt, answer, values);

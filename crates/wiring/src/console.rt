@@ -14,12 +14,12 @@ fn converse(rt: &(impl Files + Print + Input), buffer: &mut [u8], echo: bool) {
     let mut listener = Listener::new(echo);
     let mut input = rt.reader();
     for _turn in 0..u64::MAX {
-        if let Some(text) = listener.listen(rt, &mut input, buffer) {
-            if let Some(order) = order_of(rt, text, listener.line) {
+        if let Some(heard) = listener.listen(rt, &mut input, buffer) {
+            if let Some(order) = order_of(rt, heard) {
                 if order.command == Command::Quit {
                     return;
                 }
-                graph = run_timed(rt, graph, order, text, &mut times);
+                graph = run_timed(rt, graph, order, heard.text, &mut times);
             }
         }
         if listener.ended {

@@ -29,13 +29,6 @@ fn entries_of(text: &[u8], from: usize) -> [SheetEntry; SHEET_PLACES] {
     places
 }
 
-// The answers of the first entries.
-fn show_entries(rt: &impl Print, places: &[SheetEntry], count: usize) {
-    for entry in places.iter().take(count) {
-        show_item(rt, link_words(entry.answer), 4);
-    }
-}
-
 // The pairs of a line are linked, one after the other.
 pub(crate) fn link_pairs(
     rt: &impl Print,
@@ -52,7 +45,9 @@ pub(crate) fn link_pairs(
     let answer = linked.answer;
     match answer {
         Ok(()) => {
-            show_entries(rt, &linked.places, count);
+            for entry in linked.places.iter().take(count) {
+                show_item(rt, link_words(entry.answer), 4);
+            }
             show_number(rt, count as u64);
         }
         Err(_) => show_refusal_number(rt, Reason::TooManyEntries),

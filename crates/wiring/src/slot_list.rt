@@ -6,16 +6,14 @@ use lines::show::Line;
 use multiportgraph::multiportgraph::MultiPortGraph;
 use slots::listing::{LIST_NUMBERS, list_slots};
 
-// The blocks that are listed: of each its first slot, its size, and the node that holds it or `free`.
-fn show_blocks(rt: &impl Print, numbers: &[u32], count: usize) {
-    for block in numbers.chunks_exact(3).take(count) {
-        if let [first, size, holder] = block {
-            let line = Line::of(b" ").number(*first).number(*size);
-            if *holder == 0 {
-                line.with(b" free").write(rt);
-            } else {
-                line.number(*holder - 1).write(rt);
-            }
+// A block that is listed: its first slot, its size, and the node that holds it or `free`.
+fn show_block(rt: &impl Print, block: &[u32]) {
+    if let [first, size, holder] = block {
+        let line = Line::of(b" ").number(*first).number(*size);
+        if *holder == 0 {
+            line.with(b" free").write(rt);
+        } else {
+            line.number(*holder - 1).write(rt);
         }
     }
 }
@@ -26,6 +24,8 @@ pub(crate) fn show_slots(rt: &impl Print, graph: MultiPortGraph)
 {
     let mut numbers = [0u32; LIST_NUMBERS];
     let count = list_slots(graph, &mut numbers);
-    show_blocks(rt, &numbers, count);
+    for block in numbers.chunks_exact(3).take(count) {
+        show_block(rt, block);
+    }
     show_number(rt, count as u64);
 }

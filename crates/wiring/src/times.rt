@@ -37,12 +37,10 @@ fn show_sum(rt: &impl Print, answer: Result<u32, LongestError>) {
     }
 }
 
-// The first blocks of a list, each with its time.
-fn show_blocks(rt: &impl Print, blocks: &[u32], times: &[u16], count: usize) {
-    for block in blocks.iter().take(count) {
-        let time = times.get(wide(*block)).copied().unwrap_or(0);
-        Line::of(b" ").number(*block).number(time).write(rt);
-    }
+// A block with its time.
+fn show_block(rt: &impl Print, block: u32, times: &[u16]) {
+    let time = times.get(wide(block)).copied().unwrap_or(0);
+    Line::of(b" ").number(block).number(time).write(rt);
 }
 
 fn show_path(rt: &impl Print, graph: MultiPortGraph, order: Order, times: &[u16; NODE_SLOTS])
@@ -51,7 +49,9 @@ fn show_path(rt: &impl Print, graph: MultiPortGraph, order: Order, times: &[u16;
     let mut blocks = [0u32; NODE_SLOTS];
     match path(graph, NodeIndex(order.number(0)), times, &mut blocks) {
         Ok(found) => {
-            show_blocks(rt, &blocks, times, found.blocks);
+            for block in blocks.iter().take(found.blocks) {
+                show_block(rt, *block, times);
+            }
             show_sum(rt, Ok(found.sum));
         }
         Err(error) => show_sum(rt, Err(error)),
@@ -67,19 +67,13 @@ fn put_numbers(numbers: &mut [u32; NAMED], text: &[u8], from: usize) {
     }
 }
 
-// The first numbers, as many as are counted, are a run order; all of them where there are more.
-fn is_run_order(graph: MultiPortGraph, numbers: &[u32], count: usize) -> bool
-    requires { MultiWf graph }
-{
-    run_order(graph, &numbers[..count.min(numbers.len())])
-}
-
 fn show_run_order(rt: &impl Print, graph: MultiPortGraph, order: Order, text: &[u8])
     requires { MultiWf graph }
 {
     let mut numbers = [0u32; NAMED];
     put_numbers(&mut numbers, text, order.from);
-    let yes = is_run_order(graph, &numbers, order.entries);
+    // Of a line with more numbers all that fit are asked for: the order is too long with them.
+    let yes = run_order(graph, &numbers[..order.entries.min(NAMED)]);
     show_number(rt, yes as u64);
 }
 

@@ -1,8 +1,5 @@
 -- `exports::saved::save_records` meets its contract: refusal 1, else the file of the graph that the list leaves.
-use mathlib.Core.Path.{ap, ◌∙◌}
-use Rattle.multiportgraph.specs.declared.multiportgraph.MultiPortGraph.{MultiPortGraph}
-use Rattle.records.specs.Words.{requests_of}
-use Rattle.records.specs.Run.{graph_from}
+use mathlib.Core.Path.{◌∙◌}
 use Rattle.exports.specs.ExportSteps.{save_odd, save_done}
 use Rattle.exports.proofs.saved.save_records.Goals as goal
 
@@ -10,9 +7,9 @@ pub returns-then-requests-ne0 : goal.returns-then-requests-ne0
 returns-then-requests-ne0 c = save_odd c.args.requests.now c.args.file.now c.if-requests-ne0.true
 
 pub save_lent-requires : goal.save_lent-requires
-save_lent-requires c = c.run.ensures.1
+save_lent-requires c = c.lent_left.ensures.1
 
 pub returns : goal.returns
 returns c =
-    let d = save_done c.args.requests.now c.args.file.now _ _ _ c.if-requests-ne0.false (c.run.ensures.0 ∙ ap (λ (g : MultiPortGraph). graph_from g (requests_of c.args.requests.now)) c.new-left.ensures.0) c.save_lent.ensures in
+    let d = save_done c.args.requests.now c.args.file.now _ _ _ c.if-requests-ne0.false c.lent_left.ensures.0 c.save_lent.ensures in
     (c.save_told.ensures ∙ d.0, d.1)

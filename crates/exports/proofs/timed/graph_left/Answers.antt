@@ -1,10 +1,10 @@
--- `exports::timed::graph_left` meets its contract: the tables that the run leaves, as a graph.
-use mathlib.Core.Path.{sym, ap, ◌∙◌, subst}
-use Rattle.multiportgraph.specs.declared.multiportgraph.MultiPortGraph.{MultiPortGraph}
-use Rattle.records.specs.Words.{requests_of}
-use Rattle.records.specs.Run.{graph_from}
+-- `exports::timed::graph_left` meets its contract: the graph that the run leaves, by value.
+use mathlib.Core.Path.{sym, ◌∙◌, subst}
 use Rattle.multiportgraph.specs.WellFormed.{MultiWf}
 use Rattle.exports.proofs.timed.graph_left.Goals as goal
 
+pub graph-requires : goal.graph-requires
+graph-requires c = c.lent_left.ensures.1
+
 pub returns : goal.returns
-returns c = (c.graph_of_tables.ensures ∙ (c.run.ensures.0 ∙ ap (λ (g : MultiPortGraph). graph_from g (requests_of c.args.requests.now)) c.new-left.ensures.0), subst MultiWf (sym c.graph_of_tables.ensures) c.run.ensures.1)
+returns c = (c.graph.ensures ∙ c.lent_left.ensures.0, subst MultiWf (sym c.graph.ensures) c.lent_left.ensures.1)

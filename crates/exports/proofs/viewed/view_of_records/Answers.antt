@@ -1,8 +1,4 @@
 -- `exports::viewed::view_of_records` meets its contract: refusal 1, else the view of the graph that the list leaves.
-use mathlib.Core.Path.{ap, ◌∙◌}
-use Rattle.multiportgraph.specs.declared.multiportgraph.MultiPortGraph.{MultiPortGraph}
-use Rattle.records.specs.Words.{requests_of}
-use Rattle.records.specs.Run.{graph_from}
 use Rattle.exports.specs.ViewedSteps.{view_odd, view_whole}
 use Rattle.exports.proofs.viewed.view_of_records.Goals as goal
 
@@ -10,7 +6,7 @@ pub returns-then-requests-ne0 : goal.returns-then-requests-ne0
 returns-then-requests-ne0 c = view_odd c.args.requests.now c.args.view.now c.if-requests-ne0.true
 
 pub view_in-requires : goal.view_in-requires
-view_in-requires c = c.run.ensures.1
+view_in-requires c = c.lent_left.ensures.1
 
 pub returns : goal.returns
-returns c = view_whole c.args.requests.now c.args.view.now _ _ _ c.if-requests-ne0.false (c.run.ensures.0 ∙ ap (λ (g : MultiPortGraph). graph_from g (requests_of c.args.requests.now)) c.new-left.ensures.0) c.view_in.ensures
+returns c = view_whole c.args.requests.now c.args.view.now _ _ _ c.if-requests-ne0.false c.lent_left.ensures.0 c.view_in.ensures

@@ -1,29 +1,18 @@
 -- `files::build::link_wires` meets its contract. Invariant: the links that are left amount to all.
-use native.Mathlib.Omega.{arith}
-use Prim.Native.Nat.{◌<◌}
-use lib.ListN.{length}
-use Rattle.files.specs.BuildSteps.{err_says, build_begins, build_ends, build_stops, build_turns, links_on, links_none, linkable}
+use Rattle.files.specs.BuildSteps.{err_says, build_ends, build_stops, build_turns, links_on, links_none, linkable}
 use Rattle.files.proofs.build.link_wires.Goals as goal
-use Rattle.files.proofs.build.link_wires.Goals.{After-shared_slice_known-1}
-
--- the file's length is a number of the machine
-long : (c : After-shared_slice_known-1) → length c.args.file.now < 18446744073709551616
-long c = omega arith
-
-pub loop-i-init : goal.loop-i-init
-loop-i-init c = build_begins c.requires.0
-
-pub place-at-requires : goal.place-at-requires
-place-at-requires c = let h = c.requires.3.there c.loop-i.i c.loop-i-test.true in let l = long (goal.at.place-at-requires c).After-shared_slice_known-1 in omega arith
 
 pub link_wire-requires : goal.link_wire-requires
-link_wire-requires c = (c.loop-i.invariant.kept, linkable c.requires.1 c.requires.2 c.requires.3 c.requires.4 c.requires.5 c.loop-i-test.true c.place-at.ensures)
+link_wire-requires c =
+    let p = c.args.ports in
+    let l = p.file.laid in
+    (c.loop-i.invariant.kept, linkable p.told l.blocks_are l.wires_are l.sound p.few c.loop-i-test.true c.wire_place-at.ensures.value)
 
 pub returns : goal.returns
-returns c = build_ends c.loop-i.invariant (links_none c.requires.3 c.loop-i-test.false)
+returns c = build_ends c.loop-i.invariant (links_none c.args.ports.file.laid.wires_are c.loop-i-test.false)
 
-pub returns-in_err-after : goal.returns-in_err-after
-returns-in_err-after c = err_says _ _ _ c.from_residual.ensures.1 (build_stops c.loop-i.invariant (links_on c.requires.3 c.loop-i-test.true c.place-at.ensures) c.in_err-after.ensures)
+pub returns-in_err-link_wire : goal.returns-in_err-link_wire
+returns-in_err-link_wire c = err_says _ _ _ c.from_residual.ensures.1 (build_stops c.loop-i.invariant (links_on c.args.ports.file.laid.wires_are c.loop-i-test.true c.wire_place-at.ensures.value) c.in_err-link_wire.ensures)
 
 pub loop-i-preserved : goal.loop-i-preserved
-loop-i-preserved c = build_turns c.loop-i.invariant (links_on c.requires.3 c.loop-i-test.true c.place-at.ensures) c.in_ok-after.ensures
+loop-i-preserved c = build_turns c.loop-i.invariant (links_on c.args.ports.file.laid.wires_are c.loop-i-test.true c.wire_place-at.ensures.value) c.in_ok-link_wire.ensures

@@ -1,11 +1,11 @@
 -- `files::build::link_wires` meets its contract. Invariant: the links that are left amount to all.
 use mathlib.Core.List.{map}
 use lib.ListN.{drop}
-use Rattle.multiportgraph.specs.MultiLent.{multi_in}
+use Rattle.multiportgraph.specs.MultiLent.{graph_of}
 use Rattle.files.specs.Layout.{unbytes}
 use Rattle.files.specs.Loading.{link_of}
 use Rattle.files.specs.BuildSteps.{Building}
 use Rattle.files.proofs.build.link_wires.Given as goal
 
 abbrev pub invariant-loop-i : goal.invariant-loop-i
-invariant-loop-i l = Building (multi_in l.initial.nodes l.initial.links l.initial.owners l.initial.heads l.initial.marks l.initial.flags l.initial.after) (map (link_of (unbytes l.file).blocks) (unbytes l.file).wires) (multi_in l.nodes l.links l.owners l.heads l.marks l.flags l.after) (map (link_of (unbytes l.file).blocks) (drop l.i (unbytes l.file).wires))
+invariant-loop-i l = Building (graph_of l.initial.graph) (map (link_of (unbytes l.ports.file.bytes.now).blocks) (unbytes l.ports.file.bytes.now).wires) (graph_of l.graph) (map (link_of (unbytes l.ports.file.bytes.now).blocks) (drop l.i (unbytes l.ports.file.bytes.now).wires))

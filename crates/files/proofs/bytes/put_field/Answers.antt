@@ -2,7 +2,8 @@
 use Prim.Native.Nat.{◌+◌, ◌-◌}
 use mathlib.Core.Path.{◌∙◌}
 use native.Mathlib.Omega.{arith}
-use Rattle.files.specs.ByteSteps.{two_bytes, laid}
+use Rattle.files.specs.ByteSteps.{two_bytes}
+use Rattle.multiportgraph.specs.ListSteps.{laid}
 use Rattle.files.specs.Layout.{field_bytes}
 use Rattle.files.proofs.bytes.put_field.Goals as goal
 

@@ -2,7 +2,8 @@
 use Prim.Native.Nat.{◌+◌, ◌-◌}
 use mathlib.Core.Path.{◌∙◌}
 use native.Mathlib.Omega.{arith}
-use Rattle.files.specs.ByteSteps.{four_bytes, laid}
+use Rattle.files.specs.ByteSteps.{four_bytes}
+use Rattle.multiportgraph.specs.ListSteps.{laid}
 use Rattle.files.specs.Layout.{word_bytes, field_bytes}
 use Rattle.files.proofs.bytes.put_word.Goals as goal
 

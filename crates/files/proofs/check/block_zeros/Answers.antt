@@ -1,22 +1,21 @@
--- `files::check::block_zeros` meets its contract. Invariant: the records from one on amount to all.
-use Rattle.std.specs.List.{list_all}
+-- `files::check::block_zeros` meets its contract. Invariant: the records that are left amount to all.
 use native.Mathlib.Omega.{arith}
-use mathlib.Core.Path.{ap, sym, ◌∙◌}
-use Prim.Native.Nat.{ℕ}
-use lib.ListN.{drop}
-use Rattle.files.specs.Layout.{records_at}
-use Rattle.files.specs.Loading.{block_zeros}
-use Rattle.files.specs.CheckSteps.{block_zeros_not, block_zeros_next, block_zeros_end}
+use mathlib.Core.Path.{sym, ◌∙◌}
+use Rattle.files.specs.CheckSteps.{zeros_not, zeros_next, zeros_end}
 use Rattle.files.proofs.check.block_zeros.Goals as goal
 
-pub loop-i-init : goal.loop-i-init
-loop-i-init c = ap (λ (n : ℕ). list_all block_zeros (records_at n (drop 4 c.args.unit.now))) (omega arith)
-
 pub returns-then-word_at-ne0 : goal.returns-then-word_at-ne0
-returns-then-word_at-ne0 c = block_zeros_not c.args.unit.now c.requires.0 c.args.count c.loop-i.i _ c.loop-i.invariant c.loop-i-test.true (λ z. c.if-word_at-ne0.true (c.word_at.ensures.value ∙ z))
+returns-then-word_at-ne0 c =
+    let k = c.in-Some.ensures.steps in
+    zeros_not c.loop-record.invariant.1 _ _ k.1.0 (k.1.1 ∙ c.loop-record.invariant.0) (λ z. c.if-word_at-ne0.true (c.word_at.ensures.value ∙ z))
 
-pub loop-i-preserved : goal.loop-i-preserved
-loop-i-preserved c = block_zeros_next c.args.unit.now c.requires.0 c.args.count c.loop-i.i _ c.loop-i.invariant c.loop-i-test.true (sym c.word_at.ensures.value ∙ c.if-word_at-ne0.false)
+pub loop-record-preserved : goal.loop-record-preserved
+loop-record-preserved c =
+    let k = c.in-Some.ensures.steps in
+    (k.0 ∙ c.loop-record.invariant.0, zeros_next c.loop-record.invariant.1 _ _ k.1.0 (k.1.1 ∙ c.loop-record.invariant.0) (sym c.word_at.ensures.value ∙ c.if-word_at-ne0.false))
 
 pub returns : goal.returns
-returns c = block_zeros_end c.args.unit.now c.requires.0 c.args.count c.loop-i.i _ c.loop-i.invariant c.loop-i-test.false
+returns c =
+    let k = c.in-None.ensures.steps in
+    let e = c.loop-record.invariant.0 in
+    zeros_end c.loop-record.invariant.1 (omega (arith, k.1.0, e))

@@ -1,10 +1,9 @@
 -- `files::check::shape_of` meets its contract. Invariant: the units that are left amount with the counts to all. Measure: the bytes that are left.
-use mathlib.Core.Path.{sym, ap, ◌∙◌}
-use Prim.Native.Nat.{◌≤◌, ◌<◌}
+use mathlib.Core.Path.{sym, ◌∙◌}
+use Prim.Native.Nat.{◌≤◌}
 use native.Mathlib.Omega.{arith}
-use lib.ListN.{length, length-take, length-drop}
-use Rattle.files.specs.Layout.{field_at}
-use Rattle.files.specs.CheckSteps.{shape_begins, shape_broken, shape_few, shape_blocks, shape_wires, shape_ends, whole_unit, rest_is}
+use lib.ListN.{length, length-take}
+use Rattle.files.specs.CheckSteps.{shape_begins, shape_broken, shape_blocks, shape_wires, shape_ends, whole_unit, rest_is}
 use Rattle.files.proofs.check.shape_of.Goals as goal
 use Rattle.files.proofs.check.shape_of.Goals.{After-shared_slice_known-1, Else-not-unit_right, In-loop-rest, else-field_at-eq1, then-field_at-eq1}
 
@@ -12,19 +11,8 @@ use Rattle.files.proofs.check.shape_of.Goals.{After-shared_slice_known-1, Else-n
 fits : (c : In-loop-rest) → 512 ≤ length c.loop-rest.rest.now
 fits c = whole_unit c.loop-rest.rest.now c.loop-rest-test.true c.loop-rest.invariant.whole
 
--- with few records
-few : (c : Else-not-unit_right) → field_at c.loop-rest.rest.now 2 ≤ 63
-few c = shape_few c.loop-rest.invariant c.loop-rest-test.true c.next_kind-next.ensures (sym c.if-not-unit_right.false ∙ c.unit_right.ensures)
-
--- the file's length is a number of the machine
-long : (c : After-shared_slice_known-1) → length c.args.file.now < 18446744073709551616
-long c = omega arith
-
 pub loop-rest-init : goal.loop-rest-init
 loop-rest-init c = shape_begins c.args.file.now c.requires
-
-pub next_kind-next-requires : goal.next_kind-next-requires
-next_kind-next-requires c = (c.loop-rest.invariant.whole, fits (goal.at.next_kind-next-requires c).In-loop-rest)
 
 pub slice_bounds-unit_right-end : goal.slice_bounds-unit_right-end
 slice_bounds-unit_right-end c = let h = fits (goal.at.slice_bounds-unit_right-end c).In-loop-rest in let n = length-take 512 c.loop-rest.rest.now in omega arith
@@ -34,27 +22,6 @@ unit_right-requires c = let h = fits (goal.at.unit_right-requires c).In-loop-res
 
 pub returns-then-not-unit_right : goal.returns-then-not-unit_right
 returns-then-not-unit_right c = shape_broken c.loop-rest.invariant c.loop-rest-test.true c.next_kind-next.ensures (sym c.if-not-unit_right.true ∙ c.unit_right.ensures)
-
-pub field_at-count-requires : goal.field_at-count-requires
-field_at-count-requires c = let h = fits (goal.at.field_at-count-requires c).In-loop-rest in omega arith
-
-pub field_at-requires : goal.field_at-requires
-field_at-requires c = let h = fits (goal.at.field_at-requires c).In-loop-rest in omega arith
-
-pub overflow_add-blocks : goal.overflow_add-blocks
-overflow_add-blocks c = let h = few (goal.at.overflow_add-blocks c).Else-not-unit_right in let l = long (goal.at.overflow_add-blocks c).After-shared_slice_known-1 in let f = fits (goal.at.overflow_add-blocks c).In-loop-rest in omega (arith, c.field_at-count.ensures.value, c.loop-rest.invariant.blocks_few)
-
-pub overflow_add-wires : goal.overflow_add-wires
-overflow_add-wires c = let h = few (goal.at.overflow_add-wires c).Else-not-unit_right in let l = long (goal.at.overflow_add-wires c).After-shared_slice_known-1 in let f = fits (goal.at.overflow_add-wires c).In-loop-rest in omega (arith, c.field_at-count.ensures.value, c.loop-rest.invariant.wires_few)
-
-pub slice_bounds-rest-count : goal.slice_bounds-rest-count
-slice_bounds-rest-count c = fits (goal.at.slice_bounds-rest-count c).In-loop-rest
-
-pub slice_bounds-rest-start : goal.slice_bounds-rest-start
-slice_bounds-rest-start c = fits (goal.at.slice_bounds-rest-start c).In-loop-rest
-
-pub loop-rest-smaller : goal.loop-rest-smaller
-loop-rest-smaller c = let h = fits (goal.at.loop-rest-smaller c).In-loop-rest in let n = ap length (rest_is c.loop-rest.rest.now) in let d = length-drop 512 c.loop-rest.rest.now in omega arith
 
 pub loop-rest-preserved : goal.loop-rest-preserved
 loop-rest-preserved c =

@@ -5,4 +5,4 @@ use Rattle.files.specs.ListingSteps.{Pairs}
 use Rattle.files.proofs.listing.list_adds.Given as goal
 
 abbrev pub invariant-loop-i : goal.invariant-loop-i
-invariant-loop-i l = Pairs add_pair (unbytes l.file).blocks l.initial.numbers 0 l.numbers l.i
+invariant-loop-i l = Pairs add_pair (unbytes l.file.bytes.now).blocks l.initial.numbers 0 l.numbers l.i

@@ -5,4 +5,4 @@ use Rattle.files.specs.ListingSteps.{Pairs}
 use Rattle.files.proofs.listing.list_links.Given as goal
 
 abbrev pub invariant-loop-i : goal.invariant-loop-i
-invariant-loop-i l = Pairs (link_pair (unbytes l.file).blocks) (unbytes l.file).wires l.initial.numbers l.from l.numbers l.i
+invariant-loop-i l = Pairs (link_pair (unbytes l.ports.file.bytes.now).blocks) (unbytes l.ports.file.bytes.now).wires l.initial.numbers l.from l.numbers l.i

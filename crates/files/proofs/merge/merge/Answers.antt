@@ -1,4 +1,6 @@
 -- `files::merge::merge` meets its contract: sums and layout of the first file and of the second, then the loads.
+use mathlib.Core.Path.{subst}
+use Rattle.files.specs.LoadForms.{Laid}
 use Rattle.files.specs.MergeSteps.{first_unlaid, second_unlaid}
 use Rattle.files.proofs.merge.merge.Goals as goal
 
@@ -6,7 +8,7 @@ pub returns-in_err-one : goal.returns-in_err-one
 returns-in_err-one c = first_unlaid c.args.first.now c.args.second.now c.args.buffer.now c.in_err-one.ensures c.from_residual.ensures.1
 
 pub returns-in_err-two : goal.returns-in_err-two
-returns-in_err-two c = second_unlaid c.args.first.now c.args.second.now c.args.buffer.now c.in_ok-one.ensures c.in_err-two.ensures c.from_residual-in_err-two.ensures.1
-
-pub merge_laid-requires : goal.merge_laid-requires
-merge_laid-requires c = record { one = c.in_ok-one.ensures; two = c.in_ok-two.ensures }
+returns-in_err-two c =
+    let one = c.in_ok-one.one in
+    let laid = subst (λ b. Laid b one.blocks one.wires) c.in_ok-one.ensures one.laid in
+    second_unlaid c.args.first.now c.args.second.now c.args.buffer.now laid c.in_err-two.ensures c.from_residual-in_err-two.ensures.1

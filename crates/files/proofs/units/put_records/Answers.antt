@@ -3,14 +3,11 @@ use native.Mathlib.Omega.{arith}
 use mathlib.Core.Path.{sym, ◌∙◌, ap}
 use Prim.Native.Nat.{ℕ, ◌+◌}
 use lib.Seq.{sets}
-use Rattle.multiportgraph.specs.ListSteps.{items_begun, item_fits, item_written, items_written}
+use Rattle.multiportgraph.specs.ListSteps.{item_fits, item_written, items_written}
 use Rattle.files.specs.Layout.{record_bytes}
 use Rattle.files.specs.Forms.{record_of, slot_bytes}
 use Rattle.files.specs.UnitSteps.{slot_length, slots_length}
 use Rattle.files.proofs.units.put_records.Goals as goal
-
-pub loop-i-init : goal.loop-i-init
-loop-i-init c = items_begun (slot_bytes c.args.records.now c.args.from) _ _ _
 
 pub put_record-requires : goal.put_record-requires
 put_record-requires c =
@@ -27,9 +24,6 @@ unfolding slot_bytes
 loop-i-preserved c =
     let e = c.put_record.ensures ∙ ap (λ (x : ℕ). sets c.loop-i.bytes c.loop-i.next (record_bytes (record_of x))) c.record_at.ensures in
     item_written (slot_bytes c.args.records.now c.args.from) c.loop-i.invariant c.loop-i-test.true (ap (λ (n : ℕ). c.loop-i.next + n) (sym (slot_length c.args.records.now c.args.from c.loop-i.i))) e
-
-pub shape_of-bytes : goal.shape_of-bytes
-shape_of-bytes c = c.loop-i.invariant.long
 
 pub returns : goal.returns
 returns c = (items_written (slot_bytes c.args.records.now c.args.from) c.loop-i.invariant c.loop-i-test.false).1

@@ -6,7 +6,6 @@ use Prim.Native.Nat.{ℕ, ◌≤◌, ◌<◌, ◌+◌, ◌*◌}
 use lib.ListN.{length}
 use Rattle.port_tables.specs.Listing.{length_map}
 use Rattle.files.specs.Layout.{units_for}
-use Rattle.files.specs.LayoutLaws.{units_enough}
 use Rattle.files.specs.Forms.{record_of}
 use Rattle.files.specs.UnitSteps.{units_begun, unit_fits_lem, unit_written, units_written}
 use Rattle.files.proofs.units.put_units.Goals as goal
@@ -21,16 +20,10 @@ fits c =
     unit_fits_lem c.args.kind (map record_of c.args.records.now) c.loop-i.invariant (below c)
     (subst (λ (k : ℕ). c.args.at + 512 * units_for k ≤ length c.args.bytes.now) (sym (length_map record_of c.args.records.now)) c.requires)
 
-pub overflow_add-units : goal.overflow_add-units
-overflow_add-units c = let p = units_enough (length c.args.records.now) in omega (arith, c.requires)
-
 pub loop-i-init : goal.loop-i-init
 loop-i-init c =
     let e : c.args.at + 512 * 0 ≡ c.args.at = omega arith in
     rw e (units_begun c.args.kind (map record_of c.args.records.now) _ _)
-
-pub overflow_mul-i : goal.overflow_mul-i
-overflow_mul-i c = let p = fits (goal.at.overflow_mul-i c).In-loop-i in omega (arith, p, c.loop-i.invariant.long)
 
 pub overflow_add-at : goal.overflow_add-at
 overflow_add-at c = let p = fits (goal.at.overflow_add-at c).In-loop-i in omega (arith, p, c.loop-i.invariant.long)
@@ -45,10 +38,6 @@ loop-i-preserved c =
     let e : c.args.at + 512 * (c.loop-i.i + 1) ≡ c.args.at + 512 * c.loop-i.i + 512 = omega arith in
     let f : 63 * (c.loop-i.i + 1) ≡ 63 * c.loop-i.i + 63 = omega arith in
     rw (e, f) (unit_written c.args.kind (map record_of c.args.records.now) c.loop-i.invariant (below (goal.at.loop-i-preserved c).In-loop-i) c.put_unit.ensures)
-
-pub overflow_mul-result : goal.overflow_mul-result
-unfolding units_for
-overflow_mul-result c = omega (arith, c.requires)
 
 pub overflow_add-result : goal.overflow_add-result
 unfolding units_for

@@ -1,5 +1,4 @@
 -- `files::wires::wire_fits` meets its contract: one test after the other.
-use native.Mathlib.Omega.{arith}
 use mathlib.Core.Path.{ap, ◌∙◌}
 use Prim.Native.Nat.{ℕ, ◌+◌}
 use Rattle.files.specs.Layout.{field_at}
@@ -11,12 +10,6 @@ returns-then-blocks-source c = source_wrong c.args.file.now c.args.blocks c.args
 
 pub returns-then-blocks-target : goal.returns-then-blocks-target
 returns-then-blocks-target c = target_wrong c.args.file.now c.args.blocks c.args.at _ _ c.requires.0 c.field_at-source.ensures.value c.field_at-target.ensures.value c.if-blocks-target.true
-
-pub field_at-outputs-requires : goal.field_at-outputs-requires
-field_at-outputs-requires c = let h = c.requires.0.there c.field_at-source.result c.if-blocks-source.false in omega (arith, c.place.ensures)
-
-pub field_at-inputs-requires : goal.field_at-inputs-requires
-field_at-inputs-requires c = let h = c.requires.0.there c.field_at-target.result c.if-blocks-target.false in omega (arith, c.place-2.ensures)
 
 pub returns-then-outputs-field_at : goal.returns-then-outputs-field_at
 returns-then-outputs-field_at c = output_wrong c.args.file.now c.args.blocks c.args.at _ _ c.requires.0 c.field_at-source.ensures.value c.field_at-target.ensures.value c.if-blocks-source.false c.if-blocks-target.false _ _ (c.field_at-outputs.ensures.value ∙ ap (λ (p : ℕ). field_at c.args.file.now (p + 2)) c.place.ensures) (c.field_at-inputs.ensures.value ∙ ap (field_at c.args.file.now) c.place-2.ensures) _ c.field_at.ensures.value c.if-outputs-field_at.true

@@ -1,29 +1,14 @@
 -- `files::wires::wires_right` meets its contract. Invariant: the wires from one on amount to all.
 use native.Mathlib.Omega.{arith}
-use Prim.Native.Nat.{◌<◌}
-use lib.ListN.{length}
-use Rattle.files.specs.WireSteps.{wires_begin, wire_room, order_wrong, wire_wrong, wire_next, wires_end}
+use Rattle.files.specs.WireSteps.{wires_begin, order_wrong, wire_wrong, wire_next, wires_end}
 use Rattle.files.proofs.wires.wires_right.Goals as goal
 use Rattle.files.proofs.wires.wires_right.Goals.{After-shared_slice_known-1}
-
--- the file's length is a number of the machine
-long : (c : After-shared_slice_known-1) → length c.args.file.now < 18446744073709551616
-long c = omega arith
 
 pub loop-i-init : goal.loop-i-init
 loop-i-init c = wires_begin c.args.file.now c.args.unit c.args.wires (λ k. omega (arith, c.shared_slice_known-1.given k)) c.requires.1
 
-pub place-at-requires : goal.place-at-requires
-place-at-requires c = let h = wire_room c.requires.1 c.loop-i.invariant c.loop-i-test.true in let l = long (goal.at.place-at-requires c).After-shared_slice_known-1 in omega arith
-
-pub number_at-number-requires : goal.number_at-number-requires
-number_at-number-requires c = let h = wire_room c.requires.1 c.loop-i.invariant c.loop-i-test.true in omega (arith, c.place-at.ensures)
-
 pub returns-then-number-before : goal.returns-then-number-before
 returns-then-number-before c = order_wrong c.requires.1 c.loop-i.invariant c.loop-i-test.true c.place-at.ensures c.number_at-number.ensures c.if-number-before.true
-
-pub wire_fits-requires : goal.wire_fits-requires
-wire_fits-requires c = let h = wire_room c.requires.1 c.loop-i.invariant c.loop-i-test.true in (c.requires.0, omega (arith, c.place-at.ensures))
 
 pub returns-then-not-wire_fits : goal.returns-then-not-wire_fits
 returns-then-not-wire_fits c = wire_wrong c.requires.1 c.loop-i.invariant c.loop-i-test.true c.place-at.ensures c.number_at-number.ensures c.if-number-before.false c.wire_fits.ensures c.if-not-wire_fits.true

@@ -4,11 +4,12 @@ use Rattle.multiportgraph.specs.CallSteps.{lower_wf}
 use Rattle.multiportgraph.specs.LentSteps.{block_added_in}
 use Rattle.portgraph.specs.LentWords.{with_words, and_numbers}
 use Rattle.multiportgraph.specs.Answers.{add_numbers}
+use Rattle.multiportgraph.specs.MultiLent.{totals_of}
 use Rattle.lent_calls.proofs.lent_blocks.add_lent.Goals as goal
 
-pub add_node_lent-added-requires : goal.add_node_lent-added-requires
-add_node_lent-added-requires c = lower_wf _ c.requires
+pub add_node_lent-requires : goal.add_node_lent-requires
+add_node_lent-requires c = lower_wf _ c.requires
 
 pub returns : goal.returns
 returns c =
-    and_numbers add_numbers (with_words (block_added_in c.args.nodes.now c.args.links.now c.args.owners.now c.args.heads.now c.args.marks.now c.args.flags.now c.args.totals _ _ _ c.add_node_lent-added.ensures.0 c.add_node_lent-added.ensures.1 c.with_counts.ensures refl c.added_as.ensures) c.add_node_lent-added.ensures.2)
+    and_numbers add_numbers (with_words (block_added_in c.args.graph.now.ports.nodes c.args.graph.now.ports.links c.args.graph.now.ports.owners c.args.graph.now.ports.heads c.args.graph.now.marks c.args.graph.now.flags (totals_of c.args.graph.now) _ _ _ c.add_node_lent.ensures.0 c.add_node_lent.ensures.1 refl refl c.added_as.ensures) c.add_node_lent.ensures.2)

@@ -1,32 +1,40 @@
 -- `lent_calls::lent_blocks::cut_port_lent` meets its contract: a split port, one that is not, and a refusal.
 use mathlib.Core.Bool.{true, false}
-use mathlib.Core.Path.{refl, sym, ◌∙◌}
+use Rattle.std.proofs.lemmas.Result.{err_from_is_err_and}
+use mathlib.Core.Path.{◌≡◌, refl, sym, ◌∙◌}
 use Rattle.multiportgraph.proofs.CutLaws.{cut_port_split, port_cut_refused}
 use Rattle.multiportgraph.specs.StartSteps.{block_is, block_told}
 use Rattle.multiportgraph.specs.Lookups.{direction_seen}
 use Rattle.multiportgraph.specs.LookupSteps.{direction_at}
-use Rattle.multiportgraph.specs.MultiLent.{multi_in}
+use Rattle.multiportgraph.specs.MultiLent.{graph_of, totals_of}
 use Rattle.multiportgraph.specs.LentLaws.{sound_of}
 use Rattle.multiportgraph.specs.LentSteps.{unplaced_parts, mark_in, port_cut_none_in, port_cut_far_in, and_end_numbers}
 use Rattle.portgraph.specs.LentWords.{with_words}
 use Rattle.multiportgraph.specs.Calls.{cut_port}
+use Rattle.multi_tables.specs.NamedEnds.{block_port}
 use Rattle.lent_calls.proofs.lent_blocks.cut_port_lent.Goals as goal
+use Rattle.lent_calls.proofs.lent_blocks.cut_port_lent.Goals.{After-block_port}
 
-pub unsplit_lent-after-requires : goal.unsplit_lent-after-requires
-unsplit_lent-after-requires c = sound_of _ c.requires
+-- the port as the tables of the graph tell it
+named : (c : After-block_port) → c.block_port.result ≡ block_port c.args.graph.now.ports.owners c.args.graph.now.flags c.args.port.0
+named c = let e = c.wire_tables.ensures in rw (← e.2, ← e.3) c.block_port.ensures
+
+pub unsplit_lent-requires : goal.unsplit_lent-requires
+unsplit_lent-requires c = sound_of _ c.requires
 
 pub returns-then-marked : goal.returns-then-marked
 returns-then-marked c =
-    and_end_numbers (cut_port (multi_in c.args.nodes.now c.args.links.now c.args.owners.now c.args.heads.now c.args.marks.now c.args.flags.now c.args.totals) c.args.port.0).answer (with_words (unplaced_parts (cut_port_split (multi_in c.args.nodes.now c.args.links.now c.args.owners.now c.args.heads.now c.args.marks.now c.args.flags.now c.args.totals) _ _ _ _ (block_is (multi_in c.args.nodes.now c.args.links.now c.args.owners.now c.args.heads.now c.args.marks.now c.args.flags.now c.args.totals) c.args.port.0 c.requires.fine.flags_long _ _ (sym c.block_port.ensures ∙ c.in_default.is)) (mark_in c.args.nodes.now c.args.links.now c.args.owners.now c.args.heads.now c.args.marks.now c.args.flags.now c.args.totals (sound_of _ c.requires) _ _ c.wide.ensures c.marked.ensures true c.if-marked.true) c.unsplit_lent-after.ensures.0 refl)) c.unsplit_lent-after.ensures.1)
+    and_end_numbers (cut_port (graph_of c.args.graph.now) c.args.port.0).answer (with_words (unplaced_parts (cut_port_split (graph_of c.args.graph.now) _ _ _ _ (block_is (graph_of c.args.graph.now) c.args.port.0 c.requires.fine.flags_long _ _ (sym (named (goal.at.returns-then-marked c).After-block_port) ∙ c.in_ok-block_port.was)) (mark_in c.args.graph.now.ports.nodes c.args.graph.now.ports.links c.args.graph.now.ports.owners c.args.graph.now.ports.heads c.args.graph.now.marks c.args.graph.now.flags (totals_of c.args.graph.now) (sound_of _ c.requires) _ _ c.wide.ensures c.marked.ensures true c.if-marked.true) c.unsplit_lent.ensures.0 refl)) c.unsplit_lent.ensures.1)
 
 pub returns-then-far-eq0 : goal.returns-then-far-eq0
 returns-then-far-eq0 c =
-    and_end_numbers (cut_port (multi_in c.args.nodes.now c.args.links.now c.args.owners.now c.args.heads.now c.args.marks.now c.args.flags.now c.args.totals) c.args.port.0).answer (with_words (port_cut_none_in c.args.nodes.now c.args.links.now c.args.owners.now c.args.heads.now c.args.marks.now c.args.flags.now c.args.totals (record { wf = c.requires; node = _; is = (block_is (multi_in c.args.nodes.now c.args.links.now c.args.owners.now c.args.heads.now c.args.marks.now c.args.flags.now c.args.totals) c.args.port.0 c.requires.fine.flags_long _ _ (sym c.block_port.ensures ∙ c.in_default.is)) }) (mark_in c.args.nodes.now c.args.links.now c.args.owners.now c.args.heads.now c.args.marks.now c.args.flags.now c.args.totals (sound_of _ c.requires) _ _ c.wide.ensures c.marked.ensures false c.if-marked.false) c.wide-2.ensures c.cut-far.ensures.0 c.cut-far.ensures.1 c.without_link.ensures c.with_links-left.ensures c.if-far-eq0.true) (λ h. h))
+    and_end_numbers (cut_port (graph_of c.args.graph.now) c.args.port.0).answer (with_words (port_cut_none_in c.args.graph.now.ports.nodes c.args.graph.now.ports.links c.args.graph.now.ports.owners c.args.graph.now.ports.heads c.args.graph.now.marks c.args.graph.now.flags (totals_of c.args.graph.now) (record { wf = c.requires; node = _; is = (block_is (graph_of c.args.graph.now) c.args.port.0 c.requires.fine.flags_long _ _ (sym (named (goal.at.returns-then-far-eq0 c).After-block_port) ∙ c.in_ok-block_port.was)) }) (mark_in c.args.graph.now.ports.nodes c.args.graph.now.ports.links c.args.graph.now.ports.owners c.args.graph.now.ports.heads c.args.graph.now.marks c.args.graph.now.flags (totals_of c.args.graph.now) (sound_of _ c.requires) _ _ c.wide.ensures c.marked.ensures false c.if-marked.false) c.wide-2.ensures c.cut-far.ensures.0 c.cut-far.ensures.1 c.without_link-graph.ensures refl c.if-far-eq0.true) (λ h. h))
 
-pub returns-in-Err : goal.returns-in-Err
-returns-in-Err c =
-    and_end_numbers (cut_port (multi_in c.args.nodes.now c.args.links.now c.args.owners.now c.args.heads.now c.args.marks.now c.args.flags.now c.args.totals) c.args.port.0).answer (with_words (unplaced_parts (port_cut_refused c.requires c.args.port.0 (sym (block_told (multi_in c.args.nodes.now c.args.links.now c.args.owners.now c.args.heads.now c.args.marks.now c.args.flags.now c.args.totals) c.args.port.0 c.requires.fine.flags_long (direction_seen c.args.port.0) _ refl refl (sym c.block_port.ensures ∙ c.in-Err.is) ∙ direction_at (multi_in c.args.nodes.now c.args.links.now c.args.owners.now c.args.heads.now c.args.marks.now c.args.flags.now c.args.totals) c.args.port.0 _ refl)))) (λ h. h))
+pub returns-in_err-block_port : goal.returns-in_err-block_port
+returns-in_err-block_port c =
+    let p = err_from_is_err_and c.from_residual.result c.from_residual.ensures.1 in
+    rw (p.1, p.2) (and_end_numbers (cut_port (graph_of c.args.graph.now) c.args.port.0).answer (with_words (unplaced_parts (port_cut_refused c.requires c.args.port.0 (sym (block_told (graph_of c.args.graph.now) c.args.port.0 c.requires.fine.flags_long (direction_seen c.args.port.0) _ refl refl (sym (named (goal.at.returns-in_err-block_port c).After-block_port) ∙ c.in_err-block_port.was) ∙ direction_at (graph_of c.args.graph.now) c.args.port.0 _ refl)))) (λ h. h)))
 
 pub returns : goal.returns
 returns c =
-    and_end_numbers (cut_port (multi_in c.args.nodes.now c.args.links.now c.args.owners.now c.args.heads.now c.args.marks.now c.args.flags.now c.args.totals) c.args.port.0).answer (with_words (port_cut_far_in c.args.nodes.now c.args.links.now c.args.owners.now c.args.heads.now c.args.marks.now c.args.flags.now c.args.totals (record { wf = c.requires; node = _; is = (block_is (multi_in c.args.nodes.now c.args.links.now c.args.owners.now c.args.heads.now c.args.marks.now c.args.flags.now c.args.totals) c.args.port.0 c.requires.fine.flags_long _ _ (sym c.block_port.ensures ∙ c.in_default.is)) }) (mark_in c.args.nodes.now c.args.links.now c.args.owners.now c.args.heads.now c.args.marks.now c.args.flags.now c.args.totals (sound_of _ c.requires) _ _ c.wide.ensures c.marked.ensures false c.if-marked.false) c.wide-2.ensures c.cut-far.ensures.0 c.cut-far.ensures.1 c.without_link.ensures c.with_links-left.ensures c.if-far-eq0.false) (λ h. h))
+    and_end_numbers (cut_port (graph_of c.args.graph.now) c.args.port.0).answer (with_words (port_cut_far_in c.args.graph.now.ports.nodes c.args.graph.now.ports.links c.args.graph.now.ports.owners c.args.graph.now.ports.heads c.args.graph.now.marks c.args.graph.now.flags (totals_of c.args.graph.now) (record { wf = c.requires; node = _; is = (block_is (graph_of c.args.graph.now) c.args.port.0 c.requires.fine.flags_long _ _ (sym (named (goal.at.returns c).After-block_port) ∙ c.in_ok-block_port.was)) }) (mark_in c.args.graph.now.ports.nodes c.args.graph.now.ports.links c.args.graph.now.ports.owners c.args.graph.now.ports.heads c.args.graph.now.marks c.args.graph.now.flags (totals_of c.args.graph.now) (sound_of _ c.requires) _ _ c.wide.ensures c.marked.ensures false c.if-marked.false) c.wide-2.ensures c.cut-far.ensures.0 c.cut-far.ensures.1 c.without_link-graph.ensures refl c.if-far-eq0.false) (λ h. h))

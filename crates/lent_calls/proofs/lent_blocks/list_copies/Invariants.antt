@@ -10,5 +10,5 @@ use Rattle.lent_calls.proofs.lent_blocks.list_copies.Given as goal
 
 abbrev pub invariant-loop-k : goal.invariant-loop-k
 invariant-loop-k l = (l.place ≤ l.at + l.k)
-    × (l.place + length (copies_in (multi_in l.nodes l.links l.owners l.heads l.marks l.flags (no_totals One)) (l.first + l.k) (l.count - l.k)) ≡ l.at + length (copies_in (multi_in l.nodes l.links l.owners l.heads l.marks l.flags (no_totals One)) l.first l.count))
-    × (sets l.list l.place (copies_in (multi_in l.nodes l.links l.owners l.heads l.marks l.flags (no_totals One)) (l.first + l.k) (l.count - l.k)) ≡ sets l.initial.list l.at (copies_in (multi_in l.nodes l.links l.owners l.heads l.marks l.flags (no_totals One)) l.first l.count))
+    × (l.place + length (copies_in (multi_in l.graph.ports.nodes l.graph.ports.links l.graph.ports.owners l.graph.ports.heads l.graph.marks l.graph.flags (no_totals One)) (l.first + l.k) (l.count - l.k)) ≡ l.at + length (copies_in (multi_in l.graph.ports.nodes l.graph.ports.links l.graph.ports.owners l.graph.ports.heads l.graph.marks l.graph.flags (no_totals One)) l.first l.count))
+    × (sets l.list l.place (copies_in (multi_in l.graph.ports.nodes l.graph.ports.links l.graph.ports.owners l.graph.ports.heads l.graph.marks l.graph.flags (no_totals One)) (l.first + l.k) (l.count - l.k)) ≡ sets l.initial.list l.at (copies_in (multi_in l.graph.ports.nodes l.graph.ports.links l.graph.ports.owners l.graph.ports.heads l.graph.marks l.graph.flags (no_totals One)) l.first l.count))

@@ -2,11 +2,11 @@
 use mathlib.Core.Path.{◌≡◌}
 use lib.ListN.{take, drop}
 use Rattle.port_tables.specs.NodeWords.{StaysCanonical}
-use Rattle.multiportgraph.specs.MultiLent.{multi_in, Sound}
+use Rattle.multiportgraph.specs.MultiLent.{graph_of, Sound}
 use Rattle.multiportgraph.specs.HiddenNodes.{remove_all}
 use Rattle.lent_calls.proofs.lent_copies.remove_all_lent.Given as goal
 
 abbrev pub invariant-loop-node : goal.invariant-loop-node
-invariant-loop-node l = Sound (multi_in l.nodes l.links l.owners l.heads l.marks l.flags l.left)
-    × (remove_all (multi_in l.nodes l.links l.owners l.heads l.marks l.flags l.left) (drop l.node-index (take l.count l.list)) ≡ remove_all (multi_in l.initial.nodes l.initial.links l.initial.owners l.initial.heads l.initial.marks l.initial.flags l.initial.left) (take l.count l.list))
-    × StaysCanonical l.initial.nodes l.nodes
+invariant-loop-node l = Sound (graph_of l.graph)
+    × (remove_all (graph_of l.graph) (drop l.node-index (l.list)) ≡ remove_all (graph_of l.initial.graph) (l.list))
+    × StaysCanonical l.initial.graph.ports.nodes l.graph.ports.nodes

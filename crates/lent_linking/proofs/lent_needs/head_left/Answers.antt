@@ -3,13 +3,13 @@ use Rattle.multiportgraph.specs.NeedSteps.{left_given, left_none, left_taken, le
 use Rattle.lent_linking.proofs.lent_needs.head_left.Goals as goal
 
 pub returns-then-size-first : goal.returns-then-size-first
-returns-then-size-first c = left_given c.args.links.now c.args.heads.now c.args.first c.args.size c.if-size-first.true
+returns-then-size-first c = left_given c.args.tables.now.links c.args.tables.now.heads c.args.first c.args.size c.if-size-first.true
 
 pub returns-then-head-eq0 : goal.returns-then-head-eq0
-returns-then-head-eq0 c = left_none c.args.links.now c.args.heads.now c.args.first c.args.size c.if-size-first.false c.head_at-head.ensures c.if-size-first-2.true c.if-head-eq0.true
+returns-then-head-eq0 c = left_none c.args.tables.now.links c.args.tables.now.heads c.args.first c.args.size c.if-size-first.false c.head_at-head.ensures c.if-size-first-2.true c.if-head-eq0.true
 
 pub returns-then-size-first-2 : goal.returns-then-size-first-2
-returns-then-size-first-2 c = left_taken c.args.links.now c.args.heads.now c.args.first c.args.size c.if-size-first.false c.head_at-head.ensures c.if-size-first-2.true c.if-head-eq0.false c.wide.ensures c.at.ensures
+returns-then-size-first-2 c = left_taken c.args.tables.now.links c.args.tables.now.heads c.args.first c.args.size c.if-size-first.false c.head_at-head.ensures c.if-size-first-2.true c.if-head-eq0.false c.wide.ensures c.at.ensures
 
 pub returns : goal.returns
-returns c = left_other c.args.links.now c.args.heads.now c.args.first c.args.size c.if-size-first.false c.head_at-head.ensures c.if-size-first-2.false
+returns c = left_other c.args.tables.now.links c.args.tables.now.heads c.args.first c.args.size c.if-size-first.false c.head_at-head.ensures c.if-size-first-2.false

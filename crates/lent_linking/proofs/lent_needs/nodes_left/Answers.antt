@@ -11,12 +11,12 @@ grown-requires c = omega (arith, c.requires, grown_little _ _ 1 c.grown-after.en
 
 pub returns-then-second : goal.returns-then-second
 returns-then-second c =
-    c.grown.ensures ∙ ((λ i. grown (c.next_free.ensures i) (c.grown-after.ensures i) 1) ∙ (λ i. nodes_left c.args.nodes.now c.args.counts.node_free c.args.counts.node_len (sym c.if-first.true i) (sym c.if-second.true i)))
+    c.grown.ensures ∙ ((λ i. grown (c.next_free.ensures i) (c.grown-after.ensures i) 1) ∙ (λ i. nodes_left c.args.tables.now.nodes c.args.tables.now.counts.node_free c.args.tables.now.counts.node_len (sym c.if-first.true i) (sym c.if-second.true i)))
 
 pub returns-then-first : goal.returns-then-first
 returns-then-first c =
-    c.grown-after.ensures ∙ (λ i. nodes_left c.args.nodes.now c.args.counts.node_free c.args.counts.node_len (sym c.if-first.true i) (sym c.if-second.false i))
+    c.grown-after.ensures ∙ (λ i. nodes_left c.args.tables.now.nodes c.args.tables.now.counts.node_free c.args.tables.now.counts.node_len (sym c.if-first.true i) (sym c.if-second.false i))
 
 pub returns-then-second-2 : goal.returns-then-second-2
 returns-then-second-2 c =
-    c.grown-then-second-2.ensures ∙ (λ i. nodes_left c.args.nodes.now c.args.counts.node_free c.args.counts.node_len (sym c.if-first.false i) (sym c.if-second-2.true i))
+    c.grown-then-second-2.ensures ∙ (λ i. nodes_left c.args.tables.now.nodes c.args.tables.now.counts.node_free c.args.tables.now.counts.node_len (sym c.if-first.false i) (sym c.if-second-2.true i))

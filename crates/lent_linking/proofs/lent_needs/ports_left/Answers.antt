@@ -11,4 +11,4 @@ grown-requires c = omega (arith, c.requires, grown_little _ _ _ c.grown-after.en
 
 pub returns : goal.returns
 returns c =
-    c.grown.ensures ∙ (λ i. grown (c.head_left.ensures i) ((c.grown-after.ensures ∙ ap (λ (k : ℕ). grown k c.args.len c.args.first.take) c.head_at.ensures) i) c.args.second.take)
+    c.grown.ensures ∙ (λ i. grown (c.head_left.ensures i) ((c.grown-after.ensures ∙ ap (λ (k : ℕ). grown k c.args.tables.now.counts.port_len c.args.first.take) c.head_at-head.ensures) i) c.args.second.take)

@@ -1,6 +1,6 @@
 -- `lent_portgraph::lent_resize::drop_quiet` meets its contract: the incoming ports first, then the outgoing ones.
-use mathlib.Core.Path.{◌∙◌, ap}
-use Prim.Native.Nat.{ℕ, ◌-◌}
+use mathlib.Core.Path.{sym, ◌∙◌, ap}
+use Prim.Native.Nat.{ℕ, ◌-◌, min}
 use native.Mathlib.Omega.{arith}
 use Rattle.portgraph.specs.Lent.{count_links}
 use Rattle.port_tables.specs.ResizeLinkSteps.{few_cuts, drop_done}
@@ -11,6 +11,7 @@ overflow_add-a c = omega (arith, c.requires, few_cuts _ _ _ _ c.cut_range-a.ensu
 
 pub returns : goal.returns
 returns c =
-    let done = drop_done _ _ _ c.args.meta c.args.incoming c.args.outgoing _ _ _ _ _ _ _
-    c.wide-first.ensures c.from-old_in.ensures c.from-old_out.ensures c.min-kept_in.ensures c.min-kept_out.ensures c.cut_range-a.ensures c.cut_range-b.ensures in
-    (c.count_links.ensures ∙ ap (λ (k : ℕ). count_links c.args.counts k) (c.saturating_sub.ensures ∙ ap (λ (k : ℕ). c.args.counts.link_count - k) done.0), done.1)
+    let done = drop_done _ _ _ c.args.resize.meta c.args.resize.incoming c.args.resize.outgoing _ _ _ _ _ _ _
+    c.wide-first.ensures c.from-old_in.ensures c.from-old_out.ensures (c.kept_incoming-kept_in.ensures ∙ ap (λ (k : ℕ). min k c.args.resize.incoming) (sym c.from-old_in.ensures)) (c.kept_outgoing-kept_out.ensures ∙ ap (λ (k : ℕ). min k c.args.resize.outgoing) (sym c.from-old_out.ensures)) c.cut_range-a.ensures c.cut_range-b.ensures in
+    let left = c.saturating_sub-tables.ensures ∙ ap (λ (k : ℕ). c.args.tables.now.counts.link_count - k) done.0 in
+    λ i. record c.args.tables.now { links = done.1 i; counts = count_links c.args.tables.now.counts (left i) }

@@ -15,20 +15,20 @@ use Rattle.portgraph.specs.declared.resize.SetError.TheVariants as set_error
 pub returns-then-incoming-gt-NODE_PORTS : goal.returns-then-incoming-gt-NODE_PORTS
 returns-then-incoming-gt-NODE_PORTS c =
     let many : node_ports < c.args.incoming + c.args.outgoing = omega (arith, c.if-incoming-gt-NODE_PORTS.true) in
-    and_numbers set_numbers (with_words (planned_in (graph_in c.args.nodes.now c.args.links.now c.args.owners.now c.args.heads.now c.args.counts) (graph_in c.args.nodes.now c.args.links.now c.args.owners.now c.args.heads.now c.args.counts) c.args.node.0 c.args.incoming c.args.outgoing (3 * node_ports) _ (refuse (Err set_error.TooManyPorts)) (plan_too_many (graph_in c.args.nodes.now c.args.links.now c.args.owners.now c.args.heads.now c.args.counts) c.args.node.0 c.args.incoming c.args.outgoing (3 * node_ports) many) refl refl) (λ h. h))
+    and_numbers set_numbers (with_words (planned_in (graph_in c.args.tables.now.nodes c.args.tables.now.links c.args.tables.now.owners c.args.tables.now.heads c.args.tables.now.counts) (graph_in c.args.tables.now.nodes c.args.tables.now.links c.args.tables.now.owners c.args.tables.now.heads c.args.tables.now.counts) c.args.node.0 c.args.incoming c.args.outgoing (3 * node_ports) _ (refuse (Err set_error.TooManyPorts)) (plan_too_many (graph_in c.args.tables.now.nodes c.args.tables.now.links c.args.tables.now.owners c.args.tables.now.heads c.args.tables.now.counts) c.args.node.0 c.args.incoming c.args.outgoing (3 * node_ports) many) refl refl) (λ h. h))
 
 pub returns-then-incoming-outgoing : goal.returns-then-incoming-outgoing
 returns-then-incoming-outgoing c =
     let many : node_ports < c.args.incoming + c.args.outgoing = omega (arith, c.if-incoming-gt-NODE_PORTS.false, c.if-incoming-outgoing.true) in
-    and_numbers set_numbers (with_words (planned_in (graph_in c.args.nodes.now c.args.links.now c.args.owners.now c.args.heads.now c.args.counts) (graph_in c.args.nodes.now c.args.links.now c.args.owners.now c.args.heads.now c.args.counts) c.args.node.0 c.args.incoming c.args.outgoing (3 * node_ports) _ (refuse (Err set_error.TooManyPorts)) (plan_too_many (graph_in c.args.nodes.now c.args.links.now c.args.owners.now c.args.heads.now c.args.counts) c.args.node.0 c.args.incoming c.args.outgoing (3 * node_ports) many) refl refl) (λ h. h))
+    and_numbers set_numbers (with_words (planned_in (graph_in c.args.tables.now.nodes c.args.tables.now.links c.args.tables.now.owners c.args.tables.now.heads c.args.tables.now.counts) (graph_in c.args.tables.now.nodes c.args.tables.now.links c.args.tables.now.owners c.args.tables.now.heads c.args.tables.now.counts) c.args.node.0 c.args.incoming c.args.outgoing (3 * node_ports) _ (refuse (Err set_error.TooManyPorts)) (plan_too_many (graph_in c.args.tables.now.nodes c.args.tables.now.links c.args.tables.now.owners c.args.tables.now.heads c.args.tables.now.counts) c.args.node.0 c.args.incoming c.args.outgoing (3 * node_ports) many) refl refl) (λ h. h))
 
 pub returns-in_default : goal.returns-in_default
 returns-in_default c =
     let few : c.args.incoming + c.args.outgoing ≤ node_ports = omega (arith, c.if-incoming-gt-NODE_PORTS.false, c.if-incoming-outgoing.false) in
-    let gone = unknown_in c.args.nodes.now c.args.links.now c.args.owners.now c.args.heads.now c.args.counts c.requires.holds.nodes_long c.args.node.0 _ c.meta_in.ensures c.in_default.is in
-    and_numbers set_numbers (with_words (planned_in (graph_in c.args.nodes.now c.args.links.now c.args.owners.now c.args.heads.now c.args.counts) (graph_in c.args.nodes.now c.args.links.now c.args.owners.now c.args.heads.now c.args.counts) c.args.node.0 c.args.incoming c.args.outgoing (3 * node_ports) _ (refuse (Err set_error.UnknownNode)) (plan_unknown (graph_in c.args.nodes.now c.args.links.now c.args.owners.now c.args.heads.now c.args.counts) c.args.node.0 c.args.incoming c.args.outgoing (3 * node_ports) few gone.0 gone.1) refl refl) (λ h. h))
+    let gone = unknown_in c.args.tables.now.nodes c.args.tables.now.links c.args.tables.now.owners c.args.tables.now.heads c.args.tables.now.counts c.requires.holds.nodes_long c.args.node.0 _ c.meta_in.ensures c.in_default.is in
+    and_numbers set_numbers (with_words (planned_in (graph_in c.args.tables.now.nodes c.args.tables.now.links c.args.tables.now.owners c.args.tables.now.heads c.args.tables.now.counts) (graph_in c.args.tables.now.nodes c.args.tables.now.links c.args.tables.now.owners c.args.tables.now.heads c.args.tables.now.counts) c.args.node.0 c.args.incoming c.args.outgoing (3 * node_ports) _ (refuse (Err set_error.UnknownNode)) (plan_unknown (graph_in c.args.tables.now.nodes c.args.tables.now.links c.args.tables.now.owners c.args.tables.now.heads c.args.tables.now.counts) c.args.node.0 c.args.incoming c.args.outgoing (3 * node_ports) few gone.0 gone.1) refl refl) (λ h. h))
 
 pub resize_quiet_lent-requires : goal.resize_quiet_lent-requires
 resize_quiet_lent-requires c =
     let few : c.args.incoming + c.args.outgoing ≤ node_ports = omega (arith, c.if-incoming-gt-NODE_PORTS.false, c.if-incoming-outgoing.false) in
-    resizes (graph_in c.args.nodes.now c.args.links.now c.args.owners.now c.args.heads.now c.args.counts) c.requires c.args.node.0 _ c.args.incoming c.args.outgoing (found_in c.args.nodes.now c.args.links.now c.args.owners.now c.args.heads.now c.args.counts c.requires.holds.nodes_long c.args.node.0 _ _ c.meta_in.ensures c.in-Some.is) few
+    resizes (graph_in c.args.tables.now.nodes c.args.tables.now.links c.args.tables.now.owners c.args.tables.now.heads c.args.tables.now.counts) c.requires c.args.node.0 _ c.args.incoming c.args.outgoing (found_in c.args.tables.now.nodes c.args.tables.now.links c.args.tables.now.owners c.args.tables.now.heads c.args.tables.now.counts c.requires.holds.nodes_long c.args.node.0 _ _ c.meta_in.ensures c.in-Some.is) few

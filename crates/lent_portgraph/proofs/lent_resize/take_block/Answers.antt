@@ -7,7 +7,7 @@ use Rattle.portgraph.specs.Lent.{count_ports}
 use Rattle.lent_portgraph.proofs.lent_resize.take_block.Goals as goal
 
 pub returns : goal.returns
-returns c = (
-  ap (count_ports c.args.counts) (c.grown.ensures ∙ ap (λ (h : ℕ). grown h c.args.counts.port_len c.args.size) c.head_at-head.ensures),
-  c.put_head.ensures ∙ ap (put_head c.args.heads.now c.args.size) (c.rest_of.ensures ∙ (λ i. rest_of (c.head_at-head.ensures i) (c.at.ensures i))),
-)
+returns c =
+    let len = c.grown-tables.ensures ∙ ap (λ (h : ℕ). grown h c.args.tables.now.counts.port_len c.args.size) c.head_at-head.ensures in
+    let heads = c.put_head.ensures ∙ ap (put_head c.args.tables.now.heads c.args.size) (c.rest_of-rest.ensures ∙ (λ i. rest_of (c.head_at-head.ensures i) (c.at.ensures i))) in
+    λ i. record c.args.tables.now { heads = heads i; counts = count_ports c.args.tables.now.counts (len i) }

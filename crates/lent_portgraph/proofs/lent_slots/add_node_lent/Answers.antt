@@ -16,33 +16,33 @@ use Rattle.lent_portgraph.proofs.lent_slots.add_node_lent.Goals.{In-Some-find_bl
 ports-fit-at : (c : In-Some-find_block) → c.args.incoming + c.args.outgoing ≤ node_ports
 ports-fit-at c = omega (arith, c.if-incoming-gt-NODE_PORTS.false, c.if-incoming-outgoing.false)
 
-slot-found-at : (c : In-Some-find_block) → find_slot c.args.counts.node_free c.args.counts.node_len ≡ Some c.in-Some.node
+slot-found-at : (c : In-Some-find_block) → find_slot c.args.tables.now.counts.node_free c.args.tables.now.counts.node_len ≡ Some c.in-Some.node
 slot-found-at c = sym c.find_slot.ensures ∙ c.in-Some.is
 
-block-found-at : (c : In-Some-find_block) → find_block c.args.heads.now c.args.counts.port_len (c.args.incoming + c.args.outgoing) ≡ Some c.in-Some-find_block.first
+block-found-at : (c : In-Some-find_block) → find_block c.args.tables.now.heads c.args.tables.now.counts.port_len (c.args.incoming + c.args.outgoing) ≡ Some c.in-Some-find_block.first
 block-found-at c = sym c.find_block.ensures ∙ c.in-Some-find_block.is
 
 slot-fits-at : (c : In-Some-find_block) → c.in-Some.node < node_slots
-slot-fits-at c = node_slot_fits (graph_in c.args.nodes.now c.args.links.now c.args.owners.now c.args.heads.now c.args.counts) c.requires _ (slot-found-at c)
+slot-fits-at c = node_slot_fits (graph_in c.args.tables.now.nodes c.args.tables.now.links c.args.tables.now.owners c.args.tables.now.heads c.args.tables.now.counts) c.requires _ (slot-found-at c)
 
 block-fits-at : (c : In-Some-find_block) → c.in-Some-find_block.first + (c.args.incoming + c.args.outgoing) ≤ port_slots
-block-fits-at c = new_block_fits (graph_in c.args.nodes.now c.args.links.now c.args.owners.now c.args.heads.now c.args.counts) c.requires _ _ (ports-fit-at c) (block-found-at c)
+block-fits-at c = new_block_fits (graph_in c.args.tables.now.nodes c.args.tables.now.links c.args.tables.now.owners c.args.tables.now.heads c.args.tables.now.counts) c.requires _ _ (ports-fit-at c) (block-found-at c)
 
 pub returns-then-incoming-gt-NODE_PORTS : goal.returns-then-incoming-gt-NODE_PORTS
 returns-then-incoming-gt-NODE_PORTS c =
-    and_numbers add_numbers (with_words (added_in (too_many_ports (graph_in c.args.nodes.now c.args.links.now c.args.owners.now c.args.heads.now c.args.counts) c.args.incoming c.args.outgoing (omega arith))) (λ h. h))
+    and_numbers add_numbers (with_words (added_in (too_many_ports (graph_in c.args.tables.now.nodes c.args.tables.now.links c.args.tables.now.owners c.args.tables.now.heads c.args.tables.now.counts) c.args.incoming c.args.outgoing (omega arith))) (λ h. h))
 
 pub returns-then-incoming-outgoing : goal.returns-then-incoming-outgoing
 returns-then-incoming-outgoing c =
-    and_numbers add_numbers (with_words (added_in (too_many_ports (graph_in c.args.nodes.now c.args.links.now c.args.owners.now c.args.heads.now c.args.counts) c.args.incoming c.args.outgoing (omega arith))) (λ h. h))
+    and_numbers add_numbers (with_words (added_in (too_many_ports (graph_in c.args.tables.now.nodes c.args.tables.now.links c.args.tables.now.owners c.args.tables.now.heads c.args.tables.now.counts) c.args.incoming c.args.outgoing (omega arith))) (λ h. h))
 
 pub returns-in_default : goal.returns-in_default
 returns-in_default c =
-    and_numbers add_numbers (with_words (added_in (no_node_slot (graph_in c.args.nodes.now c.args.links.now c.args.owners.now c.args.heads.now c.args.counts) c.args.incoming c.args.outgoing (omega (arith, c.if-incoming-gt-NODE_PORTS.false, c.if-incoming-outgoing.false)) (sym c.find_slot.ensures ∙ c.in_default.is))) (λ h. h))
+    and_numbers add_numbers (with_words (added_in (no_node_slot (graph_in c.args.tables.now.nodes c.args.tables.now.links c.args.tables.now.owners c.args.tables.now.heads c.args.tables.now.counts) c.args.incoming c.args.outgoing (omega (arith, c.if-incoming-gt-NODE_PORTS.false, c.if-incoming-outgoing.false)) (sym c.find_slot.ensures ∙ c.in_default.is))) (λ h. h))
 
 pub returns-in_default-find_block : goal.returns-in_default-find_block
 returns-in_default-find_block c =
-    and_numbers add_numbers (with_words (added_in (no_block (graph_in c.args.nodes.now c.args.links.now c.args.owners.now c.args.heads.now c.args.counts) c.args.incoming c.args.outgoing _ (omega (arith, c.if-incoming-gt-NODE_PORTS.false, c.if-incoming-outgoing.false)) (sym c.find_slot.ensures ∙ c.in-Some.is) (sym c.find_block.ensures ∙ c.in_default-find_block.is))) (λ h. h))
+    and_numbers add_numbers (with_words (added_in (no_block (graph_in c.args.tables.now.nodes c.args.tables.now.links c.args.tables.now.owners c.args.tables.now.heads c.args.tables.now.counts) c.args.incoming c.args.outgoing _ (omega (arith, c.if-incoming-gt-NODE_PORTS.false, c.if-incoming-outgoing.false)) (sym c.find_slot.ensures ∙ c.in-Some.is) (sym c.find_block.ensures ∙ c.in_default-find_block.is))) (λ h. h))
 
 pub overflow_cast-meta : goal.overflow_cast-meta
 overflow_cast-meta c = omega (arith, block-fits-at (goal.at.overflow_cast-meta c).In-Some-find_block)
@@ -64,19 +64,19 @@ own_block-requires c = omega (arith, slot-fits-at (goal.at.own_block-requires c)
 
 pub grown-requires : goal.grown-requires
 grown-requires c =
-    omega (arith, node_len_fits (graph_in c.args.nodes.now c.args.links.now c.args.owners.now c.args.heads.now c.args.counts) c.requires)
+    omega (arith, node_len_fits (graph_in c.args.tables.now.nodes c.args.tables.now.links c.args.tables.now.owners c.args.tables.now.heads c.args.tables.now.counts) c.requires)
 
 pub grown-requires-2 : goal.grown-requires-2
 grown-requires-2 c =
-    omega (arith, ports-fit-at (goal.at.grown-requires-2 c).In-Some-find_block, port_len_fits (graph_in c.args.nodes.now c.args.links.now c.args.owners.now c.args.heads.now c.args.counts) c.requires)
+    omega (arith, ports-fit-at (goal.at.grown-requires-2 c).In-Some-find_block, port_len_fits (graph_in c.args.tables.now.nodes c.args.tables.now.links c.args.tables.now.owners c.args.tables.now.heads c.args.tables.now.counts) c.requires)
 
-pub overflow_add-result : goal.overflow_add-result
-overflow_add-result c =
-    omega (arith, node_count_fits (graph_in c.args.nodes.now c.args.links.now c.args.owners.now c.args.heads.now c.args.counts) c.requires)
+pub overflow_add-tables : goal.overflow_add-tables
+overflow_add-tables c =
+    omega (arith, node_count_fits (graph_in c.args.tables.now.nodes c.args.tables.now.links c.args.tables.now.owners c.args.tables.now.heads c.args.tables.now.counts) c.requires)
 
-pub overflow_add-result-2 : goal.overflow_add-result-2
-overflow_add-result-2 c =
-    omega (arith, ports-fit-at (goal.at.overflow_add-result-2 c).In-Some-find_block, port_count_fits (graph_in c.args.nodes.now c.args.links.now c.args.owners.now c.args.heads.now c.args.counts) c.requires)
+pub overflow_add-tables-2 : goal.overflow_add-tables-2
+overflow_add-tables-2 c =
+    omega (arith, ports-fit-at (goal.at.overflow_add-tables-2 c).In-Some-find_block, port_count_fits (graph_in c.args.tables.now.nodes c.args.tables.now.links c.args.tables.now.owners c.args.tables.now.heads c.args.tables.now.counts) c.requires)
 
 pub overflow_cast-result : goal.overflow_cast-result
 overflow_cast-result c = omega (arith, slot-fits-at (goal.at.overflow_cast-result c).In-Some-find_block)
@@ -86,7 +86,7 @@ overflow_cast-result-2 c = omega (arith, block-fits-at (goal.at.overflow_cast-re
 
 pub returns : goal.returns
 returns c =
-    and_numbers add_numbers (with_words (node_added_in c.args.nodes.now c.args.links.now c.args.owners.now c.args.heads.now c.args.counts c.requires c.args.incoming c.args.outgoing _ _ _ _
+    and_numbers add_numbers (with_words (node_added_in c.args.tables.now.nodes c.args.tables.now.links c.args.tables.now.owners c.args.tables.now.heads c.args.tables.now.counts c.requires c.args.incoming c.args.outgoing _ _ _ _
     (ports-fit-at (goal.at.returns c).In-Some-find_block)
     (slot-found-at (goal.at.returns c).In-Some-find_block)
     (block-found-at (goal.at.returns c).In-Some-find_block)

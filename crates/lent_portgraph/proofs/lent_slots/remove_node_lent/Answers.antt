@@ -15,18 +15,18 @@ use Rattle.portgraph.specs.LentWords.{with_words, and_numbers}
 use Rattle.lent_portgraph.proofs.lent_slots.remove_node_lent.Goals as goal
 use Rattle.lent_portgraph.proofs.lent_slots.remove_node_lent.Goals.{In-Some}
 
-found_at : (c : In-Some) → entry_at (graph_in c.args.nodes.now c.args.links.now c.args.owners.now c.args.heads.now c.args.counts) c.args.node.0 ≡ Node c.in-Some.meta
-found_at c = found_in c.args.nodes.now c.args.links.now c.args.owners.now c.args.heads.now c.args.counts c.requires.holds.nodes_long c.args.node.0 _ _ c.meta_in.ensures c.in-Some.is
+found_at : (c : In-Some) → entry_at (graph_in c.args.tables.now.nodes c.args.tables.now.links c.args.tables.now.owners c.args.tables.now.heads c.args.tables.now.counts) c.args.node.0 ≡ Node c.in-Some.meta
+found_at c = found_in c.args.tables.now.nodes c.args.tables.now.links c.args.tables.now.owners c.args.tables.now.heads c.args.tables.now.counts c.requires.holds.nodes_long c.args.node.0 _ _ c.meta_in.ensures c.in-Some.is
 
 block-fits-at : (c : In-Some) → BlockFits c.in-Some.meta
-block-fits-at c = block_fits (graph_in c.args.nodes.now c.args.links.now c.args.owners.now c.args.heads.now c.args.counts) c.requires _ _ (found_at c)
+block-fits-at c = block_fits (graph_in c.args.tables.now.nodes c.args.tables.now.links c.args.tables.now.owners c.args.tables.now.heads c.args.tables.now.counts) c.requires _ _ (found_at c)
 
 below_at : (c : In-Some) → c.args.node.0 < node_slots
-below_at c = node_below (graph_in c.args.nodes.now c.args.links.now c.args.owners.now c.args.heads.now c.args.counts) c.requires _ _ (found_at c)
+below_at c = node_below (graph_in c.args.tables.now.nodes c.args.tables.now.links c.args.tables.now.owners c.args.tables.now.heads c.args.tables.now.counts) c.requires _ _ (found_at c)
 
 pub returns-in_default : goal.returns-in_default
 returns-in_default c =
-    and_numbers remove_numbers (with_words (removed_in (no_node (graph_in c.args.nodes.now c.args.links.now c.args.owners.now c.args.heads.now c.args.counts) c.args.node.0 (unknown_in c.args.nodes.now c.args.links.now c.args.owners.now c.args.heads.now c.args.counts c.requires.holds.nodes_long c.args.node.0 _ c.meta_in.ensures c.in_default.is).1)) (λ h. h))
+    and_numbers remove_numbers (with_words (removed_in (no_node (graph_in c.args.tables.now.nodes c.args.tables.now.links c.args.tables.now.owners c.args.tables.now.heads c.args.tables.now.counts) c.args.node.0 (unknown_in c.args.tables.now.nodes c.args.tables.now.links c.args.tables.now.owners c.args.tables.now.heads c.args.tables.now.counts c.requires.holds.nodes_long c.args.node.0 _ c.meta_in.ensures c.in_default.is).1)) (λ h. h))
 
 pub slot_after-after-requires : goal.slot_after-after-requires
 slot_after-after-requires c = omega (arith, below_at (goal.at.slot_after-after-requires c).In-Some, c.wide-place.ensures)
@@ -46,12 +46,12 @@ cut_range-cuts-requires c = omega (arith, (block-fits-at (goal.at.cut_range-cuts
 pub overflow_add-meta : goal.overflow_add-meta
 overflow_add-meta c = omega (arith, (block-fits-at (goal.at.overflow_add-meta c).In-Some).ends)
 
-pub overflow_add-result : goal.overflow_add-result
-overflow_add-result c = omega (arith, below_at (goal.at.overflow_add-result c).In-Some)
+pub overflow_add-tables : goal.overflow_add-tables
+overflow_add-tables c = omega (arith, below_at (goal.at.overflow_add-tables c).In-Some)
 
 pub returns : goal.returns
 returns c =
-    and_numbers remove_numbers (with_words (node_removed_in c.args.nodes.now c.args.links.now c.args.owners.now c.args.heads.now c.args.counts c.requires c.args.node.0 c.in-Some.meta _ _
+    and_numbers remove_numbers (with_words (node_removed_in c.args.tables.now.nodes c.args.tables.now.links c.args.tables.now.owners c.args.tables.now.heads c.args.tables.now.counts c.requires c.args.node.0 c.in-Some.meta _ _
     (found_at (goal.at.returns c).In-Some)
     c.wide-place.ensures
     c.wide-first.ensures

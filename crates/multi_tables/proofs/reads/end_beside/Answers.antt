@@ -1,13 +1,7 @@
 -- `multi_tables::reads::end_beside` meets its contract, by side: an offset that is there and one that is not.
 use native.Mathlib.Omega.{arith}
-use Rattle.multi_tables.specs.TableReadSteps.{count_below, end_in_lem, end_in_lacking, end_out, end_out_lacking, end_out_past}
+use Rattle.multi_tables.specs.TableReadSteps.{end_in_lem, end_in_lacking, end_out, end_out_lacking, end_out_past}
 use Rattle.multi_tables.proofs.reads.end_beside.Goals as goal
-
-pub overflow_add-result : goal.overflow_add-result
-overflow_add-result c = let b = count_below _ _ _ c.wide-place.ensures _ _ c.in-Incoming.is c.count_beside-count.ensures in omega arith
-
-pub overflow_cast-result : goal.overflow_cast-result
-overflow_cast-result c = let b = count_below _ _ _ c.wide-place.ensures _ _ c.in-Incoming.is c.count_beside-count.ensures in omega arith
 
 pub returns-then-from-count : goal.returns-then-from-count
 returns-then-from-count c = end_in_lem _ _ _ c.wide-place.ensures _ _ _ c.from-then-from-count.ensures _ _ c.in-Incoming.is c.count_beside-count.ensures (omega arith) c.saturating_sub.ensures

@@ -1,17 +1,17 @@
--- `multiportgraph::list_ends::put_four` meets its contract: four stores in a row.
+-- `multiportgraph::list_ends::put_four` meets its contract: four numbers take the place of four.
+use mathlib.Core.Path.{◌≡◌}
+use Prim.Native.Nat.{◌+◌, ◌-◌}
 use native.Mathlib.Omega.{arith}
-use lib.ListN.{length-set}
-use Rattle.multiportgraph.specs.ListSteps.{stored_four}
+use lib.ListN.{length}
+use borrow.Author.Rules.{rules}
+use Rattle.multiportgraph.specs.ListSteps.{laid}
 use Rattle.multiportgraph.proofs.list_ends.put_four.Goals as goal
+use Rattle.multiportgraph.proofs.list_ends.put_four.Goals.{Start}
 
-pub bounds-list-place-2 : goal.bounds-list-place-2
-bounds-list-place-2 c = simp length-set (omega arith)
-
-pub bounds-list-place-3 : goal.bounds-list-place-3
-bounds-list-place-3 c = simp length-set (omega arith)
-
-pub bounds-list-place-4 : goal.bounds-list-place-4
-bounds-list-place-4 c = simp length-set (omega arith)
+four : (c : Start) → length c.args.numbers ≡ 4
+four c = search rules
 
 pub returns : goal.returns
-returns c = stored_four c.args.list.now c.args.place c.args.a c.args.b c.args.c c.args.d
+returns c =
+    let n = four (goal.at.returns c).Start in
+    laid c.args.list.now c.copy_from_slice.new.self c.args.numbers c.args.place (c.args.place + 4 - c.args.place) (omega (arith, c.requires, n)) c.copy_from_slice.ensures.after (omega (arith, n))

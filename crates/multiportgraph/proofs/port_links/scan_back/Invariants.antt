@@ -6,4 +6,4 @@ use Rattle.multiportgraph.specs.WalkScans.{last_found}
 use Rattle.multiportgraph.proofs.port_links.scan_back.Given as goal
 
 abbrev pub invariant-loop-offset : goal.invariant-loop-offset
-invariant-loop-offset l = last_found (links_in l.links l.owners l.flags l.port l.first l.from (l.offset - l.from)) ≡ last_found (links_in l.links l.owners l.flags l.port l.first l.from (l.end - l.from))
+invariant-loop-offset l = last_found (links_in l.tables.links.now l.tables.owners.now l.tables.flags.now l.ends.port l.ends.first l.ends.from (l.offset - l.ends.from)) ≡ last_found (links_in l.tables.links.now l.tables.owners.now l.tables.flags.now l.ends.port l.ends.first l.ends.from (l.ends.end - l.ends.from))

@@ -7,10 +7,10 @@ use Rattle.multiportgraph.proofs.subports.next_subport.Goals as goal
 
 pub returns-in-Some : goal.returns-in-Some
 returns-in-Some c =
-    (subports_found c.args.marks.now c.args.links.now c.args.owners.now c.args.flags.now c.loop-port.port c.loop-port.first c.capped-stop.result _ _ c.loop-port-test.true c.subport_from-found.ensures.0 c.in-Some.is ∙ c.loop-port.invariant, subport_below c.loop-port.port port_slots c.subport_from-found.result c.subport_from-found.ensures.1 (omega arith) (omega arith))
+    (subports_found c.args.tables.marks.now c.args.tables.links.now c.args.tables.owners.now c.args.tables.flags.now c.loop-port.port c.loop-port.first c.capped-stop.result _ _ c.loop-port-test.true c.subport_from-found.ensures.0 c.in-Some.is ∙ c.loop-port.invariant, subport_below c.loop-port.port port_slots c.subport_from-found.result c.subport_from-found.ensures.1 (omega arith) (omega arith))
 
 pub loop-port-preserved : goal.loop-port-preserved
-loop-port-preserved c = subports_turn c.args.marks.now c.args.links.now c.args.owners.now c.args.flags.now c.loop-port.port c.loop-port.first c.capped-stop.result _ c.loop-port-test.true c.subport_from-found.ensures.0 c.in_default.is ∙ c.loop-port.invariant
+loop-port-preserved c = subports_turn c.args.tables.marks.now c.args.tables.links.now c.args.tables.owners.now c.args.tables.flags.now c.loop-port.port c.loop-port.first c.capped-stop.result _ c.loop-port-test.true c.subport_from-found.ensures.0 c.in_default.is ∙ c.loop-port.invariant
 
 pub returns : goal.returns
-returns c = (subports_done c.args.marks.now c.args.links.now c.args.owners.now c.args.flags.now c.loop-port.port c.loop-port.first c.capped-stop.result c.loop-port-test.false ∙ c.loop-port.invariant, omega arith)
+returns c = (subports_done c.args.tables.marks.now c.args.tables.links.now c.args.tables.owners.now c.args.tables.flags.now c.loop-port.port c.loop-port.first c.capped-stop.result c.loop-port-test.false ∙ c.loop-port.invariant, omega arith)

@@ -6,4 +6,4 @@ use Rattle.multiportgraph.specs.WalkScans.{first_subport, subports_rest}
 use Rattle.multiportgraph.proofs.subports.next_subport.Given as goal
 
 abbrev pub invariant-loop-port : goal.invariant-loop-port
-invariant-loop-port l = first_subport (subports_rest l.marks l.links l.owners l.flags l.port l.first (l.stop - l.port)) ≡ first_subport (subports_rest l.marks l.links l.owners l.flags l.from l.offset (min l.end port_slots - l.from))
+invariant-loop-port l = first_subport (subports_rest l.tables.marks.now l.tables.links.now l.tables.owners.now l.tables.flags.now l.port l.first (l.stop - l.port)) ≡ first_subport (subports_rest l.tables.marks.now l.tables.links.now l.tables.owners.now l.tables.flags.now l.from l.offset (min l.end port_slots - l.from))

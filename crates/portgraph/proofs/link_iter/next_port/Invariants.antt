@@ -7,4 +7,4 @@ use Rattle.portgraph.specs.LinkWalks.{is_port_in, first_where}
 use Rattle.portgraph.proofs.link_iter.next_port.Given as goal
 
 abbrev pub invariant-loop-port : goal.invariant-loop-port
-invariant-loop-port l = first_where (is_port_in l.owners) l.port (port_slots - l.port) ≡ first_where (is_port_in l.owners) l.from (port_slots - l.from)
+invariant-loop-port l = first_where (is_port_in l.owners) l.port (port_slots - l.port) ≡ first_where (is_port_in l.owners) l.fn.from (port_slots - l.fn.from)

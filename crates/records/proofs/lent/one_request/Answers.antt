@@ -11,7 +11,7 @@ use Rattle.multiportgraph.specs.Answers.{add_numbers, remove_numbers, link_numbe
 use Rattle.records.proofs.lent.one_request.Goals as goal
 
 pub set_words-requires : goal.set_words-requires
-set_words-requires c = set_fits _ _ _ _ _ c.set_quiet_lent-sized.ensures.1 (omega arith)
+set_words-requires c = set_fits _ _ _ _ _ c.set_quiet_lent.ensures.1 (omega arith)
 
 pub overflow_cast-blocks : goal.overflow_cast-blocks
 unfolding visible_nodes
@@ -27,52 +27,52 @@ overflow_cast-wires c = omega (arith, links_fit _ c.requires)
 
 pub returns-in-Add : goal.returns-in-Add
 returns-in-Add c = (
-  answered c.requires (ap meant c.in-Add.is) (c.add_words.ensures ∙ ap (λ x. five (add_numbers x)) c.add_lent-added.ensures.1)
-      c.add_lent-added.ensures.0,
-  c.add_lent-added.ensures.2,
+  answered c.requires (ap meant c.in-Add.is) (c.add_words.ensures ∙ ap (λ x. five (add_numbers x)) c.add_lent.ensures.1)
+      c.add_lent.ensures.0,
+  c.add_lent.ensures.2,
 )
 
 pub returns-in-Remove : goal.returns-in-Remove
 returns-in-Remove c = (
-  answered c.requires (ap meant c.in-Remove.is) (c.remove_words.ensures ∙ ap (λ x. five (remove_numbers x)) c.remove_lent-removed.ensures.1)
-      c.remove_lent-removed.ensures.0,
-  c.remove_lent-removed.ensures.2,
+  answered c.requires (ap meant c.in-Remove.is) (c.remove_words.ensures ∙ ap (λ x. five (remove_numbers x)) c.remove_lent.ensures.1)
+      c.remove_lent.ensures.0,
+  c.remove_lent.ensures.2,
 )
 
 pub returns-in-Resize : goal.returns-in-Resize
 returns-in-Resize c =
-    (set_answered c.requires (ap meant c.in-Resize.is) refl c.set_quiet_lent-sized.ensures.1 c.set_words.ensures c.set_quiet_lent-sized.ensures.0, c.set_quiet_lent-sized.ensures.2)
+    (set_answered c.requires (ap meant c.in-Resize.is) refl c.set_quiet_lent.ensures.1 c.set_words.ensures c.set_quiet_lent.ensures.0, c.set_quiet_lent.ensures.2)
 
 pub returns-in-Link : goal.returns-in-Link
 returns-in-Link c = (
-  answered c.requires (ap meant c.in-Link.is) (c.link_words.ensures ∙ ap (λ x. five (link_numbers x)) c.link_lent-linked.ensures.1)
-      c.link_lent-linked.ensures.0,
-  c.link_lent-linked.ensures.2,
+  answered c.requires (ap meant c.in-Link.is) (c.link_words.ensures ∙ ap (λ x. five (link_numbers x)) c.link_lent.ensures.1)
+      c.link_lent.ensures.0,
+  c.link_lent.ensures.2,
 )
 
 pub returns-in-Unlink : goal.returns-in-Unlink
 returns-in-Unlink c =
-    (cut_answered c.requires (ap meant c.in-Unlink.is) c.cut_words.ensures c.cut_port_lent-cut.ensures.1 c.cut_port_lent-cut.ensures.0, c.cut_port_lent-cut.ensures.2)
+    (cut_answered c.requires (ap meant c.in-Unlink.is) c.cut_words.ensures c.cut_port_lent.ensures.1 c.cut_port_lent.ensures.0, c.cut_port_lent.ensures.2)
 
 pub returns-in-LinkSubports : goal.returns-in-LinkSubports
 returns-in-LinkSubports c = (
-  answered c.requires (ap meant c.in-LinkSubports.is) (c.link_words-in-LinkSubports.ensures ∙ ap (λ x. five (link_numbers x)) c.link_sub_lent-linked.ensures.1)
-      c.link_sub_lent-linked.ensures.0,
-  untouched c.link_sub_lent-linked.ensures.2,
+  answered c.requires (ap meant c.in-LinkSubports.is) (c.link_words-in-LinkSubports.ensures ∙ ap (λ x. five (link_numbers x)) c.link_sub_lent.ensures.1)
+      c.link_sub_lent.ensures.0,
+  untouched c.link_sub_lent.ensures.2,
 )
 
 pub returns-in-UnlinkSubport : goal.returns-in-UnlinkSubport
 returns-in-UnlinkSubport c =
-    (cut_sub_answered c.requires (ap meant c.in-UnlinkSubport.is) c.cut_words-in-UnlinkSubport.ensures c.cut_sub_lent-cut.ensures.1 c.cut_sub_lent-cut.ensures.0, untouched c.cut_sub_lent-cut.ensures.2)
+    (cut_sub_answered c.requires (ap meant c.in-UnlinkSubport.is) c.cut_words-in-UnlinkSubport.ensures c.cut_sub_lent.ensures.1 c.cut_sub_lent.ensures.0, untouched c.cut_sub_lent.ensures.2)
 
 pub returns-in-SubportLink : goal.returns-in-SubportLink
 returns-in-SubportLink c =
-    (link_of_answered c.requires (ap meant c.in-SubportLink.is) c.cut_words-in-SubportLink.ensures c.subport_link_lent-answer.ensures.0, λ h. h)
+    (link_of_answered c.requires (ap meant c.in-SubportLink.is) c.cut_words-in-SubportLink.ensures c.subport_link_lent.ensures.0, λ h. h)
 
 pub returns-in-Counts : goal.returns-in-Counts
 unfolding visible_nodes visible_ports visible_links
 returns-in-Counts c =
-    (counts_answered c.requires (ap meant c.in-Counts.is) c.node_count_lent-blocks.ensures c.port_count_lent-ports.ensures c.link_count_lent-wires.ensures c.five_words.ensures, λ h. h)
+    (counts_answered c.requires (ap meant c.in-Counts.is) c.node_count-blocks.ensures c.port_count-ports.ensures c.link_count-wires.ensures c.five_words.ensures, λ h. h)
 
 pub returns-in-Refused : goal.returns-in-Refused
 returns-in-Refused c =

@@ -2,8 +2,8 @@
 -- whole; the graph is one of the calls. Assumes nothing.
 use Prim.Native.Nat.{◌*◌}
 use Rattle.records.specs.RunSteps.{Running}
-use Rattle.multiportgraph.specs.MultiLent.{multi_in}
+use Rattle.multiportgraph.specs.MultiLent.{graph_of}
 use Rattle.records.proofs.lent.run_list.Given as goal
 
 abbrev pub invariant-loop-k : goal.invariant-loop-k
-invariant-loop-k l = Running l.requests l.answers (multi_in l.nodes l.links l.owners l.heads l.marks l.flags l.totals) (20 * l.k)
+invariant-loop-k l = Running l.requests l.answers (graph_of l.graph) (20 * l.k)

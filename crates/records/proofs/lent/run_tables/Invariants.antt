@@ -2,9 +2,9 @@
 -- graph is one of the calls, and the node table's numbers stay canonical. Assumes nothing.
 use Prim.Native.Nat.{◌*◌}
 use Rattle.port_tables.specs.NodeWords.{StaysCanonical}
-use Rattle.multiportgraph.specs.MultiLent.{multi_in}
+use Rattle.multiportgraph.specs.MultiLent.{graph_of}
 use Rattle.records.specs.RunSteps.{Going}
 use Rattle.records.proofs.lent.run_tables.Given as goal
 
 abbrev pub invariant-loop-k : goal.invariant-loop-k
-invariant-loop-k l = Going l.requests (multi_in l.initial.nodes l.initial.links l.initial.owners l.initial.heads l.initial.marks l.initial.flags l.initial.after) (multi_in l.nodes l.links l.owners l.heads l.marks l.flags l.after) (20 * l.k) × StaysCanonical l.initial.nodes l.nodes
+invariant-loop-k l = Going l.requests (graph_of l.initial.graph) (graph_of l.graph) (20 * l.k) × StaysCanonical l.initial.graph.ports.nodes l.graph.ports.nodes

@@ -1,12 +1,8 @@
 -- `sketches::offsets::lowest_unmarked` meets its contract. Invariant: what is left to look at amounts to the whole.
-use native.Mathlib.Nat.{sub-zero}
 use mathlib.Core.Path.{◌≡◌, sym, ◌∙◌}
 use native.Mathlib.Omega.{arith}
 use Rattle.sketches.specs.Offsets.{lowest_found, lowest_passed, lowest_ends}
 use Rattle.sketches.proofs.offsets.lowest_unmarked.Goals as goal
-
-pub loop-i-init : goal.loop-i-init
-loop-i-init c = simp sub-zero
 
 pub returns-then-not-marks-i : goal.returns-then-not-marks-i
 returns-then-not-marks-i c = lowest_found _ _ c.args.count c.loop-i-test.true c.if-not-marks-i.true ∙ c.loop-i.invariant

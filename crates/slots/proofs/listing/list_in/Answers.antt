@@ -5,4 +5,4 @@ use Rattle.slots.proofs.listing.list_in.Goals as goal
 pub returns : goal.returns
 returns c =
     listed_so _ _ _ _ _
-    (laid_all _ _ _ _ _ c.lay_nodes.ensures c.lay_lists.ensures) c.walk.ensures
+    (laid_all _ _ _ c.new-laid.ensures c.lay_nodes.ensures c.lay_lists.ensures) c.walk.ensures

@@ -4,5 +4,5 @@ use Rattle.slots.proofs.listing.list_slots.Goals as goal
 
 pub returns : goal.returns
 returns c =
-    listed_of _ _ _ _ _ _ _ _ c.tables_of_graph.ensures.0
+    listed_of _ _ _ _ _ _ _ _ c.put.ensures.0
     c.requires _ _ _ c.list_in.ensures

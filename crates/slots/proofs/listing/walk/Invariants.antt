@@ -6,4 +6,4 @@ use Rattle.slots.specs.LaySteps.{Listing}
 use Rattle.slots.proofs.listing.walk.Given as goal
 
 abbrev pub invariant-loop-count : goal.invariant-loop-count
-invariant-loop-count l = Listing (walk_blocks l.sizes l.holders 0 port_slots) (walk_blocks l.sizes l.holders l.slot (port_slots - l.count)) l.initial.list l.list l.count
+invariant-loop-count l = Listing (walk_blocks l.laid.sizes l.laid.holders 0 port_slots) (walk_blocks l.laid.sizes l.laid.holders l.slot (port_slots - l.count)) l.initial.list l.list l.count

@@ -1,14 +1,16 @@
--- `timing::longest::path` meets its contract: 4 and 5, or the answer and the path of a block.
-use mathlib.Core.Path.{sym, ◌∙◌}
-use Rattle.timing.specs.AnswerSteps.{found_below, refused_listed, refused_told, found_listed}
+-- `timing::longest::path` meets its contract: a refused question, or the sum and the path of the settled tables.
+use mathlib.Core.Path.{◌∙◌, ap}
+use Rattle.std.specs.Prelude.{Err}
+use Rattle.std.proofs.lemmas.Result.{err_from_is_err_and}
+use Rattle.timing.specs.AnswerSteps.{path_refused, path_found}
 use Rattle.timing.proofs.longest.path.Goals as goal
 
-pub returns-in_err-node_port_capacity : goal.returns-in_err-node_port_capacity
-returns-in_err-node_port_capacity c =
-    refused_listed c.requires.fine c.args.block.0 c.args.times.now c.args.list.now _ (sym c.in_err-node_port_capacity.was ∙ c.node_port_capacity.ensures.0) (refused_told _ c.from_residual.ensures.1)
-
-pub path_timed-requires : goal.path_timed-requires
-path_timed-requires c = (c.requires, found_below c.requires.fine c.args.block.0 c.args.times.now _ (sym c.in_ok-node_port_capacity.was ∙ c.node_port_capacity.ensures.0))
+pub returns-in_err-sum : goal.returns-in_err-sum
+returns-in_err-sum c =
+    let p = err_from_is_err_and c.from_residual.result c.from_residual.ensures.1 in
+    path_refused c.args.graph c.args.block.0 c.args.times.now c.args.list.now (p.1 ∙ ap Err p.2) c.in_err-sum.ensures.answer
 
 pub returns : goal.returns
-returns c = found_listed c.requires.fine c.args.block.0 c.args.times.now c.args.list.now _ (sym c.in_ok-node_port_capacity.was ∙ c.node_port_capacity.ensures.0) c.path_timed.ensures.0 c.path_timed.ensures.1
+returns c =
+    let seen = c.settling.view_is ∙ c.in_ok-sum.ensures.walked in
+    path_found c.args.graph c.args.block.0 c.args.times.now c.args.list.now c.in_ok-sum.ensures.answer seen c.put_path-blocks.ensures.0 c.put_path-blocks.ensures.1

@@ -1,11 +1,8 @@
 -- `timing::order::name_all` meets its contract. Invariant: the numbers that are left amount to all.
-use mathlib.Core.Path.{refl, ◌∙◌, ap}
+use mathlib.Core.Path.{◌∙◌, ap}
 use Rattle.timing.specs.AnswerSteps.{name_stop, name_turn, name_end}
 use Rattle.timing.specs.Naming.{Named}
 use Rattle.timing.proofs.order.name_all.Goals as goal
-
-pub loop-i-init : goal.loop-i-init
-loop-i-init c = refl
 
 pub returns-then-at-ne1 : goal.returns-then-at-ne1
 returns-then-at-ne1 c =

@@ -1,14 +1,10 @@
 -- `timing::settle::count_wires` meets its contract. Invariant: the wires that are left amount to all.
 use mathlib.Core.Path.{◌∙◌}
-use native.Mathlib.Omega.{arith}
 use Rattle.timing.specs.SettleSteps.{counting_begins, counting_turns, counting_ends}
 use Rattle.timing.proofs.settle.count_wires.Goals as goal
 
 pub loop-i-init : goal.loop-i-init
 loop-i-init c = counting_begins c.args.ends.now c.args.waits.now c.requires.1
-
-pub overflow_add-before : goal.overflow_add-before
-overflow_add-before c = let s = c.loop-i.invariant.small c.wide-target.result in omega arith
 
 pub loop-i-preserved : goal.loop-i-preserved
 loop-i-preserved c = counting_turns c.loop-i.invariant c.loop-i-test.true (c.wide-target.ensures ∙ c.target_at.ensures) c.at-before.ensures c.store.ensures

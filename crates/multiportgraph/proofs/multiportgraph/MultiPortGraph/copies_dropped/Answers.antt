@@ -11,7 +11,7 @@ copies_in-requires c =
 
 pub returns : goal.returns
 returns c =
-    dropped_listed c.args.self c.args.meta c.args.incoming c.args.outgoing c.wide-first.result c.from-old_in.result c.from-old_out.result
+    dropped_listed c.args.self c.args.meta c.args.counts.incoming c.args.counts.outgoing c.wide-first.result c.from-old_in.result c.from-old_out.result
     c.min-kept_in.result c.min-kept_out.result c.copies_in-middle.result c.copies_in.result c.args.list.now _ _
     c.wide-first.ensures c.from-old_in.ensures c.from-old_out.ensures
     c.min-kept_in.ensures c.min-kept_out.ensures

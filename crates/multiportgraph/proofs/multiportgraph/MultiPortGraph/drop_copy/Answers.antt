@@ -6,4 +6,4 @@ use Rattle.multiportgraph.proofs.multiportgraph.MultiPortGraph.drop_copy.Goals a
 pub returns : goal.returns
 returns c =
     c.without_copy.ensures
-    ∙ copy_dropped c.requires.block c.requires.split refl c.copy_in-hidden.ensures.0 c.copy_in-hidden.ensures.1 c.copy_in-hidden.ensures.2 refl refl refl refl refl refl refl refl refl
+    ∙ copy_dropped c.requires.block c.requires.split refl c.hidden_copy-hidden.ensures.0 c.hidden_copy-hidden.ensures.1 c.hidden_copy-hidden.ensures.2 refl refl refl refl refl refl refl refl refl

@@ -7,29 +7,28 @@ use Rattle.multiportgraph.specs.HiddenNodes.{prepare}
 use Rattle.multiportgraph.specs.Presumed.{OnBlock}
 use Rattle.multiportgraph.specs.LinkSteps.{is_ready, others_stay, still_wf, both_full, second_full}
 use Rattle.multiportgraph.proofs.multiportgraph.MultiPortGraph.link_both.Goals as goal
-use Rattle.multiportgraph.proofs.multiportgraph.MultiPortGraph.link_both.Goals.{After-middle-1, else-ready, then-ready+else-both}
+use Rattle.multiportgraph.proofs.multiportgraph.MultiPortGraph.link_both.Goals.{In-Some}
 
-second-stays : (c : After-middle-1) → OnBlock c.prepare-first.result.graph c.args.b c.args.e
-second-stays c = others_stay c.requires.first c.prepare-first.result c.prepare-first.ensures c.if-ready.true _ _ c.requires.second
+second-stays : (c : In-Some) → OnBlock c.prepare-first.result.graph c.args.b c.args.e
+second-stays c = others_stay c.requires.first c.prepare-first.result c.prepare-first.ensures c.in-Some.is _ _ c.requires.second
 
 pub prepare-first-requires : goal.prepare-first-requires
 prepare-first-requires c = c.requires.first
 
+pub returns-in_default : goal.returns-in_default
+returns-in_default c = both_full c.args.self c.args.a c.args.d c.args.b c.args.e c.prepare-first.result c.prepare-first.ensures c.in_default.is c.link_refused.ensures
+
 pub prepare-second-requires : goal.prepare-second-requires
-prepare-second-requires c = second-stays (goal.at.prepare-second-requires c).After-middle-1
+prepare-second-requires c = second-stays (goal.at.prepare-second-requires c).In-Some
+
+pub returns-in_default-end : goal.returns-in_default-end
+returns-in_default-end c = second_full c.args.self c.args.a c.args.d c.args.b c.args.e c.prepare-first.result c.prepare-first.ensures c.in-Some.is c.prepare-second.result c.prepare-second.ensures c.in_default-end.is c.link_refused-in_default-end.ensures
 
 pub link_prepared-requires : goal.link_prepared-requires
-link_prepared-requires c = still_wf (second-stays (goal.at.link_prepared-requires c).After-middle-1) c.prepare-second.result c.prepare-second.ensures c.if-both.true
-
-pub returns-then-both : goal.returns-then-both
-returns-then-both c =
-    c.link_prepared.ensures
-    ∙ sym (ap (link_live c.args.self c.args.a c.args.d c.args.b c.args.e) (is_ready c.args.self (prepare c.args.self c.args.a c.args.d) c.prepare-first.result c.prepare-first.ensures c.if-ready.true)
-    ∙ ap (link_second c.args.self c.args.a c.args.d c.prepare-first.result.port c.prepare-first.result.offset c.args.b c.args.e) (is_ready c.prepare-first.result.graph (prepare c.prepare-first.result.graph c.args.b c.args.e) c.prepare-second.result c.prepare-second.ensures c.if-both.true))
+link_prepared-requires c = still_wf (second-stays (goal.at.link_prepared-requires c).In-Some) c.prepare-second.result c.prepare-second.ensures c.in-Some-end.is
 
 pub returns : goal.returns
 returns c =
-    elim c.if-ready.branch [
-      | then-ready+else-both w ↦ second_full c.args.self c.args.a c.args.d c.args.b c.args.e c.prepare-first.result c.prepare-first.ensures w.if-ready.true w.prepare-second.result w.prepare-second.ensures w.if-both.false c.link_refused.ensures
-      | else-ready w ↦ both_full c.args.self c.args.a c.args.d c.args.b c.args.e c.prepare-first.result c.prepare-first.ensures w.if-ready.false c.link_refused.ensures
-    ]
+    c.link_prepared.ensures
+    ∙ sym (ap (link_live c.args.self c.args.a c.args.d c.args.b c.args.e) (is_ready c.args.self (prepare c.args.self c.args.a c.args.d) c.prepare-first.result c.prepare-first.ensures c.in-Some.is)
+    ∙ ap (link_second c.args.self c.args.a c.args.d c.in-Some.x c.in-Some.o c.args.b c.args.e) (is_ready c.prepare-first.result.graph (prepare c.prepare-first.result.graph c.args.b c.args.e) c.prepare-second.result c.prepare-second.ensures c.in-Some-end.is))

@@ -5,8 +5,8 @@ use Rattle.multiportgraph.proofs.multiportgraph.MultiPortGraph.link_first.Goals 
 pub prepare-first-requires : goal.prepare-first-requires
 prepare-first-requires c = c.requires
 
-pub returns-then-ready : goal.returns-then-ready
-returns-then-ready c = first_ready_lem c.args.self c.args.a c.args.d c.args.b.0 c.prepare-first.result c.prepare-first.ensures c.if-ready.true c.link_refused.ensures
+pub returns-in_default : goal.returns-in_default
+returns-in_default c = first_full c.args.self c.args.a c.args.d c.args.b.0 c.prepare-first.result c.prepare-first.ensures c.in_default.is c.link_refused.ensures
 
 pub returns : goal.returns
-returns c = first_full c.args.self c.args.a c.args.d c.args.b.0 c.prepare-first.result c.prepare-first.ensures c.if-ready.false c.link_refused-2.ensures
+returns c = first_ready_lem c.args.self c.args.a c.args.d c.args.b.0 c.prepare-first.result c.prepare-first.ensures c.in-Some.is c.link_refused-2.ensures

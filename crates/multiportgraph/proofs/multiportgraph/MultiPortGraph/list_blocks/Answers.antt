@@ -1,16 +1,9 @@
--- `multiportgraph::multiportgraph::MultiPortGraph::list_blocks` meets its contract: what the lent tables list is what the graph lists.
-use mathlib.Core.Path.{sym, subst}
-use lib.ListN.{length}
-use Rattle.multiportgraph.specs.WellFormed.{MultiWf}
-use Rattle.multiportgraph.specs.Wires.{blocks}
-use Rattle.multiportgraph.specs.Listed.{blocks_listed}
-use Rattle.multiportgraph.specs.LentGraph.{lent_is}
-use Rattle.multiportgraph.specs.ListSteps.{listed_as}
-use Rattle.multiportgraph.specs.declared.multiportgraph.MultiPortGraph.{MultiPortGraph}
+-- `multiportgraph::multiportgraph::MultiPortGraph::list_blocks` meets its contract: what the tables list is what the graph lists.
+use Rattle.multiportgraph.specs.ListReads.{blocks_fit_by_value, blocks_told_by_value}
 use Rattle.multiportgraph.proofs.multiportgraph.MultiPortGraph.list_blocks.Goals as goal
 
-pub blocks_lent-requires : goal.blocks_lent-requires
-blocks_lent-requires c = subst (λ (m : MultiPortGraph). MultiWf m) (sym (lent_is c.args.self _ c.put_slots.ensures.0 c.node_slots-slots.ensures c.free_heads-heads.ensures c.counts-counts.ensures)) c.requires
+pub list_blocks-requires : goal.list_blocks-requires
+list_blocks-requires c = blocks_fit_by_value c.args.self c.requires _ c.put_slots.ensures.0 c.node_slots-slots.ensures c.counts-counts.ensures c.node_count-count.ensures
 
 pub returns : goal.returns
-returns c = listed_as (λ m. length (blocks m)) blocks_listed c.args.list.now (lent_is c.args.self _ c.put_slots.ensures.0 c.node_slots-slots.ensures c.free_heads-heads.ensures c.counts-counts.ensures) c.blocks_lent.ensures
+returns c = blocks_told_by_value c.args.self c.requires _ c.put_slots.ensures.0 c.node_slots-slots.ensures c.counts-counts.ensures c.args.list.now c.node_count-count.ensures c.list_blocks.ensures

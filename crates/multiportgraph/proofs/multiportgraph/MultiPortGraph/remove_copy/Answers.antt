@@ -17,4 +17,4 @@ pub returns : goal.returns
 returns c =
     c.without_copy.ensures
     ∙ copy_removed c.args.self c.args.port c.args.node (marks_long_lem (goal.at.returns c).Start) (flags_long (goal.at.returns c).Start)
-    c.copy_side-side.ensures c.port_of-copy.ensures c.reverse.ensures.0 c.num_ports-count.ensures refl refl refl refl refl refl refl refl refl
+    c.copy_side-side.ensures c.port_of.ensures c.reverse.ensures.0 c.num_ports.ensures refl refl refl refl refl refl refl refl refl

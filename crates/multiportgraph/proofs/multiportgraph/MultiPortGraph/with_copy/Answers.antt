@@ -8,5 +8,5 @@ use Rattle.multiportgraph.proofs.multiportgraph.MultiPortGraph.with_copy.Goals a
 
 pub returns : goal.returns
 returns c =
-    let flags = c.put_flag.ensures ∙ ap (λ (w : ℕ). put_flag c.args.self.copy_node node_slots w c.args.there) c.wide.ensures in
-    λ i. multi c.args.graph (c.put_marks.ensures i) (flags i) c.args.copies c.args.subports c.args.self.release
+    let flags = c.put_flag.ensures ∙ ap (λ (w : ℕ). put_flag c.args.self.copy_node node_slots w c.args.mark) c.wide.ensures in
+    λ i. multi c.args.self.graph (c.put_marks.ensures i) (flags i) c.args.self.copy_node_count c.args.self.subport_count c.args.self.release

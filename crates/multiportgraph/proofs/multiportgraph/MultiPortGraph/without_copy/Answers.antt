@@ -1,12 +1,12 @@
 -- `multiportgraph::multiportgraph::MultiPortGraph::without_copy` meets its contract: the lower graph loses the node, and the rest is stored.
-use mathlib.Core.Path.{◌∙◌}
-use mathlib.Core.Bool.{false}
-use Rattle.port_tables.specs.Limits.{node_slots, port_slots}
+use mathlib.Core.Path.{◌∙◌, ap}
+use Prim.Native.Nat.{◌-◌}
 use Rattle.multiportgraph.specs.Graph.{multi}
-use Rattle.multi_tables.specs.Forms.{put_flag}
+use Rattle.multiportgraph.specs.declared.multiportgraph.MultiPortGraph.{MultiPortGraph}
 use Rattle.multiportgraph.proofs.multiportgraph.MultiPortGraph.without_copy.Goals as goal
 
 pub returns : goal.returns
 returns c =
-    c.with_copy.ensures
-    ∙ (λ i. multi (c.remove_node-removed.ensures.0 i).graph (put_flag (put_flag c.args.self.multiport port_slots c.args.copy false) port_slots c.args.port false) (put_flag c.args.self.copy_node node_slots c.args.node false) (c.saturating_sub-copies.ensures i) (c.saturating_sub-subports.ensures i) c.args.self.release)
+    let bare = c.with_copy-bare.ensures in
+    λ i. multi (c.remove_node-removed.ensures.0 i).graph (bare i).multiport (bare i).copy_node
+    ((c.saturating_sub.ensures ∙ ap (λ (m : MultiPortGraph). m.copy_node_count - 1) bare) i) ((c.saturating_sub-2.ensures ∙ ap (λ (m : MultiPortGraph). m.subport_count - c.args.hidden.count) bare) i) (bare i).release

@@ -1,44 +1,38 @@
 -- `portgraph::link_iter::NodeConnections::step` meets its contract: an item, none left, and no such node.
-
--- the step, from what was computed
-use Rattle.std.specs.Prelude.{None}
-use mathlib.Core.Path.{◌≡◌}
-use Prim.Native.Nat.{◌<◌}
+use mathlib.Core.Path.{refl, sym, ◌∙◌}
 use native.Mathlib.Omega.{arith}
-use lib.Dec.{ltb}
-use Rattle.port_tables.specs.Limits.{port_slots}
 use Rattle.port_tables.specs.TableSteps.{with_numbers}
-use Rattle.portgraph.specs.LinkWalks.{connections_item, step_connections, connections_numbers}
-use Rattle.portgraph.specs.LinkWalkSteps.{left_inside, connections_outside, connections_by_search, connections_given, connections_over}
-use mathlib.Core.Bool.{cond}
+use Rattle.portgraph.specs.LinkWalks.{connections_numbers}
+use Rattle.portgraph.specs.LinkWalkSteps.{left_inside, stopped, not_stopped, connections_outside, connections_by_search, connections_given, connections_over}
 use Rattle.portgraph.proofs.link_iter.NodeConnections.step.Goals as goal
-use Rattle.portgraph.proofs.link_iter.NodeConnections.step.Goals.{After-struct_known-1, Then-port-left}
-
-step-found : (c : After-struct_known-1)
-    → step_connections c.args.graph c.args.self
-    ≡ cond (ltb c.next_link_to-port.result c.ports_left-left.result.to) (connections_item c.args.graph c.args.self c.next_link_to-port.result) None
-step-found c = connections_by_search c.args.graph _ _ _ _ _ c.wide-place.ensures c.held_in-there.ensures c.ports_left-left.ensures c.next_link_to-port.ensures
-
--- where it stops lies within the tables
-room : (c : Then-port-left) → c.next_link_to-port.result < port_slots
-room c =
-    let h = left_inside _ c.requires _ _ _ _ _ c.ports_left-left.ensures in
-    omega arith
 
 pub overflow_cast-result : goal.overflow_cast-result
-overflow_cast-result c = let h = room (goal.at.overflow_cast-result c).Then-port-left in omega arith
+overflow_cast-result c =
+    let inside = left_inside _ c.requires _ _ _ _ _ c.ports_left-left.ensures in
+    let here = stopped _ _ _ (sym c.next_link_to.ensures ∙ c.in_ok-port.was) in
+    omega arith
 
-pub overflow_cast-result-then-port-left : goal.overflow_cast-result-then-port-left
-overflow_cast-result-then-port-left c = let h = room (goal.at.overflow_cast-result-then-port-left c).Then-port-left in omega arith
+pub overflow_cast-result-then-place-lt-NODE_SLOTS : goal.overflow_cast-result-then-place-lt-NODE_SLOTS
+overflow_cast-result-then-place-lt-NODE_SLOTS c =
+    let inside = left_inside _ c.requires _ _ _ _ _ c.ports_left-left.ensures in
+    let here = stopped _ _ _ (sym c.next_link_to.ensures ∙ c.in_ok-port.was) in
+    omega arith
 
 pub overflow_add-result : goal.overflow_add-result
-overflow_add-result c = let h = room (goal.at.overflow_add-result c).Then-port-left in omega arith
+overflow_add-result c =
+    let inside = left_inside _ c.requires _ _ _ _ _ c.ports_left-left.ensures in
+    let here = stopped _ _ _ (sym c.next_link_to.ensures ∙ c.in_ok-port.was) in
+    omega arith
 
-pub returns-then-port-left : goal.returns-then-port-left
-returns-then-port-left c = with_numbers connections_numbers (connections_given _ _ _ _ _ (step-found (goal.at.returns-then-port-left c).After-struct_known-1) c.if-port-left.true c.far_in.ensures)
+pub returns-in_err-port : goal.returns-in_err-port
+returns-in_err-port c =
+    let over = not_stopped _ _ (sym c.next_link_to.ensures ∙ c.in_err-port.was) in
+    rw c.from_residual.ensures (with_numbers connections_numbers (connections_over _ _ _ _ (connections_by_search c.args.graph _ _ _ _ _ c.wide-place.ensures c.held_in-there.ensures c.ports_left-left.ensures refl) over))
 
-pub returns-else-port-left : goal.returns-else-port-left
-returns-else-port-left c = with_numbers connections_numbers (connections_over _ _ _ _ (step-found (goal.at.returns-else-port-left c).After-struct_known-1) c.if-port-left.false)
+pub returns-then-place-lt-NODE_SLOTS : goal.returns-then-place-lt-NODE_SLOTS
+returns-then-place-lt-NODE_SLOTS c =
+    let here = stopped _ _ _ (sym c.next_link_to.ensures ∙ c.in_ok-port.was) in
+    with_numbers connections_numbers (connections_given _ _ _ _ _ (connections_by_search c.args.graph _ _ _ _ _ c.wide-place.ensures c.held_in-there.ensures c.ports_left-left.ensures here.0) here.1 c.far_in.ensures)
 
-pub returns-else-place-lt-NODE_SLOTS : goal.returns-else-place-lt-NODE_SLOTS
-returns-else-place-lt-NODE_SLOTS c = with_numbers connections_numbers (connections_outside c.args.graph _ c.args.self c.requires.holds.nodes_long c.wide-place.ensures c.if-place-lt-NODE_SLOTS.false)
+pub returns : goal.returns
+returns c = with_numbers connections_numbers (connections_outside c.args.graph _ c.args.self c.requires.holds.nodes_long c.wide-place.ensures c.if-place-lt-NODE_SLOTS.false)

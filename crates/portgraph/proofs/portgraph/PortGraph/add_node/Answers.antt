@@ -5,8 +5,8 @@ use Prim.Native.Nat.{◌+◌, ◌≤◌, ◌<◌}
 use native.Mathlib.Omega.{arith}
 use Rattle.port_tables.specs.Limits.{node_slots, port_slots, node_ports}
 use Rattle.portgraph.specs.Calls.{find_slot, find_block}
-use Rattle.portgraph.specs.WfFacts.{port_len_fits, node_count_fits, port_count_fits}
-use Rattle.portgraph.specs.SlotSteps.{too_many_ports, no_node_slot, no_block, added_numbers, node_added, node_slot_fits, new_block_fits}
+use Rattle.portgraph.specs.WfFacts.{node_count_fits, port_count_fits}
+use Rattle.portgraph.specs.SlotSteps.{added_numbers, node_added, node_slot_fits, new_block_fits}
 use Rattle.portgraph.proofs.portgraph.PortGraph.add_node.Goals as goal
 use Rattle.portgraph.proofs.portgraph.PortGraph.add_node.Goals.{In-Some-find_block}
 
@@ -24,21 +24,6 @@ slot-fits-at c = node_slot_fits _ c.requires _ (slot-found-at c)
 
 block-fits-at : (c : In-Some-find_block) → c.in-Some-find_block.first + (c.args.incoming + c.args.outgoing) ≤ port_slots
 block-fits-at c = new_block_fits _ c.requires _ _ (ports-fit-at c) (block-found-at c)
-
-pub returns-then-incoming-gt-NODE_PORTS : goal.returns-then-incoming-gt-NODE_PORTS
-returns-then-incoming-gt-NODE_PORTS c = added_numbers (too_many_ports _ _ _ (omega arith))
-
-pub returns-then-incoming-outgoing : goal.returns-then-incoming-outgoing
-returns-then-incoming-outgoing c = added_numbers (too_many_ports _ _ _ (omega arith))
-
-pub returns-in_default : goal.returns-in_default
-returns-in_default c =
-    added_numbers (no_node_slot _ _ _ (omega (arith, c.if-incoming-gt-NODE_PORTS.false, c.if-incoming-outgoing.false)) (sym c.find_slot.ensures ∙ c.in_default.is))
-
-pub returns-in_default-find_block : goal.returns-in_default-find_block
-returns-in_default-find_block c =
-    added_numbers
-    (no_block _ _ _ _ (omega (arith, c.if-incoming-gt-NODE_PORTS.false, c.if-incoming-outgoing.false)) (sym c.find_slot.ensures ∙ c.in-Some.is) (sym c.find_block.ensures ∙ c.in_default-find_block.is))
 
 pub overflow_cast-meta : goal.overflow_cast-meta
 overflow_cast-meta c = omega (arith, block-fits-at (goal.at.overflow_cast-meta c).In-Some-find_block)
@@ -58,15 +43,6 @@ offset_bounds-self-node-2 c = omega (arith, slot-fits-at (goal.at.offset_bounds-
 pub bounds-self-node-2 : goal.bounds-self-node-2
 bounds-self-node-2 c = slot-fits-at (goal.at.bounds-self-node-2 c).In-Some-find_block
 
-pub grown-requires-2 : goal.grown-requires-2
-grown-requires-2 c = omega (arith, port_len_fits _ c.requires, ports-fit-at (goal.at.grown-requires-2 c).In-Some-find_block)
-
-pub overflow_cast-first : goal.overflow_cast-first
-overflow_cast-first c = omega (arith, block-fits-at (goal.at.overflow_cast-first c).In-Some-find_block)
-
-pub overflow_cast-size : goal.overflow_cast-size
-overflow_cast-size c = omega (arith, ports-fit-at (goal.at.overflow_cast-size c).In-Some-find_block)
-
 pub overflow_cast-node : goal.overflow_cast-node
 overflow_cast-node c = omega (arith, slot-fits-at (goal.at.overflow_cast-node c).In-Some-find_block)
 
@@ -81,9 +57,6 @@ overflow_add-self-2 c = omega (arith, ports-fit-at (goal.at.overflow_add-self-2 
 
 pub overflow_cast-result : goal.overflow_cast-result
 overflow_cast-result c = omega (arith, slot-fits-at (goal.at.overflow_cast-result c).In-Some-find_block)
-
-pub overflow_cast-result-2 : goal.overflow_cast-result-2
-overflow_cast-result-2 c = omega (arith, block-fits-at (goal.at.overflow_cast-result-2 c).In-Some-find_block)
 
 pub returns : goal.returns
 returns c =

@@ -2,21 +2,18 @@
 -- the definition says.
 
 -- the numbers that the code works with, and how they lie to one another
-use mathlib.Core.Path.{◌≡◌}
-use Prim.Native.Nat.{ℕ, ◌+◌, ◌*◌, ◌≤◌, ◌<◌, min}
+use Prim.Native.Nat.{ℕ, ◌+◌, ◌*◌, ◌≤◌, ◌<◌}
 use native.Mathlib.Omega.{arith}
 use Rattle.port_tables.specs.Limits.{node_slots, port_slots, node_ports}
 use Rattle.portgraph.specs.WfFacts.{port_count_fits, port_len_fits}
 use Rattle.portgraph.specs.ResizeSteps.{round_up_reaches, round_up_positive, round_up_fits, found_fits, anew_graph, anew_told_lem}
 use Rattle.portgraph.proofs.portgraph.PortGraph.resize_ports_anew.Goals as goal
-use Rattle.portgraph.proofs.portgraph.PortGraph.resize_ports_anew.Goals.{After-min-kept_out}
+use Rattle.portgraph.proofs.portgraph.PortGraph.resize_ports_anew.Goals.{After-round_up-size}
 
-record Numbers (f oi oo cap ki ko i o first size len count node : ℕ) : Type 0 where
+record Numbers (f oi oo cap i o first size len count node : ℕ) : Type 0 where
   ends : f + cap ≤ port_slots
   ports : oi + oo ≤ cap
   small : cap ≤ node_ports
-  kept_in : ki ≡ min oi i
-  kept_out : ko ≡ min oo o
   in_size : i + o ≤ size
   size_small : size ≤ node_ports
   new_ends : first + size ≤ port_slots
@@ -24,11 +21,11 @@ record Numbers (f oi oo cap ki ko i o first size len count node : ℕ) : Type 0 
   count_fits : count ≤ node_slots * node_ports
   below : node < node_slots
 
-numbers : (c : After-min-kept_out)
-    → Numbers c.wide-first.result c.from-old_in.result c.from-old_out.result c.from-capacity.result c.min-kept_in.result c.min-kept_out.result
-    c.args.incoming c.args.outgoing c.args.new_first c.round_up-size.result c.args.self.port_len c.args.self.port_count c.args.node.0
+numbers : (c : After-round_up-size)
+    → Numbers c.wide-first.result c.from-old_in.result c.from-old_out.result c.from-capacity.result
+    c.args.resize.incoming c.args.resize.outgoing c.args.new_first c.round_up-size.result c.args.self.port_len c.args.self.port_count c.args.node.0
 numbers c =
-    let total = c.args.incoming + c.args.outgoing in
+    let total = c.args.resize.incoming + c.args.resize.outgoing in
     let reaches = round_up_reaches total in
     let small = round_up_fits total c.requires.2 in
     let block = found_fits c.args.self _ c.args.new_first (round_up_positive total) c.requires.4 c.requires.0 in
@@ -38,8 +35,6 @@ numbers c =
       ends = omega arith;
       ports = omega arith;
       small = omega arith;
-      kept_in = c.min-kept_in.ensures;
-      kept_out = c.min-kept_out.ensures;
       in_size = omega arith;
       size_small = omega arith;
       new_ends = omega arith;
@@ -48,69 +43,69 @@ numbers c =
       below = c.requires.1;
     }
 
-pub overflow_cast-new_meta : goal.overflow_cast-new_meta
-overflow_cast-new_meta c = omega (arith, numbers (goal.at.overflow_cast-new_meta c).After-min-kept_out)
+pub outgoing_shift-outputs-requires : goal.outgoing_shift-outputs-requires
+outgoing_shift-outputs-requires c = omega (arith, numbers (goal.at.outgoing_shift-outputs-requires c).After-round_up-size)
 
-pub overflow_cast-new_meta-4 : goal.overflow_cast-new_meta-4
-overflow_cast-new_meta-4 c = omega (arith, numbers (goal.at.overflow_cast-new_meta-4 c).After-min-kept_out)
+pub overflow_sub-events : goal.overflow_sub-events
+overflow_sub-events c = omega (arith, numbers (goal.at.overflow_sub-events c).After-round_up-size)
+
+pub overflow_sub-events-2 : goal.overflow_sub-events-2
+overflow_sub-events-2 c = omega (arith, numbers (goal.at.overflow_sub-events-2 c).After-round_up-size)
+
+pub meta_at-new_meta-requires : goal.meta_at-new_meta-requires
+meta_at-new_meta-requires c = omega (arith, numbers (goal.at.meta_at-new_meta-requires c).After-round_up-size)
 
 pub tell_moves-requires : goal.tell_moves-requires
-tell_moves-requires c = omega (arith, numbers (goal.at.tell_moves-requires c).After-min-kept_out)
+tell_moves-requires c = omega (arith, numbers (goal.at.tell_moves-requires c).After-round_up-size)
 
 pub overflow_add-events-2 : goal.overflow_add-events-2
-overflow_add-events-2 c = omega (arith, numbers (goal.at.overflow_add-events-2 c).After-min-kept_out)
-
-pub overflow_add-first : goal.overflow_add-first
-overflow_add-first c = omega (arith, numbers (goal.at.overflow_add-first c).After-min-kept_out)
-
-pub overflow_add-new_first : goal.overflow_add-new_first
-overflow_add-new_first c = omega (arith, numbers (goal.at.overflow_add-new_first c).After-min-kept_out)
+overflow_add-events-2 c = omega (arith, numbers (goal.at.overflow_add-events-2 c).After-round_up-size)
 
 pub tell_moves-requires-2 : goal.tell_moves-requires-2
-tell_moves-requires-2 c = omega (arith, numbers (goal.at.tell_moves-requires-2 c).After-min-kept_out)
+tell_moves-requires-2 c = omega (arith, numbers (goal.at.tell_moves-requires-2 c).After-round_up-size)
 
 pub grown-requires : goal.grown-requires
-grown-requires c = omega (arith, numbers (goal.at.grown-requires c).After-min-kept_out)
+grown-requires c = omega (arith, numbers (goal.at.grown-requires c).After-round_up-size)
 
 pub anew_links-requires : goal.anew_links-requires
-anew_links-requires c = omega (arith, numbers (goal.at.anew_links-requires c).After-min-kept_out, c.requires.3)
+anew_links-requires c = omega (arith, numbers (goal.at.anew_links-requires c).After-round_up-size)
 
 pub own_block-requires : goal.own_block-requires
-own_block-requires c = omega (arith, numbers (goal.at.own_block-requires c).After-min-kept_out)
+own_block-requires c = rw c.meta_at-new_meta.ensures (omega (arith, numbers (goal.at.own_block-requires c).After-round_up-size))
 
 pub offset_bounds-self-place : goal.offset_bounds-self-place
-offset_bounds-self-place c = omega (arith, numbers (goal.at.offset_bounds-self-place c).After-min-kept_out)
+offset_bounds-self-place c = omega (arith, numbers (goal.at.offset_bounds-self-place c).After-round_up-size)
 
 pub bounds-self-place : goal.bounds-self-place
-bounds-self-place c = omega (arith, numbers (goal.at.bounds-self-place c).After-min-kept_out)
+bounds-self-place c = omega (arith, numbers (goal.at.bounds-self-place c).After-round_up-size)
 
 pub cut_range-more-requires : goal.cut_range-more-requires
-cut_range-more-requires c = omega (arith, numbers (goal.at.cut_range-more-requires c).After-min-kept_out)
+cut_range-more-requires c = omega (arith, numbers (goal.at.cut_range-more-requires c).After-round_up-size)
 
 pub overflow_add-meta : goal.overflow_add-meta
-overflow_add-meta c = omega (arith, numbers (goal.at.overflow_add-meta c).After-min-kept_out, c.requires.3)
+overflow_add-meta c = omega (arith, numbers (goal.at.overflow_add-meta c).After-round_up-size)
 
 pub overflow_add-old_in : goal.overflow_add-old_in
-overflow_add-old_in c = omega (arith, numbers (goal.at.overflow_add-old_in c).After-min-kept_out)
+overflow_add-old_in c = omega (arith, numbers (goal.at.overflow_add-old_in c).After-round_up-size)
 
 pub overflow_add-self : goal.overflow_add-self
-overflow_add-self c = omega (arith, numbers (goal.at.overflow_add-self c).After-min-kept_out)
+overflow_add-self c = omega (arith, numbers (goal.at.overflow_add-self c).After-round_up-size)
 
 pub overflow_add-self-2 : goal.overflow_add-self-2
-overflow_add-self-2 c = omega (arith, numbers (goal.at.overflow_add-self-2 c).After-min-kept_out)
+overflow_add-self-2 c = omega (arith, numbers (goal.at.overflow_add-self-2 c).After-round_up-size)
 
 pub overflow_add-result : goal.overflow_add-result
-overflow_add-result c = omega (arith, numbers (goal.at.overflow_add-result c).After-min-kept_out)
+overflow_add-result c = omega (arith, numbers (goal.at.overflow_add-result c).After-round_up-size)
 
 pub overflow_add-result-2 : goal.overflow_add-result-2
-overflow_add-result-2 c = omega (arith, numbers (goal.at.overflow_add-result-2 c).After-min-kept_out)
+overflow_add-result-2 c = omega (arith, numbers (goal.at.overflow_add-result-2 c).After-round_up-size)
 
 pub shape_of-moves : goal.shape_of-moves
 shape_of-moves c = omega (arith, c.tell_moves-2.auto, c.tell_moves.auto, c.drop_both-cuts.auto)
 
 pub returns : goal.returns
-returns c = (
-  anew_graph c.args.self c.args.meta c.args.node.0 c.args.incoming c.args.outgoing _ _ _ _ _ c.wide-first.ensures c.from-old_in.ensures c.from-old_out.ensures c.min-kept_in.ensures c.min-kept_out.ensures
+returns c = let ins = c.incoming_shift-inputs.ensures in let outs = c.outgoing_shift-outputs.ensures in (
+  anew_graph c.args.self c.args.resize.meta c.args.node.0 c.args.resize.incoming c.args.resize.outgoing _ _ _ _ _ c.wide-first.ensures c.from-old_in.ensures c.from-old_out.ensures (omega arith) (omega arith)
       _ _ c.args.new_first _ _ _ _ _ _ _ _ _ _ _ _ _ _ _ _ _ _ _ _
       c.from-capacity.ensures
       c.round_up-size.ensures
@@ -123,9 +118,9 @@ returns c = (
       c.put_head.ensures
       c.grown.ensures
       c.anew_links.ensures
-      c.own_block.ensures
+      (rw c.meta_at-new_meta.ensures at c.own_block.ensures)
       c.wide-place.ensures
-      c.new_node.ensures
+      (rw c.meta_at-new_meta.ensures at c.new_node.ensures)
       c.cut_range-more.ensures.0
       c.cut_range-more.ensures.1
       c.head_at-old_head.ensures
@@ -135,9 +130,9 @@ returns c = (
       c.saturating_sub.ensures
       c.saturating_sub-2.ensures
       c.saturating_sub-3.ensures,
-  anew_told_lem c.args.self c.args.meta 0 c.args.incoming c.args.outgoing _ _ _ _ _ c.wide-first.ensures c.from-old_in.ensures c.from-old_out.ensures c.min-kept_in.ensures c.min-kept_out.ensures
+  anew_told_lem c.args.self c.args.resize.meta 0 c.args.resize.incoming c.args.resize.outgoing _ _ _ _ _ c.wide-first.ensures c.from-old_in.ensures c.from-old_out.ensures (omega arith) (omega arith)
       c.args.new_first _ _ _ _
       c.drop_both-cuts.ensures.2
-      c.tell_moves.ensures
-      c.tell_moves-2.ensures,
+      (rw (ins.0, ins.1, ← c.wide-first.ensures) at c.tell_moves.ensures)
+      (rw (outs.0, outs.1, ← c.from-old_in.ensures, ← c.wide-first.ensures) at c.tell_moves-2.ensures),
 )

@@ -1,6 +1,5 @@
 -- `Sketch::cut` meets its contract: an unknown port, an unsplit one, and a split one.
 use mathlib.Core.Path.{refl, sym, ◌∙◌}
-use Rattle.sketches.specs.SplitSteps.{wires_within}
 use Rattle.port_tables.specs.Places.{at_spot}
 use Rattle.sketches.specs.Plan.{Plan, spot_named, is_there, subports_of, far_from}
 use Rattle.sketches.specs.PlanCalls.{cut_port}
@@ -11,20 +10,17 @@ use Rattle.sketches.proofs.totals.Sketch.cut.Goals as goal
 pub returns-then-not-is_there : goal.returns-then-not-is_there
 returns-then-not-is_there c = cut_unknown c.args.self.now.blocks c.args.self.now.splits c.args.self.now.wires c.args.self.now.totals c.is_there.ensures.wf c.args.port (sym c.is_there.ensures.found ∙ c.if-not-is_there.true)
 
-pub drop_rows-self-inside-requires : goal.drop_rows-self-inside-requires
-drop_rows-self-inside-requires c = (wires_within c.self.invariant, c.self.invariant.wire_table)
-
-pub set_subports-self-inside-requires : goal.set_subports-self-inside-requires
-set_subports-self-inside-requires c = cut_room c.self.inside.blocks c.self.inside.splits c.self.inside.wires c.self.inside.totals c.self.invariant c.args.port (sym (back (λ (k : Plan). is_there k c.args.port) c.self.view_is c.is_there.ensures.found) ∙ c.if-not-is_there.false) _ _ c.drop_rows-self-inside.ensures
+pub set_subports-requires : goal.set_subports-requires
+set_subports-requires c = cut_room _ _ _ _ c.self.invariant c.args.port (sym (back (λ (k : Plan). is_there k c.args.port) c.self.view_is c.is_there.ensures.found) ∙ c.if-not-is_there.false) _ _ (c.drop_where.ensures, c.drop_where.new.self.full)
 
 pub invariant_of-self : goal.invariant_of-self
-invariant_of-self c = (cut_unsplit c.self.inside.blocks c.self.inside.splits c.self.inside.wires c.self.inside.totals c.self.invariant c.args.port (sym (back (λ (k : Plan). is_there k c.args.port) c.self.view_is c.is_there.ensures.found) ∙ c.if-not-is_there.false) _ _ c.drop_rows-self-inside.ensures c.set_subports-self-inside.ensures refl (back (λ (k : Plan). subports_of k c.args.port) c.self.view_is c.subports_of-subports.ensures.count) c.if-subports-eq0.true c.far_from-far.result (back (λ (k : Plan). far_from (at_spot (spot_named c.args.port)) k.wires) c.self.view_is c.far_from-far.ensures) c.port_found.ensures).wf
+invariant_of-self c = (cut_unsplit _ _ _ _ c.self.invariant c.args.port (sym (back (λ (k : Plan). is_there k c.args.port) c.self.view_is c.is_there.ensures.found) ∙ c.if-not-is_there.false) _ _ (c.drop_where.ensures, c.drop_where.new.self.full) (c.set_subports.ensures, c.set_subports.new.self.full) refl (back (λ (k : Plan). subports_of k c.args.port) c.self.view_is c.subports_of-subports.ensures.count) c.if-subports-eq0.true c.far_from-far.result (back (λ (k : Plan). far_from (at_spot (spot_named c.args.port)) k.wires) c.self.view_is c.far_from-far.ensures) c.port_found.ensures).wf
 
 pub returns-then-subports-eq0 : goal.returns-then-subports-eq0
-returns-then-subports-eq0 c = seen_as (λ (k : Plan). cut_port k c.args.port) c.self.view_is (cut_unsplit c.self.inside.blocks c.self.inside.splits c.self.inside.wires c.self.inside.totals c.self.invariant c.args.port (sym (back (λ (k : Plan). is_there k c.args.port) c.self.view_is c.is_there.ensures.found) ∙ c.if-not-is_there.false) _ _ c.drop_rows-self-inside.ensures c.set_subports-self-inside.ensures refl (back (λ (k : Plan). subports_of k c.args.port) c.self.view_is c.subports_of-subports.ensures.count) c.if-subports-eq0.true c.far_from-far.result (back (λ (k : Plan). far_from (at_spot (spot_named c.args.port)) k.wires) c.self.view_is c.far_from-far.ensures) c.port_found.ensures)
+returns-then-subports-eq0 c = seen_as (λ (k : Plan). cut_port k c.args.port) c.self.view_is (cut_unsplit _ _ _ _ c.self.invariant c.args.port (sym (back (λ (k : Plan). is_there k c.args.port) c.self.view_is c.is_there.ensures.found) ∙ c.if-not-is_there.false) _ _ (c.drop_where.ensures, c.drop_where.new.self.full) (c.set_subports.ensures, c.set_subports.new.self.full) refl (back (λ (k : Plan). subports_of k c.args.port) c.self.view_is c.subports_of-subports.ensures.count) c.if-subports-eq0.true c.far_from-far.result (back (λ (k : Plan). far_from (at_spot (spot_named c.args.port)) k.wires) c.self.view_is c.far_from-far.ensures) c.port_found.ensures)
 
 pub invariant_of-self-2 : goal.invariant_of-self-2
-invariant_of-self-2 c = (cut_split c.self.inside.blocks c.self.inside.splits c.self.inside.wires c.self.inside.totals c.self.invariant c.args.port (sym (back (λ (k : Plan). is_there k c.args.port) c.self.view_is c.is_there.ensures.found) ∙ c.if-not-is_there.false) _ _ c.drop_rows-self-inside.ensures c.set_subports-self-inside.ensures refl (back (λ (k : Plan). subports_of k c.args.port) c.self.view_is c.subports_of-subports.ensures.count) c.if-subports-eq0.false).wf
+invariant_of-self-2 c = (cut_split _ _ _ _ c.self.invariant c.args.port (sym (back (λ (k : Plan). is_there k c.args.port) c.self.view_is c.is_there.ensures.found) ∙ c.if-not-is_there.false) _ _ (c.drop_where.ensures, c.drop_where.new.self.full) (c.set_subports.ensures, c.set_subports.new.self.full) refl (back (λ (k : Plan). subports_of k c.args.port) c.self.view_is c.subports_of-subports.ensures.count) c.if-subports-eq0.false).wf
 
 pub returns : goal.returns
-returns c = seen_as (λ (k : Plan). cut_port k c.args.port) c.self.view_is (cut_split c.self.inside.blocks c.self.inside.splits c.self.inside.wires c.self.inside.totals c.self.invariant c.args.port (sym (back (λ (k : Plan). is_there k c.args.port) c.self.view_is c.is_there.ensures.found) ∙ c.if-not-is_there.false) _ _ c.drop_rows-self-inside.ensures c.set_subports-self-inside.ensures refl (back (λ (k : Plan). subports_of k c.args.port) c.self.view_is c.subports_of-subports.ensures.count) c.if-subports-eq0.false)
+returns c = seen_as (λ (k : Plan). cut_port k c.args.port) c.self.view_is (cut_split _ _ _ _ c.self.invariant c.args.port (sym (back (λ (k : Plan). is_there k c.args.port) c.self.view_is c.is_there.ensures.found) ∙ c.if-not-is_there.false) _ _ (c.drop_where.ensures, c.drop_where.new.self.full) (c.set_subports.ensures, c.set_subports.new.self.full) refl (back (λ (k : Plan). subports_of k c.args.port) c.self.view_is c.subports_of-subports.ensures.count) c.if-subports-eq0.false)

@@ -8,6 +8,3 @@ use Rattle.sketches.proofs.totals.Sketch.is_there.Goals as goal
 pub returns-clause-found : goal.returns-clause-found
 unfolding is_there
 returns-clause-found c = ap (λ (n : ℕ). ltb c.args.port.position n) c.ports_on_side.ensures.ports
-
-pub returns-clause-wf : goal.returns-clause-wf
-returns-clause-wf c = c.ports_on_side.ensures.wf

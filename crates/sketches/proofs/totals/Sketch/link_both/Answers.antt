@@ -1,5 +1,5 @@
 -- `Sketch::link_both` meets its contract: both ports are ready, and one more row.
-use mathlib.Core.Path.{refl, sym, subst}
+use mathlib.Core.Path.{sym, subst}
 use native.Mathlib.Omega.{arith}
 use Prim.Native.Nat.{◌<◌}
 use Rattle.sketches.specs.Rows.{row_slots}
@@ -11,29 +11,17 @@ use Rattle.sketches.proofs.totals.Sketch.link_both.Goals as goal
 pub ready_port-requires-2 : goal.ready_port-requires-2
 ready_port-requires-2 c = (second_there _ _ _ _ _ _ c.requires c.ready_port.ensures).1
 
-pub overflow_cast-o : goal.overflow_cast-o
-overflow_cast-o c = let l = offset_fits _ _ _ _ _ _ c.requires _ c.offset_ready-o.ensures in omega arith
-
-pub overflow_cast-r : goal.overflow_cast-r
-overflow_cast-r c = let l = offset_fits _ _ _ _ _ _ c.requires _ c.offset_ready-r.ensures in omega arith
-
-pub offset_bounds-self-inside-self-inside : goal.offset_bounds-self-inside-self-inside
-offset_bounds-self-inside-self-inside c = let l = (subst (λ (k : Held). k.totals.wires < row_slots) (sym c.self.view_is) (still_room _ _ _ _ _ _ c.requires c.ready_port.ensures c.ready_port-2.ensures)) in omega arith
-
-pub bounds-self-inside-self-inside : goal.bounds-self-inside-self-inside
-bounds-self-inside-self-inside c = let l = (subst (λ (k : Held). k.totals.wires < row_slots) (sym c.self.view_is) (still_room _ _ _ _ _ _ c.requires c.ready_port.ensures c.ready_port-2.ensures)) in omega arith
-
-pub overflow_add-self : goal.overflow_add-self
-overflow_add-self c = let l = (subst (λ (k : Held). k.totals.wires < row_slots) (sym c.self.view_is) (still_room _ _ _ _ _ _ c.requires c.ready_port.ensures c.ready_port-2.ensures)) in omega arith
-
 pub overflow_cast-first : goal.overflow_cast-first
-overflow_cast-first c = let l = offset_fits _ _ _ _ _ _ c.requires _ c.offset_ready-o.ensures in omega arith
+overflow_cast-first c = let l = offset_fits _ _ _ _ _ _ c.requires _ c.offset_ready.ensures in omega arith
 
 pub overflow_cast-second : goal.overflow_cast-second
-overflow_cast-second c = let l = offset_fits _ _ _ _ _ _ c.requires _ c.offset_ready-r.ensures in omega arith
+overflow_cast-second c = let l = offset_fits _ _ _ _ _ _ c.requires _ c.offset_ready-2.ensures in omega arith
+
+pub push-requires : goal.push-requires
+push-requires c = let l = (subst (λ (k : Held). k.totals.wires < row_slots) (sym c.self.view_is) (still_room _ _ _ _ _ _ c.requires c.ready_port.ensures c.ready_port-2.ensures)) in omega arith
 
 pub invariant_of-self : goal.invariant_of-self
-invariant_of-self c = (both_linked_lem _ _ _ _ _ _ c.requires c.ready_port.ensures (plan_back c.self.view_is c.ready_port-2.ensures) c.offset_ready-o.ensures c.offset_ready-r.ensures c.wire_row.ensures refl refl).wf
+invariant_of-self c = (both_linked_lem _ _ _ _ _ _ c.requires c.ready_port.ensures (plan_back c.self.view_is c.ready_port-2.ensures) c.offset_ready.ensures c.offset_ready-2.ensures c.wire_row.ensures (c.push.ensures, c.push.new.self.full)).wf
 
 pub returns : goal.returns
-returns c = both_linked_lem _ _ _ _ _ _ c.requires c.ready_port.ensures (plan_back c.self.view_is c.ready_port-2.ensures) c.offset_ready-o.ensures c.offset_ready-r.ensures c.wire_row.ensures refl refl
+returns c = both_linked_lem _ _ _ _ _ _ c.requires c.ready_port.ensures (plan_back c.self.view_is c.ready_port-2.ensures) c.offset_ready.ensures c.offset_ready-2.ensures c.wire_row.ensures (c.push.ensures, c.push.new.self.full)

@@ -1,9 +1,6 @@
 -- `Sketch::offsets_of` meets its contract: one offset, or those of the subports.
-use Rattle.sketches.specs.SketchWalks.{knows_one, knows_more}
+use Rattle.sketches.specs.SketchWalks.{knows_more}
 use Rattle.sketches.proofs.totals.Sketch.offsets_of.Goals as goal
-
-pub returns-then-subports-eq0 : goal.returns-then-subports-eq0
-returns-then-subports-eq0 c = knows_one _ _ c.subports_of-subports.ensures.count c.if-subports-eq0.true
 
 pub returns : goal.returns
 returns c = knows_more _ _ c.subports_of-subports.ensures.wf.plan c.subports_of-subports.ensures.count c.if-subports-eq0.false

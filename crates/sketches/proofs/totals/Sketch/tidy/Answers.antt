@@ -15,11 +15,11 @@ returns-then-subports_of-eq0 c = tidy_unsplit c.args.self.now.blocks c.args.self
 pub subports_left-left-requires : goal.subports_left-left-requires
 subports_left-left-requires c = above_fits c.args.self.now.blocks c.args.self.now.splits c.args.self.now.wires c.args.self.now.totals c.is_there.ensures.wf c.args.port c.above_wired.ensures
 
-pub set_subports-self-inside-requires : goal.set_subports-self-inside-requires
-set_subports-self-inside-requires c = tidy_room c.self.inside.blocks c.self.inside.splits c.self.inside.wires c.self.inside.totals c.self.invariant c.args.port (sym (back (λ (k : Plan). is_there k c.args.port) c.self.view_is c.is_there.ensures.found) ∙ c.if-not-is_there.false) (back (λ (k : Plan). above_wired (spot_named c.args.port) k.wires) c.self.view_is c.above_wired.ensures) c.subports_left-left.ensures
+pub set_subports-requires : goal.set_subports-requires
+set_subports-requires c = tidy_room _ _ _ _ c.self.invariant c.args.port (sym (back (λ (k : Plan). is_there k c.args.port) c.self.view_is c.is_there.ensures.found) ∙ c.if-not-is_there.false) (back (λ (k : Plan). above_wired (spot_named c.args.port) k.wires) c.self.view_is c.above_wired.ensures) c.subports_left-left.ensures
 
 pub invariant_of-self : goal.invariant_of-self
-invariant_of-self c = (tidy_split c.self.inside.blocks c.self.inside.splits c.self.inside.wires c.self.inside.totals c.self.invariant c.args.port (sym (back (λ (k : Plan). is_there k c.args.port) c.self.view_is c.is_there.ensures.found) ∙ c.if-not-is_there.false) (back (λ (k : Plan). above_wired (spot_named c.args.port) k.wires) c.self.view_is c.above_wired.ensures) c.subports_left-left.ensures (back (λ (k : Plan). subports_of k c.args.port) c.self.view_is c.subports_of.ensures.count) c.if-subports_of-eq0.false c.set_subports-self-inside.ensures refl).wf
+invariant_of-self c = (tidy_split _ _ _ _ c.self.invariant c.args.port (sym (back (λ (k : Plan). is_there k c.args.port) c.self.view_is c.is_there.ensures.found) ∙ c.if-not-is_there.false) (back (λ (k : Plan). above_wired (spot_named c.args.port) k.wires) c.self.view_is c.above_wired.ensures) c.subports_left-left.ensures (back (λ (k : Plan). subports_of k c.args.port) c.self.view_is c.subports_of.ensures.count) c.if-subports_of-eq0.false (c.set_subports.ensures, c.set_subports.new.self.full) refl).wf
 
 pub returns : goal.returns
-returns c = seen_as (λ (k : Plan). tidy_port k c.args.port) c.self.view_is (tidy_split c.self.inside.blocks c.self.inside.splits c.self.inside.wires c.self.inside.totals c.self.invariant c.args.port (sym (back (λ (k : Plan). is_there k c.args.port) c.self.view_is c.is_there.ensures.found) ∙ c.if-not-is_there.false) (back (λ (k : Plan). above_wired (spot_named c.args.port) k.wires) c.self.view_is c.above_wired.ensures) c.subports_left-left.ensures (back (λ (k : Plan). subports_of k c.args.port) c.self.view_is c.subports_of.ensures.count) c.if-subports_of-eq0.false c.set_subports-self-inside.ensures refl)
+returns c = seen_as (λ (k : Plan). tidy_port k c.args.port) c.self.view_is (tidy_split _ _ _ _ c.self.invariant c.args.port (sym (back (λ (k : Plan). is_there k c.args.port) c.self.view_is c.is_there.ensures.found) ∙ c.if-not-is_there.false) (back (λ (k : Plan). above_wired (spot_named c.args.port) k.wires) c.self.view_is c.above_wired.ensures) c.subports_left-left.ensures (back (λ (k : Plan). subports_of k c.args.port) c.self.view_is c.subports_of.ensures.count) c.if-subports_of-eq0.false (c.set_subports.ensures, c.set_subports.new.self.full) refl)

@@ -1,20 +1,13 @@
--- `Sketch::wire_at` meets its contract: the offsets fit.
-use mathlib.Core.Path.{sym, subst}
+-- `Sketch::wire_at` meets its contract: the row is one of those in use, and its offsets fit.
+use mathlib.Core.Path.{ap}
 use native.Mathlib.Omega.{arith}
-use Rattle.sketches.specs.SplitSteps.{wires_within}
 use Prim.Native.Nat.{◌<◌}
 use Rattle.sketches.specs.SketchWalks.{row_offsets}
 use Rattle.sketches.specs.Held.{Held}
 use Rattle.sketches.proofs.totals.Sketch.wire_at.Goals as goal
 
-pub bounds-wires-i : goal.bounds-wires-i
-bounds-wires-i c = let r : c.args.i < c.self.inside.totals.wires = subst (λ (k : Held). c.args.i < k.totals.wires) (sym c.self.view_is) c.requires in let l = wires_within c.self.invariant in omega arith
-
-pub offset_bounds-wires-i : goal.offset_bounds-wires-i
-offset_bounds-wires-i c = let r : c.args.i < c.self.inside.totals.wires = subst (λ (k : Held). c.args.i < k.totals.wires) (sym c.self.view_is) c.requires in let l = wires_within c.self.invariant in omega arith
-
 pub overflow_cast-result : goal.overflow_cast-result
-overflow_cast-result c = let r : c.args.i < c.self.inside.totals.wires = subst (λ (k : Held). c.args.i < k.totals.wires) (sym c.self.view_is) c.requires in let l = (row_offsets c.args.i c.self.invariant r).0 in omega arith
+overflow_cast-result c = let r : c.args.i < c.self.inside.wires.count = let e = ap (λ (k : Held). k.totals.wires) c.self.view_is in omega (arith, c.requires) in let l = (row_offsets c.args.i c.self.invariant r).0 in omega arith
 
 pub overflow_cast-result-2 : goal.overflow_cast-result-2
-overflow_cast-result-2 c = let r : c.args.i < c.self.inside.totals.wires = subst (λ (k : Held). c.args.i < k.totals.wires) (sym c.self.view_is) c.requires in let l = (row_offsets c.args.i c.self.invariant r).1 in omega arith
+overflow_cast-result-2 c = let r : c.args.i < c.self.inside.wires.count = let e = ap (λ (k : Held). k.totals.wires) c.self.view_is in omega (arith, c.requires) in let l = (row_offsets c.args.i c.self.invariant r).1 in omega arith

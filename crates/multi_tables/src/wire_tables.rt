@@ -1,0 +1,10 @@
+// The tables that tell what a port is and what it is wired with, as a caller holds them: those of a graph by value, or lent ones.
+use port_tables::index::{NODE_SLOTS, PORT_SLOTS};
+
+#[derive(Clone, Copy)]
+pub struct WireTables<'a> {
+    pub marks: &'a [bool; PORT_SLOTS],
+    pub links: &'a [u32; PORT_SLOTS],
+    pub owners: &'a [u32; PORT_SLOTS],
+    pub flags: &'a [bool; NODE_SLOTS],
+}

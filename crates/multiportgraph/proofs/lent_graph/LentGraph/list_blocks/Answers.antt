@@ -1,0 +1,12 @@
+-- `multiportgraph::lent_graph::LentGraph::list_blocks` meets its contract: as many are listed as the graph has, and those.
+use Rattle.multiportgraph.specs.MultiLent.{totals_of}
+use Rattle.multiportgraph.specs.ListReads.{blocks_list_fits, blocks_list_told}
+use Rattle.multiportgraph.proofs.lent_graph.LentGraph.list_blocks.Goals as goal
+
+pub list_blocks-requires : goal.list_blocks-requires
+list_blocks-requires c = let e = c.list_tables.ensures in rw (e.0, e.4, e.5) (blocks_list_fits c.args.self.now.ports.nodes c.args.self.now.ports.links c.args.self.now.ports.owners c.args.self.now.ports.heads c.args.self.now.marks c.args.self.now.flags (totals_of c.args.self.now) c.requires c.node_count-count.ensures)
+
+pub returns : goal.returns
+returns c =
+    let e = c.list_tables.ensures in
+    blocks_list_told c.args.self.now.ports.nodes c.args.self.now.ports.links c.args.self.now.ports.owners c.args.self.now.ports.heads c.args.self.now.marks c.args.self.now.flags (totals_of c.args.self.now) c.requires c.args.list.now c.node_count-count.ensures (rw (← e.0, ← e.4, ← e.5) c.list_blocks.ensures)

@@ -1,0 +1,11 @@
+-- `multiportgraph::list_ends::ListTables::list_nodes` meets its contract. Invariant: writing the wires of the node slots that are left amounts to writing all.
+use Prim.Native.Nat.{◌-◌}
+use Rattle.multiportgraph.specs.ListScans.{node_wires, Writing}
+use mathlib.Core.List.{flat_map}
+use Rattle.port_tables.specs.Lists.{range}
+use Rattle.multiportgraph.proofs.list_ends.ListTables.list_nodes.Given as goal
+
+abbrev pub invariant-loop-node : goal.invariant-loop-node
+invariant-loop-node l =
+    Writing l.initial.list 0 (flat_map (node_wires l.self.nodes.now l.self.links.now l.self.owners.now l.self.marks.now l.self.flags.now) (range 0 l.self.len)) l.list l.next
+    (flat_map (node_wires l.self.nodes.now l.self.links.now l.self.owners.now l.self.marks.now l.self.flags.now) (range l.node (l.self.len - l.node)))

@@ -1,0 +1,34 @@
+-- `multiportgraph::list_ends::ListTables::list_side` meets its contract. Invariant: writing the wires of the ports that are left amounts to writing all.
+use mathlib.Core.Path.{◌≡◌, ap}
+use mathlib.Core.List.{List, flat_map}
+use Prim.Native.Nat.{ℕ, ◌+◌, ◌≤◌}
+use native.Mathlib.Omega.{arith}
+use lib.ListN.{length}
+use Rattle.port_tables.specs.Lists.{range}
+use Rattle.multiportgraph.specs.ListScans.{place_wires, side_wires}
+use Rattle.multiportgraph.specs.ListSteps.{item_fits, item_written, items_written, side_is, written_as}
+use Rattle.multiportgraph.proofs.list_ends.ListTables.list_side.Goals as goal
+use Rattle.multiportgraph.proofs.list_ends.ListTables.list_side.Goals.{After-from-count, In-loop-position}
+
+-- the wires at each position
+abbrev part : (c : After-from-count) → ℕ → List ℕ
+part c = place_wires c.args.self.nodes.now c.args.self.links.now c.args.self.owners.now c.args.self.marks.now c.args.self.flags.now c.args.node (c.wide.result + c.from.result)
+
+-- all of them are those of the side
+whole : (c : After-from-count) → flat_map (part c) (range 0 c.from-count.result) ≡ side_wires c.args.self.nodes.now c.args.self.links.now c.args.self.owners.now c.args.self.marks.now c.args.self.flags.now c.args.node c.args.meta
+whole c = side_is _ _ _ _ _ _ c.args.meta _ _ _ c.wide.ensures c.from.ensures c.from-count.ensures
+
+room : (c : After-from-count) → c.args.place + length (flat_map (part c) (range 0 c.from-count.result)) ≤ length c.args.list.now
+room c = let e = ap length (whole c) in omega (arith, e, c.requires.1)
+
+pub list_port-next-requires : goal.list_port-next-requires
+unfolding place_wires
+list_port-next-requires c = item_fits (part (goal.at.list_port-next-requires c).After-from-count) c.loop-position.invariant c.loop-position-test.true (room (goal.at.list_port-next-requires c).After-from-count)
+
+pub loop-position-preserved : goal.loop-position-preserved
+unfolding place_wires
+loop-position-preserved c =
+    item_written (part (goal.at.loop-position-preserved c).After-from-count) c.loop-position.invariant c.loop-position-test.true c.list_port-next.ensures.0 c.list_port-next.ensures.1
+
+pub returns : goal.returns
+returns c = written_as _ _ _ _ (whole (goal.at.returns c).After-from-count) (items_written (part (goal.at.returns c).After-from-count) c.loop-position.invariant c.loop-position-test.false)

@@ -1,0 +1,34 @@
+-- `multiportgraph::list_ends::ListTables::list_split` meets its contract. Invariant: writing the wires of the offsets that are left amounts to writing all.
+use mathlib.Core.Path.{◌≡◌, ap}
+use mathlib.Core.List.{List, flat_map}
+use Prim.Native.Nat.{ℕ, ◌+◌, ◌≤◌}
+use native.Mathlib.Omega.{arith}
+use lib.ListN.{length}
+use Rattle.multiportgraph.specs.ListScans.{subport_wire, split_wires}
+use Rattle.multiportgraph.specs.ListSteps.{item_fits, item_written, items_written, split_is, written_as}
+use Rattle.port_tables.specs.Lists.{range}
+use Rattle.multiportgraph.proofs.list_ends.ListTables.list_split.Goals as goal
+use Rattle.multiportgraph.proofs.list_ends.ListTables.list_split.Goals.{After-from-count}
+
+-- the wire at each offset
+abbrev part : (c : After-from-count) → ℕ → List ℕ
+part c = subport_wire c.args.self.nodes.now c.args.self.links.now c.args.self.owners.now c.args.self.flags.now c.args.port.port c.args.port.node c.args.port.position (c.wide.result + c.from.result)
+
+-- all of them are those of the split port
+whole : (c : After-from-count) → flat_map (part c) (range 0 c.from-count.result) ≡ split_wires c.args.self.nodes.now c.args.self.links.now c.args.self.owners.now c.args.self.flags.now c.args.port.port c.args.port.node c.args.port.position c.args.copy
+whole c = split_is _ _ _ _ _ _ _ c.args.copy _ _ _ c.wide.ensures c.from.ensures c.from-count.ensures
+
+room : (c : After-from-count) → c.args.place + length (flat_map (part c) (range 0 c.from-count.result)) ≤ length c.args.list.now
+room c = let e = ap length (whole c) in omega (arith, e, c.requires)
+
+pub list_slot-next-requires : goal.list_slot-next-requires
+unfolding subport_wire
+list_slot-next-requires c = item_fits (part (goal.at.list_slot-next-requires c).After-from-count) c.loop-offset.invariant c.loop-offset-test.true (room (goal.at.list_slot-next-requires c).After-from-count)
+
+pub loop-offset-preserved : goal.loop-offset-preserved
+unfolding subport_wire
+loop-offset-preserved c =
+    item_written (part (goal.at.loop-offset-preserved c).After-from-count) c.loop-offset.invariant c.loop-offset-test.true c.list_slot-next.ensures.0 c.list_slot-next.ensures.1
+
+pub returns : goal.returns
+returns c = written_as _ _ _ _ (whole (goal.at.returns c).After-from-count) (items_written (part (goal.at.returns c).After-from-count) c.loop-offset.invariant c.loop-offset-test.false)

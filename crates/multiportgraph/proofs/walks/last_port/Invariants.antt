@@ -1,7 +1,0 @@
--- `multiportgraph::walks::last_port` meets its contract. Invariant: the last of the ports below `port` is the last of all of them.
-use mathlib.Core.Path.{◌≡◌}
-use Rattle.multiportgraph.specs.WalkScans.{ports_in}
-use Rattle.multiportgraph.proofs.walks.last_port.Given as goal
-
-abbrev pub invariant-loop-port : goal.invariant-loop-port
-invariant-loop-port l = ports_in l.owners l.flags l.from l.port ≡ ports_in l.owners l.flags l.from l.end

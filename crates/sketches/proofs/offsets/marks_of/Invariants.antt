@@ -1,9 +1,0 @@
--- `sketches::offsets::marks_of` meets its contract. Invariant: the offsets of the wires so far are marked.
-use Prim.Native.Nat.{◌≤◌}
-use Rattle.sketches.specs.Plan.{spot_named}
-use Rattle.sketches.specs.Rows.{wires_in}
-use Rattle.sketches.specs.Offsets.{Marks}
-use Rattle.sketches.proofs.offsets.marks_of.Given as goal
-
-abbrev pub invariant-loop-i : goal.invariant-loop-i
-invariant-loop-i l = (l.i ≤ l.count) × Marks (spot_named l.port) (wires_in l.wires l.i) l.marks

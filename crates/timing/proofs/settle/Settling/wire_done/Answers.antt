@@ -1,0 +1,11 @@
+-- `Settling::wire_done` meets its contract: the far end is settled with its last wire.
+use Prim.Native.Nat.{ℕ, ◌-◌}
+use mathlib.Core.Path.{◌∙◌, ap}
+use Rattle.timing.specs.SettleSteps.{wire_last, wire_stays}
+use Rattle.timing.proofs.settle.Settling.wire_done.Goals as goal
+
+pub returns-then-left-eq0 : goal.returns-then-left-eq0
+returns-then-left-eq0 c = wire_last c.args.self.now c.args.block c.args.sum c.wide-c.ensures (c.self.view_is ∙ c.raise.ensures) (c.saturating_sub-left.ensures ∙ ap (λ (x : ℕ). x - 1) c.at.ensures) c.store.ensures c.if-left-eq0.true c.push.ensures
+
+pub returns-else-left-eq0 : goal.returns-else-left-eq0
+returns-else-left-eq0 c = wire_stays c.args.self.now c.args.block c.args.sum c.wide-c.ensures (c.self.view_is ∙ c.raise.ensures) (c.saturating_sub-left.ensures ∙ ap (λ (x : ℕ). x - 1) c.at.ensures) c.store.ensures c.if-left-eq0.false

@@ -36,7 +36,7 @@ fn unlinked(graph: MultiPortGraph, order: Order) -> PortUnlinked
     cut_subport(graph, order.number(0), order.offset(1))
 }
 
-// A command that cuts all wires at a port, or the wire at a subport.
+// A command that cuts all wires at a port, or the wire at a subport. Stays one command: what is shown and given back is the same.
 pub fn cut(rt: &impl Print, graph: MultiPortGraph, order: Order) -> MultiPortGraph
     requires { MultiWf graph }
     ensures { MultiWf result }

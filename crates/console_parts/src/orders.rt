@@ -83,7 +83,7 @@ const COMMANDS: [(Command, &'static [u8]); 34] = [
     (Command::RunOrder, b"runorder N N .."),
 ];
 
-// How many numbers an entry of a command's list has; 0 where it has no list.
+// How many numbers an entry of a command's list has; 0 where it has no list. Stays a number, as `order_by` takes it.
 fn entry_size(command: Command) -> usize {
     match command {
         Command::Sheet => 2,

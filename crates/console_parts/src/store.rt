@@ -90,7 +90,7 @@ fn sync_folder(rt: &impl Files, folder: &[u8]) {
     }
 }
 
-// Puts the last digits of a number at the end of a path.
+// Puts the last digits of a number at the end of a path. Stays by hand: the digits are the last bytes of a path, not text of their own.
 fn put_digits(path: &mut [u8], number: u32) {
     let mut left = number;
     for place in path.iter_mut().rev().take(DIGITS) {

@@ -70,7 +70,7 @@ fn listed(
     graph.list_wires(numbers)
 }
 
-// A command that lists all blocks or all wires.
+// A command that lists all blocks or all wires. Stays three loops: with the step as a parameter each turn would carry the runtime along.
 pub fn list_whole(rt: &impl Print, graph: MultiPortGraph, command: Command)
     requires { MultiWf graph }
 {

@@ -30,6 +30,7 @@ fn put_words(bytes: &mut [u8], at: usize, words: &[u32])
 }
 
 // Lays the blocks of a lent graph from a byte position on.
+// Stay two, this and the next: which list, and how many words an item has, is all that either says.
 fn put_blocks(left: &LentGraph, view: &mut [u8], at: usize)
     requires { MultiWf (graph_of left.now)
         × (at + 16 * visible_nodes (graph_of left.now) ≤ length view.old) }

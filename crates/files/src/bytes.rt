@@ -40,6 +40,7 @@ pub(crate) fn put_word(bytes: &mut [u8], i: usize, word: u64)
 }
 
 // Lays a record's eight bytes from a byte position on; the record is one number, its first field the most significant.
+// A record stays one number: their order is that of the records, and is sorted as such.
 pub(crate) fn put_record(bytes: &mut [u8], i: usize, number: u64)
     requires { i + 8 ≤ length bytes.old }
     ensures { bytes.new ≡ sets bytes.old i (record_bytes (record_of number)) }

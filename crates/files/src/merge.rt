@@ -25,7 +25,7 @@ const MOST_RECORDS: usize = PORT_SLOTS;
 // No result of two such files is longer, loaded or not.
 const LONGEST_RESULT: usize = 512 * ((2 * NODE_SLOTS + 62) / 63 + (MOST_RECORDS + 62) / 63);
 
-// Why a merge is refused.
+// Why a merge is refused. Stays flat: a merge's refusals are one table of numbers.
 #[derive(Clone, Copy)]
 pub enum MergeError {
     // Refusal 16, of the first file or the second: the length is not a multiple of 512, or a unit's sum is wrong.

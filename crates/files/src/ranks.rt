@@ -1,19 +1,11 @@
 // Records of blocks and wires as numbers, read off the listings of a graph; wires by the ranks of their blocks.
-ghost use Rattle.std.specs.Prelude.{◌≡◌, ◌≤◌, ◌<◌, length, get_or, set};
+ghost use Rattle.std.specs.Prelude.{◌≡◌, ◌≤◌, ◌<◌, length, get_or};
 ghost use Rattle.files.specs.Layout.{wire_record};
 ghost use Rattle.files.specs.LayoutLaws.{FieldsFit};
 ghost use Rattle.files.specs.Forms.{number_of, turns, blocks_in, BlocksFit, rank_turn, block_turn, wires_in, wire_listed, rank_read, WiresFit, wire_turn};
 
 use crate::bytes::number_of;
-
-// Stores a number in a table; outside nothing changes. Stays an index: of what `get_mut` lends, a proof keeps the length alone.
-fn put(table: &mut [u32], i: usize, x: u32)
-    ensures { table.new ≡ set table.old i x }
-{
-    if i < table.len() {
-        table[i] = x;
-    }
-}
+use port_tables::tables::store;
 
 // A number of a table; 0 outside.
 fn at(table: &[u32], i: usize) -> u32
@@ -29,7 +21,7 @@ pub(crate) fn fill_ranks(listed: &[u32], ranks: &mut [u32])
 {
     let count = listed.len() / 4;
     for i in 0..count {
-        put(ranks, listed[4 * i] as usize, i as u32);
+        store(ranks, listed[4 * i] as usize, i as u32);
     }
 }
 

@@ -12,7 +12,7 @@ use crate::bytes::{put_field, put_record, put_word, word_at};
 // The most records of a unit.
 const UNIT_RECORDS: usize = 63;
 
-// A record of a list; the one of zeros past its end.
+// A record of a list; the one of zeros past its end. Stays a number: the definitions read 0 there.
 fn record_at(records: &[u64], i: usize) -> u64
     ensures { result ≡ get_or records.now i 0 }
 {
@@ -24,10 +24,8 @@ fn put_records(bytes: &mut [u8], at: usize, records: &[u64], from: usize)
     requires { (at + 504 ≤ length bytes.old) × (from ≤ length records.now) }
     ensures { bytes.new ≡ sets bytes.old at (flat_map (slot_bytes records.now from) (range 0 unit_records)) }
 {
-    let mut next = at;
     for i in 0..UNIT_RECORDS {
-        put_record(bytes, next, record_at(records, from + i));
-        next += 8;
+        put_record(bytes, at + 8 * i, record_at(records, from + i));
     }
 }
 
@@ -43,7 +41,7 @@ pub(crate) fn sum_words(bytes: &[u8], at: usize) -> u64
     sum % 4294967296
 }
 
-// Lays a unit: as many records as it holds, from one on.
+// Lays a unit: as many records as it holds, from one on. The kind stays a number: it is a field of the file.
 fn put_unit(bytes: &mut [u8], at: usize, kind: u64, records: &[u64], from: usize)
     requires { (at + 512 ≤ length bytes.old) × (from ≤ length records.now) }
     ensures { bytes.new ≡ sets bytes.old at (unit kind (take unit_records (drop from (map record_of records.now)))) }

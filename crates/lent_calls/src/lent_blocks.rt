@@ -1,15 +1,15 @@
-// Blocks over lent tables: a block comes, every wire at a port is cut, a block goes, and its counts change.
+// Blocks on a lent graph: a block comes, every wire at a port is cut, a block goes, and its counts change.
 ghost use Rattle.std.specs.Prelude.{◌≡◌, ◌-◌, ◌+◌, ◌≤◌, length};
 ghost use Rattle.port_tables.specs.NodeWords.{StaysCanonical};
 ghost use Rattle.multiportgraph.specs.Calls.{add_block, cut_port, remove_block, set_as, set_counts};
 ghost use Rattle.multiportgraph.specs.Answers.{add_numbers, cut_numbers, before_place, remove_numbers, set_numbers};
 ghost use Rattle.multi_tables.specs.EndAnswers.{unplaced, unplaced_numbers};
 ghost use Rattle.multiportgraph.specs.WellFormed.{MultiWf};
-ghost use Rattle.multiportgraph.specs.MultiLent.{graph_of, FitsIf, Sound, Resizes, settled};
+ghost use Rattle.multiportgraph.specs.MultiLent.{graph_of, Sound, Resizes, settled};
 ghost use Rattle.std.proofs.lemmas.List.Edits.{sets};
 ghost use Rattle.port_tables.specs.Limits.{port_slots, node_ports};
 ghost use Rattle.port_tables.specs.ResizeLinks.{BlockFits};
-ghost use Rattle.multiportgraph.specs.HiddenNodes.{marks_moved, copies_in, copies_dropped, enough};
+ghost use Rattle.multiportgraph.specs.HiddenNodes.{copies_in, copies_dropped, enough};
 
 use crate::lent_copies::{copy_node_in, remove_all_lent, unsplit_lent, unsplit_range_lent};
 use lent_portgraph::lent_resize::resize_quiet_lent;
@@ -19,15 +19,15 @@ use multi_tables::marks::{flagged, lay_marks, marked};
 use multiportgraph::blocks::set_answer;
 use multiportgraph::calls::added_as;
 use multiportgraph::lent_graph::LentGraph;
-use port_tables::index::{NODE_PORTS, NodeIndex, PORT_SLOTS, PortIndex};
+use port_tables::index::{NODE_PORTS, NodeIndex, PortIndex};
 use port_tables::lent::meta_in;
 use port_tables::node_entry::NodeMeta;
 use port_tables::numbers::wide;
-use port_tables::resize_links::Resize;
+use port_tables::resize_links::{Resize, too_many_ports};
 use port_tables::tables::{cut, store, without_link};
 use portgraph::resize::SetError;
 
-// MultiPortGraph::add_node over lent tables.
+// MultiPortGraph::add_node on a lent graph.
 pub fn add_lent(
     graph: &mut LentGraph,
     incoming: usize,
@@ -42,7 +42,7 @@ pub fn add_lent(
     added_as(add_node_lent(&mut graph.ports, incoming, outgoing))
 }
 
-// MultiPortGraph::unlink_port over lent tables, without the place.
+// MultiPortGraph::unlink_port on a lent graph, without the place.
 pub fn cut_port_lent(
     graph: &mut LentGraph,
     port: PortIndex,
@@ -72,7 +72,7 @@ pub fn cut_port_lent(
     }))
 }
 
-// MultiPortGraph::remove_node over lent tables.
+// MultiPortGraph::remove_node on a lent graph.
 pub fn remove_lent(graph: &mut LentGraph, node: NodeIndex) -> Result<(), Refusal>
     requires { MultiWf (graph_of graph.old) }
     ensures { (graph_of graph.new ≡ (remove_block (graph_of graph.old) node.0).graph)
@@ -90,24 +90,6 @@ pub fn remove_lent(graph: &mut LentGraph, node: NodeIndex) -> Result<(), Refusal
     // The node is live, so it is removed.
     let _ = remove_node_lent(&mut graph.ports, node);
     Ok(())
-}
-
-// The marks of a node whose ports move.
-pub(crate) fn recount(
-    marks: &mut [bool; PORT_SLOTS],
-    before: Option<NodeMeta>,
-    after: Option<NodeMeta>,
-)
-    requires { FitsIf before × FitsIf after }
-    ensures { marks.new ≡ marks_moved marks.old before after }
-{
-    let Some(a) = before else {
-        return;
-    };
-    let Some(b) = after else {
-        return;
-    };
-    lay_marks(marks, a, b);
 }
 
 // Lists the hidden nodes of `count` ports from `first` on, in order, from place `at` on; answers the place after the last.
@@ -167,11 +149,9 @@ fn finish_lent(
     let Ok(_) = answer else {
         return set_answer(answer);
     };
-    recount(
-        &mut graph.marks,
-        Some(meta),
-        meta_in(&graph.ports.nodes, node.0),
-    );
+    if let Some(after) = meta_in(&graph.ports.nodes, node.0) {
+        lay_marks(&mut graph.marks, meta, after);
+    }
     remove_all_lent(graph, list);
     set_answer(answer)
 }
@@ -187,7 +167,7 @@ fn dropped(resize: Resize) -> usize
         + usize::from(resize.meta.outgoing).saturating_sub(resize.outgoing)
 }
 
-// The same without a move list, as if there were one that is long enough.
+// Changes the counts of a block that is there, without a move list: as if there were one that is long enough.
 fn resize_untold_lent(
     graph: &mut LentGraph,
     node: NodeIndex,
@@ -219,11 +199,12 @@ fn resize_untold_listing_lent(
         let mut few = [0u32; FEW];
         return resize_untold_lent(graph, node, resize, &mut few);
     }
+    // An array with its count: no heap.
     let mut list = [0u32; NODE_PORTS];
     resize_untold_lent(graph, node, resize, &mut list)
 }
 
-// The same for a caller who reads no move list: what it gives for one that is long enough.
+// MultiPortGraph::set_num_ports on a lent graph, for a caller who reads no move list: what it gives for one that is long enough.
 pub fn set_quiet_lent(
     graph: &mut LentGraph,
     node: NodeIndex,
@@ -236,10 +217,7 @@ pub fn set_quiet_lent(
         × StaysCanonical graph.old.ports.nodes graph.new.ports.nodes
         × (set_numbers result ≡ set_numbers (set_counts (graph_of graph.old) node.0 incoming outgoing enough).answer) }
 {
-    if NODE_PORTS < incoming {
-        return Err(Refusal::TooManyPorts);
-    }
-    if NODE_PORTS - incoming < outgoing {
+    if too_many_ports(incoming, outgoing) {
         return Err(Refusal::TooManyPorts);
     }
     let Some(meta) = meta_in(&graph.ports.nodes, node.0) else {

@@ -1,4 +1,4 @@
-// Hidden nodes over lent tables: what is read of them, and how they go.
+// Hidden nodes on a lent graph: what is read of them, and how they go.
 ghost use Rattle.std.specs.Prelude.{◌≡◌, ◌+◌, ◌≤◌};
 ghost use Rattle.port_tables.specs.Limits.{port_slots};
 ghost use Rattle.port_tables.specs.NodeWords.{StaysCanonical};
@@ -7,7 +7,7 @@ ghost use Rattle.multiportgraph.specs.HiddenNodes.{remove_copy, remove_lone, rem
 
 use lent_portgraph::lent_reads::{num_ports_in, port_index_in};
 use lent_portgraph::lent_slots::remove_node_lent;
-use multi_tables::marks::{marked, put_flag, put_mark};
+use multi_tables::marks::{marked, put_flag, put_marks};
 use multi_tables::reads::{far_in, owner_in};
 use multiportgraph::lent_graph::LentGraph;
 use port_tables::direction::Direction;
@@ -18,6 +18,7 @@ use port_tables::port_entry::PortEntry;
 use port_tables::tables::at;
 
 // The port of a node at a side and position; 0 where there is none.
+// Stays at 0, as its definition: who calls it knows that there is one.
 pub(crate) fn port_of_in(
     nodes: &[u32; NODE_WORDS],
     node: u32,
@@ -57,6 +58,7 @@ fn copy_side_in<'a>(
 }
 
 // The port that a port is linked with; 0 for none.
+// Stays at 0, as its definition: who calls it knows that there is one.
 fn far_port_in<'a>(links: &'a [u32; PORT_SLOTS], owners: &'a [u32; PORT_SLOTS], port: u32) -> u32
     ensures { result ≡ far_port_in links.now owners.now port }
 {
@@ -88,8 +90,7 @@ fn remove_copy_lent(graph: &mut LentGraph, port: u32, node: u32)
     let count = num_ports_in(&graph.ports.nodes, node, side.reverse());
     // Of a node that is not live nothing goes.
     let _ = remove_node_lent(&mut graph.ports, NodeIndex(node));
-    put_mark(&mut graph.marks, wide(copy), false);
-    put_mark(&mut graph.marks, wide(port), false);
+    put_marks(&mut graph.marks, copy, false, port, false);
     put_flag(&mut graph.flags, wide(node), false);
     graph.copies = graph.copies.saturating_sub(1);
     graph.subs = graph.subs.saturating_sub(count);

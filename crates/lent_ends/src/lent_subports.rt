@@ -1,4 +1,4 @@
-// Subports of a lent graph: what an end is linked with, and one wire drawn or cut.
+// Subports on a lent graph: what an end is linked with, and one wire drawn or cut.
 ghost use Rattle.std.specs.Prelude.{◌≡◌};
 ghost use Rattle.multiportgraph.specs.Calls.{cut_sub, link_sub, subport_link};
 ghost use Rattle.multiportgraph.specs.Answers.{link_numbers, cut_numbers, before_place};
@@ -57,14 +57,8 @@ pub fn link_sub_lent(
         × (graph.new.ports.nodes ≡ graph.old.ports.nodes)
         × (link_numbers result ≡ link_numbers (link_sub (graph_of graph.old) from.port.0 from.subport_offset to.port.0 to.subport_offset).answer) }
 {
-    let release = graph.release;
     let tables = graph.wire_tables();
-    let p = from.port;
-    let q = to.port;
-    if tables.input_taken(release, p.0, q.0) {
-        return Err(tables.taken_subports(from, to));
-    }
-    let (x, y) = tables.link_named(from, to)?;
+    let (x, y) = tables.link_named_under(graph.release, from, to)?;
     let first = read_in(&graph.marks, from);
     let second = read_in(&graph.marks, to);
     link_both(&mut graph.ports.links, x, y);

@@ -12,10 +12,10 @@ ghost use Rattle.multiportgraph.specs.Presumed.{OnBlock, BothOnBlock, FirstReady
 ghost use Rattle.multiportgraph.specs.Calls.{link_pair_if, link_pair};
 ghost use Rattle.multiportgraph.specs.Answers.{link_numbers};
 
-use crate::lent_needs::{SidedPort, need_of, room_for, takes_of};
+use crate::lent_needs::{need_of, room_for, takes_of};
 use crate::lent_prepare::prepare_lent;
 use multi_tables::answers::{Refusal, SubportIndex};
-use multi_tables::seen::SeenPort;
+use multi_tables::seen::{SeenPort, SidedPort};
 use multiportgraph::lent::Need;
 use multiportgraph::lent_graph::LentGraph;
 use port_tables::index::PortIndex;

@@ -2,40 +2,23 @@
 ghost use Rattle.std.specs.Prelude.{◌≡◌, ◌≤◌};
 ghost use Rattle.port_tables.specs.Limits.{node_slots, port_slots};
 ghost use Rattle.port_tables.specs.NodeWords.{meta_in};
-ghost use Rattle.multiportgraph.specs.Needs.{side_slot, copy_need_in, need_in, GrowsFew, takes_of, next_free, nodes_left, head_left, ports_left, room_for};
+ghost use Rattle.multiportgraph.specs.Needs.{copy_need_in, need_in, GrowsFew, takes_of, next_free, nodes_left, head_left, ports_left, room_for};
 
 use multi_tables::marks::marked;
 use multi_tables::named::row_fits;
 use multi_tables::reads::{far_in, lowest_unlinked, owner_in};
+use multi_tables::seen::SidedPort;
 use multiportgraph::lent::{Need, Takes};
 use multiportgraph::lent_graph::LentGraph;
 use port_tables::direction::Direction;
 use port_tables::index::{NODE_SLOTS, NodeIndex, PORT_SLOTS};
-use port_tables::lent::{NODE_WORDS, meta_in, slot_in};
-use port_tables::node_entry::NodeMeta;
+use port_tables::lent::{NODE_WORDS, meta_in, next_in};
 use port_tables::numbers::wide;
 use port_tables::resize_links::round_up;
+use port_tables::sides::{Sides, ports_from};
 use port_tables::tables::{at, head_at};
 use portgraph::alloc::grown;
 use portgraph::lent_graph::PortTables;
-
-// A port of a block, and its side.
-#[derive(Clone, Copy)]
-pub(crate) struct SidedPort {
-    pub(crate) port: u32,
-    pub(crate) side: Direction,
-}
-
-// The slot of the first port of a node's side.
-fn side_slot(meta: NodeMeta, direction: Direction) -> usize
-    ensures { result ≡ side_slot meta direction }
-{
-    let first = wide(meta.first_port.0);
-    match direction {
-        Direction::Incoming => first,
-        Direction::Outgoing => first + meta.incoming(),
-    }
-}
 
 // The lowest unlinked subport of a hidden node, else one more.
 fn copy_need(tables: &PortTables, direction: Direction, node: u32) -> Need
@@ -44,7 +27,7 @@ fn copy_need(tables: &PortTables, direction: Direction, node: u32) -> Need
     let Some(meta) = meta_in(&tables.nodes, node) else {
         return Need::Split;
     };
-    let first = side_slot(meta, direction);
+    let first = ports_from(meta, Sides::One(direction));
     let count = meta.num_ports(direction);
     if row_fits(first, count) {
         let offset = lowest_unlinked(&tables.links, first, count);
@@ -105,14 +88,14 @@ pub(crate) fn takes_of(need: Need) -> Takes
 }
 
 // The first free node entry after one is taken, one higher than its number; 0 for none.
+// A table's word stays as it is held, one higher than the number, 0 for none: it is stored again as it is, and the definitions read it so.
 fn next_free(nodes: &[u32; NODE_WORDS], free: u32) -> u32
     ensures { result ≡ next_free nodes.now free }
 {
     if free == 0 {
         return 0;
     }
-    let slot = slot_in(nodes, wide(free - 1));
-    slot.next_free()
+    next_in(nodes, wide(free - 1))
 }
 
 // The used length of the node table after both ends took what they take.

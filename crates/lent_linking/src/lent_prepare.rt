@@ -10,11 +10,11 @@ ghost use Rattle.port_tables.specs.NodeWords.{StaysCanonical};
 ghost use Rattle.multiportgraph.specs.Needs.{need_of};
 ghost use Rattle.multiportgraph.specs.MultiLent.{graph_of, prepared_in};
 
-use crate::lent_needs::SidedPort;
 use lent_portgraph::lent_resize::set_num_ports_quiet_lent;
 use lent_portgraph::lent_slots::add_node_lent;
-use multi_tables::marks::{put_flag, put_mark};
+use multi_tables::marks::{put_flag, put_marks};
 use multi_tables::reads::far_in;
+use multi_tables::seen::SidedPort;
 use multiportgraph::lent::Need;
 use multiportgraph::lent_graph::LentGraph;
 use multiportgraph::prepare::{SplitShape, hidden_counts};
@@ -48,8 +48,7 @@ fn split_lent(graph: &mut LentGraph, port: SidedPort) -> Option<(u32, u16)>
     let copy = first.0 + shape.copy;
     let old = first.0 + shape.subports;
     let was = hang(&mut graph.ports.links, port.port, copy, old);
-    put_mark(&mut graph.marks, wide(copy), true);
-    put_mark(&mut graph.marks, wide(port.port), true);
+    put_marks(&mut graph.marks, copy, true, port.port, true);
     put_flag(&mut graph.flags, wide(node.0), true);
     graph.copies += 1;
     graph.subs += 2;
@@ -63,12 +62,7 @@ fn last_beside(direction: Direction, copy: u32, count: usize) -> u32
     ensures { result ≡ last_beside direction copy count }
 {
     match direction {
-        Direction::Incoming => {
-            if copy == 0 {
-                return 0;
-            }
-            copy - 1
-        }
+        Direction::Incoming => copy.saturating_sub(1),
         Direction::Outgoing => copy + 1 + count as u32,
     }
 }
@@ -91,8 +85,7 @@ fn grow_lent(
         return None;
     };
     let moved = far_in(&graph.ports.links, wide(port.port));
-    put_mark(&mut graph.marks, wide(copy), false);
-    put_mark(&mut graph.marks, wide(moved), true);
+    put_marks(&mut graph.marks, copy, false, moved, true);
     graph.subs += 1;
     Some((last_beside(port.side, moved, count), count as u16))
 }

@@ -1,14 +1,13 @@
-// Lookups over lent tables.
+// Lookups on a lent graph.
 ghost use Rattle.std.specs.Prelude.{◌≡◌};
-ghost use Rattle.portgraph.specs.Lookups.{start_of, count_in};
+ghost use Rattle.portgraph.specs.Lookups.{count_in};
 ghost use Rattle.portgraph.specs.Lent.{port_index_in};
 ghost use Rattle.port_tables.specs.NodeWords.{meta_in};
 
 use port_tables::direction::Direction;
 use port_tables::index::{PORT_SLOTS, PortIndex, PortOffset};
 use port_tables::lent::{NODE_WORDS, meta_in};
-use port_tables::node_entry::NodeMeta;
-use port_tables::numbers::wide;
+use port_tables::sides::{Sides, ports_from};
 
 // The number of ports of a node on one side; 0 for a node that is not live.
 pub fn num_ports_in(nodes: &[u32; NODE_WORDS], node: u32, direction: Direction) -> usize
@@ -18,16 +17,6 @@ pub fn num_ports_in(nodes: &[u32; NODE_WORDS], node: u32, direction: Direction) 
         return 0;
     };
     meta.num_ports(direction)
-}
-
-// The position of a node's first port on a side, within its block.
-fn start_of(meta: NodeMeta, direction: Direction) -> u16
-    ensures { result ≡ start_of meta direction }
-{
-    match direction {
-        Direction::Incoming => 0,
-        Direction::Outgoing => meta.incoming,
-    }
 }
 
 // The port at a side and position of a node; none outside the port tables.
@@ -40,8 +29,7 @@ pub fn port_index_in(nodes: &[u32; NODE_WORDS], node: u32, offset: PortOffset) -
     if meta.num_ports(direction) <= index {
         return None;
     }
-    let start = usize::from(start_of(meta, direction));
-    let place = wide(meta.first_port.0) + start + index;
+    let place = ports_from(meta, Sides::One(direction)) + index;
     if PORT_SLOTS <= place {
         return None;
     }

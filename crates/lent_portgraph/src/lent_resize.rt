@@ -1,4 +1,4 @@
-// Changing a node's counts of ports over lent tables, within its block or in a new one, without the list of moves.
+// Changing a node's counts of ports on a lent graph, within its block or in a new one, without the list of moves.
 ghost use Rattle.std.specs.Prelude.{◌≡◌, ◌+◌, ◌-◌, ◌*◌, ◌≤◌};
 ghost use Rattle.port_tables.specs.Limits.{port_slots, node_ports};
 ghost use Rattle.port_tables.specs.Tables.{at, head_at, put_head};
@@ -11,11 +11,11 @@ ghost use Rattle.portgraph.specs.LentResize.{settle_inside, settle_anew};
 ghost use Rattle.portgraph.specs.Lent.{graph_of, count_links, count_ports, Resizes, Settles};
 ghost use Rattle.port_tables.specs.NodeWords.{StaysCanonical};
 
-use port_tables::index::{NODE_PORTS, NodeIndex};
+use port_tables::index::NodeIndex;
 use port_tables::lent::{meta_in, put_slot};
 use port_tables::node_entry::NodeSlot;
 use port_tables::numbers::wide;
-use port_tables::resize_links::{Resize, round_up};
+use port_tables::resize_links::{Resize, round_up, too_many_ports};
 use port_tables::tables::{at, chain_block, cut_range, fill, head_at, own_block, put_head};
 use portgraph::alloc::{find_block, grown, rest_of};
 use portgraph::lent_graph::PortTables;
@@ -143,7 +143,7 @@ pub fn resize_quiet_lent(
     Ok(meta.port_count())
 }
 
-// PortGraph::set_num_ports over lent tables for a caller who does not read the move list: what it gives for one that is long enough.
+// PortGraph::set_num_ports on a lent graph for a caller who does not read the move list: what it gives for one that is long enough.
 pub fn set_num_ports_quiet_lent(
     tables: &mut PortTables,
     node: NodeIndex,
@@ -157,10 +157,7 @@ pub fn set_num_ports_quiet_lent(
         × StaysCanonical tables.old.nodes tables.new.nodes
         × (set_numbers result ≡ set_numbers (set_num_ports (graph_of tables.old) node.0 incoming outgoing (3 * node_ports)).answer) }
 {
-    if NODE_PORTS < incoming {
-        return Err(SetError::TooManyPorts);
-    }
-    if NODE_PORTS - incoming < outgoing {
+    if too_many_ports(incoming, outgoing) {
         return Err(SetError::TooManyPorts);
     }
     let Some(meta) = meta_in(&tables.nodes, node.0) else {

@@ -1,19 +1,20 @@
-// Adding and removing nodes over lent tables.
+// Adding and removing nodes on a lent graph.
 ghost use Rattle.std.specs.Prelude.{◌≡◌};
 ghost use Rattle.portgraph.specs.Model.{Wf};
 ghost use Rattle.portgraph.specs.Calls.{add_node, add_numbers, remove_node, remove_numbers};
 ghost use Rattle.portgraph.specs.Lent.{graph_of};
 ghost use Rattle.port_tables.specs.NodeWords.{StaysCanonical};
 
-use port_tables::index::{NODE_PORTS, NodeIndex, PortIndex};
+use port_tables::index::{NodeIndex, PortIndex};
 use port_tables::lent::{Counts, meta_in, next_in, put_prev, put_slot};
 use port_tables::node_entry::{NodeMeta, NodeSlot};
 use port_tables::numbers::wide;
+use port_tables::resize_links::too_many_ports;
 use port_tables::tables::{at, chain_block, cut_range, fill, head_at, own_block, put_head};
 use portgraph::alloc::{AddError, NoSuchNode, find_block, find_slot, grown, rest_of, slot_after};
 use portgraph::lent_graph::PortTables;
 
-// PortGraph::add_node over lent tables.
+// PortGraph::add_node on a lent graph.
 pub fn add_node_lent(
     tables: &mut PortTables,
     incoming: usize,
@@ -26,10 +27,7 @@ pub fn add_node_lent(
         × StaysCanonical tables.old.nodes tables.new.nodes
         × (add_numbers result ≡ add_numbers (add_node (graph_of tables.old) incoming outgoing).answer) }
 {
-    if NODE_PORTS < incoming {
-        return Err(AddError::TooManyPorts);
-    }
-    if NODE_PORTS - incoming < outgoing {
+    if too_many_ports(incoming, outgoing) {
         return Err(AddError::TooManyPorts);
     }
     let size = incoming + outgoing;
@@ -66,7 +64,7 @@ pub fn add_node_lent(
     Ok((NodeIndex(node as u32), PortIndex(first as u32)))
 }
 
-// PortGraph::remove_node over lent tables.
+// PortGraph::remove_node on a lent graph.
 pub fn remove_node_lent(tables: &mut PortTables, node: NodeIndex) -> Result<(), NoSuchNode>
     requires { Wf (graph_of tables.old) }
     ensures { (graph_of tables.new

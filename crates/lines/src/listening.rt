@@ -14,7 +14,7 @@ pub struct Listener {
     // Whether each line is printed before its answer.
     echo: bool,
     // The number of the line that was heard last, and whether the one in hand is too long.
-    line: u64,
+    pub line: u64,
     too_long: bool,
     // Whether no line is read any more.
     pub ended: bool,

@@ -17,6 +17,7 @@ pub enum Found {
 }
 
 // The line in hand: where in the buffer it begins, up to where there is no newline in it, and where what was read ends.
+// Stay places beside the buffer: what is heard is lent from it while the reader is kept.
 #[derive(Clone, Copy)]
 pub struct Reader {
     from: usize,
@@ -24,7 +25,7 @@ pub struct Reader {
     held: usize,
 }
 
-// Stores a byte; outside nothing changes.
+// Stores a byte; outside nothing changes. Nothing calls it; it stays, since a public function keeps its promise.
 pub fn put_byte(buffer: &mut [u8], at: usize, byte: u8)
     ensures { buffer.new ≡ set buffer.old at byte }
 {

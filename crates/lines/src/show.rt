@@ -17,6 +17,11 @@ pub fn write_bytes(rt: &impl Print, bytes: &[u8]) {
     let _ = rt.write_all(bytes);
 }
 
+// `ok` with one number.
+pub fn show_number(rt: &impl Print, value: u64) {
+    Line::of(b"ok").number(value).write(rt);
+}
+
 impl Line {
     fn push(&mut self, byte: u8) {
         if let Some(place) = self.bytes.get_mut(self.len) {

@@ -10,7 +10,7 @@ pub struct Span {
     pub to: usize,
 }
 
-// The byte at a place; 0 outside.
+// The byte at a place; 0 outside. Stays a number: the definitions read 0 there.
 pub fn byte_at(text: &[u8], at: usize) -> u8
     ensures { result ≡ get_or text.now at 0 }
 {
@@ -100,7 +100,7 @@ impl Span {
     }
 }
 
-// Whether a word of one text is a word of another.
+// Whether a word of one text is a word of another. Stays a loop, not `==` of two parts: a span may lie outside its text and reads 0 there.
 pub fn same_word(text: &[u8], word: Span, other: &[u8], name: Span) -> bool
     ensures { result ≡ same_bytes (bytes_of text.now word) (bytes_of other.now name) }
 {
@@ -132,7 +132,7 @@ fn with_digit(value: u32, byte: u8) -> Option<u32>
     value.checked_mul(10)?.checked_add((byte - b'0') as u32)
 }
 
-// The number that a word says in decimal digits.
+// The number that a word says in decimal digits. Stays a loop: `parse` takes a sign, and no empty word.
 pub fn number_of(text: &[u8], word: Span) -> Option<u32>
     ensures { value_or_none result ≡ number_said (bytes_of text.now word) }
 {
@@ -143,7 +143,7 @@ pub fn number_of(text: &[u8], word: Span) -> Option<u32>
     Some(value)
 }
 
-// The same; 0 where it says none.
+// The same; 0 where it says none. Stays a number: the line's words were read as numbers before.
 pub fn number_or_zero(text: &[u8], word: Span) -> u32
     ensures { result ≡ number_or_zero (bytes_of text.now word) }
 {

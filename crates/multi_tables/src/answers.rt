@@ -56,7 +56,7 @@ pub struct SubportLink {
     pub place: PortPlace,
 }
 
-// An end without its place, as the calls over lent tables answer.
+// An end without its place, as the calls on a lent graph answer.
 pub fn unplaced(
     answer: Result<Option<(SubportIndex, PortPlace)>, Refusal>,
 ) -> Result<Option<SubportIndex>, Refusal>

@@ -6,6 +6,7 @@ ghost use Rattle.multi_tables.specs.TakenInputs.{wired_in, taken_in, taken_sub_i
 
 use crate::answers::{Refusal, SubportIndex};
 use crate::named::{LinkNeed, SeenPair};
+use crate::seen::SidedPort;
 use crate::wire_tables::WireTables;
 use port_tables::direction::Direction;
 use port_tables::index::PortIndex;
@@ -20,7 +21,10 @@ impl WireTables<'_> {
             return false;
         };
         match side {
-            Direction::Incoming => self.wires_at(port, side) != 0,
+            Direction::Incoming => self.wires_at(SidedPort {
+                port: port,
+                side: side,
+            }) != 0,
             Direction::Outgoing => false,
         }
     }
@@ -56,7 +60,11 @@ impl WireTables<'_> {
         ensures { result ≡ taken_second subport.port.0 (end_in self.entry.marks.now self.entry.links.now self.entry.owners.now subport.port.0 direction subport.subport_offset) }
     {
         let port = subport.port;
-        let Some(_) = self.end_in(port.0, direction, subport.subport_offset) else {
+        let end = SidedPort {
+            port: port.0,
+            side: direction,
+        };
+        let Some(_) = self.end_in(end, subport.subport_offset) else {
             return Refusal::UnknownOffset(port);
         };
         Refusal::InputWired
@@ -75,7 +83,8 @@ impl WireTables<'_> {
             }
             Ok(SeenPair::Both(d, e)) => {
                 let p = from.port;
-                let Some(_) = self.end_in(p.0, d, from.subport_offset) else {
+                let first = SidedPort { port: p.0, side: d };
+                let Some(_) = self.end_in(first, from.subport_offset) else {
                     return Refusal::UnknownOffset(p);
                 };
                 return self.taken_end(to, e);

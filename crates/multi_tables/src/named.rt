@@ -6,7 +6,7 @@ ghost use Rattle.multi_tables.specs.NamedEnds.{block_port, seen_pair, subport_pa
 use crate::answers::{Refusal, SubportIndex};
 use crate::marks::marked;
 use crate::reads::lowest_unlinked;
-use crate::seen::SeenPort;
+use crate::seen::{SeenPort, SidedPort};
 use crate::wire_tables::WireTables;
 use port_tables::direction::Direction;
 use port_tables::index::{NodeIndex, PORT_SLOTS, PortIndex};
@@ -45,25 +45,19 @@ pub enum LinkNeed {
 }
 
 // Two ends that are there: on opposite sides, and neither linked.
-fn free_ends(
-    links: &[u32; PORT_SLOTS],
-    x: u32,
-    d: Direction,
-    y: u32,
-    e: Direction,
-) -> Result<(u32, u32), Refusal>
-    ensures { result ≡ free_ends links.now x d y e }
+fn free_ends(links: &[u32; PORT_SLOTS], a: SidedPort, b: SidedPort) -> Result<(u32, u32), Refusal>
+    ensures { result ≡ free_ends links.now a.port a.side b.port b.side }
 {
-    if d == e {
-        return Err(Refusal::IncompatibleDirections(PortIndex(x), PortIndex(y), d));
+    if a.side == b.side {
+        return Err(Refusal::IncompatibleDirections(PortIndex(a.port), PortIndex(b.port), a.side));
     }
-    if at(links, wide(x)) != 0 {
-        return Err(Refusal::AlreadyLinked(PortIndex(x)));
+    if at(links, wide(a.port)) != 0 {
+        return Err(Refusal::AlreadyLinked(PortIndex(a.port)));
     }
-    if at(links, wide(y)) != 0 {
-        return Err(Refusal::AlreadyLinked(PortIndex(y)));
+    if at(links, wide(b.port)) != 0 {
+        return Err(Refusal::AlreadyLinked(PortIndex(b.port)));
     }
-    Ok((x, y))
+    Ok((a.port, b.port))
 }
 
 // An end as read: on an unsplit port every offset means the port itself.
@@ -137,15 +131,19 @@ impl WireTables<'_> {
             return Err(Refusal::BadOffset);
         }
         let (_, direction) = self.block_port(port)?;
-        let Some(inner) = self.end_in(port.0, direction, offset) else {
+        let end = SidedPort {
+            port: port.0,
+            side: direction,
+        };
+        let Some(inner) = self.end_in(end, offset) else {
             return Err(Refusal::UnknownOffset(port));
         };
         Ok(inner)
     }
 
     // The first end is there, with its side: the second. Read as `SeenPort`: a dead port is another refusal than to `block_port`.
-    fn second_end(self, subport: SubportIndex, x: u32, d: Direction) -> Result<(u32, u32), Refusal>
-        ensures { result ≡ second_end self.entry.marks.now self.entry.links.now self.entry.owners.now self.entry.flags.now subport.port.0 subport.subport_offset x d }
+    fn second_end(self, subport: SubportIndex, first: SidedPort) -> Result<(u32, u32), Refusal>
+        ensures { result ≡ second_end self.entry.marks.now self.entry.links.now self.entry.owners.now self.entry.flags.now subport.port.0 subport.subport_offset first.port first.side }
     {
         let port = subport.port;
         let offset = subport.subport_offset;
@@ -153,10 +151,14 @@ impl WireTables<'_> {
             SeenPort::Dead => Err(Refusal::UnknownSecondPort(port)),
             SeenPort::Hidden => Err(Refusal::HiddenPort(port)),
             SeenPort::Visible(_, e) => {
-                let Some(y) = self.end_in(port.0, e, offset) else {
+                let second = SidedPort {
+                    port: port.0,
+                    side: e,
+                };
+                let Some(y) = self.end_in(second, offset) else {
                     return Err(Refusal::UnknownOffset(port));
                 };
-                free_ends(self.links, x, d, y, e)
+                free_ends(self.links, first, SidedPort { port: y, side: e })
             }
         }
     }
@@ -171,10 +173,14 @@ impl WireTables<'_> {
         ensures { result ≡ first_end self.entry.marks.now self.entry.links.now self.entry.owners.now self.entry.flags.now from.port.0 from.subport_offset to.port.0 to.subport_offset d }
     {
         let port = from.port;
-        let Some(x) = self.end_in(port.0, d, from.subport_offset) else {
+        let first = SidedPort {
+            port: port.0,
+            side: d,
+        };
+        let Some(x) = self.end_in(first, from.subport_offset) else {
             return Err(Refusal::UnknownOffset(port));
         };
-        self.second_end(to, x, d)
+        self.second_end(to, SidedPort { port: x, side: d })
     }
 
     // The ends of a link.
@@ -192,11 +198,11 @@ impl WireTables<'_> {
     }
 
     // A split port: the lowest unlinked offset, else one more.
-    fn reuse_in(self, port: u32, direction: Direction) -> EndNeed
-        ensures { result ≡ reuse_in self.entry.links.now self.entry.owners.now port direction }
+    fn reuse_in(self, port: SidedPort) -> EndNeed
+        ensures { result ≡ reuse_in self.entry.links.now self.entry.owners.now port.port port.side }
     {
-        let count = self.subports_in(port, direction);
-        let first = self.first_in(port, direction);
+        let count = self.subports_in(port);
+        let first = self.first_in(port);
         if row_fits(first, count) {
             let offset = lowest_unlinked(self.links, first, count);
             if offset < count {
@@ -207,41 +213,41 @@ impl WireTables<'_> {
     }
 
     // What the end that a link of this port takes needs.
-    pub fn need_in(self, port: u32, direction: Direction) -> EndNeed
-        ensures { result ≡ end_need_in self.entry.marks.now self.entry.links.now self.entry.owners.now port direction }
+    pub fn need_in(self, port: SidedPort) -> EndNeed
+        ensures { result ≡ end_need_in self.entry.marks.now self.entry.links.now self.entry.owners.now port.port port.side }
     {
-        if marked(self.marks, wide(port)) {
-            return self.reuse_in(port, direction);
+        if marked(self.marks, wide(port.port)) {
+            return self.reuse_in(port);
         }
-        if at(self.links, wide(port)) == 0 {
-            return EndNeed::Ready(port, 0);
+        if at(self.links, wide(port.port)) == 0 {
+            return EndNeed::Ready(port.port, 0);
         }
         EndNeed::Split
     }
 
     // The second port is not live.
-    fn first_need(self, a: u32, d: Direction, b: PortIndex) -> Result<LinkNeed, Refusal>
-        ensures { result ≡ first_need self.entry.marks.now self.entry.links.now self.entry.owners.now a d b.0 }
+    fn first_need(self, a: SidedPort, b: PortIndex) -> Result<LinkNeed, Refusal>
+        ensures { result ≡ first_need self.entry.marks.now self.entry.links.now self.entry.owners.now a.port a.side b.0 }
     {
-        match self.need_in(a, d) {
+        match self.need_in(a) {
             EndNeed::Ready(_, _) => Err(Refusal::UnknownSecondPort(b)),
-            EndNeed::Grow => Ok(LinkNeed::First(d)),
-            EndNeed::Split => Ok(LinkNeed::First(d)),
+            EndNeed::Grow => Ok(LinkNeed::First(a.side)),
+            EndNeed::Split => Ok(LinkNeed::First(a.side)),
         }
     }
 
     // Both ports are live.
-    fn both_need(self, a: u32, d: Direction, b: u32, e: Direction) -> Result<LinkNeed, Refusal>
-        ensures { result ≡ both_need self.entry.marks.now self.entry.links.now self.entry.owners.now a d b e }
+    fn both_need(self, a: SidedPort, b: SidedPort) -> Result<LinkNeed, Refusal>
+        ensures { result ≡ both_need self.entry.marks.now self.entry.links.now self.entry.owners.now a.port a.side b.port b.side }
     {
-        let EndNeed::Ready(x, o) = self.need_in(a, d) else {
-            return Ok(LinkNeed::Both(d, e));
+        let EndNeed::Ready(x, o) = self.need_in(a) else {
+            return Ok(LinkNeed::Both(a.side, b.side));
         };
-        let EndNeed::Ready(y, r) = self.need_in(b, e) else {
-            return Ok(LinkNeed::Both(d, e));
+        let EndNeed::Ready(y, r) = self.need_in(b) else {
+            return Ok(LinkNeed::Both(a.side, b.side));
         };
-        if d == e {
-            return Err(Refusal::IncompatibleDirections(PortIndex(x), PortIndex(y), d));
+        if a.side == b.side {
+            return Err(Refusal::IncompatibleDirections(PortIndex(x), PortIndex(y), a.side));
         }
         Ok(LinkNeed::Ends(x, o, y, r))
     }
@@ -252,10 +258,12 @@ impl WireTables<'_> {
     {
         match self.seen_pair(a, b)? {
             SeenPair::First(d) => {
-                return self.first_need(a.0, d, b);
+                return self.first_need(SidedPort { port: a.0, side: d }, b);
             },
             SeenPair::Both(d, e) => {
-                return self.both_need(a.0, d, b.0, e);
+                let first = SidedPort { port: a.0, side: d };
+                let second = SidedPort { port: b.0, side: e };
+                return self.both_need(first, second);
             },
         }
     }

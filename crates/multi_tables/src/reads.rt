@@ -1,5 +1,5 @@
 // Leaves that read lent tables: what a port number is, the subports of a split port, the ends, what an end is linked with, and where
-// that stands.
+// that stands; `place_in` tells the last, and `nowhere` is its answer for a port that is not live.
 // No leaf takes the graph, and none asks anything of its port.
 // Where a slot has no link or no owner `far_in` and `owner_in` stay at 0, as their definitions: who calls them knows that there is one.
 ghost use Rattle.std.specs.Prelude.{◌≡◌, ◌+◌, ◌≤◌, min};
@@ -9,7 +9,7 @@ ghost use Rattle.multi_tables.specs.TableReads.{far_in, owner_in, seen_in, run_u
 
 use crate::answers::{PortPlace, Refusal, SubportIndex};
 use crate::marks::{flagged, marked};
-use crate::seen::SeenPort;
+use crate::seen::{SeenPort, SidedPort};
 use crate::wire_tables::WireTables;
 use port_tables::direction::Direction;
 use port_tables::index::{NodeIndex, PORT_SLOTS, PortIndex};
@@ -105,40 +105,35 @@ fn row_below(owners: &[u32; PORT_SLOTS], owner: u32, from: usize) -> usize
 }
 
 // How many subports lie beside a copy port.
-fn count_beside(owners: &[u32; PORT_SLOTS], copy: u32, direction: Direction) -> usize
-    ensures { result ≡ count_beside owners.now copy direction }
+fn count_beside(owners: &[u32; PORT_SLOTS], copy: SidedPort) -> usize
+    ensures { result ≡ count_beside owners.now copy.port copy.side }
 {
-    let place = wide(copy);
-    match direction {
+    let place = wide(copy.port);
+    match copy.side {
         Direction::Incoming => run_down(owners, at(owners, place.saturating_sub(1)), place),
         Direction::Outgoing => run_up(owners, at(owners, place + 1), place + 1),
     }
 }
 
 // The slot of the first of them.
-fn first_beside(owners: &[u32; PORT_SLOTS], copy: u32, direction: Direction) -> usize
-    ensures { result ≡ first_beside owners.now copy direction }
+fn first_beside(owners: &[u32; PORT_SLOTS], copy: SidedPort) -> usize
+    ensures { result ≡ first_beside owners.now copy.port copy.side }
 {
-    let place = wide(copy);
-    match direction {
-        Direction::Incoming => place.saturating_sub(count_beside(owners, copy, direction)),
+    let place = wide(copy.port);
+    match copy.side {
+        Direction::Incoming => place.saturating_sub(count_beside(owners, copy)),
         Direction::Outgoing => place + 1,
     }
 }
 
 // The one at an offset.
-fn end_beside(
-    owners: &[u32; PORT_SLOTS],
-    copy: u32,
-    direction: Direction,
-    offset: u16,
-) -> Option<u32>
-    ensures { result ≡ end_as (end_beside owners.now copy direction offset) }
+fn end_beside(owners: &[u32; PORT_SLOTS], copy: SidedPort, offset: u16) -> Option<u32>
+    ensures { result ≡ end_as (end_beside owners.now copy.port copy.side offset) }
 {
-    let place = wide(copy);
-    match direction {
+    let place = wide(copy.port);
+    match copy.side {
         Direction::Incoming => {
-            let count = count_beside(owners, copy, direction);
+            let count = count_beside(owners, copy);
             if usize::from(offset) < count {
                 return Some((place.saturating_sub(count) + usize::from(offset)) as u32);
             }
@@ -157,12 +152,12 @@ fn end_beside(
 }
 
 // The slot of the copy port beside the subports among which a slot is.
-fn copy_beside(owners: &[u32; PORT_SLOTS], port: u32, direction: Direction) -> usize
-    ensures { result ≡ copy_beside owners.now port direction }
+fn copy_beside(owners: &[u32; PORT_SLOTS], port: SidedPort) -> usize
+    ensures { result ≡ copy_beside owners.now port.port port.side }
 {
-    let place = wide(port);
+    let place = wide(port.port);
     let owner = at(owners, place);
-    match direction {
+    match port.side {
         Direction::Incoming => place + run_up(owners, owner, place),
         Direction::Outgoing => place
             .saturating_sub(run_down(owners, owner, place))
@@ -218,32 +213,46 @@ impl WireTables<'_> {
     }
 
     // How many subports a split port has.
-    pub fn subports_in(self, port: u32, direction: Direction) -> usize
-        ensures { result ≡ subports_in self.entry.links.now self.entry.owners.now port direction }
+    pub fn subports_in(self, port: SidedPort) -> usize
+        ensures { result ≡ subports_in self.entry.links.now self.entry.owners.now port.port port.side }
     {
-        count_beside(self.owners, far_in(self.links, wide(port)), direction)
+        count_beside(
+            self.owners,
+            SidedPort {
+                port: far_in(self.links, wide(port.port)),
+                side: port.side,
+            },
+        )
     }
 
     // The slot of the first subport of a split port.
-    pub fn first_in(self, port: u32, direction: Direction) -> usize
-        ensures { result ≡ first_in self.entry.links.now self.entry.owners.now port direction }
+    pub fn first_in(self, port: SidedPort) -> usize
+        ensures { result ≡ first_in self.entry.links.now self.entry.owners.now port.port port.side }
     {
-        first_beside(self.owners, far_in(self.links, wide(port)), direction)
+        first_beside(
+            self.owners,
+            SidedPort {
+                port: far_in(self.links, wide(port.port)),
+                side: port.side,
+            },
+        )
     }
 
     // The inner port of an end.
-    pub fn end_in(self, port: u32, direction: Direction, offset: u16) -> Option<u32>
-        ensures { result ≡ end_as (end_in self.entry.marks.now self.entry.links.now self.entry.owners.now port direction offset) }
+    pub fn end_in(self, port: SidedPort, offset: u16) -> Option<u32>
+        ensures { result ≡ end_as (end_in self.entry.marks.now self.entry.links.now self.entry.owners.now port.port port.side offset) }
     {
-        if marked(self.marks, wide(port)) {
+        if marked(self.marks, wide(port.port)) {
             return end_beside(
                 self.owners,
-                far_in(self.links, wide(port)),
-                direction,
+                SidedPort {
+                    port: far_in(self.links, wide(port.port)),
+                    side: port.side,
+                },
                 offset,
             );
         }
-        Some(port)
+        Some(port.port)
     }
 
     // The subport that an inner port is.
@@ -259,8 +268,14 @@ impl WireTables<'_> {
         };
         let node = meta.node;
         if flagged(self.flags, wide(node.0)) {
-            let direction = meta.direction;
-            let copy = copy_beside(self.owners, port, direction);
+            let side = meta.direction;
+            let copy = copy_beside(
+                self.owners,
+                SidedPort {
+                    port: port,
+                    side: side,
+                },
+            );
             let offset = run_down(self.owners, owner, wide(port));
             return SubportIndex {
                 port: PortIndex(far_in(self.links, copy)),

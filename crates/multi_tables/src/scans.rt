@@ -9,6 +9,7 @@ ghost use Rattle.multi_tables.specs.Scans.{first_found, link_port, span_first, s
 use crate::answers::{SubportIndex, SubportLink};
 use crate::marks::marked;
 use crate::reads::{owner_in, place_in};
+use crate::seen::SidedPort;
 use crate::wire_tables::WireTables;
 use port_tables::direction::Direction;
 use port_tables::index::{NodeIndex, PORT_SLOTS, PortIndex};
@@ -17,6 +18,7 @@ use port_tables::numbers::wide;
 use port_tables::sides::{Sides, ports_from, ports_to};
 
 // Which links a walk gives, by the port that they lead to.
+// Stays an enum: what a walk leaves out is data of its cursor, and the definitions match on it.
 #[derive(Clone, Copy)]
 pub enum LinkFilter {
     All,
@@ -52,21 +54,21 @@ pub fn capped(x: usize) -> usize
 
 impl WireTables<'_> {
     // The slot of a port's first end.
-    pub fn span_first(self, port: u32, direction: Direction) -> usize
-        ensures { (result ≡ span_first self.entry.marks.now self.entry.links.now self.entry.owners.now port direction) × (result ≤ port_slots) }
+    pub fn span_first(self, port: SidedPort) -> usize
+        ensures { (result ≡ span_first self.entry.marks.now self.entry.links.now self.entry.owners.now port.port port.side) × (result ≤ port_slots) }
     {
-        if marked(self.marks, wide(port)) {
-            return capped(self.first_in(port, direction));
+        if marked(self.marks, wide(port.port)) {
+            return capped(self.first_in(port));
         }
-        capped(wide(port))
+        capped(wide(port.port))
     }
 
     // How many ends a port has.
-    pub fn span_count(self, port: u32, direction: Direction) -> usize
-        ensures { (result ≡ span_count self.entry.marks.now self.entry.links.now self.entry.owners.now port direction) × (result ≤ port_slots) }
+    pub fn span_count(self, port: SidedPort) -> usize
+        ensures { (result ≡ span_count self.entry.marks.now self.entry.links.now self.entry.owners.now port.port port.side) × (result ≤ port_slots) }
     {
-        if marked(self.marks, wide(port)) {
-            return self.subports_in(port, direction);
+        if marked(self.marks, wide(port.port)) {
+            return self.subports_in(port);
         }
         1
     }
@@ -158,11 +160,15 @@ impl WireTables<'_> {
             (port_links_in self.entry.marks.now self.entry.links.now self.entry.owners.now self.entry.flags.now port from)))
             × (link_port port result ≡ port) }
     {
-        let Ok((_, direction)) = self.block_port(PortIndex(port)) else {
+        let Ok((_, side)) = self.block_port(PortIndex(port)) else {
             return None;
         };
-        let first = self.span_first(port, direction);
-        let end = self.span_count(port, direction);
+        let sided = SidedPort {
+            port: port,
+            side: side,
+        };
+        let first = self.span_first(sided);
+        let end = self.span_count(sided);
         self.scan_port(
             only,
             PortEnds {

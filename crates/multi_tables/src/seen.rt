@@ -1,6 +1,13 @@
-// How a port number is read, and an end that a call names.
+// How a port number is read.
 use port_tables::direction::Direction;
 use port_tables::index::NodeIndex;
+
+// A port of a block, and its side. OnBlock stays a clause: it says of the graph too.
+#[derive(Clone, Copy)]
+pub struct SidedPort {
+    pub port: u32,
+    pub side: Direction,
+}
 
 // A port number, read.
 #[derive(Clone, Copy)]

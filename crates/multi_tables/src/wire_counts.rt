@@ -7,6 +7,7 @@ ghost use Rattle.multi_tables.specs.FanOutScans.{linked_at, linked_up, linked_do
 use crate::marks::marked;
 use crate::reads::far_in;
 use crate::scans::capped;
+use crate::seen::SidedPort;
 use crate::wire_tables::WireTables;
 use port_tables::direction::Direction;
 use port_tables::index::PORT_SLOTS;
@@ -55,11 +56,11 @@ impl WireTables<'_> {
     }
 
     // How many of the subports beside a copy port are linked.
-    fn linked_beside(self, copy: u32, direction: Direction) -> usize
-        ensures { (result ≡ linked_beside self.entry.links.now self.entry.owners.now copy direction) × (result ≤ port_slots) }
+    fn linked_beside(self, copy: SidedPort) -> usize
+        ensures { (result ≡ linked_beside self.entry.links.now self.entry.owners.now copy.port copy.side) × (result ≤ port_slots) }
     {
-        let place = wide(copy);
-        match direction {
+        let place = wide(copy.port);
+        match copy.side {
             Direction::Incoming => self.linked_down(
                 at(self.owners, place.saturating_sub(1)),
                 place,
@@ -69,12 +70,15 @@ impl WireTables<'_> {
     }
 
     // How many wires a port has.
-    pub fn wires_at(self, port: u32, direction: Direction) -> usize
-        ensures { (result ≡ wires_at_in self.entry.marks.now self.entry.links.now self.entry.owners.now port direction) × (result ≤ port_slots) }
+    pub fn wires_at(self, port: SidedPort) -> usize
+        ensures { (result ≡ wires_at_in self.entry.marks.now self.entry.links.now self.entry.owners.now port.port port.side) × (result ≤ port_slots) }
     {
-        let slot = wide(port);
+        let slot = wide(port.port);
         if marked(self.marks, slot) {
-            return self.linked_beside(far_in(self.links, slot), direction);
+            return self.linked_beside(SidedPort {
+                port: far_in(self.links, slot),
+                side: port.side,
+            });
         }
         linked_at(self.links, slot)
     }

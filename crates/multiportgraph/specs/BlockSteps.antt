@@ -406,13 +406,6 @@ module _ (m : MultiPortGraph) (n i o : ℕ) (b : List ℕ) where
       go true f q = there (leb-true _ _ f) (meta_at m.graph n) refl (is_hidden m n) refl q
       go false f q = let z : TooManyPorts ≡ a = cc in subst As z (set_too_many (leb-false _ _ f))
 
-  pub set_within : (k : NodeMeta) → Ok k ≡ found_within → (i + o ≤ node_ports) × (Ok k ≡ block_found m n)
-  set_within k e = go (leb (i + o) node_ports) refl e
-    where
-      go : (t : Bool) → leb (i + o) node_ports ≡ t → Ok k ≡ cond t (block_found m n) (Err TooManyPorts) → (i + o ≤ node_ports) × (Ok k ≡ block_found m n)
-      go true f q = (leb-true _ _ f, q)
-      go false f q = let z : ◌≡◌ {A = ℕ} 0 1 = cc in absurd (omega arith)
-
   -- a block that is there: the lower graph refuses, or has its new counts
   module _ (few : i + o ≤ node_ports) (k : NodeMeta) (e : Ok k ≡ block_found m n) (s : lower_set.PortsSet) {b' : List ℕ} {c : Result ℕ Refusal}
       (f : s ≡ set_num_ports m.graph n i o (length b)) (j : b' ≡ moves_after m.graph n i o b) (told : c ≡ set_as s.answer) where

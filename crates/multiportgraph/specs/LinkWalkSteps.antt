@@ -129,12 +129,6 @@ module _ (m : MultiPortGraph) (c : NodeLinks) (r : Option SubportLink)
 
 -- Neighbours.
 
-pub filter_on : (n : NodeIndex) (b : Bool) → b ≡ true → filters.NotOutputOf n ≡ self_filter n b
-filter_on n b e = rw e
-
-pub filter_off : (n : NodeIndex) (b : Bool) → b ≡ false → filters.All ≡ self_filter n b
-filter_off n b e = rw e
-
 own_by : (m : MultiPortGraph) (n : NodeIndex) (s : Port) → not_own_output n.0 (seen_as s) ≡ cond (is_own_output m n.0 s) false true
 own_by m n dead = refl
 own_by m n hidden = refl

@@ -67,19 +67,6 @@ module _ (m : MultiPortGraph) (n : ℕ) where
   both_found k held b w e h =
       ap (λ (x : Bool). cond x (held_seen m held) false) (sym (block_at m n (Ok k) e)) ∙ sym (held_read m w held) ∙ h
 
--- Ends from the back.
-
-module _ (back count : ℕ) where
-  pub before_all : back ≡ 0 → (count ≡ end_before back count) × (count ≤ count)
-  before_all e = (rw (eq-eqb back 0 e), omega arith)
-
-  module _ (w : ℕ) (h : back ≡ 0 → ⊥) (e : w ≡ back) where
-    pub before_short : count ≤ w - 1 → (count ≡ end_before back count) × (count ≤ count)
-    before_short l = (rw (ne_eqb back 0 h) (omega arith), omega arith)
-
-    pub before_cut : w - 1 < count → (w - 1 ≡ end_before back count) × (w - 1 ≤ count)
-    before_cut l = (rw (ne_eqb back 0 h) (omega arith), omega arith)
-
 -- A search through consecutive numbers, from either end.
 
 less_one : (n end : ℕ) → n < end → end - n ≡ suc (end - (n + 1))
@@ -136,12 +123,6 @@ left_between t front back c = filter_swap (between front back) t (range 0 c) ∙
 node_some : (e : NodeEntry) → is_some (meta_of_entry e) ≡ is_node e
 node_some (node_variants.Free f) = refl
 node_some (node_variants.Node k) = refl
-
-pub slot_hidden : (e : NodeEntry) (h : Bool) → h ≡ true → false ≡ block_slot e h
-slot_hidden e h g = rw g
-
-pub slot_open : (e : NodeEntry) (h r : Bool) → h ≡ false → r ≡ is_node e → r ≡ block_slot e h
-slot_open e h r g f = rw g f
 
 module _ (m : MultiPortGraph) where
   pub node_held_none : (held : ℕ) → held ≡ 0 → true ≡ node_held m held

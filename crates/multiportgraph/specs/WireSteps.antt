@@ -1,6 +1,6 @@
 -- Steps of the walk over all wires, over plain values.
-use Rattle.std.specs.Prelude.{◌≡◌, refl, List, [], ◌∷◌, ℕ, suc, ◌+◌, ◌-◌, Option, Some, None}
-use Rattle.std.proofs.Common.{sym, ◌∙◌, arith, eq-eqb, ne_eqb}
+use Rattle.std.specs.Prelude.{◌≡◌, refl, List, [], ◌∷◌, ℕ, suc, ◌-◌, Option}
+use Rattle.std.proofs.Common.{◌∙◌, arith, eq-eqb, ne_eqb}
 use Rattle.std.proofs.Math.Path.{ap}
 use Rattle.port_tables.specs.Limits.{node_slots}
 use Rattle.port_tables.specs.declared.direction.Direction.{Direction}
@@ -14,15 +14,6 @@ use Rattle.multiportgraph.specs.WalkScans.{wires_found}
 use Rattle.multiportgraph.specs.declared.multiportgraph.MultiPortGraph.{MultiPortGraph}
 use Rattle.multi_tables.specs.declared.answers.SubportLink.{SubportLink}
 use Rattle.multiportgraph.specs.declared.iter.Wires.{Wires}
-
-pub item_held : (x : Option SubportLink) (w : SubportLink) → x ≡ Some w
-    → Some (w, record { held = w.from.port.0 + 1; offset = w.from.subport_offset }) ≡ wires_found x
-item_held x w e =
-    let one : w.from.port.0 + 1 ≡ suc w.from.port.0 = omega arith in
-    ap (λ (h : ℕ). Some (w, record { held = h; offset = w.from.subport_offset })) one ∙ ap wires_found (sym e)
-
-pub item_end : (x : Option SubportLink) → x ≡ None → None ≡ wires_found x
-item_end x e = ap wires_found (sym e)
 
 found_first : (l : List SubportLink) → wires_found (first_found l) ≡ first_item l
 unfolding first_found

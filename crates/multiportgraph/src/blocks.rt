@@ -42,6 +42,7 @@ fn within(found: Result<NodeMeta, Refusal>, counts: SideCounts) -> Result<NodeMe
 }
 
 // What a change of counts answers, where the single-link graph answers this.
+// Stays a function: From would have to stand in the crate of one of the two types, and neither knows the other.
 pub fn set_answer(lower: Result<usize, SetError>) -> Result<usize, Refusal>
     ensures { result ≡ set_as lower }
 {
@@ -104,6 +105,7 @@ impl MultiPortGraph {
     }
 
     // Lists the hidden nodes of `count` ports from `first` on, in order, from place `at` on; answers the place after the last.
+    // An array with its count: no heap.
     fn copies_in(self, list: &mut [u32; NODE_PORTS], at: usize, first: usize, count: usize) -> usize
         requires { (first + count ≤ port_slots) × (at + count ≤ node_ports) }
         ensures { (result ≡ at + length (copies_in self first count)) × (list.new ≡ sets list.old at (copies_in self first count)) }

@@ -14,7 +14,7 @@ use multi_tables::answers::{PortPlace, Refusal, SubportIndex};
 use multi_tables::marks::marked;
 use multi_tables::named::read_in;
 use multi_tables::reads::place_in;
-use port_tables::direction::Direction;
+use multi_tables::seen::SidedPort;
 use port_tables::index::{NODE_SLOTS, NodeIndex, PORT_SLOTS, PortIndex};
 use port_tables::numbers::wide;
 use port_tables::release::Release;
@@ -22,6 +22,7 @@ use portgraph::alloc::AddError;
 use portgraph::portgraph::PortGraph;
 
 // What the lower graph answers to an added node, as this graph answers it.
+// Stays a function: From would have to stand in the crate of one of the two types, and neither knows the other.
 pub fn added_as(
     answer: Result<(NodeIndex, PortIndex), AddError>,
 ) -> Result<(NodeIndex, PortIndex), Refusal>
@@ -157,9 +158,12 @@ impl MultiPortGraph {
         ensures { (result ≡ cut_port self port.0) × (cut_numbers result.answer ≡ cut_numbers (cut_port self port.0).answer) }
     {
         match self.port_direction(port) {
-            Ok(direction) => {
+            Ok(side) => {
                 return PortUnlinked {
-                    graph: self.without_wires(port, direction),
+                    graph: self.without_wires(SidedPort {
+                        port: port.0,
+                        side: side,
+                    }),
                     answer: self.cut_answer(port),
                 };
             }
@@ -180,14 +184,14 @@ impl MultiPortGraph {
     }
 
     // The graph without the wires at a port of a block.
-    fn without_wires(self, port: PortIndex, direction: Direction) -> MultiPortGraph
-        requires { OnBlock self port.0 direction }
-        ensures { result ≡ (cut_port self port.0).graph }
+    fn without_wires(self, port: SidedPort) -> MultiPortGraph
+        requires { OnBlock self port.port port.side }
+        ensures { result ≡ (cut_port self port.port).graph }
     {
-        if self.is_split(port.0) {
-            return self.drop_copy(port.0, direction);
+        if self.is_split(port.port) {
+            return self.drop_copy(port);
         }
-        self.without_wire(port)
+        self.without_wire(PortIndex(port.port))
     }
 
     // What cutting the wires at a port of a block answers.

@@ -13,7 +13,7 @@ use crate::ends::port_of;
 use crate::multiportgraph::MultiPortGraph;
 use multi_tables::marks::{lay_marks, marked, put_flag, put_marks};
 use multi_tables::reads::{far_in, owner_in};
-use port_tables::direction::Direction;
+use multi_tables::seen::SidedPort;
 use port_tables::index::NodeIndex;
 use port_tables::numbers::wide;
 use portgraph::portgraph::PortGraph;
@@ -28,14 +28,14 @@ pub(crate) struct HiddenCopy {
 
 impl MultiPortGraph {
     // The hidden node of a split port, read off the tables.
-    pub(crate) fn hidden_copy(&self, port: u32, direction: Direction) -> HiddenCopy
-        ensures { (result.copy ≡ far_in self.now.graph.port_link port) × (result.node ≡ owner_in self.now.graph.port_meta result.copy) × (result.count ≡ subports_in self.now.graph.port_link self.now.graph.port_meta port direction) }
+    pub(crate) fn hidden_copy(&self, port: SidedPort) -> HiddenCopy
+        ensures { (result.copy ≡ far_in self.now.graph.port_link port.port) × (result.node ≡ owner_in self.now.graph.port_meta result.copy) × (result.count ≡ subports_in self.now.graph.port_link self.now.graph.port_meta port.port port.side) }
     {
-        let copy = far_in(&self.graph.port_link, wide(port));
+        let copy = far_in(&self.graph.port_link, wide(port.port));
         HiddenCopy {
             copy: copy,
             node: owner_in(&self.graph.port_meta, copy),
-            count: self.wire_tables().subports_in(port, direction),
+            count: self.wire_tables().subports_in(port),
         }
     }
 
@@ -95,12 +95,12 @@ impl MultiPortGraph {
     }
 
     // A split port of a block loses its hidden node, with every link at it.
-    pub(crate) fn drop_copy(self, port: u32, direction: Direction) -> MultiPortGraph
-        requires { SplitPort self port direction }
-        ensures { result ≡ unsplit self port }
+    pub(crate) fn drop_copy(self, port: SidedPort) -> MultiPortGraph
+        requires { SplitPort self port.port port.side }
+        ensures { result ≡ unsplit self port.port }
     {
-        let hidden = self.hidden_copy(port, direction);
-        self.without_copy(port, hidden)
+        let hidden = self.hidden_copy(port);
+        self.without_copy(port.port, hidden)
     }
 
     // A port of a block loses its hidden node, if it has one.

@@ -9,6 +9,7 @@ ghost use Rattle.multi_tables.specs.FanOutScans.{fan_out_in};
 use crate::multiportgraph::MultiPortGraph;
 use multi_tables::answers::Refusal;
 use multi_tables::scans::capped;
+use multi_tables::seen::SidedPort;
 use multi_tables::wire_tables::WireTables;
 use port_tables::direction::Direction;
 use port_tables::index::{NodeIndex, PortIndex};
@@ -21,7 +22,10 @@ fn fan_out_sum(tables: WireTables<'_>, from: usize, end: usize) -> usize
     let stop = capped(end);
     let mut sum: usize = 0;
     for port in from..stop {
-        sum += tables.wires_at(port as u32, Direction::Outgoing);
+        sum += tables.wires_at(SidedPort {
+            port: port as u32,
+            side: Direction::Outgoing,
+        });
     }
     sum
 }
@@ -32,8 +36,13 @@ impl MultiPortGraph {
         requires { MultiWf self }
         ensures { (result ≡ port_fan_out self port.0) × (count_numbers result ≡ count_numbers (port_fan_out self port.0)) }
     {
-        let (_, direction) = self.block_port(port)?;
-        Ok(self.wire_tables().wires_at(port.0, direction))
+        let (_, side) = self.block_port(port)?;
+        Ok(
+            self.wire_tables().wires_at(SidedPort {
+                port: port.0,
+                side: side,
+            }),
+        )
     }
 
     // How many wires leave a block: the sum of the fan-outs of its outgoing ports.

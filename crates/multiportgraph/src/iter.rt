@@ -1,6 +1,7 @@
 // Walks as cursors by value: a step takes the cursor and the present graph, and gives the item with the next cursor.
 // A cursor holds what it gave last: a node or port one higher than its number, 0 at the start, and an offset. These stay numbers: one past the last
 // item is where a walk goes on, also from the start.
+// Cursors, no Iterator: the graph may change between two steps, so a walk borrows none.
 use port_tables::index::{NodeIndex, PortIndex};
 use port_tables::sides::Sides;
 

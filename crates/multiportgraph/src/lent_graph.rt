@@ -81,16 +81,13 @@ impl LentGraph {
 
     // The tables that a listing reads.
     pub(crate) fn list_tables(&self) -> ListTables<'_>
-        ensures { (result.nodes.now ≡ self.now.ports.nodes) × (result.links.now ≡ self.now.ports.links) × (result.owners.now ≡ self.now.ports.owners)
-            × (result.marks.now ≡ self.now.marks) × (result.flags.now ≡ self.now.flags) × (result.len ≡ self.now.ports.counts.node_len) }
+        ensures { (result.nodes.now ≡ self.now.ports.nodes) × (result.wires.links.now ≡ self.now.ports.links) × (result.wires.owners.now ≡ self.now.ports.owners)
+            × (result.wires.marks.now ≡ self.now.marks) × (result.wires.flags.now ≡ self.now.flags) × (result.len ≡ self.now.ports.counts.node_len) }
     {
         let tables = self.wire_tables();
         ListTables {
             nodes: &self.ports.nodes,
-            links: tables.links,
-            owners: tables.owners,
-            marks: tables.marks,
-            flags: tables.flags,
+            wires: tables,
             len: self.ports.counts.node_len,
         }
     }

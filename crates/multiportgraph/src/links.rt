@@ -12,6 +12,7 @@ ghost use Rattle.multiportgraph.specs.Calls.{link_pair, link_clean};
 use crate::multiportgraph::{MultiPortGraph, PortsLinked};
 use multi_tables::answers::{Refusal, SubportIndex};
 use multi_tables::named::LinkNeed;
+use multi_tables::seen::SidedPort;
 use port_tables::direction::Direction;
 use port_tables::index::PortIndex;
 
@@ -71,11 +72,11 @@ impl MultiPortGraph {
     }
 
     // The second port is not live: the preparation of the first stays.
-    fn link_first(self, a: u32, d: Direction, b: PortIndex) -> PortsLinked
-        requires { OnBlock self a d }
-        ensures { result ≡ link_first self b.0 (prepare self a d) }
+    fn link_first(self, a: SidedPort, b: PortIndex) -> PortsLinked
+        requires { OnBlock self a.port a.side }
+        ensures { result ≡ link_first self b.0 (prepare self a.port a.side) }
     {
-        let first = self.prepare(a, d);
+        let first = self.prepare(a);
         let Some(_) = first.end else {
             return self.link_refused(Refusal::NoRoom);
         };
@@ -83,31 +84,31 @@ impl MultiPortGraph {
     }
 
     // Both ports are live: both ends are prepared.
-    fn link_both(self, a: u32, d: Direction, b: u32, e: Direction) -> PortsLinked
-        requires { BothOnBlock self a d b e }
-        ensures { result ≡ link_live self a d b e (prepare self a d) }
+    fn link_both(self, a: SidedPort, b: SidedPort) -> PortsLinked
+        requires { BothOnBlock self a.port a.side b.port b.side }
+        ensures { result ≡ link_live self a.port a.side b.port b.side (prepare self a.port a.side) }
     {
-        let first = self.prepare(a, d);
+        let first = self.prepare(a);
         let Some((x, o)) = first.end else {
             return self.link_refused(Refusal::NoRoom);
         };
-        let second = first.graph.prepare(b, e);
+        let second = first.graph.prepare(b);
         let Some((y, r)) = second.end else {
             return self.link_refused(Refusal::NoRoom);
         };
         let from = LinkEnd {
             inner: x,
-            side: d,
+            side: a.side,
             subport: SubportIndex {
-                port: PortIndex(a),
+                port: PortIndex(a.port),
                 subport_offset: o,
             },
         };
         let to = LinkEnd {
             inner: y,
-            side: e,
+            side: b.side,
             subport: SubportIndex {
-                port: PortIndex(b),
+                port: PortIndex(b.port),
                 subport_offset: r,
             },
         };
@@ -136,10 +137,24 @@ impl MultiPortGraph {
                 return self.link_refused(refusal);
             }
             Ok(LinkNeed::First(d)) => {
-                return self.link_first(port_a.0, d, port_b);
+                return self.link_first(
+                    SidedPort {
+                        port: port_a.0,
+                        side: d,
+                    },
+                    port_b,
+                );
             }
             Ok(LinkNeed::Both(d, e)) => {
-                return self.link_both(port_a.0, d, port_b.0, e);
+                let first = SidedPort {
+                    port: port_a.0,
+                    side: d,
+                };
+                let second = SidedPort {
+                    port: port_b.0,
+                    side: e,
+                };
+                return self.link_both(first, second);
             }
         }
     }

@@ -29,11 +29,11 @@ fn port_of_meta(meta: NodeMeta) -> u32
 impl ListTables<'_> {
     // Lists the block of a node slot, if it has one; answers the place after it.
     fn list_block(self, list: &mut [u32], place: usize, node: u32) -> usize
-        requires { place + length (node_block self.nodes.now self.flags.now node) ≤ length list.old }
-        ensures { (result ≡ place + length (node_block self.entry.nodes.now self.entry.flags.now node))
-            × (list.new ≡ sets list.old place (node_block self.entry.nodes.now self.entry.flags.now node)) }
+        requires { place + length (node_block self.nodes.now self.wires.flags.now node) ≤ length list.old }
+        ensures { (result ≡ place + length (node_block self.entry.nodes.now self.entry.wires.flags.now node))
+            × (list.new ≡ sets list.old place (node_block self.entry.nodes.now self.entry.wires.flags.now node)) }
     {
-        if flagged(self.flags, wide(node)) {
+        if flagged(self.wires.flags, wide(node)) {
             return place;
         }
         let Some(meta) = meta_in(self.nodes, node) else {
@@ -50,8 +50,8 @@ impl ListTables<'_> {
 
     // Lists the blocks of all used node slots, from the list's start on.
     fn list_slots(self, list: &mut [u32])
-        requires { (self.len ≤ node_slots) × (length (table_blocks self.nodes.now self.flags.now self.len) ≤ length list.old) }
-        ensures { list.new ≡ sets list.old 0 (table_blocks self.entry.nodes.now self.entry.flags.now self.entry.len) }
+        requires { (self.len ≤ node_slots) × (length (table_blocks self.nodes.now self.wires.flags.now self.len) ≤ length list.old) }
+        ensures { list.new ≡ sets list.old 0 (table_blocks self.entry.nodes.now self.entry.wires.flags.now self.entry.len) }
     {
         let mut next: usize = 0;
         for node in 0..self.len {
@@ -61,8 +61,8 @@ impl ListTables<'_> {
 
     // Lists all blocks, which are so many; a list that is too short stays as it was.
     pub(crate) fn list_blocks(self, count: usize, list: &mut [u32]) -> Result<usize, TooShort>
-        requires { (self.len ≤ node_slots) × (4 * count ≡ length (table_blocks self.nodes.now self.flags.now self.len)) × (count ≤ node_slots) }
-        ensures { (result ≡ list_answer count (table_blocks self.entry.nodes.now self.entry.flags.now self.entry.len) list.old) × (list.new ≡ list_after (table_blocks self.entry.nodes.now self.entry.flags.now self.entry.len) list.old) }
+        requires { (self.len ≤ node_slots) × (4 * count ≡ length (table_blocks self.nodes.now self.wires.flags.now self.len)) × (count ≤ node_slots) }
+        ensures { (result ≡ list_answer count (table_blocks self.entry.nodes.now self.entry.wires.flags.now self.entry.len) list.old) × (list.new ≡ list_after (table_blocks self.entry.nodes.now self.entry.wires.flags.now self.entry.len) list.old) }
     {
         let needed = 4 * count;
         if list.len() < needed {

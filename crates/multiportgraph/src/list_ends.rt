@@ -6,7 +6,7 @@ ghost use Rattle.multiportgraph.specs.ListScans.{first_of_meta, in_end, far_end}
 
 use multi_tables::marks::flagged;
 use multi_tables::reads::{far_in, owner_in};
-use port_tables::index::{NODE_SLOTS, PORT_SLOTS};
+use multi_tables::wire_tables::WireTables;
 use port_tables::lent::{NODE_WORDS, meta_in};
 use port_tables::numbers::wide;
 
@@ -18,10 +18,7 @@ pub struct TooShort(pub usize);
 #[derive(Clone, Copy)]
 pub(crate) struct ListTables<'a> {
     pub(crate) nodes: &'a [u32; NODE_WORDS],
-    pub(crate) links: &'a [u32; PORT_SLOTS],
-    pub(crate) owners: &'a [u32; PORT_SLOTS],
-    pub(crate) marks: &'a [bool; PORT_SLOTS],
-    pub(crate) flags: &'a [bool; NODE_SLOTS],
+    pub(crate) wires: WireTables<'a>,
     pub(crate) len: usize,
 }
 
@@ -48,9 +45,9 @@ fn first_of(nodes: &[u32; NODE_WORDS], node: u32) -> u32
 impl ListTables<'_> {
     // An incoming port of a block, with an offset.
     fn in_end(self, port: u32, offset: u32) -> WireEnd
-        ensures { result ≡ in_end self.entry.nodes.now self.entry.owners.now port offset }
+        ensures { result ≡ in_end self.entry.nodes.now self.entry.wires.owners.now port offset }
     {
-        let node = owner_in(self.owners, port);
+        let node = owner_in(self.wires.owners, port);
         WireEnd {
             port: port,
             offset: offset,
@@ -61,15 +58,15 @@ impl ListTables<'_> {
 
     // The incoming end of a wire, by its inner port.
     pub(crate) fn far_end(self, inner: u32) -> WireEnd
-        ensures { result ≡ far_end self.entry.nodes.now self.entry.links.now self.entry.owners.now self.entry.flags.now inner }
+        ensures { result ≡ far_end self.entry.nodes.now self.entry.wires.links.now self.entry.wires.owners.now self.entry.wires.flags.now inner }
     {
-        let node = owner_in(self.owners, inner);
-        if flagged(self.flags, wide(node)) {
+        let node = owner_in(self.wires.owners, inner);
+        if flagged(self.wires.flags, wide(node)) {
             let Some(meta) = meta_in(self.nodes, node) else {
                 return self.in_end(inner, 0);
             };
             let first = meta.first_port.0;
-            let main = far_in(self.links, wide(first) + usize::from(meta.incoming));
+            let main = far_in(self.wires.links, wide(first) + usize::from(meta.incoming));
             return self.in_end(main, inner.saturating_sub(first));
         }
         self.in_end(inner, 0)

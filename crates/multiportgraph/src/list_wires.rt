@@ -21,11 +21,11 @@ use port_tables::tables::at;
 impl ListTables<'_> {
     // Lists the wire at a slot of an outgoing end, if there is one; answers the place after it.
     fn list_slot(self, list: &mut [u32], place: usize, from: WireEnd, slot: usize) -> usize
-        requires { place + length (slot_wire self.nodes.now self.links.now self.owners.now self.flags.now from slot) ≤ length list.old }
-        ensures { (result ≡ place + length (slot_wire self.entry.nodes.now self.entry.links.now self.entry.owners.now self.entry.flags.now from slot))
-            × (list.new ≡ sets list.old place (slot_wire self.entry.nodes.now self.entry.links.now self.entry.owners.now self.entry.flags.now from slot)) }
+        requires { place + length (slot_wire self.nodes.now self.wires.links.now self.wires.owners.now self.wires.flags.now from slot) ≤ length list.old }
+        ensures { (result ≡ place + length (slot_wire self.entry.nodes.now self.entry.wires.links.now self.entry.wires.owners.now self.entry.wires.flags.now from slot))
+            × (list.new ≡ sets list.old place (slot_wire self.entry.nodes.now self.entry.wires.links.now self.entry.wires.owners.now self.entry.wires.flags.now from slot)) }
     {
-        let far = at(self.links, slot);
+        let far = at(self.wires.links, slot);
         if far == 0 {
             return place;
         }
@@ -41,9 +41,9 @@ impl ListTables<'_> {
 
     // Lists the wires of a split port, by its hidden node; answers the place after the last.
     fn list_split(self, list: &mut [u32], place: usize, port: WireEnd, copy: NodeMeta) -> usize
-        requires { place + length (split_wires self.nodes.now self.links.now self.owners.now self.flags.now port.port port.node port.position copy) ≤ length list.old }
-        ensures { (result ≡ place + length (split_wires self.entry.nodes.now self.entry.links.now self.entry.owners.now self.entry.flags.now port.port port.node port.position copy))
-            × (list.new ≡ sets list.old place (split_wires self.entry.nodes.now self.entry.links.now self.entry.owners.now self.entry.flags.now port.port port.node port.position copy)) }
+        requires { place + length (split_wires self.nodes.now self.wires.links.now self.wires.owners.now self.wires.flags.now port.port port.node port.position copy) ≤ length list.old }
+        ensures { (result ≡ place + length (split_wires self.entry.nodes.now self.entry.wires.links.now self.entry.wires.owners.now self.entry.wires.flags.now port.port port.node port.position copy))
+            × (list.new ≡ sets list.old place (split_wires self.entry.nodes.now self.entry.wires.links.now self.entry.wires.owners.now self.entry.wires.flags.now port.port port.node port.position copy)) }
     {
         let first = wide(copy.first_port.0) + usize::from(copy.incoming);
         let count = usize::from(copy.outgoing);
@@ -62,9 +62,9 @@ impl ListTables<'_> {
 
     // Lists the wires of an outgoing port; answers the place after the last. Port, node and position stay three: an end of a wire would have an offset too.
     fn list_port(self, list: &mut [u32], place: usize, port: u32, node: u32, position: u32) -> usize
-        requires { place + length (port_wires self.nodes.now self.links.now self.owners.now self.marks.now self.flags.now port node position) ≤ length list.old }
-        ensures { (result ≡ place + length (port_wires self.entry.nodes.now self.entry.links.now self.entry.owners.now self.entry.marks.now self.entry.flags.now port node position))
-            × (list.new ≡ sets list.old place (port_wires self.entry.nodes.now self.entry.links.now self.entry.owners.now self.entry.marks.now self.entry.flags.now port node position)) }
+        requires { place + length (port_wires self.nodes.now self.wires.links.now self.wires.owners.now self.wires.marks.now self.wires.flags.now port node position) ≤ length list.old }
+        ensures { (result ≡ place + length (port_wires self.entry.nodes.now self.entry.wires.links.now self.entry.wires.owners.now self.entry.wires.marks.now self.entry.wires.flags.now port node position))
+            × (list.new ≡ sets list.old place (port_wires self.entry.nodes.now self.entry.wires.links.now self.entry.wires.owners.now self.entry.wires.marks.now self.entry.wires.flags.now port node position)) }
     {
         let from = WireEnd {
             port: port,
@@ -72,8 +72,8 @@ impl ListTables<'_> {
             node: node,
             position: position,
         };
-        if marked(self.marks, wide(port)) {
-            let hidden = owner_in(self.owners, far_in(self.links, wide(port)));
+        if marked(self.wires.marks, wide(port)) {
+            let hidden = owner_in(self.wires.owners, far_in(self.wires.links, wide(port)));
             let Some(copy) = meta_in(self.nodes, hidden) else {
                 return place;
             };
@@ -84,9 +84,9 @@ impl ListTables<'_> {
 
     // Lists the wires of a node's outgoing ports; answers the place after the last.
     fn list_side(self, list: &mut [u32], place: usize, node: u32, meta: NodeMeta) -> usize
-        requires { BlockFits meta × (place + length (side_wires self.nodes.now self.links.now self.owners.now self.marks.now self.flags.now node meta) ≤ length list.old) }
-        ensures { (result ≡ place + length (side_wires self.entry.nodes.now self.entry.links.now self.entry.owners.now self.entry.marks.now self.entry.flags.now node meta))
-            × (list.new ≡ sets list.old place (side_wires self.entry.nodes.now self.entry.links.now self.entry.owners.now self.entry.marks.now self.entry.flags.now node meta)) }
+        requires { BlockFits meta × (place + length (side_wires self.nodes.now self.wires.links.now self.wires.owners.now self.wires.marks.now self.wires.flags.now node meta) ≤ length list.old) }
+        ensures { (result ≡ place + length (side_wires self.entry.nodes.now self.entry.wires.links.now self.entry.wires.owners.now self.entry.wires.marks.now self.entry.wires.flags.now node meta))
+            × (list.new ≡ sets list.old place (side_wires self.entry.nodes.now self.entry.wires.links.now self.entry.wires.owners.now self.entry.wires.marks.now self.entry.wires.flags.now node meta)) }
     {
         let first = wide(meta.first_port.0) + usize::from(meta.incoming);
         let count = usize::from(meta.outgoing);
@@ -99,11 +99,11 @@ impl ListTables<'_> {
 
     // Lists the wires of a node slot, if it has a block; answers the place after the last.
     fn list_node(self, list: &mut [u32], place: usize, node: u32) -> usize
-        requires { AllFit self.nodes.now × (place + length (node_wires self.nodes.now self.links.now self.owners.now self.marks.now self.flags.now node) ≤ length list.old) }
-        ensures { (result ≡ place + length (node_wires self.entry.nodes.now self.entry.links.now self.entry.owners.now self.entry.marks.now self.entry.flags.now node))
-            × (list.new ≡ sets list.old place (node_wires self.entry.nodes.now self.entry.links.now self.entry.owners.now self.entry.marks.now self.entry.flags.now node)) }
+        requires { AllFit self.nodes.now × (place + length (node_wires self.nodes.now self.wires.links.now self.wires.owners.now self.wires.marks.now self.wires.flags.now node) ≤ length list.old) }
+        ensures { (result ≡ place + length (node_wires self.entry.nodes.now self.entry.wires.links.now self.entry.wires.owners.now self.entry.wires.marks.now self.entry.wires.flags.now node))
+            × (list.new ≡ sets list.old place (node_wires self.entry.nodes.now self.entry.wires.links.now self.entry.wires.owners.now self.entry.wires.marks.now self.entry.wires.flags.now node)) }
     {
-        if flagged(self.flags, wide(node)) {
+        if flagged(self.wires.flags, wide(node)) {
             return place;
         }
         let Some(meta) = meta_in(self.nodes, node) else {
@@ -114,8 +114,8 @@ impl ListTables<'_> {
 
     // Lists the wires of all used node slots, from the list's start on.
     fn list_nodes(self, list: &mut [u32])
-        requires { AllFit self.nodes.now × (self.len ≤ node_slots) × (length (table_wires self.nodes.now self.links.now self.owners.now self.marks.now self.flags.now self.len) ≤ length list.old) }
-        ensures { list.new ≡ sets list.old 0 (table_wires self.entry.nodes.now self.entry.links.now self.entry.owners.now self.entry.marks.now self.entry.flags.now self.entry.len) }
+        requires { AllFit self.nodes.now × (self.len ≤ node_slots) × (length (table_wires self.nodes.now self.wires.links.now self.wires.owners.now self.wires.marks.now self.wires.flags.now self.len) ≤ length list.old) }
+        ensures { list.new ≡ sets list.old 0 (table_wires self.entry.nodes.now self.entry.wires.links.now self.entry.wires.owners.now self.entry.wires.marks.now self.entry.wires.flags.now self.entry.len) }
     {
         let mut next: usize = 0;
         for node in 0..self.len {
@@ -125,8 +125,8 @@ impl ListTables<'_> {
 
     // Lists all wires, which are so many; a list that is too short stays as it was. Stays beside list_blocks: what is written is each one's own.
     pub(crate) fn list_wires(self, count: usize, list: &mut [u32]) -> Result<usize, TooShort>
-        requires { AllFit self.nodes.now × (self.len ≤ node_slots) × (8 * count ≡ length (table_wires self.nodes.now self.links.now self.owners.now self.marks.now self.flags.now self.len)) × (count ≤ node_slots * node_ports) }
-        ensures { (result ≡ list_answer count (table_wires self.entry.nodes.now self.entry.links.now self.entry.owners.now self.entry.marks.now self.entry.flags.now self.entry.len) list.old) × (list.new ≡ list_after (table_wires self.entry.nodes.now self.entry.links.now self.entry.owners.now self.entry.marks.now self.entry.flags.now self.entry.len) list.old) }
+        requires { AllFit self.nodes.now × (self.len ≤ node_slots) × (8 * count ≡ length (table_wires self.nodes.now self.wires.links.now self.wires.owners.now self.wires.marks.now self.wires.flags.now self.len)) × (count ≤ node_slots * node_ports) }
+        ensures { (result ≡ list_answer count (table_wires self.entry.nodes.now self.entry.wires.links.now self.entry.wires.owners.now self.entry.wires.marks.now self.entry.wires.flags.now self.entry.len) list.old) × (list.new ≡ list_after (table_wires self.entry.nodes.now self.entry.wires.links.now self.entry.wires.owners.now self.entry.wires.marks.now self.entry.wires.flags.now self.entry.len) list.old) }
     {
         let needed = 8 * count;
         if list.len() < needed {

@@ -21,12 +21,10 @@ impl MultiPortGraph {
         put_slots(&mut nodes, slots);
         let counts = self.graph.counts();
         let count = self.link_count();
+        let wires = self.wire_tables();
         let tables = ListTables {
             nodes: &nodes,
-            links: &self.graph.port_link,
-            owners: &self.graph.port_meta,
-            marks: &self.multiport,
-            flags: &self.copy_node,
+            wires: wires,
             len: counts.node_len,
         };
         tables.list_wires(count, list)
@@ -43,12 +41,10 @@ impl MultiPortGraph {
         put_slots(&mut nodes, slots);
         let counts = self.graph.counts();
         let count = self.node_count();
+        let wires = self.wire_tables();
         let tables = ListTables {
             nodes: &nodes,
-            links: &self.graph.port_link,
-            owners: &self.graph.port_meta,
-            marks: &self.multiport,
-            flags: &self.copy_node,
+            wires: wires,
             len: counts.node_len,
         };
         tables.list_blocks(count, list)

@@ -37,6 +37,7 @@ impl MultiPortGraph {
     }
 }
 
+// By value with its answer, the form asked for (docs/DECISIONS.md). Stays a struct of its own: definitions and theorems name it.
 #[derive(Clone, Copy)]
 pub struct NodeAdded {
     pub graph: MultiPortGraph,

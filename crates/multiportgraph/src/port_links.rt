@@ -12,6 +12,7 @@ use crate::multiportgraph::MultiPortGraph;
 use crate::walks::end_before;
 use multi_tables::answers::SubportLink;
 use multi_tables::scans::{LinkFilter, PortEnds};
+use multi_tables::seen::SidedPort;
 use multi_tables::wire_tables::WireTables;
 use port_tables::direction::Direction;
 use port_tables::numbers::wide;
@@ -46,10 +47,14 @@ impl PortLinks {
         }) × (result.first ≤ port_slots) × (result.end ≤ port_slots) }
     {
         let port = self.port;
-        let count = tables.span_count(port.0, direction);
+        let sided = SidedPort {
+            port: port.0,
+            side: direction,
+        };
+        let count = tables.span_count(sided);
         PortEnds {
             port: port.0,
-            first: tables.span_first(port.0, direction),
+            first: tables.span_first(sided),
             from: wide(self.front),
             end: end_before(self.back, count),
         }

@@ -18,6 +18,7 @@ use crate::copies::HiddenCopy;
 use crate::multiportgraph::MultiPortGraph;
 use multi_tables::named::EndNeed;
 use multi_tables::reads::far_in;
+use multi_tables::seen::SidedPort;
 use port_tables::direction::Direction;
 use port_tables::index::{NODE_PORTS, NodeIndex, PortIndex};
 use port_tables::numbers::wide;
@@ -106,11 +107,11 @@ pub(crate) fn resized(graph: PortGraph, node: u32, incoming: usize, outgoing: us
 
 impl MultiPortGraph {
     // Unsplit and linked: a hidden node with 2 subports is made, the old link moves to offset 0, and offset 1 is given.
-    pub(crate) fn split(self, port: u32, direction: Direction) -> Prepared
-        requires { LinkedPort self port direction }
-        ensures { result ≡ prepared_as self (split self port direction) }
+    pub(crate) fn split(self, port: SidedPort) -> Prepared
+        requires { LinkedPort self port.port port.side }
+        ensures { result ≡ prepared_as self (split self port.port port.side) }
     {
-        let shape = SplitShape::new(direction);
+        let shape = SplitShape::new(port.side);
         let added = self.graph.add_node(shape.incoming, shape.outgoing);
         let answer = added.answer;
         let Ok((node, first)) = answer else {
@@ -121,8 +122,8 @@ impl MultiPortGraph {
         };
         let copy = first.0 + shape.copy;
         let old = first.0 + shape.subports;
-        let mut split = self.with_copy(port, copy, node.0, true);
-        split.graph = hung_on(added.graph, port, copy, old);
+        let mut split = self.with_copy(port.port, copy, node.0, true);
+        split.graph = hung_on(added.graph, port.port, copy, old);
         split.copy_node_count += 1;
         split.subport_count += 2;
         Prepared {
@@ -132,18 +133,12 @@ impl MultiPortGraph {
     }
 
     // One more subport after so many of a split port's hidden node, which this lower graph has already.
-    fn grow_by(
-        self,
-        graph: PortGraph,
-        hidden: HiddenCopy,
-        port: u32,
-        direction: Direction,
-    ) -> Prepared
-        requires { MultiWf self × (first_in graph.port_link graph.port_meta port direction + hidden.count ≤ port_slots) }
-        ensures { result ≡ record { graph = multi graph (put_flag (put_flag self.multiport port_slots hidden.copy false) port_slots (far_in graph.port_link port) true) self.copy_node self.copy_node_count (self.subport_count + 1) self.release; end = Some (first_in graph.port_link graph.port_meta port direction + hidden.count, hidden.count) } }
+    fn grow_by(self, graph: PortGraph, hidden: HiddenCopy, port: SidedPort) -> Prepared
+        requires { MultiWf self × (first_in graph.port_link graph.port_meta port.port port.side + hidden.count ≤ port_slots) }
+        ensures { result ≡ record { graph = multi graph (put_flag (put_flag self.multiport port_slots hidden.copy false) port_slots (far_in graph.port_link port.port) true) self.copy_node self.copy_node_count (self.subport_count + 1) self.release; end = Some (first_in graph.port_link graph.port_meta port.port port.side + hidden.count, hidden.count) } }
     {
-        let grown = self.copy_moved(graph, port, hidden.copy, self.subport_count + 1);
-        let first = grown.wire_tables().first_in(port, direction);
+        let grown = self.copy_moved(graph, port.port, hidden.copy, self.subport_count + 1);
+        let first = grown.wire_tables().first_in(port);
         Prepared {
             graph: grown,
             end: Some(((first + hidden.count) as u32, hidden.count as u16)),
@@ -151,12 +146,12 @@ impl MultiPortGraph {
     }
 
     // One more subport at the end of a split port's hidden node. The copy port's mark moves with it.
-    pub(crate) fn grow(self, port: u32, direction: Direction) -> Prepared
-        requires { SplitPort self port direction }
-        ensures { result ≡ prepared_as self (grow self (copy_node self port) direction) }
+    pub(crate) fn grow(self, port: SidedPort) -> Prepared
+        requires { SplitPort self port.port port.side }
+        ensures { result ≡ prepared_as self (grow self (copy_node self port.port) port.side) }
     {
-        let hidden = self.hidden_copy(port, direction);
-        let (incoming, outgoing) = hidden_counts(direction, hidden.count + 1);
+        let hidden = self.hidden_copy(port);
+        let (incoming, outgoing) = hidden_counts(port.side, hidden.count + 1);
         let sized = resized(self.graph, hidden.node, incoming, outgoing);
         let answer = sized.answer;
         let Ok(_) = answer else {
@@ -165,21 +160,21 @@ impl MultiPortGraph {
                 end: None,
             };
         };
-        self.grow_by(sized.graph, hidden, port, direction)
+        self.grow_by(sized.graph, hidden, port)
     }
 
     // The end that a link of this port takes.
-    pub(crate) fn prepare(self, port: u32, direction: Direction) -> Prepared
-        requires { OnBlock self port direction }
-        ensures { result ≡ prepared_as self (prepare self port direction) }
+    pub(crate) fn prepare(self, port: SidedPort) -> Prepared
+        requires { OnBlock self port.port port.side }
+        ensures { result ≡ prepared_as self (prepare self port.port port.side) }
     {
-        match self.wire_tables().need_in(port, direction) {
+        match self.wire_tables().need_in(port) {
             EndNeed::Ready(inner, offset) => Prepared {
                 graph: self,
                 end: Some((inner, offset)),
             },
-            EndNeed::Grow => self.grow(port, direction),
-            EndNeed::Split => self.split(port, direction),
+            EndNeed::Grow => self.grow(port),
+            EndNeed::Split => self.split(port),
         }
     }
 }

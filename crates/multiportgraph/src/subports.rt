@@ -10,6 +10,7 @@ use crate::iter::NodeSubports;
 use crate::multiportgraph::MultiPortGraph;
 use multi_tables::answers::SubportIndex;
 use multi_tables::scans::{Held, capped};
+use multi_tables::seen::SidedPort;
 use multi_tables::wire_tables::WireTables;
 use port_tables::index::PortIndex;
 use port_tables::numbers::wide;
@@ -23,7 +24,12 @@ fn subport_from(tables: WireTables<'_>, port: u32, offset: usize) -> Option<Subp
     let Ok((_, direction)) = tables.block_port(PortIndex(port)) else {
         return None;
     };
-    if offset < tables.span_count(port, direction) {
+    if offset
+        < tables.span_count(SidedPort {
+            port: port,
+            side: direction,
+        })
+    {
         return Some(SubportIndex {
             port: PortIndex(port),
             subport_offset: offset as u16,

@@ -14,7 +14,7 @@ ghost use Rattle.multiportgraph.specs.Presumed.{OnBlock, SplitPort, LeftPort};
 use crate::multiportgraph::{MultiPortGraph, PortTidied};
 use crate::prepare::{hidden_counts, linked, resized};
 use multi_tables::marks::marked;
-use port_tables::direction::Direction;
+use multi_tables::seen::SidedPort;
 use port_tables::index::{PORT_SLOTS, PortIndex};
 use port_tables::numbers::wide;
 use port_tables::tables::at;
@@ -34,41 +34,32 @@ pub(crate) fn linked_from(links: &[u32; PORT_SLOTS], first: usize, count: usize)
 
 impl MultiPortGraph {
     // A split port's hidden node is left with some of its subports. The copy port's mark moves with it.
-    fn drop_subports(
-        self,
-        port: u32,
-        direction: Direction,
-        count: usize,
-        left: usize,
-    ) -> MultiPortGraph
-        requires { LeftPort self port direction count left }
-        ensures { result ≡ drop_subports self (copy_node self port) direction left }
+    fn drop_subports(self, port: SidedPort, count: usize, left: usize) -> MultiPortGraph
+        requires { LeftPort self port.port port.side count left }
+        ensures { result ≡ drop_subports self (copy_node self port.port) port.side left }
     {
-        let hidden = self.hidden_copy(port, direction);
-        let (incoming, outgoing) = hidden_counts(direction, left);
+        let hidden = self.hidden_copy(port);
+        let (incoming, outgoing) = hidden_counts(port.side, left);
         let sized = resized(self.graph, hidden.node, incoming, outgoing);
         let subports = self
             .subport_count
             .saturating_sub(count.saturating_sub(left));
-        self.copy_moved(sized.graph, port, hidden.copy, subports)
+        self.copy_moved(sized.graph, port.port, hidden.copy, subports)
     }
 
     // The hidden node of a split port goes, and what its first subport was linked with is linked to the port.
-    fn link_directly(self, port: u32, direction: Direction) -> MultiPortGraph
-        requires { SplitPort self port direction }
-        ensures { result ≡ link_directly self port direction }
+    fn link_directly(self, port: SidedPort) -> MultiPortGraph
+        requires { SplitPort self port.port port.side }
+        ensures { result ≡ link_directly self port.port port.side }
     {
         // as the table holds it: one higher than the port, 0 for nothing
-        let held = at(
-            &self.graph.port_link,
-            self.wire_tables().first_in(port, direction),
-        );
-        let mut bare = self.drop_copy(port, direction);
+        let held = at(&self.graph.port_link, self.wire_tables().first_in(port));
+        let mut bare = self.drop_copy(port);
         if held == 0 {
             return bare;
         }
         let far = held - 1;
-        let after = linked(bare.graph, port, far);
+        let after = linked(bare.graph, port.port, far);
         bare.graph = after;
         bare
     }
@@ -80,9 +71,12 @@ impl MultiPortGraph {
         ensures { (result ≡ tidy_port self port.0) × (tidy_numbers result.answer ≡ tidy_numbers (tidy_port self port.0).answer) }
     {
         match self.port_direction(port) {
-            Ok(direction) => {
+            Ok(side) => {
                 return PortTidied {
-                    graph: self.tidied(port.0, direction),
+                    graph: self.tidied(SidedPort {
+                        port: port.0,
+                        side: side,
+                    }),
                     answer: Ok(()),
                 };
             }
@@ -96,30 +90,30 @@ impl MultiPortGraph {
     }
 
     // The graph with a port of a block tidied.
-    fn tidied(self, port: u32, direction: Direction) -> MultiPortGraph
-        requires { OnBlock self port direction }
-        ensures { result ≡ cond (is_split self port) (tidied self port direction) self }
+    fn tidied(self, port: SidedPort) -> MultiPortGraph
+        requires { OnBlock self port.port port.side }
+        ensures { result ≡ cond (is_split self port.port) (tidied self port.port port.side) self }
     {
-        if marked(&self.multiport, wide(port)) {
+        if marked(&self.multiport, wide(port.port)) {
             let tables = self.wire_tables();
-            let count = tables.subports_in(port, direction);
-            let first = tables.first_in(port, direction);
+            let count = tables.subports_in(port);
+            let first = tables.first_in(port);
             let left = linked_from(&self.graph.port_link, first, count);
-            return self.with_left(port, direction, count, left);
+            return self.with_left(port, count, left);
         }
         self
     }
 
     // The graph with so many of the subports of a split port left.
-    fn with_left(self, port: u32, direction: Direction, count: usize, left: usize) -> MultiPortGraph
-        requires { SplitPort self port direction × (count ≡ subports self port direction) × (left ≡ subports_left self port direction) }
-        ensures { result ≡ tidied self port direction }
+    fn with_left(self, port: SidedPort, count: usize, left: usize) -> MultiPortGraph
+        requires { SplitPort self port.port port.side × (count ≡ subports self port.port port.side) × (left ≡ subports_left self port.port port.side) }
+        ensures { result ≡ tidied self port.port port.side }
     {
         if left < 2 {
-            return self.link_directly(port, direction);
+            return self.link_directly(port);
         }
         if left < count {
-            return self.drop_subports(port, direction, count, left);
+            return self.drop_subports(port, count, left);
         }
         self
     }

@@ -85,6 +85,7 @@ impl MultiPortGraph {
     }
 }
 
+// Two methods, as next and next_back of the library's iterators.
 impl Nodes {
     pub fn step(self, graph: MultiPortGraph) -> Option<(NodeIndex, Nodes)>
         ensures { (result ≡ step_nodes graph self) × (nodes_values result ≡ nodes_values (step_nodes graph self)) }
@@ -142,6 +143,7 @@ impl Nodes {
     }
 }
 
+// Two methods, as next and next_back of the library's iterators.
 impl Ports {
     pub fn step(self, graph: MultiPortGraph) -> Option<(PortIndex, Ports)>
         requires { MultiWf graph }

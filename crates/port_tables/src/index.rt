@@ -14,11 +14,11 @@ pub const NODE_PORTS: usize = 1024;
 pub const FREE_LISTS: usize = NODE_PORTS + 1;
 
 // The number of a node.
-#[derive(Clone, Copy)]
+#[derive(Clone, Copy, PartialEq, Eq)]
 pub struct NodeIndex(pub u32);
 
 // The number of a port.
-#[derive(Clone, Copy)]
+#[derive(Clone, Copy, PartialEq, Eq)]
 pub struct PortIndex(pub u32);
 
 // A port's place within its node: the direction, and the position on that side.

@@ -1,4 +1,4 @@
-// The graph's tables lent one by one, for a run that copies none of them. The node table is held as numbers, five a slot:
+// The node table as numbers, for a graph that is lent and not copied: five a slot:
 // 0, previous and next free entry, 0, 0; or 1, first port, incoming, outgoing, capacity.
 ghost use Rattle.std.specs.Prelude.{◌≡◌, [], ◌∷◌};
 ghost use Rattle.port_tables.specs.Entries.{next_of, with_prev};
@@ -80,6 +80,7 @@ pub fn put_slot(nodes: &mut [u32; NODE_WORDS], n: usize, slot: NodeSlot)
 }
 
 // The next free entry after one; 0 for none, and for a node.
+// A table's word stays as it is held, one higher than the number, 0 for none: it is stored again as it is, and the definitions read it so.
 #[tactic(auto, unfolding(crate::specs::NodeWords::slot_in, crate::specs::NodeWords::slot_of_words))]
 pub fn next_in(nodes: &[u32; NODE_WORDS], n: usize) -> u32
     ensures { result ≡ next_of (slot_in nodes.now n).entry }

@@ -17,6 +17,7 @@ pub struct NodeMeta {
 }
 
 // A free entry's neighbours in the list of free entries, each one higher than its number; 0 for none.
+// A table's word stays as it is held, one higher than the number, 0 for none: it is stored again as it is, and the definitions read it so.
 // None is higher than the slots of the table, and these fit 16 bits (neighbours-fit in specs/Limits.antt).
 #[derive(Clone, Copy)]
 pub struct FreeNodeEntry {

@@ -1,4 +1,4 @@
-// A number as an index, written once for both crates.
+// A number as an index, written once for all crates.
 ghost use Rattle.std.specs.Prelude.{◌≡◌};
 
 // Stays a function: the library has usize::from for 16 bits, and none for 32.

@@ -1,15 +1,25 @@
 // What a resize does to the link table alone, as leaves: which counts fit inside a block, and where kept and dropped ports go.
-ghost use Rattle.std.specs.Prelude.{◌≡◌, ◌+◌, ◌*◌, ◌≤◌, ◌<◌};
+ghost use Rattle.std.specs.Prelude.{◌≡◌, ◌+◌, ◌*◌, ◌≤◌, ◌<◌, ltb};
 ghost use Rattle.std.proofs.lemmas.List.Edits.{sets};
 ghost use Rattle.port_tables.specs.Limits.{port_slots, node_ports};
 ghost use Rattle.port_tables.specs.Entries.{meta_of};
 ghost use Rattle.port_tables.specs.Tables.{BlockWithin};
 ghost use Rattle.port_tables.specs.ResizeLinks.{round_up, same_counts, fits_inside, first_slot, kept_incoming, kept_outgoing, drop_links, drop_count, drop_told, inside_links, anew_links};
 
-use crate::index::{PORT_SLOTS, PortIndex};
+use crate::index::{NODE_PORTS, PORT_SLOTS, PortIndex};
 use crate::node_entry::NodeMeta;
 use crate::numbers::wide;
 use crate::tables::{Shift, drop_ports, fill};
+
+// Whether a node can't have so many ports.
+pub fn too_many_ports(incoming: usize, outgoing: usize) -> bool
+    ensures { result ≡ ltb node_ports (incoming + outgoing) }
+{
+    if NODE_PORTS < incoming {
+        return true;
+    }
+    NODE_PORTS - incoming < outgoing
+}
 
 // A total rounded up to a power of two; 1 for a total of 0.
 #[tactic(auto, using(crate::specs::ResizeLinkSteps::round_up_power))]
@@ -20,7 +30,7 @@ pub fn round_up(total: usize) -> usize
     total.next_power_of_two()
 }
 
-// A node's meta data, and the counts that it is to have.
+// A node's meta data, and the counts that it is to have. The node stays beside: no method here reads it.
 #[derive(Clone, Copy)]
 pub struct Resize {
     pub meta: NodeMeta,

@@ -1,5 +1,5 @@
 // The leaves: each works on one lent table, the move list beside it where events are told.
-// A public leaf tests its numbers and asks nothing of them.
+// A leaf without a clause tests its numbers.
 ghost use Rattle.std.specs.Prelude.{◌≡◌, ◌+◌, ◌-◌, ◌*◌, ◌≤◌, ◌<◌, set, [], ◌∷◌};
 ghost use Rattle.std.proofs.lemmas.List.Edits.{sets};
 ghost use Rattle.port_tables.specs.Limits.{port_slots};
@@ -101,6 +101,7 @@ pub fn link_both(links: &mut [u32; PORT_SLOTS], a: u32, b: u32)
 }
 
 // Cuts the link of a port at both ends, and answers what the table held for it.
+// A table's word stays as it is held, one higher than the number, 0 for none: it is stored again as it is, and the definitions read it so.
 #[tactic(auto, unfolding(crate::specs::Tables::cut, crate::specs::Tables::cut_far))]
 pub fn cut(links: &mut [u32; PORT_SLOTS], port: usize) -> u32
     ensures { (result ≡ at links.old port) × (links.new ≡ cut links.old port) }
@@ -167,6 +168,7 @@ pub fn store(list: &mut [u32], place: usize, value: u32)
 }
 
 // Writes an event of the move list.
+// Kind and link stay numbers: the move list is the caller's, three numbers an event.
 #[tactic(auto, using(crate::specs::TableSteps::stored_event))]
 fn put_event(moves: &mut [u32], event: u32, port: u32, kind: u32, number: u32)
     ensures { moves.new ≡ sets moves.old (3 * event) (port ∷ kind ∷ number ∷ []) }
@@ -214,6 +216,7 @@ pub fn drop_ports(
 }
 
 // Ports that move: `count` ports from the slot `from` on go to the slots from `to` on.
+// ShiftFits stays a clause: a shift is made before its block is known to fit.
 #[derive(Clone, Copy)]
 pub struct Shift {
     pub from: usize,
@@ -223,6 +226,7 @@ pub struct Shift {
 
 impl Shift {
     // Which of these ports moves k-th: from the first one on, or from the last one down.
+    // Chosen at each step: a range and its reverse are two types.
     fn place(self, ascending: bool, k: usize) -> usize
         requires { k < self.count }
         ensures { (result < self.count) × (result ≡ moved_at ascending self.count k) }

@@ -5,9 +5,10 @@ ghost use Rattle.portgraph.specs.Model.{Wf};
 ghost use Rattle.portgraph.specs.Calls.{find_slot, find_block, rest_of, grown, slot_after, add_node, add_numbers, remove_node, remove_numbers};
 
 use crate::portgraph::PortGraph;
-use port_tables::index::{FREE_LISTS, NODE_PORTS, NODE_SLOTS, NodeIndex, PORT_SLOTS, PortIndex};
+use port_tables::index::{FREE_LISTS, NODE_SLOTS, NodeIndex, PORT_SLOTS, PortIndex};
 use port_tables::node_entry::{NodeEntry, NodeMeta, NodeSlot};
 use port_tables::numbers::wide;
+use port_tables::resize_links::too_many_ports;
 use port_tables::tables::{at, chain_block, cut_range, fill, head_at, own_block, put_head};
 
 // Why a node is not added.
@@ -21,6 +22,7 @@ pub enum AddError {
 #[derive(Clone, Copy)]
 pub struct NoSuchNode;
 
+// By value with its answer, the form asked for (docs/DECISIONS.md). Stays a struct of its own: definitions and theorems name it.
 #[derive(Clone, Copy)]
 pub struct NodeAdded {
     pub graph: PortGraph,
@@ -35,6 +37,7 @@ pub struct NodeRemoved {
 }
 
 // The node slot that is taken next: the one freed last, else the next at the end.
+// A table's word stays as it is held, one higher than the number, 0 for none: it is stored again as it is, and the definitions read it so.
 #[tactic(auto, unfolding(crate::specs::Calls::find_slot_under))]
 pub fn find_slot(free: u32, len: usize) -> Option<usize>
     ensures { result ≡ find_slot free len }
@@ -106,13 +109,7 @@ impl PortGraph {
         requires { Wf self }
         ensures { (result ≡ add_node self incoming outgoing) × (add_numbers result.answer ≡ add_numbers (add_node self incoming outgoing).answer) }
     {
-        if NODE_PORTS < incoming {
-            return NodeAdded {
-                graph: self,
-                answer: Err(AddError::TooManyPorts),
-            };
-        }
-        if NODE_PORTS - incoming < outgoing {
+        if too_many_ports(incoming, outgoing) {
             return NodeAdded {
                 graph: self,
                 answer: Err(AddError::TooManyPorts),

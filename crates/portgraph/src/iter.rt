@@ -1,5 +1,6 @@
 // Walks as cursors by value: a step takes the cursor and the present graph, and gives the item with the next cursor.
 // A cursor holds the number given last, one higher than it; 0 at the start. It ends where what it holds is gone. Stays a number: a walk goes on from it.
+// Cursors, no Iterator: the graph may change between two steps, so a walk borrows none.
 ghost use Rattle.std.specs.Prelude.{◌≡◌};
 ghost use Rattle.portgraph.specs.Model.{Wf};
 ghost use Rattle.portgraph.specs.Walks.{node_held, step_nodes, nodes_step_numbers, port_held, step_ports, ports_step_numbers, start_ports, ports_start_numbers, step_offsets, offsets_step_numbers, start_offsets, offsets_start_numbers};

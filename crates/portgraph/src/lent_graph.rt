@@ -1,4 +1,4 @@
-// The graph by value out of lent tables, and back into them: for a caller that holds the one and needs the other.
+// The tables of a graph as one value, which is lent; and the graph by value out of it and into it.
 ghost use Rattle.std.specs.Prelude.{◌≡◌, length};
 ghost use Rattle.port_tables.specs.Limits.{node_slots};
 ghost use Rattle.portgraph.specs.Calls.{new_graph};
@@ -11,6 +11,7 @@ use port_tables::lent::{Counts, NODE_WORDS, put_slot, slot_in};
 use port_tables::node_entry::NodeSlot;
 
 // The tables of a graph and what it has besides them, which are lent to the calls as one value. The node table is held as numbers.
+// Canonical stays a clause: tables may hold any numbers, and an invariant would ask it of who has them.
 #[derive(Drop)]
 pub struct PortTables {
     pub nodes: [u32; NODE_WORDS],

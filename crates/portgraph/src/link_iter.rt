@@ -1,5 +1,7 @@
 // Walks over the links of a node and over all ports, as cursors by value: a cursor holds the port given last, one higher than
-// its number; 0 at the start. A step searches the lent tables, so that it copies no more of the graph than one node slot.
+// its number; 0 at the start. Stays a number: a walk goes on from it.
+// A step searches the tables where they lie, so that it copies no more of the graph than one node slot.
+// Cursors, no Iterator: the graph may change between two steps, so a walk borrows none.
 ghost use Rattle.std.specs.Prelude.{◌≡◌, ◌-◌};
 ghost use Rattle.port_tables.specs.Limits.{port_slots};
 ghost use Rattle.portgraph.specs.Model.{Wf};

@@ -10,9 +10,11 @@ use port_tables::index::{FREE_LISTS, NODE_SLOTS, NodeIndex, PORT_SLOTS, PortInde
 use port_tables::node_entry::{NodeEntry, NodeMeta, NodeSlot};
 use port_tables::numbers::wide;
 use port_tables::port_entry::PortEntry;
-use port_tables::tables::{at, cut, link_both, link_count};
+use port_tables::sides::{Sides, ports_from};
+use port_tables::tables::{at, cut, link_both, without_link};
 
-// A port graph, by value. Wf stays a clause of the calls that need it: lookups and graph_in know graphs of any content, and an invariant would ask it of them.
+// A port graph, by value. Wf stays a clause of the calls that need it: lookups and `PortTables::graph` know graphs of any content, and an invariant would ask it of them.
+// Its tables stay apart, as the Rust portgraph's.
 #[derive(Clone, Copy)]
 pub struct PortGraph {
     // The nodes; free entries form a list.
@@ -50,6 +52,7 @@ pub enum LinkError {
     AlreadyLinked(PortIndex),
 }
 
+// By value with its answer, the form asked for (docs/DECISIONS.md). Stays a struct of its own: definitions and theorems name it.
 #[derive(Clone, Copy)]
 pub struct PortsLinked {
     pub graph: PortGraph,
@@ -164,13 +167,8 @@ impl PortGraph {
         if meta.num_ports(direction) <= index {
             return None;
         }
-        let first = wide(meta.first_port.0);
-        match direction {
-            Direction::Incoming => Some(PortIndex((first + index) as u32)),
-            Direction::Outgoing => Some(PortIndex(
-                (first + usize::from(meta.incoming) + index) as u32,
-            )),
-        }
+        let first = ports_from(meta, Sides::One(direction));
+        Some(PortIndex((first + index) as u32))
     }
 
     // The port that a port is linked with.
@@ -212,10 +210,7 @@ impl PortGraph {
     pub fn contains_node(self, node: NodeIndex) -> bool
         ensures { result ≡ contains_node self node.0 }
     {
-        let Some(_) = self.node_meta_valid(node) else {
-            return false;
-        };
-        true
+        self.node_meta_valid(node).is_some()
     }
 
     pub fn contains_port(self, port: PortIndex) -> bool
@@ -315,7 +310,7 @@ impl PortGraph {
             };
         };
         let far = cut(&mut self.port_link, place);
-        self.link_count = self.link_count.saturating_sub(link_count(far));
+        self.link_count = without_link(self.link_count, far);
         if far == 0 {
             return PortUnlinked {
                 graph: self,

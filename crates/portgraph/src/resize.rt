@@ -9,10 +9,10 @@ ghost use Rattle.port_tables.specs.ResizeLinks.{BlockFits, round_up};
 
 use crate::alloc::{find_block, grown, rest_of};
 use crate::portgraph::PortGraph;
-use port_tables::index::{NODE_PORTS, NODE_SLOTS, NodeIndex};
+use port_tables::index::{NODE_SLOTS, NodeIndex};
 use port_tables::node_entry::{NodeEntry, NodeSlot};
 use port_tables::numbers::wide;
-use port_tables::resize_links::{Resize, round_up};
+use port_tables::resize_links::{Resize, round_up, too_many_ports};
 use port_tables::tables::{at, chain_block, cut_range, fill, head_at, own_block, put_head};
 
 // Why a node's counts are not changed.
@@ -26,6 +26,7 @@ pub enum SetError {
     NoRoom,
 }
 
+// By value with its answer, the form asked for (docs/DECISIONS.md). Stays a struct of its own: definitions and theorems name it.
 #[derive(Clone, Copy)]
 pub struct PortsSet {
     pub graph: PortGraph,
@@ -129,13 +130,7 @@ impl PortGraph {
             × (moves.new ≡ moves_after self node.0 incoming outgoing moves.old)
             × (set_numbers result.answer ≡ set_numbers (set_num_ports self node.0 incoming outgoing (length moves.old)).answer) }
     {
-        if NODE_PORTS < incoming {
-            return PortsSet {
-                graph: self,
-                answer: Err(SetError::TooManyPorts),
-            };
-        }
-        if NODE_PORTS - incoming < outgoing {
+        if too_many_ports(incoming, outgoing) {
             return PortsSet {
                 graph: self,
                 answer: Err(SetError::TooManyPorts),

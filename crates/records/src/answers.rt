@@ -13,7 +13,7 @@ use multi_tables::answers::{Refusal, SubportIndex};
 use multiportgraph::multiportgraph::MultiPortGraph;
 use port_tables::index::{NodeIndex, PortIndex};
 
-// 0 or the refusal, then values, the rest 0.
+// 0 or the refusal, then values, the rest 0. Stays five words with a number for the refusal: a record's answer, which the tablet reads.
 #[derive(Clone, Copy)]
 pub struct Answer5 {
     pub a: u32,

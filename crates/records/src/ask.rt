@@ -104,7 +104,7 @@ fn answer_resize(graph: MultiPortGraph, node: NodeIndex, incoming: u32, outgoing
     }
 }
 
-// What is asked of a graph: the call, and its answer.
+// What is asked of a graph: the call, and its answer. Stays beside the run over a lent graph: its calls take the graph by value, and are other functions.
 pub(crate) fn answer(graph: MultiPortGraph, asked: Ask) -> Asked
     requires { MultiWf graph }
     ensures { Answered graph (meant asked) (words5 result.answer) result.graph }

@@ -14,7 +14,7 @@ pub mod answers;
 // One request on a graph that the caller holds, by value.
 pub mod ask;
 
-// One request, and the run, over lent tables.
+// One request, and the run, over a lent graph.
 pub mod lent;
 
 // The run by value, and the entry.

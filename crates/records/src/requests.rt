@@ -24,6 +24,7 @@ pub(crate) enum Ask {
     UnlinkSubport(SubportIndex),
     SubportLink(SubportIndex),
     Counts,
+    // Stays a variant: a refused request is run and answered as the others are.
     Refused,
 }
 
@@ -86,7 +87,7 @@ fn ask_subport_link(p: u32, o: u32) -> Ask
     Ask::SubportLink(subport(p, o as u16))
 }
 
-// The five words of a request: a code, and its arguments.
+// The five words of a request: a code, and its arguments. Stays a code: a record has it, and any number may stand there.
 #[derive(Clone, Copy)]
 pub struct Request {
     pub code: u32,

@@ -42,7 +42,7 @@ pub fn run_records(requests: &[u8], answers: &mut [u8]) -> u32
     0
 }
 
-// The same by the calls that take the graph by value: the plain form, which the entry over lent tables equals.
+// The same by the calls that take the graph by value: the plain form, which the entry over a lent graph equals. Stays beside it: its calls take the graph by value, and are other functions.
 pub fn run_by_value(requests: &[u8], answers: &mut [u8]) -> u32
     ensures { (result ≡ returned requests.now answers.old)
         × (answers.new ≡ written requests.now answers.old) }

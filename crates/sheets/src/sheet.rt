@@ -11,7 +11,7 @@ use port_tables::index::PortIndex;
 // The most entries of a sheet.
 pub const SHEET_ENTRIES: usize = 64;
 
-// Two ports that are to be linked, and space for the answer.
+// Two ports that are to be linked, and space for the answer. Stays beside that of `sketches`: the sketch rests on no graph.
 #[derive(Clone, Copy)]
 pub struct SheetEntry {
     pub port_a: PortIndex,
@@ -32,7 +32,7 @@ impl SheetEntry {
     }
 }
 
-// There are more than 64 entries: none was done.
+// There are more than 64 entries: none was done. Stays beside that of `sketches`, as an entry does.
 #[derive(Clone, Copy)]
 pub struct TooManyEntries;
 

@@ -3,7 +3,7 @@
 use crate::blocks::{add, remove, resize};
 use crate::cuts::{show_link, tidy, unlink, unlink_subport};
 use crate::help::show_help;
-use crate::links::link;
+use crate::links::{link, link_clean, link_subports};
 use crate::listing::list;
 use crate::orders::{Command, Order, port_at};
 use crate::replies::show_count;
@@ -27,6 +27,7 @@ fn begin(rt: &impl Print, sketch: &mut Sketch, order: Order) {
 }
 
 // A command; the text is that of its line.
+// Stay three parameters: a struct of them would lend the sketch for as long as the order is read.
 pub(crate) fn run(rt: &impl Print, sketch: &mut Sketch, order: Order, text: &[u8]) {
     match order.command {
         Command::Quit => {}
@@ -34,7 +35,9 @@ pub(crate) fn run(rt: &impl Print, sketch: &mut Sketch, order: Order, text: &[u8
         Command::Add => add(rt, sketch, order),
         Command::Remove => remove(rt, sketch, order),
         Command::Resize => resize(rt, sketch, order),
-        Command::Link | Command::LinkClean | Command::LinkSub => { link(rt, sketch, order) }
+        Command::Link => link(rt, sketch, order),
+        Command::LinkClean => link_clean(rt, sketch, order),
+        Command::LinkSub => link_subports(rt, sketch, order),
         Command::Sheet => link_sheet(rt, sketch, order, text),
         Command::Unlink => unlink(rt, sketch, order),
         Command::UnlinkSub => unlink_subport(rt, sketch, order),

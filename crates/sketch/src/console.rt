@@ -6,6 +6,7 @@ use port_tables::release::Release;
 use sketches::totals::Sketch;
 
 // A loop has to end, and nothing says that the input does: so it has as many turns as no run uses up.
+// Stays in both consoles: the graph's invariant would be said again as the closure's.
 fn converse(rt: &(impl Print + Input), sketch: &mut Sketch, buffer: &mut [u8], echo: bool) {
     let mut listener = Listener::new(echo);
     let mut input = rt.reader();

@@ -1,5 +1,5 @@
 // Links: of two ports, and of two ends.
-use crate::orders::{Command, Order, end_at, port_at};
+use crate::orders::{Order, end_at, port_at};
 use crate::replies::{show_refused_on, with_end};
 use lines::show::Line;
 use sketches::sketch::{Reason, SketchEnd};
@@ -20,15 +20,20 @@ pub(crate) fn show_linked_on(
     }
 }
 
-fn linked(sketch: &mut Sketch, order: Order) -> Result<(SketchEnd, SketchEnd), Reason> {
-    match order.command {
-        Command::Link => sketch.link(port_at(order, 0), port_at(order, 3)),
-        Command::LinkClean => sketch.link_clean(port_at(order, 0), port_at(order, 3)),
-        _ => sketch.link_subports(end_at(order, 0), end_at(order, 4)),
-    }
+// Links two ports.
+pub(crate) fn link(rt: &impl Print, sketch: &mut Sketch, order: Order) {
+    let linked = sketch.link(port_at(order, 0), port_at(order, 3));
+    show_linked_on(rt, Line::of(b""), linked);
 }
 
-// A command that links.
-pub(crate) fn link(rt: &impl Print, sketch: &mut Sketch, order: Order) {
-    show_linked_on(rt, Line::of(b""), linked(sketch, order));
+// The same; a refused link leaves nothing behind.
+pub(crate) fn link_clean(rt: &impl Print, sketch: &mut Sketch, order: Order) {
+    let linked = sketch.link_clean(port_at(order, 0), port_at(order, 3));
+    show_linked_on(rt, Line::of(b""), linked);
+}
+
+// Links two ends.
+pub(crate) fn link_subports(rt: &impl Print, sketch: &mut Sketch, order: Order) {
+    let linked = sketch.link_subports(end_at(order, 0), end_at(order, 4));
+    show_linked_on(rt, Line::of(b""), linked);
 }

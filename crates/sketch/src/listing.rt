@@ -3,7 +3,8 @@ ghost use Rattle.std.specs.Prelude.{◌≤◌};
 
 use crate::items::Item;
 use crate::orders::{Command, Order, port_at};
-use crate::replies::{show_number, show_refused};
+use crate::replies::show_refused;
+use lines::show::show_number;
 use port_tables::direction::Direction;
 use port_tables::sides::Sides;
 use sketches::sketch::{Reason, SketchPort};
@@ -15,6 +16,7 @@ use sketches::walks::{SubportWalk, Walk};
 const MOST: usize = 4294967295;
 
 // What the wires of a walk are asked.
+// Stay four matches on the command, this and the next three: the second side begins anew with the same command.
 fn test_of(order: Order, side: Direction) -> Test {
     match order.command {
         Command::Links | Command::Back => Test::Wire(EndTest::AtPort(port_at(order, 0))),

@@ -90,7 +90,7 @@ pub(crate) fn end_at(order: Order, place: usize) -> SketchEnd
     }
 }
 
-// How many numbers an entry of a command's list has; 0 where it has no list.
+// How many numbers an entry of a command's list has; 0 where it has no list. Stays a number, as `order_by` takes it.
 fn entry_size(command: Command) -> usize {
     match command {
         Command::Sheet => 6,

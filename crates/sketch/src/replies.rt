@@ -2,7 +2,7 @@
 ghost use Rattle.std.specs.Prelude.{◌≡◌};
 ghost use Rattle.sketches.specs.PlanNumbers.{reason_number};
 
-use lines::show::Line;
+use lines::show::{Line, show_number};
 use sketches::sketch::{Reason, SketchEnd, SketchPort};
 
 // The number of a refusal.
@@ -25,6 +25,7 @@ fn number_of(reason: Reason) -> u32
 }
 
 // Why a call is refused, in plain words.
+// Stays a match, no `Display`: `Reason` is of another crate, where alone one could stand.
 fn with_reason(line: Line, reason: Reason) -> Line {
     match reason {
         Reason::BadOffset => line.with(b"an offset is at most 65534"),
@@ -51,11 +52,6 @@ pub(crate) fn show_refused_on(rt: &impl Print, line: Line, reason: Reason) {
 
 pub(crate) fn show_refused(rt: &impl Print, reason: Reason) {
     show_refused_on(rt, Line::of(b""), reason);
-}
-
-// `ok` with one number.
-pub(crate) fn show_number(rt: &impl Print, value: u64) {
-    Line::of(b"ok").number(value).write(rt);
 }
 
 pub(crate) fn show_count(rt: &impl Print, answer: Result<usize, Reason>) {

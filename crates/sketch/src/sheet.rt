@@ -2,8 +2,7 @@
 
 use crate::links::show_linked_on;
 use crate::orders::Order;
-use crate::replies::show_number;
-use lines::show::{Line, write_bytes};
+use lines::show::{Line, show_number, write_bytes};
 use lines::text::{next_word, number_or_zero};
 use sketches::sheet::{SHEET_ENTRIES, no_entry};
 use sketches::sketch::{SheetEntry, SketchPort, TooManyEntries};

@@ -26,23 +26,17 @@ fn port_of(end: RowEnd) -> SketchPort
 fn port_found(far: Option<RowEnd>) -> Result<Option<SketchPort>, Reason>
     ensures { result ≡ port_found (far_of far) }
 {
-    match far {
-        None => Ok(None),
-        Some(end) => Ok(Some(port_of(end))),
-    }
+    Ok(far.map(port_of))
 }
 
 fn end_found(far: Option<RowEnd>) -> Result<Option<SketchEnd>, Reason>
     requires { FarFits far }
     ensures { result ≡ end_found (far_of far) }
 {
-    match far {
-        None => Ok(None),
-        Some(end) => Ok(Some(SketchEnd {
-            port: port_of(end),
-            offset: end.offset as u16,
-        })),
-    }
+    Ok(far.map(|end| SketchEnd {
+        port: port_of(end),
+        offset: end.offset as u16,
+    }))
 }
 
 // The subports that tidying leaves, by one more than the highest wired offset.

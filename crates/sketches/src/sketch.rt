@@ -40,7 +40,7 @@ pub enum Reason {
     InputWired,
 }
 
-// Two ports that are to be linked, and space for the answer.
+// Two ports that are to be linked, and space for the answer. Stays beside that of `sheets`: the sketch rests on no graph.
 #[derive(Clone, Copy)]
 pub struct SheetEntry {
     pub from: SketchPort,
@@ -48,6 +48,6 @@ pub struct SheetEntry {
     pub answer: Result<(SketchEnd, SketchEnd), Reason>,
 }
 
-// There are more entries than a sheet may have: none was done.
+// There are more entries than a sheet may have: none was done. Stays beside that of `sheets` for the same reason.
 #[derive(Clone, Copy)]
 pub struct TooManyEntries;

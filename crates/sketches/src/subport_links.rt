@@ -25,6 +25,7 @@ fn bad_offsets(x: SketchEnd, y: SketchEnd) -> bool
     bad_offset(x.offset) || bad_offset(y.offset)
 }
 
+// The invariant stands in a clause, as in `ports`.
 impl Sketch {
     // An offset as read: 0 on a port that is not split.
     pub(crate) fn offset_read(&self, end: SketchEnd) -> u16

@@ -10,6 +10,7 @@ use crate::tests::{Test, hits};
 use crate::walks::{Walk, whole_walk};
 use port_tables::numbers::wide;
 
+// Stays an array with its count, in one struct: there is no heap.
 #[derive(Drop)]
 pub(crate) struct Rows {
     pub rows: [Row; ROWS],

@@ -67,7 +67,7 @@ fn split_end(row: Row) -> RowEnd
     }
 }
 
-// The ends of the wire of a row. Stay two: a row is a tuple, whose columns are named and not counted, and each end has its side.
+// The ends of the wire of a row. Stay two: each names its own side and its own three columns, and so does its definition.
 pub(crate) fn out_end(row: Row) -> RowEnd
     ensures { place_in result ≡ (wire_of row).out }
 {

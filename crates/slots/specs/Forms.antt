@@ -1,4 +1,4 @@
--- The code's own forms: blocks read off single tables, and what is laid in the two lent tables.
+-- The code's own forms: blocks read off single tables, and what is laid in two lists.
 use Rattle.std.specs.Prelude.{◌≡◌, ℕ, ◌*◌, replicate}
 use mathlib.Core.List.{List, ◌++◌, flat_map, map}
 use Rattle.port_tables.specs.Limits.{node_slots, port_slots, node_ports}

@@ -11,7 +11,7 @@ use port_tables::numbers::wide;
 use port_tables::tables::{at, head_at, put};
 
 // The size of each block that is laid, and who has it, at its first slot: 0 for a free one, else one higher than the node. Stay numbers, as the
-// listing has them.
+// listing has them, and two arrays, since `walk_blocks` and `LaysBoth` speak of two lists.
 #[derive(Drop)]
 pub(crate) struct Laid {
     pub(crate) sizes: [u32; PORT_SLOTS],
@@ -61,7 +61,7 @@ impl Laid {
         }
     }
 
-    // Lays the blocks of a free list, from its head on.
+    // Lays the blocks of a free list, from its head on. The head and each link are one higher than the slot, 0 for none, as the tables have them.
     fn lay_list(&mut self, links: &[u32; PORT_SLOTS], head: u32, size: u32)
         ensures { LaysBoth (list_from links.now head size port_slots) self.old.sizes self.old.holders self.new.sizes self.new.holders }
     {

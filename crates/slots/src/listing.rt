@@ -58,7 +58,7 @@ fn list_in(tables: &PortTables, list: &mut [u32; LIST_NUMBERS]) -> usize
 }
 
 // Lists every block of a graph's used port table by its first slot, and answers how many there are. Numbers past the last block keep their
-// contents.
+// contents. Stay three numbers a block, 0 for a free one: `slot_numbers` promises them.
 pub fn list_slots(graph: MultiPortGraph, list: &mut [u32; LIST_NUMBERS]) -> usize
     requires { MultiWf graph }
     ensures { (result ≡ length (slot_list graph.graph)) × (list.new ≡ sets list.old 0 (slot_numbers graph.graph)) }

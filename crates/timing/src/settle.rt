@@ -13,6 +13,7 @@ use port_tables::tables::store;
 use std::marker::Model;
 
 // What is known of each node slot while blocks are settled, and the settled blocks.
+// Stay arrays side by side, and the queue with its count: `Tables` has a list of each, and there is no heap.
 #[derive(Drop)]
 pub(crate) struct Settling {
     // How many wires into a block come from blocks that are not done.
@@ -61,6 +62,7 @@ fn find_firsts(ends: &[u32], firsts: &mut [u32])
     }
 }
 
+// Facts of the block, the sums so far and the listing stay clauses: they are not of every `Settling`.
 impl Settling {
     // No block is settled.
     pub(crate) fn new() -> Settling

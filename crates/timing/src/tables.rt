@@ -2,6 +2,7 @@
 ghost use Rattle.std.specs.Prelude.{◌≡◌, ◌+◌, ◌*◌, ◌/◌, ◌<◌, length, get_or};
 
 // A table's entry; 0 outside. Stays a number: the definitions read 0 there, so each caller would turn an Option into it.
+// Stays beside the one of `files`: that is private there, and a public one would be a contract and its proof more for one line.
 pub(crate) fn at(table: &[u32], i: usize) -> u32
     ensures { result ≡ get_or table.now i 0 }
 {

@@ -64,6 +64,7 @@ fn begin(rt: &impl Print, order: Order) -> MultiPortGraph
 }
 
 // A command that changes the graph, or asks for what a request asks; the text is that of its line.
+// Stay three parameters: a struct of them would lend the graph for as long as the order is read.
 pub(crate) fn run(
     rt: &(impl Files + Print),
     graph: MultiPortGraph,

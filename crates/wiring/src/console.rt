@@ -8,6 +8,7 @@ use records::ask::empty;
 use std::fs::Files;
 
 // A loop has to end, and nothing says that the input does: so it has as many turns as no run uses up.
+// Stays in both consoles: the graph's invariant would be said again as the closure's.
 fn converse(rt: &(impl Files + Print + Input), buffer: &mut [u8], echo: bool) {
     let mut graph = empty(Release::One);
     let mut times = [0u16; NODE_SLOTS];

@@ -8,7 +8,7 @@ use Rattle.files.proofs.ranks.fill_ranks.Goals as goal
 pub loop-i-preserved : goal.loop-i-preserved
 loop-i-preserved c =
     let s = rank_turn c.args.listed.now in
-    ap (turns s (c.loop-i.i + 1) _) c.put.ensures ∙ (turn_made s c.loop-i.i _ c.loop-i.ranks c.loop-i-test.true ∙ c.loop-i.invariant)
+    ap (turns s (c.loop-i.i + 1) _) c.store.ensures ∙ (turn_made s c.loop-i.i _ c.loop-i.ranks c.loop-i-test.true ∙ c.loop-i.invariant)
 
 pub returns : goal.returns
 returns c = turns_end (rank_turn c.args.listed.now) c.loop-i.i _ c.loop-i.ranks c.loop-i-test.false ∙ c.loop-i.invariant

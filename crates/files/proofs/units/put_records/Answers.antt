@@ -1,7 +1,7 @@
 -- `files::units::put_records` meets its contract. Invariant: laying the slots that are left amounts to laying all.
 use native.Mathlib.Omega.{arith}
-use mathlib.Core.Path.{sym, ◌∙◌, ap}
-use Prim.Native.Nat.{ℕ, ◌+◌}
+use mathlib.Core.Path.{◌∙◌, ap}
+use Prim.Native.Nat.{ℕ, ◌+◌, ◌*◌}
 use lib.Seq.{sets}
 use Rattle.multiportgraph.specs.ListSteps.{item_fits, item_written, items_written}
 use Rattle.files.specs.Layout.{record_bytes}
@@ -14,16 +14,11 @@ put_record-requires c =
     let h = item_fits (slot_bytes c.args.records.now c.args.from) c.loop-i.invariant c.loop-i-test.true (let e = slots_length c.args.records.now c.args.from in omega (arith, c.requires.0)) in
     omega (arith, slot_length c.args.records.now c.args.from c.loop-i.i)
 
-pub overflow_add-next : goal.overflow_add-next
-overflow_add-next c =
-    let h = item_fits (slot_bytes c.args.records.now c.args.from) c.loop-i.invariant c.loop-i-test.true (let e = slots_length c.args.records.now c.args.from in omega (arith, c.requires.0)) in
-    omega (arith, slot_length c.args.records.now c.args.from c.loop-i.i)
-
 pub loop-i-preserved : goal.loop-i-preserved
 unfolding slot_bytes
 loop-i-preserved c =
-    let e = c.put_record.ensures ∙ ap (λ (x : ℕ). sets c.loop-i.bytes c.loop-i.next (record_bytes (record_of x))) c.record_at.ensures in
-    item_written (slot_bytes c.args.records.now c.args.from) c.loop-i.invariant c.loop-i-test.true (ap (λ (n : ℕ). c.loop-i.next + n) (sym (slot_length c.args.records.now c.args.from c.loop-i.i))) e
+    let e = c.put_record.ensures ∙ ap (λ (x : ℕ). sets c.loop-i.bytes (c.args.at + 8 * c.loop-i.i) (record_bytes (record_of x))) c.record_at.ensures in
+    item_written (slot_bytes c.args.records.now c.args.from) c.loop-i.invariant c.loop-i-test.true (omega (arith, slot_length c.args.records.now c.args.from c.loop-i.i)) e
 
 pub returns : goal.returns
 returns c = (items_written (slot_bytes c.args.records.now c.args.from) c.loop-i.invariant c.loop-i-test.false).1

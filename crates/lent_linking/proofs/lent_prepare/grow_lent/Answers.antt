@@ -31,4 +31,4 @@ overflow_cast-result c = omega (arith, grow_few c.requires, c.num_ports-count.en
 
 pub returns : goal.returns
 returns c =
-    (grow_done_in c.args.graph.now.ports.nodes c.args.graph.now.ports.links c.args.graph.now.ports.owners c.args.graph.now.ports.heads c.args.graph.now.marks c.args.graph.now.flags (totals_of c.args.graph.now) c.requires _ c.wide.ensures c.far_in-copy.ensures c.num_ports-count.ensures (counts_grown _ _ c.hidden_counts-incoming.ensures).0 (counts_grown _ _ c.hidden_counts-incoming.ensures).1 c.set_num_ports_quiet_lent.ensures.0 c.set_num_ports_quiet_lent.ensures.1 c.in-Ok.is c.wide-2.ensures c.far_in-moved.ensures c.wide-3.ensures c.put_mark.ensures c.wide-4.ensures c.put_mark-2.ensures c.last_beside.ensures, c.set_num_ports_quiet_lent.ensures.2)
+    (grow_done_in c.args.graph.now.ports.nodes c.args.graph.now.ports.links c.args.graph.now.ports.owners c.args.graph.now.ports.heads c.args.graph.now.marks c.args.graph.now.flags (totals_of c.args.graph.now) c.requires _ c.wide.ensures c.far_in-copy.ensures c.num_ports-count.ensures (counts_grown _ _ c.hidden_counts-incoming.ensures).0 (counts_grown _ _ c.hidden_counts-incoming.ensures).1 c.set_num_ports_quiet_lent.ensures.0 c.set_num_ports_quiet_lent.ensures.1 c.in-Ok.is c.wide-2.ensures c.far_in-moved.ensures refl refl refl c.put_marks.ensures c.last_beside.ensures, c.set_num_ports_quiet_lent.ensures.2)

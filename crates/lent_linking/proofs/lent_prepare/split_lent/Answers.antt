@@ -35,4 +35,4 @@ overflow_add-result c = omega (arith, (split_told_in c.args.graph.now.ports.node
 
 pub returns : goal.returns
 returns c =
-    (split_done_in c.args.graph.now.ports.nodes c.args.graph.now.ports.links c.args.graph.now.ports.owners c.args.graph.now.ports.heads c.args.graph.now.marks c.args.graph.now.flags (totals_of c.args.graph.now) c.args.port.port c.args.port.side _ c.new-shape.ensures.0 c.new-shape.ensures.1 c.add_node_lent.ensures.0 c.add_node_lent.ensures.1 c.requires c.in-Ok.is c.new-shape.ensures.2 refl c.new-shape.ensures.3 refl c.hang-was.ensures.0 c.hang-was.ensures.1 c.without_link.ensures c.wide.ensures c.put_mark.ensures c.wide-2.ensures c.put_mark-2.ensures c.wide-3.ensures c.put_flag.ensures refl, c.add_node_lent.ensures.2)
+    (split_done_in c.args.graph.now.ports.nodes c.args.graph.now.ports.links c.args.graph.now.ports.owners c.args.graph.now.ports.heads c.args.graph.now.marks c.args.graph.now.flags (totals_of c.args.graph.now) c.args.port.port c.args.port.side _ c.new-shape.ensures.0 c.new-shape.ensures.1 c.add_node_lent.ensures.0 c.add_node_lent.ensures.1 c.requires c.in-Ok.is c.new-shape.ensures.2 refl c.new-shape.ensures.3 refl c.hang-was.ensures.0 c.hang-was.ensures.1 c.without_link.ensures refl refl refl c.put_marks.ensures c.wide.ensures c.put_flag.ensures refl, c.add_node_lent.ensures.2)

@@ -1,8 +1,8 @@
 -- `lent_portgraph::lent_resize::set_num_ports_quiet_lent` meets its contract: too many ports, a node that is not live, and one that is.
 use Rattle.std.specs.Prelude.{Err}
-use mathlib.Core.Path.{refl}
+use mathlib.Core.Path.{refl, sym, ◌∙◌}
 use Prim.Native.Nat.{◌+◌, ◌*◌, ◌≤◌, ◌<◌}
-use native.Mathlib.Omega.{arith}
+use borrow.Author.Tests.{ltb-true, ltb-false}
 use Rattle.port_tables.specs.Limits.{node_ports}
 use Rattle.portgraph.specs.Lent.{graph_in}
 use Rattle.portgraph.specs.Resize.{refuse, set_numbers}
@@ -12,23 +12,18 @@ use Rattle.portgraph.specs.LentWords.{with_words, and_numbers}
 use Rattle.lent_portgraph.proofs.lent_resize.set_num_ports_quiet_lent.Goals as goal
 use Rattle.portgraph.specs.declared.resize.SetError.TheVariants as set_error
 
-pub returns-then-incoming-gt-NODE_PORTS : goal.returns-then-incoming-gt-NODE_PORTS
-returns-then-incoming-gt-NODE_PORTS c =
-    let many : node_ports < c.args.incoming + c.args.outgoing = omega (arith, c.if-incoming-gt-NODE_PORTS.true) in
-    and_numbers set_numbers (with_words (planned_in (graph_in c.args.tables.now.nodes c.args.tables.now.links c.args.tables.now.owners c.args.tables.now.heads c.args.tables.now.counts) (graph_in c.args.tables.now.nodes c.args.tables.now.links c.args.tables.now.owners c.args.tables.now.heads c.args.tables.now.counts) c.args.node.0 c.args.incoming c.args.outgoing (3 * node_ports) _ (refuse (Err set_error.TooManyPorts)) (plan_too_many (graph_in c.args.tables.now.nodes c.args.tables.now.links c.args.tables.now.owners c.args.tables.now.heads c.args.tables.now.counts) c.args.node.0 c.args.incoming c.args.outgoing (3 * node_ports) many) refl refl) (λ h. h))
-
-pub returns-then-incoming-outgoing : goal.returns-then-incoming-outgoing
-returns-then-incoming-outgoing c =
-    let many : node_ports < c.args.incoming + c.args.outgoing = omega (arith, c.if-incoming-gt-NODE_PORTS.false, c.if-incoming-outgoing.true) in
+pub returns-then-too_many_ports : goal.returns-then-too_many_ports
+returns-then-too_many_ports c =
+    let many : node_ports < c.args.incoming + c.args.outgoing = ltb-true _ _ (sym c.too_many_ports.ensures ∙ c.if-too_many_ports.true) in
     and_numbers set_numbers (with_words (planned_in (graph_in c.args.tables.now.nodes c.args.tables.now.links c.args.tables.now.owners c.args.tables.now.heads c.args.tables.now.counts) (graph_in c.args.tables.now.nodes c.args.tables.now.links c.args.tables.now.owners c.args.tables.now.heads c.args.tables.now.counts) c.args.node.0 c.args.incoming c.args.outgoing (3 * node_ports) _ (refuse (Err set_error.TooManyPorts)) (plan_too_many (graph_in c.args.tables.now.nodes c.args.tables.now.links c.args.tables.now.owners c.args.tables.now.heads c.args.tables.now.counts) c.args.node.0 c.args.incoming c.args.outgoing (3 * node_ports) many) refl refl) (λ h. h))
 
 pub returns-in_default : goal.returns-in_default
 returns-in_default c =
-    let few : c.args.incoming + c.args.outgoing ≤ node_ports = omega (arith, c.if-incoming-gt-NODE_PORTS.false, c.if-incoming-outgoing.false) in
+    let few : c.args.incoming + c.args.outgoing ≤ node_ports = ltb-false _ _ (sym c.too_many_ports.ensures ∙ c.if-too_many_ports.false) in
     let gone = unknown_in c.args.tables.now.nodes c.args.tables.now.links c.args.tables.now.owners c.args.tables.now.heads c.args.tables.now.counts c.requires.holds.nodes_long c.args.node.0 _ c.meta_in.ensures c.in_default.is in
     and_numbers set_numbers (with_words (planned_in (graph_in c.args.tables.now.nodes c.args.tables.now.links c.args.tables.now.owners c.args.tables.now.heads c.args.tables.now.counts) (graph_in c.args.tables.now.nodes c.args.tables.now.links c.args.tables.now.owners c.args.tables.now.heads c.args.tables.now.counts) c.args.node.0 c.args.incoming c.args.outgoing (3 * node_ports) _ (refuse (Err set_error.UnknownNode)) (plan_unknown (graph_in c.args.tables.now.nodes c.args.tables.now.links c.args.tables.now.owners c.args.tables.now.heads c.args.tables.now.counts) c.args.node.0 c.args.incoming c.args.outgoing (3 * node_ports) few gone.0 gone.1) refl refl) (λ h. h))
 
 pub resize_quiet_lent-requires : goal.resize_quiet_lent-requires
 resize_quiet_lent-requires c =
-    let few : c.args.incoming + c.args.outgoing ≤ node_ports = omega (arith, c.if-incoming-gt-NODE_PORTS.false, c.if-incoming-outgoing.false) in
+    let few : c.args.incoming + c.args.outgoing ≤ node_ports = ltb-false _ _ (sym c.too_many_ports.ensures ∙ c.if-too_many_ports.false) in
     resizes (graph_in c.args.tables.now.nodes c.args.tables.now.links c.args.tables.now.owners c.args.tables.now.heads c.args.tables.now.counts) c.requires c.args.node.0 _ c.args.incoming c.args.outgoing (found_in c.args.tables.now.nodes c.args.tables.now.links c.args.tables.now.owners c.args.tables.now.heads c.args.tables.now.counts c.requires.holds.nodes_long c.args.node.0 _ _ c.meta_in.ensures c.in-Some.is) few

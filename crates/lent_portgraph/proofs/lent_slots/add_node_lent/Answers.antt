@@ -3,6 +3,7 @@ use Rattle.std.specs.Prelude.{Some}
 use mathlib.Core.Path.{◌≡◌, refl, sym, ◌∙◌}
 use Prim.Native.Nat.{◌+◌, ◌≤◌, ◌<◌}
 use native.Mathlib.Omega.{arith}
+use borrow.Author.Tests.{ltb-true, ltb-false}
 use Rattle.port_tables.specs.Limits.{node_slots, port_slots, node_ports}
 use Rattle.portgraph.specs.Calls.{find_slot, find_block, add_numbers}
 use Rattle.portgraph.specs.Lent.{graph_in}
@@ -14,7 +15,7 @@ use Rattle.lent_portgraph.proofs.lent_slots.add_node_lent.Goals as goal
 use Rattle.lent_portgraph.proofs.lent_slots.add_node_lent.Goals.{In-Some-find_block}
 
 ports-fit-at : (c : In-Some-find_block) → c.args.incoming + c.args.outgoing ≤ node_ports
-ports-fit-at c = omega (arith, c.if-incoming-gt-NODE_PORTS.false, c.if-incoming-outgoing.false)
+ports-fit-at c = ltb-false _ _ (sym c.too_many_ports.ensures ∙ c.if-too_many_ports.false)
 
 slot-found-at : (c : In-Some-find_block) → find_slot c.args.tables.now.counts.node_free c.args.tables.now.counts.node_len ≡ Some c.in-Some.node
 slot-found-at c = sym c.find_slot.ensures ∙ c.in-Some.is
@@ -28,21 +29,17 @@ slot-fits-at c = node_slot_fits (graph_in c.args.tables.now.nodes c.args.tables.
 block-fits-at : (c : In-Some-find_block) → c.in-Some-find_block.first + (c.args.incoming + c.args.outgoing) ≤ port_slots
 block-fits-at c = new_block_fits (graph_in c.args.tables.now.nodes c.args.tables.now.links c.args.tables.now.owners c.args.tables.now.heads c.args.tables.now.counts) c.requires _ _ (ports-fit-at c) (block-found-at c)
 
-pub returns-then-incoming-gt-NODE_PORTS : goal.returns-then-incoming-gt-NODE_PORTS
-returns-then-incoming-gt-NODE_PORTS c =
-    and_numbers add_numbers (with_words (added_in (too_many_ports (graph_in c.args.tables.now.nodes c.args.tables.now.links c.args.tables.now.owners c.args.tables.now.heads c.args.tables.now.counts) c.args.incoming c.args.outgoing (omega arith))) (λ h. h))
-
-pub returns-then-incoming-outgoing : goal.returns-then-incoming-outgoing
-returns-then-incoming-outgoing c =
-    and_numbers add_numbers (with_words (added_in (too_many_ports (graph_in c.args.tables.now.nodes c.args.tables.now.links c.args.tables.now.owners c.args.tables.now.heads c.args.tables.now.counts) c.args.incoming c.args.outgoing (omega arith))) (λ h. h))
+pub returns-then-too_many_ports : goal.returns-then-too_many_ports
+returns-then-too_many_ports c =
+    and_numbers add_numbers (with_words (added_in (too_many_ports (graph_in c.args.tables.now.nodes c.args.tables.now.links c.args.tables.now.owners c.args.tables.now.heads c.args.tables.now.counts) c.args.incoming c.args.outgoing (ltb-true _ _ (sym c.too_many_ports.ensures ∙ c.if-too_many_ports.true)))) (λ h. h))
 
 pub returns-in_default : goal.returns-in_default
 returns-in_default c =
-    and_numbers add_numbers (with_words (added_in (no_node_slot (graph_in c.args.tables.now.nodes c.args.tables.now.links c.args.tables.now.owners c.args.tables.now.heads c.args.tables.now.counts) c.args.incoming c.args.outgoing (omega (arith, c.if-incoming-gt-NODE_PORTS.false, c.if-incoming-outgoing.false)) (sym c.find_slot.ensures ∙ c.in_default.is))) (λ h. h))
+    and_numbers add_numbers (with_words (added_in (no_node_slot (graph_in c.args.tables.now.nodes c.args.tables.now.links c.args.tables.now.owners c.args.tables.now.heads c.args.tables.now.counts) c.args.incoming c.args.outgoing (ltb-false _ _ (sym c.too_many_ports.ensures ∙ c.if-too_many_ports.false)) (sym c.find_slot.ensures ∙ c.in_default.is))) (λ h. h))
 
 pub returns-in_default-find_block : goal.returns-in_default-find_block
 returns-in_default-find_block c =
-    and_numbers add_numbers (with_words (added_in (no_block (graph_in c.args.tables.now.nodes c.args.tables.now.links c.args.tables.now.owners c.args.tables.now.heads c.args.tables.now.counts) c.args.incoming c.args.outgoing _ (omega (arith, c.if-incoming-gt-NODE_PORTS.false, c.if-incoming-outgoing.false)) (sym c.find_slot.ensures ∙ c.in-Some.is) (sym c.find_block.ensures ∙ c.in_default-find_block.is))) (λ h. h))
+    and_numbers add_numbers (with_words (added_in (no_block (graph_in c.args.tables.now.nodes c.args.tables.now.links c.args.tables.now.owners c.args.tables.now.heads c.args.tables.now.counts) c.args.incoming c.args.outgoing _ (ltb-false _ _ (sym c.too_many_ports.ensures ∙ c.if-too_many_ports.false)) (sym c.find_slot.ensures ∙ c.in-Some.is) (sym c.find_block.ensures ∙ c.in_default-find_block.is))) (λ h. h))
 
 pub overflow_cast-meta : goal.overflow_cast-meta
 overflow_cast-meta c = omega (arith, block-fits-at (goal.at.overflow_cast-meta c).In-Some-find_block)

@@ -1,4 +1,4 @@
--- `multi_tables::reads::row_below_lem` meets its contract: the leaps, and the run of what is left.
+-- `multi_tables::reads::row_below` meets its contract: the leaps, and the run of what is left.
 use mathlib.Core.Path.{refl}
 use Prim.Native.Nat.{◌-◌, ◌*◌}
 use native.Mathlib.Omega.{arith}

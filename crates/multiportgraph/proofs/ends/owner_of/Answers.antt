@@ -1,4 +1,4 @@
--- `multiportgraph::ends::owner_of_lem` meets its contract: no node and a node.
+-- `multiportgraph::ends::owner_of` meets its contract: no node and a node.
 use mathlib.Core.Path.{sym, ap, ◌∙◌}
 use Rattle.multiportgraph.specs.Reading.{owner_of}
 use Rattle.multi_tables.specs.Forms.{node_number}

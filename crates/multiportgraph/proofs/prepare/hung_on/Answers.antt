@@ -1,13 +1,11 @@
 -- `multiportgraph::prepare::hung_on` meets its contract: the port is cut off, and two links are made.
 
 -- the lower graph after the cut is well-formed
-use mathlib.Core.Path.{sym, subst, ap, ◌∙◌}
+use mathlib.Core.Path.{sym, subst}
 use Rattle.portgraph.specs.Model.{Wf}
-use Rattle.portgraph.specs.Calls.{link_ports}
 use Rattle.portgraph.specs.LinkHolds.{wf_link, wf_unlink}
 use Rattle.portgraph.specs.declared.portgraph.PortGraph.{PortGraph}
 use Rattle.portgraph.specs.declared.portgraph.PortUnlinked.{PortUnlinked}
-use Rattle.multi_tables.specs.TableReads.{far_in}
 use Rattle.multiportgraph.proofs.prepare.hung_on.Goals as goal
 use Rattle.multiportgraph.proofs.prepare.hung_on.Goals.{After-unlink_port-unlinked}
 
@@ -19,9 +17,3 @@ linked-hanging-requires c = cut_wf (goal.at.linked-hanging-requires c).After-unl
 
 pub linked-requires : goal.linked-requires
 linked-requires c = subst (λ (g : PortGraph). Wf g) (sym c.linked-hanging.ensures) (wf_link _ _ _ (cut_wf (goal.at.linked-requires c).After-unlink_port-unlinked))
-
-pub returns : goal.returns
-returns c =
-    let far = c.far_in-far.ensures ∙ ap (far_in c.args.graph.port_link) c.wide.ensures in
-    let hung = c.linked-hanging.ensures ∙ (λ i. (link_ports (c.unlink_port-unlinked.ensures.0 i).graph c.args.port c.args.copy).graph) in
-    c.linked.ensures ∙ (λ i. (link_ports (hung i) c.args.old (far i)).graph)

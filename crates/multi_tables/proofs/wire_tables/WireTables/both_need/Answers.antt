@@ -16,7 +16,7 @@ unready-tag Grow n = inl refl
 unready-tag Split n = inr refl
 
 pub returns-in_default : goal.returns-in_default
-returns-in_default c = first_unready _ _ _ _ _ c.args.b _ c.need_in.ensures (Declared.tag_of needed.the_type) (λ x o. refl) (unready-tag _ c.in_default.not-Ready)
+returns-in_default c = first_unready _ _ _ _ _ c.args.b.port _ c.need_in.ensures (Declared.tag_of needed.the_type) (λ x o. refl) (unready-tag _ c.in_default.not-Ready)
 
 pub returns-in_default-need_in : goal.returns-in_default-need_in
 returns-in_default-need_in c = second_unready _ _ _ _ _ _ _ c.need_in.ensures _ _ c.in-Ready.is c.need_in-2.ensures (Declared.tag_of needed.the_type) (λ x o. refl) (unready-tag _ c.in_default-need_in.not-Ready)

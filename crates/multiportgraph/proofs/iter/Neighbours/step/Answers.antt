@@ -1,14 +1,8 @@
 -- `multiportgraph::iter::Neighbours::step` meets its contract: nothing found, and a link to a neighbour.
-use mathlib.Core.Path.{ap}
-use native.Mathlib.Omega.{arith}
 use Rattle.port_tables.specs.TableSteps.{with_numbers}
 use Rattle.multiportgraph.specs.WalkNumbers.{neighbours_values}
-use Rattle.multi_tables.specs.Scans.{link_port}
 use Rattle.multiportgraph.specs.LinkWalkSteps.{neighbours_item_lem, neighbours_none}
 use Rattle.multiportgraph.proofs.iter.Neighbours.step.Goals as goal
-
-pub overflow_add-result : goal.overflow_add-result
-overflow_add-result c = let e = ap (link_port 0) c.in-Some.is in omega arith
 
 pub returns-in-None : goal.returns-in-None
 returns-in-None c = with_numbers neighbours_values (neighbours_none c.args.graph c.requires c.args.self _ _ c.self_filter-filter.ensures c.next_of_block-found.ensures.0 c.in-None.is)

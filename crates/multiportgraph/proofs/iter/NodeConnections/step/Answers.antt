@@ -1,14 +1,9 @@
 -- `multiportgraph::iter::NodeConnections::step` meets its contract: the other block is gone or hidden, nothing found, and a link.
-use mathlib.Core.Path.{sym, ap, ◌∙◌}
-use native.Mathlib.Omega.{arith}
+use mathlib.Core.Path.{sym, ◌∙◌}
 use Rattle.port_tables.specs.TableSteps.{with_numbers}
 use Rattle.multiportgraph.specs.WalkNumbers.{node_connections_values}
-use Rattle.multi_tables.specs.Scans.{link_port}
 use Rattle.multiportgraph.specs.LinkWalkSteps.{connections_gone, connections_item_lem, connections_none}
 use Rattle.multiportgraph.proofs.iter.NodeConnections.step.Goals as goal
-
-pub overflow_add-result : goal.overflow_add-result
-overflow_add-result c = let e = ap (link_port 0) c.in-Some.is in omega arith
 
 pub returns-in-None : goal.returns-in-None
 returns-in-None c = with_numbers node_connections_values (connections_none c.args.graph c.args.self _ (sym c.contains_node.ensures ∙ c.if-contains_node.true) c.next_of_block-found.ensures.0 c.in-None.is)

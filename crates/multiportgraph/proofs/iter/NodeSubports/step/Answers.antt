@@ -1,9 +1,8 @@
 -- `multiportgraph::iter::NodeSubports::step` meets its contract: a node that is refused, nothing left, a subport, and a port held that is gone or hidden.
-use mathlib.Core.Path.{sym, ap, ◌∙◌}
-use native.Mathlib.Omega.{arith}
+use mathlib.Core.Path.{sym, ◌∙◌}
 use Rattle.port_tables.specs.TableSteps.{with_numbers}
 use Rattle.multiportgraph.specs.WalkNumbers.{node_subports_values}
-use Rattle.multiportgraph.specs.WalkScans.{first_subport, subport_port, subports_beyond}
+use Rattle.multiportgraph.specs.WalkScans.{first_subport, subports_beyond}
 use Rattle.multiportgraph.specs.WalkSteps.{both_refused, both_found}
 use Rattle.multiportgraph.specs.SubportSteps.{subports_gone, subports_item_lem, subports_none}
 use Rattle.multiportgraph.specs.OwnTables.{read_off}
@@ -11,9 +10,6 @@ use Rattle.multiportgraph.proofs.iter.NodeSubports.step.Goals as goal
 
 pub returns-in_default : goal.returns-in_default
 returns-in_default c = with_numbers node_subports_values (subports_gone c.args.graph c.args.self (both_refused c.args.graph c.args.self.node.0 _ c.args.self.held (sym c.block-block.ensures ∙ c.in_default.is)))
-
-pub overflow_add-result : goal.overflow_add-result
-overflow_add-result c = let e = ap (subport_port 0) c.in-Some.is in omega arith
 
 pub returns-in-None : goal.returns-in-None
 returns-in-None c = with_numbers node_subports_values (subports_none c.args.graph c.args.self c.requires _ (sym c.block-block.ensures ∙ c.in-Ok.is) (sym c.held_seen.ensures ∙ c.if-held_seen.true) _ _ _ c.ports_from.ensures c.ports_to.ensures (c.subport_beyond-found.ensures.0 ∙ read_off c.args.graph (λ a b o f. first_subport (subports_beyond a b o f c.ports_from.result c.ports_to.result c.args.self.held c.args.self.offset)) c.wire_tables.ensures) c.in-None.is)

@@ -7,9 +7,6 @@ use Rattle.multi_tables.specs.declared.scans.PortEnds.{PortEnds}
 use Rattle.multiportgraph.specs.LinkWalkSteps.{left_last}
 use Rattle.multiportgraph.proofs.iter.PortLinks.last_left.Goals as goal
 
-pub scan_back-requires : goal.scan_back-requires
-scan_back-requires c = (c.ends_left.ensures.1, c.ends_left.ensures.2)
-
 pub returns : goal.returns
 returns c = left_last c.args.tables.marks.now c.args.tables.links.now c.args.tables.owners.now c.args.tables.flags.now c.args.self.port.0 c.args.direction c.args.self.front c.args.self.back _ _ _ _ refl refl refl refl _ (c.scan_back.ensures
     ∙ ap (λ (e : PortEnds). last_found (links_in c.args.tables.links.now c.args.tables.owners.now c.args.tables.flags.now e.port e.first e.from (e.end - e.from))) c.ends_left.ensures.0)

@@ -5,9 +5,6 @@ use Rattle.multiportgraph.specs.WalkNumbers.{ports_values}
 use Rattle.multiportgraph.specs.WalkSteps.{ports_front_gone, ports_back_gone, ports_item_lem, ports_none}
 use Rattle.multiportgraph.proofs.iter.Ports.step.Goals as goal
 
-pub first_port-requires : goal.first_port-requires
-first_port-requires c = c.end_before-end.ensures.1
-
 pub returns-then-held_seen-2 : goal.returns-then-held_seen-2
 returns-then-held_seen-2 c = with_numbers ports_values (ports_item_lem c.args.graph c.requires c.args.self _ c.held_seen.ensures c.if-held_seen.true _ c.held_seen-then-held_seen.ensures c.if-held_seen-2.true _ _ c.wide.ensures c.end_before-end.ensures.0 _ (sym c.in-Some.is ∙ c.first_port.ensures.0))
 

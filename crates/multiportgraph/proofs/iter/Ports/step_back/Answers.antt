@@ -5,9 +5,6 @@ use Rattle.multiportgraph.specs.WalkNumbers.{ports_values}
 use Rattle.multiportgraph.specs.WalkSteps.{ports_back_front_gone, ports_back_back_gone, ports_back_item, ports_back_none}
 use Rattle.multiportgraph.proofs.iter.Ports.step_back.Goals as goal
 
-pub last_port-requires : goal.last_port-requires
-last_port-requires c = c.end_before-end.ensures.1
-
 pub returns-then-held_seen-2 : goal.returns-then-held_seen-2
 returns-then-held_seen-2 c = with_numbers ports_values (ports_back_item c.args.graph c.requires c.args.self _ c.held_seen.ensures c.if-held_seen.true _ c.held_seen-then-held_seen.ensures c.if-held_seen-2.true _ _ c.wide.ensures c.end_before-end.ensures.0 _ (sym c.in-Some.is ∙ c.last_port.ensures.0))
 

@@ -11,16 +11,16 @@ use Rattle.multiportgraph.proofs.list_ends.ListTables.list_block.Goals as goal
 use Rattle.multiportgraph.proofs.list_ends.ListTables.list_block.Goals.{After-meta_in, After-port_of_meta-first}
 
 -- the block of a slot that is not hidden, as its meta data tell it
-by-meta : (c : After-meta_in) → of_block (block_words c.args.node) false c.meta_in.result ≡ node_block c.args.self.nodes.now c.args.self.flags.now c.args.node
+by-meta : (c : After-meta_in) → of_block (block_words c.args.node) false c.meta_in.result ≡ node_block c.args.self.nodes.now c.args.self.wires.flags.now c.args.node
 unfolding node_block
 by-meta c = slot_seen _ _ _ _ _ c.wide.ensures c.flagged.ensures _ c.if-flagged.false _ c.meta_in.ensures
 
-by-meta-2 : (c : After-port_of_meta-first) → of_block (block_words c.args.node) false c.meta_in.result ≡ node_block c.args.self.nodes.now c.args.self.flags.now c.args.node
+by-meta-2 : (c : After-port_of_meta-first) → of_block (block_words c.args.node) false c.meta_in.result ≡ node_block c.args.self.nodes.now c.args.self.wires.flags.now c.args.node
 unfolding node_block
 by-meta-2 c = slot_seen _ _ _ _ _ c.wide.ensures c.flagged.ensures _ c.if-flagged.false _ c.meta_in.ensures
 
 -- its four numbers
-four : (c : After-port_of_meta-first) → ◌≡◌ {A = List ℕ} (c.args.node ∷ c.in-Some.meta.incoming ∷ c.in-Some.meta.outgoing ∷ c.port_of_meta-first.result ∷ []) (node_block c.args.self.nodes.now c.args.self.flags.now c.args.node)
+four : (c : After-port_of_meta-first) → ◌≡◌ {A = List ℕ} (c.args.node ∷ c.in-Some.meta.incoming ∷ c.in-Some.meta.outgoing ∷ c.port_of_meta-first.result ∷ []) (node_block c.args.self.nodes.now c.args.self.wires.flags.now c.args.node)
 four c =
     ap (λ (f : ℕ). c.args.node ∷ c.in-Some.meta.incoming ∷ c.in-Some.meta.outgoing ∷ f ∷ []) c.port_of_meta-first.ensures
     ∙ (sym (ap (of_block (block_words c.args.node) false) c.in-Some.is) ∙ by-meta-2 c)

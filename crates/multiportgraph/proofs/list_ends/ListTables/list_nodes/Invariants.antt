@@ -7,5 +7,5 @@ use Rattle.multiportgraph.proofs.list_ends.ListTables.list_nodes.Given as goal
 
 abbrev pub invariant-loop-node : goal.invariant-loop-node
 invariant-loop-node l =
-    Writing l.initial.list 0 (flat_map (node_wires l.self.nodes.now l.self.links.now l.self.owners.now l.self.marks.now l.self.flags.now) (range 0 l.self.len)) l.list l.next
-    (flat_map (node_wires l.self.nodes.now l.self.links.now l.self.owners.now l.self.marks.now l.self.flags.now) (range l.node (l.self.len - l.node)))
+    Writing l.initial.list 0 (flat_map (node_wires l.self.nodes.now l.self.wires.links.now l.self.wires.owners.now l.self.wires.marks.now l.self.wires.flags.now) (range 0 l.self.len)) l.list l.next
+    (flat_map (node_wires l.self.nodes.now l.self.wires.links.now l.self.wires.owners.now l.self.wires.marks.now l.self.wires.flags.now) (range l.node (l.self.len - l.node)))

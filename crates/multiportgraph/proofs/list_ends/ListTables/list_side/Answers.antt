@@ -12,10 +12,10 @@ use Rattle.multiportgraph.proofs.list_ends.ListTables.list_side.Goals.{After-fro
 
 -- the wires at each position
 abbrev part : (c : After-from-count) → ℕ → List ℕ
-part c = place_wires c.args.self.nodes.now c.args.self.links.now c.args.self.owners.now c.args.self.marks.now c.args.self.flags.now c.args.node (c.wide.result + c.from.result)
+part c = place_wires c.args.self.nodes.now c.args.self.wires.links.now c.args.self.wires.owners.now c.args.self.wires.marks.now c.args.self.wires.flags.now c.args.node (c.wide.result + c.from.result)
 
 -- all of them are those of the side
-whole : (c : After-from-count) → flat_map (part c) (range 0 c.from-count.result) ≡ side_wires c.args.self.nodes.now c.args.self.links.now c.args.self.owners.now c.args.self.marks.now c.args.self.flags.now c.args.node c.args.meta
+whole : (c : After-from-count) → flat_map (part c) (range 0 c.from-count.result) ≡ side_wires c.args.self.nodes.now c.args.self.wires.links.now c.args.self.wires.owners.now c.args.self.wires.marks.now c.args.self.wires.flags.now c.args.node c.args.meta
 whole c = side_is _ _ _ _ _ _ c.args.meta _ _ _ c.wide.ensures c.from.ensures c.from-count.ensures
 
 room : (c : After-from-count) → c.args.place + length (flat_map (part c) (range 0 c.from-count.result)) ≤ length c.args.list.now

@@ -7,5 +7,5 @@ use Rattle.multiportgraph.proofs.list_ends.ListTables.list_side.Given as goal
 
 abbrev pub invariant-loop-position : goal.invariant-loop-position
 invariant-loop-position l =
-    Writing l.initial.list l.place (flat_map (place_wires l.self.nodes.now l.self.links.now l.self.owners.now l.self.marks.now l.self.flags.now l.node l.first) (range 0 l.count)) l.list l.next
-    (flat_map (place_wires l.self.nodes.now l.self.links.now l.self.owners.now l.self.marks.now l.self.flags.now l.node l.first) (range l.position (l.count - l.position)))
+    Writing l.initial.list l.place (flat_map (place_wires l.self.nodes.now l.self.wires.links.now l.self.wires.owners.now l.self.wires.marks.now l.self.wires.flags.now l.node l.first) (range 0 l.count)) l.list l.next
+    (flat_map (place_wires l.self.nodes.now l.self.wires.links.now l.self.wires.owners.now l.self.wires.marks.now l.self.wires.flags.now l.node l.first) (range l.position (l.count - l.position)))

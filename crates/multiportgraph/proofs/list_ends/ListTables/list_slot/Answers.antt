@@ -11,7 +11,7 @@ use Rattle.multiportgraph.specs.ListSteps.{slot_free, slot_wired, none_written, 
 use Rattle.multiportgraph.proofs.list_ends.ListTables.list_slot.Goals as goal
 use Rattle.multiportgraph.proofs.list_ends.ListTables.list_slot.Goals.{After-far_end-to}
 
-wired : (c : After-far_end-to) → slot_wire c.args.self.nodes.now c.args.self.links.now c.args.self.owners.now c.args.self.flags.now c.args.from c.args.slot ≡ end_words c.args.from ++ end_words c.far_end-to.result
+wired : (c : After-far_end-to) → slot_wire c.args.self.nodes.now c.args.self.wires.links.now c.args.self.wires.owners.now c.args.self.wires.flags.now c.args.from c.args.slot ≡ end_words c.args.from ++ end_words c.far_end-to.result
 wired c = slot_wired _ _ _ _ _ _ _ c.at-far.ensures c.if-far-eq0.false _ c.far_end-to.ensures
 
 pub returns-then-far-eq0 : goal.returns-then-far-eq0

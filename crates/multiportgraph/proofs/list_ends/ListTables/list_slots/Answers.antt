@@ -6,12 +6,12 @@ use Rattle.multiportgraph.proofs.list_ends.ListTables.list_slots.Goals as goal
 
 pub list_block-next-requires : goal.list_block-next-requires
 unfolding table_blocks
-list_block-next-requires c = item_fits (node_block c.args.self.nodes.now c.args.self.flags.now) c.loop-node.invariant c.loop-node-test.true (omega (arith, c.requires.1))
+list_block-next-requires c = item_fits (node_block c.args.self.nodes.now c.args.self.wires.flags.now) c.loop-node.invariant c.loop-node-test.true (omega (arith, c.requires.1))
 
 pub loop-node-preserved : goal.loop-node-preserved
 loop-node-preserved c =
-    item_written (node_block c.args.self.nodes.now c.args.self.flags.now) c.loop-node.invariant c.loop-node-test.true c.list_block-next.ensures.0 c.list_block-next.ensures.1
+    item_written (node_block c.args.self.nodes.now c.args.self.wires.flags.now) c.loop-node.invariant c.loop-node-test.true c.list_block-next.ensures.0 c.list_block-next.ensures.1
 
 pub returns : goal.returns
 unfolding table_blocks
-returns c = (items_written (node_block c.args.self.nodes.now c.args.self.flags.now) c.loop-node.invariant c.loop-node-test.false).1
+returns c = (items_written (node_block c.args.self.nodes.now c.args.self.wires.flags.now) c.loop-node.invariant c.loop-node-test.false).1

@@ -7,4 +7,4 @@ use Rattle.multiportgraph.proofs.list_ends.ListTables.list_slots.Given as goal
 
 abbrev pub invariant-loop-node : goal.invariant-loop-node
 invariant-loop-node l =
-    Writing l.initial.list 0 (flat_map (node_block l.self.nodes.now l.self.flags.now) (range 0 l.self.len)) l.list l.next (flat_map (node_block l.self.nodes.now l.self.flags.now) (range l.node (l.self.len - l.node)))
+    Writing l.initial.list 0 (flat_map (node_block l.self.nodes.now l.self.wires.flags.now) (range 0 l.self.len)) l.list l.next (flat_map (node_block l.self.nodes.now l.self.wires.flags.now) (range l.node (l.self.len - l.node)))

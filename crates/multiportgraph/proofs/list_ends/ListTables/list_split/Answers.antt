@@ -12,10 +12,10 @@ use Rattle.multiportgraph.proofs.list_ends.ListTables.list_split.Goals.{After-fr
 
 -- the wire at each offset
 abbrev part : (c : After-from-count) → ℕ → List ℕ
-part c = subport_wire c.args.self.nodes.now c.args.self.links.now c.args.self.owners.now c.args.self.flags.now c.args.port.port c.args.port.node c.args.port.position (c.wide.result + c.from.result)
+part c = subport_wire c.args.self.nodes.now c.args.self.wires.links.now c.args.self.wires.owners.now c.args.self.wires.flags.now c.args.port.port c.args.port.node c.args.port.position (c.wide.result + c.from.result)
 
 -- all of them are those of the split port
-whole : (c : After-from-count) → flat_map (part c) (range 0 c.from-count.result) ≡ split_wires c.args.self.nodes.now c.args.self.links.now c.args.self.owners.now c.args.self.flags.now c.args.port.port c.args.port.node c.args.port.position c.args.copy
+whole : (c : After-from-count) → flat_map (part c) (range 0 c.from-count.result) ≡ split_wires c.args.self.nodes.now c.args.self.wires.links.now c.args.self.wires.owners.now c.args.self.wires.flags.now c.args.port.port c.args.port.node c.args.port.position c.args.copy
 whole c = split_is _ _ _ _ _ _ _ c.args.copy _ _ _ c.wide.ensures c.from.ensures c.from-count.ensures
 
 room : (c : After-from-count) → c.args.place + length (flat_map (part c) (range 0 c.from-count.result)) ≤ length c.args.list.now

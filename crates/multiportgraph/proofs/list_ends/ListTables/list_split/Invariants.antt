@@ -7,5 +7,5 @@ use Rattle.multiportgraph.proofs.list_ends.ListTables.list_split.Given as goal
 
 abbrev pub invariant-loop-offset : goal.invariant-loop-offset
 invariant-loop-offset l =
-    Writing l.initial.list l.place (flat_map (subport_wire l.self.nodes.now l.self.links.now l.self.owners.now l.self.flags.now l.port.port l.port.node l.port.position l.first) (range 0 l.count)) l.list l.next
-    (flat_map (subport_wire l.self.nodes.now l.self.links.now l.self.owners.now l.self.flags.now l.port.port l.port.node l.port.position l.first) (range l.offset (l.count - l.offset)))
+    Writing l.initial.list l.place (flat_map (subport_wire l.self.nodes.now l.self.wires.links.now l.self.wires.owners.now l.self.wires.flags.now l.port.port l.port.node l.port.position l.first) (range 0 l.count)) l.list l.next
+    (flat_map (subport_wire l.self.nodes.now l.self.wires.links.now l.self.wires.owners.now l.self.wires.flags.now l.port.port l.port.node l.port.position l.first) (range l.offset (l.count - l.offset)))

@@ -13,14 +13,14 @@ use Rattle.multiportgraph.proofs.RefusedTags.{set_refused_tag, set_tag}
 use Rattle.multiportgraph.proofs.multiportgraph.MultiPortGraph.grow.Goals as goal
 use Rattle.multiportgraph.proofs.multiportgraph.MultiPortGraph.grow.Goals.{After-hidden_copy-hidden, In-Ok}
 
-growing : (c : After-hidden_copy-hidden) → Growing c.args.self c.args.port c.args.direction c.hidden_copy-hidden.result.copy c.hidden_copy-hidden.result.node c.hidden_copy-hidden.result.count
+growing : (c : After-hidden_copy-hidden) → Growing c.args.self c.args.port.port c.args.port.side c.hidden_copy-hidden.result.copy c.hidden_copy-hidden.result.node c.hidden_copy-hidden.result.count
 growing c = growing_read c.requires refl c.hidden_copy-hidden.ensures.0 c.hidden_copy-hidden.ensures.1 c.hidden_copy-hidden.ensures.2
 
 count_fits : (c : After-hidden_copy-hidden) → c.hidden_copy-hidden.result.count ≤ port_slots
-count_fits c = let h = subports_bound c.args.self.graph.port_link c.args.self.graph.port_meta c.args.port c.args.direction in omega arith
+count_fits c = let h = subports_bound c.args.self.graph.port_link c.args.self.graph.port_meta c.args.port.port c.args.port.side in omega arith
 
 -- what one more subport does to the tables
-told : (c : In-Ok) → GrowTables c.args.self c.args.port c.args.direction (copy_node c.args.self c.args.port) c.hidden_copy-hidden.result.count c.resized-sized.result.graph
+told : (c : In-Ok) → GrowTables c.args.self c.args.port.port c.args.port.side (copy_node c.args.self c.args.port.port) c.hidden_copy-hidden.result.count c.resized-sized.result.graph
 told c = grow_told (growing c.before.before.before.before.before) (counts_grown _ _ c.hidden_counts-incoming.ensures).0 (counts_grown _ _ c.hidden_counts-incoming.ensures).1 refl c.resized-sized.ensures c.in-Ok.is
 
 pub overflow_add-hidden : goal.overflow_add-hidden

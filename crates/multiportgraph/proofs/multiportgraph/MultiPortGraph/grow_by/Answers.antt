@@ -14,6 +14,6 @@ overflow_add-self c = let h = few_subs c.args.self c.requires.0 in omega arith
 
 pub returns : goal.returns
 returns c =
-    let first = c.first_in-first.ensures ∙ (read_off c.copy_moved-grown.result (λ a b o f. first_in b o c.args.port c.args.direction) c.wire_tables.ensures
-    ∙ ap (λ (m : MultiPortGraph). first_in m.graph.port_link m.graph.port_meta c.args.port c.args.direction) c.copy_moved-grown.ensures) in
+    let first = c.first_in-first.ensures ∙ (read_off c.copy_moved-grown.result (λ a b o f. first_in b o c.args.port.port c.args.port.side) c.wire_tables.ensures
+    ∙ ap (λ (m : MultiPortGraph). first_in m.graph.port_link m.graph.port_meta c.args.port.port c.args.port.side) c.copy_moved-grown.ensures) in
     λ i. record { graph = c.copy_moved-grown.ensures i; end = Some (first i + c.args.hidden.count, c.args.hidden.count) }

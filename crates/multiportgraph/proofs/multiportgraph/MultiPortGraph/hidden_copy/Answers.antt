@@ -8,5 +8,5 @@ pub returns : goal.returns
 returns c = (
   c.far_in-copy.ensures ∙ ap (far_in _) c.wide.ensures,
   c.owner_in.ensures,
-  c.subports_in.ensures ∙ read_off c.args.self.now (λ a b o f. subports_in b o c.args.port c.args.direction) c.wire_tables.ensures,
+  c.subports_in.ensures ∙ read_off c.args.self.now (λ a b o f. subports_in b o c.args.port.port c.args.port.side) c.wire_tables.ensures,
 )

@@ -9,20 +9,20 @@ use Rattle.multiportgraph.specs.LinkSteps.{is_ready, others_stay, still_wf, both
 use Rattle.multiportgraph.proofs.multiportgraph.MultiPortGraph.link_both.Goals as goal
 use Rattle.multiportgraph.proofs.multiportgraph.MultiPortGraph.link_both.Goals.{In-Some}
 
-second-stays : (c : In-Some) → OnBlock c.prepare-first.result.graph c.args.b c.args.e
+second-stays : (c : In-Some) → OnBlock c.prepare-first.result.graph c.args.b.port c.args.b.side
 second-stays c = others_stay c.requires.first c.prepare-first.result c.prepare-first.ensures c.in-Some.is _ _ c.requires.second
 
 pub prepare-first-requires : goal.prepare-first-requires
 prepare-first-requires c = c.requires.first
 
 pub returns-in_default : goal.returns-in_default
-returns-in_default c = both_full c.args.self c.args.a c.args.d c.args.b c.args.e c.prepare-first.result c.prepare-first.ensures c.in_default.is c.link_refused.ensures
+returns-in_default c = both_full c.args.self c.args.a.port c.args.a.side c.args.b.port c.args.b.side c.prepare-first.result c.prepare-first.ensures c.in_default.is c.link_refused.ensures
 
 pub prepare-second-requires : goal.prepare-second-requires
 prepare-second-requires c = second-stays (goal.at.prepare-second-requires c).In-Some
 
 pub returns-in_default-end : goal.returns-in_default-end
-returns-in_default-end c = second_full c.args.self c.args.a c.args.d c.args.b c.args.e c.prepare-first.result c.prepare-first.ensures c.in-Some.is c.prepare-second.result c.prepare-second.ensures c.in_default-end.is c.link_refused-in_default-end.ensures
+returns-in_default-end c = second_full c.args.self c.args.a.port c.args.a.side c.args.b.port c.args.b.side c.prepare-first.result c.prepare-first.ensures c.in-Some.is c.prepare-second.result c.prepare-second.ensures c.in_default-end.is c.link_refused-in_default-end.ensures
 
 pub link_prepared-requires : goal.link_prepared-requires
 link_prepared-requires c = still_wf (second-stays (goal.at.link_prepared-requires c).In-Some) c.prepare-second.result c.prepare-second.ensures c.in-Some-end.is
@@ -30,5 +30,5 @@ link_prepared-requires c = still_wf (second-stays (goal.at.link_prepared-require
 pub returns : goal.returns
 returns c =
     c.link_prepared.ensures
-    ∙ sym (ap (link_live c.args.self c.args.a c.args.d c.args.b c.args.e) (is_ready c.args.self (prepare c.args.self c.args.a c.args.d) c.prepare-first.result c.prepare-first.ensures c.in-Some.is)
-    ∙ ap (link_second c.args.self c.args.a c.args.d c.in-Some.x c.in-Some.o c.args.b c.args.e) (is_ready c.prepare-first.result.graph (prepare c.prepare-first.result.graph c.args.b c.args.e) c.prepare-second.result c.prepare-second.ensures c.in-Some-end.is))
+    ∙ sym (ap (link_live c.args.self c.args.a.port c.args.a.side c.args.b.port c.args.b.side) (is_ready c.args.self (prepare c.args.self c.args.a.port c.args.a.side) c.prepare-first.result c.prepare-first.ensures c.in-Some.is)
+    ∙ ap (link_second c.args.self c.args.a.port c.args.a.side c.in-Some.x c.in-Some.o c.args.b.port c.args.b.side) (is_ready c.prepare-first.result.graph (prepare c.prepare-first.result.graph c.args.b.port c.args.b.side) c.prepare-second.result c.prepare-second.ensures c.in-Some-end.is))

@@ -15,7 +15,7 @@ unfolding far_in
 far_told t s h e = ap (λ (k : ℕ). k - 1) e
 
 pub returns-then-held-eq0 : goal.returns-then-held-eq0
-returns-then-held-eq0 c = direct_none c.requires refl (c.at-held.ensures ∙ ap (at c.args.self.graph.port_link) (c.first_in.ensures ∙ read_off c.args.self (λ a b o f. first_in b o c.args.port c.args.direction) c.wire_tables.ensures)) c.drop_copy-bare.ensures c.if-held-eq0.true
+returns-then-held-eq0 c = direct_none c.requires refl (c.at-held.ensures ∙ ap (at c.args.self.graph.port_link) (c.first_in.ensures ∙ read_off c.args.self (λ a b o f. first_in b o c.args.port.port c.args.port.side) c.wire_tables.ensures)) c.drop_copy-bare.ensures c.if-held-eq0.true
 
 pub linked-after-requires : goal.linked-after-requires
 linked-after-requires c = bare_wf c.requires c.drop_copy-bare.ensures
@@ -23,4 +23,4 @@ linked-after-requires c = bare_wf c.requires c.drop_copy-bare.ensures
 pub returns : goal.returns
 returns c =
     ap (λ (g : PortGraph). with_graph c.drop_copy-bare.result g) c.linked-after.ensures
-    ∙ direct_one c.requires refl (c.at-held.ensures ∙ ap (at c.args.self.graph.port_link) (c.first_in.ensures ∙ read_off c.args.self (λ a b o f. first_in b o c.args.port c.args.direction) c.wire_tables.ensures)) (far_told _ _ _ (c.at-held.ensures ∙ ap (at c.args.self.graph.port_link) (c.first_in.ensures ∙ read_off c.args.self (λ a b o f. first_in b o c.args.port c.args.direction) c.wire_tables.ensures))) c.drop_copy-bare.ensures c.if-held-eq0.false refl
+    ∙ direct_one c.requires refl (c.at-held.ensures ∙ ap (at c.args.self.graph.port_link) (c.first_in.ensures ∙ read_off c.args.self (λ a b o f. first_in b o c.args.port.port c.args.port.side) c.wire_tables.ensures)) (far_told _ _ _ (c.at-held.ensures ∙ ap (at c.args.self.graph.port_link) (c.first_in.ensures ∙ read_off c.args.self (λ a b o f. first_in b o c.args.port.port c.args.port.side) c.wire_tables.ensures))) c.drop_copy-bare.ensures c.if-held-eq0.false refl

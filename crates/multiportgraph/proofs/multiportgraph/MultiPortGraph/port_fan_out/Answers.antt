@@ -11,10 +11,10 @@ use Rattle.multi_tables.specs.FanOutScans.{wires_at_in}
 use Rattle.multiportgraph.specs.OwnTables.{read_off}
 use Rattle.multiportgraph.proofs.multiportgraph.MultiPortGraph.port_fan_out.Goals as goal
 
-pub returns-in_err-direction : goal.returns-in_err-direction
-returns-in_err-direction c =
+pub returns-in_err-side : goal.returns-in_err-side
+returns-in_err-side c =
     let p = err_from_is_err_and c.from_residual.result c.from_residual.ensures.1 in
-    rw (p.1, p.2) (with_numbers count_numbers (block_told c.args.self c.args.port.0 (search rules) (fan_out_seen c.args.self c.args.port.0) _ refl refl (sym c.block_port.ensures ∙ c.in_err-direction.was) ∙ fan_out_at c.args.self c.args.port.0 _ refl))
+    rw (p.1, p.2) (with_numbers count_numbers (block_told c.args.self c.args.port.0 (search rules) (fan_out_seen c.args.self c.args.port.0) _ refl refl (sym c.block_port.ensures ∙ c.in_err-side.was) ∙ fan_out_at c.args.self c.args.port.0 _ refl))
 
 pub returns : goal.returns
-returns c = with_numbers count_numbers (fan_out_at_port c.args.self c.requires c.args.port.0 _ _ (block_is c.args.self c.args.port.0 (search rules) _ _ (sym c.block_port.ensures ∙ c.in_ok-direction.was)) _ (c.wires_at.ensures.0 ∙ read_off c.args.self (λ a b o f. wires_at_in a b o c.args.port.0 c.in_ok-direction.direction) c.wire_tables.ensures))
+returns c = with_numbers count_numbers (fan_out_at_port c.args.self c.requires c.args.port.0 _ _ (block_is c.args.self c.args.port.0 (search rules) _ _ (sym c.block_port.ensures ∙ c.in_ok-side.was)) _ (c.wires_at.ensures.0 ∙ read_off c.args.self (λ a b o f. wires_at_in a b o c.args.port.0 c.in_ok-side.side) c.wire_tables.ensures))

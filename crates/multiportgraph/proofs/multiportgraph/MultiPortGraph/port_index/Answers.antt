@@ -4,12 +4,8 @@ use mathlib.Core.Path.{sym, ◌∙◌, refl}
 use Rattle.port_tables.specs.TableSteps.{with_numbers}
 use Rattle.portgraph.specs.Lookups.{port_index}
 use Rattle.multiportgraph.specs.Lookups.{port_numbers}
-use Rattle.multiportgraph.specs.CallSteps.{lower_wf}
 use Rattle.multiportgraph.specs.LookupSteps.{index_at}
 use Rattle.multiportgraph.proofs.multiportgraph.MultiPortGraph.port_index.Goals as goal
-
-pub port_index-requires : goal.port_index-requires
-port_index-requires c = lower_wf _ c.requires
 
 pub returns-in_err-block : goal.returns-in_err-block
 returns-in_err-block c =

@@ -1,6 +1,5 @@
 -- `multiportgraph::multiportgraph::MultiPortGraph::recounted` meets its contract: no node before, none after, and marks that move.
 use mathlib.Core.Path.{sym, ◌∙◌}
-use Rattle.portgraph.specs.LookupSteps.{found_block_fits}
 use Rattle.multiportgraph.specs.CopySteps.{recount_none, recount_gone, recount_moved}
 use Rattle.multiportgraph.proofs.multiportgraph.MultiPortGraph.recounted.Goals as goal
 
@@ -12,12 +11,6 @@ pub returns-in_default-node_meta_valid : goal.returns-in_default-node_meta_valid
 returns-in_default-node_meta_valid c =
     recount_gone c.args.self c.args.node c.args.graph c.in-Some.a
     (sym c.in-Some.is ∙ c.node_meta_valid.ensures.0) (sym c.in_default-node_meta_valid.is ∙ c.node_meta_valid-2.ensures.0)
-
-pub lay_marks-requires : goal.lay_marks-requires
-lay_marks-requires c = (
-  found_block_fits c.args.self.graph c.requires.0 c.args.node c.in-Some.a (sym c.in-Some.is ∙ c.node_meta_valid.ensures.0),
-  found_block_fits c.args.graph c.requires.1 c.args.node c.in-Some-node_meta_valid.b (sym c.in-Some-node_meta_valid.is ∙ c.node_meta_valid-2.ensures.0),
-)
 
 pub returns : goal.returns
 returns c =

@@ -27,19 +27,19 @@ subports_small Incoming = omega arith
 subports_small Outgoing = omega arith
 
 -- what the split does to the tables
-told : (c : In-Ok) → SplitTables c.args.port c.args.direction c.add_node-added.result.graph c.in-Ok.node.0 c.in-Ok.first.0
+told : (c : In-Ok) → SplitTables c.args.port.port c.args.port.side c.add_node-added.result.graph c.in-Ok.node.0 c.in-Ok.first.0
 told c = split_told c.requires c.new-shape.ensures.0 c.new-shape.ensures.1 c.add_node-added.ensures.0 c.in-Ok.is
 
 pub returns-in_default : goal.returns-in_default
 returns-in_default c =
-    split_full c.args.self c.args.port c.args.direction c.new-shape.ensures.0 c.new-shape.ensures.1 c.add_node-added.ensures.0
+    split_full c.args.self c.args.port.port c.args.port.side c.new-shape.ensures.0 c.new-shape.ensures.1 c.add_node-added.ensures.0
     add_tag (λ n f. refl) (add_refused_tag _ (λ n f. c.in_default.not-Ok (n, f)))
 
 pub overflow_add-copy : goal.overflow_add-copy
-overflow_add-copy c = let f = (told (goal.at.overflow_add-copy c).In-Ok).fits in let b = copy_small c.args.direction in omega (arith, c.new-shape.ensures.2)
+overflow_add-copy c = let f = (told (goal.at.overflow_add-copy c).In-Ok).fits in let b = copy_small c.args.port.side in omega (arith, c.new-shape.ensures.2)
 
 pub overflow_add-old : goal.overflow_add-old
-overflow_add-old c = let f = (told (goal.at.overflow_add-old c).In-Ok).fits in let b = subports_small c.args.direction in omega (arith, c.new-shape.ensures.3)
+overflow_add-old c = let f = (told (goal.at.overflow_add-old c).In-Ok).fits in let b = subports_small c.args.port.side in omega (arith, c.new-shape.ensures.3)
 
 pub hung_on-split-requires : goal.hung_on-split-requires
 hung_on-split-requires c = subst (λ (r : NodeAdded). Wf r.graph) (sym c.add_node-added.ensures.0) (wf_add _ _ _ (lower_wf c.args.self c.requires.block.wf))
@@ -51,7 +51,7 @@ pub overflow_add-split-2 : goal.overflow_add-split-2
 overflow_add-split-2 c = omega (arith, few_subs c.args.self c.requires.block.wf, ap (λ (m : MultiPortGraph). m.subport_count) c.with_copy-split.ensures)
 
 pub overflow_add-result : goal.overflow_add-result
-overflow_add-result c = let f = (told (goal.at.overflow_add-result c).In-Ok).fits in let b = subports_small c.args.direction in omega (arith, c.new-shape.ensures.3)
+overflow_add-result c = let f = (told (goal.at.overflow_add-result c).In-Ok).fits in let b = subports_small c.args.port.side in omega (arith, c.new-shape.ensures.3)
 
 pub returns : goal.returns
 returns c =

@@ -11,7 +11,7 @@ use Rattle.multiportgraph.specs.declared.multiportgraph.PortTidied.{PortTidied}
 use Rattle.multiportgraph.proofs.multiportgraph.MultiPortGraph.tidy.Goals as goal
 use Rattle.multiportgraph.proofs.multiportgraph.MultiPortGraph.tidy.Goals.{In-Ok}
 
-on-here : (c : In-Ok) → OnBlock c.args.self c.args.port.0 c.in-Ok.direction
+on-here : (c : In-Ok) → OnBlock c.args.self c.args.port.0 c.in-Ok.side
 on-here c = on_side c.requires c.args.port.0 (sym c.port_direction.ensures.0 ∙ c.in-Ok.is)
 
 pub tidied-requires : goal.tidied-requires

@@ -11,7 +11,7 @@ use Rattle.multiportgraph.specs.declared.multiportgraph.PortUnlinked.{PortUnlink
 use Rattle.multiportgraph.proofs.multiportgraph.MultiPortGraph.unlink_port.Goals as goal
 use Rattle.multiportgraph.proofs.multiportgraph.MultiPortGraph.unlink_port.Goals.{In-Ok}
 
-on-here : (c : In-Ok) → OnBlock c.args.self c.args.port.0 c.in-Ok.direction
+on-here : (c : In-Ok) → OnBlock c.args.self c.args.port.0 c.in-Ok.side
 on-here c = on_side c.requires c.args.port.0 (sym c.port_direction.ensures.0 ∙ c.in-Ok.is)
 
 pub without_wires-requires : goal.without_wires-requires
@@ -19,9 +19,6 @@ without_wires-requires c = on-here (goal.at.without_wires-requires c).In-Ok
 
 pub cut_answer-requires : goal.cut_answer-requires
 cut_answer-requires c = side_seen c.requires (on-here (goal.at.cut_answer-requires c).In-Ok)
-
-pub returns-in-Ok : goal.returns-in-Ok
-returns-in-Ok c = with_numbers (λ (r : PortUnlinked). cut_numbers r.answer) (λ i. record { graph = c.without_wires.ensures i; answer = c.cut_answer.ensures i })
 
 pub returns-in-Err : goal.returns-in-Err
 returns-in-Err c = with_numbers (λ (r : PortUnlinked). cut_numbers r.answer) (port_cut_refused c.requires c.args.port.0 (sym c.port_direction.ensures.0 ∙ c.in-Err.is))

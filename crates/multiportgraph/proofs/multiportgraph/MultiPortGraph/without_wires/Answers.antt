@@ -5,9 +5,6 @@ use Rattle.multiportgraph.specs.LowerSteps.{port_cut_below}
 use Rattle.multiportgraph.specs.declared.multiportgraph.PortUnlinked.{PortUnlinked}
 use Rattle.multiportgraph.proofs.multiportgraph.MultiPortGraph.without_wires.Goals as goal
 
-pub drop_copy-requires : goal.drop_copy-requires
-drop_copy-requires c = record { block = c.requires; split = sym c.is_split.ensures ∙ c.if-is_split.true }
-
 pub returns-then-is_split : goal.returns-then-is_split
 returns-then-is_split c = ap (λ (u : PortUnlinked). u.graph) (cut_port_split c.args.self _ _ _ _ c.requires.is (sym c.is_split.ensures ∙ c.if-is_split.true) c.drop_copy.ensures refl)
 

@@ -3,6 +3,7 @@ use Rattle.std.specs.Prelude.{Some}
 use mathlib.Core.Path.{◌≡◌, sym, ◌∙◌}
 use Prim.Native.Nat.{◌+◌, ◌≤◌, ◌<◌}
 use native.Mathlib.Omega.{arith}
+use borrow.Author.Tests.{ltb-false}
 use Rattle.port_tables.specs.Limits.{node_slots, port_slots, node_ports}
 use Rattle.portgraph.specs.Calls.{find_slot, find_block}
 use Rattle.portgraph.specs.WfFacts.{node_count_fits, port_count_fits}
@@ -11,7 +12,7 @@ use Rattle.portgraph.proofs.portgraph.PortGraph.add_node.Goals as goal
 use Rattle.portgraph.proofs.portgraph.PortGraph.add_node.Goals.{In-Some-find_block}
 
 ports-fit-at : (c : In-Some-find_block) → c.args.incoming + c.args.outgoing ≤ node_ports
-ports-fit-at c = omega (arith, c.if-incoming-gt-NODE_PORTS.false, c.if-incoming-outgoing.false)
+ports-fit-at c = ltb-false _ _ (sym c.too_many_ports.ensures ∙ c.if-too_many_ports.false)
 
 slot-found-at : (c : In-Some-find_block) → find_slot c.args.self.node_free c.args.self.node_len ≡ Some c.in-Some.node
 slot-found-at c = sym c.find_slot.ensures ∙ c.in-Some.is

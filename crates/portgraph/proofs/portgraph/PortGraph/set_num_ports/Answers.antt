@@ -2,6 +2,7 @@
 use mathlib.Core.Path.{◌≡◌, sym, ◌∙◌}
 use Prim.Native.Nat.{◌+◌, ◌≤◌}
 use native.Mathlib.Omega.{arith}
+use borrow.Author.Tests.{ltb-false}
 use Rattle.port_tables.specs.Limits.{node_ports}
 use Rattle.portgraph.specs.Lookups.{entry_at}
 use Rattle.portgraph.specs.WfFacts.{block_fits, port_len_fits}
@@ -21,6 +22,6 @@ resize_ports_inplace-requires c =
 
 pub find_block-requires : goal.find_block-requires
 find_block-requires c =
-    let few : c.args.incoming + c.args.outgoing ≤ node_ports = omega arith in
+    let few : c.args.incoming + c.args.outgoing ≤ node_ports = ltb-false _ _ (sym c.too_many_ports.ensures ∙ c.if-too_many_ports.false) in
     let small = round_up_fits (c.args.incoming + c.args.outgoing) few in
     (port_len_fits c.args.self c.requires, omega arith)
